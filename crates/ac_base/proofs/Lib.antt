@@ -1,0 +1,4 @@
+pub mod Options
+pub mod NameFacts
+pub mod Known
+pub mod Powers

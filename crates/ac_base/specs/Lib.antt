@@ -1,0 +1,6 @@
+pub mod Texts
+pub mod Quantities
+pub mod Devices
+pub mod Memory
+pub mod Turns
+pub mod Names

@@ -1,0 +1,73 @@
+ghost use Rattle.std.specs.Prelude.{◌≡◌, ℕ, ◌<◌, List, Option, length};
+ghost use Rattle.ac_base.specs.Devices.{PullGives, PushTakes, failures_after_pull, failures_after_push, is_pull_failure, is_push_failure};
+
+/// What a feed answers.
+#[derive(Clone, Copy, Debug, PartialEq, Eq)]
+pub enum Pull {
+    /// So many bytes; none at the end.
+    Got(usize),
+    /// The call was interrupted, and may be made again.
+    Again,
+    /// The device failed.
+    Failed,
+}
+
+/// What a sink answers.
+#[derive(Clone, Copy, Debug, PartialEq, Eq)]
+pub enum Push {
+    /// So many of the first bytes of the piece.
+    Took(usize),
+    /// The call was interrupted, and may be made again.
+    Again,
+    /// The device failed.
+    Failed,
+}
+
+/// Where bytes come from.
+pub trait Feed {
+    /// The bytes that it still gives, where they are known.
+    ghost remaining: { Self → Option (List ℕ) };
+
+    /// How often it failed so far; the count stays at 18446744073709551615.
+    ghost failures: { Self → ℕ };
+
+    /// Reads into the front of a buffer that isn't empty.
+    fn pull(&mut self, buf: &mut [u8]) -> Pull
+        requires { 0 < length buf.old }
+        ensures bytes { PullGives (remaining self.old) (remaining self.new) result buf.new }
+        ensures failures { failures self.new ≡ failures_after_pull (failures self.old) result };
+}
+
+/// Where bytes go.
+pub trait Sink {
+    /// The bytes that it has taken, where they are known.
+    ghost taken: { Self → Option (List ℕ) };
+
+    /// How often it failed so far; the count stays at 18446744073709551615.
+    ghost failures: { Self → ℕ };
+
+    /// Takes a first part of the piece. `Took(0)` of a piece that isn't empty is a failure.
+    fn push(&mut self, piece: &[u8]) -> Push
+        ensures bytes { PushTakes (taken self.old) (taken self.new) result piece.now }
+        ensures failures { failures self.new ≡ failures_after_push (failures self.old) result piece.now };
+}
+
+// Whether an answer of `pull` counts as a failure.
+pub(crate) fn is_pull_failure(answer: Pull) -> bool
+    ensures { result ≡ is_pull_failure answer }
+{
+    match answer {
+        Pull::Got(_) => false,
+        Pull::Again | Pull::Failed => true,
+    }
+}
+
+// Whether an answer of `push` counts as a failure.
+pub(crate) fn is_push_failure(answer: Push, piece: &[u8]) -> bool
+    ensures { result ≡ is_push_failure answer piece.now }
+{
+    match answer {
+        Push::Took(count) => count == 0 && !piece.is_empty(),
+        Push::Again | Push::Failed => true,
+    }
+}

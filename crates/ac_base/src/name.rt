@@ -1,0 +1,46 @@
+ghost use Rattle.std.specs.Prelude.{IsTrue};
+ghost use Rattle.ac_base.specs.Texts.{is_name, is_suffix};
+ghost use Rattle.std.specs.String.{string_bytes};
+
+use std::alloc::{AllocError, AllocFailed};
+use thiserror::Error;
+
+mod read;
+
+/// A growth was refused.
+#[derive(Clone, Copy, Debug, PartialEq, Eq, Error)]
+#[error("out of memory")]
+pub struct NoMemory;
+
+impl From<AllocError> for NoMemory {
+    fn from(_error: AllocError) -> NoMemory {
+        NoMemory
+    }
+}
+
+impl<T: Drop> From<AllocFailed<T>> for NoMemory {
+    fn from(_error: AllocFailed<T>) -> NoMemory {
+        NoMemory
+    }
+}
+
+/// The name of a resource class, as `VCPU`. Names compare and sort by their bytes.
+#[derive(Debug, Drop, PartialEq, Eq, PartialOrd, Ord)]
+pub struct ClassName {
+    text: String,
+    ghost named: { IsTrue (is_name (string_bytes text)) },
+}
+
+/// The name of a trait, as `HW_NUMA_ROOT`. Names compare and sort by their bytes.
+#[derive(Debug, Drop, PartialEq, Eq, PartialOrd, Ord)]
+pub struct TraitName {
+    text: String,
+    ghost named: { IsTrue (is_name (string_bytes text)) },
+}
+
+/// The suffix of a request group, as `_NUMA` in `resources_NUMA`. Suffixes compare and sort by their bytes.
+#[derive(Debug, Drop, PartialEq, Eq, PartialOrd, Ord)]
+pub struct Suffix {
+    text: String,
+    ghost named: { IsTrue (is_suffix (string_bytes text)) },
+}
