@@ -2,3 +2,4 @@ pub mod Options
 pub mod NameFacts
 pub mod Known
 pub mod Powers
+pub mod ShownKeys

@@ -1,5 +1,5 @@
 -- What devices over memory answer, turn by turn.
-use Rattle.std.specs.Prelude.{ℕ, Bool, ◌==◌, ◌&&◌, nat_lt, if◌then◌else◌, List, [], ◌∷◌, min, max}
+use Rattle.std.specs.Prelude.{ℕ, ◌==◌, ◌&&◌, nat_lt, if◌then◌else◌, List, [], ◌∷◌, min, max}
 use Rattle.ac_base.specs.declared.device.Pull.{Pull}
 use Rattle.ac_base.specs.declared.device.Pull.TheVariants as pull
 use Rattle.ac_base.specs.declared.device.Push.{Push}

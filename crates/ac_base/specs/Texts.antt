@@ -1,8 +1,11 @@
 -- The values of texts: numbers, ratios, identifiers and names.
-use Rattle.std.specs.Prelude.{ℕ, ◌+◌, ◌-◌, ◌*◌, ◌<◌, Bool, ◌&&◌, ◌||◌, ◌==◌, nat_le, nat_lt, List, [], ◌∷◌, ◌++◌, take, drop, length, ◌^◌, position, Option, Some, None, if◌then◌else◌}
+use Rattle.std.specs.Prelude.{ℕ, ◌+◌, ◌-◌, ◌*◌, Bool, ◌&&◌, ◌||◌, ◌==◌, nat_le, nat_lt, List, take, drop, length, ◌^◌, position, Option, Some, None, if◌then◌else◌}
 use Rattle.std.specs.List.{list_all, fold}
 use Rattle.std.specs.Option.{option_map, option_and_then}
 use Rattle.std.specs.Int.{w128, from_be_bytes, to_be_bytes}
+use Rattle.std.specs.declared.cmp.Ordering.{Ordering}
+use Rattle.std.specs.Ordering.{nat_cmp}
+use Rattle.std.specs.Cmp.Lexicographic.{slice_cmp}
 use Rattle.uuid.specs.Text.{parsed, hyphenated_text, lower}
 
 -- an ASCII digit
@@ -103,3 +106,7 @@ is_suffix b = nat_lt 0 (length b) && nat_le (length b) 64 && list_all is_suffix_
 -- the suffix that a text is
 abbrev pub suffix_value : List ℕ → Option (List ℕ)
 suffix_value b = if is_suffix b then Some b else None
+
+-- the order of texts, byte by byte
+abbrev pub text_cmp : List ℕ → List ℕ → Ordering
+text_cmp = slice_cmp nat_cmp
