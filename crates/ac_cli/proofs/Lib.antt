@@ -1,0 +1,6 @@
+pub mod Whole
+pub mod RowsLeft
+pub mod Fields
+pub mod Gathering
+pub mod RecordsFit
+pub mod Distinct

@@ -1,0 +1,5 @@
+pub mod Records
+pub mod Tables
+pub mod Shown
+pub mod World
+pub mod CloudShown

@@ -1,0 +1,7 @@
+//! Which providers of exported Placement tables could host a workload.
+#![tactic(auto)]
+
+mod table;
+mod tables;
+
+fn main() {}
