@@ -6,8 +6,8 @@ use uuid::Uuid;
 
 /// A UUID as one number of 128 bits, which orders it.
 ///
-/// Providers, trees and aggregates are named by it (API reference of Placement, `uuid`).
-#[derive(Clone, Copy, Debug, PartialEq, Eq, PartialOrd, Ord)]
+/// Providers, trees and aggregates are named by it (API reference of Placement, `uuid`). The default is the nil UUID.
+#[derive(Clone, Copy, Debug, Default, PartialEq, Eq, PartialOrd, Ord)]
 pub struct Id {
     number: u128,
 }

@@ -4,3 +4,4 @@ pub mod Fields
 pub mod Gathering
 pub mod RecordsFit
 pub mod Distinct
+pub mod Candidates

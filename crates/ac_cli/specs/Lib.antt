@@ -3,3 +3,8 @@ pub mod Tables
 pub mod Shown
 pub mod World
 pub mod CloudShown
+pub mod Queries
+pub mod QueryShown
+pub mod Lists
+pub mod Search
+pub mod PlainShown

@@ -1,6 +1,8 @@
 //! Which providers of exported Placement tables could host a workload.
 #![tactic(auto)]
 
+mod query;
+mod search;
 mod table;
 mod tables;
 
