@@ -5,3 +5,5 @@ pub mod Gathering
 pub mod RecordsFit
 pub mod Distinct
 pub mod Candidates
+pub mod Leaving
+pub mod LinesWritten

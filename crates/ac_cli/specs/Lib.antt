@@ -8,3 +8,5 @@ pub mod QueryShown
 pub mod Lists
 pub mod Search
 pub mod PlainShown
+pub mod Drain
+pub mod Writing

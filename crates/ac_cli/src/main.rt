@@ -2,6 +2,8 @@
 #![tactic(auto)]
 
 mod query;
+mod reading;
+mod report;
 mod search;
 mod table;
 mod tables;
