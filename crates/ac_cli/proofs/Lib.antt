@@ -7,3 +7,7 @@ pub mod Distinct
 pub mod Candidates
 pub mod Leaving
 pub mod LinesWritten
+pub mod EnteredCommand
+pub mod FilledRows
+pub mod FilledWalk
+pub mod Answering

@@ -10,3 +10,6 @@ pub mod Search
 pub mod PlainShown
 pub mod Drain
 pub mod Writing
+pub mod Answer
+pub mod Run
+pub mod Words

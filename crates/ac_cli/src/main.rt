@@ -2,10 +2,13 @@
 #![tactic(auto)]
 
 mod query;
+mod refusal;
+mod run;
 mod reading;
 mod report;
 mod search;
 mod table;
 mod tables;
+mod words;
 
 fn main() {}

@@ -42,6 +42,7 @@ impl From<AllocError> for CloudFault {
 }
 
 /// The texts of the two tables.
+#[derive(Clone, Copy)]
 pub struct Sources<'a> {
     pub providers: &'a [u8],
     pub inventories: &'a [u8],
