@@ -41,3 +41,22 @@ ExplainsWriting world need old new rose why.NoMemory = TakesPart old new (answer
 -- the answer was written whole
 abbrev pub IsWritten : Outcome → Option (List ℕ) → Option (List ℕ) → Type 0
 IsWritten outcome old new = (outcome.line ≡ []) × (outcome.status ≡ 0) × Appends old new outcome.output
+
+-- what a run that ended for this reason leaves: no output, but for a part of it where the sink or memory gave out
+abbrev pub Explains : List ℕ → Option (List ℕ) → Option (List ℕ) → Type 0 → Type 0 → Option (List ℕ) → Option (List ℕ) → Type 0 → Refusal → Type 0
+Explains query p i p_rose i_rose old new rose (why.Unreadable t) = ExplainsReading p i p_rose i_rose (why.Unreadable t) × Keeps old new
+Explains query p i p_rose i_rose old new rose (why.TooLarge t) = ExplainsReading p i p_rose i_rose (why.TooLarge t) × Keeps old new
+Explains query p i p_rose i_rose old new rose (why.Refused t) = ExplainsReading p i p_rose i_rose (why.Refused t) × Keeps old new
+Explains query p i p_rose i_rose old new rose why.Query = OfBoth p i (λ a b. answer query a b ≡ refused why.Query) × Keeps old new
+Explains query p i p_rose i_rose old new rose why.Output = rose × OfBoth p i (λ a b. TakesPart old new (answer query a b).output)
+Explains query p i p_rose i_rose old new rose why.NoMemory = OfBoth p i (λ a b. TakesPart old new (answer query a b).output)
+
+-- the error sink took the line of a reason
+abbrev pub IsTold : Option (List ℕ) → Option (List ℕ) → ℕ → ℕ → Refusal → Type 0
+IsTold old new before after reason = TakesLine old new before after (line_of reason)
+
+-- The answer was given whole: its output, its line and its status.
+pub record IsAnswered (outcome : Outcome) (out_old out_new err_old err_new : Option (List ℕ)) (given : ℕ) : Type 0 where
+  pub output : Appends out_old out_new outcome.output
+  pub line : Appends err_old err_new outcome.line
+  pub status : given ≡ outcome.status
