@@ -13,3 +13,4 @@ pub mod Writing
 pub mod Answer
 pub mod Run
 pub mod Words
+pub mod Program

@@ -1,14 +1,20 @@
-//! Which providers of exported Placement tables could host a workload.
+//! Which providers of a cloud could host a workload, asked of exported Placement tables.
 #![tactic(auto)]
 
+mod program;
 mod query;
-mod refusal;
-mod run;
 mod reading;
+mod refusal;
 mod report;
+mod run;
+mod sample;
 mod search;
 mod table;
 mod tables;
 mod words;
 
-fn main() {}
+use std::process::ExitCode;
+
+fn main(rt: HostRuntime) -> ExitCode {
+    ExitCode::from(program::status(&rt, &mut rt.stdout(), &mut rt.stderr()))
+}
