@@ -37,7 +37,7 @@ def write(path, header, rows, quoting):
 
 
 def main():
-    words = argparse.ArgumentParser(description=__doc__.split('\n')[2])
+    words = argparse.ArgumentParser(description=__doc__.split('\n\n')[1])
     words.add_argument('folder')
     words.add_argument('--providers', type=int, default=65536)
     words.add_argument('--classes', type=int, default=3)

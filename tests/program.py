@@ -115,9 +115,9 @@ def wrong(case):
 
 
 def main(word=''):
-    if run(Case('build', ['--help']), seconds=None)[2] == NOT_BUILT:
-        print('FAILED the program is not built: ./ac_cli says why')
-        print('0 passed, 1 failed')
+    _, said, status = run(Case('build', ['--help']), seconds=None)
+    if status == NOT_BUILT:
+        print(f'FAILED to build the program:\n{said}\n0 passed, 1 failed')
         return 1
     examples = [*shown('README.md'), *shown('examples/README.md')]
     cases = [case for case in [*CASES, *examples] if word in case.name]
