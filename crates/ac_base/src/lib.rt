@@ -4,17 +4,23 @@
 #![tactic(auto)]
 
 pub mod device;
+pub mod from_read;
 pub mod id;
 pub mod inventory;
+pub mod mem_feed;
+pub mod mem_sink;
 pub mod memory;
 pub mod name;
 pub mod number;
-pub mod over_std;
+pub mod to_write;
 
 pub use device::{Feed, Pull, Push, Sink};
+pub use from_read::FromRead;
 pub use id::Id;
 pub use inventory::Inventory;
-pub use memory::{MemFeed, MemSink, Turn};
+pub use mem_feed::MemFeed;
+pub use mem_sink::MemSink;
+pub use memory::Turn;
 pub use name::{ClassName, NoMemory, Suffix, TraitName};
 pub use number::{Ratio, read_count};
-pub use over_std::{FromRead, ToWrite};
+pub use to_write::ToWrite;

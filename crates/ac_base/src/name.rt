@@ -5,7 +5,10 @@ ghost use Rattle.std.specs.String.{string_bytes};
 use std::alloc::{AllocError, AllocFailed};
 use thiserror::Error;
 
-mod read;
+mod class_text;
+mod suffix_text;
+mod texts;
+mod trait_text;
 
 /// A growth was refused.
 #[derive(Clone, Copy, Debug, PartialEq, Eq, Error)]

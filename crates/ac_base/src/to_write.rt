@@ -1,0 +1,50 @@
+//! A sink over the writers of the standard library.
+ghost use Rattle.std.specs.Prelude.{◌≡◌};
+ghost use Rattle.ac_base.specs.Devices.{IsPushOf};
+
+use crate::device::{Push, Sink, is_push_failure};
+use std::io::{Error, ErrorKind, Write};
+
+// `Again` for an interrupted call alone, `Failed` for every other error.
+fn push_of(answer: Result<usize, Error>) -> Push
+    ensures { IsPushOf answer result }
+{
+    match answer {
+        Ok(count) => Push::Took(count),
+        Err(error) if error.kind() == ErrorKind::Interrupted => Push::Again,
+        Err(_) => Push::Failed,
+    }
+}
+
+/// A sink over a writer: it has taken what its writer has.
+#[derive(Drop)]
+pub struct ToWrite<W> {
+    writer: W,
+    failures: u64,
+}
+
+impl<W: Write> ToWrite<W> {
+    pub fn new(writer: W) -> Self
+        ensures taken { ⟦<ToWrite<W> as Sink>⟧.taken result ≡ W.contents writer }
+        ensures failures { ⟦<ToWrite<W> as Sink>⟧.failures result ≡ 0 }
+    {
+        ToWrite {
+            writer,
+            failures: 0,
+        }
+    }
+}
+
+impl<W: Write> Sink for ToWrite<W> {
+    ghost taken = { λ s. W.contents s.writer };
+
+    ghost failures = { λ s. s.failures };
+
+    fn push(&mut self, piece: &[u8]) -> Push {
+        let answer = push_of(self.writer.write(piece));
+        if is_push_failure(answer, piece) {
+            self.failures = self.failures.saturating_add(1);
+        }
+        answer
+    }
+}
