@@ -14,10 +14,10 @@ pub behind_more : (f : ℕ → List ℕ) (xs : List ℕ) (i : ℕ) (x : ℕ) (fr
     → text ≡ front ++ behind_commas (map f (take i xs)) → more ≡ (text ++ 44 ∷ []) ++ f x → more ≡ front ++ behind_commas (map f (take (i + 1) xs))
 behind_more f xs i x front text more h there holds added =
     let next : behind_commas (map f (take (i + 1) xs)) ≡ behind_commas (map f (take i xs)) ++ ((44 ∷ f x) ++ []) =
-      ap (λ l. behind_commas (map f l)) (take_more xs i 0 h)
-      ∙ ap behind_commas (map-append f (take i xs) (get_or xs i 0 ∷ []))
-      ∙ flat_map-append (λ text. 44 ∷ text) (map f (take i xs)) (f (get_or xs i 0) ∷ [])
-      ∙ ap (λ y. behind_commas (map f (take i xs)) ++ ((44 ∷ f y) ++ [])) (sym there) in
+    ap (λ l. behind_commas (map f l)) (take_more xs i 0 h)
+    ∙ ap behind_commas (map-append f (take i xs) (get_or xs i 0 ∷ []))
+    ∙ flat_map-append (λ text. 44 ∷ text) (map f (take i xs)) (f (get_or xs i 0) ∷ [])
+    ∙ ap (λ y. behind_commas (map f (take i xs)) ++ ((44 ∷ f y) ++ [])) (sym there) in
     added
     ∙ append_assoc text (44 ∷ []) (f x)
     ∙ ap (λ t. t ++ (44 ∷ f x)) holds

@@ -28,10 +28,10 @@ enough (suc n) zero s xs b h k = absurd (omega arith)
 enough (suc n) (suc m) s xs b h k = elim (next-cases (next_record default_config s [] [] xs)) [
   | inl e ↦ rw e refl
   | inr r ↦
-    let less : length r.0.2 < length xs = next-takes default_config s xs r.0 b r.1 in
-    let stays : ends_at_end r.0.1 ≡ false = (next-leaves default_config s [] [] xs r.0 r.1).0 in
-    let rest = enough n m r.0.1 r.0.2 stays (omega arith) (omega arith) in
-    rw (r.1, rest) refl
+      let less : length r.0.2 < length xs = next-takes default_config s xs r.0 b r.1 in
+      let stays : ends_at_end r.0.1 ≡ false = (next-leaves default_config s [] [] xs r.0 r.1).0 in
+      let rest = enough n m r.0.1 r.0.2 stays (omega arith) (omega arith) in
+      rw (r.1, rest) refl
 ]
 
 -- a next record is the first of those that are left

@@ -37,7 +37,7 @@ where_so holds x = if holds then Some x else None
 unfoldable pub provider_places : List (List ℕ) → Option ProviderPlaces
 provider_places header =
     option_and_then (λ id. option_and_then (λ root. option_map (λ parent. record { width = length header; id = id; root = root; parent = parent })
-      (column (codes "parent_provider_uuid") header)) (column (codes "root_provider_uuid") header)) (column (codes "uuid") header)
+    (column (codes "parent_provider_uuid") header)) (column (codes "root_provider_uuid") header)) (column (codes "uuid") header)
 
 -- The provider that a record names: as wide as the header, without a parent, and so its own root.
 unfoldable pub provider_in : ProviderPlaces → List (List ℕ) → Option ℕ
@@ -73,17 +73,17 @@ Held = Key × Stock
 unfoldable pub inventory_places : List (List ℕ) → Option InventoryPlaces
 inventory_places header =
     option_and_then (λ provider. option_and_then (λ class. option_and_then (λ total. option_and_then (λ reserved. option_and_then (λ min_unit. option_and_then (λ max_unit. option_and_then (λ step_size. option_map (λ ratio.
-      record { width = length header; provider = provider; class = class; total = total; reserved = reserved; min_unit = min_unit; max_unit = max_unit; step_size = step_size; ratio = ratio })
-      (column (codes "allocation_ratio") header)) (column (codes "step_size") header)) (column (codes "max_unit") header)) (column (codes "min_unit") header))
-      (column (codes "reserved") header)) (column (codes "total") header)) (column (codes "resource_class") header)) (column (codes "resource_provider") header)
+    record { width = length header; provider = provider; class = class; total = total; reserved = reserved; min_unit = min_unit; max_unit = max_unit; step_size = step_size; ratio = ratio })
+    (column (codes "allocation_ratio") header)) (column (codes "step_size") header)) (column (codes "max_unit") header)) (column (codes "min_unit") header))
+    (column (codes "reserved") header)) (column (codes "total") header)) (column (codes "resource_class") header)) (column (codes "resource_provider") header)
 
 -- the inventory of a record's numbers
 unfoldable pub stock_in : InventoryPlaces → List (List ℕ) → Option Stock
 stock_in at row =
     option_and_then (λ total. option_and_then (λ reserved. option_and_then (λ min_unit. option_and_then (λ max_unit. option_and_then (λ step_size. option_and_then (λ ratio.
-      checked_stock (record { total = total; reserved = reserved; min_unit = min_unit; max_unit = max_unit; step_size = step_size; ratio = ratio }))
-      (ratio_value (get_or row at.ratio []))) (count_value (get_or row at.step_size []))) (count_value (get_or row at.max_unit []))) (count_value (get_or row at.min_unit [])))
-      (count_value (get_or row at.reserved []))) (count_value (get_or row at.total []))
+    checked_stock (record { total = total; reserved = reserved; min_unit = min_unit; max_unit = max_unit; step_size = step_size; ratio = ratio }))
+    (ratio_value (get_or row at.ratio []))) (count_value (get_or row at.step_size []))) (count_value (get_or row at.max_unit []))) (count_value (get_or row at.min_unit [])))
+    (count_value (get_or row at.reserved []))) (count_value (get_or row at.total []))
 
 -- one of these providers
 abbrev pub is_known : List ℕ → ℕ → Bool
@@ -94,7 +94,7 @@ unfoldable pub inventory_in : InventoryPlaces → List ℕ → List (List ℕ) �
 inventory_in at providers row =
     if length row == at.width
     then option_and_then (λ id. option_and_then (λ class. option_and_then (λ stock. where_so (is_known providers id) ((id, class), stock))
-      (stock_in at row)) (name_value (get_or row at.class []))) (id_value (get_or row at.provider []))
+    (stock_in at row)) (name_value (get_or row at.class []))) (id_value (get_or row at.provider []))
     else None
 
 -- the map of all that is held

@@ -18,3 +18,6 @@ use std::process::ExitCode;
 fn main(rt: HostRuntime) -> ExitCode {
     ExitCode::from(program::status(&rt, &mut rt.stdout(), &mut rt.stderr()))
 }
+
+#[cfg(test)]
+mod tests;

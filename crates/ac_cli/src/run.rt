@@ -64,7 +64,12 @@ fn read_cloud<R: Feed>(alloc: Global, inputs: &mut Inputs<R>) -> Result<Cloud, R
 }
 
 // Writes the answer to a query.
-fn write_answer<W: Sink>(alloc: Global, cloud: &Cloud, text: &str, out: &mut W) -> Result<(), Refusal>
+fn write_answer<W: Sink>(
+    alloc: Global,
+    cloud: &Cloud,
+    text: &str,
+    out: &mut W,
+) -> Result<(), Refusal>
     ensures ok { OnOk result (IsWritten (answer_to (world_of cloud.now) (asked text.now)) (W.taken out.old) (W.taken out.new)) }
     ensures fault { IfErr result (ExplainsWriting (world_of cloud.now) (asked text.now) (W.taken out.old) (W.taken out.new) (Rises (W.failures out.old) (W.failures out.new))) }
 {
@@ -135,14 +140,14 @@ pub fn run<R: Feed, W: Sink, E: Sink>(
         → (Rises (W.failures out.old) (W.failures out.new) → ⊥)
         → (Rises (E.failures err.old) (E.failures err.new) → ⊥)
         → OfBoth (R.remaining inputs.old.providers) (R.remaining inputs.old.inventories)
-          (λ p i. IsAnswered (answer job.now.query.now p i) (W.taken out.old) (W.taken out.new) (E.taken err.old) (E.taken err.new) result) }
+        (λ p i. IsAnswered (answer job.now.query.now p i) (W.taken out.old) (W.taken out.new) (E.taken err.old) (E.taken err.new) result) }
 
     // Whatever the devices do: what each status says.
     ensures written { result ≡ 0 → OfBoth (R.remaining inputs.old.providers) (R.remaining inputs.old.inventories)
         (λ p i. IsWritten (answer job.now.query.now p i) (W.taken out.old) (W.taken out.new)) × Keeps (E.taken err.old) (E.taken err.new) }
     ensures table { result ≡ 3 → (reason : Refusal)
         × ExplainsReading (R.remaining inputs.old.providers) (R.remaining inputs.old.inventories)
-          (Rises (R.failures inputs.old.providers) (R.failures inputs.new.providers)) (Rises (R.failures inputs.old.inventories) (R.failures inputs.new.inventories)) reason
+        (Rises (R.failures inputs.old.providers) (R.failures inputs.new.providers)) (Rises (R.failures inputs.old.inventories) (R.failures inputs.new.inventories)) reason
         × IsTold (E.taken err.old) (E.taken err.new) (E.failures err.old) (E.failures err.new) reason
         × Keeps (W.taken out.old) (W.taken out.new) }
     ensures query { result ≡ 4 → OfBoth (R.remaining inputs.old.providers) (R.remaining inputs.old.inventories) (λ p i. answer job.now.query.now p i ≡ refused Refusal.Query)

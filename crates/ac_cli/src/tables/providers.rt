@@ -58,7 +58,11 @@ fn read_provider(at: ProviderPlaces, row: &ByteRecord) -> Option<Id>
 }
 
 // The providers of the records that are left.
-fn gather(alloc: Global, reader: &mut Reader<&[u8]>, at: ProviderPlaces) -> Result<Option<BTreeSet<Id>>, NoMemory>
+fn gather(
+    alloc: Global,
+    reader: &mut Reader<&[u8]>,
+    at: ProviderPlaces,
+) -> Result<Option<BTreeSet<Id>>, NoMemory>
     requires reading { IsReading reader.old }
     requires fit { length (rows_left reader.old) < 2 ^ 64 }
     ensures few { IfOk result (λ found. IfSome found (λ s. length s.keys ≤ 65536)) }

@@ -17,7 +17,7 @@ pub returns : goal.returns
 returns c =
     elim c.if-has_one_pair.branch [
       | then-has_one_pair+in_default w ↦
-        let none = ap raw_pairs (sym w.as_bytes-then-has_one_pair.ensures.value) ∙ sym w.parse-pairs.ensures.value ∙ w.in_default.ensures.steps.0 in
-        not_one (raw_pairs c.args.text.now) (ap is_one none)
+          let none = ap raw_pairs (sym w.as_bytes-then-has_one_pair.ensures.value) ∙ sym w.parse-pairs.ensures.value ∙ w.in_default.ensures.steps.0 in
+          not_one (raw_pairs c.args.text.now) (ap is_one none)
       | else-has_one_pair w ↦ not_one (raw_pairs c.args.text.now) (ap (λ t. is_one (raw_pairs t)) (sym c.as_bytes.ensures.value) ∙ sym c.has_one_pair.ensures ∙ w.if-has_one_pair.false)
     ]

@@ -27,7 +27,7 @@ returns-then-len-count c =
     let gives = rw c.if-branch.false at c.in_ok-next_row.ensures.gives in
     let ends = gather_ends (inventory_in c.args.at c.args.providers.now.keys) _ _ c.loop-held.invariant.got c.loop-held.invariant.ahead gives in
     inventories_kept _ c.loop-held.invariant.got c.loop-held.count c.loop-held.invariant.kept c.loop-held.invariant.count
-      (length-map c.loop-held.held.entries held_shown ∙ sym c.len.ensures.len ∙ c.if-len-count.true)
+    (length-map c.loop-held.held.entries held_shown ∙ sym c.len.ensures.len ∙ c.if-len-count.true)
     ∙ sym (ap (option_and_then distinct_inventories) ends)
 
 pub returns : goal.returns
@@ -35,5 +35,5 @@ returns c =
     let gives = rw c.if-branch.false at c.in_ok-next_row.ensures.gives in
     let ends = gather_ends (inventory_in c.args.at c.args.providers.now.keys) _ _ c.loop-held.invariant.got c.loop-held.invariant.ahead gives in
     inventories_refused _ c.loop-held.invariant.got c.loop-held.count c.loop-held.invariant.kept c.loop-held.invariant.count
-      (λ same. c.if-len-count.false (c.len.ensures.len ∙ sym (length-map c.loop-held.held.entries held_shown) ∙ same))
+    (λ same. c.if-len-count.false (c.len.ensures.len ∙ sym (length-map c.loop-held.held.entries held_shown) ∙ same))
     ∙ sym (ap (option_and_then distinct_inventories) ends)

@@ -33,8 +33,8 @@ returns-clause-value c =
     let gives = rw c.if-branch.false at c.in_ok-next_row.ensures.gives in
     let ends = gather_ends (provider_in c.args.at) _ _ c.loop-ids.invariant.got c.loop-ids.invariant.ahead gives in
     providers_refused _ c.loop-ids.invariant.got c.loop-ids.count c.loop-ids.invariant.kept c.loop-ids.invariant.count
-      (λ same few. elim c.else-len-count.branch [
-        | else-len-count-via-then-len-count+else-len-le-MOST_PROVIDERS w ↦ omega arith
-        | else-len-count-via-else-len-count w ↦ absurd (w.if-len-count.false (c.len.ensures.len ∙ same))
-      ])
+    (λ same few. elim c.else-len-count.branch [
+      | else-len-count-via-then-len-count+else-len-le-MOST_PROVIDERS w ↦ omega arith
+      | else-len-count-via-else-len-count w ↦ absurd (w.if-len-count.false (c.len.ensures.len ∙ same))
+    ])
     ∙ sym (ap (option_and_then distinct_providers) ends)
