@@ -1,7 +1,7 @@
 #!/bin/bash
 # bench/time.sh [PROVIDERS..]: times the proved program on clouds of so many providers (4096, 16384 and 65536, if none is named), with three
-# resource classes each. Beside it, over the same bytes and in the same run: wc, Python's csv module, and a plain Rust program that
-# only splits and counts (bench/anchor, where rustc is there). The last two clouds repeat the largest with its rows in order and in reverse.
+# resource classes each. Beside it, over the same bytes and in the same run: the ported csv alone (bench/csv_alone), wc, Python's csv module,
+# and a plain Rust program that only splits and counts (bench/anchor, where rustc is there). The last two clouds repeat the largest with its rows in order and in reverse.
 # Each figure is the best of three runs: wall time, and the most memory held at once.
 
 set -eu
@@ -15,6 +15,12 @@ program=$(dirname "$bench")/out/ac_cli
 anchor=''
 if command -v rustc >"$room/rustc" && rustc -O -o "$room/reading" "$bench/anchor/reading.rs"; then
     anchor=$room/reading
+fi
+
+# The ported csv alone, which reads the same bytes into the same records.
+ported=''
+if (cd "$bench/csv_alone/crates/csv_alone" && rt run) >"$room/ported.log" 2>&1 </dev/null; then
+    ported=$bench/csv_alone/crates/csv_alone/out/csv_alone
 fi
 
 # The interpreter itself: python3 can be a script that looks for it first.
@@ -57,6 +63,7 @@ tokens() {
 for providers; do
     cloud "$providers" shuffled
     tokens
+    [[ -z $ported ]] || best 'ported csv alone' "$ported" "$room/providers.csv" "$room/inventories.csv"
     [[ -z $anchor ]] || best 'splitting, plain Rust' "$anchor" "$room/providers.csv" "$room/inventories.csv"
     best 'wc -l' wc -l "$room/providers.csv" "$room/inventories.csv"
     best "Python's csv, started" "$python" -c "$read_by_python" "$room/providers.csv" "$room/inventories.csv"
