@@ -33,6 +33,13 @@ impl<W: Write> ToWrite<W> {
             failures: 0,
         }
     }
+
+    /// Gives the writer back, which has taken what the sink has.
+    pub fn into_inner(self) -> W
+        ensures { W.contents result ≡ ⟦<ToWrite<W> as Sink>⟧.taken self }
+    {
+        self.writer
+    }
 }
 
 impl<W: Write> Sink for ToWrite<W> {
