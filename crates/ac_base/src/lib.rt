@@ -24,3 +24,6 @@ pub use memory::Turn;
 pub use name::{ClassName, NoMemory, Suffix, TraitName};
 pub use number::{Ratio, read_count};
 pub use to_write::ToWrite;
+
+#[cfg(test)]
+mod tests;
