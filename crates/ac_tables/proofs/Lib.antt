@@ -1,0 +1,6 @@
+pub mod Whole
+pub mod RowsLeft
+pub mod Fields
+pub mod FirstFailing
+pub mod Results
+mod Literals

@@ -5,6 +5,7 @@
 
 pub mod fault;
 pub mod reading;
+mod rows;
 
 pub use fault::{Table, TableFault, TableKind};
 pub use reading::{ReadFault, drain};
