@@ -4,3 +4,8 @@ pub mod Fields
 pub mod FirstFailing
 pub mod Results
 mod Literals
+pub mod Header
+pub mod Progress
+pub mod Places
+pub mod SortedFacts
+pub mod ListedFacts

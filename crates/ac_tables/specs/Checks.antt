@@ -3,6 +3,8 @@ use Rattle.std.specs.Prelude.{◌≡◌, ⊤, ℕ, ◌+◌, Bool, if◌then◌el
 use Rattle.std.specs.Option.{option_map}
 use Rattle.ac_tables.specs.declared.fault.Table.{Table}
 use Rattle.ac_tables.specs.declared.fault.TableKind.{TableKind}
+use Rattle.ac_tables.specs.declared.fault.RecordFault.{RecordFault}
+use Rattle.ac_tables.specs.declared.fault.RecordFault.TheVariants as record_fault
 use Rattle.ac_tables.specs.declared.fault.TableFault.{TableFault}
 use Rattle.ac_tables.specs.declared.fault.TableFault.TheVariants as fault
 
@@ -47,3 +49,17 @@ told table row first = option_map (λ kind. fault.At table row kind) first
 abbrev pub Tells : Option TableFault → TableFault → Type 0
 Tells first (fault.At table row kind) = first ≡ Some (fault.At table row kind)
 Tells first fault.NoMemory = ⊤
+
+-- what records tell, beside what those before them say
+unfoldable pub rows_fault : {V : Type 0} → Table → (Row → V) → (List V → Row → List Check) → List V → List Row → Option TableFault
+rows_fault table value checks before rows = first_failing (record_checks table value checks before rows)
+
+-- the same of one record alone, before its table and number are said
+abbrev pub TellsKind : Option TableKind → RecordFault → Type 0
+TellsKind first (record_fault.Kind kind) = first ≡ Some kind
+TellsKind first record_fault.NoMemory = ⊤
+
+-- a record's fault, told with its table and number
+abbrev pub fault_at : Table → ℕ → RecordFault → TableFault
+fault_at table row (record_fault.Kind kind) = fault.At table row kind
+fault_at table row record_fault.NoMemory = fault.NoMemory

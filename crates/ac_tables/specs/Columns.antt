@@ -1,10 +1,11 @@
 -- Columns, found by their names in the header, and the checks of a header.
-use Rattle.std.specs.Prelude.{ℕ, Bool, true, nat_lt, List, [], ◌∷◌, ◌++◌, map, get_or, Option, ◌==◌, not, length}
+use Rattle.std.specs.Prelude.{Some, ℕ, Bool, true, nat_lt, List, [], ◌∷◌, ◌++◌, map, get_or, Option, ◌==◌, not, length}
 use Rattle.std.specs.Option.{unwrap_or, is_none}
 use Rattle.std.specs.List.{count_by, position_from}
 use Rattle.std.specs.Str.{bytes_eq}
+use Rattle.std.specs.Borrow.{Bor}
 use Rattle.ac_base.specs.Texts.{id_value, count_value}
-use Rattle.ac_tables.specs.Checks.{Row, Check, told_at, record_checks}
+use Rattle.ac_tables.specs.Checks.{Row, Check, told, told_at, first_failing, record_checks}
 use Rattle.ac_tables.specs.declared.fault.Table.{Table}
 use Rattle.ac_tables.specs.declared.fault.TableKind.TheVariants as kind
 use Rattle.ac_tables.specs.declared.fault.TableFault.{TableFault}
@@ -30,6 +31,15 @@ is_double header name = nat_lt 1 (count_by (bytes_eq name) header)
 unfoldable pub header_checks : List (List ℕ) → Row → List Check
 header_checks names header =
     map (λ name. (is_missing header name, kind.MissingColumn)) names ++ map (λ name. (is_double header name, kind.DoubleColumn)) names
+
+-- the first fault of a table's header
+unfoldable pub header_fault : Table → List (List ℕ) → List Row → Option TableFault
+header_fault table names [] = Some (fault.At table 1 kind.NoHeader)
+header_fault table names (header ∷ rows) = told table 1 (first_failing (header_checks names header))
+
+-- the texts of a list of them
+abbrev pub bytes_of : List (Bor (List ℕ)) → List (List ℕ)
+bytes_of names = map (λ name. name.now) names
 
 -- All checks of a table of these columns: there is a header, then the header, then its records.
 abbrev pub table_checks : {V : Type 0} → Table → List (List ℕ) → (Row → Row → V) → (Row → List V → Row → List Check) → List Row → List (Bool × TableFault)

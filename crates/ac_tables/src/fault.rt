@@ -103,3 +103,40 @@ impl<T: Drop> From<AllocFailed<T>> for TableFault {
         TableFault::NoMemory
     }
 }
+
+// The fault of a record, before its table and number are told, or a refused growth.
+#[derive(Clone, Copy, Debug, PartialEq, Eq)]
+pub(crate) enum RecordFault {
+    Kind(TableKind),
+    NoMemory,
+}
+
+impl From<TableKind> for RecordFault {
+    ghost use Rattle.ac_tables.specs.declared.fault.RecordFault.TheVariants.{Kind as of_kind};
+
+    ghost from_gives = { λ kind fault. fault ≡ of_kind kind };
+
+    fn from(kind: TableKind) -> RecordFault {
+        RecordFault::Kind(kind)
+    }
+}
+
+impl From<NoMemory> for RecordFault {
+    ghost use Rattle.ac_tables.specs.declared.fault.RecordFault.TheVariants.{NoMemory as refused};
+
+    ghost from_gives = { λ _ fault. fault ≡ refused };
+
+    fn from(_error: NoMemory) -> RecordFault {
+        RecordFault::NoMemory
+    }
+}
+
+impl<T: Drop> From<AllocFailed<T>> for RecordFault {
+    ghost use Rattle.ac_tables.specs.declared.fault.RecordFault.TheVariants.{NoMemory as refused};
+
+    ghost from_gives = { λ _ fault. fault ≡ refused };
+
+    fn from(_error: AllocFailed<T>) -> RecordFault {
+        RecordFault::NoMemory
+    }
+}

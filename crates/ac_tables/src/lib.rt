@@ -3,8 +3,12 @@
 //! It knows nothing of queries or of searches.
 #![tactic(auto)]
 
+mod columns;
 pub mod fault;
+mod listed;
+mod numbered;
 pub mod reading;
+mod roll;
 mod rows;
 
 pub use fault::{Table, TableFault, TableKind};
