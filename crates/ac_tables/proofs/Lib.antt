@@ -6,6 +6,7 @@ pub mod Results
 mod Literals
 pub mod Header
 pub mod Progress
-pub mod Places
+pub mod ListedPlaces
 pub mod SortedFacts
 pub mod ListedFacts
+pub mod StepsUp

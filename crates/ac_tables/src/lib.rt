@@ -3,6 +3,7 @@
 //! It knows nothing of queries or of searches.
 #![tactic(auto)]
 
+mod climbing;
 mod columns;
 pub mod fault;
 mod listed;

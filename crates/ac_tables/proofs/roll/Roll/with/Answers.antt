@@ -3,7 +3,7 @@ use Rattle.std.specs.Ordering.{nat_cmp}
 use Rattle.std.specs.BTreeMap.{keys}
 use Rattle.ac_tables.specs.ProviderTable.{Listed}
 use Rattle.ac_tables.specs.DistinctIds.{AreDistinct}
-use Rattle.ac_tables.proofs.Places.{found_more_at, distinct_more_at}
+use Rattle.ac_tables.proofs.ListedPlaces.{found_more_at, distinct_more_at}
 use Rattle.ac_tables.proofs.SortedFacts.{ordered_more}
 use Rattle.ac_tables.specs.Sorted.{rising}
 use Rattle.std.proofs.Common.{map}
