@@ -1,5 +1,5 @@
 -- Reading one record takes the first of the records that are left.
-use Rattle.std.proofs.Common.{◌≡◌, ◌<◌, ◌+◌, ◌∙◌, ℕ, zero, suc, Bool, true, false, List, [], ◌∷◌, length, Option, Some, None, Bor, refl, ap, subst, arith, ◌⊎◌, inl, inr}
+use Rattle.std.proofs.Common.{◌≤◌, ◌≡◌, ◌<◌, ◌+◌, ◌∙◌, ℕ, zero, suc, Bool, true, false, List, [], ◌∷◌, length, Option, Some, None, Bor, refl, ap, subst, arith, ◌⊎◌, inl, inr}
 use Rattle.csv.specs.Machine.{Read, ends_at_end, next_record}
 use Rattle.std.specs.Prelude.{Result, Ok, Err, IfOk, OnOk}
 use Rattle.std.specs.Option.{ok_or}
@@ -7,7 +7,8 @@ use Rattle.std.specs.Result.{result_ok}
 use Rattle.ac_base.specs.declared.name.NoMemory.{NoMemory}
 use Rattle.csv.specs.declared.error.Error.{Error}
 use Rattle.csv.specs.declared.reader.Trim.TheVariants as trim
-use Rattle.csv.specs.Reading.{Ready, Reached, ReadRecord, default_config, records_from, source_of, strip_bom}
+use Rattle.std.proofs.lemmas.Bool.{cases_Bool}
+use Rattle.csv.specs.Reading.{is_bom, Ready, Reached, ReadRecord, default_config, records_from, source_of, strip_bom}
 use Rattle.csv.specs.declared.parser.State.{State}
 use Rattle.csv.specs.declared.parser.State.TheVariants as st
 use Rattle.csv.specs.declared.reader.Reader.{Reader}
@@ -116,3 +117,25 @@ pub goes_on_clause : (a b : Reader (Bor (List ℕ))) (f : List (List ℕ)) (r : 
     → IfOk (ok_or (result_ok r) none) (λ found. found ≡ true → IsReading b)
 goes_on_clause a b f (Ok found) none reading step first = goes_clause a b f found reading (step reading.trim reading.ready) (first reading.trim)
 goes_on_clause a b f (Err e) none reading step first = tt
+
+records-few : (n : ℕ) (s : State) (xs : List ℕ) → length (records_from default_config n s xs) ≤ n
+unfolding records_from
+records-few zero s xs = omega arith
+records-few (suc n) s xs = elim (next-cases (next_record default_config s [] [] xs)) [
+  | inl e ↦ rw e (omega arith)
+  | inr r ↦ let less = records-few n r.0.1 r.0.2 in rw r.1 (omega arith)
+]
+
+bom-shorter : (xs : List ℕ) → length (strip_bom xs) ≤ length xs
+unfolding strip_bom
+bom-shorter [] = omega arith
+bom-shorter (a ∷ []) = omega arith
+bom-shorter (a ∷ b ∷ []) = omega arith
+bom-shorter (a ∷ b ∷ c ∷ rest) = elim (cases_Bool (is_bom a b c)) [ inl e ↦ rw e (omega arith) | inr e ↦ rw e (omega arith) ]
+
+-- a text has no more records after the first than bytes
+pub rest_few : (bytes : List ℕ) (row : List (List ℕ)) (rest : List (List (List ℕ))) → records_of bytes ≡ row ∷ rest → length rest ≤ length bytes
+rest_few bytes row rest e =
+    let some = records-few (length (strip_bom bytes) + 1) st.StartRecord (strip_bom bytes) in
+    let count : length (records_of bytes) ≡ length rest + 1 = ap length e ∙ omega arith in
+    omega (arith, bom-shorter bytes)

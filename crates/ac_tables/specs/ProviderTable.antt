@@ -4,7 +4,7 @@ use Rattle.std.specs.Option.{unwrap_or, is_none, is_some, option_and_then}
 use Rattle.std.specs.List.{position_from}
 use Rattle.std.specs.Str.{bytes_eq}
 use Rattle.ac_base.specs.Texts.{id_value}
-use Rattle.ac_tables.specs.Checks.{Row, Check, pass}
+use Rattle.ac_tables.specs.Checks.{Row, Check, first_failing, pass}
 use Rattle.ac_tables.specs.Columns.{table_checks, said_by, text_in, id_in, bad_width, bad_id}
 use Rattle.ac_tables.specs.Trees.{top, is_endless}
 use Rattle.ac_tables.specs.declared.fault.Table.TheVariants as table
@@ -120,3 +120,24 @@ listed_of rows = said_by listed_in rows
 -- all checks of the table
 abbrev pub provider_checks : List Row → List (Bool × TableFault)
 provider_checks rows = table_checks table.Providers provider_columns listed_in listed_checks rows ++ tree_checks (listed_of rows)
+
+-- the first fault of the header and of the records
+unfoldable pub listed_fault : List Row → Option TableFault
+listed_fault rows = first_failing (table_checks table.Providers provider_columns listed_in listed_checks rows)
+
+-- the first fault of each of the three passes over all providers
+unfoldable pub unknown_fault : List Listed → Option TableFault
+unknown_fault all = first_failing (pass table.Providers kind.UnknownParent (has_unknown_parent all) 2 all)
+
+unfoldable pub endless_fault : List Listed → Option TableFault
+endless_fault all = first_failing (pass table.Providers kind.ParentCycle (has_endless_chain all) 2 all)
+
+unfoldable pub root_fault : List Listed → Option TableFault
+root_fault all = first_failing (pass table.Providers kind.WrongRoot (has_wrong_root all) 2 all)
+
+-- the first fault of the trees, and of the whole table
+unfoldable pub trees_fault : List Listed → Option TableFault
+trees_fault all = first_failing (tree_checks all)
+
+unfoldable pub providers_fault : List Row → Option TableFault
+providers_fault rows = first_failing (provider_checks rows)

@@ -97,6 +97,7 @@ pub(crate) fn open_table<'a>(
     ensures reading { IfOk result (λ reader. IsReading reader) }
     ensures rows { IfOk result (λ reader. records_of text.now ≡ fields_of header.new ∷ rows_left reader) }
     ensures ok { IfOk result (λ _. header_fault table (bytes_of names.now) (records_of text.now) ≡ None) }
+    ensures few { IfOk result (λ reader. length (rows_left reader) ≤ length text.now) }
     ensures fault { IfErr result (λ e. Tells (header_fault table (bytes_of names.now) (records_of text.now)) e) }
 {
     let mut reader = open_rows(alloc, text);

@@ -8,6 +8,7 @@ mod columns;
 pub mod fault;
 mod listed;
 mod numbered;
+mod providers;
 pub mod reading;
 mod roll;
 mod rows;
