@@ -10,3 +10,6 @@ pub mod ListedPlaces
 pub mod SortedFacts
 pub mod ListedFacts
 pub mod StepsUp
+pub mod Passes
+pub mod ListedTrees
+pub mod ListedTable

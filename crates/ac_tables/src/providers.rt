@@ -61,3 +61,97 @@ fn read_table(alloc: Global, text: &[u8]) -> Result<Roll, TableFault>
     };
     read_rows(alloc, &mut reader, &header)
 }
+
+// Where the parents stand, or the first that isn't there.
+fn find_parents(alloc: Global, roll: &Roll) -> Result<Vec<Option<u32>>, TableFault>
+    ensures ok { IfOk result (λ v. (v.items ≡ parent_places roll.now.rows.items) × (unknown_fault roll.now.rows.items ≡ None)) }
+    ensures fault { IfErr result (λ e. Tells (unknown_fault roll.now.rows.items) e) }
+{
+    let mut parents = Vec::new(alloc);
+    let count = roll.count();
+    for place in 0..count {
+        match roll.parent_place(place) {
+            Ok(parent) => parents.push(parent)?,
+            Err(kind) => return Err(tree_fault(place, kind)),
+        }
+    }
+    Ok(parents)
+}
+
+// A fault of the provider at a place.
+fn tree_fault(place: usize, kind: TableKind) -> TableFault
+    requires { place < 65536 }
+    ensures { result ≡ TableFault.At Table.Providers (place + 2) kind }
+{
+    TableFault::At {
+        table: Table::Providers,
+        row: place as u32 + 2,
+        kind,
+    }
+}
+
+// The first provider whose chain of parents doesn't end.
+fn check_cycles(roll: &Roll, tops: &[u32]) -> Result<(), TableFault>
+    requires trees { AreTrees roll.now.rows.items }
+    requires count { length tops.now ≡ length roll.now.rows.items }
+    requires tops { (i : ℕ) → i < length roll.now.rows.items → get_or tops.now i 0 ≡ top (parent_in (parent_places roll.now.rows.items)) (length (parent_places roll.now.rows.items)) i }
+    ensures ok { IfOk result (λ _. endless_fault roll.now.rows.items ≡ None) }
+    ensures fault { IfErr result (λ e. Tells (endless_fault roll.now.rows.items) e) }
+{
+    let count = roll.count();
+    for place in 0..count {
+        if roll.parent(tops[place] as usize).is_some() {
+            return Err(tree_fault(place, TableKind::ParentCycle));
+        }
+    }
+    Ok(())
+}
+
+// The first provider that names a root which isn't the top of its tree.
+fn check_roots(roll: &Roll, tops: &[u32]) -> Result<(), TableFault>
+    requires trees { AreTrees roll.now.rows.items }
+    requires count { length tops.now ≡ length roll.now.rows.items }
+    requires tops { (i : ℕ) → i < length roll.now.rows.items → get_or tops.now i 0 ≡ top (parent_in (parent_places roll.now.rows.items)) (length (parent_places roll.now.rows.items)) i }
+    ensures ok { IfOk result (λ _. root_fault roll.now.rows.items ≡ None) }
+    ensures fault { IfErr result (λ e. Tells (root_fault roll.now.rows.items) e) }
+{
+    let count = roll.count();
+    for place in 0..count {
+        if roll.names_other_root(place, tops[place] as usize) {
+            return Err(tree_fault(place, TableKind::WrongRoot));
+        }
+    }
+    Ok(())
+}
+
+// The first fault of the trees: each check passes over all providers before the next.
+fn check_trees(alloc: Global, roll: &Roll) -> Result<(), TableFault>
+    ensures ok { IfOk result (λ _. trees_fault roll.now.rows.items ≡ None) }
+    ensures fault { IfErr result (λ e. Tells (trees_fault roll.now.rows.items) e) }
+{
+    let _count = roll.count();
+    let parents = match find_parents(alloc, roll) {
+        Ok(parents) => parents,
+        Err(fault) => return Err(fault),
+    };
+    let tops = find_tops(alloc, &parents)?;
+    match check_cycles(roll, &tops) {
+        Ok(()) => check_roots(roll, &tops),
+        Err(fault) => Err(fault),
+    }
+}
+
+// The providers of a text, or the first fault of their table.
+pub(crate) fn read_providers(alloc: Global, text: &[u8]) -> Result<Roll, TableFault>
+    requires { length text.now ≤ most_bytes }
+    ensures ok { IfOk result (λ roll. (roll.rows.items ≡ listed_of (records_of text.now)) × (providers_fault (records_of text.now) ≡ None)) }
+    ensures fault { IfErr result (λ e. Tells (providers_fault (records_of text.now)) e) }
+{
+    match read_table(alloc, text) {
+        Ok(roll) => match check_trees(alloc, &roll) {
+            Ok(()) => Ok(roll),
+            Err(fault) => Err(fault),
+        },
+        Err(fault) => Err(fault),
+    }
+}
