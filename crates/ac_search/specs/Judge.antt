@@ -1,5 +1,5 @@
 -- The nine rules in their order: candidates, the first rule that is broken, and fronts that are still open.
-use Rattle.std.specs.Prelude.{ℕ, Bool, true, cond, ◌&&◌, List, [], ◌∷◌}
+use Rattle.std.specs.Prelude.{ℕ, Bool, cond, ◌&&◌, List, [], ◌∷◌}
 use Rattle.std.specs.List.{list_all}
 use Rattle.ac_query.specs.Asked.{Asked}
 use Rattle.ac_tables.specs.World.{Provider}
@@ -23,14 +23,14 @@ test rule holds = record { rule = rule; holds = holds }
 unfoldable pub tests : List Provider → Asked → List Placed → List Test
 tests all asked xs =
     test Units (list_all (λ x. units_fit all x) xs)
-      ∷ (test SlotTraits (list_all (λ x. traits_fit all x) xs)
-      ∷ (test Aggregates (list_all (λ x. aggregates_fit all x) xs)
-      ∷ (test Tree (list_all (λ x. tree_fits all x) xs)
-      ∷ (test Collective (collective all asked xs)
-      ∷ (test Sums (sums all xs)
-      ∷ (test Isolate (isolate asked xs)
-      ∷ (test Subtree (subtree all asked xs)
-      ∷ (test Anchor (anchor all asked xs) ∷ []))))))))
+    ∷ (test SlotTraits (list_all (λ x. traits_fit all x) xs)
+    ∷ (test Aggregates (list_all (λ x. aggregates_fit all x) xs)
+    ∷ (test Tree (list_all (λ x. tree_fits all x) xs)
+    ∷ (test Collective (collective all asked xs)
+    ∷ (test Sums (sums all xs)
+    ∷ (test Isolate (isolate asked xs)
+    ∷ (test Subtree (subtree all asked xs)
+    ∷ (test Anchor (anchor all asked xs) ∷ []))))))))
 
 -- the first that doesn't hold
 abbrev pub first_broken : List Test → Verdict
@@ -52,10 +52,10 @@ is_candidate all asked list = all_hold (tests all asked (assigned asked list))
 unfoldable pub is_open_at : List Provider → Asked → List Placed → Bool
 is_open_at all asked xs =
     (list_all (λ x. units_fit all x) xs
-      && list_all (λ x. traits_fit all x) xs
-      && list_all (λ x. aggregates_fit all x) xs
-      && list_all (λ x. tree_fits all x) xs)
-      && (sums all xs && isolate asked xs && anchor all asked xs)
+    && list_all (λ x. traits_fit all x) xs
+    && list_all (λ x. aggregates_fit all x) xs
+    && list_all (λ x. tree_fits all x) xs)
+    && (sums all xs && isolate asked xs && anchor all asked xs)
 
 -- An open list: its slots' own rules, Sums, Isolate and Anchor hold. The empty list is open where the query takes some root.
 unfoldable pub is_open : List Provider → Asked → List ℕ → Bool

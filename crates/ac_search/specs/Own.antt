@@ -3,7 +3,6 @@ use Rattle.std.specs.Prelude.{ℕ, ◌==◌, ◌&&◌, ◌||◌, Bool, true, fal
 use Rattle.std.specs.List.{list_all, list_any}
 use Rattle.std.specs.Option.{is_none, is_some, option_map, unwrap_or}
 use Rattle.ac_base.specs.Quantities.{Stock, units}
-use Rattle.ac_query.specs.Asked.{Slot}
 use Rattle.ac_query.specs.Values.{AggregateRule}
 use Rattle.ac_tables.specs.World.{Provider, provider_at, place_of, root_of, held_of, has_trait, is_member}
 use Rattle.ac_search.specs.Placed.{Placed}
@@ -35,7 +34,7 @@ has_none p names = list_all (λ name. not (has_trait p name)) names
 unfoldable pub traits_fit : List Provider → Placed → Bool
 traits_fit all x =
     has_none (provider_at all x.provider) x.slot.group.forbidden
-      && (is_none x.slot.suffix || has_all (provider_at all x.provider) x.slot.group.required)
+    && (is_none x.slot.suffix || has_all (provider_at all x.provider) x.slot.group.required)
 
 -- ---- Aggregates
 
@@ -47,7 +46,7 @@ root_provider all p = provider_at all (unwrap_or (place_of all (root_of all p.id
 abbrev pub counts_in : List Provider → Placed → ℕ → Bool
 counts_in all x aggregate =
     is_member (provider_at all x.provider) aggregate
-      || (is_none x.slot.suffix && is_member (root_provider all (provider_at all x.provider)) aggregate)
+    || (is_none x.slot.suffix && is_member (root_provider all (provider_at all x.provider)) aggregate)
 
 -- the plain form asks for one of the aggregates, the forbidding form for none
 unfoldable pub meets_rule : List Provider → Placed → AggregateRule → Bool

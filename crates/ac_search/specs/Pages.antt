@@ -1,5 +1,5 @@
 -- The candidates of a query in order, and pages of them.
-use Rattle.std.specs.Prelude.{ℕ, ◌+◌, Bool, true, List, map, length, take, Option, Some, None}
+use Rattle.std.specs.Prelude.{ℕ, Bool, true, List, map, length, take, Option, Some, None}
 use Rattle.std.specs.List.{filter}
 use Rattle.ac_query.specs.Asked.{Asked, slots_of}
 use Rattle.ac_tables.specs.World.{Provider, id_at}

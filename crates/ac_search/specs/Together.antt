@@ -95,8 +95,8 @@ subtree all asked xs = list_all (λ names. list_any (λ a. is_top all (listed na
 unfoldable pub takes_root : List Provider → Asked → ℕ → Bool
 takes_root all asked r =
     is_root all (id_at all r)
-      && has_all (provider_at all r) asked.root_required
-      && has_none (provider_at all r) asked.root_forbidden
+    && has_all (provider_at all r) asked.root_required
+    && has_none (provider_at all r) asked.root_forbidden
 
 -- every provider is available in the tree of a root
 unfoldable pub hosts_all : List Provider → List Placed → ℕ → Bool

@@ -3,6 +3,7 @@
 //! It knows nothing of the texts of tables and queries, nor of what is printed.
 #![tactic(auto)]
 
+pub mod laws;
 pub mod source;
 pub mod verdict;
 
