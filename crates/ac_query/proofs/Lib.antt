@@ -10,3 +10,6 @@ pub mod Drafts
 pub mod PairSteps
 pub mod Earlier
 pub mod Passing
+pub mod Checks
+pub mod Slots
+pub mod Wholes

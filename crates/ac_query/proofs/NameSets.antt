@@ -16,13 +16,18 @@ module _ {K : Type 0} (f : K → List ℕ) (cmp : K → K → Ordering) (same : 
   contains_text [] k = refl
   contains_text (x ∷ xs) k = ap₂ (λ a b. a || b) (ap is_eq (same k x) ∙ sym (texts_ties (f k) (f x))) (contains_text xs k)
 
+  -- one more of the names that are added to a set, as a copy
+  pub adds_copy : (have new left rest : List K) (x y : K) (whole : List (List ℕ)) → left ≡ x ∷ rest → new ≡ insert_key cmp have y → f y ≡ f x
+      → in_order_with (map f have) (map f left) ≡ whole → in_order_with (map f new) (map f rest) ≡ whole
+  adds_copy have new left rest x y whole turn added same_name holds =
+      ap (λ ks. in_order_with (map f ks) (map f rest)) added
+      ∙ ap (λ ks. in_order_with ks (map f rest)) (insert_key_shown f cmp text_cmp same have y ∙ ap (insert_key text_cmp (map f have)) same_name)
+      ∙ sym (ap (λ l. in_order_with (map f have) (map f l)) turn) ∙ holds
+
   -- one more of the names that are added to a set
   pub adds_one : (have new left rest : List K) (x : K) (whole : List (List ℕ)) → left ≡ x ∷ rest → new ≡ insert_key cmp have x
       → in_order_with (map f have) (map f left) ≡ whole → in_order_with (map f new) (map f rest) ≡ whole
-  adds_one have new left rest x whole turn added holds =
-      ap (λ ks. in_order_with (map f ks) (map f rest)) added
-      ∙ ap (λ ks. in_order_with ks (map f rest)) (insert_key_shown f cmp text_cmp same have x)
-      ∙ sym (ap (λ l. in_order_with (map f have) (map f l)) turn) ∙ holds
+  adds_one have new left rest x whole turn added holds = adds_copy have new left rest x x whole turn added refl holds
 
 -- a search through names
 module _ {K : Type 0} (f : K → List ℕ) (test : List ℕ → Bool) (left rest : List K) (x : K) (whole : Bool) (turn : left ≡ x ∷ rest) (holds : list_any test (map f left) ≡ whole) where

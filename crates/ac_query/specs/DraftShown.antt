@@ -1,5 +1,5 @@
 -- What a draft shows.
-use Rattle.std.specs.Prelude.{ℕ, List, map}
+use Rattle.std.specs.Prelude.{ℕ, List, map, Option}
 use Rattle.std.specs.Option.{option_map}
 use Rattle.std.specs.BTreeMap.{BTreeMap}
 use Rattle.ac_base.specs.declared.name.Suffix.{Suffix}
@@ -8,8 +8,8 @@ use Rattle.ac_query.specs.declared.draft.GroupDraft.{GroupDraft}
 use Rattle.ac_query.specs.declared.draft.Draft.{Draft}
 use Rattle.ac_query.specs.Shown.{needs_shown, names_shown, traits_shown, suffixes_shown}
 use Rattle.ac_query.specs.GroupsShown.{rule_shown}
-use Rattle.ac_query.specs.Asked.{Group}
-use Rattle.ac_query.specs.Gathered.{Gathered}
+use Rattle.ac_query.specs.Asked.{Group, Asked}
+use Rattle.ac_query.specs.Gathered.{Gathered, plain_groups, of_suffix, as_asked}
 
 -- what is asked of a group so far
 abbrev pub group_drafted : GroupDraft → Group
@@ -28,6 +28,14 @@ entry_shown e = (suffix_bytes e.0, group_drafted e.1)
 abbrev pub entries_shown : BTreeMap Suffix GroupDraft → List (List ℕ × Group)
 entries_shown m = map entry_shown m.entries
 
+-- the groups of suffixes
+abbrev pub suffixed_shown : BTreeMap Suffix GroupDraft → List (Option (List ℕ) × Group)
+suffixed_shown m = map of_suffix (entries_shown m)
+
+-- the unsuffixed group, where it is there
+abbrev pub plain_shown : Option GroupDraft → List (Option (List ℕ) × Group)
+plain_shown plain = plain_groups (option_map group_drafted plain)
+
 abbrev pub draft_shown : Draft → Gathered
 draft_shown d = record {
   plain = option_map group_drafted d.plain;
@@ -37,3 +45,7 @@ draft_shown d = record {
   root = traits_shown d.root;
   limit = d.limit;
 }
+
+-- what a draft asks for
+abbrev pub draft_asked : Draft → Asked
+draft_asked d = as_asked (draft_shown d)

@@ -12,3 +12,6 @@ pub mod ParametersShown
 pub mod GivenShown
 pub mod DraftShown
 pub mod FaultsShown
+pub mod SlotsShown
+pub mod QueriesShown
+pub mod Tokens
