@@ -82,9 +82,17 @@ stock_checks header row =
     ∷ (nat_lt (number_in header total_name row) (number_in header reserved_name row), kind.ReservedOverTotal)
     ∷ []
 
+-- the checks with which each record begins that belongs to a provider
+unfoldable pub owner_checks : Row → Row → List Check
+owner_checks header row = bad_width header row ∷ bad_id header provider_name row ∷ []
+
+-- the check of a class
+unfoldable pub class_checks : Row → Row → List Check
+class_checks header row = bad_class header row ∷ []
+
 -- the checks of a record's fields
 unfoldable pub holding_field_checks : Row → Row → List Check
-holding_field_checks header row = bad_width header row ∷ bad_id header provider_name row ∷ bad_class header row ∷ stock_checks header row
+holding_field_checks header row = owner_checks header row ++ class_checks header row ++ stock_checks header row
 
 -- the checks of what a record says, beside what is said before it
 unfoldable pub held_checks : List ℕ → List Holding → ℕ → List ℕ → List Check

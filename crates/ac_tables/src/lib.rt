@@ -6,6 +6,9 @@
 mod climbing;
 mod columns;
 pub mod fault;
+mod fields;
+mod holding;
+mod ids;
 mod listed;
 mod numbered;
 mod providers;
