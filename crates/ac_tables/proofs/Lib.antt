@@ -16,3 +16,5 @@ pub mod ListedTable
 pub mod Rising
 pub mod NameFacts
 pub mod GatherFacts
+pub mod ClassMaps
+pub mod HeldFacts

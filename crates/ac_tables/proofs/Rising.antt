@@ -54,3 +54,9 @@ absent_place xs x (Err i) h s =
       where
         below_or : (k i : ℕ) → (k < i) ⊎ (i ≤ k)
         below_or k i = search (arith, rules)
+
+-- what is at a place is there
+pub one_of_place : (xs : List ℕ) (x i : ℕ) → i < length xs → get_or xs i 0 ≡ x → is_one_of xs x ≡ true
+one_of_place [] x i h e = absurd (omega (arith, h))
+one_of_place (y ∷ xs) x zero h e = let first : (y == x) ≡ true = search (arith, rules) in rw first refl
+one_of_place (y ∷ xs) x (suc i) h e = elim (cases_Bool (y == x)) [ inl k ↦ rw k refl | inr k ↦ rw k (one_of_place xs x i (omega arith) e) ]

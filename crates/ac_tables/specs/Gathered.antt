@@ -7,7 +7,10 @@ use Rattle.ac_base.specs.Names.{class_bytes, trait_bytes}
 use Rattle.ac_base.specs.declared.name.ClassName.{ClassName}
 use Rattle.ac_base.specs.declared.name.TraitName.{TraitName}
 use Rattle.ac_tables.specs.Sorted.{TextMap}
-use Rattle.ac_tables.specs.InventoryTable.{is_one_of}
+use Rattle.ac_base.specs.Quantities.{Stock}
+use Rattle.ac_tables.specs.InventoryTable.{Holding, is_one_of}
+use Rattle.ac_tables.specs.Tables.{stocks_of}
+use Rattle.ac_tables.specs.declared.holding.HoldingRow.{HoldingRow}
 
 -- each number is below those after it
 abbrev pub IsRising : List ℕ → Type 0
@@ -25,3 +28,11 @@ trait_texts s = map trait_bytes s.keys
 pub record IsGathered {V G : Type 0} (ids : List ℕ) (provider : V → ℕ) (gather : List V → ℕ → G) (said : List V) (all : List G) : Type 0 where
   pub each : all ≡ map (gather said) ids
   pub known : list_all (λ v. is_one_of ids (provider v)) said ≡ true
+
+-- the inventories of each provider, by class
+abbrev pub AreStocks : List ℕ → List Holding → List (BTreeMap ClassName Stock) → Type 0
+AreStocks ids said maps = IsGathered ids (λ h. h.provider) stocks_of said (map by_class maps)
+
+-- what a record of the inventories was read as
+abbrev pub holding_of : HoldingRow → Holding
+holding_of row = record { provider = row.provider; class = class_bytes row.class; stock = row.inventory }

@@ -66,7 +66,7 @@ bad_class header row = (is_none (name_value (text_in header class_name row)), ki
 
 -- an inventory of this provider and class
 abbrev pub is_holding : ℕ → List ℕ → Holding → Bool
-is_holding id class h = (h.provider == id) && bytes_eq h.class class
+is_holding id class h = (h.provider == id) && bytes_eq class h.class
 
 -- a provider is there
 abbrev pub is_one_of : List ℕ → ℕ → Bool

@@ -28,7 +28,7 @@ usage_in header row = record { provider = id_in header provider_name row; class 
 
 -- a usage of this provider and class
 abbrev pub is_usage : ℕ → List ℕ → Usage → Bool
-is_usage id class u = (u.provider == id) && bytes_eq u.class class
+is_usage id class u = (u.provider == id) && bytes_eq class u.class
 
 -- the checks of a record's fields
 unfoldable pub usage_field_checks : Row → Row → List Check

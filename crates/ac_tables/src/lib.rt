@@ -9,6 +9,7 @@ pub mod fault;
 mod fields;
 mod holding;
 mod ids;
+mod inventories;
 mod listed;
 mod numbered;
 mod providers;
