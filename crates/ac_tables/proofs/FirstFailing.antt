@@ -1,9 +1,11 @@
 -- The first check that fails, in lists that are joined.
-use Rattle.std.proofs.Common.{◌≡◌, ℕ, Bool, true, false, List, [], ◌∷◌, ◌++◌, Option, Some, None, refl}
+use Rattle.std.proofs.Common.{◌≡◌, ◌∙◌, ℕ, Bool, true, false, List, [], ◌∷◌, ◌++◌, Option, Some, None, refl}
 use Rattle.std.specs.Prelude.{Ok, Err}
-use Rattle.ac_tables.specs.Checks.{first_failing, told_at, unless}
+use Rattle.ac_tables.specs.Checks.{first_failing, told_at, unless, TellsKind}
 use Rattle.ac_tables.specs.declared.fault.Table.{Table}
 use Rattle.ac_tables.specs.declared.fault.TableKind.{TableKind}
+use Rattle.ac_tables.specs.declared.fault.RecordFault.{RecordFault}
+use Rattle.ac_tables.specs.declared.fault.RecordFault.TheVariants as record_fault
 use Rattle.ac_tables.specs.declared.fault.TableFault.{TableFault}
 use Rattle.ac_tables.specs.declared.fault.TableFault.TheVariants as fault
 
@@ -41,3 +43,15 @@ unless_none (Some j) v p e = absurd (cc)
 pub unless_value : {X : Type 0} (o : Option TableKind) (v p : X) → unless o v ≡ Ok p → p ≡ v
 unless_value None v p e = cc
 unless_value (Some j) v p e = absurd (cc)
+
+-- the same of a record's fault
+pub tells_front : (xs ys : List (Bool × TableKind)) (e : RecordFault) → TellsKind (first_failing xs) e → TellsKind (first_failing (xs ++ ys)) e
+tells_front xs ys (record_fault.Kind k) h = append_some xs ys k h
+tells_front xs ys record_fault.NoMemory h = tt
+
+pub tells_back : (xs ys : List (Bool × TableKind)) (e : RecordFault) → first_failing xs ≡ None → TellsKind (first_failing ys) e → TellsKind (first_failing (xs ++ ys)) e
+tells_back xs ys (record_fault.Kind k) none h = append_none xs ys none ∙ h
+tells_back xs ys record_fault.NoMemory none h = tt
+
+pub none_both : (xs ys : List (Bool × TableKind)) → first_failing xs ≡ None → first_failing ys ≡ None → first_failing (xs ++ ys) ≡ None
+none_both xs ys none h = append_none xs ys none ∙ h

@@ -1,6 +1,6 @@
 pub mod Whole
 pub mod RowsLeft
-pub mod Fields
+pub mod FieldTexts
 pub mod FirstFailing
 pub mod Results
 mod Literals
@@ -13,3 +13,8 @@ pub mod StepsUp
 pub mod Passes
 pub mod ListedTrees
 pub mod ListedTable
+pub mod Rising
+pub mod NameFacts
+pub mod GatherFacts
+pub mod ClassMaps
+pub mod HeldFacts

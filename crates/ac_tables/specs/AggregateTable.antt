@@ -1,9 +1,9 @@
 -- The table of aggregates.
 use Rattle.std.specs.Prelude.{◌&&◌, ℕ, Bool, ◌==◌, not, List, [], ◌∷◌, ◌++◌}
 use Rattle.ac_tables.specs.Checks.{Row, Check}
-use Rattle.ac_tables.specs.Columns.{table_checks, said_by, id_in, bad_width, bad_id}
+use Rattle.ac_tables.specs.Columns.{table_checks, said_by, id_in, bad_id}
 use Rattle.ac_tables.specs.ProviderTable.{uuid_name}
-use Rattle.ac_tables.specs.InventoryTable.{provider_name, is_one_of}
+use Rattle.ac_tables.specs.InventoryTable.{provider_name, owner_checks, is_one_of}
 use Rattle.ac_tables.specs.declared.fault.Table.TheVariants as table
 use Rattle.ac_tables.specs.declared.fault.TableKind.TheVariants as kind
 use Rattle.ac_tables.specs.declared.fault.TableFault.{TableFault}
@@ -27,7 +27,7 @@ same_membership a b = (a.provider == b.provider) && (a.aggregate == b.aggregate)
 
 -- the checks of a record's fields
 unfoldable pub membership_field_checks : Row → Row → List Check
-membership_field_checks header row = bad_width header row ∷ bad_id header provider_name row ∷ bad_id header uuid_name row ∷ []
+membership_field_checks header row = owner_checks header row ++ bad_id header uuid_name row ∷ []
 
 -- the checks of a record, where these are the ids of all providers; a repeated one is none
 unfoldable pub membership_checks : List ℕ → Row → List Membership → Row → List Check

@@ -66,7 +66,7 @@ bad_class header row = (is_none (name_value (text_in header class_name row)), ki
 
 -- an inventory of this provider and class
 abbrev pub is_holding : ℕ → List ℕ → Holding → Bool
-is_holding id class h = (h.provider == id) && bytes_eq h.class class
+is_holding id class h = (h.provider == id) && bytes_eq class h.class
 
 -- a provider is there
 abbrev pub is_one_of : List ℕ → ℕ → Bool
@@ -82,9 +82,17 @@ stock_checks header row =
     ∷ (nat_lt (number_in header total_name row) (number_in header reserved_name row), kind.ReservedOverTotal)
     ∷ []
 
+-- the checks with which each record begins that belongs to a provider
+unfoldable pub owner_checks : Row → Row → List Check
+owner_checks header row = bad_width header row ∷ bad_id header provider_name row ∷ []
+
+-- the check of a class
+unfoldable pub class_checks : Row → Row → List Check
+class_checks header row = bad_class header row ∷ []
+
 -- the checks of a record's fields
 unfoldable pub holding_field_checks : Row → Row → List Check
-holding_field_checks header row = bad_width header row ∷ bad_id header provider_name row ∷ bad_class header row ∷ stock_checks header row
+holding_field_checks header row = owner_checks header row ++ class_checks header row ++ stock_checks header row
 
 -- the checks of what a record says, beside what is said before it
 unfoldable pub held_checks : List ℕ → List Holding → ℕ → List ℕ → List Check

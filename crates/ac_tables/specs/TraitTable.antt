@@ -4,8 +4,8 @@ use Rattle.std.specs.Option.{is_none}
 use Rattle.std.specs.Str.{bytes_eq}
 use Rattle.ac_base.specs.Texts.{name_value}
 use Rattle.ac_tables.specs.Checks.{Row, Check}
-use Rattle.ac_tables.specs.Columns.{table_checks, said_by, text_in, id_in, bad_width, bad_id}
-use Rattle.ac_tables.specs.InventoryTable.{provider_name, is_one_of}
+use Rattle.ac_tables.specs.Columns.{table_checks, said_by, text_in, id_in}
+use Rattle.ac_tables.specs.InventoryTable.{provider_name, owner_checks, is_one_of}
 use Rattle.ac_tables.specs.declared.fault.Table.TheVariants as table
 use Rattle.ac_tables.specs.declared.fault.TableKind.TheVariants as kind
 use Rattle.ac_tables.specs.declared.fault.TableFault.{TableFault}
@@ -32,8 +32,7 @@ same_mark a b = (a.provider == b.provider) && bytes_eq a.name b.name
 
 -- the checks of a record's fields
 unfoldable pub mark_field_checks : Row → Row → List Check
-mark_field_checks header row =
-    bad_width header row ∷ bad_id header provider_name row ∷ (is_none (name_value (text_in header name_name row)), kind.BadTrait) ∷ []
+mark_field_checks header row = owner_checks header row ++ (is_none (name_value (text_in header name_name row)), kind.BadTrait) ∷ []
 
 -- the checks of a record, where these are the ids of all providers; a repeated one is none
 unfoldable pub mark_checks : List ℕ → Row → List Mark → Row → List Check

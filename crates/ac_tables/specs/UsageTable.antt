@@ -3,8 +3,8 @@ use Rattle.std.specs.Prelude.{◌&&◌, ℕ, Bool, ◌==◌, not, List, [], ◌�
 use Rattle.std.specs.List.{list_any}
 use Rattle.std.specs.Str.{bytes_eq}
 use Rattle.ac_tables.specs.Checks.{Row, Check}
-use Rattle.ac_tables.specs.Columns.{table_checks, said_by, text_in, id_in, number_in, bad_width, bad_id, bad_number}
-use Rattle.ac_tables.specs.InventoryTable.{Holding, provider_name, class_name, bad_class, is_holding, is_one_of}
+use Rattle.ac_tables.specs.Columns.{table_checks, said_by, text_in, id_in, number_in, bad_number}
+use Rattle.ac_tables.specs.InventoryTable.{Holding, provider_name, class_name, owner_checks, class_checks, is_holding, is_one_of}
 use Rattle.ac_tables.specs.declared.fault.Table.TheVariants as table
 use Rattle.ac_tables.specs.declared.fault.TableKind.TheVariants as kind
 use Rattle.ac_tables.specs.declared.fault.TableFault.{TableFault}
@@ -28,11 +28,11 @@ usage_in header row = record { provider = id_in header provider_name row; class 
 
 -- a usage of this provider and class
 abbrev pub is_usage : ℕ → List ℕ → Usage → Bool
-is_usage id class u = (u.provider == id) && bytes_eq u.class class
+is_usage id class u = (u.provider == id) && bytes_eq class u.class
 
 -- the checks of a record's fields
 unfoldable pub usage_field_checks : Row → Row → List Check
-usage_field_checks header row = bad_width header row ∷ bad_id header provider_name row ∷ bad_class header row ∷ bad_number header usage_name row ∷ []
+usage_field_checks header row = owner_checks header row ++ class_checks header row ++ bad_number header usage_name row ∷ []
 
 -- the checks of what a record says, beside what is said before it and the inventories
 unfoldable pub used_checks : List ℕ → List Holding → List Usage → ℕ → List ℕ → List Check

@@ -6,6 +6,10 @@
 mod climbing;
 mod columns;
 pub mod fault;
+mod fields;
+mod holding;
+mod ids;
+mod inventories;
 mod listed;
 mod numbered;
 mod providers;

@@ -1,4 +1,4 @@
-use Rattle.ac_tables.proofs.Fields.{text_some, text_none}
+use Rattle.ac_tables.proofs.FieldTexts.{text_some, text_none}
 use Rattle.ac_tables.proofs.rows.text_at.Goals as goal
 
 pub returns-in-Some : goal.returns-in-Some
