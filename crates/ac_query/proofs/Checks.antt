@@ -1,0 +1,113 @@
+-- What the checks on all that is asked come to.
+use Rattle.std.proofs.Common.{◌≡◌, ℕ, ◌<◌, ◌≤◌, arith, ◌+◌, Bool, true, false, not, ◌&&◌, ◌||◌, nat_lt, List, [], ◌∷◌, ◌++◌, length, map, Option, Some, None, is_some, is_none, IfSome, refl, sym, ap, ap₂, ◌∙◌, sum_by, if◌then◌else◌}
+use Rattle.std.specs.Prelude.{filter}
+use Rattle.std.specs.Ordering.{is_eq}
+use Rattle.std.specs.List.{list_any}
+use Rattle.std.specs.Map.{lookup}
+use Rattle.std.specs.BTreeMap.{is_at}
+use Rattle.std.specs.Str.{bytes_eq}
+use Rattle.std.specs.Cmp.Lexicographic.{texts_ties}
+use Rattle.std.proofs.lemmas.Bool.Decides.{nat_tests}
+use Rattle.std.proofs.lemmas.List.{map-append}
+use Rattle.std.proofs.lemmas.List.Sums.{sum_by-cons, sum_by-append}
+use Rattle.ac_base.specs.declared.name.Suffix.{Suffix}
+use Rattle.ac_base.specs.Names.{suffix_bytes}
+use Rattle.ac_base.specs.Texts.{text_cmp}
+use Rattle.ac_query.specs.declared.draft.GroupDraft.{GroupDraft}
+use Rattle.ac_query.specs.Asked.{Group, Asked}
+use Rattle.ac_query.specs.Gathered.{plain_groups, of_suffix}
+use Rattle.ac_query.specs.Faults.{Fault, no_resources, policy_missing, too_many_slots, first_fault, has_resources, listed_suffixes, group_condition, suffix_condition, is_of, needs_policy, slot_count, entry_count, is_too_large, asked_conditions}
+use Rattle.ac_query.specs.DraftShown.{entry_shown}
+use Rattle.ac_query.proofs.Drafts.{key_cmp}
+use Rattle.ac_query.proofs.PairSteps.{first_fault-append, first_fault-found}
+
+-- whether there is a group of a suffix
+pub group_there : (es : List (Suffix × GroupDraft)) (k : Suffix) → is_some (lookup (is_at (key_cmp k)) es) ≡ list_any (is_of (suffix_bytes k)) (map of_suffix (map entry_shown es))
+group_there [] k = refl
+group_there (e ∷ es) k =
+    found (is_at (key_cmp k) e.0) (lookup (is_at (key_cmp k)) es)
+    ∙ ap₂ (λ a b. a || b) (sym (texts_ties (suffix_bytes k) (suffix_bytes e.0))) (group_there es k)
+  where
+    found : (b : Bool) (o : Option GroupDraft) → is_some (if b then Some e.1 else o) ≡ b || is_some o
+    found true o = refl
+    found false o = refl
+
+-- the unsuffixed group has no suffix and needs no policy
+pub conditions_of_plain : (plain : Option Group) (gs : List (Option (List ℕ) × Group)) (names : List (List ℕ))
+    → map (suffix_condition gs) names ≡ map (suffix_condition (plain_groups plain ++ gs)) names
+conditions_of_plain None gs names = refl
+conditions_of_plain (Some g) gs names = refl
+
+pub policy_of_plain : (plain : Option Group) (gs : List (Option (List ℕ) × Group)) → filter needs_policy gs ≡ filter needs_policy (plain_groups plain ++ gs)
+policy_of_plain None gs = refl
+policy_of_plain (Some g) gs = refl
+
+-- the unsuffixed group comes first
+module _ (listed : List (List ℕ)) (plain : List (Option (List ℕ) × Group)) (gs : List (Option (List ℕ) × Group)) (bare : Bool) (f : Fault)
+    (told : first_fault (map (group_condition listed) plain) ≡ (if bare then Some f else None)) where
+  pub plain_is_bare : bare ≡ true → first_fault (map (group_condition listed) (plain ++ gs)) ≡ Some f
+  plain_is_bare is =
+      ap first_fault (map-append (group_condition listed) plain gs)
+      ∙ first_fault-found (map (group_condition listed) plain) _ f (told ∙ ap (λ b. if b then Some f else None) is)
+
+  pub plain_is_fine : bare ≡ false → first_fault (map (group_condition listed) (plain ++ gs)) ≡ first_fault (map (group_condition listed) gs)
+  plain_is_fine is =
+      ap first_fault (map-append (group_condition listed) plain gs)
+      ∙ first_fault-append (map (group_condition listed) plain) _ (told ∙ ap (λ b. if b then Some f else None) is)
+
+-- a suffixed group has one slot
+slots_of_suffixed : (es : List (List ℕ × Group)) → sum_by slot_count (map of_suffix es) ≡ length es
+slots_of_suffixed [] = refl
+slots_of_suffixed (e ∷ es) = sum_by-cons slot_count (of_suffix e) (map of_suffix es) ∙ omega (arith, slots_of_suffixed es)
+
+-- slots and entries, counted group by group
+module _ (plain : List (Option (List ℕ) × Group)) (es : List (List ℕ × Group)) (classes suffixes : ℕ)
+    (slots : classes ≡ sum_by slot_count plain) (entries : classes ≡ sum_by entry_count plain) (count : suffixes ≡ length es) where
+  slots_are : sum_by slot_count (plain ++ map of_suffix es) ≡ classes + suffixes
+  slots_are = sum_by-append slot_count plain (map of_suffix es) ∙ omega (arith, slots_of_suffixed es)
+
+  pub too_many_slots_there : 64 < classes + suffixes → true ≡ is_too_large (plain ++ map of_suffix es)
+  too_many_slots_there many = let h : nat_lt 64 (classes + suffixes) ≡ true = grind (arith, nat_tests) in rw (slots_are, h) refl
+
+  pub entries_decide : (large : Bool) → classes + suffixes ≤ 64 → large ≡ nat_lt 256 (classes + sum_by entry_count (map of_suffix es)) → large ≡ is_too_large (plain ++ map of_suffix es)
+  entries_decide large few is =
+      let h : nat_lt 64 (classes + suffixes) ≡ false = grind (arith, nat_tests) in
+      rw (slots_are, h, sum_by-append entry_count plain (map of_suffix es), sym entries) is
+
+-- ---- in order
+module _ (a : Asked) where
+  pub at_no_resources : list_any has_resources a.groups ≡ false → first_fault (asked_conditions a) ≡ Some no_resources
+  at_no_resources none = rw none refl
+
+  module _ (some : list_any has_resources a.groups ≡ true) (listed : List (List ℕ)) (is : listed ≡ listed_suffixes a) where
+    abbrev of_groups : List (Bool × Fault)
+    of_groups = map (group_condition listed) a.groups
+
+    abbrev of_suffixes : List (Bool × Fault)
+    of_suffixes = map (suffix_condition a.groups) listed
+
+    abbrev of_whole : List (Bool × Fault)
+    of_whole = (nat_lt 1 (length (filter needs_policy a.groups)) && is_none a.policy, policy_missing) ∷ (is_too_large a.groups, too_many_slots) ∷ []
+
+    begins : first_fault (asked_conditions a) ≡ first_fault ((of_groups ++ of_suffixes) ++ of_whole)
+    begins = rw some (ap (λ ls. first_fault ((map (group_condition ls) a.groups ++ map (suffix_condition a.groups) ls) ++ of_whole)) (sym is))
+
+    pub at_group : (o : Option Fault) → IfSome o (λ f. first_fault of_groups ≡ Some f) → IfSome o (λ f. first_fault (asked_conditions a) ≡ Some f)
+    at_group None told = tt
+    at_group (Some f) told = begins ∙ first_fault-found (of_groups ++ of_suffixes) of_whole f (first_fault-found of_groups of_suffixes f told)
+
+    module _ (groups_fine : first_fault of_groups ≡ None) where
+      pub at_suffix : (o : Option Fault) → IfSome o (λ f. first_fault of_suffixes ≡ Some f) → IfSome o (λ f. first_fault (asked_conditions a) ≡ Some f)
+      at_suffix None told = tt
+      at_suffix (Some f) told = begins ∙ first_fault-found (of_groups ++ of_suffixes) of_whole f (first_fault-append of_groups of_suffixes groups_fine ∙ told)
+
+      module _ (suffixes_fine : first_fault of_suffixes ≡ None) where
+        goes_on : first_fault (asked_conditions a) ≡ first_fault of_whole
+        goes_on = begins ∙ first_fault-append (of_groups ++ of_suffixes) of_whole (first_fault-append of_groups of_suffixes groups_fine ∙ suffixes_fine)
+
+        pub at_policy : nat_lt 1 (length (filter needs_policy a.groups)) && is_none a.policy ≡ true → first_fault (asked_conditions a) ≡ Some policy_missing
+        at_policy lacks = goes_on ∙ (rw lacks refl)
+
+        pub at_end : nat_lt 1 (length (filter needs_policy a.groups)) && is_none a.policy ≡ false
+            → first_fault (asked_conditions a) ≡ (if is_too_large a.groups then Some too_many_slots else None)
+        at_end has = goes_on ∙ (rw has refl)

@@ -1,0 +1,15 @@
+pub mod Pieces
+pub mod Items
+pub mod NeedSteps
+pub mod Fronts
+pub mod Choices
+pub mod NameSets
+pub mod Fits
+pub mod Inserts
+pub mod Drafts
+pub mod PairSteps
+pub mod Earlier
+pub mod Passing
+pub mod Checks
+pub mod Slots
+pub mod Wholes

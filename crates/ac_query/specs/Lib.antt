@@ -1,0 +1,17 @@
+pub mod Texts
+pub mod Parameters
+pub mod Values
+pub mod Pairs
+pub mod Asked
+pub mod Asks
+pub mod Gathered
+pub mod Faults
+pub mod Shown
+pub mod GroupsShown
+pub mod ParametersShown
+pub mod GivenShown
+pub mod DraftShown
+pub mod FaultsShown
+pub mod SlotsShown
+pub mod QueriesShown
+pub mod Tokens

@@ -1,0 +1,105 @@
+ghost use Rattle.std.specs.Prelude.{◌≡◌, IfOk};
+ghost use Rattle.std.specs.Option.{option_map};
+ghost use Rattle.ac_base.specs.Names.{suffix_bytes};
+ghost use Rattle.ac_query.specs.Parameters.{of_group};
+ghost use Rattle.ac_query.specs.ParametersShown.{parameter_shown};
+ghost use Rattle.ac_query.specs.Values.{given_of, is_part_conflict, is_conflict};
+ghost use Rattle.ac_query.specs.GivenShown.{part_shown, given_shown};
+
+use crate::group::AggregateRule;
+use crate::parameter::{Field, Parameter};
+use crate::traits::Traits;
+use crate::values::{read_amount, read_needs, read_policy, read_rule, read_subtree, read_traits};
+use ac_base::{ClassName, Id, NoMemory, Suffix};
+use std::alloc::Global;
+use std::collections::{BTreeMap, BTreeSet};
+
+/// A part of what is asked of a group.
+#[derive(Drop)]
+pub(crate) enum Part {
+    Needs(BTreeMap<ClassName, u32>),
+    Traits(Traits),
+    Aggregates(AggregateRule),
+    Tree(Id),
+}
+
+/// What a pair gives.
+#[derive(Drop)]
+pub(crate) enum Given {
+    Group(Option<Suffix>, Part),
+    RootTraits(Traits),
+    Policy(bool),
+    Subtree(BTreeSet<Suffix>),
+    AtMost(u32),
+}
+
+/// What a field of a group and its text give.
+fn read_field_value(
+    alloc: Global,
+    field: Field,
+    group: Option<Suffix>,
+    text: &str,
+) -> Result<Option<Given>, NoMemory>
+    ensures { IfOk result (λ given. option_map given_shown given ≡ given_of (of_group field (option_map suffix_bytes group)) text.now) }
+{
+    match field {
+        Field::Resources => match read_needs(alloc, text)? {
+            Some(needs) => Ok(Some(Given::Group(group, Part::Needs(needs)))),
+            None => Ok(None),
+        },
+        Field::Required => match read_traits(alloc, text)? {
+            Some(traits) => Ok(Some(Given::Group(group, Part::Traits(traits)))),
+            None => Ok(None),
+        },
+        Field::MemberOf => match read_rule(alloc, text)? {
+            Some(rule) => Ok(Some(Given::Group(group, Part::Aggregates(rule)))),
+            None => Ok(None),
+        },
+        Field::InTree => match Id::read(text.as_bytes()) {
+            Some(id) => Ok(Some(Given::Group(group, Part::Tree(id)))),
+            None => Ok(None),
+        },
+    }
+}
+
+impl Part {
+    /// Whether it requires and forbids one trait.
+    fn is_conflict(&self) -> bool
+        ensures { result ≡ is_part_conflict (part_shown self.now) }
+    {
+        match self {
+            Part::Traits(traits) => traits.is_conflicting(),
+            Part::Needs(_) | Part::Aggregates(_) | Part::Tree(_) => false,
+        }
+    }
+}
+
+impl Given {
+    /// What a parameter and its text give, where the text has the parameter's form.
+    pub(crate) fn read(
+        alloc: Global,
+        parameter: Parameter,
+        text: &str,
+    ) -> Result<Option<Given>, NoMemory>
+        ensures { IfOk result (λ given. option_map given_shown given ≡ given_of (parameter_shown parameter) text.now) }
+    {
+        match parameter {
+            Parameter::Group(field, group) => read_field_value(alloc, field, group, text),
+            Parameter::RootRequired => Ok(read_traits(alloc, text)?.map(Given::RootTraits)),
+            Parameter::GroupPolicy => Ok(read_policy(text).map(Given::Policy)),
+            Parameter::SameSubtree => Ok(read_subtree(alloc, text)?.map(Given::Subtree)),
+            Parameter::Limit => Ok(read_amount(text).map(Given::AtMost)),
+        }
+    }
+
+    /// Whether it requires and forbids one trait.
+    pub(crate) fn is_conflict(&self) -> bool
+        ensures { result ≡ is_conflict (given_shown self.now) }
+    {
+        match self {
+            Given::Group(_, part) => part.is_conflict(),
+            Given::RootTraits(traits) => traits.is_conflicting(),
+            Given::Policy(_) | Given::Subtree(_) | Given::AtMost(_) => false,
+        }
+    }
+}

@@ -1,0 +1,23 @@
+//! What a query of allocation candidates asks for, and the tokens that a search goes on from.
+//!
+//! A `Query` stands for the record of its text (`specs/Asks`), or the first fault of the text is told (`specs/Faults`).
+#![tactic(auto)]
+
+mod check;
+mod draft;
+pub mod fault;
+mod given;
+pub mod group;
+mod parameter;
+mod pass;
+pub mod query;
+pub mod slot;
+pub mod token;
+mod traits;
+mod values;
+
+pub use fault::QueryFault;
+pub use group::{AggregateRule, Group, Need};
+pub use query::Query;
+pub use slot::Slot;
+pub use token::{Token, TokenFault};

@@ -1,0 +1,25 @@
+ghost use Rattle.std.specs.Prelude.{◌≡◌, map, Some};
+ghost use Rattle.ac_query.specs.Asked.{slots_from};
+ghost use Rattle.ac_query.specs.GroupsShown.{group_entry};
+ghost use Rattle.ac_query.specs.SlotsShown.{slot_shown};
+
+use crate::group::Group;
+use crate::slot::Slot;
+use ac_base::{Suffix, TraitName};
+use std::collections::BTreeSet;
+
+mod accessors;
+mod read;
+
+/// What a query asks for: its groups and their slots, and what it asks of the whole.
+#[derive(Drop)]
+pub struct Query {
+    groups: Vec<Group>,
+    slots: Vec<Slot>,
+    policy: Option<bool>,
+    subtrees: Vec<BTreeSet<Suffix>>,
+    root_required: Vec<TraitName>,
+    root_forbidden: Vec<TraitName>,
+    limit: Option<u32>,
+    ghost slotted: { map (slot_shown (map group_entry groups.items)) slots.items ≡ map (λ s. Some s) (slots_from 0 (map group_entry groups.items)) },
+}

@@ -1,0 +1,100 @@
+ghost use Rattle.std.specs.Prelude.{◌≡◌, ◌<◌, map, length, Some, IsSome};
+ghost use Rattle.std.specs.List.{slice_get};
+ghost use Rattle.std.specs.Option.{option_map};
+ghost use Rattle.ac_base.specs.Names.{trait_bytes};
+ghost use Rattle.ac_query.specs.Asked.{slots_of, is_isolated, in_subtree};
+ghost use Rattle.ac_query.specs.GroupsShown.{need_entry, group_entry};
+ghost use Rattle.ac_query.specs.SlotsShown.{slot_group, slot_shown};
+ghost use Rattle.ac_query.specs.QueriesShown.{asked_of};
+
+use super::Query;
+use crate::group::{Group, Need};
+use crate::slot::Slot;
+use ac_base::TraitName;
+use std::slice;
+
+impl Query {
+    /// The request groups: the unsuffixed one first, then suffixes in byte order.
+    pub fn groups(&self) -> &[Group]
+        ensures { map group_entry result.now ≡ (asked_of self.now).groups }
+    {
+        self.groups.as_slice()
+    }
+
+    /// The slots: one for each class of the unsuffixed group, then one for each suffix.
+    pub fn slots(&self) -> &[Slot]
+        ensures { map slot_group result.now ≡ map (λ s. s.place) (slots_of (asked_of self.now)) }
+    {
+        self.slots.as_slice()
+    }
+
+    fn slot(&self, s: usize) -> Slot
+        requires { s < length (slots_of (asked_of self.now)) }
+        ensures shown { slot_shown (asked_of self.now).groups result ≡ slice_get (slots_of (asked_of self.now)) s }
+        ensures there { IsSome (slot_shown (asked_of self.now).groups result) }
+        ensures within { result.group < length (asked_of self.now).groups }
+    {
+        self.slots[s]
+    }
+
+    /// What a slot needs: its one class, or all classes of its group.
+    pub fn slot_needs(&self, s: usize) -> &[Need]
+        requires { s < length (slots_of (asked_of self.now)) }
+        ensures { Some (map need_entry result.now) ≡ option_map (λ slot. slot.needs) (slice_get (slots_of (asked_of self.now)) s) }
+    {
+        let slot = self.slot(s);
+        let needs = self.groups[slot.group].needs();
+        match slot.class {
+            Some(class) => slice::from_ref(&needs[class]),
+            None => needs,
+        }
+    }
+
+    /// How many candidates are wanted at most.
+    pub fn limit(&self) -> Option<u32>
+        ensures { result ≡ (asked_of self.now).limit }
+    {
+        self.limit
+    }
+
+    /// Whether suffixed groups with resources are to have different providers.
+    pub fn isolate(&self) -> bool
+        ensures { result ≡ is_isolated (asked_of self.now) }
+    {
+        self.policy.unwrap_or(false)
+    }
+
+    /// The traits that a root is to have, in byte order, each once.
+    pub fn root_required(&self) -> &[TraitName]
+        ensures { map trait_bytes result.now ≡ (asked_of self.now).root_required }
+    {
+        self.root_required.as_slice()
+    }
+
+    /// The traits that a root may not have, in byte order, each once.
+    pub fn root_forbidden(&self) -> &[TraitName]
+        ensures { map trait_bytes result.now ≡ (asked_of self.now).root_forbidden }
+    {
+        self.root_forbidden.as_slice()
+    }
+
+    /// How many lists of `same_subtree` there are.
+    pub fn subtrees(&self) -> usize
+        ensures { result ≡ length (asked_of self.now).subtrees }
+    {
+        self.subtrees.len()
+    }
+
+    /// Whether list `k` of `same_subtree` names the group of a slot.
+    pub fn in_subtree(&self, k: usize, s: usize) -> bool
+        requires list { k < length (asked_of self.now).subtrees }
+        requires slot { s < length (slots_of (asked_of self.now)) }
+        ensures { result ≡ in_subtree (asked_of self.now) k s }
+    {
+        let slot = self.slot(s);
+        match &self.groups[slot.group].suffix {
+            Some(suffix) => self.subtrees[k].contains(suffix),
+            None => false,
+        }
+    }
+}

@@ -1,0 +1,184 @@
+ghost use Rattle.std.specs.Prelude.{◌≡◌, ◌+◌, ◌++◌, IfOk, OnOk, IfErr, IfSome, None, Some, map, length};
+ghost use Rattle.std.specs.Option.{option_map};
+ghost use Rattle.ac_base.specs.Names.{trait_bytes, suffix_bytes};
+ghost use Rattle.ac_query.specs.Asked.{slots_from};
+ghost use Rattle.ac_query.specs.Gathered.{asked_by};
+ghost use Rattle.ac_query.specs.Pairs.{pairs_of};
+ghost use Rattle.ac_query.specs.Faults.{query_fault};
+ghost use Rattle.ac_query.specs.FaultsShown.{fault_shown};
+ghost use Rattle.ac_query.specs.Shown.{needs_shown, names_shown};
+ghost use Rattle.ac_query.specs.DraftShown.{group_drafted, plain_shown, suffixed_shown, draft_asked};
+ghost use Rattle.ac_query.specs.GroupsShown.{need_entry, group_entry};
+ghost use Rattle.ac_query.specs.SlotsShown.{slot_shown, slots_at};
+ghost use Rattle.ac_query.specs.QueriesShown.{asked_of};
+
+use super::Query;
+use crate::check::check;
+use crate::draft::{Draft, GroupDraft};
+use crate::fault::QueryFault;
+use crate::group::{Group, Need};
+use crate::pass::read_draft;
+use crate::slot::Slot;
+use crate::traits::Traits;
+use ac_base::{ClassName, NoMemory, Suffix, TraitName};
+use std::alloc::Global;
+use std::collections::{BTreeMap, BTreeSet};
+
+/// The names of a set, in byte order.
+fn names_in_order(alloc: Global, names: BTreeSet<TraitName>) -> Result<Vec<TraitName>, NoMemory>
+    ensures { IfOk result (λ list. map trait_bytes list.items ≡ names_shown names) }
+{
+    let mut list = Vec::new(alloc);
+    for name in names {
+        list.push(name)?;
+    }
+    Ok(list)
+}
+
+/// The needs of a map, classes in byte order.
+fn needs_in_order(alloc: Global, needs: BTreeMap<ClassName, u32>) -> Result<Vec<Need>, NoMemory>
+    ensures { IfOk result (λ list. map need_entry list.items ≡ needs_shown needs) }
+{
+    let mut list = Vec::new(alloc);
+    for (class, amount) in needs {
+        list.push(Need { class, amount })?;
+    }
+    Ok(list)
+}
+
+/// The group of a suffix, as it was drafted.
+fn group_of(alloc: Global, suffix: Option<Suffix>, draft: GroupDraft) -> Result<Group, NoMemory>
+    ensures { IfOk result (λ group. group_entry group ≡ (option_map suffix_bytes suffix, group_drafted draft)) }
+{
+    let GroupDraft {
+        needs,
+        traits,
+        member_of,
+        in_tree,
+    } = draft;
+    let Traits {
+        required,
+        forbidden,
+    } = traits;
+    let needs = needs_in_order(alloc, needs)?;
+    let required = names_in_order(alloc, required)?;
+    let forbidden = names_in_order(alloc, forbidden)?;
+    Ok(Group {
+        suffix,
+        needs,
+        required,
+        forbidden,
+        member_of,
+        in_tree,
+    })
+}
+
+/// The unsuffixed group, where it is there.
+fn plain_group(alloc: Global, plain: Option<GroupDraft>) -> Result<Vec<Group>, NoMemory>
+    ensures { IfOk result (λ groups. map group_entry groups.items ≡ plain_shown plain) }
+{
+    let mut groups = Vec::new(alloc);
+    match plain {
+        Some(draft) => {
+            let group = group_of(alloc, None, draft)?;
+            groups.push(group)?;
+            Ok(groups)
+        }
+        None => Ok(groups),
+    }
+}
+
+/// The groups: the unsuffixed one first, then suffixes in byte order.
+fn groups_in_order(
+    alloc: Global,
+    plain: Option<GroupDraft>,
+    suffixed: BTreeMap<Suffix, GroupDraft>,
+) -> Result<Vec<Group>, NoMemory>
+    ensures { IfOk result (λ groups. map group_entry groups.items ≡ plain_shown plain ++ suffixed_shown suffixed) }
+{
+    let mut groups = plain_group(alloc, plain)?;
+    for (suffix, draft) in suffixed {
+        let group = group_of(alloc, Some(suffix), draft)?;
+        groups.push(group)?;
+    }
+    Ok(groups)
+}
+
+/// Adds the slots of a group: one for each class of the unsuffixed group, one for a suffix.
+fn add_slots(slots: &mut Vec<Slot>, place: usize, group: &Group) -> Result<(), NoMemory>
+    ensures { OnOk result (slots.new.items ≡ slots.old.items ++ slots_at place (group_entry group.now)) }
+{
+    if group.suffix.is_some() {
+        slots.push(Slot {
+            group: place,
+            class: None,
+        })?;
+        return Ok(());
+    }
+    for class in 0..group.needs.len() {
+        slots.push(Slot {
+            group: place,
+            class: Some(class),
+        })?;
+    }
+    Ok(())
+}
+
+/// The slots of groups, in order.
+fn slots_in_order(alloc: Global, groups: &[Group]) -> Result<Vec<Slot>, NoMemory>
+    ensures { IfOk result (λ slots. map (slot_shown (map group_entry groups.now)) slots.items ≡ map (λ s. Some s) (slots_from 0 (map group_entry groups.now))) }
+{
+    let mut slots = Vec::new(alloc);
+    for (place, group) in groups.iter().enumerate() {
+        add_slots(&mut slots, place, group)?;
+    }
+    Ok(slots)
+}
+
+/// The query of a draft.
+fn query_of(alloc: Global, draft: Draft) -> Result<Query, NoMemory>
+    ensures { IfOk result (λ query. asked_of query ≡ draft_asked draft) }
+{
+    let Draft {
+        plain,
+        suffixed,
+        policy,
+        subtrees,
+        root,
+        limit,
+    } = draft;
+    let Traits {
+        required,
+        forbidden,
+    } = root;
+    let groups = groups_in_order(alloc, plain, suffixed)?;
+    let slots = slots_in_order(alloc, groups.as_slice())?;
+    let root_required = names_in_order(alloc, required)?;
+    let root_forbidden = names_in_order(alloc, forbidden)?;
+    Ok(Query {
+        groups,
+        slots,
+        policy,
+        subtrees,
+        root_required,
+        root_forbidden,
+        limit,
+    })
+}
+
+impl Query {
+    /// Reads the text of a query, as it stands behind the `?` of the API's URL.
+    ///
+    /// Its pairs are those of `application/x-www-form-urlencoded`. The first fault in the order of the definition is told;
+    /// want of memory is told where a growth was refused.
+    pub fn read(alloc: Global, text: &str) -> Result<Query, QueryFault>
+        ensures fine { OnOk result (query_fault text.now ≡ None) }
+        ensures record { IfOk result (λ query. asked_of query ≡ asked_by (pairs_of text.now)) }
+        ensures err { IfErr result (λ e. IfSome (fault_shown e) (λ f. query_fault text.now ≡ Some f)) }
+    {
+        let draft = read_draft(alloc, text)?;
+        check(alloc, &draft)?;
+        let query = query_of(alloc, draft)?;
+        Ok(query)
+    }
+}

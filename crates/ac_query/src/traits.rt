@@ -1,0 +1,59 @@
+ghost use Rattle.std.specs.Prelude.{◌≡◌, OnOk};
+ghost use Rattle.ac_query.specs.Texts.{in_order_with};
+ghost use Rattle.ac_query.specs.Values.{no_traits, is_conflicting};
+ghost use Rattle.ac_query.specs.Gathered.{joined_traits};
+ghost use Rattle.ac_query.specs.Shown.{names_shown, traits_shown};
+
+use ac_base::{NoMemory, TraitName};
+use std::alloc::Global;
+use std::collections::BTreeSet;
+
+/// Traits that are required, and traits that are forbidden.
+#[derive(Drop)]
+pub(crate) struct Traits {
+    pub(crate) required: BTreeSet<TraitName>,
+    pub(crate) forbidden: BTreeSet<TraitName>,
+}
+
+/// Adds names to those that are there.
+fn add_names(names: &mut BTreeSet<TraitName>, more: BTreeSet<TraitName>) -> Result<(), NoMemory>
+    ensures { OnOk result (names_shown names.new ≡ in_order_with (names_shown names.old) (names_shown more)) }
+{
+    for name in more {
+        names.insert(name)?;
+    }
+    Ok(())
+}
+
+impl Traits {
+    /// No traits.
+    pub(crate) fn new(alloc: Global) -> Traits
+        ensures { traits_shown result ≡ no_traits }
+    {
+        Traits {
+            required: BTreeSet::new(alloc),
+            forbidden: BTreeSet::new(alloc),
+        }
+    }
+
+    /// Adds traits to those that are there.
+    pub(crate) fn join(&mut self, more: Traits) -> Result<(), NoMemory>
+        ensures { OnOk result (traits_shown self.new ≡ joined_traits (traits_shown self.old) (traits_shown more)) }
+    {
+        add_names(&mut self.required, more.required)?;
+        add_names(&mut self.forbidden, more.forbidden)?;
+        Ok(())
+    }
+
+    /// Whether a trait is required and forbidden.
+    pub(crate) fn is_conflicting(&self) -> bool
+        ensures { result ≡ is_conflicting (traits_shown self.now) }
+    {
+        for name in &self.required {
+            if self.forbidden.contains(name) {
+                return true;
+            }
+        }
+        false
+    }
+}

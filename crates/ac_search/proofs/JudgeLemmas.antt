@@ -1,0 +1,31 @@
+-- No rule is broken exactly at the candidates.
+use Rattle.std.proofs.Common.{inl, inr, ◌≡◌, ℕ, true, List, [], ◌∷◌, refl}
+use Rattle.std.proofs.lemmas.Bool.{cases_Bool, and_parts}
+use Rattle.ac_query.specs.Asked.{Asked}
+use Rattle.ac_tables.specs.World.{Provider}
+use Rattle.ac_search.specs.Placed.{assigned}
+use Rattle.ac_search.specs.Judge.{Test, tests, first_broken, all_hold, judge, is_candidate}
+use Rattle.ac_search.specs.declared.verdict.Rule.{Rule}
+use Rattle.ac_search.specs.declared.verdict.Verdict.TheVariants.{Candidate, Broken}
+
+broken : (rule : Rule) → Broken rule ≡ Candidate → ⊥
+broken rule h = cc
+
+none_broken : (ts : List Test) → first_broken ts ≡ Candidate → all_hold ts ≡ true
+none_broken [] h = refl
+none_broken (t ∷ ts) h = elim (cases_Bool t.holds) [
+  | inl e ↦ rw e (none_broken ts (rw e at h))
+  | inr e ↦ absurd (broken t.rule (rw e at h))
+]
+
+none_breaks : (ts : List Test) → all_hold ts ≡ true → first_broken ts ≡ Candidate
+none_breaks [] h = refl
+none_breaks (t ∷ ts) h = let both = and_parts t.holds (all_hold ts) h in rw both.0 (none_breaks ts both.1)
+
+pub judged_candidate : (all : List Provider) (asked : Asked) (list : List ℕ) → judge all asked list ≡ Candidate → is_candidate all asked list ≡ true
+unfolding judge is_candidate
+judged_candidate all asked list h = none_broken (tests all asked (assigned asked list)) h
+
+pub candidate_judged : (all : List Provider) (asked : Asked) (list : List ℕ) → is_candidate all asked list ≡ true → judge all asked list ≡ Candidate
+unfolding judge is_candidate
+candidate_judged all asked list h = none_breaks (tests all asked (assigned asked list)) h

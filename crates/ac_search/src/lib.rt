@@ -1,0 +1,11 @@
+//! Which lists of providers are candidates: the nine rules, the verdict on one list, and the sources of all candidates.
+//!
+//! It knows nothing of the texts of tables and queries, nor of what is printed.
+#![tactic(auto)]
+
+pub mod laws;
+pub mod source;
+pub mod verdict;
+
+pub use source::Source;
+pub use verdict::{Rule, Verdict};

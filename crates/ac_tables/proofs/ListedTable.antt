@@ -1,0 +1,108 @@
+-- The faults of the parts, in their order, are the fault of the whole.
+use Rattle.std.proofs.Common.{◌≡◌, ◌<◌, ◌∙◌, ◌++◌, ℕ, Bool, true, false, List, [], ◌∷◌, length, get_or, Option, Some, None, refl, sym, arith, zero, suc, ◌+◌, inl, inr, subst}
+use Rattle.std.specs.Prelude.{◌&&◌, not, IfSome}
+use Rattle.std.specs.Option.{is_some, unwrap_or, option_and_then}
+use Rattle.std.proofs.lemmas.List.{length-map}
+use Rattle.std.proofs.lemmas.Bool.{cases_Bool}
+use Rattle.ac_tables.specs.Places.{AreParents}
+use Rattle.ac_tables.specs.Checks.{first_failing, pass, Tells}
+use Rattle.ac_tables.specs.Columns.{table_checks}
+use Rattle.ac_tables.specs.DistinctIds.{parent_place, parent_places}
+use Rattle.ac_tables.specs.DistinctIds.{AreTrees, AreDistinct}
+use Rattle.ac_tables.specs.ProviderTable.{Listed, place_of, listed_at, no_listed, listed_of, provider_columns, listed_in, listed_checks, tree_checks, has_unknown_parent, has_endless_chain, has_wrong_root, unknown_fault, endless_fault, root_fault, trees_fault, listed_fault, providers_fault}
+use Rattle.ac_tables.specs.declared.fault.Table.{Table}
+use Rattle.ac_tables.specs.declared.fault.Table.TheVariants as table
+use Rattle.ac_tables.specs.declared.fault.TableKind.{TableKind}
+use Rattle.ac_tables.specs.declared.fault.TableKind.TheVariants as kind
+use Rattle.ac_tables.specs.declared.fault.TableFault.{TableFault}
+use Rattle.ac_tables.specs.declared.fault.TableFault.TheVariants as fault
+use Rattle.ac_tables.proofs.FirstFailing.{append_none, append_some}
+use Rattle.ac_tables.proofs.ListedTrees.{place_found, place_at}
+
+tells_first : (xs ys : List (Bool × TableFault)) (e : TableFault) → Tells (first_failing xs) e → Tells (first_failing (xs ++ ys)) e
+tells_first xs ys (fault.At t r k) h = append_some xs ys (fault.At t r k) h
+tells_first xs ys fault.NoMemory h = tt
+
+tells_next : (xs ys : List (Bool × TableFault)) (e : TableFault) → first_failing xs ≡ None → Tells (first_failing ys) e → Tells (first_failing (xs ++ ys)) e
+tells_next xs ys (fault.At t r k) none h = append_none xs ys none ∙ h
+tells_next xs ys fault.NoMemory none h = tt
+
+pub tells_table : (rows : List (List (List ℕ))) (e : TableFault) → Tells (listed_fault rows) e → Tells (providers_fault rows) e
+unfolding listed_fault providers_fault
+tells_table rows e h = tells_first (table_checks table.Providers provider_columns listed_in listed_checks rows) (tree_checks (listed_of rows)) e h
+
+pub tells_trees : (rows : List (List (List ℕ))) (e : TableFault) → listed_fault rows ≡ None → Tells (trees_fault (listed_of rows)) e → Tells (providers_fault rows) e
+unfolding listed_fault trees_fault providers_fault
+tells_trees rows e none h = tells_next (table_checks table.Providers provider_columns listed_in listed_checks rows) (tree_checks (listed_of rows)) e none h
+
+pub none_whole : (rows : List (List (List ℕ))) → listed_fault rows ≡ None → trees_fault (listed_of rows) ≡ None → providers_fault rows ≡ None
+unfolding listed_fault trees_fault providers_fault
+none_whole rows none h = append_none (table_checks table.Providers provider_columns listed_in listed_checks rows) (tree_checks (listed_of rows)) none ∙ h
+
+abbrev unknown_pass : List Listed → List (Bool × TableFault)
+unknown_pass all = pass table.Providers kind.UnknownParent (has_unknown_parent all) 2 all
+
+abbrev cycle_pass : List Listed → List (Bool × TableFault)
+cycle_pass all = pass table.Providers kind.ParentCycle (has_endless_chain all) 2 all
+
+abbrev root_pass : List Listed → List (Bool × TableFault)
+root_pass all = pass table.Providers kind.WrongRoot (has_wrong_root all) 2 all
+
+pub tells_unknown : (all : List Listed) (e : TableFault) → Tells (unknown_fault all) e → Tells (trees_fault all) e
+unfolding unknown_fault trees_fault
+tells_unknown all e h = tells_first (unknown_pass all ++ cycle_pass all) (root_pass all) e (tells_first (unknown_pass all) (cycle_pass all) e h)
+
+pub tells_cycle : (all : List Listed) (e : TableFault) → unknown_fault all ≡ None → Tells (endless_fault all) e → Tells (trees_fault all) e
+unfolding unknown_fault endless_fault trees_fault
+tells_cycle all e none h = tells_first (unknown_pass all ++ cycle_pass all) (root_pass all) e (tells_next (unknown_pass all) (cycle_pass all) e none h)
+
+pub tells_root : (all : List Listed) (e : TableFault) → unknown_fault all ≡ None → endless_fault all ≡ None → Tells (root_fault all) e → Tells (trees_fault all) e
+unfolding unknown_fault endless_fault root_fault trees_fault
+tells_root all e none none2 h = tells_next (unknown_pass all ++ cycle_pass all) (root_pass all) e (append_none (unknown_pass all) (cycle_pass all) none ∙ none2) h
+
+pub none_trees : (all : List Listed) → unknown_fault all ≡ None → endless_fault all ≡ None → root_fault all ≡ None → trees_fault all ≡ None
+unfolding unknown_fault endless_fault root_fault trees_fault
+none_trees all none none2 none3 = append_none (unknown_pass all ++ cycle_pass all) (root_pass all) (append_none (unknown_pass all) (cycle_pass all) none ∙ none2) ∙ none3
+
+-- where a pass finds nothing, no item fails
+none_fails : {X : Type 0} (t : Table) (k : TableKind) (fails : X → Bool) (n : ℕ) (xs : List X) (d : X) → first_failing (pass t k fails n xs) ≡ None
+    → (i : ℕ) → i < length xs → fails (get_or xs i d) ≡ false
+none_fails t k fails n [] d e i h = absurd (omega (arith, h))
+none_fails t k fails n (x ∷ xs) d e zero h = elim (cases_Bool (fails x)) [ inl y ↦ absurd (cc (rw y at e)) | inr y ↦ y ]
+none_fails t k fails n (x ∷ xs) d e (suc i) h = elim (cases_Bool (fails x)) [
+  | inl y ↦ absurd (cc (rw y at e))
+  | inr y ↦ none_fails t k fails (n + 1) xs d (rw y at e) i (omega (arith, h))
+]
+
+some_place : (o : Option ℕ) → (true && not (is_some o)) ≡ false → (j : ℕ) × (o ≡ Some j)
+some_place None e = absurd (cc)
+some_place (Some j) e = (j, refl)
+
+known_parent : (all : List Listed) (parent : Option ℕ) (q : ℕ) → parent ≡ Some q → (is_some parent && not (is_some (place_of all (unwrap_or parent 0)))) ≡ false
+    → (j : ℕ) × (place_of all q ≡ Some j)
+known_parent all parent q e h = some_place (place_of all q) (rw e at h)
+
+pub are_trees : (all : List Listed) → AreDistinct all → unknown_fault all ≡ None → AreTrees all
+unfolding unknown_fault
+are_trees all distinct none = record {
+  distinct = distinct;
+  known = λ (i q : ℕ) (h : i < length all) (e : (listed_at all i).parent ≡ Some q).
+      known_parent all (listed_at all i).parent q e (none_fails table.Providers kind.UnknownParent (has_unknown_parent all) 2 all no_listed none i h);
+}
+
+if_some : (o : Option ℕ) (n : ℕ) → ((j : ℕ) → o ≡ Some j → j < n) → IfSome o (λ j. j < n)
+if_some None n h = tt
+if_some (Some j) n h = h j refl
+
+inside : (all : List Listed) (o : Option ℕ) (n : ℕ) → n ≡ length all → IfSome (option_and_then (place_of all) o) (λ j. j < n)
+inside all None n e = tt
+inside all (Some q) n e = if_some (place_of all q) n (λ (j : ℕ) (h : place_of all q ≡ Some j). let f = place_found all q j h in omega (arith, f.0, e))
+
+pub are_parents : (all : List Listed) → AreParents (parent_places all)
+are_parents all i h =
+    let count : length (parent_places all) ≡ length all = length-map all (parent_place all) in
+    let here : i < length all = omega (arith, h, count) in
+    subst (λ (o : Option ℕ). IfSome o (λ j. j < length (parent_places all))) (sym (place_at all i here)) (inside all (listed_at all i).parent (length (parent_places all)) count)
+
+pub places_count : (all : List Listed) → length (parent_places all) ≡ length all
+places_count all = length-map all (parent_place all)

@@ -1,0 +1,86 @@
+-- The definitions computed on small texts.
+use Rattle.std.proofs.Common.{◌≡◌, ℕ, List, [], ◌++◌, Option, Some, None, refl}
+use Rattle.std.specs.Prelude.{codes}
+use Rattle.uuid.proofs.OnLiterals.{uuid_on_literals}
+use Rattle.csv.proofs.OnLiterals.{csv_on_literals}
+use Rattle.ac_base.specs.Texts.{number, count_value, fraction_parts, parts_at, decimal_parts}
+use Rattle.ac_tables.specs.Rows.{records_of}
+use Rattle.ac_tables.specs.Columns.{header_checks}
+use Rattle.ac_tables.specs.ProviderTable.{uuid_name, root_name, parent_name, provider_columns, listed_in, place_of, listed_field_checks, place_checks, listed_checks}
+use Rattle.ac_tables.specs.InventoryTable.{provider_name, class_name, total_name, reserved_name, min_unit_name, max_unit_name, step_size_name, ratio_name, inventory_columns, stock_in, holding_in, stock_checks, owner_checks, class_checks, holding_field_checks, held_checks, holding_checks}
+use Rattle.ac_tables.specs.UsageTable.{usage_name, usage_columns}
+use Rattle.ac_tables.specs.TraitTable.{name_name, trait_columns}
+use Rattle.ac_tables.specs.AggregateTable.{aggregate_columns}
+use Rattle.ac_tables.specs.Tables.{records_or_header, ids_of, tables_fault}
+use Rattle.ac_tables.specs.declared.fault.Table.TheVariants as table
+use Rattle.ac_tables.specs.declared.fault.TableKind.TheVariants as kind
+use Rattle.ac_tables.specs.declared.fault.TableFault.{TableFault}
+use Rattle.ac_tables.specs.declared.fault.TableFault.TheVariants as fault
+
+-- the first fault of providers and inventories alone
+abbrev fault_of : List ℕ → List ℕ → Option TableFault
+fault_of providers inventories = tables_fault (record {
+  providers = records_of providers;
+  inventories = records_of inventories;
+  usages = records_or_header usage_columns None;
+  traits = records_or_header trait_columns None;
+  aggregates = records_or_header aggregate_columns None;
+})
+
+abbrev one_provider : List ℕ
+one_provider = codes "uuid,root_provider_uuid,parent_provider_uuid\n00000000000000000000000000000001,00000000000000000000000000000001,"
+
+abbrev inventory_header : List ℕ
+inventory_header = codes "resource_provider,resource_class,total,reserved,min_unit,max_unit,step_size,allocation_ratio\n"
+
+no_header : fault_of one_provider [] ≡ Some (fault.At table.Inventories 1 kind.NoHeader)
+unfolding csv_on_literals uuid_on_literals tables_fault header_checks provider_columns uuid_name root_name parent_name listed_in place_of listed_field_checks place_checks listed_checks
+no_header = refl
+
+missing_column : fault_of (codes "uuid,root_provider_uuid") [] ≡ Some (fault.At table.Providers 1 kind.MissingColumn)
+unfolding csv_on_literals tables_fault header_checks provider_columns uuid_name root_name parent_name
+missing_column = refl
+
+double_column : fault_of (codes "uuid,uuid,root_provider_uuid,parent_provider_uuid") [] ≡ Some (fault.At table.Providers 1 kind.DoubleColumn)
+unfolding csv_on_literals tables_fault header_checks provider_columns uuid_name root_name parent_name
+double_column = refl
+
+width : fault_of (codes "uuid,root_provider_uuid,parent_provider_uuid\n0,1") [] ≡ Some (fault.At table.Providers 2 kind.Width)
+unfolding csv_on_literals uuid_on_literals tables_fault header_checks provider_columns uuid_name root_name parent_name listed_in place_of listed_field_checks place_checks listed_checks
+width = refl
+
+bad_uuid : fault_of (codes "uuid,root_provider_uuid,parent_provider_uuid\nxyz,00000000000000000000000000000001,") [] ≡ Some (fault.At table.Providers 2 kind.BadUuid)
+unfolding csv_on_literals uuid_on_literals tables_fault header_checks provider_columns uuid_name root_name parent_name listed_in place_of listed_field_checks place_checks listed_checks
+bad_uuid = refl
+
+duplicate : fault_of (one_provider ++ codes "\n00000000000000000000000000000001,00000000000000000000000000000001,") [] ≡ Some (fault.At table.Providers 3 kind.Duplicate)
+unfolding csv_on_literals uuid_on_literals tables_fault header_checks provider_columns uuid_name root_name parent_name listed_in place_of listed_field_checks place_checks listed_checks
+duplicate = refl
+
+unknown_parent : fault_of (one_provider ++ codes "00000000000000000000000000000002") [] ≡ Some (fault.At table.Providers 2 kind.UnknownParent)
+unfolding csv_on_literals uuid_on_literals tables_fault header_checks provider_columns uuid_name root_name parent_name listed_in place_of listed_field_checks place_checks listed_checks
+unknown_parent = refl
+
+own_parent : fault_of (one_provider ++ codes "00000000000000000000000000000001") [] ≡ Some (fault.At table.Providers 2 kind.ParentCycle)
+unfolding csv_on_literals uuid_on_literals tables_fault header_checks provider_columns uuid_name root_name parent_name listed_in place_of listed_field_checks place_checks listed_checks
+own_parent = refl
+
+bad_class : fault_of one_provider (inventory_header ++ codes "00000000000000000000000000000001,vcpu,8,0,1,8,1,1.0") ≡ Some (fault.At table.Inventories 2 kind.BadClass)
+unfolding csv_on_literals uuid_on_literals tables_fault header_checks provider_columns uuid_name root_name parent_name listed_in place_of listed_field_checks place_checks listed_checks provider_name class_name total_name reserved_name min_unit_name max_unit_name step_size_name ratio_name inventory_columns stock_in holding_in stock_checks owner_checks class_checks holding_field_checks held_checks holding_checks ids_of number count_value fraction_parts parts_at decimal_parts
+bad_class = refl
+
+zero_step : fault_of one_provider (inventory_header ++ codes "00000000000000000000000000000001,VCPU,8,0,1,8,0,1.0") ≡ Some (fault.At table.Inventories 2 kind.ZeroStep)
+unfolding csv_on_literals uuid_on_literals tables_fault header_checks provider_columns uuid_name root_name parent_name listed_in place_of listed_field_checks place_checks listed_checks provider_name class_name total_name reserved_name min_unit_name max_unit_name step_size_name ratio_name inventory_columns stock_in holding_in stock_checks owner_checks class_checks holding_field_checks held_checks holding_checks ids_of number count_value fraction_parts parts_at decimal_parts
+zero_step = refl
+
+reserved_over_total : fault_of one_provider (inventory_header ++ codes "00000000000000000000000000000001,VCPU,8,9,1,8,1,1.0") ≡ Some (fault.At table.Inventories 2 kind.ReservedOverTotal)
+unfolding csv_on_literals uuid_on_literals tables_fault header_checks provider_columns uuid_name root_name parent_name listed_in place_of listed_field_checks place_checks listed_checks provider_name class_name total_name reserved_name min_unit_name max_unit_name step_size_name ratio_name inventory_columns stock_in holding_in stock_checks owner_checks class_checks holding_field_checks held_checks holding_checks ids_of number count_value fraction_parts parts_at decimal_parts
+reserved_over_total = refl
+
+unknown_provider : fault_of one_provider (inventory_header ++ codes "00000000000000000000000000000002,VCPU,8,0,1,8,1,1.0") ≡ Some (fault.At table.Inventories 2 kind.UnknownProvider)
+unfolding csv_on_literals uuid_on_literals tables_fault header_checks provider_columns uuid_name root_name parent_name listed_in place_of listed_field_checks place_checks listed_checks provider_name class_name total_name reserved_name min_unit_name max_unit_name step_size_name ratio_name inventory_columns stock_in holding_in stock_checks owner_checks class_checks holding_field_checks held_checks holding_checks ids_of number count_value fraction_parts parts_at decimal_parts
+unknown_provider = refl
+
+accepted : fault_of one_provider (inventory_header ++ codes "00000000000000000000000000000001,VCPU,8,0,1,8,1,1.500000") ≡ None
+unfolding csv_on_literals uuid_on_literals tables_fault header_checks provider_columns uuid_name root_name parent_name listed_in place_of listed_field_checks place_checks listed_checks provider_name class_name total_name reserved_name min_unit_name max_unit_name step_size_name ratio_name inventory_columns stock_in holding_in stock_checks owner_checks class_checks holding_field_checks held_checks holding_checks ids_of number count_value fraction_parts parts_at decimal_parts usage_name usage_columns name_name trait_columns aggregate_columns
+accepted = refl

@@ -1,0 +1,62 @@
+-- Rising lists of numbers.
+use Rattle.std.proofs.Common.{◌≡◌, ◌≢◌, ◌<◌, ◌≤◌, ◌+◌, ◌∙◌, ℕ, zero, suc, Bool, true, false, List, [], ◌∷◌, length, get_or, Option, Some, None, refl, sym, ap, subst, arith, rules, inl, inr, ◌⊎◌}
+use Rattle.std.specs.Prelude.{Result, Ok, Err, IfSome, IfNone, MatchResult, ◌==◌, ◌||◌}
+use Rattle.std.specs.List.{list_any}
+use Rattle.std.specs.Result.{result_ok}
+use Rattle.std.specs.Ordering.{nat_cmp}
+use Rattle.std.specs.List.Sorted.{IsBinarySearchResult, IsStrictlySortedBy}
+use Rattle.std.proofs.lemmas.Bool.{cases_Bool, cases_eq}
+use Rattle.std.proofs.lemmas.List.Sorted.{searched}
+use Rattle.std.proofs.lemmas.Map.Keys.{below_from_sorted}
+use Rattle.ac_tables.specs.Gathered.{IsRising}
+use Rattle.ac_tables.specs.InventoryTable.{is_one_of}
+
+pub rising_from_sorted : (xs : List ℕ) → IsStrictlySortedBy nat_cmp xs → IsRising xs
+rising_from_sorted xs h i j less inside = below_from_sorted xs i j 0 h less inside
+
+at_most : (xs : List ℕ) → IsRising xs → (i j : ℕ) → i ≤ j → j < length xs → get_or xs i 0 ≤ get_or xs j 0
+at_most xs h i j le inside = elim (cases_eq i j) [
+  | inl e ↦ subst (λ (k : ℕ). get_or xs i 0 ≤ get_or xs k 0) e (omega arith)
+  | inr ne ↦ let less : i < j = omega arith in omega (arith, h i j less inside)
+]
+
+pub rising_apart : (xs : List ℕ) → IsRising xs → (i j : ℕ) → i < length xs → j < length xs → i ≢ j → get_or xs i 0 ≢ get_or xs j 0
+rising_apart xs h i j hi hj ne e = elim (order i j ne) [ inl k ↦ omega (arith, h i j k hj, e) | inr k ↦ omega (arith, h j i k hi, e) ]
+  where
+    order : (i j : ℕ) → i ≢ j → (i < j) ⊎ (j < i)
+    order i j ne = search (arith, rules)
+
+-- what isn't at any place isn't there
+nowhere : (xs : List ℕ) (x : ℕ) → ((k : ℕ) → k < length xs → get_or xs k 0 ≢ x) → is_one_of xs x ≡ false
+nowhere [] x h = refl
+nowhere (y ∷ xs) x h =
+    let first : (y == x) ≡ false = differ y x (h zero (omega arith)) in
+    rw first (nowhere xs x (λ (k : ℕ) (inside : k < length xs). h (suc k) (omega arith)))
+  where
+    differ : (a b : ℕ) → a ≢ b → (a == b) ≡ false
+    differ a b ne = search (arith, rules)
+
+-- the place of a number in a rising list
+pub found_place : (xs : List ℕ) (x : ℕ) (r : Result ℕ ℕ) → IsRising xs → IsBinarySearchResult (λ y. nat_cmp y x) xs r
+    → IfSome (result_ok r) (λ place. (place < length xs) × (get_or xs place 0 ≡ x))
+found_place xs x (Ok i) h s = searched xs x (Ok i) s (at_most xs h)
+found_place xs x (Err i) h s = tt
+
+pub absent_place : (xs : List ℕ) (x : ℕ) (r : Result ℕ ℕ) → IsRising xs → IsBinarySearchResult (λ y. nat_cmp y x) xs r → IfNone (result_ok r) (is_one_of xs x ≡ false)
+absent_place xs x (Ok i) h s = tt
+absent_place xs x (Err i) h s =
+    let f = searched xs x (Err i) s (at_most xs h) in
+    nowhere xs x (λ (k : ℕ) (inside : k < length xs) (e : get_or xs k 0 ≡ x). differ xs x i k f inside e)
+  where
+    differ : (xs : List ℕ) (x i k : ℕ) → (i ≤ length xs) × ((k : ℕ) → k < i → get_or xs k 0 < x) × ((k : ℕ) → i ≤ k → k < length xs → x < get_or xs k 0)
+      → k < length xs → get_or xs k 0 ≡ x → ⊥
+    differ xs x i k f inside e = elim (below_or k i) [ inl less ↦ omega (arith, f.1 k less, e) | inr more ↦ omega (arith, f.2 k more inside, e) ]
+      where
+        below_or : (k i : ℕ) → (k < i) ⊎ (i ≤ k)
+        below_or k i = search (arith, rules)
+
+-- what is at a place is there
+pub one_of_place : (xs : List ℕ) (x i : ℕ) → i < length xs → get_or xs i 0 ≡ x → is_one_of xs x ≡ true
+one_of_place [] x i h e = absurd (omega (arith, h))
+one_of_place (y ∷ xs) x zero h e = let first : (y == x) ≡ true = search (arith, rules) in rw first refl
+one_of_place (y ∷ xs) x (suc i) h e = elim (cases_Bool (y == x)) [ inl k ↦ rw k refl | inr k ↦ rw k (one_of_place xs x i (omega arith) e) ]

@@ -1,0 +1,102 @@
+-- All records of a text: the list that `records` computes is the one that a loop over a reader reaches.
+use Rattle.std.proofs.Common.{◌≡◌, ◌<◌, ◌≤◌, ◌+◌, ◌==◌, ℕ, zero, suc, Bool, true, false, List, [], ◌∷◌, length, Option, Some, None, refl, sym, subst, arith, inl, inr}
+use Rattle.std.specs.Prelude.{if◌then◌else◌, ◌&&◌}
+use Rattle.std.proofs.lemmas.Bool.{cases_Bool}
+use Rattle.csv.specs.Machine.{Read, after_end, ends_at_end, ends_with, field_after, fields_after, in_field, is_byte, is_end, next_record, start_field, start_record, step}
+use Rattle.csv.specs.Reading.{AreRecords, Reached, records, records_from}
+use Rattle.csv.specs.declared.parser.Config.{Config}
+use Rattle.csv.specs.declared.parser.Terminator.{Terminator}
+use Rattle.csv.specs.declared.parser.Terminator.TheVariants as term
+use Rattle.csv.specs.declared.parser.State.{State}
+use Rattle.csv.specs.declared.parser.State.TheVariants as st
+use Rattle.csv.specs.declared.parser.Action.{Action}
+use Rattle.csv.specs.declared.parser.Action.TheVariants as act
+
+-- a step that ends a record leaves a state between two records
+abbrev EndsBetween : State × Action → Type 0
+EndsBetween p = is_end p.1 ≡ true → ends_at_end p.0 ≡ false
+
+either : (b : Bool) (p q : State × Action) → EndsBetween p → EndsBetween q → EndsBetween (if b then p else q)
+either true p q x y = x
+either false p q x y = y
+
+after-end : (t : Terminator) (c : ℕ) → ends_at_end (after_end t c) ≡ false
+after-end term.CRLF c = elim (cases_Bool (c == 13)) [ inl e ↦ rw e refl | inr e ↦ rw e refl ]
+after-end (term.Any t) c = refl
+
+in-field : (cfg : Config) (c : ℕ) → EndsBetween (in_field cfg c)
+in-field cfg c =
+    either (c == cfg.delimiter) _ _ (λ h. absurd (cc h)) (either (ends_with cfg.terminator c) _ _ (λ h. after-end cfg.terminator c) (λ h. absurd (cc h)))
+
+start-field : (cfg : Config) (c : ℕ) → EndsBetween (start_field cfg c)
+start-field cfg c = either (cfg.quoting && (c == cfg.quote)) (st.InQuoted, act.Skip) (in_field cfg c) (λ h. absurd (cc h)) (in-field cfg c)
+
+start-record : (cfg : Config) (c : ℕ) → EndsBetween (start_record cfg c)
+start-record cfg c = either (ends_with cfg.terminator c) _ _ (λ h. absurd (cc h)) (either (is_byte cfg.comment c) _ _ (λ h. absurd (cc h)) (start-field cfg c))
+
+pub step-end : (cfg : Config) (s : State) (c : ℕ) → EndsBetween (step cfg s c)
+step-end cfg st.StartRecord c = start-record cfg c
+step-end cfg st.StartField c = start-field cfg c
+step-end cfg st.InField c = in-field cfg c
+step-end cfg st.InQuoted c =
+    either (cfg.quoting && (c == cfg.quote)) (st.AfterQuote, act.Skip) (if cfg.quoting && is_byte cfg.escape c then (st.InEscape, act.Skip) else (st.InQuoted, act.Copy))
+    (λ h. absurd (cc h)) (either (cfg.quoting && is_byte cfg.escape c) (st.InEscape, act.Skip) (st.InQuoted, act.Copy) (λ h. absurd (cc h)) (λ h. absurd (cc h)))
+step-end cfg st.InEscape c = λ h. absurd (cc h)
+step-end cfg st.AfterQuote c = either (cfg.quoting && cfg.double_quote && (c == cfg.quote)) (st.InQuoted, act.Copy) (in_field cfg c) (λ h. absurd (cc h)) (in-field cfg c)
+step-end cfg st.InComment c = either (c == 10) (st.StartRecord, act.Skip) (st.InComment, act.Skip) (λ h. absurd (cc h)) (λ h. absurd (cc h))
+step-end cfg st.AfterCr c = either (c == 10) (st.StartRecord, act.Skip) (start_record cfg c) (λ h. absurd (cc h)) (start-record cfg c)
+
+-- what a read leaves: a state between two records, and no more text than there was
+abbrev Leaves : List ℕ → Read → Type 0
+Leaves xs p = (ends_at_end p.1 ≡ false) × (length p.2 ≤ length xs)
+
+the-read : (o : Read) (p : Read) (P : Read → Type 0) → ◌≡◌ {A = Option Read} (Some o) (Some p) → P o → P p
+the-read o p P e h =
+    let same : o ≡ p = cc e in
+    subst P same h
+
+pub next-leaves : (cfg : Config) (s : State) (fields : List (List ℕ)) (field xs : List ℕ) (p : Read) → next_record cfg s fields field xs ≡ Some p → Leaves xs p
+unfolding next_record
+next-leaves cfg s fields field [] p e = elim (cases_Bool (ends_at_end s)) [
+  | inl t ↦ the-read _ p (Leaves []) (rw t at e) (refl, omega arith)
+  | inr t ↦ absurd (cc (rw t at e))
+]
+next-leaves cfg s fields field (c ∷ rest) p e = elim (cases_Bool (is_end (step cfg s c).1)) [
+  | inl t ↦ the-read _ p (Leaves (c ∷ rest)) (rw t at e) (step-end cfg s c t, omega arith)
+  | inr t ↦ let (state, less) = next-leaves cfg (step cfg s c).0 (fields_after (step cfg s c).1 fields field) (field_after (step cfg s c).1 c field) rest p (rw t at e) in (state, omega arith)
+]
+
+-- a read that starts between two records takes a byte at least
+pub next-takes : (cfg : Config) (s : State) (xs : List ℕ) (p : Read) → ends_at_end s ≡ false → next_record cfg s [] [] xs ≡ Some p → length p.2 < length xs
+unfolding next_record
+next-takes cfg s [] p b e = absurd (cc (rw b at e))
+next-takes cfg s (c ∷ rest) p b e = elim (cases_Bool (is_end (step cfg s c).1)) [
+  | inl t ↦ the-read _ p (λ p. length p.2 < length (c ∷ rest)) (rw t at e) (omega arith)
+  | inr t ↦ let (state, less) = next-leaves cfg (step cfg s c).0 (fields_after (step cfg s c).1 [] []) (field_after (step cfg s c).1 c []) rest p (rw t at e) in omega arith
+]
+
+-- a text has no more records than bytes
+reached-length : (cfg : Config) (s s2 : State) (xs ys : List ℕ) (rows : List (List (List ℕ))) → ends_at_end s ≡ false → Reached cfg s xs rows s2 ys → length rows ≤ length xs
+unfolding Reached
+reached-length cfg s s2 xs ys [] b h = omega arith
+reached-length cfg s s2 xs ys (r ∷ rows) b h =
+    let (p, e, same, later) = h in
+    let less = next-takes cfg s xs p b e in
+    let rest = reached-length cfg p.1 s2 p.2 ys rows (next-leaves cfg s [] [] xs p e).0 later in
+    omega arith
+
+records-from : (cfg : Config) (n : ℕ) (s s2 : State) (xs ys : List ℕ) (rows : List (List (List ℕ))) → Reached cfg s xs rows s2 ys → next_record cfg s2 [] [] ys ≡ None
+    → length rows < n → records_from cfg n s xs ≡ rows
+unfolding Reached records_from
+records-from cfg zero s s2 xs ys rows h e less = absurd (omega arith)
+records-from cfg (suc n) s s2 xs ys [] h e less = rw (h.0, h.1, e) refl
+records-from cfg (suc n) s s2 xs ys (r ∷ rows) h e less =
+    let (p, next, same, later) = h in
+    let rest = records-from cfg n p.1 s2 p.2 ys rows later e (omega arith) in
+    rw (next, same, rest) refl
+
+-- all the records of a text are those that `records` computes
+pub records-whole : (cfg : Config) (xs : List ℕ) (rows : List (List (List ℕ))) → AreRecords cfg st.StartRecord xs rows → rows ≡ records cfg xs
+records-whole cfg xs rows (s2, ys, reached, none) =
+    let less = reached-length cfg st.StartRecord s2 xs ys rows refl reached in
+    sym (records-from cfg (length xs + 1) st.StartRecord s2 xs ys rows reached none (omega arith))

@@ -1,0 +1,18 @@
+-- Parents as places in a list.
+use Rattle.std.specs.Prelude.{ℕ, ◌<◌, List, length, get_or, Option, None, IfSome}
+
+-- the parent of a place, where it has one
+abbrev pub parent_in : List (Option ℕ) → ℕ → Option ℕ
+parent_in parents i = get_or parents i None
+
+-- every parent is one of the list
+abbrev pub AreParents : List (Option ℕ) → Type 0
+AreParents parents = (i : ℕ) → i < length parents → IfSome (get_or parents i None) (λ j. j < length parents)
+
+-- every item is a place below n
+abbrev pub ArePlaces : ℕ → List ℕ → Type 0
+ArePlaces n xs = (i : ℕ) → i < length xs → get_or xs i 0 < n
+
+-- where the items of a list lead
+abbrev pub along : List ℕ → ℕ → ℕ
+along step i = get_or step i 0

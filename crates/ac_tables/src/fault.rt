@@ -1,0 +1,142 @@
+//! The tables and what can be wrong with them.
+ghost use Rattle.std.specs.Prelude.{◌≡◌};
+ghost use Rattle.std.specs.Prelude.{◌≡◌};
+
+use ac_base::NoMemory;
+use std::alloc::{AllocError, AllocFailed};
+
+/// A table, in the order in which the tables are read and checked.
+#[derive(Clone, Copy, Debug, PartialEq, Eq)]
+pub enum Table {
+    /// The resource providers and their trees.
+    Providers,
+    /// What each provider has of each resource class.
+    Inventories,
+    /// How much of it is used.
+    Usages,
+    /// The traits of each provider.
+    Traits,
+    /// The aggregates of each provider.
+    Aggregates,
+}
+
+/// What is wrong with a table.
+#[derive(Clone, Copy, Debug, PartialEq, Eq)]
+pub enum TableKind {
+    /// The table has no record.
+    NoHeader,
+    /// A needed column isn't in the header.
+    MissingColumn,
+    /// A needed column is in the header twice.
+    DoubleColumn,
+    /// A record has another number of fields than the header.
+    Width,
+    /// A field that must be a UUID isn't.
+    BadUuid,
+    /// A field isn't the name of a resource class.
+    BadClass,
+    /// A field isn't the name of a trait.
+    BadTrait,
+    /// A field isn't 1 to 10 digits of a value of at most 2147483647.
+    BadNumber,
+    /// A field isn't an allocation ratio.
+    BadRatio,
+    /// `step_size` is 0.
+    ZeroStep,
+    /// `reserved` is greater than `total`.
+    ReservedOverTotal,
+    /// The provider, or the pair of provider and class, stands in an earlier record.
+    Duplicate,
+    /// The provider isn't in the table of providers.
+    UnknownProvider,
+    /// A usage of a class of which the provider has no inventory.
+    NoInventory,
+    /// There are more than 65536 providers.
+    TooManyProviders,
+    /// A parent isn't in the table of providers.
+    UnknownParent,
+    /// The chain of parents of a provider doesn't end.
+    ParentCycle,
+    /// The root that a record names isn't the top of the provider's tree.
+    WrongRoot,
+}
+
+/// The first fault of the tables, or a refused growth.
+#[derive(Clone, Copy, Debug, PartialEq, Eq)]
+pub enum TableFault {
+    /// Records are numbered from 1, the header is the first.
+    At {
+        table: Table,
+        row: u32,
+        kind: TableKind,
+    },
+    /// A growth was refused; it says nothing of the tables.
+    NoMemory,
+}
+
+impl From<NoMemory> for TableFault {
+    ghost use Rattle.ac_tables.specs.declared.fault.TableFault.TheVariants.{NoMemory as refused};
+
+    ghost from_gives = { λ _ fault. fault ≡ refused };
+
+    fn from(_error: NoMemory) -> TableFault {
+        TableFault::NoMemory
+    }
+}
+
+impl From<AllocError> for TableFault {
+    ghost use Rattle.ac_tables.specs.declared.fault.TableFault.TheVariants.{NoMemory as refused};
+
+    ghost from_gives = { λ _ fault. fault ≡ refused };
+
+    fn from(_error: AllocError) -> TableFault {
+        TableFault::NoMemory
+    }
+}
+
+impl<T: Drop> From<AllocFailed<T>> for TableFault {
+    ghost use Rattle.ac_tables.specs.declared.fault.TableFault.TheVariants.{NoMemory as refused};
+
+    ghost from_gives = { λ _ fault. fault ≡ refused };
+
+    fn from(_error: AllocFailed<T>) -> TableFault {
+        TableFault::NoMemory
+    }
+}
+
+// The fault of a record, before its table and number are told, or a refused growth.
+#[derive(Clone, Copy, Debug, PartialEq, Eq)]
+pub(crate) enum RecordFault {
+    Kind(TableKind),
+    NoMemory,
+}
+
+impl From<TableKind> for RecordFault {
+    ghost use Rattle.ac_tables.specs.declared.fault.RecordFault.TheVariants.{Kind as of_kind};
+
+    ghost from_gives = { λ kind fault. fault ≡ of_kind kind };
+
+    fn from(kind: TableKind) -> RecordFault {
+        RecordFault::Kind(kind)
+    }
+}
+
+impl From<NoMemory> for RecordFault {
+    ghost use Rattle.ac_tables.specs.declared.fault.RecordFault.TheVariants.{NoMemory as refused};
+
+    ghost from_gives = { λ _ fault. fault ≡ refused };
+
+    fn from(_error: NoMemory) -> RecordFault {
+        RecordFault::NoMemory
+    }
+}
+
+impl<T: Drop> From<AllocFailed<T>> for RecordFault {
+    ghost use Rattle.ac_tables.specs.declared.fault.RecordFault.TheVariants.{NoMemory as refused};
+
+    ghost from_gives = { λ _ fault. fault ≡ refused };
+
+    fn from(_error: AllocFailed<T>) -> RecordFault {
+        RecordFault::NoMemory
+    }
+}

@@ -1,0 +1,33 @@
+//! The ids of all providers, rising: a provider's place in them is its number.
+ghost use Rattle.std.specs.Prelude.{◌≡◌, ◌≤◌, ◌<◌, ◌+◌, ℕ, false, length, map, get_or, IfOk, IfNone, IfSome};
+ghost use Rattle.std.specs.Ordering.{nat_cmp};
+ghost use Rattle.ac_tables.specs.Sorted.{rising};
+ghost use Rattle.ac_tables.specs.Gathered.{IsRising};
+ghost use Rattle.ac_tables.specs.InventoryTable.{is_one_of};
+
+use ac_base::Id;
+
+#[derive(Drop)]
+pub(crate) struct Ids {
+    pub(crate) ids: Vec<Id>,
+    ghost rising: { IsRising ids.items },
+    ghost few: { length ids.items ≤ 65536 },
+}
+
+impl Ids {
+    pub(crate) fn len(&self) -> usize
+        ensures value { result ≡ length self.now.ids.items }
+        ensures few { result ≤ 65536 }
+    {
+        self.ids.len()
+    }
+
+    // The place of a provider.
+    pub(crate) fn find(&self, id: Id) -> Option<usize>
+        ensures inside { IfSome result (λ place. place < length self.now.ids.items) }
+        ensures found { IfSome result (λ place. get_or self.now.ids.items place 0 ≡ id) }
+        ensures absent { IfNone result (is_one_of self.now.ids.items id ≡ false) }
+    {
+        self.ids.binary_search(&id).ok()
+    }
+}

@@ -1,0 +1,21 @@
+//! The five tables of an exported cloud, their faults, and the cloud that they state.
+//!
+//! It knows nothing of queries or of searches.
+#![tactic(auto)]
+
+mod climbing;
+mod columns;
+pub mod fault;
+mod fields;
+mod holding;
+mod ids;
+mod inventories;
+mod listed;
+mod numbered;
+mod providers;
+pub mod reading;
+mod roll;
+mod rows;
+
+pub use fault::{Table, TableFault, TableKind};
+pub use reading::{ReadFault, drain};
