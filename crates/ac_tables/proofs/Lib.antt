@@ -18,3 +18,4 @@ pub mod NameFacts
 pub mod GatherFacts
 pub mod ClassMaps
 pub mod HeldFacts
+pub mod Gathering
