@@ -20,7 +20,7 @@ use Rattle.ac_tables.proofs.SortedFacts.{there_of}
 use Rattle.ac_tables.proofs.GatherFacts.{taken, taken_more, known_more}
 
 -- the item at a place, of a list and of what is shown of it
-shown_at : {M G : Type 0} (show : M → G) (maps : List M) (all : List G) (i : ℕ) (m : M) (d : G) → map show maps ≡ all → i < length maps → m ≡ get_or maps i m → show m ≡ get_or all i d
+pub shown_at : {M G : Type 0} (show : M → G) (maps : List M) (all : List G) (i : ℕ) (m : M) (d : G) → map show maps ≡ all → i < length maps → m ≡ get_or maps i m → show m ≡ get_or all i d
 shown_at show maps all i m d e inside here = ap show here ∙ sym (get_or-map show maps i m d inside) ∙ ap (λ l. get_or l i d) e
 
 module _ {V X : Type 0} (provider : V → ℕ) (class : V → List ℕ) (value : V → X) where

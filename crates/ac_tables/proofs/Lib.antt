@@ -19,3 +19,6 @@ pub mod GatherFacts
 pub mod ClassMaps
 pub mod HeldFacts
 pub mod Gathering
+pub mod UsedFacts
+pub mod KnownFacts
+pub mod KeySets

@@ -98,6 +98,10 @@ holding_field_checks header row = owner_checks header row ++ class_checks header
 unfoldable pub held_checks : List ℕ → List Holding → ℕ → List ℕ → List Check
 held_checks ids before id class = (list_any (is_holding id class) before, kind.Duplicate) ∷ (not (is_one_of ids id), kind.UnknownProvider) ∷ []
 
+-- the check that a provider is there
+unfoldable pub known_checks : List ℕ → ℕ → List Check
+known_checks ids id = (not (is_one_of ids id), kind.UnknownProvider) ∷ []
+
 -- the checks of a record, beside the inventories before it, where these are the ids of all providers
 unfoldable pub holding_checks : List ℕ → Row → List Holding → Row → List Check
 holding_checks ids header before row =

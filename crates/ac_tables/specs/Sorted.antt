@@ -17,7 +17,3 @@ TextMap X = List (List ℕ × X)
 -- the map of these pairs
 abbrev pub map_of : {X : Type 0} → List (List ℕ × X) → TextMap X
 map_of pairs = fold (λ m p. insert_entry text_cmp m p.0 p.1) [] pairs
-
--- the items, equal ones once, in the order in which they first come
-abbrev pub each_once : {X : Type 0} → (X → X → Bool) → List X → List X
-each_once same xs = fold (λ kept x. if list_any (same x) kept then kept else kept ++ x ∷ []) [] xs

@@ -1,10 +1,11 @@
 //! The table of inventories.
-ghost use Rattle.std.specs.Prelude.{◌≡◌, ◌≤◌, ◌<◌, ◌++◌, ◌∷◌, None, ℕ, List, [], map, length, IfOk, IfErr};
+ghost use Rattle.std.specs.Prelude.{◌≡◌, ◌≤◌, ◌<◌, ◌++◌, ◌∷◌, None, ℕ, List, [], map, length, get_or, not, IfOk, IfErr};
+ghost use Rattle.std.specs.List.{list_any};
 ghost use Rattle.csv.specs.Records.{fields_of};
 ghost use Rattle.ac_base.specs.Names.{class_bytes};
 ghost use Rattle.ac_tables.specs.Checks.{first_failing, TellsKind, Tells, rows_fault};
 ghost use Rattle.ac_tables.specs.Drain.{most_bytes};
-ghost use Rattle.ac_tables.specs.InventoryTable.{Holding, holding_in, held_checks, holding_checks, holdings_of, inventories_fault};
+ghost use Rattle.ac_tables.specs.InventoryTable.{Holding, is_holding, holding_in, held_checks, holding_checks, holdings_of, inventories_fault};
 ghost use Rattle.ac_tables.specs.Gathered.{AreStocks, holding_of, by_class};
 ghost use Rattle.ac_tables.specs.ColumnPlaces.{holding_places};
 ghost use Rattle.ac_tables.specs.Rows.{IsReading, rows_left, records_of};
@@ -44,6 +45,14 @@ impl Inventories {
         }
         maps[place].insert(row.class, row.inventory)?;
         Ok(Inventories { maps })
+    }
+
+    // Whether a provider has no inventory of a class.
+    pub(crate) fn lacks(&self, place: usize, class: &ClassName) -> bool
+        requires { place < length self.now.maps.items }
+        ensures { (ids : List ℕ) (said : List Holding) (id : ℕ) → AreStocks ids said self.now.maps.items → length self.now.maps.items ≡ length ids → get_or ids place 0 ≡ id → result ≡ not (list_any (is_holding id (class_bytes class.now)) said) }
+    {
+        !self.maps[place].contains_key(class)
     }
 
     // None yet, for each provider.
