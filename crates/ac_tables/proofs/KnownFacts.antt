@@ -1,5 +1,5 @@
 -- Whether a provider is there, and the checks of the records of traits and aggregates.
-use Rattle.std.proofs.Common.{◌≡◌, ◌∙◌, ◌++◌, ℕ, Bool, true, false, List, Option, Some, None, refl, sym, ap}
+use Rattle.std.proofs.Common.{◌≡◌, ◌∙◌, ℕ, true, false, List, Some, None, refl, sym, ap}
 use Rattle.ac_base.specs.Names.{trait_bytes}
 use Rattle.ac_tables.specs.Checks.{Row, first_failing, TellsKind}
 use Rattle.ac_tables.specs.Columns.{id_in, text_in}

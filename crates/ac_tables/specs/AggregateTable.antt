@@ -1,11 +1,10 @@
 -- The table of aggregates.
-use Rattle.std.specs.Prelude.{Option, ◌&&◌, ℕ, Bool, ◌==◌, not, List, [], ◌∷◌, ◌++◌}
+use Rattle.std.specs.Prelude.{Option, ℕ, Bool, List, [], ◌∷◌, ◌++◌}
 use Rattle.ac_tables.specs.Checks.{Row, Check, first_failing}
 use Rattle.ac_tables.specs.Columns.{table_checks, said_by, id_in, bad_id}
 use Rattle.ac_tables.specs.ProviderTable.{uuid_name}
 use Rattle.ac_tables.specs.InventoryTable.{provider_name, owner_checks, known_checks}
 use Rattle.ac_tables.specs.declared.fault.Table.TheVariants as table
-use Rattle.ac_tables.specs.declared.fault.TableKind.TheVariants as kind
 use Rattle.ac_tables.specs.declared.fault.TableFault.{TableFault}
 
 -- what a record says: a provider belongs to an aggregate

@@ -1,7 +1,6 @@
 -- The table of traits.
 use Rattle.std.specs.Prelude.{Option, ℕ, Bool, List, [], ◌∷◌, ◌++◌, codes}
 use Rattle.std.specs.Option.{is_none}
-use Rattle.std.specs.Str.{bytes_eq}
 use Rattle.ac_base.specs.Texts.{name_value}
 use Rattle.ac_tables.specs.Checks.{Row, Check, first_failing}
 use Rattle.ac_tables.specs.Columns.{table_checks, said_by, text_in, id_in}

@@ -66,7 +66,13 @@ impl Aggregates {
     }
 
     // These and that of a record.
-    fn with_record(self, ids: &Ids, header: &ByteRecord, columns: MembershipColumns, row: &ByteRecord) -> Result<Aggregates, RecordFault>
+    fn with_record(
+        self,
+        ids: &Ids,
+        header: &ByteRecord,
+        columns: MembershipColumns,
+        row: &ByteRecord,
+    ) -> Result<Aggregates, RecordFault>
         requires sized { length self.sets.items ≡ length ids.now.ids.items }
         requires room { self.count ≤ most_bytes }
         requires columns { columns ≡ membership_places (fields_of header.now) }
@@ -84,7 +90,12 @@ impl Aggregates {
 }
 
 // The aggregates of the records that are left.
-fn read_rows(alloc: Global, ids: &Ids, reader: &mut Reader<&[u8]>, header: &ByteRecord) -> Result<Aggregates, TableFault>
+fn read_rows(
+    alloc: Global,
+    ids: &Ids,
+    reader: &mut Reader<&[u8]>,
+    header: &ByteRecord,
+) -> Result<Aggregates, TableFault>
     requires reading { IsReading reader.old }
     requires few { length (rows_left reader.old) ≤ most_bytes }
     ensures sized { IfOk result (λ v. length v.sets.items ≡ length ids.now.ids.items) }
@@ -110,7 +121,11 @@ fn read_rows(alloc: Global, ids: &Ids, reader: &mut Reader<&[u8]>, header: &Byte
 const COLUMNS: [&[u8]; 2] = [b"resource_provider", b"uuid"];
 
 // The aggregates of a text, or the first fault of the table, where these are the ids of all providers.
-pub(crate) fn read_aggregates(alloc: Global, ids: &Ids, text: &[u8]) -> Result<Aggregates, TableFault>
+pub(crate) fn read_aggregates(
+    alloc: Global,
+    ids: &Ids,
+    text: &[u8],
+) -> Result<Aggregates, TableFault>
     requires { length text.now ≤ most_bytes }
     ensures sized { IfOk result (λ v. length v.sets.items ≡ length ids.now.ids.items) }
     ensures gathered { IfOk result (λ v. AreAggregates ids.now.ids.items (memberships_of (records_of text.now)) v.sets.items) }

@@ -46,7 +46,12 @@ pub(crate) struct MarkRow {
 
 // The trait of a record.
 #[tactic(auto, unfolding(crate::specs::TraitTable::name_checks), using(crate::proofs::NameFacts::named))]
-fn read_name(alloc: Global, header: &ByteRecord, place: usize, row: &ByteRecord) -> Result<TraitName, RecordFault>
+fn read_name(
+    alloc: Global,
+    header: &ByteRecord,
+    place: usize,
+    row: &ByteRecord,
+) -> Result<TraitName, RecordFault>
     requires { place ≡ place_in (fields_of header.now) name_name }
     ensures ok { IfOk result (λ _. first_failing (name_checks (fields_of header.now) (fields_of row.now)) ≡ None) }
     ensures name { IfOk result (λ name. trait_bytes name ≡ text_in (fields_of header.now) name_name (fields_of row.now)) }
@@ -63,7 +68,12 @@ impl MarkRow {
 
     // What a record says, or the first fault of its fields.
     #[tactic(auto, unfolding(crate::specs::ColumnPlaces::mark_places))]
-    pub(crate) fn read(alloc: Global, header: &ByteRecord, columns: MarkColumns, row: &ByteRecord) -> Result<MarkRow, RecordFault>
+    pub(crate) fn read(
+        alloc: Global,
+        header: &ByteRecord,
+        columns: MarkColumns,
+        row: &ByteRecord,
+    ) -> Result<MarkRow, RecordFault>
         requires { columns ≡ mark_places (fields_of header.now) }
         ensures ok { IfOk result (λ _. first_failing (mark_field_checks (fields_of header.now) (fields_of row.now)) ≡ None) }
         ensures provider { IfOk result (λ m. m.provider ≡ id_in (fields_of header.now) provider_name (fields_of row.now)) }

@@ -54,7 +54,11 @@ impl MembershipRow {
 
     // What a record says, or the first fault of its fields.
     #[tactic(auto, unfolding(crate::specs::ColumnPlaces::membership_places, crate::specs::AggregateTable::membership_in, crate::specs::AggregateTable::membership_field_checks, crate::specs::InventoryTable::owner_checks))]
-    pub(crate) fn read(header: &ByteRecord, columns: MembershipColumns, row: &ByteRecord) -> Result<MembershipRow, TableKind>
+    pub(crate) fn read(
+        header: &ByteRecord,
+        columns: MembershipColumns,
+        row: &ByteRecord,
+    ) -> Result<MembershipRow, TableKind>
         requires { columns ≡ membership_places (fields_of header.now) }
         ensures { result ≡ unless (first_failing (membership_field_checks (fields_of header.now) (fields_of row.now))) (membership_in (fields_of header.now) (fields_of row.now)) }
     {

@@ -66,7 +66,14 @@ impl Traits {
     }
 
     // These and that of a record.
-    fn with_record(self, alloc: Global, ids: &Ids, header: &ByteRecord, columns: MarkColumns, row: &ByteRecord) -> Result<Traits, RecordFault>
+    fn with_record(
+        self,
+        alloc: Global,
+        ids: &Ids,
+        header: &ByteRecord,
+        columns: MarkColumns,
+        row: &ByteRecord,
+    ) -> Result<Traits, RecordFault>
         requires sized { length self.sets.items ≡ length ids.now.ids.items }
         requires room { self.count ≤ most_bytes }
         requires columns { columns ≡ mark_places (fields_of header.now) }
@@ -84,7 +91,12 @@ impl Traits {
 }
 
 // The traits of the records that are left.
-fn read_rows(alloc: Global, ids: &Ids, reader: &mut Reader<&[u8]>, header: &ByteRecord) -> Result<Traits, TableFault>
+fn read_rows(
+    alloc: Global,
+    ids: &Ids,
+    reader: &mut Reader<&[u8]>,
+    header: &ByteRecord,
+) -> Result<Traits, TableFault>
     requires reading { IsReading reader.old }
     requires few { length (rows_left reader.old) ≤ most_bytes }
     ensures sized { IfOk result (λ v. length v.sets.items ≡ length ids.now.ids.items) }

@@ -64,7 +64,12 @@ impl UsageRow {
 
     // What a record says, or the first fault of its fields.
     #[tactic(auto, unfolding(crate::specs::ColumnPlaces::usage_places))]
-    pub(crate) fn read(alloc: Global, header: &ByteRecord, columns: UsageColumns, row: &ByteRecord) -> Result<UsageRow, RecordFault>
+    pub(crate) fn read(
+        alloc: Global,
+        header: &ByteRecord,
+        columns: UsageColumns,
+        row: &ByteRecord,
+    ) -> Result<UsageRow, RecordFault>
         requires { columns ≡ usage_places (fields_of header.now) }
         ensures ok { IfOk result (λ _. first_failing (usage_field_checks (fields_of header.now) (fields_of row.now)) ≡ None) }
         ensures provider { IfOk result (λ u. u.provider ≡ id_in (fields_of header.now) provider_name (fields_of row.now)) }

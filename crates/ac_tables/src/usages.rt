@@ -30,7 +30,12 @@ pub(crate) struct Usages {
 
 impl Usages {
     // These and one more.
-    fn with(self, ids: &Ids, inventories: &Inventories, row: UsageRow) -> Result<Usages, RecordFault>
+    fn with(
+        self,
+        ids: &Ids,
+        inventories: &Inventories,
+        row: UsageRow,
+    ) -> Result<Usages, RecordFault>
         requires sized { length self.maps.items ≡ length ids.now.ids.items }
         requires inventories { length inventories.now.maps.items ≡ length ids.now.ids.items }
         ensures sized { IfOk result (λ new. length new.maps.items ≡ length ids.now.ids.items) }
@@ -64,7 +69,15 @@ impl Usages {
     }
 
     // These and that of a record.
-    fn with_record(self, alloc: Global, ids: &Ids, inventories: &Inventories, header: &ByteRecord, columns: UsageColumns, row: &ByteRecord) -> Result<Usages, RecordFault>
+    fn with_record(
+        self,
+        alloc: Global,
+        ids: &Ids,
+        inventories: &Inventories,
+        header: &ByteRecord,
+        columns: UsageColumns,
+        row: &ByteRecord,
+    ) -> Result<Usages, RecordFault>
         requires sized { length self.maps.items ≡ length ids.now.ids.items }
         requires inventories { length inventories.now.maps.items ≡ length ids.now.ids.items }
         requires columns { columns ≡ usage_places (fields_of header.now) }
@@ -81,7 +94,13 @@ impl Usages {
 }
 
 // The usages of the records that are left, and how many records there were.
-fn read_rows(alloc: Global, ids: &Ids, inventories: &Inventories, reader: &mut Reader<&[u8]>, header: &ByteRecord) -> Result<(Usages, u32), TableFault>
+fn read_rows(
+    alloc: Global,
+    ids: &Ids,
+    inventories: &Inventories,
+    reader: &mut Reader<&[u8]>,
+    header: &ByteRecord,
+) -> Result<(Usages, u32), TableFault>
     requires reading { IsReading reader.old }
     requires few { length (rows_left reader.old) ≤ most_bytes }
     requires inventories { length inventories.now.maps.items ≡ length ids.now.ids.items }
@@ -110,7 +129,12 @@ const COLUMNS: [&[u8]; 3] = [b"resource_provider", b"resource_class", b"usage"];
 
 // The usages of a text and how many there are, or the first fault of the table, where these are the ids of all providers
 // and what they have.
-pub(crate) fn read_usages(alloc: Global, ids: &Ids, inventories: &Inventories, text: &[u8]) -> Result<(Usages, u32), TableFault>
+pub(crate) fn read_usages(
+    alloc: Global,
+    ids: &Ids,
+    inventories: &Inventories,
+    text: &[u8],
+) -> Result<(Usages, u32), TableFault>
     requires few { length text.now ≤ most_bytes }
     requires inventories { length inventories.now.maps.items ≡ length ids.now.ids.items }
     ensures sized { IfOk result (λ v. length v.0.maps.items ≡ length ids.now.ids.items) }

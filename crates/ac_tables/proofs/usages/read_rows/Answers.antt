@@ -3,9 +3,8 @@ use Rattle.std.proofs.lemmas.List.{length-map}
 use Rattle.csv.specs.Records.{fields_of}
 use Rattle.ac_tables.specs.Checks.{Tells, rows_fault}
 use Rattle.ac_tables.specs.Rows.{rows_left}
-use Rattle.ac_tables.specs.InventoryTable.{Holding}
 use Rattle.ac_tables.specs.UsageTable.{Usage, usage_in, usage_row_checks}
-use Rattle.ac_tables.specs.Gathered.{AreStocks, AreAmounts, by_class}
+use Rattle.ac_tables.specs.Gathered.{by_class}
 use Rattle.ac_tables.specs.Tables.{amounts_of}
 use Rattle.ac_tables.specs.declared.fault.Table.TheVariants as table
 use Rattle.ac_tables.specs.declared.fault.TableFault.{TableFault}

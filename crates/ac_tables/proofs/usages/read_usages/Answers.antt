@@ -28,7 +28,7 @@ unfolding usage_columns provider_name class_name usage_name
 returns-clause-count c =
     let left = records_left table.Usages usage_columns usage_in (usage_row_checks c.args.ids.now.ids.items []) (records_of c.args.text.now) _ _ c.in-Ok.ensures.rows c.in-Ok.ensures.ok in
     weaker_ok c.read_rows.result (λ v. v.1 ≡ length (rows_left c.in-Ok.reader)) (λ v. v.1 ≡ length (usages_of (records_of c.args.text.now)))
-      (λ v e. e ∙ sym (ap length left.1 ∙ length-map (rows_left c.in-Ok.reader) (usage_in (fields_of c.open_table.new.header)))) c.read_rows.ensures.count
+    (λ v e. e ∙ sym (ap length left.1 ∙ length-map (rows_left c.in-Ok.reader) (usage_in (fields_of c.open_table.new.header)))) c.read_rows.ensures.count
 
 pub returns-clause-ok : goal.returns-clause-ok
 unfolding usages_fault rows_fault usage_columns provider_name class_name usage_name
@@ -36,11 +36,11 @@ returns-clause-ok c =
     let ids = c.args.ids.now.ids.items in
     let header = fields_of c.open_table.new.header in
     weaker_ok c.read_rows.result
-      (λ _. (holdings : List Holding) → AreStocks ids holdings c.args.inventories.now.maps.items → rows_fault table.Usages (usage_in header) (usage_row_checks ids holdings header) [] (rows_left c.in-Ok.reader) ≡ None)
-      (λ _. (holdings : List Holding) → AreStocks ids holdings c.args.inventories.now.maps.items → usages_fault ids holdings (records_of c.args.text.now) ≡ None)
-      (λ _ f holdings stocks.
-        (records_left table.Usages usage_columns usage_in (usage_row_checks ids holdings) (records_of c.args.text.now) _ _ c.in-Ok.ensures.rows c.in-Ok.ensures.ok).0 ∙ f holdings stocks)
-      c.read_rows.ensures.ok
+    (λ _. (holdings : List Holding) → AreStocks ids holdings c.args.inventories.now.maps.items → rows_fault table.Usages (usage_in header) (usage_row_checks ids holdings header) [] (rows_left c.in-Ok.reader) ≡ None)
+    (λ _. (holdings : List Holding) → AreStocks ids holdings c.args.inventories.now.maps.items → usages_fault ids holdings (records_of c.args.text.now) ≡ None)
+    (λ _ f holdings stocks.
+    (records_left table.Usages usage_columns usage_in (usage_row_checks ids holdings) (records_of c.args.text.now) _ _ c.in-Ok.ensures.rows c.in-Ok.ensures.ok).0 ∙ f holdings stocks)
+    c.read_rows.ensures.ok
 
 pub returns-clause-fault : goal.returns-clause-fault
 unfolding usages_fault rows_fault usage_columns provider_name class_name usage_name
@@ -48,9 +48,9 @@ returns-clause-fault c =
     let ids = c.args.ids.now.ids.items in
     let header = fields_of c.open_table.new.header in
     map_err c.read_rows.result
-      (λ (e : TableFault). (holdings : List Holding) → AreStocks ids holdings c.args.inventories.now.maps.items
-        → Tells (rows_fault table.Usages (usage_in header) (usage_row_checks ids holdings header) [] (rows_left c.in-Ok.reader)) e)
-      (λ (e : TableFault). (holdings : List Holding) → AreStocks ids holdings c.args.inventories.now.maps.items → Tells (usages_fault ids holdings (records_of c.args.text.now)) e)
-      (λ e f holdings stocks.
-        rw (records_left table.Usages usage_columns usage_in (usage_row_checks ids holdings) (records_of c.args.text.now) _ _ c.in-Ok.ensures.rows c.in-Ok.ensures.ok).0 (f holdings stocks))
-      c.read_rows.ensures.fault
+    (λ (e : TableFault). (holdings : List Holding) → AreStocks ids holdings c.args.inventories.now.maps.items
+    → Tells (rows_fault table.Usages (usage_in header) (usage_row_checks ids holdings header) [] (rows_left c.in-Ok.reader)) e)
+    (λ (e : TableFault). (holdings : List Holding) → AreStocks ids holdings c.args.inventories.now.maps.items → Tells (usages_fault ids holdings (records_of c.args.text.now)) e)
+    (λ e f holdings stocks.
+    rw (records_left table.Usages usage_columns usage_in (usage_row_checks ids holdings) (records_of c.args.text.now) _ _ c.in-Ok.ensures.rows c.in-Ok.ensures.ok).0 (f holdings stocks))
+    c.read_rows.ensures.fault

@@ -1,4 +1,4 @@
-use Rattle.std.proofs.Common.{◌≡◌, ◌∙◌, ◌++◌, sym}
+use Rattle.std.proofs.Common.{◌∙◌, sym}
 use Rattle.csv.specs.Records.{fields_of}
 use Rattle.ac_tables.specs.InventoryTable.{owner_checks}
 use Rattle.ac_tables.specs.TraitTable.{name_checks, mark_field_checks}
