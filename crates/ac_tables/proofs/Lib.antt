@@ -18,3 +18,7 @@ pub mod NameFacts
 pub mod GatherFacts
 pub mod ClassMaps
 pub mod HeldFacts
+pub mod Gathering
+pub mod UsedFacts
+pub mod KnownFacts
+pub mod KeySets

@@ -1,7 +1,6 @@
 -- Rising lists of numbers.
-use Rattle.std.proofs.Common.{◌≡◌, ◌≢◌, ◌<◌, ◌≤◌, ◌+◌, ◌∙◌, ℕ, zero, suc, Bool, true, false, List, [], ◌∷◌, length, get_or, Option, Some, None, refl, sym, ap, subst, arith, rules, inl, inr, ◌⊎◌}
-use Rattle.std.specs.Prelude.{Result, Ok, Err, IfSome, IfNone, MatchResult, ◌==◌, ◌||◌}
-use Rattle.std.specs.List.{list_any}
+use Rattle.std.proofs.Common.{◌≡◌, ◌≢◌, ◌<◌, ◌≤◌, ℕ, zero, suc, true, false, List, [], ◌∷◌, length, get_or, refl, subst, arith, rules, inl, inr, ◌⊎◌}
+use Rattle.std.specs.Prelude.{Result, Ok, Err, IfSome, IfNone, ◌==◌}
 use Rattle.std.specs.Result.{result_ok}
 use Rattle.std.specs.Ordering.{nat_cmp}
 use Rattle.std.specs.List.Sorted.{IsBinarySearchResult, IsStrictlySortedBy}
@@ -49,7 +48,7 @@ absent_place xs x (Err i) h s =
     nowhere xs x (λ (k : ℕ) (inside : k < length xs) (e : get_or xs k 0 ≡ x). differ xs x i k f inside e)
   where
     differ : (xs : List ℕ) (x i k : ℕ) → (i ≤ length xs) × ((k : ℕ) → k < i → get_or xs k 0 < x) × ((k : ℕ) → i ≤ k → k < length xs → x < get_or xs k 0)
-      → k < length xs → get_or xs k 0 ≡ x → ⊥
+        → k < length xs → get_or xs k 0 ≡ x → ⊥
     differ xs x i k f inside e = elim (below_or k i) [ inl less ↦ omega (arith, f.1 k less, e) | inr more ↦ omega (arith, f.2 k more inside, e) ]
       where
         below_or : (k i : ℕ) → (k < i) ⊎ (i ≤ k)

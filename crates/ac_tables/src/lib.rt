@@ -3,6 +3,7 @@
 //! It knows nothing of queries or of searches.
 #![tactic(auto)]
 
+mod aggregates;
 mod climbing;
 mod columns;
 pub mod fault;
@@ -11,11 +12,16 @@ mod holding;
 mod ids;
 mod inventories;
 mod listed;
+mod mark;
+mod membership;
 mod numbered;
 mod providers;
 pub mod reading;
 mod roll;
 mod rows;
+mod traits;
+mod usage;
+mod usages;
 
 pub use fault::{Table, TableFault, TableKind};
 pub use reading::{ReadFault, drain};
