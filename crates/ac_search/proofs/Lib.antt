@@ -1,7 +1,10 @@
-pub mod Each
+pub mod Elements
 pub mod OrderLemmas
 pub mod ListLemmas
 pub mod PlacedLemmas
+pub mod SlotLemmas
+pub mod PlaceLemmas
+pub mod TogetherLemmas
 pub mod FrontLemmas
 pub mod JudgeLemmas
 pub mod RestLemmas

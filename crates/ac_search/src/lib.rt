@@ -3,9 +3,15 @@
 //! It knows nothing of the texts of tables and queries, nor of what is printed.
 #![tactic(auto)]
 
+pub mod cloud;
 pub mod laws;
+mod each;
+mod own;
+mod slots;
+mod sums;
 pub mod source;
 pub mod verdict;
+mod whole;
 
 pub use source::Source;
 pub use verdict::{Rule, Verdict};
