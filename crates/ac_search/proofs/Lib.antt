@@ -1,7 +1,11 @@
-pub mod Each
+pub mod Elements
 pub mod OrderLemmas
 pub mod ListLemmas
 pub mod PlacedLemmas
+pub mod SlotLemmas
+pub mod PlaceLemmas
+pub mod TogetherLemmas
+pub mod AnchorLemmas
 pub mod FrontLemmas
 pub mod JudgeLemmas
 pub mod RestLemmas

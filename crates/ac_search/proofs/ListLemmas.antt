@@ -6,7 +6,7 @@ use Rattle.std.proofs.lemmas.Bool.Decides.{nat_tests}
 use Rattle.std.proofs.lemmas.List.Elements.{All-from_recursion, recursion_from_All}
 use Rattle.ac_search.specs.Order.{lex_lt}
 use Rattle.ac_search.specs.Lists.{all_lists, IsListBelow, IsRising}
-use Rattle.ac_search.proofs.Each.{Among, each_append, each_map, each_weaker, each_all, among_map, among_flat_map, each_filter}
+use Rattle.ac_search.proofs.Elements.{Among, each_append, each_map, each_weaker, each_all, among_map, among_flat_map, each_filter}
 
 -- the lists of ls, each behind a number of ps
 abbrev pub under : List (List ℕ) → List ℕ → List (List ℕ)

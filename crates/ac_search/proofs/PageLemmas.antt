@@ -9,7 +9,7 @@ use Rattle.ac_search.specs.Order.{lex_lt}
 use Rattle.ac_search.specs.Lists.{IsListBelow, IsRising}
 use Rattle.ac_search.specs.Pages.{candidates, ids_of, is_after, rest, cut}
 use Rattle.ac_search.specs.Laws.{AreInOrder, PagesJoin, both_limits, IsLeastAfter, RestBegins}
-use Rattle.ac_search.proofs.Each.{Among, filter_twice, filter_agree, filter_all, each_weaker, each_all, each_among, each_map}
+use Rattle.ac_search.proofs.Elements.{Among, filter_twice, filter_agree, filter_all, each_weaker, each_all, each_among, each_map}
 use Rattle.ac_search.proofs.OrderLemmas.{lex_irrefl, lex_asym, lex_trans, lex_map}
 use Rattle.ac_search.proofs.RestLemmas.{IsChosen, IsLeft, each_candidate, each_rest, among_rest, rising_candidates, rising_rest}
 

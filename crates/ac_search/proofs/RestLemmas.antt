@@ -6,7 +6,7 @@ use Rattle.ac_tables.specs.World.{Provider}
 use Rattle.ac_search.specs.Lists.{all_lists, IsListBelow, IsRising}
 use Rattle.ac_search.specs.Judge.{is_candidate}
 use Rattle.ac_search.specs.Pages.{candidates, is_after, rest}
-use Rattle.ac_search.proofs.Each.{Among, each_filter, each_weaker, among_filter}
+use Rattle.ac_search.proofs.Elements.{Among, each_filter, each_weaker, among_filter}
 use Rattle.ac_search.proofs.ListLemmas.{rising_all_lists, rising_filter, each_all_lists, among_all_lists}
 
 pub record IsChosen (all : List Provider) (asked : Asked) (t : List ℕ) : Type 0 where

@@ -3,6 +3,7 @@ pub mod Lists
 pub mod Placed
 pub mod Own
 pub mod Together
+pub mod Room
 pub mod Judge
 pub mod Pages
 pub mod Laws

@@ -3,9 +3,18 @@
 //! It knows nothing of the texts of tables and queries, nor of what is printed.
 #![tactic(auto)]
 
+mod anchor;
+pub mod cloud;
+mod judging;
 pub mod laws;
+mod each;
+mod own;
+mod slots;
+mod sums;
 pub mod source;
 pub mod verdict;
+mod whole;
 
+pub use judging::verify;
 pub use source::Source;
 pub use verdict::{Rule, Verdict};

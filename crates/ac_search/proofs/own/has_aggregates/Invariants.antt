@@ -1,0 +1,13 @@
+use Rattle.std.proofs.Common.{◌≡◌, ℕ, List, not, map, drop}
+use Rattle.std.specs.List.{list_all, list_any}
+use Rattle.ac_query.specs.QueriesShown.{asked_of}
+use Rattle.ac_query.specs.GroupsShown.{rule_shown}
+use Rattle.ac_query.specs.Values.{AggregateRule}
+use Rattle.ac_search.specs.Placed.{placed_at}
+use Rattle.ac_search.specs.Own.{meets_rule}
+use Rattle.ac_search.proofs.own.has_aggregates.Given as goal
+
+abbrev pub invariant-loop-rule : goal.invariant-loop-rule
+invariant-loop-rule g l =
+    let meets = λ (rule : AggregateRule). meets_rule (g.C.Cloud.providers l.cloud) (placed_at (asked_of l.query) l.s l.ix) rule in
+    list_all meets (map rule_shown (drop l.rule-index l.rule-items)) ≡ list_all meets (map rule_shown l.rule-items)

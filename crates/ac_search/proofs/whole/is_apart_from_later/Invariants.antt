@@ -1,0 +1,17 @@
+use Rattle.std.proofs.Common.{◌≡◌, ◌≤◌, ◌+◌, ℕ, List, [], length, map, drop, get_or, slice_index}
+use Rattle.std.specs.List.{list_all, list_any}
+use Rattle.ac_base.specs.Names.{trait_bytes}
+use Rattle.ac_query.specs.Asked.{Group, slots_of}
+use Rattle.ac_query.specs.GroupsShown.{group_entry}
+use Rattle.ac_query.specs.QueriesShown.{asked_of}
+use Rattle.ac_tables.specs.World.{id_at, is_above}
+use Rattle.ac_search.specs.Placed.{Placed, placed, assigned, placed_at}
+use Rattle.ac_search.specs.Together.{brings, is_brought, are_apart, all_apart, listed, is_top}
+
+use Rattle.ac_search.proofs.whole.is_apart_from_later.Given as goal
+
+abbrev pub invariant-loop-t : goal.invariant-loop-t
+invariant-loop-t l =
+    let slots = slots_of (asked_of l.query) in
+    let one = λ (y : Placed). are_apart (placed_at (asked_of l.query) l.s (slice_index l.list l.s)) y in
+    list_all one (placed (drop l.t slots) (drop l.t l.list)) ≡ list_all one (placed (drop (l.s + 1) slots) (drop (l.s + 1) l.list))
