@@ -11,3 +11,5 @@ pub mod EnteredCommand
 pub mod FilledRows
 pub mod FilledWalk
 pub mod Answering
+pub mod DecimalSteps
+pub mod PiecesWritten

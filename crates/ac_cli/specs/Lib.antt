@@ -14,3 +14,5 @@ pub mod Answer
 pub mod Run
 pub mod Words
 pub mod Program
+pub mod Lines
+pub mod DigitsShown

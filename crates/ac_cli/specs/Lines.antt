@@ -1,0 +1,81 @@
+-- The lines of faults.
+use Rattle.std.specs.Prelude.{ℕ, List, [], ◌∷◌, ◌++◌, codes, Option, Some, None}
+use Rattle.std.specs.Fmt.{decimal}
+use Rattle.std.specs.Option.{option_map}
+use Rattle.ac_query.specs.Faults.{Fault, too_long, unknown_parameter, repeated, bad_value, conflict, no_resources, group_without_resources, unknown_suffix, policy_missing, too_many_slots}
+use Rattle.ac_query.specs.declared.token.TokenFault.{TokenFault}
+use Rattle.ac_query.specs.declared.token.TokenFault.TheVariants as token
+use Rattle.ac_tables.specs.declared.fault.Table.{Table}
+use Rattle.ac_tables.specs.declared.fault.Table.TheVariants as table
+use Rattle.ac_tables.specs.declared.fault.TableKind.{TableKind}
+use Rattle.ac_tables.specs.declared.fault.TableKind.TheVariants as kind
+
+abbrev pub newline : List ℕ
+newline = 10 ∷ []
+
+unfoldable pub table_name : Table → List ℕ
+table_name table.Providers = codes "providers"
+table_name table.Inventories = codes "inventories"
+table_name table.Usages = codes "usages"
+table_name table.Traits = codes "traits"
+table_name table.Aggregates = codes "aggregates"
+
+unfoldable pub kind_name : TableKind → List ℕ
+kind_name kind.NoHeader = codes "NoHeader"
+kind_name kind.MissingColumn = codes "MissingColumn"
+kind_name kind.DoubleColumn = codes "DoubleColumn"
+kind_name kind.Width = codes "Width"
+kind_name kind.BadUuid = codes "BadUuid"
+kind_name kind.BadClass = codes "BadClass"
+kind_name kind.BadTrait = codes "BadTrait"
+kind_name kind.BadNumber = codes "BadNumber"
+kind_name kind.BadRatio = codes "BadRatio"
+kind_name kind.ZeroStep = codes "ZeroStep"
+kind_name kind.ReservedOverTotal = codes "ReservedOverTotal"
+kind_name kind.Duplicate = codes "Duplicate"
+kind_name kind.UnknownProvider = codes "UnknownProvider"
+kind_name kind.NoInventory = codes "NoInventory"
+kind_name kind.TooManyProviders = codes "TooManyProviders"
+kind_name kind.UnknownParent = codes "UnknownParent"
+kind_name kind.ParentCycle = codes "ParentCycle"
+kind_name kind.WrongRoot = codes "WrongRoot"
+
+-- why a table's bytes can't be had
+unfoldable pub unreadable_line : Table → List ℕ
+unreadable_line t = table_name t ++ codes ": Unreadable\n"
+
+unfoldable pub too_large_line : Table → List ℕ
+too_large_line t = table_name t ++ codes ": TooLarge\n"
+
+-- what is wrong with a record of a table
+unfoldable pub record_line : Table → ℕ → TableKind → List ℕ
+record_line t row k = table_name t ++ codes ": record " ++ decimal row ++ codes ": " ++ kind_name k ++ newline
+
+-- what is wrong with a pair of a query, with one of its groups, with the whole
+unfoldable pub pair_line : ℕ → List ℕ → List ℕ
+pair_line n name = codes "query: pair " ++ decimal n ++ codes ": " ++ name ++ newline
+
+unfoldable pub group_line : List ℕ → List ℕ → List ℕ
+group_line suffix name = codes "query: group \"" ++ suffix ++ codes "\": " ++ name ++ newline
+
+-- the suffix as it is printed: the unsuffixed group has the empty text
+abbrev pub printed : Option (List ℕ) → List ℕ
+printed None = []
+printed (Some suffix) = suffix
+
+unfoldable pub query_line : Fault → List ℕ
+query_line too_long = codes "query: QueryTooLong\n"
+query_line (unknown_parameter n) = pair_line n (codes "UnknownParameter")
+query_line (repeated n) = pair_line n (codes "Repeated")
+query_line (bad_value n) = pair_line n (codes "BadValue")
+query_line (conflict n) = pair_line n (codes "Conflict")
+query_line no_resources = codes "query: NoResources\n"
+query_line (group_without_resources s) = group_line (printed s) (codes "GroupWithoutResources")
+query_line (unknown_suffix s) = group_line s (codes "UnknownSuffix")
+query_line policy_missing = codes "query: PolicyMissing\n"
+query_line too_many_slots = codes "query: TooManySlots\n"
+
+unfoldable pub token_line : TokenFault → List ℕ
+token_line token.BadToken = codes "token: BadToken\n"
+token_line token.WrongLength = codes "token: WrongLength\n"
+token_line token.NoMemory = codes "out of memory\n"

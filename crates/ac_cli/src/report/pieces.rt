@@ -1,0 +1,21 @@
+ghost use Rattle.std.specs.Prelude.{◌≤◌, OnOk, OnErr};
+ghost use Rattle.std.specs.List.{flat_map};
+ghost use Rattle.std.specs.Io.KnownBytes.{Appends};
+ghost use Rattle.ac_base.specs.Devices.{Rises};
+ghost use Rattle.ac_cli.specs.Writing.{TakesPart};
+
+use super::pushing::{WriteFailed, push_all};
+use ac_base::Sink;
+
+/// Pushes pieces one after the other, until one isn't taken whole. After a fault the sink has taken a first part of them.
+pub fn push_pieces<W: Sink>(out: &mut W, pieces: &[&[u8]]) -> Result<(), WriteFailed>
+    ensures ok { OnOk result (Appends (W.taken out.old) (W.taken out.new) (flat_map (λ piece. piece.now) pieces.now)) }
+    ensures part { OnErr result (TakesPart (W.taken out.old) (W.taken out.new) (flat_map (λ piece. piece.now) pieces.now)) }
+    ensures rises { OnErr result (Rises (W.failures out.old) (W.failures out.new)) }
+    ensures failures { W.failures out.old ≤ W.failures out.new }
+{
+    for piece in pieces {
+        push_all(out, piece)?;
+    }
+    Ok(())
+}
