@@ -8,6 +8,7 @@ mod draft;
 pub mod fault;
 mod given;
 pub mod group;
+pub mod laws;
 mod parameter;
 mod pass;
 pub mod query;
