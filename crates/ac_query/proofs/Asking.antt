@@ -1,28 +1,29 @@
 -- Where no pair has a fault, exactly one record is what the pairs ask for.
-use Rattle.std.proofs.Common.{◌≡◌, ℕ, suc, Bool, true, false, List, [], ◌∷◌, ◌++◌, map, Option, Some, None, refl, sym, ap, ap₂, ◌∙◌, subst}
+use Rattle.std.proofs.Common.{◌≡◌, ◌||◌, append_assoc, ℕ, suc, Bool, true, false, List, [], ◌∷◌, ◌++◌, map, Option, Some, None, refl, sym, ap, ap₂, ◌∙◌, subst}
 use Rattle.std.specs.declared.cmp.Ordering.{Ordering}
 use Rattle.std.specs.declared.cmp.Ordering.TheVariants.{Less, Equal, Greater}
-use Rattle.std.specs.Ordering.{ordering_reverse, eq_by_cmp}
-use Rattle.std.specs.List.{fold, filter_map, flat_map, slice_get, AllByRecursion}
+use Rattle.std.specs.Ordering.{ordering_reverse}
+use Rattle.std.specs.List.{fold, filter_map, slice_get, AllByRecursion}
 use Rattle.std.specs.List.Sorted.{IsStrictlySortedBy}
-use Rattle.std.specs.Map.{lookup, keys_of}
-use Rattle.std.specs.BTreeMap.{is_at}
+use Rattle.std.specs.Map.{keys_of}
 use Rattle.std.specs.BTreeSet.{insert_key}
 use Rattle.std.proofs.lemmas.Cmp.{nat_list_cmp_total, eq_by_cmp_equiv}
-use Rattle.std.proofs.lemmas.List.{map-append}
+use Rattle.std.proofs.lemmas.List.{map-append, append-nil}
 use Rattle.std.proofs.lemmas.Map.Entries.{lookup_from_place}
 use Rattle.std.proofs.lemmas.Map.Keys.{IsDistinct-from_sorted}
 use Rattle.ac_base.specs.Texts.{text_cmp}
-use Rattle.ac_query.specs.Texts.{in_order_with, in_byte_order}
-use Rattle.ac_query.specs.Values.{AggregateRule, Part, Given}
+use Rattle.ac_query.specs.Texts.{has_text, in_order_with}
+use Rattle.ac_query.specs.Values.{Part, Given}
 use Rattle.ac_query.specs.Pairs.{given}
 use Rattle.ac_query.specs.Asked.{Group, Asked}
-use Rattle.ac_query.specs.Asks.{IsTold, needs_in, tree_in, AsksOfGroup, parts_of, unsuffixed, suffix_in, groups_given, policy_in, limit_in, Asks}
-use Rattle.ac_query.specs.Gathered.{Gathered, empty_group, nothing, with_part, with_given, plain_groups, of_suffix, as_asked, gathered, asked_by}
+use Rattle.ac_query.specs.Asks.{IsTold, needs_in, tree_in, AsksOfGroup, parts_of, unsuffixed, suffix_in, policy_in, limit_in, Asks}
+use Rattle.ac_query.specs.Gathered.{empty_group, nothing, with_part, plain_groups, of_suffix, as_asked, gathered, asked_by}
 use Rattle.ac_query.specs.Faults.{first_fault, pairs_conditions}
-use Rattle.ac_query.specs.Laws.{AsksOnce}
+use Rattle.ac_query.specs.Laws.{AsksOnce, OrderHolds}
+use Rattle.std.specs.Str.{bytes_eq}
+use Rattle.ac_query.proofs.Earlier.{has_text-insert}
 use Rattle.ac_query.proofs.Once.{policy_once, limit_once, needs_once, tree_once}
-use Rattle.ac_query.proofs.Gathering.{latest, told_from_short, group_asks, policy_latest, limit_latest, subtrees_all, root_required_all, root_forbidden_all, grown_all, grown_there, plain_grown, suffixes_all, found_grown}
+use Rattle.ac_query.proofs.Gathering.{told_from_short, group_asks, policy_latest, limit_latest, subtrees_all, root_required_all, root_forbidden_all, grown_all, grown_there, plain_grown, suffixes_all, found_grown}
 
 -- ---- texts in byte order
 all_weaker : {X : Type 0} (P Q : X → Type 0) → ((x : X) → P x → Q x) → (xs : List X) → AllByRecursion P xs → AllByRecursion Q xs
@@ -57,6 +58,27 @@ order_sorted ks (x ∷ more) s = order_sorted (insert_key text_cmp ks x) more (i
 empty_sorted : IsStrictlySortedBy text_cmp []
 unfolding IsStrictlySortedBy
 empty_sorted = tt
+
+-- whether a text is among some, or among others
+has_text-append : (xs ys : List (List ℕ)) (t : List ℕ) → has_text (xs ++ ys) t ≡ has_text xs t || has_text ys t
+has_text-append [] ys t = refl
+has_text-append (x ∷ xs) ys t = ap (λ b. bytes_eq t x || b) (has_text-append xs ys t) ∙ assoc (bytes_eq t x) (has_text xs t) (has_text ys t)
+  where
+    assoc : (a b c : Bool) → a || (b || c) ≡ (a || b) || c
+    assoc true b c = refl
+    assoc false b c = refl
+
+order_has : (ks more : List (List ℕ)) (t : List ℕ) → has_text (in_order_with ks more) t ≡ has_text (ks ++ more) t
+order_has ks [] t = ap (λ l. has_text l t) (sym (append-nil ks))
+order_has ks (x ∷ more) t =
+    order_has (insert_key text_cmp ks x) more t
+    ∙ has_text-append (insert_key text_cmp ks x) more t
+    ∙ ap (λ b. b || has_text more t) (has_text-insert ks x t)
+    ∙ sym (has_text-append (ks ++ x ∷ []) more t)
+    ∙ ap (λ l. has_text l t) (append_assoc ks (x ∷ []) more)
+
+pub order_holds : OrderHolds
+order_holds texts = (order_sorted [] texts empty_sorted, order_has [] texts)
 
 -- ---- all of a list
 all_from_places : {X : Type 0} (P : X → Type 0) (xs : List X) → ((i : ℕ) (x : X) → slice_get xs i ≡ Some x → P x) → AllByRecursion P xs
@@ -105,16 +127,16 @@ module _ (pairs : List (List ℕ × List ℕ)) (fine : first_fault (pairs_condit
       all_map of_suffix (λ e. AsksOfGroup (parts_of e.0 all) e.1) (gathered pairs).suffixed
       (all_from_places _ (gathered pairs).suffixed
       (λ i e is. group_fits (Some e.0) e.1
-        (sym (lookup_from_place (eq_by_cmp_equiv nat_list_cmp_total) (gathered pairs).suffixed i e.0 e.1 (IsDistinct-from_sorted text_cmp _ sorted) is)
-        ∙ found_grown e.0 nothing all)))
+      (sym (lookup_from_place (eq_by_cmp_equiv nat_list_cmp_total) (gathered pairs).suffixed i e.0 e.1 (IsDistinct-from_sorted text_cmp _ sorted) is)
+      ∙ found_grown e.0 nothing all)))
 
   pub asks : Asks pairs (as_asked (gathered pairs))
   asks = record {
     groups =
         map-append (λ e. e.0) (plain_groups (gathered pairs).plain) (map of_suffix (gathered pairs).suffixed)
         ∙ ap₂ (λ a b. a ++ b)
-          (ap (λ o. map (λ e. e.0) (plain_groups o)) (plain_grown nothing all) ∙ plain_named (parts_of None all))
-          (suffixes_named (gathered pairs).suffixed ∙ ap (map (λ s. Some s)) (suffixes_all nothing all));
+        (ap (λ o. map (λ e. e.0) (plain_groups o)) (plain_grown nothing all) ∙ plain_named (parts_of None all))
+        (suffixes_named (gathered pairs).suffixed ∙ ap (map (λ s. Some s)) (suffixes_all nothing all));
     parts = all_append _ (plain_groups (gathered pairs).plain) _ (plain_fits (gathered pairs).plain (plain_grown nothing all)) suffixed_fits;
     policy = subst (λ v. IsTold None v (filter_map policy_in all)) (sym (policy_latest nothing all)) (told_from_short None (filter_map policy_in all) (policy_once pairs fine));
     subtrees = subtrees_all nothing all;

@@ -1,8 +1,8 @@
 -- What is gathered pair by pair is what the pairs give together.
-use Rattle.std.proofs.Common.{◌≡◌, ℕ, Bool, true, false, List, [], ◌∷◌, ◌++◌, map, Option, Some, None, unwrap_or, refl, sym, ap, ap₂, ◌∙◌, subst, append_assoc, if◌then◌else◌}
+use Rattle.std.proofs.Common.{◌≡◌, ℕ, Bool, true, false, List, [], ◌∷◌, ◌++◌, Option, Some, None, refl, sym, ap, ◌∙◌, subst, append_assoc, if◌then◌else◌}
 use Rattle.std.specs.declared.cmp.Ordering.{Ordering}
 use Rattle.std.specs.declared.cmp.Ordering.TheVariants.{Less, Equal, Greater}
-use Rattle.std.specs.Ordering.{is_eq, match_ordering}
+use Rattle.std.specs.Ordering.{match_ordering}
 use Rattle.std.specs.List.{fold, filter_map, flat_map, cons_option}
 use Rattle.std.specs.Map.{lookup, keys_of}
 use Rattle.std.specs.BTreeMap.{insert_entry, is_at}
@@ -15,10 +15,10 @@ use Rattle.std.proofs.lemmas.List.{append-nil}
 use Rattle.std.proofs.lemmas.List.Sums.{fold-append}
 use Rattle.ac_base.specs.Texts.{text_cmp}
 use Rattle.ac_query.specs.Texts.{in_order_with}
-use Rattle.ac_query.specs.Values.{Traits, AggregateRule, Part, needs, traits, aggregates, tree, Given, in_group, root_traits, policy, subtree, at_most}
+use Rattle.ac_query.specs.Values.{Part, needs, traits, aggregates, tree, Given, in_group, root_traits, policy, subtree, at_most}
 use Rattle.ac_query.specs.Asked.{Group}
-use Rattle.ac_query.specs.Asks.{IsTold, needs_in, required_in, forbidden_in, rule_in, tree_in, AsksOfGroup, part_of, parts_of, suffix_in, root_required_in, root_forbidden_in, policy_in, subtree_in, limit_in}
-use Rattle.ac_query.specs.Gathered.{Gathered, empty_group, nothing, joined_traits, with_part, grown, with_suffixed, with_given}
+use Rattle.ac_query.specs.Asks.{IsTold, needs_in, required_in, forbidden_in, rule_in, tree_in, AsksOfGroup, parts_of, suffix_in, root_required_in, root_forbidden_in, policy_in, subtree_in, limit_in}
+use Rattle.ac_query.specs.Gathered.{Gathered, empty_group, with_part, grown, with_suffixed, with_given}
 use Rattle.ac_query.proofs.Once.{IsShort, none, one}
 
 -- the last of these, or what was before
@@ -171,13 +171,16 @@ lookup-insert_entry {X = X} (e ∷ es) k v s = by_order (text_cmp k e.0) refl (l
   where
     here : is_at (text_cmp s) k ≡ bytes_eq s k
     here = sym (texts_ties s k)
+
     twice : (b : Bool) (o : Option X) → (if b then Some v else o) ≡ (if b then Some v else (if b then Some e.1 else o))
     twice true o = refl
     twice false o = refl
+
     swap : (a b : Bool) (o : Option X) → (a ≡ true → b ≡ false) → (if a then Some e.1 else (if b then Some v else o)) ≡ (if b then Some v else (if a then Some e.1 else o))
     swap true true o apart = let h : true ≡ false = apart refl in absurd (cc)
     swap true false o apart = refl
     swap false b o apart = refl
+
     apart : text_cmp k e.0 ≡ Greater → (b : Bool) → bytes_eq s k ≡ b → is_at (text_cmp s) e.0 ≡ true → b ≡ false
     apart is true same at =
         let first : s ≡ k = same_text s k (sym same) in
@@ -186,9 +189,10 @@ lookup-insert_entry {X = X} (e ∷ es) k v s = by_order (text_cmp k e.0) refl (l
         let clash : Greater ≡ Equal = sym is ∙ tie in
         absurd (cc)
     apart is false same at = refl
+
     by_order : (o : Ordering) → text_cmp k e.0 ≡ o → lookup (is_at (text_cmp s)) (insert_entry text_cmp es k v) ≡ (if bytes_eq s k then Some v else lookup (is_at (text_cmp s)) es)
         → lookup (is_at (text_cmp s)) (match_ordering (text_cmp k e.0) ((k, v) ∷ e ∷ es) ((e.0, v) ∷ es) (e ∷ insert_entry text_cmp es k v))
-            ≡ (if bytes_eq s k then Some v else lookup (is_at (text_cmp s)) (e ∷ es))
+        ≡ (if bytes_eq s k then Some v else lookup (is_at (text_cmp s)) (e ∷ es))
     by_order Less is later = rw is (ap (λ b. if b then Some v else lookup (is_at (text_cmp s)) (e ∷ es)) here)
     by_order Equal is later =
         let same : k ≡ e.0 = exact_bytes k e.0 is in
@@ -203,7 +207,7 @@ one_more s t es p ps = ap (λ o. grown_all o ps) (lookup-insert_entry es t _ s) 
   where
     by_test : (b : Bool) → bytes_eq s t ≡ b
         → grown_all (if b then Some (grown (lookup (is_at (text_cmp t)) es) p) else lookup (is_at (text_cmp s)) es) ps
-            ≡ grown_all (lookup (is_at (text_cmp s)) es) (cons_option (if b then Some p else None) ps)
+        ≡ grown_all (lookup (is_at (text_cmp s)) es) (cons_option (if b then Some p else None) ps)
     by_test true is = ap (λ x. grown_all (Some (grown (lookup (is_at (text_cmp x)) es) p)) ps) (sym (same_text s t (sym is)))
     by_test false is = refl
 

@@ -17,3 +17,4 @@ pub mod ParameterNames
 pub mod Once
 pub mod Gathering
 pub mod Asking
+pub mod WrittenIds

@@ -12,7 +12,7 @@ use Rattle.ac_query.specs.Parameters.{Parameter, of_group, root_required, group_
 use Rattle.ac_query.specs.Values.{Part, needs, traits, aggregates, tree, Given, in_group, root_traits, policy, subtree, at_most, given_of, needs_value, traits_value, rule_value, policy_value, subtree_value, amount_value}
 use Rattle.ac_query.specs.Asks.{same_suffix, part_of, parts_of, needs_in, tree_in, policy_in, limit_in}
 use Rattle.ac_query.specs.Pairs.{read_pair, given}
-use Rattle.ac_query.specs.Faults.{Fault, first_fault, is_repeat, has_conflict, conditions_of, pair_conditions, pairs_conditions}
+use Rattle.ac_query.specs.Faults.{Fault, first_fault, is_repeat, conditions_of, pair_conditions, pairs_conditions}
 use Rattle.ac_query.proofs.Earlier.{has_text-push}
 use Rattle.ac_query.proofs.ParameterNames.{name_of, name_is}
 
@@ -91,8 +91,8 @@ module _ {V : Type 0} (pick : Given → Option V) (q : Parameter) (once : may_re
       let f = fine_pair n earlier p (first_part (pair_conditions n earlier p) _ fine) in
       opened earlier p ps f
       ∙ by_pick f (pick f.value) refl
-        (none_more (n + 1) (earlier ++ p.0 ∷ []) ps (has_text-push earlier p.0 (name_of q) ∙ ap (λ b. b || (bytes_eq (name_of q) p.0 || false)) there)
-        (second_part (pair_conditions n earlier p) _ fine))
+      (none_more (n + 1) (earlier ++ p.0 ∷ []) ps (has_text-push earlier p.0 (name_of q) ∙ ap (λ b. b || (bytes_eq (name_of q) p.0 || false)) there)
+      (second_part (pair_conditions n earlier p) _ fine))
     where
       by_pick : (f : IsFine earlier p) (o : Option V) → pick f.value ≡ o → filter_map pick (given ps) ≡ [] → cons_option o (filter_map pick (given ps)) ≡ []
       by_pick f None is later = later
@@ -109,11 +109,13 @@ module _ {V : Type 0} (pick : Given → Option V) (q : Parameter) (once : may_re
       or_true : (b : Bool) → b || (true || false) ≡ true
       or_true true = refl
       or_true false = refl
+
       there : p.0 ≡ name_of q → has_text (earlier ++ p.0 ∷ []) (name_of q) ≡ true
       there is =
           has_text-push earlier p.0 (name_of q)
           ∙ ap (λ b. has_text earlier (name_of q) || (b || false)) (ap (bytes_eq (name_of q)) is ∙ nat_list_eq_equiv.refl (name_of q))
           ∙ or_true (has_text earlier (name_of q))
+
       by_pick : (f : IsFine earlier p) (o : Option V) → pick f.value ≡ o → first_fault (pairs_conditions (n + 1) (earlier ++ p.0 ∷ []) ps) ≡ None
           → IsShort (filter_map pick (given ps)) → IsShort (cons_option o (filter_map pick (given ps)))
       by_pick f None is fine later = later

@@ -1,12 +1,10 @@
 -- A parameter has one name.
-use Rattle.std.proofs.Common.{◌≡◌, ◌⊎◌, inl, inr, ℕ, ◌==◌, Bool, true, false, nat_eq, List, [], ◌∷◌, ◌++◌, length, drop, codes, Option, Some, None, refl, sym, ap, ap₂, ◌∙◌, take, take-append-drop, arith, if◌then◌else◌}
+use Rattle.std.proofs.Common.{◌≡◌, ℕ, ◌==◌, Bool, true, false, nat_eq, List, [], ◌∷◌, ◌++◌, length, drop, codes, Option, Some, None, refl, sym, ap, ap₂, ◌∙◌, take, take-append-drop, arith, if◌then◌else◌}
 use Rattle.std.specs.Option.{option_map, option_and_then}
 use Rattle.std.specs.List.{starts_with}
 use Rattle.std.specs.Str.{bytes_eq}
 use Rattle.std.specs.Cmp.Lexicographic.{same_text}
 use Rattle.std.proofs.lemmas.Bool.{eqb-true}
-use Rattle.std.proofs.lemmas.Bool.Decides.{nat_tests}
-use Rattle.std.proofs.lemmas.List.{append-nil}
 use Rattle.ac_base.specs.Texts.{is_suffix, suffix_value}
 use Rattle.ac_query.specs.declared.parameter.Field.{Field}
 use Rattle.ac_query.specs.declared.parameter.Field.TheVariants as field
@@ -65,6 +63,7 @@ group_is end g h = by_length (length end == 0) refl h
     by_value : (o : Option (List ℕ)) → suffix_value end ≡ o → option_map (λ s. Some s) o ≡ Some g → end ≡ end_of g
     by_value None is k = absurd (cc)
     by_value (Some s) is k = let e : Some s ≡ g = cc in suffix_is end s is ∙ ap end_of e
+
     by_length : (b : Bool) → (length end == 0) ≡ b → (if b then Some None else option_map (λ s. Some s) (suffix_value end)) ≡ Some g → end ≡ end_of g
     by_length true is k = let e : None ≡ g = cc in nothing_is end (eqb-true (length end) 0 is) ∙ ap end_of e
     by_length false is k = by_value (suffix_value end) refl k
@@ -78,6 +77,7 @@ field_is word f name q is h = by_end (behind word name) refl h
     by_group end (Some g) parts at k =
         let e : of_group f g ≡ q = cc in
         parts ∙ ap₂ (λ a b. a ++ b) is (group_is end g at) ∙ ap name_of e
+
     by_end : (o : Option (List ℕ)) → behind word name ≡ o → option_map (of_group f) (option_and_then group_of o) ≡ Some q → name ≡ name_of q
     by_end None at k = absurd (cc)
     by_end (Some end) at k = by_group end (group_of end) (behind_is word name end at) refl k

@@ -1,5 +1,5 @@
 -- The faults of a text and of all that it asks, joined.
-use Rattle.std.proofs.Common.{◌≡◌, ℕ, List, ◌++◌, Option, Some, None, IfSome, [], Bool, true, false, nat_lt, length, refl, sym, ap, subst, ◌∙◌, if◌then◌else◌}
+use Rattle.std.proofs.Common.{◌≡◌, ℕ, List, Option, Some, None, IfSome, [], Bool, true, false, nat_lt, length, refl, sym, ap, subst, ◌∙◌, if◌then◌else◌}
 use Rattle.ac_query.specs.Pairs.{pairs_of}
 use Rattle.ac_query.specs.Asked.{Asked}
 use Rattle.ac_query.specs.Gathered.{Gathered, as_asked, gathered, asked_by}

@@ -16,9 +16,11 @@ pub mod slot;
 pub mod token;
 mod traits;
 mod values;
+pub mod write;
 
 pub use fault::QueryFault;
 pub use group::{AggregateRule, Group, Need};
 pub use query::Query;
 pub use slot::Slot;
 pub use token::{Token, TokenFault};
+pub use write::write_ids;
