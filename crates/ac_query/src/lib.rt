@@ -13,6 +13,8 @@ mod parameter;
 mod pass;
 pub mod query;
 pub mod slot;
+#[cfg(test)]
+mod tests;
 pub mod token;
 mod traits;
 mod values;
