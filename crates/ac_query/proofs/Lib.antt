@@ -13,3 +13,8 @@ pub mod Passing
 pub mod Checks
 pub mod Slots
 pub mod Wholes
+pub mod ParameterNames
+pub mod Once
+pub mod Gathering
+pub mod Asking
+pub mod WrittenIds

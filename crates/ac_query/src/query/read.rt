@@ -2,6 +2,7 @@ ghost use Rattle.std.specs.Prelude.{◌≡◌, ◌+◌, ◌++◌, IfOk, OnOk, If
 ghost use Rattle.std.specs.Option.{option_map};
 ghost use Rattle.ac_base.specs.Names.{trait_bytes, suffix_bytes};
 ghost use Rattle.ac_query.specs.Asked.{slots_from};
+ghost use Rattle.ac_query.specs.Asks.{Asks};
 ghost use Rattle.ac_query.specs.Gathered.{asked_by};
 ghost use Rattle.ac_query.specs.Pairs.{pairs_of};
 ghost use Rattle.ac_query.specs.Faults.{query_fault};
@@ -173,6 +174,7 @@ impl Query {
     /// want of memory is told where a growth was refused.
     pub fn read(alloc: Global, text: &str) -> Result<Query, QueryFault>
         ensures fine { OnOk result (query_fault text.now ≡ None) }
+        ensures asks { IfOk result (λ query. Asks (pairs_of text.now) (asked_of query)) }
         ensures record { IfOk result (λ query. asked_of query ≡ asked_by (pairs_of text.now)) }
         ensures err { IfErr result (λ e. IfSome (fault_shown e) (λ f. query_fault text.now ≡ Some f)) }
     {
