@@ -1,15 +1,3 @@
-pub mod Whole
-pub mod RowsLeft
-pub mod Fields
-pub mod Gathering
-pub mod RecordsFit
-pub mod Distinct
-pub mod Candidates
 pub mod Leaving
-pub mod LinesWritten
-pub mod EnteredCommand
-pub mod FilledRows
-pub mod FilledWalk
-pub mod Answering
 pub mod DecimalSteps
 pub mod PiecesWritten

@@ -1,7 +1,7 @@
 -- The lines of faults.
-use Rattle.std.specs.Prelude.{ℕ, List, [], ◌∷◌, ◌++◌, codes, Option, Some, None}
+use Rattle.std.specs.Prelude.{ℕ, List, [], ◌∷◌, codes, Option, Some, None}
 use Rattle.std.specs.Fmt.{decimal}
-use Rattle.std.specs.Option.{option_map}
+use Rattle.std.specs.List.{flat_map}
 use Rattle.ac_query.specs.Faults.{Fault, too_long, unknown_parameter, repeated, bad_value, conflict, no_resources, group_without_resources, unknown_suffix, policy_missing, too_many_slots}
 use Rattle.ac_query.specs.declared.token.TokenFault.{TokenFault}
 use Rattle.ac_query.specs.declared.token.TokenFault.TheVariants as token
@@ -12,6 +12,10 @@ use Rattle.ac_tables.specs.declared.fault.TableKind.TheVariants as kind
 
 abbrev pub newline : List ℕ
 newline = 10 ∷ []
+
+-- pieces of a text, joined
+abbrev pub said : List (List ℕ) → List ℕ
+said pieces = flat_map (λ piece. piece) pieces
 
 unfoldable pub table_name : Table → List ℕ
 table_name table.Providers = codes "providers"
@@ -42,21 +46,21 @@ kind_name kind.WrongRoot = codes "WrongRoot"
 
 -- why a table's bytes can't be had
 unfoldable pub unreadable_line : Table → List ℕ
-unreadable_line t = table_name t ++ codes ": Unreadable\n"
+unreadable_line t = said (table_name t ∷ codes ": Unreadable\n" ∷ [])
 
 unfoldable pub too_large_line : Table → List ℕ
-too_large_line t = table_name t ++ codes ": TooLarge\n"
+too_large_line t = said (table_name t ∷ codes ": TooLarge\n" ∷ [])
 
 -- what is wrong with a record of a table
 unfoldable pub record_line : Table → ℕ → TableKind → List ℕ
-record_line t row k = table_name t ++ codes ": record " ++ decimal row ++ codes ": " ++ kind_name k ++ newline
+record_line t row k = said (table_name t ∷ codes ": record " ∷ decimal row ∷ codes ": " ∷ kind_name k ∷ newline ∷ [])
 
 -- what is wrong with a pair of a query, with one of its groups, with the whole
 unfoldable pub pair_line : ℕ → List ℕ → List ℕ
-pair_line n name = codes "query: pair " ++ decimal n ++ codes ": " ++ name ++ newline
+pair_line n name = said (codes "query: pair " ∷ decimal n ∷ codes ": " ∷ name ∷ newline ∷ [])
 
 unfoldable pub group_line : List ℕ → List ℕ → List ℕ
-group_line suffix name = codes "query: group \"" ++ suffix ++ codes "\": " ++ name ++ newline
+group_line suffix name = said (codes "query: group \"" ∷ suffix ∷ codes "\": " ∷ name ∷ newline ∷ [])
 
 -- the suffix as it is printed: the unsuffixed group has the empty text
 abbrev pub printed : Option (List ℕ) → List ℕ
@@ -75,7 +79,13 @@ query_line (unknown_suffix s) = group_line s (codes "UnknownSuffix")
 query_line policy_missing = codes "query: PolicyMissing\n"
 query_line too_many_slots = codes "query: TooManySlots\n"
 
+unfoldable pub memory_line : List ℕ
+memory_line = codes "out of memory\n"
+
+unfoldable pub output_line : List ℕ
+output_line = codes "output: WriteFailed\n"
+
 unfoldable pub token_line : TokenFault → List ℕ
 token_line token.BadToken = codes "token: BadToken\n"
 token_line token.WrongLength = codes "token: WrongLength\n"
-token_line token.NoMemory = codes "out of memory\n"
+token_line token.NoMemory = memory_line

@@ -1,8 +1,7 @@
--- What a writer of lists puts into a sink.
-use Rattle.std.specs.Prelude.{◌≡◌, ℕ, ◌<◌, List, [], ◌∷◌, ◌++◌, map, Option, Some, None, ⊤}
-use Rattle.std.specs.List.{flat_map, AllByRecursion}
-use Rattle.ac_base.specs.Texts.{id_text}
-use Rattle.ac_cli.specs.World.{World, id_at}
+-- What a sink takes of a text.
+use Rattle.std.specs.Prelude.{◌≡◌, ℕ, ◌<◌, List, [], ◌∷◌, ◌++◌, map, Option, Some, None, Result, Ok, Err, ⊤}
+use Rattle.std.specs.Io.KnownBytes.{Appends}
+use Rattle.ac_base.specs.Devices.{Rises}
 
 -- a first part of the bytes was taken
 abbrev pub TakesPart : Option (List ℕ) → Option (List ℕ) → List ℕ → Type 0
@@ -10,27 +9,12 @@ TakesPart None new bytes = ⊤
 TakesPart (Some xs) None bytes = ⊥
 TakesPart (Some xs) (Some ys) bytes = (part rest : List ℕ) × (bytes ≡ part ++ rest) × (ys ≡ xs ++ part)
 
--- texts behind commas
-abbrev pub behind_commas : List (List ℕ) → List ℕ
-behind_commas texts = flat_map (λ text. 44 ∷ text) texts
+-- a text was pushed whole, or a first part of it, and then the sink's count of failures rose
+abbrev pub Pushes : {X Y : Type 0} → Result X Y → Option (List ℕ) → Option (List ℕ) → ℕ → ℕ → List ℕ → Type 0
+Pushes (Ok x) old new before after text = Appends old new text
+Pushes (Err e) old new before after text = TakesPart old new text × Rises before after
 
--- texts joined by commas
-abbrev pub joined : List (List ℕ) → List ℕ
-joined [] = []
-joined (text ∷ texts) = text ++ behind_commas texts
-
--- the written form of the provider at a place
-abbrev pub provider_text : World → ℕ → List ℕ
-provider_text world place = id_text (id_at world place)
-
--- the providers of a list, joined by commas, and a newline
-abbrev pub line : World → List ℕ → List ℕ
-line world list = joined (map (provider_text world) list) ++ 10 ∷ []
-
--- a line for each list
-abbrev pub lines : World → List (List ℕ) → List ℕ
-lines world lists = flat_map (line world) lists
-
--- each item of each list is the place of a provider
-abbrev pub AreWithin : ℕ → List (List ℕ) → Type 0
-AreWithin size lists = AllByRecursion (λ list. AllByRecursion (λ place. place < size) list) lists
+-- a sink took a first part of a text, the whole text where its count of failures didn't rise
+pub record TakesLine (old new : Option (List ℕ)) (before after : ℕ) (text : List ℕ) : Type 0 where
+  pub part : TakesPart old new text
+  pub whole : (Rises before after → ⊥) → Appends old new text

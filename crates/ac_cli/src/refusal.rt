@@ -1,53 +1,69 @@
 ghost use Rattle.std.specs.Prelude.{◌≡◌};
-ghost use Rattle.ac_cli.specs.Answer.{line_of, status_of};
+ghost use Rattle.ac_cli.specs.Lines.{table_name, kind_name};
 
-use crate::table::Table;
+use ac_query::{QueryFault, TokenFault};
+use ac_tables::{Table, TableKind};
 
 /// Why there is no answer.
-#[derive(Clone, Copy, Debug, PartialEq, Eq)]
+#[derive(Debug, Drop)]
 pub enum Refusal {
     /// The bytes of a table can't be had.
     Unreadable(Table),
     /// A table has more bytes than it may.
     TooLarge(Table),
-    /// A table isn't accepted.
-    Refused(Table),
-    /// The query isn't accepted.
-    Query,
+    /// What is wrong with a record of a table.
+    Record {
+        table: Table,
+        row: u32,
+        kind: TableKind,
+    },
+    /// What is wrong with the query.
+    Query(QueryFault),
+    /// What is wrong with the token.
+    Token(TokenFault),
     /// The output can't be written.
     Output,
     /// A growth was refused.
     NoMemory,
 }
 
-impl Refusal {
-    /// The line on the error sink.
-    #[tactic(auto, unfolding(crate::specs::Answer::line_of))]
-    pub fn line(self) -> &'static [u8]
-        ensures { result.now ≡ line_of self }
-    {
-        match self {
-            Refusal::Unreadable(Table::Providers) => b"providers: Unreadable\n",
-            Refusal::Unreadable(Table::Inventories) => b"inventories: Unreadable\n",
-            Refusal::TooLarge(Table::Providers) => b"providers: TooLarge\n",
-            Refusal::TooLarge(Table::Inventories) => b"inventories: TooLarge\n",
-            Refusal::Refused(Table::Providers) => b"providers: refused\n",
-            Refusal::Refused(Table::Inventories) => b"inventories: refused\n",
-            Refusal::Query => b"query: refused\n",
-            Refusal::Output => b"output: WriteFailed\n",
-            Refusal::NoMemory => b"out of memory\n",
-        }
+/// The name of a table.
+#[tactic(auto, unfolding(crate::specs::Lines::table_name))]
+pub fn table_name(table: Table) -> &'static [u8]
+    ensures { result.now ≡ table_name table }
+{
+    match table {
+        Table::Providers => b"providers",
+        Table::Inventories => b"inventories",
+        Table::Usages => b"usages",
+        Table::Traits => b"traits",
+        Table::Aggregates => b"aggregates",
     }
+}
 
-    /// The status that the program ends with.
-    pub fn status(self) -> u8
-        ensures { result ≡ status_of self }
-    {
-        match self {
-            Refusal::Unreadable(_) | Refusal::TooLarge(_) | Refusal::Refused(_) => 3,
-            Refusal::Query => 4,
-            Refusal::Output => 6,
-            Refusal::NoMemory => 7,
-        }
+/// The name of a fault of a table.
+#[tactic(auto, unfolding(crate::specs::Lines::kind_name))]
+pub fn kind_name(kind: TableKind) -> &'static [u8]
+    ensures { result.now ≡ kind_name kind }
+{
+    match kind {
+        TableKind::NoHeader => b"NoHeader",
+        TableKind::MissingColumn => b"MissingColumn",
+        TableKind::DoubleColumn => b"DoubleColumn",
+        TableKind::Width => b"Width",
+        TableKind::BadUuid => b"BadUuid",
+        TableKind::BadClass => b"BadClass",
+        TableKind::BadTrait => b"BadTrait",
+        TableKind::BadNumber => b"BadNumber",
+        TableKind::BadRatio => b"BadRatio",
+        TableKind::ZeroStep => b"ZeroStep",
+        TableKind::ReservedOverTotal => b"ReservedOverTotal",
+        TableKind::Duplicate => b"Duplicate",
+        TableKind::UnknownProvider => b"UnknownProvider",
+        TableKind::NoInventory => b"NoInventory",
+        TableKind::TooManyProviders => b"TooManyProviders",
+        TableKind::UnknownParent => b"UnknownParent",
+        TableKind::ParentCycle => b"ParentCycle",
+        TableKind::WrongRoot => b"WrongRoot",
     }
 }

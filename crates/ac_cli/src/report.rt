@@ -1,4 +1,3 @@
-//! What the program writes.
-pub mod lines;
+//! Texts pushed whole into a sink.
 pub mod pieces;
 pub mod pushing;

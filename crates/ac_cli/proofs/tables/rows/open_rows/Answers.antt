@@ -1,9 +1,0 @@
-use Rattle.std.proofs.Common.{◌≡◌, ◌∙◌, ap, Some, rules}
-use Rattle.csv.specs.Reading.{strip_bom}
-use Rattle.csv.specs.declared.parser.State.TheVariants as st
-use Rattle.ac_cli.specs.Records.{records_of, rows_from, rows_left, IsReading}
-use Rattle.ac_cli.proofs.RowsLeft.{rows_start}
-use Rattle.ac_cli.proofs.tables.rows.open_rows.Goals as goal
-
-pub returns-clause-left : goal.returns-clause-left
-returns-clause-left c = rw (c.from_reader.ensures.state, c.from_reader.ensures.source) (rows_start c.args.text.now)
