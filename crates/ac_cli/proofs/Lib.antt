@@ -1,3 +1,4 @@
 pub mod Leaving
 pub mod DecimalSteps
 pub mod PiecesWritten
+pub mod Drained

@@ -2,6 +2,8 @@
 #![tactic(auto)]
 
 mod digits;
+mod draining;
+mod inputs;
 mod refusal;
 mod report;
 mod telling;
