@@ -23,3 +23,4 @@ pub mod UsedFacts
 pub mod KnownFacts
 pub mod KeySets
 pub mod JoinFacts
+pub mod PlaceTrees

@@ -9,6 +9,7 @@ mod columns;
 mod entry;
 pub mod fault;
 mod fields;
+mod forest;
 mod holding;
 mod ids;
 mod inventories;
