@@ -22,3 +22,5 @@ pub mod Gathering
 pub mod UsedFacts
 pub mod KnownFacts
 pub mod KeySets
+pub mod JoinFacts
+pub mod PlaceTrees

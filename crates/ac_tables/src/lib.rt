@@ -6,12 +6,15 @@
 mod aggregates;
 mod climbing;
 mod columns;
+mod entry;
 pub mod fault;
 mod fields;
+mod forest;
 mod holding;
 mod ids;
 mod inventories;
 mod listed;
+mod lists;
 mod mark;
 mod membership;
 mod numbered;
