@@ -18,3 +18,4 @@ pub mod Once
 pub mod Gathering
 pub mod Asking
 pub mod WrittenIds
+pub mod SlotCounts

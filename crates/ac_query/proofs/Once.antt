@@ -22,12 +22,12 @@ pub data IsShort {A : Type 0} : List A → Type 0 where
   one : (x : A) → IsShort (x ∷ [])
 
 -- no fault of two lists of conditions is none of each
-first_part : (a b : List (Bool × Fault)) → first_fault (a ++ b) ≡ None → first_fault a ≡ None
+pub first_part : (a b : List (Bool × Fault)) → first_fault (a ++ b) ≡ None → first_fault a ≡ None
 first_part [] b h = refl
 first_part ((true, f) ∷ a) b h = absurd (cc)
 first_part ((false, f) ∷ a) b h = first_part a b h
 
-second_part : (a b : List (Bool × Fault)) → first_fault (a ++ b) ≡ None → first_fault b ≡ None
+pub second_part : (a b : List (Bool × Fault)) → first_fault (a ++ b) ≡ None → first_fault b ≡ None
 second_part [] b h = h
 second_part ((true, f) ∷ a) b h = absurd (cc)
 second_part ((false, f) ∷ a) b h = second_part a b h

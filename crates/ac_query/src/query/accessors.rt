@@ -1,4 +1,4 @@
-ghost use Rattle.std.specs.Prelude.{◌≡◌, ◌<◌, map, length, Some, IsSome};
+ghost use Rattle.std.specs.Prelude.{◌≡◌, ◌<◌, ◌≤◌, map, length, Some, IsSome};
 ghost use Rattle.std.specs.List.{slice_get};
 ghost use Rattle.std.specs.Option.{option_map};
 ghost use Rattle.ac_base.specs.Names.{trait_bytes};
@@ -21,9 +21,11 @@ impl Query {
         self.groups.as_slice()
     }
 
-    /// The slots: one for each class of the unsuffixed group, then one for each suffix.
+    /// The slots, 1 to 64: one for each class of the unsuffixed group, then one for each suffix.
     pub fn slots(&self) -> &[Slot]
-        ensures { map slot_group result.now ≡ map (λ s. s.place) (slots_of (asked_of self.now)) }
+        ensures some { 0 < length result.now }
+        ensures few { length result.now ≤ 64 }
+        ensures groups { map slot_group result.now ≡ map (λ s. s.place) (slots_of (asked_of self.now)) }
     {
         self.slots.as_slice()
     }

@@ -5,7 +5,7 @@ ghost use Rattle.ac_query.specs.Asked.{slots_from};
 ghost use Rattle.ac_query.specs.Asks.{Asks};
 ghost use Rattle.ac_query.specs.Gathered.{asked_by};
 ghost use Rattle.ac_query.specs.Pairs.{pairs_of};
-ghost use Rattle.ac_query.specs.Faults.{query_fault};
+ghost use Rattle.ac_query.specs.Faults.{first_fault, asked_conditions, query_fault};
 ghost use Rattle.ac_query.specs.FaultsShown.{fault_shown};
 ghost use Rattle.ac_query.specs.Shown.{needs_shown, names_shown};
 ghost use Rattle.ac_query.specs.DraftShown.{group_drafted, plain_shown, suffixed_shown, draft_asked};
@@ -136,8 +136,9 @@ fn slots_in_order(alloc: Global, groups: &[Group]) -> Result<Vec<Slot>, NoMemory
     Ok(slots)
 }
 
-/// The query of a draft.
+/// The query of a draft without a fault.
 fn query_of(alloc: Global, draft: Draft) -> Result<Query, NoMemory>
+    requires { first_fault (asked_conditions (draft_asked draft)) ≡ None }
     ensures { IfOk result (λ query. asked_of query ≡ draft_asked draft) }
 {
     let Draft {
