@@ -10,3 +10,5 @@ pub mod FrontLemmas
 pub mod JudgeLemmas
 pub mod RestLemmas
 pub mod PageLemmas
+pub mod OdometerLemmas
+pub mod PlainLemmas

@@ -10,8 +10,8 @@ use Rattle.ac_search.proofs.PlacedLemmas.{placed_more}
 -- a slot stands apart from those behind it, and they from one another
 pub apart_more : (ss : List Slot) (t : List ℕ) (i : ℕ) → i < length t → i < length ss
     → all_apart (placed (drop i ss) (drop i t))
-      ≡ list_all (λ y. are_apart (record { slot = slice_index_or ss i no_slot; provider = slice_index t i }) y) (placed (drop (i + 1) ss) (drop (i + 1) t))
-        && all_apart (placed (drop (i + 1) ss) (drop (i + 1) t))
+    ≡ list_all (λ y. are_apart (record { slot = slice_index_or ss i no_slot; provider = slice_index t i }) y) (placed (drop (i + 1) ss) (drop (i + 1) t))
+    && all_apart (placed (drop (i + 1) ss) (drop (i + 1) t))
 apart_more ss t i h k = ap all_apart (placed_more ss t i no_slot h k)
 
 -- a slot of another provider asks nothing of this one

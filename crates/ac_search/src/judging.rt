@@ -1,3 +1,9 @@
+ghost use Rattle.std.specs.Prelude.{◌≡◌, ◌<◌, length, IsTrue, ◌↔◌};
+ghost use Rattle.std.specs.List.{All};
+ghost use Rattle.ac_query.specs.Asked.{slots_of};
+ghost use Rattle.ac_query.specs.QueriesShown.{asked_of};
+ghost use Rattle.ac_search.specs.Judge.{judge, is_candidate};
+
 use crate::anchor::has_anchor;
 use crate::cloud::Cloud;
 use crate::each::{all_are_in_trees, all_have_aggregates, all_have_traits, all_have_units};
@@ -5,12 +11,6 @@ use crate::sums::have_room;
 use crate::verdict::{Rule, Verdict};
 use crate::whole::{are_collective, are_isolated, have_tops};
 use ac_query::Query;
-
-ghost use Rattle.std.specs.Prelude.{◌≡◌, ◌<◌, length, IsTrue, ◌↔◌};
-ghost use Rattle.std.specs.List.{All};
-ghost use Rattle.ac_query.specs.Asked.{slots_of};
-ghost use Rattle.ac_query.specs.QueriesShown.{asked_of};
-ghost use Rattle.ac_search.specs.Judge.{judge, is_candidate};
 
 /// The verdict on one list of providers, a place for each slot: the first rule, in their order, that it breaks at any
 /// place. It takes no memory.

@@ -5,13 +5,14 @@
 
 mod anchor;
 pub mod cloud;
+mod each;
 mod judging;
 pub mod laws;
-mod each;
+mod odometer;
 mod own;
 mod slots;
-mod sums;
 pub mod source;
+mod sums;
 pub mod verdict;
 mod whole;
 
