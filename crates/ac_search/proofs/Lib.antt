@@ -12,3 +12,5 @@ pub mod RestLemmas
 pub mod PageLemmas
 pub mod OdometerLemmas
 pub mod PlainLemmas
+pub mod FullLemmas
+pub mod ApartLemmas

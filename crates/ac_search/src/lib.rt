@@ -3,6 +3,7 @@
 //! It knows nothing of the texts of tables and queries, nor of what is printed.
 #![tactic(auto)]
 
+mod after;
 mod anchor;
 pub mod cloud;
 mod each;
@@ -11,6 +12,7 @@ pub mod laws;
 mod odometer;
 mod own;
 mod slots;
+pub mod plain;
 pub mod source;
 mod sums;
 pub mod verdict;
