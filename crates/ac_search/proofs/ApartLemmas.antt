@@ -23,12 +23,12 @@ differ x y h s t e = let same = eq-eqb x.provider y.provider e in false≢true (
 apart_of : (x y : Placed) → (is_set_apart x.slot ≡ true → is_set_apart y.slot ≡ true → x.provider ≢ y.provider) → are_apart x y ≡ true
 unfolding are_apart
 apart_of x y h = elim (cases_Bool (is_set_apart x.slot)) [
-    inl s ↦ elim (cases_Bool (is_set_apart y.slot)) [
-        inl t ↦ rw (s, t, ne_eqb x.provider y.provider (h s t)) refl
-      | inr t ↦ rw (s, t) refl
-      ]
-  | inr s ↦ rw s refl
+  | inl s ↦ elim (cases_Bool (is_set_apart y.slot)) [
+    | inl t ↦ rw (s, t, ne_eqb x.provider y.provider (h s t)) refl
+    | inr t ↦ rw (s, t) refl
   ]
+  | inr s ↦ rw s refl
+]
 
 apart_sound : (xs : List Placed) → all_apart xs ≡ true → StandApart xs
 apart_sound [] h i j d l k = absurd (omega arith)

@@ -15,8 +15,8 @@ at_class f [] c h k = absurd (omega arith)
 at_class f (need ∷ needs) c h k =
     let both = and_parts (f need.0) (list_all (λ need. f need.0) needs) h in
     elim (cases_Bool (bytes_eq need.0 c)) [
-      inl e ↦ subst (λ (b : List ℕ). f b ≡ true) ((bytes_eq-Decides need.0 c).0 e) both.0
-    | inr e ↦ let less : 0 < amount_of needs c = let more = rw e at k in omega arith in at_class f needs c both.1 less
+      | inl e ↦ subst (λ (b : List ℕ). f b ≡ true) ((bytes_eq-Decides need.0 c).0 e) both.0
+      | inr e ↦ let less : 0 < amount_of needs c = let more = rw e at k in omega arith in at_class f needs c both.1 less
     ]
 
 -- a slot's own classes
@@ -31,19 +31,19 @@ full_from all xs [] h p c k = absurd (omega arith)
 full_from all xs (y ∷ ys) h p c k =
     let both = and_parts (holds_sums all xs y) (list_all (λ x. holds_sums all xs x) ys) h in
     elim (cases_eq y.provider p) [
-      inl e ↦ elim (cases_lt 0 (amount_of y.slot.needs c)) [
-          inl l ↦ subst (λ (q : ℕ). holds (provider_at all q) c (sum_on xs q c) ≡ true) e (slot_full all xs y c both.0 l)
+      | inl e ↦ elim (cases_lt 0 (amount_of y.slot.needs c)) [
+        | inl l ↦ subst (λ (q : ℕ). holds (provider_at all q) c (sum_on xs q c) ≡ true) e (slot_full all xs y c both.0 l)
         | inr l ↦
             let same = eq-eqb y.provider p e in
             let more = rw same at k in
             let less : 0 < sum_on ys p c = omega arith in
             full_from all xs ys both.1 p c less
-        ]
-    | inr e ↦
-        let other = ne_eqb y.provider p e in
-        let more = rw other at k in
-        let less : 0 < sum_on ys p c = omega arith in
-        full_from all xs ys both.1 p c less
+      ]
+      | inr e ↦
+          let other = ne_eqb y.provider p e in
+          let more = rw other at k in
+          let less : 0 < sum_on ys p c = omega arith in
+          full_from all xs ys both.1 p c less
     ]
 
 needs_from : (all : List Provider) (xs : List Placed) (p : ℕ) → IsFull all xs → (needs : List (List ℕ × ℕ)) → AllByRecursion (λ need. 0 < need.1) needs
@@ -55,8 +55,8 @@ needs_from all xs p full (need ∷ needs) some less =
     let more = rw same at here in
     let one = some.0 in
     and_from (holds (provider_at all p) need.0 (sum_on xs p need.0)) (list_all (λ n. holds (provider_at all p) n.0 (sum_on xs p n.0)) needs)
-      (full p need.0 (omega arith))
-      (needs_from all xs p full needs some.1 (λ c. let whole = less c in omega arith))
+    (full p need.0 (omega arith))
+    (needs_from all xs p full needs some.1 (λ c. let whole = less c in omega arith))
 
 slot_from : (all : List Provider) (xs : List Placed) (x : Placed) → IsFull all xs → AllByRecursion (λ need. 0 < need.1) x.slot.needs
     → ((c : List ℕ) → amount_of x.slot.needs c ≤ sum_on xs x.provider c) → holds_sums all xs x ≡ true
@@ -68,12 +68,12 @@ slots_from : (all : List Provider) (xs : List Placed) → IsFull all xs → (ys 
 slots_from all xs full [] some less = refl
 slots_from all xs full (y ∷ ys) some less =
     and_from (holds_sums all xs y) (list_all (λ x. holds_sums all xs x) ys)
-      (slot_from all xs y full some.0 (λ c.
-        let whole = less y.provider c in
-        let same = eq-eqb y.provider y.provider refl in
-        let more = rw same at whole in
-        omega arith))
-      (slots_from all xs full ys some.1 (λ p c. let whole = less p c in omega arith))
+    (slot_from all xs y full some.0 (λ c.
+    let whole = less y.provider c in
+    let same = eq-eqb y.provider y.provider refl in
+    let more = rw same at whole in
+    omega arith))
+    (slots_from all xs full ys some.1 (λ p c. let whole = less p c in omega arith))
 
 pub sums_say_full : SumsSayFull
 unfolding sums

@@ -11,6 +11,6 @@ pub mod JudgeLemmas
 pub mod RestLemmas
 pub mod PageLemmas
 pub mod OdometerLemmas
-pub mod PlainLemmas
+pub mod AheadLemmas
 pub mod FullLemmas
 pub mod ApartLemmas

@@ -7,4 +7,5 @@ pub mod Room
 pub mod Judge
 pub mod Pages
 pub mod Odometer
+pub mod ListsShown
 pub mod Laws

@@ -1,12 +1,12 @@
 //! Lists of providers against lists of ids.
 
-use crate::cloud::Cloud;
-use ac_base::Id;
-
 ghost use Rattle.std.specs.Prelude.{◌≡◌, ◌<◌, length};
 ghost use Rattle.std.specs.List.{All};
 ghost use Rattle.ac_search.specs.Order.{lex_lt};
 ghost use Rattle.ac_search.specs.Pages.{ids_of};
+
+use crate::cloud::Cloud;
+use ac_base::Id;
 
 /// Whether the ids of a list of providers are after these.
 pub(crate) fn is_after<C: Cloud>(cloud: &C, ids: &[Id], list: &[u32]) -> bool

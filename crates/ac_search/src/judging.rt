@@ -51,10 +51,14 @@ pub fn verify<C: Cloud>(cloud: &C, query: &Query, list: &[u32]) -> Verdict
 }
 
 /// Whether a list of providers is a candidate.
+#[tactic(auto, using(crate::proofs::JudgeLemmas::judged_candidate, crate::proofs::JudgeLemmas::judged_broken))]
 pub(crate) fn is_candidate<C: Cloud>(cloud: &C, query: &Query, list: &[u32]) -> bool
     requires slots { length list.now ≡ length (slots_of (asked_of query.now)) }
     requires providers { All (λ p. p < length (C.providers cloud.now)) list.now }
     ensures { result ≡ is_candidate (C.providers cloud.now) (asked_of query.now) list.now }
 {
-    verify(cloud, query, list) == Verdict::Candidate
+    match verify(cloud, query, list) {
+        Verdict::Candidate => true,
+        Verdict::Broken(_) => false,
+    }
 }

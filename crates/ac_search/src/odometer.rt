@@ -1,18 +1,27 @@
-//! All lists of numbers, one after another in order.
-
 ghost use Rattle.std.specs.Prelude.{◌≡◌, Some, None};
 ghost use Rattle.std.specs.Bool.{MatchBool};
-ghost use Rattle.ac_search.specs.Odometer.{successor};
+ghost use Rattle.ac_search.specs.Odometer.{start, successor};
 
-/// Where a source that goes through all lists stands.
+/// Where a walk through all lists stands.
 #[derive(Clone, Copy, Debug, PartialEq, Eq)]
-pub enum Stage {
-    /// Its list is still to be looked at.
+pub(crate) enum Stage {
+    /// Its list is the next to be given.
     Fresh,
-    /// Its list was looked at.
-    Seen,
+    /// Its list was given last.
+    Given,
     /// There are no more lists.
     Ended,
+}
+
+/// Where a walk through the lists of so many numbers below a bound begins: at its end where there are none.
+pub(crate) fn start(width: usize, bound: u32) -> Stage
+    ensures { result ≡ start bound width }
+{
+    if bound == 0 && width > 0 {
+        Stage::Ended
+    } else {
+        Stage::Fresh
+    }
 }
 
 /// Sets a list to the next one of as many numbers below a bound, where there is one.

@@ -7,7 +7,7 @@ use Rattle.ac_search.proofs.sums.has_room_for.Goals as goal
 
 pub loop-s-preserved-then-provider-ix : goal.loop-s-preserved-then-provider-ix
 loop-s-preserved-then-provider-ix g c = record {
-    within = omega arith;
-    rest = room_skip (slots_of (asked_of c.args.query.now)) c.args.list.now c.loop-s.s c.args.ix c.loop-s.left (class_bytes c.args.class.now) _
+  within = omega arith;
+  rest = room_skip (slots_of (asked_of c.args.query.now)) c.args.list.now c.loop-s.s c.args.ix c.loop-s.left (class_bytes c.args.class.now) _
       (omega arith) (omega arith) (omega arith) c.loop-s.invariant.rest;
-  }
+}
