@@ -14,3 +14,4 @@ pub mod OdometerLemmas
 pub mod AheadLemmas
 pub mod FullLemmas
 pub mod ApartLemmas
+mod Literals
