@@ -27,17 +27,17 @@ own_root all id h =
 -- a provider is available in its own tree exactly where it is a root
 pub available_itself : (all : List Provider) (r : ℕ) → is_available_at all r r ≡ is_root all (id_at all r)
 available_itself all r = elim (cases_Bool (is_root all (id_at all r))) [
-    inl e ↦ let same = eq-eqb (root_of all (id_at all r)) (id_at all r) (own_root all (id_at all r) e) in rw (e, same) refl
+  | inl e ↦ let same = eq-eqb (root_of all (id_at all r)) (id_at all r) (own_root all (id_at all r) e) in rw (e, same) refl
   | inr e ↦ rw e refl
-  ]
+]
 
 -- a test of those that pass another
 any_filter : (f g : ℕ → Bool) (zs : List ℕ) → list_any f (filter g zs) ≡ list_any (λ z. g z && f z) zs
 any_filter f g [] = refl
 any_filter f g (z ∷ zs) = elim (cases_Bool (g z)) [
-    inl e ↦ rw (e, any_filter f g zs) refl
+  | inl e ↦ rw (e, any_filter f g zs) refl
   | inr e ↦ rw (e, any_filter f g zs) refl
-  ]
+]
 
 any_agree : (f g : ℕ → Bool) → ((z : ℕ) → f z ≡ g z) → (zs : List ℕ) → list_any f zs ≡ list_any g zs
 any_agree f g same [] = refl
@@ -65,7 +65,7 @@ anchor_list : (all : List Provider) (asked : Asked) (ss : List Slot) (t : List �
 unfolding anchor
 anchor_list all asked ss t h =
     any_agree (λ r. takes_root all asked r && hosts_all all (placed ss t) r) (λ r. anchors_list all asked t r)
-      (λ r. ap (λ b. takes_root all asked r && b) (hosts_list all ss t r h)) (range_with_len 0 (length all))
+    (λ r. ap (λ b. takes_root all asked r && b) (hosts_list all ss t r h)) (range_with_len 0 (length all))
 
 -- no provider asks for any root that is taken
 pub anchor_none : (all : List Provider) (asked : Asked) (ss : List Slot) (t : List ℕ) → None ≡ slice_get t 0
@@ -89,9 +89,9 @@ anchor_first all asked ss (q ∷ more) p e h =
     let t = q ∷ more in
     let same : q ≡ p = let both : Some p ≡ Some q = e in cc in
     any_filter (λ r. anchors_list all asked t r) (is_available_at all p) (range_with_len 0 (length all))
-      ∙ (any_agree (λ r. is_available_at all p r && anchors_list all asked t r) (λ r. anchors_list all asked t r)
-          (λ r. rw same (once (is_available_at all p r) (takes_root all asked r) (list_all (λ q. is_available_at all q r) more))) (range_with_len 0 (length all))
-      ∙ sym (anchor_list all asked ss t h))
+    ∙ (any_agree (λ r. is_available_at all p r && anchors_list all asked t r) (λ r. anchors_list all asked t r)
+    (λ r. rw same (once (is_available_at all p r) (takes_root all asked r) (list_all (λ q. is_available_at all q r) more))) (range_with_len 0 (length all))
+    ∙ sym (anchor_list all asked ss t h))
 
 each_range : (a n m : ℕ) → a + n ≤ m → Each (λ r. r < m) (range_with_len a n)
 each_range a zero m h = tt
@@ -101,4 +101,4 @@ each_range a (suc n) m h = (omega arith, each_range (a + 1) n m (omega arith))
 pub anchors_within : (all : List Provider) (p : ℕ) → All (λ r. r < length all) (anchors_of all p)
 anchors_within all p = All-from_recursion (λ r. r < length all) (anchors_of all p)
     (each_weaker _ (λ r. r < length all) (anchors_of all p) (λ r h. h.1)
-      (each_filter (λ r. r < length all) (is_available_at all p) (range_with_len 0 (length all)) (each_range 0 (length all) (length all) (omega arith))))
+    (each_filter (λ r. r < length all) (is_available_at all p) (range_with_len 0 (length all)) (each_range 0 (length all) (length all) (omega arith))))

@@ -1,10 +1,11 @@
 -- No rule is broken exactly at the candidates.
-use Rattle.std.proofs.Common.{inl, inr, ◌≡◌, ℕ, true, List, [], ◌∷◌, refl}
-use Rattle.std.proofs.lemmas.Bool.{cases_Bool, and_parts}
+use Rattle.std.proofs.Common.{inl, inr, ◌≡◌, ℕ, true, List, [], ◌∷◌, refl, false, sym, ◌∙◌}
+use Rattle.std.proofs.lemmas.Bool.{cases_Bool, and_parts, false_from_ne_true}
 use Rattle.ac_query.specs.Asked.{Asked}
 use Rattle.ac_tables.specs.World.{Provider}
 use Rattle.ac_search.specs.Placed.{assigned}
 use Rattle.ac_search.specs.Judge.{Test, tests, first_broken, all_hold, judge, is_candidate}
+use Rattle.ac_search.specs.Laws.{JudgesCandidates}
 use Rattle.ac_search.specs.declared.verdict.Rule.{Rule}
 use Rattle.ac_search.specs.declared.verdict.Verdict.TheVariants.{Candidate, Broken}
 
@@ -29,3 +30,10 @@ judged_candidate all asked list h = none_broken (tests all asked (assigned asked
 pub candidate_judged : (all : List Provider) (asked : Asked) (list : List ℕ) → is_candidate all asked list ≡ true → judge all asked list ≡ Candidate
 unfolding judge is_candidate
 candidate_judged all asked list h = none_breaks (tests all asked (assigned asked list)) h
+
+pub judged_broken : (all : List Provider) (asked : Asked) (list : List ℕ) (rule : Rule) → judge all asked list ≡ Broken rule → is_candidate all asked list ≡ false
+judged_broken all asked list rule h =
+    false_from_ne_true _ (λ e. broken rule (sym h ∙ candidate_judged all asked list e))
+
+pub judges_candidates : JudgesCandidates
+judges_candidates all asked list = (judged_candidate all asked list, candidate_judged all asked list)

@@ -10,3 +10,8 @@ pub mod FrontLemmas
 pub mod JudgeLemmas
 pub mod RestLemmas
 pub mod PageLemmas
+pub mod OdometerLemmas
+pub mod AheadLemmas
+pub mod FullLemmas
+pub mod ApartLemmas
+mod Literals

@@ -15,7 +15,7 @@ pub record IsPlaced (all : List Provider) (id p : ℕ) : Type 0 where
 found_from : (all : List Provider) (id i p : ℕ) → position_from (is_provider id) i all ≡ Some p → (i ≤ p) × IsPlaced all id (p - i)
 found_from [] id i p h = cc
 found_from (q ∷ all) id i p h = elim (cases_Bool (q.id == id)) [
-    inl e ↦
+  | inl e ↦
       let at : i ≡ p = cc (rw e at h) in
       let first : 0 ≡ p - i = omega arith in
       (omega arith, subst (IsPlaced (q ∷ all) id) first (record { within = omega arith; named = eqb-true q.id id e }))
@@ -23,7 +23,7 @@ found_from (q ∷ all) id i p h = elim (cases_Bool (q.id == id)) [
       let more = found_from all id (i + 1) p (rw e at h) in
       let later : suc (p - (i + 1)) ≡ p - i = let l = more.0 in omega arith in
       (let l = more.0 in omega arith, subst (IsPlaced (q ∷ all) id) later (record { within = let w = more.1.within in omega arith; named = more.1.named }))
-  ]
+]
 
 pub found_at : (all : List Provider) (id p : ℕ) → place_of all id ≡ Some p → IsPlaced all id p
 found_at all id p h = let same : p - 0 ≡ p = omega arith in subst (IsPlaced all id) same (found_from all id 0 p h).1
@@ -34,11 +34,11 @@ found_within all id p h = (found_at all id p h).within
 -- two ids are the same where their places are
 pub same_place : (all : List Provider) (a b p q : ℕ) → place_of all a ≡ Some p → place_of all b ≡ Some q → (p == q) ≡ (a == b)
 same_place all a b p q h k = elim (cases_eq p q) [
-    inl e ↦
+  | inl e ↦
       let same : a ≡ b = sym (found_at all a p h).named ∙ (ap (id_at all) e ∙ (found_at all b q k).named) in
       eq-eqb p q e ∙ sym (eq-eqb a b same)
   | inr e ↦ ne_eqb p q e ∙ sym (ne_eqb a b (λ same. e (let both : Some p ≡ Some q = sym h ∙ (ap (place_of all) same ∙ k) in cc)))
-  ]
+]
 
 -- where a group names a provider that is there, the rule compares the places of the roots
 pub tree_at : (all : List Provider) (x : Placed) (id place r q : ℕ) → x.slot.group.in_tree ≡ Some id → place_of all id ≡ Some place

@@ -25,11 +25,11 @@ of_group gs i (Some s, g) = (here gs i (suffix_slot i s g) (Some s, g) refl refl
 
 further : (gs : List Entry) (i : ℕ) (g : Entry) (s : Slot) → IsOf gs (i + 1) s → IsOf (g ∷ gs) i s
 further gs i g s h = record {
-    behind = suc h.behind;
-    place = let p = h.place in omega arith;
-    within = let w = h.within in omega arith;
-    group = λ d. h.group d;
-  }
+  behind = suc h.behind;
+  place = let p = h.place in omega arith;
+  within = let w = h.within in omega arith;
+  group = λ d. h.group d;
+}
 
 of_groups : (gs : List Entry) (i : ℕ) → Each (IsOf gs i) (slots_from i gs)
 of_groups [] i = tt

@@ -1,10 +1,14 @@
 -- What holds of candidates, open lists and pages.
-use Rattle.std.specs.Prelude.{◌≡◌, ◌<◌, ◌+◌, ℕ, true, false, List, [], ◌∷◌, ◌++◌, map, length, Option, Some, None}
-use Rattle.ac_query.specs.Asked.{Asked, slots_of}
-use Rattle.ac_tables.specs.World.{Provider, id_at}
+use Rattle.std.specs.Prelude.{◌≡◌, ◌<◌, ◌+◌, ℕ, true, false, List, [], ◌∷◌, ◌++◌, map, length, Option, Some, None, ◌≢◌, ◌↔◌, slice_index_or}
+use Rattle.std.specs.List.{AllByRecursion}
+use Rattle.ac_query.specs.Asked.{Asked, slots_of, is_isolated}
+use Rattle.ac_tables.specs.World.{Provider, provider_at, id_at}
 use Rattle.ac_search.specs.Order.{lex_lt}
 use Rattle.ac_search.specs.Lists.{IsListBelow, IsRising}
-use Rattle.ac_search.specs.Judge.{is_candidate, is_open}
+use Rattle.ac_search.specs.Placed.{Placed}
+use Rattle.ac_search.specs.Together.{sum_on, holds, sums, is_set_apart, isolate}
+use Rattle.ac_search.specs.Judge.{judge, is_candidate, is_open}
+use Rattle.ac_search.specs.declared.verdict.Verdict.TheVariants.{Candidate}
 use Rattle.ac_search.specs.Pages.{candidates, ids_of, is_after, rest, page}
 
 -- the providers stand in the order of their ids
@@ -40,3 +44,29 @@ pub record IsLeastAfter (all : List Provider) (asked : Asked) (x : Option (List 
 pub record RestBegins (all : List Provider) (asked : Asked) : Type 0 where
   pub rising : IsRising (map (λ t. ids_of all t) (candidates all asked))
   pub first : (x : Option (List ℕ)) (y : List ℕ) (more : List (List ℕ)) → rest all asked x ≡ y ∷ more → IsLeastAfter all asked x y
+
+-- no rule is broken exactly at the candidates
+abbrev pub JudgesCandidates : Type 0
+JudgesCandidates = (all : List Provider) (asked : Asked) (list : List ℕ) → (judge all asked list ≡ Candidate) ↔ (is_candidate all asked list ≡ true)
+
+-- each amount that these slots ask for is above 0
+abbrev pub AskAmounts : List Placed → Type 0
+AskAmounts xs = AllByRecursion (λ x. AllByRecursion (λ need. 0 < need.1) x.slot.needs) xs
+
+-- wherever the sum of a class on a provider is above 0, the provider has room for it
+abbrev pub IsFull : List Provider → List Placed → Type 0
+IsFull all xs = (ix : ℕ) (class : List ℕ) → 0 < sum_on xs ix class → holds (provider_at all ix) class (sum_on xs ix class) ≡ true
+
+-- Sums says this of every provider and class, where each amount is above 0.
+abbrev pub SumsSayFull : Type 0
+SumsSayFull = (all : List Provider) (xs : List Placed) → AskAmounts xs → (sums all xs ≡ true) ↔ IsFull all xs
+
+-- of two slots at different places that are suffixed and have classes, the providers differ
+abbrev pub StandApart : List Placed → Type 0
+StandApart xs = (i j : ℕ) (d : Placed) → i < j → j < length xs
+    → is_set_apart (slice_index_or xs i d).slot ≡ true → is_set_apart (slice_index_or xs j d).slot ≡ true
+    → (slice_index_or xs i d).provider ≢ (slice_index_or xs j d).provider
+
+-- Isolate says this, where the query asks for it.
+abbrev pub IsolateSaysApart : Type 0
+IsolateSaysApart = (asked : Asked) (xs : List Placed) → is_isolated asked ≡ true → (isolate asked xs ≡ true) ↔ StandApart xs

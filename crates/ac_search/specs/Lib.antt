@@ -6,4 +6,6 @@ pub mod Together
 pub mod Room
 pub mod Judge
 pub mod Pages
+pub mod Odometer
+pub mod ListsShown
 pub mod Laws

@@ -1,9 +1,5 @@
 //! Anchor: the roots at which a list of providers is available.
 
-use crate::cloud::Cloud;
-use crate::own::{has_all, has_none};
-use ac_query::Query;
-
 ghost use Rattle.std.specs.Prelude.{◌≡◌, ◌<◌, ◌≤◌, ◌&&◌, length};
 ghost use Rattle.std.specs.List.{All, list_all, list_any, range_with_len};
 ghost use Rattle.ac_tables.specs.World.{is_available_at};
@@ -11,6 +7,10 @@ ghost use Rattle.ac_query.specs.Asked.{slots_of};
 ghost use Rattle.ac_query.specs.QueriesShown.{asked_of};
 ghost use Rattle.ac_search.specs.Placed.{assigned};
 ghost use Rattle.ac_search.specs.Together.{takes_root, anchor};
+
+use crate::cloud::Cloud;
+use crate::own::{has_all, has_none};
+use ac_query::Query;
 
 /// Whether a provider is a root that has what the query asks of the root.
 #[tactic(auto, using(crate::proofs::AnchorLemmas::available_itself), unfolding(crate::specs::Together::takes_root))]

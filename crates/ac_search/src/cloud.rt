@@ -1,12 +1,12 @@
 //! What the rules ask of a cloud.
 
-use ac_base::{ClassName, Id, Inventory, TraitName};
-
 ghost use Rattle.std.specs.Prelude.{◌≡◌, ◌<◌, ℕ, List, length, Some};
 ghost use Rattle.std.specs.Option.{option_copied};
 ghost use Rattle.ac_base.specs.Names.{class_bytes, trait_bytes};
 ghost use Rattle.ac_tables.specs.World.{Provider, provider_at, id_at, place_of, root_of, used_of, has_trait, is_member, is_above, is_available_at, anchors_of};
 ghost use Rattle.ac_search.specs.Own.{stock_of};
+
+use ac_base::{ClassName, Id, Inventory, TraitName};
 
 pub trait Cloud {
     ghost providers: { Self → List Provider };

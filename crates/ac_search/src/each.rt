@@ -1,15 +1,15 @@
 //! The rules of a single slot, over all slots of a list.
 
-use crate::cloud::Cloud;
-use crate::own::{has_aggregates, has_slot_traits, has_units, is_in_tree};
-use ac_query::Query;
-
 ghost use Rattle.std.specs.Prelude.{◌≡◌, ◌<◌, ◌≤◌, length};
 ghost use Rattle.std.specs.List.{All, list_all};
 ghost use Rattle.ac_query.specs.Asked.{slots_of};
 ghost use Rattle.ac_query.specs.QueriesShown.{asked_of};
 ghost use Rattle.ac_search.specs.Placed.{assigned};
 ghost use Rattle.ac_search.specs.Own.{units_fit, traits_fit, aggregates_fit, tree_fits};
+
+use crate::cloud::Cloud;
+use crate::own::{has_aggregates, has_slot_traits, has_units, is_in_tree};
+use ac_query::Query;
 
 /// Units, of every slot.
 #[tactic(auto, using(crate::proofs::PlacedLemmas::placed_more, crate::proofs::PlacedLemmas::placed_end))]

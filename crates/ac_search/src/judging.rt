@@ -1,3 +1,9 @@
+ghost use Rattle.std.specs.Prelude.{◌≡◌, ◌<◌, length, IsTrue, ◌↔◌};
+ghost use Rattle.std.specs.List.{All};
+ghost use Rattle.ac_query.specs.Asked.{slots_of};
+ghost use Rattle.ac_query.specs.QueriesShown.{asked_of};
+ghost use Rattle.ac_search.specs.Judge.{judge, is_candidate};
+
 use crate::anchor::has_anchor;
 use crate::cloud::Cloud;
 use crate::each::{all_are_in_trees, all_have_aggregates, all_have_traits, all_have_units};
@@ -5,12 +11,6 @@ use crate::sums::have_room;
 use crate::verdict::{Rule, Verdict};
 use crate::whole::{are_collective, are_isolated, have_tops};
 use ac_query::Query;
-
-ghost use Rattle.std.specs.Prelude.{◌≡◌, ◌<◌, length, IsTrue, ◌↔◌};
-ghost use Rattle.std.specs.List.{All};
-ghost use Rattle.ac_query.specs.Asked.{slots_of};
-ghost use Rattle.ac_query.specs.QueriesShown.{asked_of};
-ghost use Rattle.ac_search.specs.Judge.{judge, is_candidate};
 
 /// The verdict on one list of providers, a place for each slot: the first rule, in their order, that it breaks at any
 /// place. It takes no memory.
@@ -48,4 +48,17 @@ pub fn verify<C: Cloud>(cloud: &C, query: &Query, list: &[u32]) -> Verdict
         return Verdict::Broken(Rule::Anchor);
     }
     Verdict::Candidate
+}
+
+/// Whether a list of providers is a candidate.
+#[tactic(auto, using(crate::proofs::JudgeLemmas::judged_candidate, crate::proofs::JudgeLemmas::judged_broken))]
+pub(crate) fn is_candidate<C: Cloud>(cloud: &C, query: &Query, list: &[u32]) -> bool
+    requires slots { length list.now ≡ length (slots_of (asked_of query.now)) }
+    requires providers { All (λ p. p < length (C.providers cloud.now)) list.now }
+    ensures { result ≡ is_candidate (C.providers cloud.now) (asked_of query.now) list.now }
+{
+    match verify(cloud, query, list) {
+        Verdict::Candidate => true,
+        Verdict::Broken(_) => false,
+    }
 }

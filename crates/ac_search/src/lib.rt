@@ -3,15 +3,18 @@
 //! It knows nothing of the texts of tables and queries, nor of what is printed.
 #![tactic(auto)]
 
+mod after;
 mod anchor;
 pub mod cloud;
+mod each;
 mod judging;
 pub mod laws;
-mod each;
+mod lists;
+mod odometer;
 mod own;
 mod slots;
-mod sums;
 pub mod source;
+mod sums;
 pub mod verdict;
 mod whole;
 

@@ -1,10 +1,5 @@
 //! The four rules of a single slot and its provider.
 
-use crate::cloud::Cloud;
-use crate::slots::{group_at, is_suffixed, needs_at};
-use ac_base::{Id, TraitName};
-use ac_query::{AggregateRule, Need, Query};
-
 ghost use Rattle.std.specs.Prelude.{◌≡◌, ◌<◌, length, map};
 ghost use Rattle.ac_base.specs.Names.{trait_bytes};
 ghost use Rattle.ac_tables.specs.World.{provider_at};
@@ -14,6 +9,11 @@ ghost use Rattle.ac_query.specs.QueriesShown.{asked_of};
 ghost use Rattle.std.specs.List.{list_any};
 ghost use Rattle.ac_search.specs.Placed.{placed_at};
 ghost use Rattle.ac_search.specs.Own.{stock_of, admits, units_fit, has_all, has_none, traits_fit, counts_in, meets_rule, aggregates_fit, tree_fits};
+
+use crate::cloud::Cloud;
+use crate::slots::{group_at, is_suffixed, needs_at};
+use ac_base::{Id, TraitName};
+use ac_query::{AggregateRule, Need, Query};
 
 // Whether the provider has an inventory of the class whose units admit the amount.
 fn admits_need<C: Cloud>(cloud: &C, ix: u32, need: &Need) -> bool

@@ -1,7 +1,5 @@
 //! The slots of a query, by their places.
 
-use ac_query::{Group, Need, Query};
-
 ghost use Rattle.std.specs.Prelude.{◌≡◌, ◌<◌, length, map, get_or, []};
 ghost use Rattle.std.specs.Option.{is_some};
 ghost use Rattle.ac_query.specs.Asked.{slots_of, lists_suffix};
@@ -9,6 +7,8 @@ ghost use Rattle.ac_query.specs.GroupsShown.{need_entry, group_entry};
 ghost use Rattle.ac_query.specs.QueriesShown.{asked_of};
 ghost use Rattle.ac_search.specs.Placed.{slot_at};
 ghost use Rattle.ac_search.specs.Together.{is_set_apart};
+
+use ac_query::{Group, Need, Query};
 
 /// The place of a slot's group among the groups.
 fn place_at(query: &Query, s: usize) -> usize

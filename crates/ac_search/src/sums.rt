@@ -1,10 +1,5 @@
 //! Sums: what all slots ask of each provider together.
 
-use crate::cloud::Cloud;
-use crate::slots::needs_at;
-use ac_base::ClassName;
-use ac_query::{Need, Query};
-
 ghost use Rattle.std.specs.Prelude.{◌≡◌, ◌<◌, ◌≤◌, ℕ, length, map};
 ghost use Rattle.std.specs.List.{All};
 ghost use Rattle.ac_base.specs.Names.{class_bytes};
@@ -16,6 +11,11 @@ ghost use Rattle.ac_search.specs.Placed.{assigned, placed_at};
 ghost use Rattle.ac_search.specs.Own.{stock_of};
 ghost use Rattle.ac_search.specs.Room.{room_in, less};
 ghost use Rattle.ac_search.specs.Together.{amount_of, sum_on, holds, holds_sums, sums};
+
+use crate::cloud::Cloud;
+use crate::slots::needs_at;
+use ac_base::ClassName;
+use ac_query::{Need, Query};
 
 /// The most of a class that one assignment may take of a provider: `max_unit`, or what is left of the capacity.
 /// `None` where it has none of the class, or more is used than there is.
@@ -45,7 +45,13 @@ fn take_needs(needs: &[Need], class: &ClassName, room: u64) -> Option<u64>
 
 // Whether a provider has room for what all slots ask of a class.
 #[tactic(auto, using(crate::proofs::PlacedLemmas::placed_more, crate::proofs::PlacedLemmas::placed_end))]
-fn has_room_for<C: Cloud>(cloud: &C, query: &Query, list: &[u32], ix: u32, class: &ClassName) -> bool
+fn has_room_for<C: Cloud>(
+    cloud: &C,
+    query: &Query,
+    list: &[u32],
+    ix: u32,
+    class: &ClassName,
+) -> bool
     requires slots { length list.now ≤ length (slots_of (asked_of query.now)) }
     requires provider { ix < length (C.providers cloud.now) }
     ensures { result ≡ holds (provider_at (C.providers cloud.now) ix) (class_bytes class.now) (sum_on (assigned (asked_of query.now) list.now) ix (class_bytes class.now)) }

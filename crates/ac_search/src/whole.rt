@@ -1,11 +1,5 @@
 //! The rules of all slots together, beside Sums.
 
-use crate::cloud::Cloud;
-use crate::own::{has_all, has_none};
-use crate::slots::{is_listed, is_set_apart, is_suffixed};
-use ac_base::TraitName;
-use ac_query::Query;
-
 ghost use Rattle.std.specs.Prelude.{◌≡◌, ◌<◌, ◌≤◌, ◌&&◌, ◌+◌, ℕ, List, length, map, drop, get_or, [], slice_index};
 ghost use Rattle.std.specs.List.{All, list_all, list_any};
 ghost use Rattle.ac_base.specs.Names.{trait_bytes};
@@ -13,6 +7,12 @@ ghost use Rattle.ac_query.specs.Asked.{slots_of};
 ghost use Rattle.ac_query.specs.QueriesShown.{asked_of};
 ghost use Rattle.ac_search.specs.Placed.{placed, assigned, placed_at};
 ghost use Rattle.ac_search.specs.Together.{is_brought, collective, are_apart, all_apart, isolate, listed, is_top, subtree, takes_root, hosts_all, anchor};
+
+use crate::cloud::Cloud;
+use crate::own::{has_all, has_none};
+use crate::slots::{is_listed, is_set_apart, is_suffixed};
+use ac_base::TraitName;
+use ac_query::Query;
 
 // Whether the provider of some unsuffixed slot has a trait.
 #[tactic(auto, using(crate::proofs::PlacedLemmas::placed_more, crate::proofs::PlacedLemmas::placed_end), unfolding(crate::specs::Together::is_brought))]

@@ -16,11 +16,11 @@ returns-in-Some g c =
     let asked = asked_of c.args.query.now in
     let list = c.args.list.now in
     c.has_anchor_among.ensures
-      ∙ (ap (list_any (λ r. anchors_list all asked list r)) c.anchors.ensures
-      ∙ anchor_first all asked (slots_of asked) list c.in-Some.ix.now c.in-Some.ensures.value c.requires.slots)
+    ∙ (ap (list_any (λ r. anchors_list all asked list r)) c.anchors.ensures
+    ∙ anchor_first all asked (slots_of asked) list c.in-Some.ix.now c.in-Some.ensures.value c.requires.slots)
 
 pub returns-in-None : goal.returns-in-None
 returns-in-None g c =
     let asked = asked_of c.args.query.now in
     c.takes_some_root.ensures
-      ∙ anchor_none (g.C.Cloud.providers c.args.cloud.now) asked (slots_of asked) c.args.list.now c.in-None.ensures.value
+    ∙ anchor_none (g.C.Cloud.providers c.args.cloud.now) asked (slots_of asked) c.args.list.now c.in-None.ensures.value

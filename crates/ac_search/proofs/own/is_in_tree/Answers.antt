@@ -11,6 +11,6 @@ root-requires-in-Some-index_of g c =
 pub returns-in-Some-index_of : goal.returns-in-Some-index_of
 returns-in-Some-index_of g c =
     tree_at (g.C.Cloud.providers c.args.cloud.now) (placed_at (asked_of c.args.query.now) c.args.s c.args.ix) c.in-Some.id c.in-Some-index_of.place
-      c.root.result c.root-in-Some-index_of.result
-      (sym (ap (λ entry. entry.1.in_tree) c.group_at.ensures) ∙ sym c.in-Some.ensures) (sym c.in-Some-index_of.ensures)
-      c.root.ensures c.root-in-Some-index_of.ensures
+    c.root.result c.root-in-Some-index_of.result
+    (sym (ap (λ entry. entry.1.in_tree) c.group_at.ensures) ∙ sym c.in-Some.ensures) (sym c.in-Some-index_of.ensures)
+    c.root.ensures c.root-in-Some-index_of.ensures

@@ -14,5 +14,5 @@ invariant-loop-s g l =
     record {
       within : l.s ≤ length l.list;
       rest : nat_le (sum_on (placed (drop l.s slots) (drop l.s l.list)) l.ix class) l.left
-        ≡ holds (provider_at (g.C.Cloud.providers l.cloud) l.ix) class (sum_on (placed slots l.list) l.ix class);
+          ≡ holds (provider_at (g.C.Cloud.providers l.cloud) l.ix) class (sum_on (placed slots l.list) l.ix class);
     }

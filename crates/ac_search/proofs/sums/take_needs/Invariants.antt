@@ -8,4 +8,4 @@ use Rattle.ac_search.proofs.sums.take_needs.Given as goal
 abbrev pub invariant-loop-need : goal.invariant-loop-need
 invariant-loop-need l =
     less l.left (amount_of (map need_entry (drop l.need-index l.needs)) (class_bytes l.class))
-      ≡ less l.room (amount_of (map need_entry l.needs) (class_bytes l.class))
+    ≡ less l.room (amount_of (map need_entry l.needs) (class_bytes l.class))

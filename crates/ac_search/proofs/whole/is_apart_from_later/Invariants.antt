@@ -7,7 +7,6 @@ use Rattle.ac_query.specs.QueriesShown.{asked_of}
 use Rattle.ac_tables.specs.World.{id_at, is_above}
 use Rattle.ac_search.specs.Placed.{Placed, placed, assigned, placed_at}
 use Rattle.ac_search.specs.Together.{brings, is_brought, are_apart, all_apart, listed, is_top}
-
 use Rattle.ac_search.proofs.whole.is_apart_from_later.Given as goal
 
 abbrev pub invariant-loop-t : goal.invariant-loop-t
