@@ -4,6 +4,7 @@
 #![tactic(auto)]
 
 pub mod fault;
+pub mod laws;
 pub mod lines;
 mod pushing;
 pub mod stand_in;
