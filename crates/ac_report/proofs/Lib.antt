@@ -4,3 +4,4 @@ pub mod LinesWritten
 pub mod IdTexts
 pub mod Listed
 pub mod Joining
+pub mod PlainTrees

@@ -4,10 +4,13 @@
 #![tactic(auto)]
 
 pub mod fault;
+mod ids;
 pub mod laws;
 pub mod lines;
 mod pushing;
 pub mod stand_in;
+pub mod summary;
 
 pub use fault::PageFault;
 pub use lines::write_tokens;
+pub use summary::summary_text;
