@@ -1,0 +1,60 @@
+use Rattle.std.proofs.Common.{◌≡◌, ◌∙◌, ◌≤◌, ◌+◌, Some, ap, sym, arith}
+use Rattle.ac_query.specs.QueriesShown.{asked_of}
+use Rattle.ac_search.specs.Lists.{head_of, tail_of}
+use Rattle.ac_report.specs.StandIn.{providers_of}
+use Rattle.ac_report.specs.Pages.{IsAssignment}
+use Rattle.ac_report.proofs.Leaving.{on_err}
+use Rattle.ac_report.proofs.LinesWritten.{leaves_line, leaves_line_part}
+use Rattle.ac_report.proofs.Paging.{all_tail, behind_step, count_step, gone_step, loses_one, room_step}
+use Rattle.ac_report.proofs.lines.write_tokens.Goals as goal
+
+pub returns-in_err-put_line-clause-gone : goal.returns-in_err-put_line-clause-gone
+returns-in_err-put_line-clause-gone g c =
+    let left = g.S.Source.left in
+    let limit = (asked_of c.args.query.now).limit in
+    let more : limit ≡ Some c.lists.count → ⊥ = λ e. let full = c.is_full.ensures.1 (c.limit-limit.ensures ∙ e) in cc in
+    let tail : left c.next.follows.lender-at-none ≡ tail_of (left c.lists.source) = c.next.follows.holds-at-none.0 in
+    on_err c.from_residual.result _
+    (rw tail (loses_one limit c.lists.count (left c.args.source.now) (left c.lists.source) c.in-Some.list.now (sym c.in-Some.ensures.head) more c.lists.invariant.room c.lists.invariant.gone))
+
+pub returns-in_err-push_all-clause-gone : goal.returns-in_err-push_all-clause-gone
+returns-in_err-push_all-clause-gone g c =
+    let left = g.S.Source.left in
+    let limit = (asked_of c.args.query.now).limit in
+    let more : limit ≡ Some c.lists.count → ⊥ = λ e. let full = c.is_full.ensures.1 (c.limit-limit.ensures ∙ e) in cc in
+    let tail : left c.next.follows.lender-at-none ≡ tail_of (left c.lists.source) = c.next.follows.holds-at-none.0 in
+    on_err c.from_residual-in_err-push_all.result _
+    (rw tail (loses_one limit c.lists.count (left c.args.source.now) (left c.lists.source) c.in-Some.list.now (sym c.in-Some.ensures.head) more c.lists.invariant.room c.lists.invariant.gone))
+
+pub returns-in_err-push_all-clause-part : goal.returns-in_err-push_all-clause-part
+returns-in_err-push_all-clause-part g c =
+    let limit = (asked_of c.args.query.now).limit in
+    let more : limit ≡ Some c.lists.count → ⊥ = λ e. let full = c.is_full.ensures.1 (c.limit-limit.ensures ∙ e) in cc in
+    on_err c.from_residual-in_err-push_all.result _
+    (leaves_line_part (providers_of c.args.cloud.now) _ _ _ _ _ limit c.lists.count (g.S.Source.left c.lists.source) c.in-Some.list.now more c.lists.invariant.room (sym c.in-Some.ensures.head)
+    (c.deref.ensures.value ∙ c.in_ok-put_line.ensures) c.lists.invariant.leaves c.in_err-push_all.ensures.part)
+
+pub lists-preserved : goal.lists-preserved
+lists-preserved g c =
+    let left = g.S.Source.left in
+    let all = providers_of c.args.cloud.now in
+    let asked = asked_of c.args.query.now in
+    let limit = asked.limit in
+    let count = c.lists.count in
+    let ls = left c.lists.source in
+    let x = c.in-Some.list.now in
+    let more : limit ≡ Some count → ⊥ = λ e. let full = c.is_full.ensures.1 (c.limit-limit.ensures ∙ e) in cc in
+    let head : head_of ls ≡ Some x = sym c.in-Some.ensures.head in
+    let tail : left c.next.follows.lender-at-none ≡ tail_of ls = c.next.follows.holds-at-none.0 in
+    let room = c.lists.invariant.room in
+    rw (tail, c.saturating_add-count.ensures)
+    (record {
+      assigned = all_tail (IsAssignment all asked) ls c.lists.invariant.assigned;
+      leaves = leaves_line all _ _ _ _ _ limit count ls x more room head (c.deref.ensures.value ∙ c.in_ok-put_line.ensures) c.lists.invariant.leaves c.in_ok-push_all.ensures.ok;
+      behind = sym (behind_step limit count ls x more room head) ∙ c.lists.invariant.behind;
+      count = count_step limit ls x count _ more room head c.lists.invariant.count;
+      counted = omega arith;
+      room = room_step limit count more room;
+      gone = gone_step count (left c.args.source.now) ls x head c.lists.invariant.gone;
+      failures = omega (arith, c.lists.invariant.failures, c.in_ok-push_all.ensures.failures);
+    })

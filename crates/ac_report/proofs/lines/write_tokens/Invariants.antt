@@ -1,0 +1,31 @@
+use Rattle.std.proofs.Common.{◌≡◌, ◌≤◌, ◌+◌, min, length}
+use Rattle.std.specs.List.{All}
+use Rattle.ac_query.specs.QueriesShown.{asked_of}
+use Rattle.ac_search.specs.Pages.{cut}
+use Rattle.ac_report.specs.StandIn.{providers_of}
+use Rattle.ac_report.specs.Texts.{lines}
+use Rattle.ac_report.specs.Pages.{IsAssignment, behind}
+use Rattle.ac_report.proofs.Leaving.{Leaves}
+use Rattle.ac_report.proofs.Paging.{after, IsRoom, Gone}
+use Rattle.ac_report.proofs.lines.write_tokens.Given as goal
+
+-- what is left to write, of what was there to write
+abbrev pub invariant-lists : goal.invariant-lists
+invariant-lists g l =
+    let left = g.S.Source.left in
+    let all = providers_of l.cloud in
+    let asked = asked_of l.query in
+    let wanted = after asked.limit l.count in
+    record {
+      assigned : All (IsAssignment all asked) (left l.source);
+      leaves : Leaves (g.W.Sink.taken l.fn.out) (g.W.Sink.taken l.out) (lines all (cut asked.limit (left l.fn.source))) (lines all (cut wanted (left l.source)));
+      behind : behind wanted (left l.source) ≡ behind asked.limit (left l.fn.source);
+      count : min (l.count + length (cut wanted (left l.source))) 4294967295 ≡ min (length (cut asked.limit (left l.fn.source))) 4294967295;
+      counted : l.count ≤ 4294967295;
+      room : IsRoom asked.limit l.count;
+      gone : Gone l.count (left l.fn.source) (left l.source);
+      failures : g.W.Sink.failures l.fn.out ≤ g.W.Sink.failures l.out;
+    }
+
+abbrev pub decreases-lists : goal.decreases-lists
+decreases-lists g l = length (g.S.Source.left l.source)

@@ -1,0 +1,5 @@
+pub mod StandIn
+pub mod Trees
+pub mod Texts
+pub mod Pages
+pub mod Laws

@@ -1,0 +1,30 @@
+-- What a writer of a page does to its sink and to its source.
+use Rattle.std.specs.Prelude.{◌≡◌, ℕ, ◌≤◌, List, [], ◌++◌, drop, length, Option, Some, None, ⊤}
+use Rattle.std.specs.List.{All}
+use Rattle.ac_tables.specs.World.{Provider}
+use Rattle.ac_query.specs.Asked.{Asked, slots_of}
+use Rattle.ac_search.specs.Lists.{IsListBelow}
+
+-- a list of one provider for each slot
+abbrev pub IsAssignment : List Provider → Asked → List ℕ → Type 0
+IsAssignment all asked list = IsListBelow (length all) (length (slots_of asked)) list
+
+-- the lists behind the first n; behind all of them, without a limit
+abbrev pub behind : Option ℕ → List (List ℕ) → List (List ℕ)
+behind None lists = []
+behind (Some n) lists = drop n lists
+
+-- a first part of some bytes was taken, where the bytes taken are known
+abbrev pub TakesPart : Option (List ℕ) → Option (List ℕ) → List ℕ → Type 0
+TakesPart None new bytes = ⊤
+TakesPart (Some xs) None bytes = ⊥
+TakesPart (Some xs) (Some ys) bytes = (part rest : List ℕ) × (bytes ≡ part ++ rest) × (ys ≡ xs ++ part)
+
+-- so many are no more than the limit
+abbrev pub IsWithin : ℕ → Option ℕ → Type 0
+IsWithin count None = ⊤
+IsWithin count (Some n) = count ≤ n
+
+-- some of the first lists are gone, no more than the limit
+abbrev pub LosesSome : Option ℕ → List (List ℕ) → List (List ℕ) → Type 0
+LosesSome limit old new = (gone : List (List ℕ)) × (old ≡ gone ++ new) × IsWithin (length gone) limit

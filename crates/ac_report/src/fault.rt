@@ -1,0 +1,48 @@
+use crate::pushing::WriteFailed;
+use ac_base::NoMemory;
+use std::alloc::AllocError;
+use thiserror::Error;
+
+/// Why a page wasn't written whole.
+#[derive(Clone, Copy, Debug, PartialEq, Eq, Error)]
+pub enum PageFault {
+    /// The sink failed.
+    #[error("write failed")]
+    WriteFailed,
+    /// A growth was refused.
+    #[error("out of memory")]
+    NoMemory,
+}
+
+impl From<NoMemory> for PageFault {
+    ghost use Rattle.std.specs.Prelude.{◌≡◌};
+    ghost use Rattle.ac_report.specs.declared.fault.PageFault.TheVariants as fault;
+
+    ghost from_gives = { λ _ e. e ≡ fault.NoMemory };
+
+    fn from(_error: NoMemory) -> PageFault {
+        PageFault::NoMemory
+    }
+}
+
+impl From<AllocError> for PageFault {
+    ghost use Rattle.std.specs.Prelude.{◌≡◌};
+    ghost use Rattle.ac_report.specs.declared.fault.PageFault.TheVariants as fault;
+
+    ghost from_gives = { λ _ e. e ≡ fault.NoMemory };
+
+    fn from(_error: AllocError) -> PageFault {
+        PageFault::NoMemory
+    }
+}
+
+impl From<WriteFailed> for PageFault {
+    ghost use Rattle.std.specs.Prelude.{◌≡◌};
+    ghost use Rattle.ac_report.specs.declared.fault.PageFault.TheVariants as fault;
+
+    ghost from_gives = { λ _ e. e ≡ fault.WriteFailed };
+
+    fn from(_error: WriteFailed) -> PageFault {
+        PageFault::WriteFailed
+    }
+}

@@ -1,0 +1,11 @@
+//! What holds of pages: each function's contract is a law, and no program calls it.
+
+ghost use Rattle.std.specs.Prelude.{ℕ, List};
+ghost use Rattle.ac_tables.specs.World.{Provider};
+ghost use Rattle.ac_query.specs.Asked.{Asked};
+ghost use Rattle.ac_report.specs.Laws.{AreProviders, IsInPieces};
+
+/// The body of any lists is its pieces, joined.
+pub fn body_pieces()
+    ensures { (all : List Provider) (asked : Asked) (lists : List (List ℕ)) → AreProviders all → IsInPieces all asked lists }
+{}

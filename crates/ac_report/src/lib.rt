@@ -1,0 +1,16 @@
+//! What is written of a search: the JSON body of a page of candidates, and the tokens of one.
+//!
+//! It knows nothing of where candidates come from.
+#![tactic(auto)]
+
+pub mod fault;
+mod ids;
+pub mod laws;
+pub mod lines;
+mod pushing;
+pub mod stand_in;
+pub mod summary;
+
+pub use fault::PageFault;
+pub use lines::write_tokens;
+pub use summary::summary_text;

@@ -1,0 +1,85 @@
+ghost use Rattle.std.specs.Prelude.{◌≡◌, ◌≤◌, ◌<◌, ◌++◌, ◌↔◌, ◌∷◌, [], OnOk, OnErr, IfOk, Err, IsTrue, Some, length, min};
+ghost use Rattle.std.specs.List.{All};
+ghost use Rattle.std.specs.Io.KnownBytes.{Appends};
+ghost use Rattle.ac_base.specs.Devices.{Rises};
+ghost use Rattle.ac_query.specs.QueriesShown.{asked_of};
+ghost use Rattle.ac_query.specs.Tokens.{ids_text};
+ghost use Rattle.ac_search.specs.Pages.{cut, ids_of};
+ghost use Rattle.ac_report.specs.StandIn.{providers_of};
+ghost use Rattle.ac_report.specs.Texts.{line, lines};
+ghost use Rattle.ac_report.specs.Pages.{IsAssignment, TakesPart, LosesSome, behind};
+
+use crate::fault::PageFault;
+use crate::pushing::push_all;
+use crate::stand_in::Cloud;
+use ac_base::{NoMemory, Sink};
+use ac_query::Query;
+use ac_search::Source;
+use std::alloc::Global;
+
+// Whether no further list is wanted.
+pub(crate) fn is_full(limit: Option<u32>, count: u32) -> bool
+    ensures { IsTrue result ↔ (limit ≡ Some count) }
+{
+    limit == Some(count)
+}
+
+// Adds the ids of a list, joined by commas.
+fn put_ids(text: &mut Vec<u8>, cloud: &Cloud, list: &[u32]) -> Result<(), NoMemory>
+    requires { All (λ ix. ix < length (providers_of cloud.now)) list.now }
+    ensures { OnOk result (text.new.items ≡ text.old.items ++ ids_text (ids_of (providers_of cloud.now) list.now)) }
+{
+    let Some((&first, others)) = list.split_first() else {
+        return Ok(());
+    };
+    text.extend_from_slice(&cloud.id(first).text())?;
+    for &ix in others {
+        text.push(b',')?;
+        text.extend_from_slice(&cloud.id(ix).text())?;
+    }
+    Ok(())
+}
+
+// Makes a text the line of a list.
+fn put_line(text: &mut Vec<u8>, cloud: &Cloud, list: &[u32]) -> Result<(), NoMemory>
+    requires { All (λ ix. ix < length (providers_of cloud.now)) list.now }
+    ensures { OnOk result (text.new.items ≡ line (providers_of cloud.now) list.now) }
+{
+    text.clear();
+    put_ids(text, cloud, list)?;
+    text.push(b'\n')?;
+    Ok(())
+}
+
+/// Writes a line for each list that is left, at most as many as the query's limit, and answers how many, at most 4294967295.
+///
+/// The next list is taken only once the line of the one before is pushed whole.
+pub fn write_tokens<S: Source, W: Sink>(
+    alloc: Global,
+    cloud: &Cloud,
+    query: &Query,
+    source: &mut S,
+    out: &mut W,
+) -> Result<u32, PageFault>
+    requires { All (IsAssignment (providers_of cloud.now) (asked_of query.now)) (S.left source.old) }
+    ensures text { OnOk result (Appends (W.taken out.old) (W.taken out.new) (lines (providers_of cloud.now) (cut (asked_of query.now).limit (S.left source.old)))) }
+    ensures left { OnOk result (S.left source.new ≡ behind (asked_of query.now).limit (S.left source.old)) }
+    ensures count { IfOk result (λ n. n ≡ min (length (cut (asked_of query.now).limit (S.left source.old))) 4294967295) }
+    ensures part { OnErr result (TakesPart (W.taken out.old) (W.taken out.new) (lines (providers_of cloud.now) (cut (asked_of query.now).limit (S.left source.old)))) }
+    ensures gone { OnErr result (LosesSome (asked_of query.now).limit (S.left source.old) (S.left source.new)) }
+    ensures failed { result ≡ Err PageFault.WriteFailed → Rises (W.failures out.old) (W.failures out.new) }
+    ensures failures { W.failures out.old ≤ W.failures out.new }
+{
+    let limit = query.limit();
+    let mut text = Vec::new(alloc);
+    let mut count: u32 = 0;
+    'lists: while !is_full(limit, count) {
+        let Some(list) = source.next() else {
+            return Ok(count);
+        };
+        put_line(&mut text, cloud, list)?;
+        push_all(out, &text)?;
+        count = count.saturating_add(1);
+    }
+    Ok(count)
+}

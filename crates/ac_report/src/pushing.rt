@@ -1,0 +1,41 @@
+ghost use Rattle.std.specs.Prelude.{◌≤◌, OnOk, OnErr};
+ghost use Rattle.std.specs.Io.KnownBytes.{Appends};
+ghost use Rattle.ac_base.specs.Devices.{Rises};
+ghost use Rattle.ac_report.specs.Pages.{TakesPart};
+
+use ac_base::{Push, Sink};
+
+/// The device failed, or was interrupted more often in a row than is borne.
+#[derive(Clone, Copy, Debug, PartialEq, Eq)]
+pub struct WriteFailed;
+
+/// How many interrupted calls in a row are borne.
+const MOST_AGAIN: u32 = 1000;
+
+/// Pushes a whole piece. After a fault the sink has taken a first part of it.
+#[tactic(auto, using(crate::proofs::Leaving::leaves_start, crate::proofs::Leaving::leaves_keeps, crate::proofs::Leaving::leaves_takes, crate::proofs::Leaving::leaves_none, crate::proofs::Leaving::leaves_part))]
+pub fn push_all<W: Sink>(out: &mut W, piece: &[u8]) -> Result<(), WriteFailed>
+    ensures ok { OnOk result (Appends (W.taken out.old) (W.taken out.new) piece.now) }
+    ensures part { OnErr result (TakesPart (W.taken out.old) (W.taken out.new) piece.now) }
+    ensures rises { OnErr result (Rises (W.failures out.old) (W.failures out.new)) }
+    ensures failures { W.failures out.old ≤ W.failures out.new }
+{
+    let mut rest = piece;
+    let mut again = 0;
+    while !rest.is_empty() {
+        match out.push(rest) {
+            Push::Took(0) | Push::Failed => return Err(WriteFailed),
+            Push::Took(count) => {
+                rest = &rest[count..];
+                again = 0;
+            }
+            Push::Again => {
+                if again == MOST_AGAIN {
+                    return Err(WriteFailed);
+                }
+                again += 1;
+            }
+        }
+    }
+    Ok(())
+}
