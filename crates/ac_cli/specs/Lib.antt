@@ -4,3 +4,5 @@ pub mod DigitsShown
 pub mod Refusals
 pub mod Feeds
 pub mod Draining
+pub mod TokenGiven
+pub mod Asking

@@ -1,11 +1,13 @@
 //! Which providers of a cloud could host a workload, asked of exported Placement tables.
 #![tactic(auto)]
 
+mod asking;
 mod digits;
 mod draining;
 mod inputs;
 mod refusal;
 mod report;
 mod telling;
+mod words;
 
 fn main() {}
