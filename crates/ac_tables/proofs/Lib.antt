@@ -24,3 +24,7 @@ pub mod KnownFacts
 pub mod KeySets
 pub mod JoinFacts
 pub mod PlaceTrees
+pub mod WorldFacts
+pub mod CloudFacts
+pub mod BuildFacts
+pub mod GatherLists

@@ -4,9 +4,11 @@
 #![tactic(auto)]
 
 mod aggregates;
+mod build;
 mod climbing;
+pub mod cloud;
 mod columns;
-mod entry;
+pub mod entry;
 pub mod fault;
 mod fields;
 mod forest;
@@ -26,5 +28,7 @@ mod traits;
 mod usage;
 mod usages;
 
+pub use cloud::{Cloud, Counts};
+pub use entry::Entry;
 pub use fault::{Table, TableFault, TableKind};
 pub use reading::{ReadFault, drain};
