@@ -28,3 +28,6 @@ pub mod WorldFacts
 pub mod CloudFacts
 pub mod BuildFacts
 pub mod GatherLists
+pub mod KinFacts
+pub mod AllFaults
+pub mod StatedWorld
