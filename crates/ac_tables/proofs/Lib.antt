@@ -24,3 +24,10 @@ pub mod KnownFacts
 pub mod KeySets
 pub mod JoinFacts
 pub mod PlaceTrees
+pub mod WorldFacts
+pub mod CloudFacts
+pub mod BuildFacts
+pub mod GatherLists
+pub mod KinFacts
+pub mod AllFaults
+pub mod StatedWorld

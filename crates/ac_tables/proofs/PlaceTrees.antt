@@ -1,9 +1,7 @@
 -- Trees by places and trees by ids.
-use Rattle.std.proofs.Common.{◌≡◌, ◌<◌, ◌+◌, ◌∙◌, ℕ, zero, suc, Bool, true, false, List, [], ◌∷◌, ◌++◌, map, length, get_or, Option, Some, None, refl, sym, ap, ap₂, subst, arith, rules, inl, inr, ◌⊎◌}
-use Rattle.std.specs.Prelude.{◌==◌, ◌||◌}
-use Rattle.std.specs.Option.{option_map, option_and_then, unwrap_or, is_some}
-use Rattle.std.specs.List.{list_any}
-use Rattle.ac_tables.specs.Trees.{climb, up, chain, is_in_chain, LeadsUp, Above, IsRootOf}
+use Rattle.std.proofs.Common.{◌≡◌, ◌<◌, ◌∙◌, ℕ, zero, suc, List, [], ◌∷◌, Option, Some, None, refl, sym, ap, subst, inl, inr, ◌⊎◌}
+use Rattle.std.specs.Option.{option_map, unwrap_or}
+use Rattle.ac_tables.specs.Trees.{climb, up, Above}
 use Rattle.ac_tables.specs.Places.{parent_in, AreWithin}
 
 option_cases : (o : Option ℕ) → (o ≡ None) ⊎ ((q : ℕ) × (o ≡ Some q))
@@ -16,13 +14,13 @@ module _ (parent : ℕ → Option ℕ) (name : ℕ → ℕ) (n : ℕ) (parents :
   one_step : (i : ℕ) → i < n → (up (parent_in parents) i < n) × (up parent (name i) ≡ name (up (parent_in parents) i))
   one_step i h = elim (option_cases (parent_in parents i)) [
     | inl e ↦
-      let stays : up (parent_in parents) i ≡ i = ap (λ (o : Option ℕ). unwrap_or o i) e in
-      let stays2 : up parent (name i) ≡ name i = ap (λ (o : Option ℕ). unwrap_or o (name i)) (agree i h ∙ ap (option_map name) e) in
-      (subst (λ (j : ℕ). j < n) (sym stays) h, stays2 ∙ ap name (sym stays))
+        let stays : up (parent_in parents) i ≡ i = ap (λ (o : Option ℕ). unwrap_or o i) e in
+        let stays2 : up parent (name i) ≡ name i = ap (λ (o : Option ℕ). unwrap_or o (name i)) (agree i h ∙ ap (option_map name) e) in
+        (subst (λ (j : ℕ). j < n) (sym stays) h, stays2 ∙ ap name (sym stays))
     | inr p ↦
-      let goes : up (parent_in parents) i ≡ p.0 = ap (λ (o : Option ℕ). unwrap_or o i) p.1 in
-      let goes2 : up parent (name i) ≡ name p.0 = ap (λ (o : Option ℕ). unwrap_or o (name i)) (agree i h ∙ ap (option_map name) p.1) in
-      (subst (λ (j : ℕ). j < n) (sym goes) (within i p.0 h p.1), goes2 ∙ ap name (sym goes))
+        let goes : up (parent_in parents) i ≡ p.0 = ap (λ (o : Option ℕ). unwrap_or o i) p.1 in
+        let goes2 : up parent (name i) ≡ name p.0 = ap (λ (o : Option ℕ). unwrap_or o (name i)) (agree i h ∙ ap (option_map name) p.1) in
+        (subst (λ (j : ℕ). j < n) (sym goes) (within i p.0 h p.1), goes2 ∙ ap name (sym goes))
   ]
 
   -- many steps
@@ -38,10 +36,10 @@ pub above_climb : (parent : ℕ → Option ℕ) (k p : ℕ) → Above parent (cl
 above_climb parent zero p = ([], refl)
 above_climb parent (suc k) p = elim (option_cases (parent p)) [
   | inl e ↦
-    let stays : up parent p ≡ p = ap (λ (o : Option ℕ). unwrap_or o p) e in
-    subst (λ (x : ℕ). Above parent (climb (up parent) k x) p) (sym stays) (above_climb parent k p)
+      let stays : up parent p ≡ p = ap (λ (o : Option ℕ). unwrap_or o p) e in
+      subst (λ (x : ℕ). Above parent (climb (up parent) k x) p) (sym stays) (above_climb parent k p)
   | inr q ↦
-    let goes : up parent p ≡ q.0 = ap (λ (o : Option ℕ). unwrap_or o p) q.1 in
-    let rest = above_climb parent k q.0 in
-    subst (λ (x : ℕ). Above parent (climb (up parent) k x) p) (sym goes) (q.0 ∷ rest.0, (q.1, rest.1))
+      let goes : up parent p ≡ q.0 = ap (λ (o : Option ℕ). unwrap_or o p) q.1 in
+      let rest = above_climb parent k q.0 in
+      subst (λ (x : ℕ). Above parent (climb (up parent) k x) p) (sym goes) (q.0 ∷ rest.0, (q.1, rest.1))
 ]

@@ -24,7 +24,11 @@ fn find_parent(roll: &Roll, ids: &Ids, id: Id) -> Option<u32>
 }
 
 // The places of the parents of all providers.
-pub(crate) fn find_parents(alloc: Global, roll: &Roll, ids: &Ids) -> Result<Vec<Option<u32>>, AllocError>
+pub(crate) fn find_parents(
+    alloc: Global,
+    roll: &Roll,
+    ids: &Ids,
+) -> Result<Vec<Option<u32>>, AllocError>
     ensures { IfOk result (λ parents. parents.items ≡ map (λ id. option_and_then (rank ids.now.ids.items) (listed_parent roll.now.rows.items id)) ids.now.ids.items) }
 {
     let mut parents = Vec::new(alloc);

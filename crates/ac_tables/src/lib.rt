@@ -4,9 +4,11 @@
 #![tactic(auto)]
 
 mod aggregates;
+mod build;
 mod climbing;
+pub mod cloud;
 mod columns;
-mod entry;
+pub mod entry;
 pub mod fault;
 mod fields;
 mod forest;
@@ -19,6 +21,7 @@ mod mark;
 mod membership;
 mod numbered;
 mod providers;
+pub mod read;
 pub mod reading;
 mod roll;
 mod rows;
@@ -26,5 +29,8 @@ mod traits;
 mod usage;
 mod usages;
 
+pub use cloud::{Cloud, Counts};
+pub use entry::Entry;
 pub use fault::{Table, TableFault, TableKind};
+pub use read::Sources;
 pub use reading::{ReadFault, drain};
