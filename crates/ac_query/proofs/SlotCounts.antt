@@ -1,11 +1,11 @@
 -- How many slots a query without a fault has.
-use Rattle.std.proofs.Common.{◌≡◌, ℕ, ◌+◌, ◌<◌, ◌≤◌, Bool, true, false, not, ◌||◌, nat_lt, List, [], ◌∷◌, ◌++◌, length, length-append, map, filter, is_none, ◌&&◌, Option, Some, None, sum_by, refl, sym, ap, ◌∙◌, arith, if◌then◌else◌}
+use Rattle.std.proofs.Common.{◌≡◌, ℕ, ◌+◌, ◌<◌, ◌≤◌, Bool, true, false, not, ◌||◌, nat_lt, List, [], ◌∷◌, ◌++◌, length, length-append, map, filter, is_none, ◌&&◌, Option, Some, None, sum_by, refl, ◌∙◌, arith, if◌then◌else◌}
 use Rattle.std.proofs.lemmas.Bool.Decides.{nat_tests}
 use Rattle.std.proofs.lemmas.List.{length-map}
 use Rattle.std.proofs.lemmas.List.Sums.{sum_by-cons}
 use Rattle.std.specs.List.{list_any}
-use Rattle.ac_query.specs.Asked.{Group, Asked, Slot, class_slot, group_slots, slots_from}
-use Rattle.ac_query.specs.Faults.{Fault, no_resources, policy_missing, too_many_slots, first_fault, has_resources, listed_suffixes, group_condition, suffix_condition, needs_policy, slot_count, entry_count, is_too_large, asked_conditions}
+use Rattle.ac_query.specs.Asked.{Group, Asked, class_slot, group_slots, slots_from}
+use Rattle.ac_query.specs.Faults.{Fault, no_resources, first_fault, has_resources, listed_suffixes, group_condition, suffix_condition, needs_policy, slot_count, is_too_large, asked_conditions}
 use Rattle.ac_query.proofs.Once.{second_part}
 
 -- the slots of a group
