@@ -89,7 +89,7 @@ all_map : {X Y : Type 0} (f : X → Y) (P : Y → Type 0) (xs : List X) → AllB
 all_map f P [] all = tt
 all_map f P (x ∷ xs) all = (all.0, all_map f P xs all.1)
 
-all_append : {X : Type 0} (P : X → Type 0) (xs ys : List X) → AllByRecursion P xs → AllByRecursion P ys → AllByRecursion P (xs ++ ys)
+pub all_append : {X : Type 0} (P : X → Type 0) (xs ys : List X) → AllByRecursion P xs → AllByRecursion P ys → AllByRecursion P (xs ++ ys)
 all_append P [] ys a b = b
 all_append P (x ∷ xs) ys a b = (a.0, all_append P xs ys a.1 b)
 

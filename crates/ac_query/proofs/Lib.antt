@@ -19,3 +19,5 @@ pub mod Gathering
 pub mod Asking
 pub mod WrittenIds
 pub mod SlotCounts
+pub mod Amounts
+pub mod SlotPlaces

@@ -1,11 +1,11 @@
 -- How many slots a query without a fault has.
-use Rattle.std.proofs.Common.{◌≡◌, ℕ, ◌+◌, ◌<◌, ◌≤◌, Bool, true, false, not, ◌||◌, nat_lt, List, [], ◌∷◌, ◌++◌, length, length-append, map, filter, is_none, ◌&&◌, Option, Some, None, sum_by, refl, sym, ap, ◌∙◌, arith, if◌then◌else◌}
+use Rattle.std.proofs.Common.{◌≡◌, ℕ, ◌+◌, ◌<◌, ◌≤◌, Bool, true, false, not, ◌||◌, nat_lt, List, [], ◌∷◌, ◌++◌, length, length-append, map, filter, is_none, ◌&&◌, Option, Some, None, sum_by, refl, ◌∙◌, arith, if◌then◌else◌}
 use Rattle.std.proofs.lemmas.Bool.Decides.{nat_tests}
 use Rattle.std.proofs.lemmas.List.{length-map}
 use Rattle.std.proofs.lemmas.List.Sums.{sum_by-cons}
 use Rattle.std.specs.List.{list_any}
-use Rattle.ac_query.specs.Asked.{Group, Asked, Slot, class_slot, group_slots, slots_from}
-use Rattle.ac_query.specs.Faults.{Fault, no_resources, policy_missing, too_many_slots, first_fault, has_resources, listed_suffixes, group_condition, suffix_condition, needs_policy, slot_count, entry_count, is_too_large, asked_conditions}
+use Rattle.ac_query.specs.Asked.{Group, Asked, class_slot, group_slots, slots_from}
+use Rattle.ac_query.specs.Faults.{Fault, no_resources, first_fault, has_resources, listed_suffixes, group_condition, suffix_condition, needs_policy, slot_count, entry_count, is_too_large, asked_conditions}
 use Rattle.ac_query.proofs.Once.{second_part}
 
 -- the slots of a group
@@ -46,6 +46,10 @@ neither : (b c : Bool) → b || c ≡ false → b ≡ false
 neither true c h = h
 neither false c h = refl
 
+neither_later : (b c : Bool) → b || c ≡ false → c ≡ false
+neither_later true c h = absurd (cc)
+neither_later false c h = h
+
 module _ (a : Asked) (fine : first_fault (asked_conditions a) ≡ None) where
   some_resources : list_any has_resources a.groups ≡ true
   some_resources = first_holds_not (list_any has_resources a.groups) _ _ fine
@@ -63,3 +67,8 @@ module _ (a : Asked) (fine : first_fault (asked_conditions a) ≡ None) where
       let few : nat_lt 64 (sum_by slot_count a.groups) ≡ false = neither _ _ not_too_large in
       let count : sum_by slot_count a.groups ≤ 64 = grind (arith, nat_tests) in
       omega (arith, length-slots_from 0 a.groups)
+
+  pub few_entries : sum_by entry_count a.groups ≤ 256
+  few_entries =
+      let few : nat_lt 256 (sum_by entry_count a.groups) ≡ false = neither_later _ _ not_too_large in
+      grind (arith, nat_tests)

@@ -4,7 +4,8 @@ use Rattle.std.specs.List.{slice_get}
 use Rattle.ac_query.specs.Texts.{has_text}
 use Rattle.ac_query.specs.Values.{AggregateRule}
 
--- what is asked of a group: amounts by class, classes in byte order; traits in byte order, each once; aggregate rules in the order of their pairs; perhaps a tree
+-- What is asked of a group: amounts by class, classes in byte order; traits in byte order, each once; aggregate rules in the order
+-- of their pairs; perhaps a tree.
 pub record Group : Type 0 where
   pub needs : List (List ℕ × ℕ)
   pub required : List (List ℕ)

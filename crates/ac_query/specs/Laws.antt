@@ -1,11 +1,11 @@
 -- Laws of the definitions.
 use Rattle.std.specs.Prelude.{◌≡◌, ℕ, ◌^◌, ◌<◌, List, [], ◌∷◌, Some, None}
-use Rattle.std.specs.List.{AllByRecursion}
+use Rattle.std.specs.List.{AllByRecursion, slice_get}
 use Rattle.std.specs.List.Sorted.{IsStrictlySortedBy}
 use Rattle.ac_base.specs.Texts.{text_cmp}
 use Rattle.ac_query.specs.Texts.{has_text, in_byte_order}
 use Rattle.ac_query.specs.Values.{ids_value}
-use Rattle.ac_query.specs.Asked.{Asked}
+use Rattle.ac_query.specs.Asked.{Asked, slots_of}
 use Rattle.ac_query.specs.Asks.{Asks}
 use Rattle.ac_query.specs.Gathered.{asked_by}
 use Rattle.ac_query.specs.Faults.{first_fault, pairs_conditions}
@@ -26,3 +26,7 @@ abbrev pub OrderHolds : Type 0
 OrderHolds =
     (texts : List (List ℕ))
     → IsStrictlySortedBy text_cmp (in_byte_order texts) × ((t : List ℕ) → has_text (in_byte_order texts) t ≡ has_text texts t)
+
+-- The place of a slot is that of its group.
+abbrev pub SlotsNameGroups : Type 0
+SlotsNameGroups = (a : Asked) → AllByRecursion (λ s. slice_get a.groups s.place ≡ Some (s.suffix, s.group)) (slots_of a)

@@ -3,6 +3,7 @@
 //! A `Query` stands for the record of its text (`specs/Asks`), or the first fault of the text is told (`specs/Faults`).
 #![tactic(auto)]
 
+mod amount;
 mod check;
 mod draft;
 pub mod fault;

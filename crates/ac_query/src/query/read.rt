@@ -14,6 +14,7 @@ ghost use Rattle.ac_query.specs.SlotsShown.{slot_shown, slots_at};
 ghost use Rattle.ac_query.specs.QueriesShown.{asked_of};
 
 use super::Query;
+use crate::amount::Amount;
 use crate::check::check;
 use crate::draft::{Draft, GroupDraft};
 use crate::fault::QueryFault;
@@ -37,7 +38,7 @@ fn names_in_order(alloc: Global, names: BTreeSet<TraitName>) -> Result<Vec<Trait
 }
 
 /// The needs of a map, classes in byte order.
-fn needs_in_order(alloc: Global, needs: BTreeMap<ClassName, u32>) -> Result<Vec<Need>, NoMemory>
+fn needs_in_order(alloc: Global, needs: BTreeMap<ClassName, Amount>) -> Result<Vec<Need>, NoMemory>
     ensures { IfOk result (λ list. map need_entry list.items ≡ needs_shown needs) }
 {
     let mut list = Vec::new(alloc);
