@@ -1,4 +1,4 @@
-use Rattle.std.proofs.Common.{◌≡◌, ℕ, ap, sym, ◌∙◌, get_or}
+use Rattle.std.proofs.Common.{ap, sym, ◌∙◌, get_or}
 use Rattle.std.proofs.Math.ListN.{get_or-map}
 use Rattle.ac_query.specs.GroupsShown.{group_entry}
 use Rattle.ac_query.specs.QueriesShown.{asked_of}
