@@ -1,18 +1,15 @@
 -- What the checks on all that is asked come to.
-use Rattle.std.proofs.Common.{◌≡◌, ℕ, ◌<◌, ◌≤◌, arith, ◌+◌, Bool, true, false, not, ◌&&◌, ◌||◌, nat_lt, List, [], ◌∷◌, ◌++◌, length, map, Option, Some, None, is_some, is_none, IfSome, refl, sym, ap, ap₂, ◌∙◌, sum_by, if◌then◌else◌}
+use Rattle.std.proofs.Common.{◌≡◌, ℕ, ◌<◌, ◌≤◌, arith, ◌+◌, Bool, true, false, ◌&&◌, ◌||◌, nat_lt, List, [], ◌∷◌, ◌++◌, length, map, Option, Some, None, is_some, is_none, IfSome, refl, sym, ap, ap₂, ◌∙◌, sum_by, if◌then◌else◌}
 use Rattle.std.specs.Prelude.{filter}
-use Rattle.std.specs.Ordering.{is_eq}
 use Rattle.std.specs.List.{list_any}
 use Rattle.std.specs.Map.{lookup}
 use Rattle.std.specs.BTreeMap.{is_at}
-use Rattle.std.specs.Str.{bytes_eq}
 use Rattle.std.specs.Cmp.Lexicographic.{texts_ties}
 use Rattle.std.proofs.lemmas.Bool.Decides.{nat_tests}
 use Rattle.std.proofs.lemmas.List.{map-append}
 use Rattle.std.proofs.lemmas.List.Sums.{sum_by-cons, sum_by-append}
 use Rattle.ac_base.specs.declared.name.Suffix.{Suffix}
 use Rattle.ac_base.specs.Names.{suffix_bytes}
-use Rattle.ac_base.specs.Texts.{text_cmp}
 use Rattle.ac_query.specs.declared.draft.GroupDraft.{GroupDraft}
 use Rattle.ac_query.specs.Asked.{Group, Asked}
 use Rattle.ac_query.specs.Gathered.{plain_groups, of_suffix}

@@ -13,3 +13,11 @@ pub mod Passing
 pub mod Checks
 pub mod Slots
 pub mod Wholes
+pub mod ParameterNames
+pub mod Once
+pub mod Gathering
+pub mod Asking
+pub mod WrittenIds
+pub mod SlotCounts
+pub mod Amounts
+pub mod SlotPlaces

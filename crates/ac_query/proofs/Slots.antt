@@ -1,9 +1,9 @@
 -- Slots, and the groups and classes that they name.
-use Rattle.std.proofs.Common.{◌≡◌, Bool, true, false, ℕ, ◌+◌, ◌<◌, ◌≤◌, suc, zero, add-one, arith, List, [], ◌∷◌, ◌++◌, length, map, drop, get_or, Option, Some, None, IsSome, refl, sym, ap, ap₂, ◌∙◌, subst, inl, inr, append_assoc, drop-cons, zero-add, is_some}
+use Rattle.std.proofs.Common.{◌≡◌, Bool, true, false, ℕ, ◌+◌, ◌<◌, suc, zero, add-one, arith, List, [], ◌∷◌, ◌++◌, length, map, drop, get_or, Option, Some, None, IsSome, refl, sym, ap, ap₂, ◌∙◌, subst, append_assoc, drop-cons, zero-add, is_some}
 use Rattle.std.specs.List.{slice_get, range_with_len}
 use Rattle.std.specs.Option.{option_map, option_and_then}
 use Rattle.std.proofs.lemmas.List.{map-append, length-map}
-use Rattle.std.proofs.lemmas.Option.{slice_get-map, slice_get_read, slice_get_within, slice_get_past, get_or_from_slice_get, slice_get-get_or}
+use Rattle.std.proofs.lemmas.Option.{slice_get-map, slice_get_read, slice_get_within, get_or_from_slice_get}
 use Rattle.std.proofs.lemmas.List.FromFn.{map-range_with_len_more}
 use Rattle.ac_query.specs.declared.slot.Slot as rust
 use Rattle.ac_query.specs.Texts.{has_text}

@@ -10,7 +10,7 @@ use Rattle.ac_query.specs.Asked.{Group}
 
 -- a need as its class and its amount
 abbrev pub need_entry : Need → List ℕ × ℕ
-need_entry n = (class_bytes n.class, n.amount)
+need_entry n = (class_bytes n.class, n.amount.count)
 
 abbrev pub rule_shown : rule.AggregateRule → AggregateRule
 rule_shown r = record { forbids = r.forbids; ids = r.ids.items }

@@ -15,3 +15,4 @@ pub mod FaultsShown
 pub mod SlotsShown
 pub mod QueriesShown
 pub mod Tokens
+pub mod Laws

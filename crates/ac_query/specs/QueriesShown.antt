@@ -1,5 +1,5 @@
 -- The record that a query stands for.
-use Rattle.std.specs.Prelude.{ℕ, List, map}
+use Rattle.std.specs.Prelude.{map}
 use Rattle.ac_base.specs.Names.{trait_bytes}
 use Rattle.ac_query.specs.declared.query.Query.{Query}
 use Rattle.ac_query.specs.Asked.{Asked}

@@ -9,15 +9,16 @@ use Rattle.ac_base.specs.declared.name.ClassName.{ClassName}
 use Rattle.ac_base.specs.declared.name.Suffix.{Suffix}
 use Rattle.ac_base.specs.declared.name.TraitName.{TraitName}
 use Rattle.ac_base.specs.Names.{class_bytes, trait_bytes, suffix_bytes}
+use Rattle.ac_query.specs.declared.amount.Amount.{Amount}
 use Rattle.ac_query.specs.declared.traits.Traits as rust
 use Rattle.ac_query.specs.Values.{Traits}
 
 -- a class and its amount
-abbrev pub need_shown : ClassName × ℕ → List ℕ × ℕ
-need_shown p = (class_bytes p.0, p.1)
+abbrev pub need_shown : ClassName × Amount → List ℕ × ℕ
+need_shown p = (class_bytes p.0, p.1.count)
 
 -- the needs of a map, classes in byte order
-abbrev pub needs_shown : BTreeMap ClassName ℕ → List (List ℕ × ℕ)
+abbrev pub needs_shown : BTreeMap ClassName Amount → List (List ℕ × ℕ)
 needs_shown m = map need_shown m.entries
 
 -- the names of a set, in byte order

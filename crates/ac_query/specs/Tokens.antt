@@ -1,5 +1,5 @@
 -- Tokens: their texts, and the ids of their parts.
-use Rattle.std.specs.Prelude.{ℕ, ◌==◌, List, map, length, Option, Some, None, if◌then◌else◌}
+use Rattle.std.specs.Prelude.{ℕ, ◌==◌, nat_lt, List, ◌∷◌, map, length, Option, Some, None, if◌then◌else◌}
 use Rattle.std.specs.List.{join_with_byte}
 use Rattle.ac_base.specs.Texts.{id_text}
 use Rattle.ac_query.specs.declared.token.Token.{Token}
@@ -15,6 +15,10 @@ ids_of t = t.ids.items
 -- the text of a token: ids in written form, joined by commas
 abbrev pub ids_text : List ℕ → List ℕ
 ids_text ids = join_with_byte 44 (map id_text ids)
+
+-- the text of the part at a place: behind a comma, but for the first
+abbrev pub part_text : ℕ → ℕ → List ℕ
+part_text place id = if nat_lt 0 place then 44 ∷ id_text id else id_text id
 
 -- a text whose parts have these ids, if any, is refused where a part has none, and then where there aren't as many as slots
 abbrev pub fault_of : ℕ → Option (List ℕ) → Option TokenFault

@@ -6,6 +6,7 @@ ghost use Rattle.ac_query.specs.Values.{in_group};
 ghost use Rattle.ac_query.specs.GivenShown.{part_shown, given_shown};
 ghost use Rattle.ac_query.specs.DraftShown.{group_drafted, entries_shown, draft_shown};
 
+use crate::amount::Amount;
 use crate::given::{Given, Part};
 use crate::group::AggregateRule;
 use crate::traits::Traits;
@@ -16,7 +17,7 @@ use std::collections::{BTreeMap, BTreeSet};
 /// What is asked of a group so far.
 #[derive(Drop)]
 pub(crate) struct GroupDraft {
-    pub(crate) needs: BTreeMap<ClassName, u32>,
+    pub(crate) needs: BTreeMap<ClassName, Amount>,
     pub(crate) traits: Traits,
     pub(crate) member_of: Vec<AggregateRule>,
     pub(crate) in_tree: Option<Id>,

@@ -6,6 +6,7 @@ ghost use Rattle.ac_query.specs.ParametersShown.{parameter_shown};
 ghost use Rattle.ac_query.specs.Values.{given_of, is_part_conflict, is_conflict};
 ghost use Rattle.ac_query.specs.GivenShown.{part_shown, given_shown};
 
+use crate::amount::Amount;
 use crate::group::AggregateRule;
 use crate::parameter::{Field, Parameter};
 use crate::traits::Traits;
@@ -17,7 +18,7 @@ use std::collections::{BTreeMap, BTreeSet};
 /// A part of what is asked of a group.
 #[derive(Drop)]
 pub(crate) enum Part {
-    Needs(BTreeMap<ClassName, u32>),
+    Needs(BTreeMap<ClassName, Amount>),
     Traits(Traits),
     Aggregates(AggregateRule),
     Tree(Id),
@@ -88,7 +89,10 @@ impl Given {
             Parameter::RootRequired => Ok(read_traits(alloc, text)?.map(Given::RootTraits)),
             Parameter::GroupPolicy => Ok(read_policy(text).map(Given::Policy)),
             Parameter::SameSubtree => Ok(read_subtree(alloc, text)?.map(Given::Subtree)),
-            Parameter::Limit => Ok(read_amount(text).map(Given::AtMost)),
+            Parameter::Limit => match read_amount(text) {
+                Some(amount) => Ok(Some(Given::AtMost(amount.count))),
+                None => Ok(None),
+            },
         }
     }
 

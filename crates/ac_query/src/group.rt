@@ -1,15 +1,16 @@
-ghost use Rattle.std.specs.Prelude.{◌≡◌, map};
+ghost use Rattle.std.specs.Prelude.{◌≡◌, ◌<◌, ◌≤◌, map};
 ghost use Rattle.std.specs.Option.{option_map};
 ghost use Rattle.ac_base.specs.Names.{class_bytes, trait_bytes, suffix_bytes};
 ghost use Rattle.ac_query.specs.GroupsShown.{need_entry, rule_shown, suffix_of, group_asked};
 
+use crate::amount::Amount;
 use ac_base::{ClassName, Id, Suffix, TraitName};
 
 /// How much of a class one provider is to give, at least 1.
 #[derive(Debug, Drop)]
 pub struct Need {
     pub(crate) class: ClassName,
-    pub(crate) amount: u32,
+    pub(crate) amount: Amount,
 }
 
 impl Need {
@@ -19,10 +20,13 @@ impl Need {
         &self.class
     }
 
+    /// The amount, 1 to 2147483647.
     pub fn amount(&self) -> u32
-        ensures { result ≡ (need_entry self.now).1 }
+        ensures value { result ≡ (need_entry self.now).1 }
+        ensures positive { 0 < result }
+        ensures small { result ≤ 2147483647 }
     {
-        self.amount
+        self.amount.count
     }
 }
 

@@ -3,21 +3,27 @@
 //! A `Query` stands for the record of its text (`specs/Asks`), or the first fault of the text is told (`specs/Faults`).
 #![tactic(auto)]
 
+mod amount;
 mod check;
 mod draft;
 pub mod fault;
 mod given;
 pub mod group;
+pub mod laws;
 mod parameter;
 mod pass;
 pub mod query;
 pub mod slot;
+#[cfg(test)]
+mod tests;
 pub mod token;
 mod traits;
 mod values;
+pub mod write;
 
 pub use fault::QueryFault;
 pub use group::{AggregateRule, Group, Need};
 pub use query::Query;
 pub use slot::Slot;
 pub use token::{Token, TokenFault};
+pub use write::write_ids;

@@ -10,7 +10,7 @@ use std::alloc::Global;
 
 /// The parameters of a group.
 #[derive(Clone, Copy, Debug, PartialEq, Eq)]
-pub enum Field {
+pub(crate) enum Field {
     Resources,
     Required,
     MemberOf,
@@ -19,7 +19,7 @@ pub enum Field {
 
 /// A parameter. A field without a suffix is of the unsuffixed group.
 #[derive(Debug, Drop)]
-pub enum Parameter {
+pub(crate) enum Parameter {
     Group(Field, Option<Suffix>),
     RootRequired,
     GroupPolicy,
@@ -102,7 +102,7 @@ fn read_grouped(alloc: Global, name: &str) -> Result<Option<Parameter>, NoMemory
 impl Parameter {
     /// The parameter that a name is.
     #[tactic(auto, using(crate::proofs::Choices::or_else_first, crate::proofs::Choices::or_else_next), unfolding(crate::specs::Parameters::parameter))]
-    pub fn read(alloc: Global, name: &str) -> Result<Option<Parameter>, NoMemory>
+    pub(crate) fn read(alloc: Global, name: &str) -> Result<Option<Parameter>, NoMemory>
         ensures { IfOk result (λ found. option_map parameter_shown found ≡ parameter name.now) }
     {
         match read_plain(name) {
@@ -112,7 +112,7 @@ impl Parameter {
     }
 
     /// Whether it may be given more than once.
-    pub fn may_repeat(&self) -> bool
+    pub(crate) fn may_repeat(&self) -> bool
         ensures { result ≡ may_repeat (parameter_shown self.now) }
     {
         match self {

@@ -1,5 +1,6 @@
-ghost use Rattle.std.specs.Prelude.{◌≡◌, map, Some};
+ghost use Rattle.std.specs.Prelude.{◌≡◌, ◌<◌, ◌≤◌, map, length, sum_by, Some};
 ghost use Rattle.ac_query.specs.Asked.{slots_from};
+ghost use Rattle.ac_query.specs.Faults.{entry_count};
 ghost use Rattle.ac_query.specs.GroupsShown.{group_entry};
 ghost use Rattle.ac_query.specs.SlotsShown.{slot_shown};
 
@@ -21,5 +22,8 @@ pub struct Query {
     root_required: Vec<TraitName>,
     root_forbidden: Vec<TraitName>,
     limit: Option<u32>,
+    ghost some: { 0 < length slots.items },
+    ghost few: { length slots.items ≤ 64 },
+    ghost few_entries: { sum_by entry_count (map group_entry groups.items) ≤ 256 },
     ghost slotted: { map (slot_shown (map group_entry groups.items)) slots.items ≡ map (λ s. Some s) (slots_from 0 (map group_entry groups.items)) },
 }

@@ -4,6 +4,7 @@ ghost use Rattle.ac_query.specs.Values.{amount_value, need_value, with_need_item
 ghost use Rattle.ac_query.specs.Shown.{need_shown, needs_shown, names_shown, traits_shown, suffixes_shown};
 ghost use Rattle.ac_query.specs.GroupsShown.{rule_shown};
 
+use crate::amount::Amount;
 use crate::group::AggregateRule;
 use crate::parameter::behind;
 use crate::traits::Traits;
@@ -13,16 +14,20 @@ use std::collections::{BTreeMap, BTreeSet};
 
 /// A number of at least 1.
 #[tactic(auto, unfolding(crate::specs::Values::amount_value))]
-pub(crate) fn read_amount(text: &str) -> Option<u32>
-    ensures { result ≡ amount_value text.now }
+pub(crate) fn read_amount(text: &str) -> Option<Amount>
+    ensures { option_map (λ a. a.count) result ≡ amount_value text.now }
 {
-    let value = read_count(text.as_bytes())?;
-    if value == 0 { None } else { Some(value) }
+    let count = read_count(text.as_bytes())?;
+    if count == 0 {
+        None
+    } else {
+        Some(Amount { count })
+    }
 }
 
 /// The class and the amount of an item `CLASS:n`.
 #[tactic(auto, unfolding(crate::specs::Values::need_value))]
-fn read_need(alloc: Global, item: &str) -> Result<Option<(ClassName, u32)>, NoMemory>
+fn read_need(alloc: Global, item: &str) -> Result<Option<(ClassName, Amount)>, NoMemory>
     ensures { IfOk result (λ need. option_map need_shown need ≡ need_value item.now) }
 {
     let Some((class, amount)) = item.split_once(':') else {
@@ -40,7 +45,7 @@ fn read_need(alloc: Global, item: &str) -> Result<Option<(ClassName, u32)>, NoMe
 /// Adds what an item says, unless it says nothing or its class is there.
 fn add_need(
     alloc: Global,
-    needs: &mut BTreeMap<ClassName, u32>,
+    needs: &mut BTreeMap<ClassName, Amount>,
     item: &str,
 ) -> Result<bool, NoMemory>
     ensures { IfOk result (λ added. (if added then Some (needs_shown needs.new) else None) ≡ with_need_item (Some (needs_shown needs.old)) item.now) }
@@ -60,7 +65,7 @@ fn add_need(
 pub(crate) fn read_needs(
     alloc: Global,
     text: &str,
-) -> Result<Option<BTreeMap<ClassName, u32>>, NoMemory>
+) -> Result<Option<BTreeMap<ClassName, Amount>>, NoMemory>
     ensures { IfOk result (λ needs. option_map needs_shown needs ≡ needs_value text.now) }
 {
     let mut needs = BTreeMap::new(alloc);

@@ -1,8 +1,9 @@
-ghost use Rattle.std.specs.Prelude.{◌≡◌, ◌<◌, map, length, Some, IsSome};
+ghost use Rattle.std.specs.Prelude.{◌≡◌, ◌<◌, ◌≤◌, map, length, sum_by, Some, IsSome};
 ghost use Rattle.std.specs.List.{slice_get};
 ghost use Rattle.std.specs.Option.{option_map};
 ghost use Rattle.ac_base.specs.Names.{trait_bytes};
 ghost use Rattle.ac_query.specs.Asked.{slots_of, is_isolated, in_subtree};
+ghost use Rattle.ac_query.specs.Faults.{entry_count};
 ghost use Rattle.ac_query.specs.GroupsShown.{need_entry, group_entry};
 ghost use Rattle.ac_query.specs.SlotsShown.{slot_group, slot_shown};
 ghost use Rattle.ac_query.specs.QueriesShown.{asked_of};
@@ -14,16 +15,19 @@ use ac_base::TraitName;
 use std::slice;
 
 impl Query {
-    /// The request groups: the unsuffixed one first, then suffixes in byte order.
+    /// The request groups: the unsuffixed one first, then suffixes in byte order. They need at most 256 classes together.
     pub fn groups(&self) -> &[Group]
-        ensures { map group_entry result.now ≡ (asked_of self.now).groups }
+        ensures groups { map group_entry result.now ≡ (asked_of self.now).groups }
+        ensures few_entries { sum_by entry_count (asked_of self.now).groups ≤ 256 }
     {
         self.groups.as_slice()
     }
 
-    /// The slots: one for each class of the unsuffixed group, then one for each suffix.
+    /// The slots, 1 to 64: one for each class of the unsuffixed group, then one for each suffix.
     pub fn slots(&self) -> &[Slot]
-        ensures { map slot_group result.now ≡ map (λ s. s.place) (slots_of (asked_of self.now)) }
+        ensures some { 0 < length result.now }
+        ensures few { length result.now ≤ 64 }
+        ensures groups { map slot_group result.now ≡ map (λ s. s.place) (slots_of (asked_of self.now)) }
     {
         self.slots.as_slice()
     }

@@ -2,9 +2,10 @@ ghost use Rattle.std.specs.Prelude.{◌≡◌, ◌+◌, ◌++◌, IfOk, OnOk, If
 ghost use Rattle.std.specs.Option.{option_map};
 ghost use Rattle.ac_base.specs.Names.{trait_bytes, suffix_bytes};
 ghost use Rattle.ac_query.specs.Asked.{slots_from};
+ghost use Rattle.ac_query.specs.Asks.{Asks};
 ghost use Rattle.ac_query.specs.Gathered.{asked_by};
 ghost use Rattle.ac_query.specs.Pairs.{pairs_of};
-ghost use Rattle.ac_query.specs.Faults.{query_fault};
+ghost use Rattle.ac_query.specs.Faults.{first_fault, asked_conditions, query_fault};
 ghost use Rattle.ac_query.specs.FaultsShown.{fault_shown};
 ghost use Rattle.ac_query.specs.Shown.{needs_shown, names_shown};
 ghost use Rattle.ac_query.specs.DraftShown.{group_drafted, plain_shown, suffixed_shown, draft_asked};
@@ -13,6 +14,7 @@ ghost use Rattle.ac_query.specs.SlotsShown.{slot_shown, slots_at};
 ghost use Rattle.ac_query.specs.QueriesShown.{asked_of};
 
 use super::Query;
+use crate::amount::Amount;
 use crate::check::check;
 use crate::draft::{Draft, GroupDraft};
 use crate::fault::QueryFault;
@@ -36,7 +38,7 @@ fn names_in_order(alloc: Global, names: BTreeSet<TraitName>) -> Result<Vec<Trait
 }
 
 /// The needs of a map, classes in byte order.
-fn needs_in_order(alloc: Global, needs: BTreeMap<ClassName, u32>) -> Result<Vec<Need>, NoMemory>
+fn needs_in_order(alloc: Global, needs: BTreeMap<ClassName, Amount>) -> Result<Vec<Need>, NoMemory>
     ensures { IfOk result (λ list. map need_entry list.items ≡ needs_shown needs) }
 {
     let mut list = Vec::new(alloc);
@@ -135,8 +137,9 @@ fn slots_in_order(alloc: Global, groups: &[Group]) -> Result<Vec<Slot>, NoMemory
     Ok(slots)
 }
 
-/// The query of a draft.
+/// The query of a draft without a fault.
 fn query_of(alloc: Global, draft: Draft) -> Result<Query, NoMemory>
+    requires { first_fault (asked_conditions (draft_asked draft)) ≡ None }
     ensures { IfOk result (λ query. asked_of query ≡ draft_asked draft) }
 {
     let Draft {
@@ -173,6 +176,7 @@ impl Query {
     /// want of memory is told where a growth was refused.
     pub fn read(alloc: Global, text: &str) -> Result<Query, QueryFault>
         ensures fine { OnOk result (query_fault text.now ≡ None) }
+        ensures asks { IfOk result (λ query. Asks (pairs_of text.now) (asked_of query)) }
         ensures record { IfOk result (λ query. asked_of query ≡ asked_by (pairs_of text.now)) }
         ensures err { IfErr result (λ e. IfSome (fault_shown e) (λ f. query_fault text.now ≡ Some f)) }
     {

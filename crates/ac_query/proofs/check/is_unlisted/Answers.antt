@@ -1,4 +1,4 @@
-use Rattle.std.proofs.Common.{◌∙◌, not, ◌&&◌, sym, ap, ap₂, refl}
+use Rattle.std.proofs.Common.{◌∙◌, not, ◌&&◌, sym, ap₂, refl}
 use Rattle.ac_base.specs.Names.{suffix_bytes}
 use Rattle.ac_query.proofs.NameSets.{contains_text}
 use Rattle.ac_query.proofs.check.is_unlisted.Goals as goal

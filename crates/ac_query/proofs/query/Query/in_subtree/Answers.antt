@@ -1,4 +1,4 @@
-use Rattle.std.proofs.Common.{◌∙◌, ap, sym, map, length, arith, refl, get_or, slice_get}
+use Rattle.std.proofs.Common.{◌∙◌, ap, refl}
 use Rattle.std.specs.Option.{option_map}
 use Rattle.ac_base.specs.Names.{suffix_bytes}
 use Rattle.ac_query.specs.Asked.{slots_of}

@@ -4,7 +4,7 @@ use Rattle.ac_query.specs.Faults.{query_fault}
 use Rattle.ac_query.specs.FaultsShown.{fault_shown}
 use Rattle.ac_query.specs.DraftShown.{draft_shown}
 use Rattle.ac_query.proofs.PairSteps.{err_is}
-use Rattle.ac_query.proofs.Wholes.{asked_is, text_tells, goes_on, whole_tells}
+use Rattle.ac_query.proofs.Wholes.{asked_is, text_tells, goes_on, whole_tells, asks_record}
 use Rattle.ac_query.proofs.query.Query.read.Goals as goal
 
 pub returns-in_err-draft-clause-err : goal.returns-in_err-draft-clause-err
@@ -23,3 +23,6 @@ returns-clause-fine c = goes_on c.args.text.now c.in_ok-draft.ensures.fine (draf
 
 pub returns-clause-record : goal.returns-clause-record
 returns-clause-record c = c.in_ok-query.ensures ∙ asked_is (pairs_of c.args.text.now) (draft_shown c.in_ok-draft.draft) c.in_ok-draft.ensures.ok
+
+pub returns-clause-asks : goal.returns-clause-asks
+returns-clause-asks c = asks_record c.args.text.now c.in_ok-draft.ensures.fine _ (returns-clause-record c)

@@ -1,6 +1,5 @@
-use Rattle.std.proofs.Common.{◌≡◌, Some, IsSome, sym, ap, ◌∙◌, ◌<◌, arith, length, refl}
+use Rattle.std.proofs.Common.{arith, length, refl}
 use Rattle.std.proofs.lemmas.Option.{slice_get_read}
-use Rattle.std.proofs.lemmas.List.{length-map}
 use Rattle.ac_query.specs.Asked.{slots_of}
 use Rattle.ac_query.specs.QueriesShown.{asked_of}
 use Rattle.ac_query.proofs.Slots.{slot_at, slot_there, slots_count, group_within}

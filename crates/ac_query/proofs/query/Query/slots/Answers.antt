@@ -5,7 +5,7 @@ use Rattle.ac_query.specs.QueriesShown.{asked_of}
 use Rattle.ac_query.proofs.Slots.{places_are}
 use Rattle.ac_query.proofs.query.Query.slots.Goals as goal
 
-pub returns : goal.returns
-returns c =
+pub returns-clause-groups : goal.returns-clause-groups
+returns-clause-groups c =
     ap (map slot_group) c.as_slice.ensures.value
     ∙ places_are (asked_of c.args.self.now).groups c.args.self.now.slots.items (slots_of (asked_of c.args.self.now)) c.args.self.now.slotted

@@ -1,4 +1,4 @@
-use Rattle.std.proofs.Common.{map, length, arith}
+use Rattle.std.proofs.Common.{map, arith}
 use Rattle.std.proofs.lemmas.List.{length-map}
 use Rattle.ac_query.specs.GroupsShown.{group_entry}
 use Rattle.ac_query.proofs.Slots.{slots_go_on, shown_read}

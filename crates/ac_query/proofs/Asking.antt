@@ -1,0 +1,184 @@
+-- Where no pair has a fault, exactly one record is what the pairs ask for.
+use Rattle.std.proofs.Common.{◌≡◌, ◌||◌, append_assoc, ℕ, suc, Bool, true, false, List, [], ◌∷◌, ◌++◌, map, Option, Some, None, refl, sym, ap, ap₂, ◌∙◌, subst}
+use Rattle.std.specs.declared.cmp.Ordering.{Ordering}
+use Rattle.std.specs.declared.cmp.Ordering.TheVariants.{Less, Equal, Greater}
+use Rattle.std.specs.Ordering.{ordering_reverse}
+use Rattle.std.specs.List.{fold, filter_map, slice_get, AllByRecursion}
+use Rattle.std.specs.List.Sorted.{IsStrictlySortedBy}
+use Rattle.std.specs.Map.{keys_of}
+use Rattle.std.specs.BTreeSet.{insert_key}
+use Rattle.std.proofs.lemmas.Cmp.{nat_list_cmp_total, eq_by_cmp_equiv}
+use Rattle.std.proofs.lemmas.List.{map-append, append-nil}
+use Rattle.std.proofs.lemmas.Map.Entries.{lookup_from_place}
+use Rattle.std.proofs.lemmas.Map.Keys.{IsDistinct-from_sorted}
+use Rattle.ac_base.specs.Texts.{text_cmp}
+use Rattle.ac_query.specs.Texts.{has_text, in_order_with}
+use Rattle.ac_query.specs.Values.{Part, Given}
+use Rattle.ac_query.specs.Pairs.{given}
+use Rattle.ac_query.specs.Asked.{Group, Asked}
+use Rattle.ac_query.specs.Asks.{IsTold, needs_in, tree_in, AsksOfGroup, parts_of, unsuffixed, suffix_in, policy_in, limit_in, Asks}
+use Rattle.ac_query.specs.Gathered.{empty_group, nothing, with_part, plain_groups, of_suffix, as_asked, gathered, asked_by}
+use Rattle.ac_query.specs.Faults.{first_fault, pairs_conditions}
+use Rattle.ac_query.specs.Laws.{AsksOnce, OrderHolds}
+use Rattle.std.specs.Str.{bytes_eq}
+use Rattle.ac_query.proofs.Earlier.{has_text-insert}
+use Rattle.ac_query.proofs.Once.{policy_once, limit_once, needs_once, tree_once}
+use Rattle.ac_query.proofs.Gathering.{told_from_short, group_asks, policy_latest, limit_latest, subtrees_all, root_required_all, root_forbidden_all, grown_all, grown_there, plain_grown, suffixes_all, found_grown}
+
+-- ---- texts in byte order
+all_weaker : {X : Type 0} (P Q : X → Type 0) → ((x : X) → P x → Q x) → (xs : List X) → AllByRecursion P xs → AllByRecursion Q xs
+all_weaker P Q h [] all = tt
+all_weaker P Q h (x ∷ xs) all = (h x all.0, all_weaker P Q h xs all.1)
+
+below_insert : (x k : List ℕ) (ks : List (List ℕ)) → text_cmp x k ≡ Less → AllByRecursion (λ y. text_cmp x y ≡ Less) ks → AllByRecursion (λ y. text_cmp x y ≡ Less) (insert_key text_cmp ks k)
+below_insert x k [] less all = (less, tt)
+below_insert x k (y ∷ ks) less all = by_order (text_cmp k y) refl (below_insert x k ks less all.1)
+  where
+    by_order : (o : Ordering) → text_cmp k y ≡ o → AllByRecursion (λ z. text_cmp x z ≡ Less) (insert_key text_cmp ks k) → AllByRecursion (λ z. text_cmp x z ≡ Less) (insert_key text_cmp (y ∷ ks) k)
+    by_order Less is later = rw is (less, all)
+    by_order Equal is later = rw is all
+    by_order Greater is later = rw is (all.0, later)
+
+insert_sorted : (ks : List (List ℕ)) (k : List ℕ) → IsStrictlySortedBy text_cmp ks → IsStrictlySortedBy text_cmp (insert_key text_cmp ks k)
+unfolding IsStrictlySortedBy
+insert_sorted [] k s = (tt, tt)
+insert_sorted (x ∷ ks) k s = by_order (text_cmp k x) refl (insert_sorted ks k s.1)
+  where
+    by_order : (o : Ordering) → text_cmp k x ≡ o → IsStrictlySortedBy text_cmp (insert_key text_cmp ks k) → IsStrictlySortedBy text_cmp (insert_key text_cmp (x ∷ ks) k)
+    by_order Less is later = rw is ((is, all_weaker _ _ (λ y h. nat_list_cmp_total.trans k x y is h) ks s.0), s)
+    by_order Equal is later = rw is s
+    by_order Greater is later =
+        let below : text_cmp x k ≡ Less = nat_list_cmp_total.antisymm x k ∙ ap ordering_reverse is in
+        rw is (below_insert x k ks below s.0, later)
+
+order_sorted : (ks more : List (List ℕ)) → IsStrictlySortedBy text_cmp ks → IsStrictlySortedBy text_cmp (in_order_with ks more)
+order_sorted ks [] s = s
+order_sorted ks (x ∷ more) s = order_sorted (insert_key text_cmp ks x) more (insert_sorted ks x s)
+
+empty_sorted : IsStrictlySortedBy text_cmp []
+unfolding IsStrictlySortedBy
+empty_sorted = tt
+
+-- whether a text is among some, or among others
+has_text-append : (xs ys : List (List ℕ)) (t : List ℕ) → has_text (xs ++ ys) t ≡ has_text xs t || has_text ys t
+has_text-append [] ys t = refl
+has_text-append (x ∷ xs) ys t = ap (λ b. bytes_eq t x || b) (has_text-append xs ys t) ∙ assoc (bytes_eq t x) (has_text xs t) (has_text ys t)
+  where
+    assoc : (a b c : Bool) → a || (b || c) ≡ (a || b) || c
+    assoc true b c = refl
+    assoc false b c = refl
+
+order_has : (ks more : List (List ℕ)) (t : List ℕ) → has_text (in_order_with ks more) t ≡ has_text (ks ++ more) t
+order_has ks [] t = ap (λ l. has_text l t) (sym (append-nil ks))
+order_has ks (x ∷ more) t =
+    order_has (insert_key text_cmp ks x) more t
+    ∙ has_text-append (insert_key text_cmp ks x) more t
+    ∙ ap (λ b. b || has_text more t) (has_text-insert ks x t)
+    ∙ sym (has_text-append (ks ++ x ∷ []) more t)
+    ∙ ap (λ l. has_text l t) (append_assoc ks (x ∷ []) more)
+
+pub order_holds : OrderHolds
+order_holds texts = (order_sorted [] texts empty_sorted, order_has [] texts)
+
+-- ---- all of a list
+all_from_places : {X : Type 0} (P : X → Type 0) (xs : List X) → ((i : ℕ) (x : X) → slice_get xs i ≡ Some x → P x) → AllByRecursion P xs
+all_from_places P [] h = tt
+all_from_places P (x ∷ xs) h = (h 0 x refl, all_from_places P xs (λ i y is. h (suc i) y is))
+
+all_map : {X Y : Type 0} (f : X → Y) (P : Y → Type 0) (xs : List X) → AllByRecursion (λ x. P (f x)) xs → AllByRecursion P (map f xs)
+all_map f P [] all = tt
+all_map f P (x ∷ xs) all = (all.0, all_map f P xs all.1)
+
+pub all_append : {X : Type 0} (P : X → Type 0) (xs ys : List X) → AllByRecursion P xs → AllByRecursion P ys → AllByRecursion P (xs ++ ys)
+all_append P [] ys a b = b
+all_append P (x ∷ xs) ys a b = (a.0, all_append P xs ys a.1 b)
+
+-- ---- the groups that are there
+-- a group of parts is the one that grew from them
+grown_is : (ps : List Part) (g : Group) → Some g ≡ grown_all None ps → g ≡ fold with_part empty_group ps
+grown_is [] g h = absurd (cc)
+grown_is (p ∷ ps) g h = let e : Some g ≡ Some (fold with_part (with_part empty_group p) ps) = h ∙ grown_there (with_part empty_group p) ps in cc
+
+plain_named : (ps : List Part) → map (λ e. e.0) (plain_groups (grown_all None ps)) ≡ unsuffixed ps
+plain_named [] = refl
+plain_named (p ∷ ps) = ap (λ o. map (λ e. e.0) (plain_groups o)) (grown_there (with_part empty_group p) ps)
+
+suffixes_named : (es : List (List ℕ × Group)) → map (λ e. e.0) (map of_suffix es) ≡ map (λ s. Some s) (keys_of es)
+suffixes_named [] = refl
+suffixes_named (e ∷ es) = ap (λ l. Some e.0 ∷ l) (suffixes_named es)
+
+module _ (pairs : List (List ℕ × List ℕ)) (fine : first_fault (pairs_conditions 1 [] pairs) ≡ None) where
+  abbrev all : List Given
+  all = given pairs
+
+  group_fits : (s : Option (List ℕ)) (g : Group) → Some g ≡ grown_all None (parts_of s all) → AsksOfGroup (parts_of s all) g
+  group_fits s g is =
+      subst (AsksOfGroup (parts_of s all)) (sym (grown_is (parts_of s all) g is)) (group_asks (parts_of s all) (needs_once pairs fine s) (tree_once pairs fine s))
+
+  plain_fits : (o : Option Group) → o ≡ grown_all None (parts_of None all) → AllByRecursion (λ e. AsksOfGroup (parts_of e.0 all) e.1) (plain_groups o)
+  plain_fits None is = tt
+  plain_fits (Some g) is = (group_fits None g is, tt)
+
+  sorted : IsStrictlySortedBy text_cmp (keys_of (gathered pairs).suffixed)
+  sorted = subst (IsStrictlySortedBy text_cmp) (sym (suffixes_all nothing all)) (order_sorted [] (filter_map suffix_in all) empty_sorted)
+
+  suffixed_fits : AllByRecursion (λ e. AsksOfGroup (parts_of e.0 all) e.1) (map of_suffix (gathered pairs).suffixed)
+  suffixed_fits =
+      all_map of_suffix (λ e. AsksOfGroup (parts_of e.0 all) e.1) (gathered pairs).suffixed
+      (all_from_places _ (gathered pairs).suffixed
+      (λ i e is. group_fits (Some e.0) e.1
+      (sym (lookup_from_place (eq_by_cmp_equiv nat_list_cmp_total) (gathered pairs).suffixed i e.0 e.1 (IsDistinct-from_sorted text_cmp _ sorted) is)
+      ∙ found_grown e.0 nothing all)))
+
+  pub asks : Asks pairs (as_asked (gathered pairs))
+  asks = record {
+    groups =
+        map-append (λ e. e.0) (plain_groups (gathered pairs).plain) (map of_suffix (gathered pairs).suffixed)
+        ∙ ap₂ (λ a b. a ++ b)
+        (ap (λ o. map (λ e. e.0) (plain_groups o)) (plain_grown nothing all) ∙ plain_named (parts_of None all))
+        (suffixes_named (gathered pairs).suffixed ∙ ap (map (λ s. Some s)) (suffixes_all nothing all));
+    parts = all_append _ (plain_groups (gathered pairs).plain) _ (plain_fits (gathered pairs).plain (plain_grown nothing all)) suffixed_fits;
+    policy = subst (λ v. IsTold None v (filter_map policy_in all)) (sym (policy_latest nothing all)) (told_from_short None (filter_map policy_in all) (policy_once pairs fine));
+    subtrees = subtrees_all nothing all;
+    root_required = root_required_all nothing all;
+    root_forbidden = root_forbidden_all nothing all;
+    limit = subst (λ v. IsTold None v (filter_map limit_in all)) (sym (limit_latest nothing all)) (told_from_short None (filter_map limit_in all) (limit_once pairs fine));
+  }
+
+-- ---- no other record
+told_same : {A : Type 0} (n a b : A) (xs : List A) → IsTold n a xs → IsTold n b xs → a ≡ b
+told_same n a b [] h k = h ∙ sym k
+told_same n a b (x ∷ []) h k = h ∙ sym k
+told_same n a b (x ∷ y ∷ xs) h k = absurd h
+
+group_same : (ps : List Part) (g h : Group) → AsksOfGroup ps g → AsksOfGroup ps h → g ≡ h
+group_same ps g h a b =
+    ap (λ v. record g { needs = v }) (told_same [] g.needs h.needs (filter_map needs_in ps) a.needs b.needs)
+    ∙ ap (λ v. record g { needs = h.needs; required = v }) (a.required ∙ sym b.required)
+    ∙ ap (λ v. record h { forbidden = v; member_of = g.member_of; in_tree = g.in_tree }) (a.forbidden ∙ sym b.forbidden)
+    ∙ ap (λ v. record h { member_of = v; in_tree = g.in_tree }) (a.member_of ∙ sym b.member_of)
+    ∙ ap (λ v. record h { in_tree = v }) (told_same None g.in_tree h.in_tree (filter_map tree_in ps) a.in_tree b.in_tree)
+
+groups_same : (gs : List Given) (es fs : List (Option (List ℕ) × Group)) → map (λ e. e.0) es ≡ map (λ e. e.0) fs
+    → AllByRecursion (λ e. AsksOfGroup (parts_of e.0 gs) e.1) es → AllByRecursion (λ e. AsksOfGroup (parts_of e.0 gs) e.1) fs → es ≡ fs
+groups_same gs [] [] same a b = refl
+groups_same gs [] (f ∷ fs) same a b = absurd (cc)
+groups_same gs (e ∷ es) [] same a b = absurd (cc)
+groups_same gs (e ∷ es) (f ∷ fs) same a b =
+    let first : e.0 ≡ f.0 = cc in
+    let later : map (λ d. d.0) es ≡ map (λ d. d.0) fs = cc in
+    let group : e.1 ≡ f.1 = group_same (parts_of f.0 gs) e.1 f.1 (subst (λ s. AsksOfGroup (parts_of s gs) e.1) first a.0) b.0 in
+    ap₂ (λ d l. d ∷ l) (ap₂ (λ s g. (s, g)) first group) (groups_same gs es fs later a.1 b.1)
+
+pub asked_same : (pairs : List (List ℕ × List ℕ)) (a b : Asked) → Asks pairs a → Asks pairs b → a ≡ b
+asked_same pairs a b h k =
+    ap (λ v. record a { groups = v }) (groups_same (given pairs) a.groups b.groups (h.groups ∙ sym k.groups) h.parts k.parts)
+    ∙ ap (λ v. record a { groups = b.groups; policy = v }) (told_same None a.policy b.policy (filter_map policy_in (given pairs)) h.policy k.policy)
+    ∙ ap (λ v. record a { groups = b.groups; policy = b.policy; subtrees = v }) (h.subtrees ∙ sym k.subtrees)
+    ∙ ap (λ v. record b { root_required = v; root_forbidden = a.root_forbidden; limit = a.limit }) (h.root_required ∙ sym k.root_required)
+    ∙ ap (λ v. record b { root_forbidden = v; limit = a.limit }) (h.root_forbidden ∙ sym k.root_forbidden)
+    ∙ ap (λ v. record b { limit = v }) (told_same None a.limit b.limit (filter_map limit_in (given pairs)) h.limit k.limit)
+
+pub asks_once : AsksOnce
+unfolding asked_by
+asks_once pairs fine = (asks pairs fine, λ a h. asked_same pairs a (as_asked (gathered pairs)) h (asks pairs fine))

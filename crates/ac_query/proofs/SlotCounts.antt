@@ -1,0 +1,74 @@
+-- How many slots a query without a fault has.
+use Rattle.std.proofs.Common.{◌≡◌, ℕ, ◌+◌, ◌<◌, ◌≤◌, Bool, true, false, not, ◌||◌, nat_lt, List, [], ◌∷◌, ◌++◌, length, length-append, map, filter, is_none, ◌&&◌, Option, Some, None, sum_by, refl, ◌∙◌, arith, if◌then◌else◌}
+use Rattle.std.proofs.lemmas.Bool.Decides.{nat_tests}
+use Rattle.std.proofs.lemmas.List.{length-map}
+use Rattle.std.proofs.lemmas.List.Sums.{sum_by-cons}
+use Rattle.std.specs.List.{list_any}
+use Rattle.ac_query.specs.Asked.{Group, Asked, class_slot, group_slots, slots_from}
+use Rattle.ac_query.specs.Faults.{Fault, no_resources, first_fault, has_resources, listed_suffixes, group_condition, suffix_condition, needs_policy, slot_count, entry_count, is_too_large, asked_conditions}
+use Rattle.ac_query.proofs.Once.{second_part}
+
+-- the slots of a group
+count_of : (i : ℕ) (g : Option (List ℕ) × Group) → length (group_slots i g) ≡ slot_count g
+count_of i (None, g) = length-map g.needs (class_slot i g)
+count_of i (Some s, g) = refl
+
+pub length-slots_from : (i : ℕ) (gs : List (Option (List ℕ) × Group)) → length (slots_from i gs) ≡ sum_by slot_count gs
+length-slots_from i [] = refl
+length-slots_from i (g ∷ gs) =
+    length-append (group_slots i g) (slots_from (i + 1) gs)
+    ∙ (omega (arith, count_of i g, length-slots_from (i + 1) gs, sum_by-cons slot_count g gs))
+
+-- a group with resources has a slot
+has_slot : (g : Option (List ℕ) × Group) → has_resources g ≡ true → 0 < slot_count g
+has_slot (None, g) h = grind (arith, nat_tests)
+has_slot (Some s, g) h = omega arith
+
+have_slots : (gs : List (Option (List ℕ) × Group)) → list_any has_resources gs ≡ true → 0 < sum_by slot_count gs
+have_slots [] h = absurd (cc)
+have_slots (g ∷ gs) h = by_first (has_resources g) refl h (have_slots gs)
+  where
+    by_first : (b : Bool) → has_resources g ≡ b → b || list_any has_resources gs ≡ true → (list_any has_resources gs ≡ true → 0 < sum_by slot_count gs)
+        → 0 < sum_by slot_count (g ∷ gs)
+    by_first true is h later = let here = has_slot g is in omega (arith, sum_by-cons slot_count g gs)
+    by_first false is h later = let there = later h in omega (arith, sum_by-cons slot_count g gs)
+
+first_holds_not : (b : Bool) (f : Fault) (rest : Option Fault) → (if not b then Some f else rest) ≡ None → b ≡ true
+first_holds_not true f rest h = refl
+first_holds_not false f rest h = absurd (cc)
+
+second_holds_not : (b c : Bool) (f g : Fault) → (if b then Some f else (if c then Some g else None)) ≡ None → c ≡ false
+second_holds_not true c f g h = absurd (cc)
+second_holds_not false true f g h = absurd (cc)
+second_holds_not false false f g h = refl
+
+neither : (b c : Bool) → b || c ≡ false → b ≡ false
+neither true c h = h
+neither false c h = refl
+
+neither_later : (b c : Bool) → b || c ≡ false → c ≡ false
+neither_later true c h = absurd (cc)
+neither_later false c h = h
+
+module _ (a : Asked) (fine : first_fault (asked_conditions a) ≡ None) where
+  some_resources : list_any has_resources a.groups ≡ true
+  some_resources = first_holds_not (list_any has_resources a.groups) _ _ fine
+
+  not_too_large : is_too_large a.groups ≡ false
+  not_too_large =
+      second_holds_not (nat_lt 1 (length (filter needs_policy a.groups)) && is_none a.policy) (is_too_large a.groups) _ _
+      (second_part (((not (list_any has_resources a.groups), no_resources) ∷ map (group_condition (listed_suffixes a)) a.groups) ++ map (suffix_condition a.groups) (listed_suffixes a)) _ fine)
+
+  pub some_slots : 0 < length (slots_from 0 a.groups)
+  some_slots = let some = have_slots a.groups some_resources in omega (arith, length-slots_from 0 a.groups)
+
+  pub few_slots : length (slots_from 0 a.groups) ≤ 64
+  few_slots =
+      let few : nat_lt 64 (sum_by slot_count a.groups) ≡ false = neither _ _ not_too_large in
+      let count : sum_by slot_count a.groups ≤ 64 = grind (arith, nat_tests) in
+      omega (arith, length-slots_from 0 a.groups)
+
+  pub few_entries : sum_by entry_count a.groups ≤ 256
+  few_entries =
+      let few : nat_lt 256 (sum_by entry_count a.groups) ≡ false = neither_later _ _ not_too_large in
+      grind (arith, nat_tests)

@@ -1,0 +1,5 @@
+use Rattle.ac_query.proofs.Asking.{asks_once}
+use Rattle.ac_query.proofs.laws.asks_once.Goals as goal
+
+pub returns : goal.returns
+returns c = asks_once

@@ -1,0 +1,22 @@
+//! Laws of the definitions. Each function does nothing: its contract is the law.
+ghost use Rattle.ac_query.specs.Laws.{AsksOnce, OrderHolds, SlotsNameGroups, TokenReads};
+
+/// Where no pair has a fault, exactly one record is what the pairs ask for, and it is the one that is gathered.
+pub fn asks_once()
+    ensures { AsksOnce }
+{}
+
+/// Texts in byte order rise, and are those that they were made of.
+pub fn order_holds()
+    ensures { OrderHolds }
+{}
+
+/// The text of ids is read as these ids, in order.
+pub fn token_reads()
+    ensures { TokenReads }
+{}
+
+/// The place of a slot is that of its group.
+pub fn slots_name_groups()
+    ensures { SlotsNameGroups }
+{}
