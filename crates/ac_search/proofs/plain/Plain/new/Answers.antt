@@ -14,6 +14,6 @@ returns g c =
     let asked = asked_of c.args.query.now in
     let x = option_map (λ ids. ids.items) c.in_ok-after.after in
     let slots : length c.slots.result.now ≡ length (slots_of asked) =
-    sym (length-map c.slots.result.now slot_group) ∙ (ap length c.slots.ensures ∙ length-map (slots_of asked) (λ s. s.place)) in
+    sym (length-map c.slots.result.now slot_group) ∙ (ap length c.slots.ensures.groups ∙ length-map (slots_of asked) (λ s. s.place)) in
     ap (chosen all asked x) c.in_ok-lists.ensures.left
     ∙ (chosen_all all asked x c.len.result (length c.slots.result.now) c.len.ensures slots ∙ ap (rest all asked) c.in_ok-after.ensures)
