@@ -1,5 +1,5 @@
 -- What a walk through all lists gives next, and what it leaves.
-use Rattle.std.proofs.Common.{◌≡◌, ℕ, ◌+◌, ◌<◌, ◌≤◌, zero, suc, Bool, true, false, not, List, [], ◌∷◌, length, replicate, ◌⊎◌, inl, inr, Option, None, Some, refl, sym, ap, ◌∙◌, subst, arith}
+use Rattle.std.proofs.Common.{◌≡◌, ℕ, ◌<◌, zero, suc, true, false, List, [], ◌∷◌, length, replicate, ◌⊎◌, inl, inr, None, Some, refl, sym, ap, ◌∙◌, subst, arith}
 use Rattle.std.specs.List.{filter, All, AllByRecursion as Each}
 use Rattle.std.proofs.lemmas.List.Elements.{All-from_recursion, recursion_from_All}
 use Rattle.std.proofs.lemmas.List.{length-replicate}
@@ -7,7 +7,6 @@ use Rattle.std.proofs.lemmas.Bool.{cases_eq, cases_lt, not_from_false, false≢t
 use Rattle.ac_search.specs.Order.{lex_lt}
 use Rattle.ac_search.specs.Lists.{all_lists, IsListBelow, IsRising}
 use Rattle.ac_search.specs.Odometer.{successor, is_ahead, ahead, has_ended, start}
-use Rattle.ac_search.specs.declared.odometer.Stage.{Stage}
 use Rattle.ac_search.specs.declared.odometer.Stage.TheVariants.{Fresh, Given, Ended}
 use Rattle.ac_search.proofs.Elements.{Among, filter_agree, filter_all, filter_none, each_weaker, each_all, each_among}
 use Rattle.ac_search.proofs.OrderLemmas.{lex_irrefl, lex_asym}

@@ -1,13 +1,13 @@
 -- Roots, and the anchors of one provider of a list.
-use Rattle.std.proofs.Common.{◌≡◌, ◌==◌, ◌&&◌, ◌||◌, not, ℕ, ◌+◌, ◌<◌, ◌≤◌, zero, suc, Bool, true, false, List, [], ◌∷◌, length, inl, inr, Option, None, Some, refl, sym, ap, ◌∙◌, subst, arith, slice_get}
+use Rattle.std.proofs.Common.{◌≡◌, ◌&&◌, ℕ, ◌+◌, ◌<◌, ◌≤◌, zero, suc, Bool, true, false, List, [], ◌∷◌, length, inl, inr, Option, None, Some, refl, sym, ap, ◌∙◌, arith, slice_get}
 use Rattle.std.specs.List.{list_all, list_any, filter, range_with_len, All, AllByRecursion as Each}
 use Rattle.std.specs.Option.{is_some, is_none}
-use Rattle.std.proofs.lemmas.Bool.{cases_Bool, cases_eq, and_parts, eq-eqb, false≢true}
+use Rattle.std.proofs.lemmas.Bool.{cases_Bool, and_parts, eq-eqb, false≢true}
 use Rattle.std.proofs.lemmas.List.Elements.{All-from_recursion}
-use Rattle.ac_tables.specs.Trees.{up, climb, top}
-use Rattle.ac_tables.specs.World.{Provider, id_at, provider_at, place_of, parent_of, root_of, is_root, is_available_at, anchors_of}
+use Rattle.ac_tables.specs.Trees.{up, climb}
+use Rattle.ac_tables.specs.World.{Provider, id_at, place_of, parent_of, root_of, is_root, is_available_at, anchors_of}
 use Rattle.ac_query.specs.Asked.{Asked, Slot}
-use Rattle.ac_search.specs.Placed.{Placed, placed}
+use Rattle.ac_search.specs.Placed.{placed}
 use Rattle.ac_search.specs.Together.{takes_root, hosts_all, anchor}
 use Rattle.ac_search.proofs.Elements.{each_weaker, each_filter}
 

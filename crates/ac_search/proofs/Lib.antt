@@ -12,6 +12,7 @@ pub mod RestLemmas
 pub mod PageLemmas
 pub mod OdometerLemmas
 pub mod AheadLemmas
+pub mod ChosenLemmas
 pub mod FullLemmas
 pub mod ApartLemmas
 mod Literals

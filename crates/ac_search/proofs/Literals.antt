@@ -7,7 +7,7 @@ use Rattle.ac_search.specs.Own.{units_fit, traits_fit, meets_rule, aggregates_fi
 use Rattle.ac_search.specs.Together.{is_brought, collective, holds_sums, sums, is_set_apart, are_apart, isolate, is_top, subtree, takes_root, hosts_all, anchor}
 use Rattle.ac_search.specs.Judge.{tests, judge, is_candidate}
 use Rattle.ac_search.specs.Pages.{candidates, rest}
-use Rattle.ac_search.specs.declared.verdict.Rule.TheVariants.{Sums, Aggregates, Subtree, Anchor}
+use Rattle.ac_search.specs.declared.verdict.Rule.TheVariants.{Sums, Aggregates, Anchor}
 use Rattle.ac_search.specs.declared.verdict.Verdict.TheVariants.{Broken}
 
 vcpu : List ℕ
@@ -67,11 +67,11 @@ no_anchor = refl
 shared : List Provider
 shared =
     provider 1 None (held vcpu 8) [] []
-      ∷ provider 2 (Some 1) [] [] (161 ∷ [])
-      ∷ provider 3 None (held vcpu 8) [] []
-      ∷ provider 4 (Some 3) [] [] (161 ∷ [])
-      ∷ provider 9 None (held disk 100) (codes "MISC_SHARES_VIA_AGGREGATE" ∷ []) (161 ∷ [])
-      ∷ []
+    ∷ provider 2 (Some 1) [] [] (161 ∷ [])
+    ∷ provider 3 None (held vcpu 8) [] []
+    ∷ provider 4 (Some 3) [] [] (161 ∷ [])
+    ∷ provider 9 None (held disk 100) (codes "MISC_SHARES_VIA_AGGREGATE" ∷ []) (161 ∷ [])
+    ∷ []
 
 disk_alone : Asked
 disk_alone = ask ((None, group ((disk, 10) ∷ []) []) ∷ [])

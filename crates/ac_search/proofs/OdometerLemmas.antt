@@ -1,5 +1,5 @@
 -- Between a list and its successor there is none.
-use Rattle.std.proofs.Common.{◌≡◌, ℕ, ◌+◌, ◌-◌, ◌<◌, ◌≤◌, zero, suc, Bool, true, false, not, cond, List, [], ◌∷◌, ◌++◌, length, take, drop, set, Option, None, Some, inl, inr, refl, sym, ap, ◌∙◌, subst, nat_lt, arith, replicate, append_assoc, take-append-drop, drop-cons, length-drop, length-take-le, slice_index}
+use Rattle.std.proofs.Common.{◌≡◌, ℕ, ◌+◌, ◌-◌, ◌<◌, ◌≤◌, zero, suc, false, not, List, [], ◌∷◌, ◌++◌, length, take, drop, set, Option, None, Some, inl, inr, refl, sym, ap, ◌∙◌, subst, arith, replicate, append_assoc, take-append-drop, drop-cons, length-drop, length-take-le, slice_index}
 use Rattle.std.specs.List.{AllByRecursion as Each}
 use Rattle.std.proofs.lemmas.Bool.{cases_lt, lt-ltb, le-ltb}
 use Rattle.std.proofs.lemmas.Bool.Decides.{nat_tests}

@@ -1,11 +1,10 @@
 -- Providers by their ids and by their places.
-use Rattle.std.proofs.Common.{◌≡◌, ◌==◌, ℕ, ◌+◌, ◌-◌, ◌<◌, ◌≤◌, zero, suc, Bool, true, false, List, [], ◌∷◌, length, get_or, inl, inr, Option, None, Some, refl, sym, ap, ◌∙◌, subst, arith}
+use Rattle.std.proofs.Common.{◌≡◌, ◌==◌, ℕ, ◌+◌, ◌-◌, ◌<◌, ◌≤◌, suc, List, [], ◌∷◌, length, inl, inr, Some, sym, ap, ◌∙◌, subst, arith}
 use Rattle.std.specs.List.{position_from}
-use Rattle.std.specs.Option.{is_some}
-use Rattle.std.proofs.lemmas.Bool.{cases_Bool, cases_eq, eqb-true, eq-eqb, ne_eqb, false≢true}
-use Rattle.ac_tables.specs.World.{Provider, provider_at, id_at, place_of, is_provider, root_of, no_provider}
+use Rattle.std.proofs.lemmas.Bool.{cases_Bool, cases_eq, eqb-true, eq-eqb, ne_eqb}
+use Rattle.ac_tables.specs.World.{Provider, id_at, place_of, is_provider, root_of}
 use Rattle.ac_search.specs.Placed.{Placed}
-use Rattle.ac_search.specs.Own.{is_in_tree, tree_fits}
+use Rattle.ac_search.specs.Own.{tree_fits}
 
 -- where a provider is found, it is there, and it has the id
 pub record IsPlaced (all : List Provider) (id p : ℕ) : Type 0 where

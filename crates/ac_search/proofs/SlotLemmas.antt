@@ -1,7 +1,7 @@
 -- Slots by their places, and their groups.
-use Rattle.std.proofs.Common.{◌≡◌, ℕ, ◌+◌, ◌-◌, ◌<◌, ◌≤◌, zero, suc, List, [], ◌∷◌, ◌++◌, length, map, Option, None, Some, refl, sym, ap, ◌∙◌, subst, arith, slice_index_or, get_or, slice_get}
+use Rattle.std.proofs.Common.{◌≡◌, ℕ, ◌+◌, ◌<◌, zero, suc, List, [], ◌∷◌, length, Option, None, Some, refl, ap, ◌∙◌, arith, slice_index_or, get_or, slice_get}
 use Rattle.std.specs.List.{AllByRecursion as Each}
-use Rattle.ac_query.specs.Asked.{in_subtree, lists_slot, lists_suffix, Asked, Group, Slot, slots_of, slots_from, group_slots, class_slot, suffix_slot}
+use Rattle.ac_query.specs.Asked.{in_subtree, lists_suffix, Asked, Group, Slot, slots_of, slots_from, group_slots, class_slot, suffix_slot}
 use Rattle.ac_search.specs.Placed.{slot_at, no_slot}
 use Rattle.ac_search.proofs.Elements.{each_append, each_map, each_weaker, each_all}
 

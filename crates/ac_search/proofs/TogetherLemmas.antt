@@ -1,10 +1,10 @@
 -- One slot more of what the rules of all slots together test.
-use Rattle.std.proofs.Common.{◌≡◌, ◌≢◌, ◌==◌, ◌&&◌, ℕ, ◌+◌, ◌<◌, ◌≤◌, Bool, List, length, drop, refl, sym, ap, ◌∙◌, arith, slice_index, slice_index_or, nat_le, if◌then◌else◌}
+use Rattle.std.proofs.Common.{◌≡◌, ◌≢◌, ◌&&◌, ℕ, ◌+◌, ◌<◌, Bool, List, length, drop, sym, ap, ◌∙◌, arith, slice_index, slice_index_or, nat_le}
 use Rattle.std.specs.List.{list_all}
 use Rattle.std.proofs.lemmas.Bool.{ne_eqb}
 use Rattle.ac_query.specs.Asked.{Slot}
 use Rattle.ac_search.specs.Placed.{placed, no_slot}
-use Rattle.ac_search.specs.Together.{sum_on, amount_of, are_apart, all_apart}
+use Rattle.ac_search.specs.Together.{sum_on, are_apart, all_apart}
 use Rattle.ac_search.proofs.PlacedLemmas.{placed_more}
 
 -- a slot stands apart from those behind it, and they from one another

@@ -1,5 +1,5 @@
 -- What a walk through all lists still gives.
-use Rattle.std.specs.Prelude.{ℕ, List, length}
+use Rattle.std.specs.Prelude.{ℕ, List}
 use Rattle.ac_search.specs.Odometer.{ahead}
 use Rattle.ac_search.specs.declared.lists.AllLists.{AllLists}
 

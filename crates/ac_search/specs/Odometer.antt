@@ -1,6 +1,6 @@
 -- The next list in order, and the lists that are still to come.
-use Rattle.std.specs.Prelude.{◌≡◌, ℕ, ◌+◌, ◌<◌, ◌==◌, ◌&&◌, Bool, true, false, not, nat_lt, List, [], ◌∷◌, length, replicate, if◌then◌else◌, Option, None, Some}
-use Rattle.std.specs.List.{filter, All}
+use Rattle.std.specs.Prelude.{ℕ, ◌+◌, ◌==◌, ◌&&◌, Bool, true, false, not, nat_lt, List, [], ◌∷◌, length, replicate, if◌then◌else◌, Option, None, Some}
+use Rattle.std.specs.List.{filter}
 use Rattle.ac_search.specs.Order.{lex_lt}
 use Rattle.ac_search.specs.Lists.{all_lists}
 use Rattle.ac_search.specs.declared.odometer.Stage.{Stage}

@@ -12,6 +12,7 @@ pub mod laws;
 mod lists;
 mod odometer;
 mod own;
+pub mod plain;
 mod slots;
 pub mod source;
 mod sums;
@@ -19,5 +20,6 @@ pub mod verdict;
 mod whole;
 
 pub use judging::verify;
+pub use plain::Plain;
 pub use source::Source;
 pub use verdict::{Rule, Verdict};

@@ -1,4 +1,4 @@
-use Rattle.std.proofs.Common.{◌≡◌, ℕ, ◌+◌, ◌-◌, ◌<◌, ◌≤◌, suc, List, ◌++◌, length, take, drop, slice_index, replicate, None, refl, sym, ap, ◌∙◌, subst, arith}
+use Rattle.std.proofs.Common.{◌≡◌, ℕ, ◌+◌, ◌-◌, ◌<◌, ◌≤◌, suc, List, ◌++◌, length, take, drop, slice_index, replicate, None, subst, arith}
 use Rattle.ac_search.specs.Odometer.{successor}
 use Rattle.ac_search.proofs.OdometerLemmas.{counted_up, not_counted}
 use Rattle.ac_search.proofs.odometer.count_up.Goals as goal

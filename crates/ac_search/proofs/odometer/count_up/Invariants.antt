@@ -1,4 +1,4 @@
-use Rattle.std.proofs.Common.{◌≡◌, ℕ, ◌-◌, ◌≤◌, List, ◌++◌, length, take, drop, replicate, None}
+use Rattle.std.proofs.Common.{◌≡◌, ◌-◌, ◌≤◌, ◌++◌, length, take, drop, replicate, None}
 use Rattle.ac_search.specs.Odometer.{successor}
 use Rattle.ac_search.proofs.odometer.count_up.Given as goal
 

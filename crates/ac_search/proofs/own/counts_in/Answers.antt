@@ -1,4 +1,3 @@
-use Rattle.std.proofs.Common.{◌≡◌}
 use Rattle.ac_tables.specs.World.{id_at, root_of}
 use Rattle.ac_search.proofs.PlaceLemmas.{found_within}
 use Rattle.ac_search.proofs.own.counts_in.Goals as goal

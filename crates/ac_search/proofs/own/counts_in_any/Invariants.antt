@@ -1,5 +1,5 @@
-use Rattle.std.proofs.Common.{◌≡◌, ℕ, List, not, map, drop}
-use Rattle.std.specs.List.{list_all, list_any}
+use Rattle.std.proofs.Common.{◌≡◌, ℕ, drop}
+use Rattle.std.specs.List.{list_any}
 use Rattle.ac_query.specs.QueriesShown.{asked_of}
 use Rattle.ac_search.specs.Placed.{placed_at}
 use Rattle.ac_search.specs.Own.{counts_in}

@@ -1,5 +1,4 @@
-use Rattle.std.proofs.Common.{◌≡◌, ℕ, List, not, map, drop}
-use Rattle.std.specs.List.{list_all, list_any}
+use Rattle.std.proofs.Common.{◌≡◌, map, drop}
 use Rattle.ac_base.specs.Names.{trait_bytes}
 use Rattle.ac_tables.specs.World.{provider_at}
 use Rattle.ac_search.specs.Own.{has_all}

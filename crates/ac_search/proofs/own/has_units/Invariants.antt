@@ -1,5 +1,5 @@
-use Rattle.std.proofs.Common.{◌≡◌, ℕ, List, not, map, drop}
-use Rattle.std.specs.List.{list_all, list_any}
+use Rattle.std.proofs.Common.{◌≡◌, ℕ, List, map, drop}
+use Rattle.std.specs.List.{list_all}
 use Rattle.ac_tables.specs.World.{provider_at}
 use Rattle.ac_query.specs.GroupsShown.{need_entry}
 use Rattle.ac_search.specs.Own.{stock_of, admits}

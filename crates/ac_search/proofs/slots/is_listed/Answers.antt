@@ -1,4 +1,4 @@
-use Rattle.std.proofs.Common.{◌≡◌, ◌∙◌}
+use Rattle.std.proofs.Common.{◌∙◌}
 use Rattle.ac_query.specs.QueriesShown.{asked_of}
 use Rattle.ac_search.proofs.SlotLemmas.{listed_at}
 use Rattle.ac_search.proofs.slots.is_listed.Goals as goal

@@ -14,5 +14,5 @@ returns c =
     let place : c.group.result ≡ (slot_at asked c.args.s).place =
     c.group.ensures
     ∙ (sym (get_or-map slot_group c.slots.result.now c.args.s _)
-    ∙ (ap (λ xs. get_or xs c.args.s 0) c.slots.ensures ∙ get_or-map_at (λ s. s.place) (slots_of asked) c.args.s no_slot 0 c.requires)) in
+    ∙ (ap (λ xs. get_or xs c.args.s 0) c.slots.ensures.groups ∙ get_or-map_at (λ s. s.place) (slots_of asked) c.args.s no_slot 0 c.requires)) in
     record { place = place; within = subst (λ (i : ℕ). i < length asked.groups) (sym place) (place_within asked c.args.s c.requires) }

@@ -1,12 +1,9 @@
-use Rattle.std.proofs.Common.{◌≡◌, ◌≤◌, ◌+◌, ℕ, List, [], length, map, drop, get_or, slice_index}
-use Rattle.std.specs.List.{list_all, list_any}
-use Rattle.ac_base.specs.Names.{trait_bytes}
-use Rattle.ac_query.specs.Asked.{Group, slots_of}
-use Rattle.ac_query.specs.GroupsShown.{group_entry}
+use Rattle.std.proofs.Common.{◌≡◌, ◌+◌, drop, slice_index}
+use Rattle.std.specs.List.{list_all}
+use Rattle.ac_query.specs.Asked.{slots_of}
 use Rattle.ac_query.specs.QueriesShown.{asked_of}
-use Rattle.ac_tables.specs.World.{id_at, is_above}
-use Rattle.ac_search.specs.Placed.{Placed, placed, assigned, placed_at}
-use Rattle.ac_search.specs.Together.{brings, is_brought, are_apart, all_apart, listed, is_top}
+use Rattle.ac_search.specs.Placed.{Placed, placed, placed_at}
+use Rattle.ac_search.specs.Together.{are_apart}
 use Rattle.ac_search.proofs.whole.is_apart_from_later.Given as goal
 
 abbrev pub invariant-loop-t : goal.invariant-loop-t

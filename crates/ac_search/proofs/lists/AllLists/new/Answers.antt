@@ -1,4 +1,3 @@
-use Rattle.std.proofs.Common.{◌≡◌}
 use Rattle.ac_search.proofs.AheadLemmas.{start_ahead}
 use Rattle.ac_search.proofs.lists.AllLists.new.Goals as goal
 

@@ -1,12 +1,9 @@
-use Rattle.std.proofs.Common.{◌≡◌, ℕ, ◌<◌, ◌≤◌, Bool, true, false, List, [], ◌∷◌, length, Some, None, refl, sym, ap, ◌∙◌, subst, arith}
+use Rattle.std.proofs.Common.{◌≡◌, ℕ, Bool, List, length, Some, None, ap, arith}
 use Rattle.std.specs.Bool.{MatchBool}
-use Rattle.std.specs.List.{All}
 use Rattle.std.specs.Vec.{with_items}
 use Rattle.std.proofs.lemmas.List.{with_items_is}
-use Rattle.ac_search.specs.ListsShown.{list_of, bound_of, lists_left}
 use Rattle.ac_search.specs.Odometer.{successor, has_ended}
 use Rattle.ac_search.specs.declared.lists.AllLists.{AllLists}
-use Rattle.ac_search.specs.declared.odometer.Stage.TheVariants.{Fresh, Given, Ended}
 use Rattle.ac_search.proofs.AheadLemmas.{fresh_head, given_next, given_last, next_below, ended_none}
 use Rattle.ac_search.proofs.lists.AllLists.step.Goals as goal
 
