@@ -1,5 +1,5 @@
 -- What a list gives to groups and asks of providers, slot by slot.
-use Rattle.std.proofs.Common.{◌≡◌, ◌≢◌, ◌⊎◌, inl, inr, ℕ, zero, suc, ◌+◌, ◌<◌, ◌≤◌, List, [], ◌∷◌, ◌++◌, take, map, fold, length, get_or, refl, sym, ap, ◌∙◌, subst, Bool, true, false, ◌||◌, eqb, Option, Some, None, append_assoc, append-nil, nat_cmp, if◌then◌else◌, Vec, Global, arith}
+use Rattle.std.proofs.Common.{◌≡◌, ◌≢◌, ◌⊎◌, inl, inr, ℕ, zero, suc, ◌+◌, ◌<◌, ◌≤◌, List, [], ◌∷◌, ◌++◌, take, map, fold, length, get_or, refl, sym, ap, ◌∙◌, subst, Bool, true, false, not, ◌||◌, eqb, Option, Some, None, append_assoc, append-nil, nat_cmp, if◌then◌else◌, Vec, Global, arith}
 use Rattle.std.specs.Prelude.{nat_eq, unwrap_or, slice_get}
 use Rattle.std.specs.Borrow.{Bor}
 use Rattle.std.specs.BTreeMap.{insert_entry, is_at}
@@ -20,7 +20,11 @@ use Rattle.ac_query.specs.Asked.{Asked, Slot, Group, slots_of, slots_from, group
 use Rattle.ac_search.specs.Placed.{Placed, placed, assigned}
 use Rattle.ac_tables.specs.Sorted.{rising}
 use Rattle.ac_report.specs.Parts.{AreHosts, AreNeeds, need_at, row, row_shown, with_needs}
-use Rattle.ac_report.specs.Trees.{hosts, needs_on}
+use Rattle.serde_json.specs.Data.{Data, Members, no_members, put}
+use Rattle.std.proofs.lemmas.Map.Views.{All-insert_key}
+use Rattle.ac_tables.specs.World.{Provider}
+use Rattle.ac_search.specs.Together.{is_empty}
+use Rattle.ac_report.specs.Trees.{gathered, gives, hosts, needs_on, mapping, mappings_from}
 use Rattle.ac_report.proofs.Rows.{at, row_insert, row_look, rising_push, rising_sorted, any_rising, not_eq}
 
 -- ---- slots and their providers
@@ -155,7 +159,7 @@ map_take f [] (suc i) = refl
 map_take f (x ∷ xs) zero = refl
 map_take f (x ∷ xs) (suc i) = ap (λ l. f x ∷ l) (map_take f xs i)
 
-abbrev Needs : Type 0
+abbrev pub Needs : Type 0
 Needs = Vec (Bor Need) Global
 
 unwrapped : {A B : Type 0} (f : A → B) (o : Option A) (a : A) → f (unwrap_or o a) ≡ unwrap_or (option_map f o) (f a)
@@ -221,3 +225,99 @@ placed_in ss t i = record { slot = get_or ss i no_slot; provider = get_or t i 0 
 
 pub placed_in_is : (ss : List Slot) (t : List ℕ) (i : ℕ) → i < length ss → i < length t → placed_in ss t i ≡ get_or (placed ss t) i (placed_in ss t i)
 placed_in_is ss t i h k = sym (placed_at ss t i no_slot (placed_in ss t i) h k)
+
+-- ---- whose providers these are
+
+all_fold : (P : ℕ → Type 0) (xs done : List ℕ) → All P xs → All P done → All P (fold (insert_key nat_cmp) done xs)
+all_fold P [] done h k = k
+all_fold P (x ∷ xs) done h k =
+    all_fold P xs (insert_key nat_cmp done x) (λ i d lt. h (suc i) d (omega arith)) (All-insert_key nat_cmp x P done k (h 0 x (omega arith)))
+
+pub all_rising : (P : ℕ → Type 0) (xs : List ℕ) → All P xs → All P (rising nat_cmp xs)
+all_rising P xs h = all_fold P xs [] h (λ i d lt. absurd (omega arith))
+
+all_cons : (P : ℕ → Type 0) (x : ℕ) (xs : List ℕ) → P x → All P xs → All P (x ∷ xs)
+all_cons P x xs h k zero d lt = h
+all_cons P x xs h k (suc i) d lt = k i d (omega arith)
+
+-- the providers of a group are those of the list
+pub all_hosts : (P : ℕ → Type 0) (ss : List Slot) (t : List ℕ) (g : ℕ) → All P t → All P (hosts (placed ss t) g)
+all_hosts P [] t g h = λ i d lt. absurd (omega arith)
+all_hosts P (s ∷ ss) [] g h = λ i d lt. absurd (omega arith)
+all_hosts P (s ∷ ss) (p ∷ t) g h = by (nat_eq s.place g) (h 0 p (omega arith)) (all_hosts P ss t g (λ i d lt. h (suc i) d (omega arith)))
+  where
+    by : (b : Bool) → P p → All P (hosts (placed ss t) g)
+        → All P (map (λ x. x.provider) (if b then record { slot = s; provider = p } ∷ filter (λ x. nat_eq x.slot.place g) (placed ss t) else filter (λ x. nat_eq x.slot.place g) (placed ss t)))
+    by true here more = all_cons P p (hosts (placed ss t) g) here more
+    by false here more = more
+
+-- ---- groups, one after another
+
+-- the entry of an item
+pub entry_at : {X Y : Type 0} (f : X → Y) (xs : List X) (ys : List Y) (i : ℕ) (d : X) (e : Y) → map f xs ≡ ys → i < length ys → f (get_or xs i d) ≡ get_or ys i e
+entry_at f [] [] i d e h k = absurd (omega arith)
+entry_at f [] (y ∷ ys) i d e h k = absurd (cc)
+entry_at f (x ∷ xs) [] i d e h k = absurd (cc)
+entry_at f (x ∷ xs) (y ∷ ys) zero d e h k = cc
+entry_at f (x ∷ xs) (y ∷ ys) (suc i) d e h k = entry_at f xs ys i d e (cc) (omega arith)
+
+mapped_suc : (all : List Provider) (xs : List Placed) (gs : List (Option (List ℕ) × Group)) (i place n : ℕ) (d : Option (List ℕ) × Group) (done : Members) → i < length gs → n ≡ place + i
+    → fold (λ done m. put m.0 m.1 done) done (mappings_from all xs place (take (suc i) gs))
+    ≡ put (mapping all xs n (get_or gs i d)).0 (mapping all xs n (get_or gs i d)).1 (fold (λ done m. put m.0 m.1 done) done (mappings_from all xs place (take i gs)))
+mapped_suc all xs [] i place n d done h e = absurd (omega arith)
+mapped_suc all xs (g ∷ gs) zero place n d done h e =
+    let k : place ≡ n = omega (arith, e) in
+    ap (λ n. put (mapping all xs n g).0 (mapping all xs n g).1 done) k
+mapped_suc all xs (g ∷ gs) (suc i) place n d done h e =
+    mapped_suc all xs gs i (place + 1) n d (put (mapping all xs place g).0 (mapping all xs place g).1 done) (omega arith) (omega (arith, e))
+
+-- one group more
+pub mapped_more : (all : List Provider) (xs : List Placed) (gs : List (Option (List ℕ) × Group)) (i : ℕ) (d : Option (List ℕ) × Group) → i < length gs
+    → gathered (mappings_from all xs 0 (take (i + 1) gs)) ≡ put (mapping all xs i (get_or gs i d)).0 (mapping all xs i (get_or gs i d)).1 (gathered (mappings_from all xs 0 (take i gs)))
+mapped_more all xs gs i d h =
+    let n : i + 1 ≡ suc i = omega arith in
+    let k : i ≡ 0 + i = omega arith in
+    ap (λ n. gathered (mappings_from all xs 0 (take n gs))) n ∙ mapped_suc all xs gs i 0 i d no_members h k
+
+-- ---- providers, one after another
+
+-- a provider that is there, with what is needed of it
+abbrev pub IsRow : ℕ → List Placed → ℕ × Needs → Type 0
+IsRow n xs e = (map need_at e.1.items ≡ needs_on xs e.0) × (e.0 < n)
+
+pub keys_of_rows : (xs : List Placed) (es : List (ℕ × Needs)) (ks : List ℕ) → map row_shown es ≡ map (row xs) ks → map (λ e. e.0) es ≡ ks
+keys_of_rows xs [] [] h = refl
+keys_of_rows xs [] (k ∷ ks) h = absurd (cc)
+keys_of_rows xs (e ∷ es) [] h = absurd (cc)
+keys_of_rows xs (e ∷ es) (k ∷ ks) h =
+    let here : row_shown e ≡ row xs k = cc in
+    let more : map row_shown es ≡ map (row xs) ks = cc in
+    ap (λ r. r.0 ∷ map (λ e. e.0) es) here ∙ ap (λ l. k ∷ l) (keys_of_rows xs es ks more)
+
+pub rows_are : (n : ℕ) (xs : List Placed) (es : List (ℕ × Needs)) (ks : List ℕ) → map row_shown es ≡ map (row xs) ks → All (λ k. k < n) ks → AllByRecursion (IsRow n xs) es
+rows_are n xs [] ks h a = tt
+rows_are n xs (e ∷ es) [] h a = absurd (cc)
+rows_are n xs (e ∷ es) (k ∷ ks) h a =
+    let here : row_shown e ≡ row xs k = cc in
+    let more : map row_shown es ≡ map (row xs) ks = cc in
+    let same : e.0 ≡ k = ap (λ r. r.0) here in
+    let first : k < n = a 0 k (omega arith) in
+    ((ap (λ r. r.1) here ∙ ap (needs_on xs) (sym same), omega (arith, same, first)), rows_are n xs es ks more (λ i d lt. a (suc i) d (omega arith)))
+
+-- members that are still to come
+abbrev pub Named : Type 0
+Named = List ℕ × Data
+
+abbrev pub gathered_onto : Members → List Named → Members
+gathered_onto done ms = fold (λ done m. put m.0 m.1 done) done ms
+
+pub kept_step : (f : ℕ → Named) (t : ℕ → Bool) (p : ℕ) (ps : List ℕ) (done : Members) → t p ≡ true → gathered_onto done (map f (filter t (p ∷ ps))) ≡ gathered_onto (put (f p).0 (f p).1 done) (map f (filter t ps))
+kept_step f t p ps done h = ap (λ b. gathered_onto done (map f (if b then p ∷ filter t ps else filter t ps))) h
+
+pub left_step : (f : ℕ → Named) (t : ℕ → Bool) (p : ℕ) (ps : List ℕ) (done : Members) → t p ≡ false → gathered_onto done (map f (filter t (p ∷ ps))) ≡ gathered_onto done (map f (filter t ps))
+left_step f t p ps done h = ap (λ b. gathered_onto done (map f (if b then p ∷ filter t ps else filter t ps))) h
+
+-- who has needs gives
+pub gives_is : (xs : List Placed) (ix : ℕ) (needs : List (Bor Need)) → map need_at needs ≡ needs_on xs ix → nat_eq (length needs) 0 ≡ false → gives xs ix ≡ true
+gives_is xs ix [] e h = absurd (cc)
+gives_is xs ix (n ∷ needs) e h = ap (λ l. not (is_empty l)) (sym e)

@@ -5,19 +5,19 @@ ghost use Rattle.std.specs.List.{All};
 ghost use Rattle.std.specs.Ordering.{nat_cmp};
 ghost use Rattle.serde_json.specs.View.{view};
 ghost use Rattle.ac_query.specs.Asked.{slots_of};
-ghost use Rattle.ac_query.specs.GroupsShown.{need_entry};
+ghost use Rattle.ac_query.specs.GroupsShown.{need_entry, group_entry};
 ghost use Rattle.ac_query.specs.QueriesShown.{asked_of};
 ghost use Rattle.ac_search.specs.Placed.{assigned};
 ghost use Rattle.ac_report.specs.StandIn.{providers_of};
 ghost use Rattle.ac_report.specs.Pages.{IsAssignment};
 ghost use Rattle.ac_report.specs.Parts.{AreHosts, AreNeeds, need_at, row_shown, with_needs, sum_at, sums_of, allocation_of};
-ghost use Rattle.ac_report.specs.Trees.{provider_text, texts, allocations, mappings, request};
+ghost use Rattle.ac_report.specs.Trees.{provider_text, texts, group_name, allocations, mappings, request};
 ghost use Rattle.ac_report.specs.Texts.{request_text};
 
 use crate::ids::{id_string, id_value};
 use crate::stand_in::Cloud;
 use ac_base::NoMemory;
-use ac_query::{Need, Query};
+use ac_query::{Group, Need, Query};
 use serde_json::{Map, Value, json};
 use std::alloc::{AllocError, Global};
 use std::collections::{BTreeMap, BTreeSet};
@@ -61,6 +61,16 @@ fn ids_value(alloc: Global, cloud: &Cloud, providers: &BTreeSet<u32>) -> Result<
     Ok(Value::Array(ids))
 }
 
+// The suffix of a group; the unsuffixed one has the empty text.
+fn suffix_text(group: &Group) -> &str
+    ensures { result.now ≡ group_name (group_entry group.now) }
+{
+    match group.suffix() {
+        Some(suffix) => suffix.text(),
+        None => "",
+    }
+}
+
 // Each group's suffix, and the ids of its slots' providers.
 fn mappings_value(alloc: Global, cloud: &Cloud, query: &Query, list: &[u32]) -> Result<Value, AllocError>
     requires { IsAssignment (providers_of cloud.now) (asked_of query.now) list.now }
@@ -71,7 +81,7 @@ fn mappings_value(alloc: Global, cloud: &Cloud, query: &Query, list: &[u32]) -> 
     let mut members = Map::new(alloc);
     for i in 0..groups.len() {
         let ids = ids_value(alloc, cloud, &hosts[i])?;
-        serde_json::put(&mut members, alloc, groups[i].suffix().map_or("", |suffix| suffix.text()), ids)?;
+        serde_json::put(&mut members, alloc, suffix_text(&groups[i]), ids)?;
     }
     Ok(Value::Object(members))
 }
