@@ -1,7 +1,7 @@
 -- Maps from classes, one for each provider.
-use Rattle.std.proofs.Common.{◌≡◌, ◌<◌, ◌∙◌, ◌++◌, ℕ, Bool, true, false, List, [], ◌∷◌, map, length, get_or, Option, Some, None, refl, sym, ap, ap₂, subst, arith, Ordering, inl, inr}
+use Rattle.std.proofs.Common.{◌≡◌, ◌<◌, ◌∙◌, ◌++◌, ℕ, true, List, [], ◌∷◌, map, length, get_or, refl, sym, ap, ap₂, arith, Ordering, inl, inr}
 use Rattle.std.specs.Prelude.{◌==◌, ◌&&◌, ◌||◌}
-use Rattle.std.specs.List.{filter, list_any, list_all}
+use Rattle.std.specs.List.{filter, list_any}
 use Rattle.std.specs.Option.{is_some}
 use Rattle.std.specs.Str.{bytes_eq}
 use Rattle.std.specs.BTreeMap.{BTreeMap, get, insert_entry, is_at}
@@ -20,7 +20,7 @@ use Rattle.ac_tables.proofs.SortedFacts.{there_of}
 use Rattle.ac_tables.proofs.GatherFacts.{taken, taken_more, known_more}
 
 -- the item at a place, of a list and of what is shown of it
-shown_at : {M G : Type 0} (show : M → G) (maps : List M) (all : List G) (i : ℕ) (m : M) (d : G) → map show maps ≡ all → i < length maps → m ≡ get_or maps i m → show m ≡ get_or all i d
+pub shown_at : {M G : Type 0} (show : M → G) (maps : List M) (all : List G) (i : ℕ) (m : M) (d : G) → map show maps ≡ all → i < length maps → m ≡ get_or maps i m → show m ≡ get_or all i d
 shown_at show maps all i m d e inside here = ap show here ∙ sym (get_or-map show maps i m d inside) ∙ ap (λ l. get_or l i d) e
 
 module _ {V X : Type 0} (provider : V → ℕ) (class : V → List ℕ) (value : V → X) where
@@ -64,10 +64,15 @@ module _ {V X : Type 0} (provider : V → ℕ) (class : V → List ℕ) (value :
         → IsGathered ids provider class_map (said ++ v ∷ []) (map by_class (set maps i new))
     one_more ids said maps i m new key v rising gathered size inside here item named added known = record {
       each =
-        map-set by_class maps i new
-        ∙ ap₂ (λ l g. set l i g) gathered.each
+          map-set by_class maps i new
+          ∙ ap₂ (λ l g. set l i g) gathered.each
           (ap (map (λ e. (class_bytes e.0, e.1))) added ∙ insert_shown class_bytes (λ (x : X). x) cmp text_cmp same m.entries key (value v)
-            ∙ ap₂ (λ g k. insert_entry text_cmp g k (value v)) (map_at ids said maps i (provider v) m gathered size inside here item) named)
-        ∙ sym (taken_more provider part step [] ids said v i rising inside here);
+          ∙ ap₂ (λ g k. insert_entry text_cmp g k (value v)) (map_at ids said maps i (provider v) m gathered size inside here item) named)
+          ∙ sym (taken_more provider part step [] ids said v i rising inside here);
       known = known_more (λ w. is_one_of ids (provider w)) said v gathered.known known;
     }
+
+-- nothing said yet
+pub none_said : {V X : Type 0} (provider : V → ℕ) (class : V → List ℕ) (value : V → X) (ids : List ℕ) (all : List (TextMap X)) → all ≡ map (λ _. []) ids
+    → IsGathered ids provider (class_map provider class value) [] all
+none_said provider class value ids all e = record { each = e; known = refl }

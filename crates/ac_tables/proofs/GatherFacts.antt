@@ -1,8 +1,8 @@
 -- What is said of each provider, after one more record.
-use Rattle.std.proofs.Common.{◌≡◌, ◌≢◌, ◌<◌, ◌+◌, ◌∙◌, ◌++◌, ℕ, zero, suc, Bool, true, false, List, [], ◌∷◌, map, length, get_or, Option, Some, None, refl, sym, ap, subst, arith, rules, inl, inr}
-use Rattle.std.specs.Prelude.{◌==◌, ◌&&◌, ◌||◌}
+use Rattle.std.proofs.Common.{◌≡◌, ◌≢◌, ◌<◌, ◌∙◌, ◌++◌, ℕ, zero, suc, Bool, true, false, List, [], ◌∷◌, map, length, get_or, refl, sym, ap, arith, rules, inl, inr}
+use Rattle.std.specs.Prelude.{◌==◌, ◌&&◌}
 use Rattle.std.specs.List.{fold, filter, list_any, list_all}
-use Rattle.std.proofs.lemmas.Bool.{cases_Bool, cases_eq}
+use Rattle.std.proofs.lemmas.Bool.{cases_Bool}
 use Rattle.std.proofs.lemmas.List.{map-append}
 use Rattle.std.proofs.Math.ListN.{set}
 use Rattle.ac_tables.specs.Gathered.{IsRising}
@@ -61,7 +61,7 @@ module _ {V Y S : Type 0} (provider : V → ℕ) (part : V → Y) (step : S → 
       → map (taken (said ++ v ∷ [])) ids ≡ set (map (taken said) ids) i (step (taken said (provider v)) (part v))
   taken_more ids said v i rising inside here =
       map_set (taken said) (taken (said ++ v ∷ [])) ids i inside
-        (λ (k : ℕ) (h : k < length ids) (ne : k ≢ i). taken_other said v (get_or ids k 0) (λ e. rising_apart ids rising k i h inside ne (sym e ∙ sym here)))
+      (λ (k : ℕ) (h : k < length ids) (ne : k ≢ i). taken_other said v (get_or ids k 0) (λ e. rising_apart ids rising k i h inside ne (sym e ∙ sym here)))
       ∙ ap (set (map (taken said) ids) i) (taken_same said v (get_or ids i 0) (sym here) ∙ ap (λ id. step (taken said id) (part v)) here)
 
 known_same : (ids : List ℕ) (a b : ℕ) → (a == b) ≡ true → is_one_of ids a ≡ is_one_of ids b
@@ -72,7 +72,7 @@ pub unsaid : {V : Type 0} (ids : List ℕ) (provider : V → ℕ) (test : V → 
     → list_any (λ v. (provider v == id) && test v) said ≡ false
 unsaid ids provider test [] id known absent = refl
 unsaid ids provider test (v ∷ said) id known absent = elim (cases_Bool (provider v == id)) [
-  | inl e ↦ absurd (cc (known_same ids (provider v) id e, absent, rw (known_same ids (provider v) id e, absent) at known))
+  | inl e ↦ absurd (cc (rw (known_same ids (provider v) id e, absent) at known))
   | inr e ↦ rw e (unsaid ids provider test said id (rest (is_one_of ids (provider v)) (list_all (λ w. is_one_of ids (provider w)) said) known) absent)
 ]
   where

@@ -18,3 +18,16 @@ pub mod NameFacts
 pub mod GatherFacts
 pub mod ClassMaps
 pub mod HeldFacts
+pub mod Gathering
+pub mod UsedFacts
+pub mod KnownFacts
+pub mod KeySets
+pub mod JoinFacts
+pub mod PlaceTrees
+pub mod WorldFacts
+pub mod CloudFacts
+pub mod BuildFacts
+pub mod GatherLists
+pub mod KinFacts
+pub mod AllFaults
+pub mod StatedWorld

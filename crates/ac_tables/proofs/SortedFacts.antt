@@ -72,7 +72,7 @@ module _ {X : Type 0} (q : List ℕ) where
   there_after (e ∷ es) k v = by_order (text_cmp k e.0) refl (there_after es k v)
     where
       by_order : (o : Ordering) → text_cmp k e.0 ≡ o → is_there (insert_entry text_cmp es k v) ≡ (is_at (text_cmp q) k || is_there es)
-        → is_there (match_ordering o ((k, v) ∷ e ∷ es) ((e.0, v) ∷ es) (e ∷ insert_entry text_cmp es k v)) ≡ (is_at (text_cmp q) k || is_there (e ∷ es))
+          → is_there (match_ordering o ((k, v) ∷ e ∷ es) ((e.0, v) ∷ es) (e ∷ insert_entry text_cmp es k v)) ≡ (is_at (text_cmp q) k || is_there (e ∷ es))
       by_order Less h rest = found_first (is_at (text_cmp q) k) v (lookup (is_at (text_cmp q)) (e ∷ es))
       by_order Equal h rest =
           let same : k ≡ e.0 = exact_bytes k e.0 h in

@@ -1,11 +1,10 @@
 -- The table of aggregates.
-use Rattle.std.specs.Prelude.{◌&&◌, ℕ, Bool, ◌==◌, not, List, [], ◌∷◌, ◌++◌}
-use Rattle.ac_tables.specs.Checks.{Row, Check}
+use Rattle.std.specs.Prelude.{Option, ℕ, Bool, List, [], ◌∷◌, ◌++◌}
+use Rattle.ac_tables.specs.Checks.{Row, Check, first_failing}
 use Rattle.ac_tables.specs.Columns.{table_checks, said_by, id_in, bad_id}
 use Rattle.ac_tables.specs.ProviderTable.{uuid_name}
-use Rattle.ac_tables.specs.InventoryTable.{provider_name, owner_checks, is_one_of}
+use Rattle.ac_tables.specs.InventoryTable.{provider_name, owner_checks, known_checks}
 use Rattle.ac_tables.specs.declared.fault.Table.TheVariants as table
-use Rattle.ac_tables.specs.declared.fault.TableKind.TheVariants as kind
 use Rattle.ac_tables.specs.declared.fault.TableFault.{TableFault}
 
 -- what a record says: a provider belongs to an aggregate
@@ -21,10 +20,6 @@ aggregate_columns = provider_name ∷ uuid_name ∷ []
 unfoldable pub membership_in : Row → Row → Membership
 membership_in header row = record { provider = id_in header provider_name row; aggregate = id_in header uuid_name row }
 
--- the same provider and aggregate
-abbrev pub same_membership : Membership → Membership → Bool
-same_membership a b = (a.provider == b.provider) && (a.aggregate == b.aggregate)
-
 -- the checks of a record's fields
 unfoldable pub membership_field_checks : Row → Row → List Check
 membership_field_checks header row = owner_checks header row ++ bad_id header uuid_name row ∷ []
@@ -32,7 +27,7 @@ membership_field_checks header row = owner_checks header row ++ bad_id header uu
 -- the checks of a record, where these are the ids of all providers; a repeated one is none
 unfoldable pub membership_checks : List ℕ → Row → List Membership → Row → List Check
 membership_checks ids header before row =
-    membership_field_checks header row ++ (not (is_one_of ids (id_in header provider_name row)), kind.UnknownProvider) ∷ []
+    membership_field_checks header row ++ known_checks ids (id_in header provider_name row)
 
 -- all that the table says, in the order of its records
 abbrev pub memberships_of : List Row → List Membership
@@ -41,3 +36,7 @@ memberships_of rows = said_by membership_in rows
 -- all checks of the table
 abbrev pub aggregate_checks : List ℕ → List Row → List (Bool × TableFault)
 aggregate_checks ids rows = table_checks table.Aggregates aggregate_columns membership_in (membership_checks ids) rows
+
+-- the first fault of the table
+unfoldable pub aggregates_fault : List ℕ → List Row → Option TableFault
+aggregates_fault ids rows = first_failing (aggregate_checks ids rows)

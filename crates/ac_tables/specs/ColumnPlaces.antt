@@ -5,6 +5,11 @@ use Rattle.ac_tables.specs.Checks.{Row}
 use Rattle.ac_tables.specs.Columns.{column}
 use Rattle.ac_tables.specs.ProviderTable.{uuid_name, root_name, parent_name}
 use Rattle.ac_tables.specs.InventoryTable.{provider_name, class_name, total_name, reserved_name, min_unit_name, max_unit_name, step_size_name, ratio_name}
+use Rattle.ac_tables.specs.UsageTable.{usage_name}
+use Rattle.ac_tables.specs.TraitTable.{name_name}
+use Rattle.ac_tables.specs.declared.usage.UsageColumns.{UsageColumns}
+use Rattle.ac_tables.specs.declared.mark.MarkColumns.{MarkColumns}
+use Rattle.ac_tables.specs.declared.membership.MembershipColumns.{MembershipColumns}
 use Rattle.ac_tables.specs.declared.holding.HoldingColumns.{HoldingColumns}
 use Rattle.ac_tables.specs.declared.listed.ListedColumns.{ListedColumns}
 
@@ -26,3 +31,12 @@ holding_places header = record {
   step_size = place_in header step_size_name;
   ratio = place_in header ratio_name;
 }
+
+unfoldable pub usage_places : Row → UsageColumns
+usage_places header = record { provider = place_in header provider_name; class = place_in header class_name; amount = place_in header usage_name }
+
+unfoldable pub mark_places : Row → MarkColumns
+mark_places header = record { provider = place_in header provider_name; name = place_in header name_name }
+
+unfoldable pub membership_places : Row → MembershipColumns
+membership_places header = record { provider = place_in header provider_name; aggregate = place_in header uuid_name }

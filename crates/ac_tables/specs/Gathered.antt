@@ -1,5 +1,5 @@
 -- What the records of a table say of each provider, beside the ids of all providers.
-use Rattle.std.specs.Prelude.{◌≡◌, ℕ, ◌<◌, ◌≤◌, ◌==◌, Bool, true, List, map, length, get_or}
+use Rattle.std.specs.Prelude.{◌≡◌, ℕ, ◌<◌, true, List, map, length, get_or}
 use Rattle.std.specs.List.{list_all}
 use Rattle.std.specs.BTreeMap.{BTreeMap}
 use Rattle.std.specs.BTreeSet.{BTreeSet}
@@ -9,8 +9,13 @@ use Rattle.ac_base.specs.declared.name.TraitName.{TraitName}
 use Rattle.ac_tables.specs.Sorted.{TextMap}
 use Rattle.ac_base.specs.Quantities.{Stock}
 use Rattle.ac_tables.specs.InventoryTable.{Holding, is_one_of}
-use Rattle.ac_tables.specs.Tables.{stocks_of}
+use Rattle.ac_tables.specs.Tables.{stocks_of, amounts_of, names_of, aggregates_of}
 use Rattle.ac_tables.specs.declared.holding.HoldingRow.{HoldingRow}
+use Rattle.ac_tables.specs.declared.usage.UsageRow.{UsageRow}
+use Rattle.ac_tables.specs.declared.mark.MarkRow.{MarkRow}
+use Rattle.ac_tables.specs.UsageTable.{Usage}
+use Rattle.ac_tables.specs.TraitTable.{Mark}
+use Rattle.ac_tables.specs.AggregateTable.{Membership}
 
 -- each number is below those after it
 abbrev pub IsRising : List ℕ → Type 0
@@ -36,3 +41,27 @@ AreStocks ids said maps = IsGathered ids (λ h. h.provider) stocks_of said (map 
 -- what a record of the inventories was read as
 abbrev pub holding_of : HoldingRow → Holding
 holding_of row = record { provider = row.provider; class = class_bytes row.class; stock = row.inventory }
+
+-- the usages of each provider, by class
+abbrev pub AreAmounts : List ℕ → List Usage → List (BTreeMap ClassName ℕ) → Type 0
+AreAmounts ids said maps = IsGathered ids (λ u. u.provider) amounts_of said (map by_class maps)
+
+-- what a record of the usages was read as
+abbrev pub usage_of : UsageRow → Usage
+usage_of row = record { provider = row.provider; class = class_bytes row.class; amount = row.amount }
+
+-- the traits of each provider
+abbrev pub AreNames : List ℕ → List Mark → List (BTreeSet TraitName) → Type 0
+AreNames ids said sets = IsGathered ids (λ m. m.provider) names_of said (map trait_texts sets)
+
+-- what a record of the traits was read as
+abbrev pub mark_of : MarkRow → Mark
+mark_of row = record { provider = row.provider; name = trait_bytes row.name }
+
+-- the ids in a set
+abbrev pub ids_in : BTreeSet ℕ → List ℕ
+ids_in s = s.keys
+
+-- the aggregates of each provider
+abbrev pub AreAggregates : List ℕ → List Membership → List (BTreeSet ℕ) → Type 0
+AreAggregates ids said sets = IsGathered ids (λ m. m.provider) aggregates_of said (map ids_in sets)

@@ -1,11 +1,11 @@
 -- The table of inventories.
-use Rattle.std.specs.Prelude.{◌&&◌, ℕ, Bool, ◌==◌, not, nat_lt, List, [], ◌∷◌, ◌++◌, codes}
+use Rattle.std.specs.Prelude.{◌&&◌, ℕ, Bool, ◌==◌, not, nat_lt, Option, List, [], ◌∷◌, ◌++◌, codes}
 use Rattle.std.specs.Option.{unwrap_or, is_none}
 use Rattle.std.specs.List.{list_any}
 use Rattle.std.specs.Str.{bytes_eq}
 use Rattle.ac_base.specs.Texts.{name_value, ratio_value}
 use Rattle.ac_base.specs.Quantities.{Stock}
-use Rattle.ac_tables.specs.Checks.{Row, Check}
+use Rattle.ac_tables.specs.Checks.{Row, Check, first_failing}
 use Rattle.ac_tables.specs.Columns.{table_checks, said_by, text_in, id_in, number_in, bad_width, bad_id, bad_number}
 use Rattle.ac_tables.specs.declared.fault.Table.TheVariants as table
 use Rattle.ac_tables.specs.declared.fault.TableKind.TheVariants as kind
@@ -98,6 +98,10 @@ holding_field_checks header row = owner_checks header row ++ class_checks header
 unfoldable pub held_checks : List ℕ → List Holding → ℕ → List ℕ → List Check
 held_checks ids before id class = (list_any (is_holding id class) before, kind.Duplicate) ∷ (not (is_one_of ids id), kind.UnknownProvider) ∷ []
 
+-- the check that a provider is there
+unfoldable pub known_checks : List ℕ → ℕ → List Check
+known_checks ids id = (not (is_one_of ids id), kind.UnknownProvider) ∷ []
+
 -- the checks of a record, beside the inventories before it, where these are the ids of all providers
 unfoldable pub holding_checks : List ℕ → Row → List Holding → Row → List Check
 holding_checks ids header before row =
@@ -110,3 +114,7 @@ holdings_of rows = said_by holding_in rows
 -- all checks of the table
 abbrev pub inventory_checks : List ℕ → List Row → List (Bool × TableFault)
 inventory_checks ids rows = table_checks table.Inventories inventory_columns holding_in (holding_checks ids) rows
+
+-- the first fault of the table
+unfoldable pub inventories_fault : List ℕ → List Row → Option TableFault
+inventories_fault ids rows = first_failing (inventory_checks ids rows)

@@ -1,5 +1,6 @@
 -- Parents as places in a list.
-use Rattle.std.specs.Prelude.{ℕ, ◌<◌, List, length, get_or, Option, None, IfSome}
+use Rattle.std.specs.List.{position_from}
+use Rattle.std.specs.Prelude.{◌≡◌, ◌==◌, Some, ℕ, ◌<◌, List, length, get_or, Option, None, IfSome}
 
 -- the parent of a place, where it has one
 abbrev pub parent_in : List (Option ℕ) → ℕ → Option ℕ
@@ -16,3 +17,11 @@ ArePlaces n xs = (i : ℕ) → i < length xs → get_or xs i 0 < n
 -- where the items of a list lead
 abbrev pub along : List ℕ → ℕ → ℕ
 along step i = get_or step i 0
+
+-- the place of a number in a list
+abbrev pub rank : List ℕ → ℕ → Option ℕ
+rank ids id = position_from (λ p. p == id) 0 ids
+
+-- every parent is one of the first n places
+abbrev pub AreWithin : ℕ → List (Option ℕ) → Type 0
+AreWithin n parents = (i j : ℕ) → i < n → get_or parents i None ≡ Some j → j < n

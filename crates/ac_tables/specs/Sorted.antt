@@ -1,6 +1,6 @@
 -- Sets and maps in the order of their keys, gathered from lists.
-use Rattle.std.specs.Prelude.{ℕ, Bool, List, [], ◌∷◌, ◌++◌, if◌then◌else◌}
-use Rattle.std.specs.List.{fold, list_any}
+use Rattle.std.specs.Prelude.{ℕ, List, []}
+use Rattle.std.specs.List.{fold}
 use Rattle.std.specs.declared.cmp.Ordering.{Ordering}
 use Rattle.std.specs.BTreeMap.{insert_entry}
 use Rattle.std.specs.BTreeSet.{insert_key}
@@ -17,7 +17,3 @@ TextMap X = List (List ℕ × X)
 -- the map of these pairs
 abbrev pub map_of : {X : Type 0} → List (List ℕ × X) → TextMap X
 map_of pairs = fold (λ m p. insert_entry text_cmp m p.0 p.1) [] pairs
-
--- the items, equal ones once, in the order in which they first come
-abbrev pub each_once : {X : Type 0} → (X → X → Bool) → List X → List X
-each_once same xs = fold (λ kept x. if list_any (same x) kept then kept else kept ++ x ∷ []) [] xs

@@ -1,7 +1,7 @@
 -- The five tables: the first fault of all, and the world that they state where there is none.
 use Rattle.std.specs.Prelude.{ℕ, Bool, ◌==◌, List, [], ◌∷◌, ◌++◌, map, length, Option, Some, None}
 use Rattle.std.specs.Option.{unwrap_or}
-use Rattle.std.specs.List.{filter}
+use Rattle.std.specs.List.{filter, sum_by}
 use Rattle.std.specs.Map.{lookup}
 use Rattle.std.specs.Ordering.{nat_cmp}
 use Rattle.std.specs.Str.{bytes_eq}
@@ -9,12 +9,12 @@ use Rattle.ac_base.specs.Texts.{text_cmp}
 use Rattle.ac_base.specs.Quantities.{Stock}
 use Rattle.ac_tables.specs.Checks.{Row, first_failing}
 use Rattle.ac_tables.specs.Rows.{records_of}
-use Rattle.ac_tables.specs.Sorted.{TextMap, rising, map_of, each_once}
+use Rattle.ac_tables.specs.Sorted.{TextMap, rising, map_of}
 use Rattle.ac_tables.specs.ProviderTable.{listed_of, listed_parent, provider_checks}
 use Rattle.ac_tables.specs.InventoryTable.{Holding, holdings_of, inventory_checks}
 use Rattle.ac_tables.specs.UsageTable.{Usage, usages_of, usage_checks}
-use Rattle.ac_tables.specs.TraitTable.{Mark, marks_of, trait_checks, same_mark}
-use Rattle.ac_tables.specs.AggregateTable.{Membership, memberships_of, aggregate_checks, same_membership}
+use Rattle.ac_tables.specs.TraitTable.{Mark, marks_of, trait_checks}
+use Rattle.ac_tables.specs.AggregateTable.{Membership, memberships_of, aggregate_checks}
 use Rattle.ac_tables.specs.World.{Provider, World, Held}
 use Rattle.ac_tables.specs.declared.fault.TableFault.{TableFault}
 
@@ -84,7 +84,7 @@ world_stated t = record {
     providers = length (ids_of t.providers);
     inventories = length (holdings_of t.inventories);
     usages = length (usages_of t.usages);
-    traits = length (each_once same_mark (marks_of t.traits));
-    aggregates = length (each_once same_membership (memberships_of t.aggregates));
+    traits = sum_by (λ id. length (names_of (marks_of t.traits) id)) (ids_of t.providers);
+    aggregates = sum_by (λ id. length (aggregates_of (memberships_of t.aggregates) id)) (ids_of t.providers);
   };
 }

@@ -1,11 +1,10 @@
 -- The table of traits.
-use Rattle.std.specs.Prelude.{◌&&◌, ℕ, Bool, ◌==◌, not, List, [], ◌∷◌, ◌++◌, codes}
+use Rattle.std.specs.Prelude.{Option, ℕ, Bool, List, [], ◌∷◌, ◌++◌, codes}
 use Rattle.std.specs.Option.{is_none}
-use Rattle.std.specs.Str.{bytes_eq}
 use Rattle.ac_base.specs.Texts.{name_value}
-use Rattle.ac_tables.specs.Checks.{Row, Check}
+use Rattle.ac_tables.specs.Checks.{Row, Check, first_failing}
 use Rattle.ac_tables.specs.Columns.{table_checks, said_by, text_in, id_in}
-use Rattle.ac_tables.specs.InventoryTable.{provider_name, owner_checks, is_one_of}
+use Rattle.ac_tables.specs.InventoryTable.{provider_name, owner_checks, known_checks}
 use Rattle.ac_tables.specs.declared.fault.Table.TheVariants as table
 use Rattle.ac_tables.specs.declared.fault.TableKind.TheVariants as kind
 use Rattle.ac_tables.specs.declared.fault.TableFault.{TableFault}
@@ -26,18 +25,18 @@ trait_columns = provider_name ∷ name_name ∷ []
 unfoldable pub mark_in : Row → Row → Mark
 mark_in header row = record { provider = id_in header provider_name row; name = text_in header name_name row }
 
--- the same provider and trait
-abbrev pub same_mark : Mark → Mark → Bool
-same_mark a b = (a.provider == b.provider) && bytes_eq a.name b.name
+-- the check of a trait
+unfoldable pub name_checks : Row → Row → List Check
+name_checks header row = (is_none (name_value (text_in header name_name row)), kind.BadTrait) ∷ []
 
 -- the checks of a record's fields
 unfoldable pub mark_field_checks : Row → Row → List Check
-mark_field_checks header row = owner_checks header row ++ (is_none (name_value (text_in header name_name row)), kind.BadTrait) ∷ []
+mark_field_checks header row = owner_checks header row ++ name_checks header row
 
 -- the checks of a record, where these are the ids of all providers; a repeated one is none
 unfoldable pub mark_checks : List ℕ → Row → List Mark → Row → List Check
 mark_checks ids header before row =
-    mark_field_checks header row ++ (not (is_one_of ids (id_in header provider_name row)), kind.UnknownProvider) ∷ []
+    mark_field_checks header row ++ known_checks ids (id_in header provider_name row)
 
 -- all that the table says, in the order of its records
 abbrev pub marks_of : List Row → List Mark
@@ -46,3 +45,7 @@ marks_of rows = said_by mark_in rows
 -- all checks of the table
 abbrev pub trait_checks : List ℕ → List Row → List (Bool × TableFault)
 trait_checks ids rows = table_checks table.Traits trait_columns mark_in (mark_checks ids) rows
+
+-- the first fault of the table
+unfoldable pub traits_fault : List ℕ → List Row → Option TableFault
+traits_fault ids rows = first_failing (trait_checks ids rows)

@@ -1,8 +1,8 @@
 -- The table of usages.
-use Rattle.std.specs.Prelude.{◌&&◌, ℕ, Bool, ◌==◌, not, List, [], ◌∷◌, ◌++◌, codes}
+use Rattle.std.specs.Prelude.{Option, ◌&&◌, ℕ, Bool, ◌==◌, not, List, [], ◌∷◌, ◌++◌, codes}
 use Rattle.std.specs.List.{list_any}
 use Rattle.std.specs.Str.{bytes_eq}
-use Rattle.ac_tables.specs.Checks.{Row, Check}
+use Rattle.ac_tables.specs.Checks.{Row, Check, first_failing}
 use Rattle.ac_tables.specs.Columns.{table_checks, said_by, text_in, id_in, number_in, bad_number}
 use Rattle.ac_tables.specs.InventoryTable.{Holding, provider_name, class_name, owner_checks, class_checks, is_holding, is_one_of}
 use Rattle.ac_tables.specs.declared.fault.Table.TheVariants as table
@@ -30,9 +30,13 @@ usage_in header row = record { provider = id_in header provider_name row; class 
 abbrev pub is_usage : ℕ → List ℕ → Usage → Bool
 is_usage id class u = (u.provider == id) && bytes_eq class u.class
 
+-- the check of an amount
+unfoldable pub amount_checks : Row → Row → List Check
+amount_checks header row = bad_number header usage_name row ∷ []
+
 -- the checks of a record's fields
 unfoldable pub usage_field_checks : Row → Row → List Check
-usage_field_checks header row = owner_checks header row ++ class_checks header row ++ bad_number header usage_name row ∷ []
+usage_field_checks header row = owner_checks header row ++ class_checks header row ++ amount_checks header row
 
 -- the checks of what a record says, beside what is said before it and the inventories
 unfoldable pub used_checks : List ℕ → List Holding → List Usage → ℕ → List ℕ → List Check
@@ -54,3 +58,7 @@ usages_of rows = said_by usage_in rows
 -- all checks of the table
 abbrev pub usage_checks : List ℕ → List Holding → List Row → List (Bool × TableFault)
 usage_checks ids holdings rows = table_checks table.Usages usage_columns usage_in (usage_row_checks ids holdings) rows
+
+-- the first fault of the table
+unfoldable pub usages_fault : List ℕ → List Holding → List Row → Option TableFault
+usages_fault ids holdings rows = first_failing (usage_checks ids holdings rows)

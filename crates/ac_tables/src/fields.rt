@@ -15,7 +15,11 @@ use std::alloc::Global;
 
 // The provider to which a record belongs.
 #[tactic(auto, unfolding(crate::specs::InventoryTable::owner_checks))]
-pub(crate) fn read_owner(header: &ByteRecord, place: usize, row: &ByteRecord) -> Result<Id, TableKind>
+pub(crate) fn read_owner(
+    header: &ByteRecord,
+    place: usize,
+    row: &ByteRecord,
+) -> Result<Id, TableKind>
     requires { place ≡ place_in (fields_of header.now) provider_name }
     ensures { result ≡ unless (first_failing (owner_checks (fields_of header.now) (fields_of row.now))) (id_in (fields_of header.now) provider_name (fields_of row.now)) }
 {
@@ -30,7 +34,12 @@ pub(crate) fn read_owner(header: &ByteRecord, place: usize, row: &ByteRecord) ->
 
 // The class of a record.
 #[tactic(auto, unfolding(crate::specs::InventoryTable::class_checks), using(crate::proofs::NameFacts::named))]
-pub(crate) fn read_class(alloc: Global, header: &ByteRecord, place: usize, row: &ByteRecord) -> Result<ClassName, RecordFault>
+pub(crate) fn read_class(
+    alloc: Global,
+    header: &ByteRecord,
+    place: usize,
+    row: &ByteRecord,
+) -> Result<ClassName, RecordFault>
     requires { place ≡ place_in (fields_of header.now) class_name }
     ensures ok { IfOk result (λ _. first_failing (class_checks (fields_of header.now) (fields_of row.now)) ≡ None) }
     ensures class { IfOk result (λ class. class_bytes class ≡ text_in (fields_of header.now) class_name (fields_of row.now)) }

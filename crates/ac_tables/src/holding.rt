@@ -60,7 +60,11 @@ impl HoldingRow {
 
     // The inventory of a record, or the first fault of its fields.
     #[tactic(auto, unfolding(crate::specs::ColumnPlaces::holding_places, crate::specs::InventoryTable::stock_in, crate::specs::InventoryTable::stock_checks))]
-    fn read_inventory(header: &ByteRecord, columns: HoldingColumns, row: &ByteRecord) -> Result<Inventory, TableKind>
+    fn read_inventory(
+        header: &ByteRecord,
+        columns: HoldingColumns,
+        row: &ByteRecord,
+    ) -> Result<Inventory, TableKind>
         requires { columns ≡ holding_places (fields_of header.now) }
         ensures { result ≡ unless (first_failing (stock_checks (fields_of header.now) (fields_of row.now))) (stock_in (fields_of header.now) (fields_of row.now)) }
     {
@@ -96,7 +100,12 @@ impl HoldingRow {
 
     // What a record says, or the first fault of its fields.
     #[tactic(auto, unfolding(crate::specs::ColumnPlaces::holding_places))]
-    pub(crate) fn read(alloc: Global, header: &ByteRecord, columns: HoldingColumns, row: &ByteRecord) -> Result<HoldingRow, RecordFault>
+    pub(crate) fn read(
+        alloc: Global,
+        header: &ByteRecord,
+        columns: HoldingColumns,
+        row: &ByteRecord,
+    ) -> Result<HoldingRow, RecordFault>
         requires { columns ≡ holding_places (fields_of header.now) }
         ensures ok { IfOk result (λ _. first_failing (holding_field_checks (fields_of header.now) (fields_of row.now)) ≡ None) }
         ensures provider { IfOk result (λ h. h.provider ≡ id_in (fields_of header.now) provider_name (fields_of row.now)) }

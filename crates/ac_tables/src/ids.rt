@@ -4,6 +4,7 @@ ghost use Rattle.std.specs.Ordering.{nat_cmp};
 ghost use Rattle.ac_tables.specs.Sorted.{rising};
 ghost use Rattle.ac_tables.specs.Gathered.{IsRising};
 ghost use Rattle.ac_tables.specs.InventoryTable.{is_one_of};
+ghost use Rattle.ac_tables.specs.Places.{rank};
 
 use ac_base::Id;
 
@@ -27,6 +28,7 @@ impl Ids {
         ensures inside { IfSome result (λ place. place < length self.now.ids.items) }
         ensures found { IfSome result (λ place. get_or self.now.ids.items place 0 ≡ id) }
         ensures absent { IfNone result (is_one_of self.now.ids.items id ≡ false) }
+        ensures value { result ≡ rank self.now.ids.items id }
     {
         self.ids.binary_search(&id).ok()
     }

@@ -3,19 +3,34 @@
 //! It knows nothing of queries or of searches.
 #![tactic(auto)]
 
+mod aggregates;
+mod build;
 mod climbing;
+pub mod cloud;
 mod columns;
+pub mod entry;
 pub mod fault;
 mod fields;
+mod forest;
 mod holding;
 mod ids;
 mod inventories;
 mod listed;
+mod lists;
+mod mark;
+mod membership;
 mod numbered;
 mod providers;
+pub mod read;
 pub mod reading;
 mod roll;
 mod rows;
+mod traits;
+mod usage;
+mod usages;
 
+pub use cloud::{Cloud, Counts};
+pub use entry::Entry;
 pub use fault::{Table, TableFault, TableKind};
+pub use read::Sources;
 pub use reading::{ReadFault, drain};

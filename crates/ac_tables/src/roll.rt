@@ -1,19 +1,21 @@
 //! The providers of a table in the order of its records, and where each stands.
 ghost use Rattle.std.specs.Prelude.{◌≡◌, ◌≤◌, ◌<◌, ◌++◌, ◌∷◌, ◌==◌, not, true, false, None, ℕ, [], length, map, IfOk, IfErr};
-ghost use Rattle.std.specs.BTreeMap.{get, keys};
+ghost use Rattle.std.specs.BTreeMap.{get, keys, btree_map_len};
 ghost use Rattle.std.specs.Ordering.{nat_cmp};
 ghost use Rattle.csv.specs.Records.{fields_of};
 ghost use Rattle.ac_tables.specs.Checks.{first_failing, TellsKind};
 ghost use Rattle.ac_tables.specs.Sorted.{rising};
-ghost use Rattle.ac_tables.specs.ProviderTable.{place_of, place_checks, listed_in, listed_checks, listed_at, has_unknown_parent};
+ghost use Rattle.ac_tables.specs.ProviderTable.{place_of, place_checks, listed_in, listed_checks, listed_at, listed_parent, has_unknown_parent};
 ghost use Rattle.ac_tables.specs.DistinctIds.{AreDistinct, parent_place};
+ghost use Rattle.ac_tables.specs.Gathered.{IsRising};
 ghost use Rattle.ac_tables.specs.ColumnPlaces.{listed_places};
 
 use crate::fault::{RecordFault, TableKind};
+use crate::ids::Ids;
 use crate::listed::{ListedColumns, ListedRow};
 use ac_base::Id;
 use csv::ByteRecord;
-use std::alloc::Global;
+use std::alloc::{AllocError, Global};
 use std::collections::BTreeMap;
 
 // The most providers.
@@ -26,6 +28,7 @@ pub(crate) struct Roll {
     ghost few: { length rows.items ≤ 65536 },
     ghost found: { (q : ℕ) → get nat_cmp places q ≡ place_of rows.items q },
     ghost distinct: { AreDistinct rows.items },
+    ghost sized: { btree_map_len places ≡ length rows.items },
     ghost ordered: { keys places ≡ rising nat_cmp (map (λ p. p.id) rows.items) },
 }
 
@@ -73,6 +76,33 @@ impl Roll {
         ensures { result ≡ (listed_at self.now.rows.items place).root }
     {
         self.rows[place].root
+    }
+
+    fn keys(&self, alloc: Global) -> Result<Vec<Id>, AllocError>
+        ensures { IfOk result (λ ids. ids.items ≡ keys self.now.places) }
+    {
+        let keys = self.places.keys();
+        keys.copied().collect(alloc)
+    }
+
+    // The ids of all providers, rising.
+    pub(crate) fn ids(&self, alloc: Global) -> Result<Ids, AllocError>
+        ensures ids { IfOk result (λ ids. ids.ids.items ≡ rising nat_cmp (map (λ p. p.id) self.now.rows.items)) }
+        ensures count { IfOk result (λ ids. length ids.ids.items ≡ length self.now.rows.items) }
+    {
+        let _count = self.places.len();
+        let ids = self.keys(alloc)?;
+        Ok(Ids { ids })
+    }
+
+    // The parent of the provider of an id.
+    pub(crate) fn parent_of(&self, id: Id) -> Option<Id>
+        ensures { result ≡ listed_parent self.now.rows.items id }
+    {
+        match self.find(id) {
+            Some(place) => self.parent(place as usize),
+            None => None,
+        }
     }
 
     // Where the parent of a provider stands, if it has one.

@@ -1,0 +1,78 @@
+-- A cloud's fields and the world that it stands for.
+use Rattle.std.proofs.Common.{◌≡◌, ◌<◌, ◌∙◌, ℕ, List, [], map, length, get_or, Option, Some, None, refl, sym, ap, subst, arith}
+use Rattle.std.specs.Prelude.{IfSome}
+use Rattle.std.specs.Option.{option_map}
+use Rattle.std.proofs.lemmas.List.{get_or-map}
+use Rattle.std.specs.Global.{Vec}
+use Rattle.ac_tables.specs.Places.{parent_in, rank}
+use Rattle.ac_tables.specs.World.{provider_at, id_at, place_of, parent_of, root_of}
+use Rattle.ac_tables.specs.Lists.{held_list, name_list, id_list}
+use Rattle.ac_tables.specs.CloudWorld.{providers_of}
+use Rattle.ac_tables.specs.declared.cloud.Cloud.{Cloud}
+use Rattle.ac_tables.specs.declared.entry.Entry.{Entry}
+use Rattle.ac_base.specs.declared.name.TraitName.{TraitName}
+use Rattle.ac_tables.proofs.WorldFacts.{numbered_size, numbered_here, numbered_place, numbered_parent, numbered_root}
+
+module _ (c : Cloud) where
+  abbrev ids : List ℕ
+  ids = c.ids.ids.items
+
+  pub size : length (providers_of c) ≡ length c.ids.ids.items
+  size = numbered_size ids c.parents.items (map held_list c.entries.items) (map name_list c.traits.items) (map id_list c.aggregates.items)
+
+  pub inside : (ix : ℕ) → ix < length (providers_of c) → ix < length c.ids.ids.items
+  inside ix h = omega (arith, h, size)
+
+  pub outside : (ix : ℕ) → ix < length c.ids.ids.items → ix < length (providers_of c)
+  outside ix h = omega (arith, h, size)
+
+  pub id_here : (ix : ℕ) → ix < length c.ids.ids.items → id_at (providers_of c) ix ≡ get_or c.ids.ids.items ix 0
+  id_here ix h = ap (λ p. p.id) (numbered_here ids c.parents.items (map held_list c.entries.items) (map name_list c.traits.items) (map id_list c.aggregates.items) ix h)
+
+  pub place_here : (id : ℕ) → place_of (providers_of c) id ≡ rank c.ids.ids.items id
+  place_here id = numbered_place ids c.parents.items (map held_list c.entries.items) (map name_list c.traits.items) (map id_list c.aggregates.items) id
+
+  pub parent_here : (ix : ℕ) → ix < length c.ids.ids.items → parent_of (providers_of c) (id_at (providers_of c) ix) ≡ option_map (λ j. get_or c.ids.ids.items j 0) (parent_in c.parents.items ix)
+  parent_here ix h =
+      ap (parent_of (providers_of c)) (id_here ix h)
+      ∙ numbered_parent ids c.parents.items (map held_list c.entries.items) (map name_list c.traits.items) (map id_list c.aggregates.items) c.ids.rising ix h
+
+  pub root_inside : (ix : ℕ) → ix < length c.ids.ids.items → get_or c.roots.items ix 0 < length c.ids.ids.items
+  root_inside ix h =
+      let r = numbered_root ids c.parents.items (map held_list c.entries.items) (map name_list c.traits.items) (map id_list c.aggregates.items) c.ids.rising c.within ix h in
+      subst (λ (j : ℕ). j < length ids) (sym (c.rooted ix h)) r.0
+
+  pub root_here : (ix : ℕ) → ix < length c.ids.ids.items → id_at (providers_of c) (get_or c.roots.items ix 0) ≡ root_of (providers_of c) (id_at (providers_of c) ix)
+  root_here ix h =
+      let r = numbered_root ids c.parents.items (map held_list c.entries.items) (map name_list c.traits.items) (map id_list c.aggregates.items) c.ids.rising c.within ix h in
+      id_here (get_or c.roots.items ix 0) (root_inside ix h)
+      ∙ ap (λ (j : ℕ). get_or ids j 0) (c.rooted ix h) ∙ sym r.1 ∙ ap (root_of (providers_of c)) (sym (id_here ix h))
+
+  pub holdings_here : (ix : ℕ) (v : Vec Entry) → ix < length c.ids.ids.items → v ≡ get_or c.entries.items ix v → held_list v ≡ (provider_at (providers_of c) ix).holdings
+  holdings_here ix v h e =
+      let k : ix < length c.entries.items = omega (arith, h, c.with_entries) in
+      ap held_list e ∙ sym (get_or-map held_list c.entries.items ix v [] k)
+      ∙ sym (ap (λ p. p.holdings) (numbered_here ids c.parents.items (map held_list c.entries.items) (map name_list c.traits.items) (map id_list c.aggregates.items) ix h))
+
+  pub traits_here : (ix : ℕ) (v : Vec TraitName) → ix < length c.ids.ids.items → v ≡ get_or c.traits.items ix v → name_list v ≡ (provider_at (providers_of c) ix).traits
+  traits_here ix v h e =
+      let k : ix < length c.traits.items = omega (arith, h, c.with_traits) in
+      ap name_list e ∙ sym (get_or-map name_list c.traits.items ix v [] k)
+      ∙ sym (ap (λ p. p.traits) (numbered_here ids c.parents.items (map held_list c.entries.items) (map name_list c.traits.items) (map id_list c.aggregates.items) ix h))
+
+  pub aggregates_here : (ix : ℕ) (v : Vec ℕ) → ix < length c.ids.ids.items → v ≡ get_or c.aggregates.items ix v → id_list v ≡ (provider_at (providers_of c) ix).aggregates
+  aggregates_here ix v h e =
+      let k : ix < length c.aggregates.items = omega (arith, h, c.with_aggregates) in
+      ap id_list e ∙ sym (get_or-map id_list c.aggregates.items ix v [] k)
+      ∙ sym (ap (λ p. p.aggregates) (numbered_here ids c.parents.items (map held_list c.entries.items) (map name_list c.traits.items) (map id_list c.aggregates.items) ix h))
+
+  names_same : (ix : ℕ) (o : Option ℕ) → ix < length c.ids.ids.items → parent_in c.parents.items ix ≡ o
+      → (option_map (id_at (providers_of c)) o ≡ option_map (λ j. get_or c.ids.ids.items j 0) o) × IfSome o (λ j. j < length (providers_of c))
+  names_same ix None h e = (refl, tt)
+  names_same ix (Some j) h e = let k = c.within ix j h e in (ap (λ (x : ℕ). Some x) (id_here j k), outside j k)
+
+  pub parent_is : (ix : ℕ) (o : Option ℕ) → ix < length c.ids.ids.items → o ≡ parent_in c.parents.items ix
+      → (option_map (id_at (providers_of c)) o ≡ parent_of (providers_of c) (id_at (providers_of c) ix)) × IfSome o (λ j. j < length (providers_of c))
+  parent_is ix o h e =
+      let same = names_same ix o h (sym e) in
+      (same.0 ∙ ap (option_map (λ j. get_or c.ids.ids.items j 0)) e ∙ sym (parent_here ix h), same.1)
