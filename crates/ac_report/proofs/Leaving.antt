@@ -1,6 +1,6 @@
 -- A sink that has taken all but a rest of some bytes.
 use Rattle.std.proofs.Common.{◌≡◌, ℕ, ◌≤◌, ◌∙◌, sym, ap, refl, List, [], ◌∷◌, ◌++◌, take, drop, length, subst, Option, Some, None, append_assoc, append-nil}
-use Rattle.std.specs.Prelude.{⊤, OnErr}
+use Rattle.std.specs.Prelude.{⊤, OnErr, OnOk}
 use Rattle.std.proofs.Common.{Result, Ok, Err}
 use Rattle.std.proofs.lemmas.List.{take-append-drop}
 use Rattle.std.specs.Io.KnownBytes.{Appends, Keeps}
@@ -86,3 +86,8 @@ part_none (Some u) bytes = ([], bytes, refl, sym (append-nil u))
 pub on_err : {T E : Type 0} (r : Result T E) (P : Type 0) → P → OnErr r P
 on_err (Ok x) P p = tt
 on_err (Err e) P p = p
+
+-- what follows from what success gives
+pub on_ok_weaker : {T E : Type 0} (r : Result T E) (P Q : Type 0) → (P → Q) → OnOk r P → OnOk r Q
+on_ok_weaker (Ok x) P Q f h = f h
+on_ok_weaker (Err e) P Q f h = tt

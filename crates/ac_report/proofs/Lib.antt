@@ -5,3 +5,6 @@ pub mod IdTexts
 pub mod Listed
 pub mod Joining
 pub mod PlainTrees
+pub mod Gathering
+pub mod Rows
+pub mod Serving

@@ -8,6 +8,7 @@ mod ids;
 pub mod laws;
 pub mod lines;
 mod pushing;
+pub mod request;
 pub mod stand_in;
 pub mod summary;
 
