@@ -6,3 +6,4 @@ pub mod Feeds
 pub mod Draining
 pub mod TokenGiven
 pub mod Asking
+pub mod Outputs

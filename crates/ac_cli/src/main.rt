@@ -5,6 +5,7 @@ mod asking;
 mod digits;
 mod draining;
 mod inputs;
+mod outputs;
 mod refusal;
 mod report;
 mod telling;
