@@ -31,3 +31,6 @@ pub mod GatherLists
 pub mod KinFacts
 pub mod AllFaults
 pub mod StatedWorld
+pub mod LookupFacts
+pub mod AncestorFacts
+pub mod AvailableFacts
