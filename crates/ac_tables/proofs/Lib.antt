@@ -28,3 +28,9 @@ pub mod WorldFacts
 pub mod CloudFacts
 pub mod BuildFacts
 pub mod GatherLists
+pub mod KinFacts
+pub mod AllFaults
+pub mod StatedWorld
+pub mod LookupFacts
+pub mod AncestorFacts
+pub mod AvailableFacts

@@ -19,11 +19,11 @@ use Rattle.ac_tables.specs.declared.fault.TableFault.TheVariants as fault
 use Rattle.ac_tables.proofs.FirstFailing.{append_none, append_some}
 use Rattle.ac_tables.proofs.ListedTrees.{place_found, place_at}
 
-tells_first : (xs ys : List (Bool × TableFault)) (e : TableFault) → Tells (first_failing xs) e → Tells (first_failing (xs ++ ys)) e
+pub tells_first : (xs ys : List (Bool × TableFault)) (e : TableFault) → Tells (first_failing xs) e → Tells (first_failing (xs ++ ys)) e
 tells_first xs ys (fault.At t r k) h = append_some xs ys (fault.At t r k) h
 tells_first xs ys fault.NoMemory h = tt
 
-tells_next : (xs ys : List (Bool × TableFault)) (e : TableFault) → first_failing xs ≡ None → Tells (first_failing ys) e → Tells (first_failing (xs ++ ys)) e
+pub tells_next : (xs ys : List (Bool × TableFault)) (e : TableFault) → first_failing xs ≡ None → Tells (first_failing ys) e → Tells (first_failing (xs ++ ys)) e
 tells_next xs ys (fault.At t r k) none h = append_none xs ys none ∙ h
 tells_next xs ys fault.NoMemory none h = tt
 
@@ -65,7 +65,7 @@ unfolding unknown_fault endless_fault root_fault trees_fault
 none_trees all none none2 none3 = append_none (unknown_pass all ++ cycle_pass all) (root_pass all) (append_none (unknown_pass all) (cycle_pass all) none ∙ none2) ∙ none3
 
 -- where a pass finds nothing, no item fails
-none_fails : {X : Type 0} (t : Table) (k : TableKind) (fails : X → Bool) (n : ℕ) (xs : List X) (d : X) → first_failing (pass t k fails n xs) ≡ None
+pub none_fails : {X : Type 0} (t : Table) (k : TableKind) (fails : X → Bool) (n : ℕ) (xs : List X) (d : X) → first_failing (pass t k fails n xs) ≡ None
     → (i : ℕ) → i < length xs → fails (get_or xs i d) ≡ false
 none_fails t k fails n [] d e i h = absurd (omega (arith, h))
 none_fails t k fails n (x ∷ xs) d e zero h = elim (cases_Bool (fails x)) [ inl y ↦ absurd (cc (rw y at e)) | inr y ↦ y ]

@@ -1,10 +1,14 @@
 //! The cloud that accepted tables state.
-ghost use Rattle.std.specs.Prelude.{◌≡◌, ◌<◌, ◌≤◌, ◌+◌, ℕ, Option, None, Some, List, map, length, get_or, IfOk, IfErr, IfSome, IfNone};
+ghost use Rattle.std.specs.Prelude.{◌==◌, ◌&&◌, ◌≡◌, ◌<◌, ◌≤◌, ◌+◌, ℕ, Option, None, Some, List, map, length, get_or, IfOk, IfErr, IfSome, IfNone};
 ghost use Rattle.std.specs.Option.{option_map, option_and_then, option_copied};
 ghost use Rattle.ac_base.specs.Names.{class_bytes, trait_bytes};
 ghost use Rattle.ac_tables.specs.Trees.{top};
 ghost use Rattle.ac_tables.specs.Places.{parent_in, AreWithin};
-ghost use Rattle.ac_tables.specs.World.{provider_at, id_at, place_of, parent_of, root_of, is_above, held_of, used_of, has_trait, is_member};
+ghost use Rattle.std.specs.List.{list_any};
+ghost use Rattle.std.specs.Map.{lookup};
+ghost use Rattle.std.specs.Str.{bytes_eq};
+ghost use Rattle.ac_tables.specs.Entries.{entry_pair, entry_held};
+ghost use Rattle.ac_tables.specs.World.{provider_at, id_at, place_of, parent_of, root_of, is_above, held_of, used_of, has_trait, is_member, shares, have_common_aggregate, is_associated, is_available_at};
 
 use crate::entry::Entry;
 use crate::ids::Ids;
@@ -47,7 +51,6 @@ pub struct Cloud {
 
 impl Cloud {
     ghost use Rattle.ac_tables.specs.CloudWorld.{providers_of, world_of, sizes_of};
-    ghost use Rattle.ac_tables.specs.Entries.{entry_pair};
     ghost use Rattle.ac_tables.specs.Lists.{held_list, name_list, id_list};
 
     /// How many providers there are.
@@ -116,4 +119,159 @@ impl Cloud {
     {
         self.traits[ix as usize].as_slice()
     }
+
+    // Where a class stands among a provider's entries.
+    fn find_entry(&self, ix: u32, class: &ClassName) -> Option<&Entry>
+        requires { ix < length (providers_of self.now) }
+        ensures { option_map entry_held (option_copied result) ≡ held_of (provider_at (providers_of self.now) ix) (class_bytes class.now) }
+    {
+        let entries = self.entries(ix);
+        find(entries, class)
+    }
+
+    /// A provider's inventory of a class, where it has one.
+    pub fn inventory(&self, ix: u32, class: &ClassName) -> Option<&Inventory>
+        requires { ix < length (providers_of self.now) }
+        ensures { option_copied result ≡ option_map (λ h. h.stock) (held_of (provider_at (providers_of self.now) ix) (class_bytes class.now)) }
+    {
+        match self.find_entry(ix, class) {
+            Some(entry) => Some(entry.inventory()),
+            None => None,
+        }
+    }
+
+    /// How much of a class is used of a provider, 0 where it has none.
+    pub fn used(&self, ix: u32, class: &ClassName) -> u32
+        requires { ix < length (providers_of self.now) }
+        ensures { result ≡ used_of (provider_at (providers_of self.now) ix) (class_bytes class.now) }
+    {
+        match self.find_entry(ix, class) {
+            Some(entry) => entry.used(),
+            None => 0,
+        }
+    }
+
+    /// Whether a provider has a trait.
+    pub fn has_trait(&self, ix: u32, name: &TraitName) -> bool
+        requires { ix < length (providers_of self.now) }
+        ensures { result ≡ has_trait (provider_at (providers_of self.now) ix) (trait_bytes name.now) }
+    {
+        holds(self.traits(ix), name.text().as_bytes())
+    }
+
+    // A provider's aggregates, rising.
+    fn aggregates(&self, ix: u32) -> &[Id]
+        requires { ix < length (providers_of self.now) }
+        ensures { result.now ≡ (provider_at (providers_of self.now) ix).aggregates }
+    {
+        self.aggregates[ix as usize].as_slice()
+    }
+
+    /// Whether a provider itself belongs to an aggregate.
+    pub fn in_aggregate(&self, ix: u32, aggregate: Id) -> bool
+        requires { ix < length (providers_of self.now) }
+        ensures { result ≡ is_member (provider_at (providers_of self.now) ix) aggregate }
+    {
+        self.aggregates(ix).contains(&aggregate)
+    }
+
+    /// Whether provider `a` is above `b`, or is `b`.
+    pub fn is_ancestor(&self, a: u32, b: u32) -> bool
+        requires a { a < length (providers_of self.now) }
+        requires b { b < length (providers_of self.now) }
+        ensures { result ≡ is_above (providers_of self.now) (id_at (providers_of self.now) a) (id_at (providers_of self.now) b) }
+    {
+        let mut at = b;
+        for _step in 0..self.ids.len() {
+            if at == a {
+                return true;
+            }
+            match self.parents[at as usize] {
+                Some(parent) => at = parent,
+                None => return false,
+            }
+        }
+        at == a
+    }
+
+    /// Whether a provider shares what it has with the trees with which it has an aggregate in common.
+    pub fn shares(&self, ix: u32) -> bool
+        requires { ix < length (providers_of self.now) }
+        ensures { result ≡ shares (provider_at (providers_of self.now) ix) }
+    {
+        holds(self.traits(ix), b"MISC_SHARES_VIA_AGGREGATE")
+    }
+
+    // Whether another provider is of the tree of a root and has an aggregate in common with this one.
+    fn joins(&self, ix: u32, other: u32, root: u32) -> bool
+        requires ix { ix < length (providers_of self.now) }
+        requires other { other < length (providers_of self.now) }
+        requires root { root < length (providers_of self.now) }
+        ensures { result ≡ ((root_of (providers_of self.now) (id_at (providers_of self.now) other) == id_at (providers_of self.now) root) && have_common_aggregate (provider_at (providers_of self.now) ix) (provider_at (providers_of self.now) other)) }
+    {
+        if self.root(other) == root {
+            have_common(self.aggregates(ix), self.aggregates(other))
+        } else {
+            false
+        }
+    }
+
+    // Whether some provider of the tree of a root has an aggregate in common with this one.
+    fn is_associated(&self, ix: u32, root: u32) -> bool
+        requires ix { ix < length (providers_of self.now) }
+        requires root { root < length (providers_of self.now) }
+        ensures { result ≡ is_associated (providers_of self.now) (provider_at (providers_of self.now) ix) (id_at (providers_of self.now) root) }
+    {
+        for other in 0..self.len() {
+            if self.joins(ix, other, root) {
+                return true;
+            }
+        }
+        false
+    }
+
+    /// Whether a provider is available in the tree of a root: it is of the tree, or shares with one of its providers.
+    /// `false` where `root` isn't a root.
+    pub fn available(&self, ix: u32, root: u32) -> bool
+        requires ix { ix < length (providers_of self.now) }
+        requires root { root < length (providers_of self.now) }
+        ensures { result ≡ is_available_at (providers_of self.now) ix root }
+    {
+        if self.parent(root).is_some() {
+            return false;
+        }
+        if self.root(ix) == root {
+            return true;
+        }
+        if !self.shares(ix) {
+            return false;
+        }
+        self.is_associated(ix, root)
+    }
+}
+
+// The entry of a class.
+fn find<'a>(entries: &'a [Entry], class: &ClassName) -> Option<&'a Entry>
+    ensures { option_map entry_held (option_copied result) ≡ lookup (bytes_eq (class_bytes class.now)) (map entry_pair entries.now) }
+{
+    for entry in entries {
+        if class == entry.class() {
+            return Some(entry);
+        }
+    }
+    None
+}
+
+// Whether one of these names is this text.
+fn holds(names: &[TraitName], text: &[u8]) -> bool
+    ensures { result ≡ list_any (λ name. bytes_eq text.now (trait_bytes name)) names.now }
+{
+    names.iter().any(|name| text == name.text().as_bytes())
+}
+
+// Whether two lists have an id in common.
+fn have_common(ids: &[Id], others: &[Id]) -> bool
+    ensures { result ≡ list_any (λ id. list_any (λ other. other == id) others.now) ids.now }
+{
+    ids.iter().any(|id| others.contains(id))
 }

@@ -87,7 +87,8 @@ impl Roll {
 
     // The ids of all providers, rising.
     pub(crate) fn ids(&self, alloc: Global) -> Result<Ids, AllocError>
-        ensures { IfOk result (λ ids. ids.ids.items ≡ rising nat_cmp (map (λ p. p.id) self.now.rows.items)) }
+        ensures ids { IfOk result (λ ids. ids.ids.items ≡ rising nat_cmp (map (λ p. p.id) self.now.rows.items)) }
+        ensures count { IfOk result (λ ids. length ids.ids.items ≡ length self.now.rows.items) }
     {
         let _count = self.places.len();
         let ids = self.keys(alloc)?;

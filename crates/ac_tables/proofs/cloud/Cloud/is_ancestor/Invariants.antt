@@ -1,0 +1,12 @@
+use Rattle.std.proofs.Common.{◌≡◌, ◌<◌, ◌-◌, length}
+use Rattle.ac_tables.specs.Trees.{is_in_chain}
+use Rattle.ac_tables.specs.World.{id_at, parent_of}
+use Rattle.ac_tables.specs.CloudWorld.{providers_of}
+use Rattle.ac_tables.proofs.cloud.Cloud.is_ancestor.Given as goal
+
+-- from where it stands the rest of the chain decides
+abbrev pub invariant-loop-step : goal.invariant-loop-step
+invariant-loop-step l =
+    (l.at < length (providers_of l.self))
+    × (is_in_chain (parent_of (providers_of l.self)) (length (providers_of l.self) - l._step) (id_at (providers_of l.self) l.a) (id_at (providers_of l.self) l.at)
+    ≡ is_in_chain (parent_of (providers_of l.self)) (length (providers_of l.self)) (id_at (providers_of l.self) l.a) (id_at (providers_of l.self) l.b))

@@ -1,0 +1,98 @@
+//! Reading the tables of a cloud.
+ghost use Rattle.std.specs.Prelude.{◌≡◌, None, IfOk, IfErr};
+ghost use Rattle.ac_tables.specs.Checks.{Tells};
+ghost use Rattle.ac_tables.specs.Tables.{tables_fault, world_stated};
+ghost use Rattle.ac_tables.specs.SourceText.{text_or};
+
+use crate::aggregates::read_aggregates;
+use crate::build::Parts;
+use crate::cloud::{Cloud, Counts};
+use crate::fault::TableFault;
+use crate::inventories::read_inventories;
+use crate::providers::read_providers;
+use crate::traits::read_traits;
+use crate::usages::read_usages;
+use std::alloc::Global;
+
+/// The texts of the tables. A table that isn't there is its header alone.
+pub struct Sources<'a> {
+    pub providers: &'a [u8],
+    pub inventories: &'a [u8],
+    pub usages: Option<&'a [u8]>,
+    pub traits: Option<&'a [u8]>,
+    pub aggregates: Option<&'a [u8]>,
+}
+
+const USAGES_HEADER: &[u8] = b"resource_provider,resource_class,usage";
+
+const TRAITS_HEADER: &[u8] = b"resource_provider,name";
+
+const AGGREGATES_HEADER: &[u8] = b"resource_provider,uuid";
+
+// A text, or this one where there is none.
+fn text_or<'a>(text: Option<&'a [u8]>, header: &'a [u8]) -> &'a [u8]
+    ensures { result.now ≡ text_or text.entry header.now }
+{
+    match text {
+        Some(text) => text,
+        None => header,
+    }
+}
+
+impl Cloud {
+    ghost use Rattle.ac_tables.specs.CloudWorld.{world_of};
+    ghost use Rattle.ac_tables.specs.Source.{tables_of, AreFew};
+
+    /// Reads the tables, each of at most 67108864 bytes.
+    ///
+    /// The fault is the first in the order of the tables and their checks; a fault that comes before a refused growth
+    /// is told instead of it.
+    pub fn read(alloc: Global, src: &Sources) -> Result<Cloud, TableFault>
+        requires { AreFew src.now }
+        ensures world { IfOk result (λ cloud. world_of cloud ≡ world_stated (tables_of src.now)) }
+        ensures ok { IfOk result (λ _. tables_fault (tables_of src.now) ≡ None) }
+        ensures fault { IfErr result (λ e. Tells (tables_fault (tables_of src.now)) e) }
+    {
+        let roll = match read_providers(alloc, src.providers) {
+            Ok(roll) => roll,
+            Err(fault) => return Err(fault),
+        };
+        let ids = roll.ids(alloc)?;
+        let (inventories, inventory_count) = match read_inventories(alloc, &ids, src.inventories) {
+            Ok(read) => read,
+            Err(fault) => return Err(fault),
+        };
+        let text = text_or(src.usages, USAGES_HEADER);
+        let (usages, usage_count) = match read_usages(alloc, &ids, &inventories, text) {
+            Ok(read) => read,
+            Err(fault) => return Err(fault),
+        };
+        let text = text_or(src.traits, TRAITS_HEADER);
+        let traits = match read_traits(alloc, &ids, text) {
+            Ok(traits) => traits,
+            Err(fault) => return Err(fault),
+        };
+        let text = text_or(src.aggregates, AGGREGATES_HEADER);
+        let aggregates = match read_aggregates(alloc, &ids, text) {
+            Ok(aggregates) => aggregates,
+            Err(fault) => return Err(fault),
+        };
+        let counts = Counts {
+            providers: ids.len() as u32,
+            inventories: inventory_count,
+            usages: usage_count,
+            traits: traits.count,
+            aggregates: aggregates.count,
+        };
+        let parts = Parts {
+            roll,
+            ids,
+            inventories,
+            usages,
+            traits,
+            aggregates,
+            counts,
+        };
+        Ok(Cloud::build(alloc, parts)?)
+    }
+}
