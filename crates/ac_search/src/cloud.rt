@@ -5,11 +5,14 @@ ghost use Rattle.std.specs.Option.{option_copied};
 ghost use Rattle.ac_base.specs.Names.{class_bytes, trait_bytes};
 ghost use Rattle.ac_tables.specs.World.{Provider, provider_at, id_at, place_of, root_of, used_of, has_trait, is_member, is_above, is_available_at, anchors_of};
 ghost use Rattle.ac_search.specs.Own.{stock_of};
+ghost use Rattle.ac_search.specs.Laws.{AreInOrder};
 
 use ac_base::{ClassName, Id, Inventory, TraitName};
 
 pub trait Cloud {
     ghost providers: { Self → List Provider };
+
+    ghost ordered: { (s : Self) → AreInOrder (providers s) };
 
     fn len(&self) -> u32
         ensures { result ≡ length (providers self.now) };
@@ -23,7 +26,8 @@ pub trait Cloud {
 
     fn root(&self, ix: u32) -> u32
         requires { ix < length (providers self.now) }
-        ensures { place_of (providers self.now) (root_of (providers self.now) (id_at (providers self.now) ix)) ≡ Some result };
+        ensures id { id_at (providers self.now) result ≡ root_of (providers self.now) (id_at (providers self.now) ix) }
+        ensures inside { result < length (providers self.now) };
 
     fn is_ancestor(&self, a: u32, b: u32) -> bool
         requires a_in { a < length (providers self.now) }
