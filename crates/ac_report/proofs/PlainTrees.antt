@@ -7,7 +7,7 @@ use Rattle.serde_json.specs.View.{view, items_of}
 use Rattle.serde_json.specs.Written.{compact_text, has_float, items_have_float, members_have_float}
 use Rattle.serde_json.specs.declared.value.Value.{Value}
 use Rattle.ac_base.specs.Texts.{id_text, text_cmp}
-use Rattle.ac_tables.specs.World.{Held, Provider, provider_at, id_at, root_of}
+use Rattle.ac_tables.specs.World.{Held, Provider, provider_at, id_at, parent_of, root_of}
 use Rattle.ac_query.specs.Asked.{Group, Asked}
 use Rattle.ac_search.specs.Placed.{Placed, assigned}
 use Rattle.ac_tables.specs.Sorted.{rising}
@@ -70,7 +70,7 @@ pub summary_plain : (all : List Provider) (ix : ℕ) → has_float (summary all 
 unfolding summary
 summary_plain all ix =
     let p = provider_at all ix in
-    rw (id_plain p.parent, holdings_plain p.holdings, texts_plain p.traits) refl
+    rw (id_plain (parent_of all (id_at all ix)), holdings_plain p.holdings, texts_plain p.traits) refl
 
 -- ---- a request
 

@@ -1,4 +1,3 @@
-pub mod StandIn
 pub mod Trees
 pub mod Texts
 pub mod Pages

@@ -8,7 +8,7 @@ use Rattle.serde_json.specs.View.{items_of}
 use Rattle.ac_base.specs.Texts.{id_text}
 use Rattle.ac_base.specs.Quantities.{capacity}
 use Rattle.ac_tables.specs.Sorted.{rising}
-use Rattle.ac_tables.specs.World.{Held, Provider, provider_at, id_at, root_of}
+use Rattle.ac_tables.specs.World.{Held, Provider, provider_at, id_at, parent_of, root_of}
 use Rattle.ac_query.specs.Asked.{Group, Asked}
 use Rattle.ac_search.specs.Placed.{Placed, assigned}
 use Rattle.ac_search.specs.Together.{sum_on, is_empty}
@@ -46,7 +46,7 @@ holdings hs = object (gathered (map holding hs))
 -- the summary of the provider at a place
 unfoldable pub summary : List Provider → ℕ → Data
 summary all ix =
-    object (member (codes "parent_provider_uuid") (id_or_null (provider_at all ix).parent)
+    object (member (codes "parent_provider_uuid") (id_or_null (parent_of all (id_at all ix)))
     (member (codes "resources") (holdings (provider_at all ix).holdings)
     (member (codes "root_provider_uuid") (string (id_text (root_of all (id_at all ix))))
     (member (codes "traits") (texts (provider_at all ix).traits) no_members))))

@@ -9,7 +9,6 @@ pub mod laws;
 pub mod lines;
 mod pushing;
 pub mod request;
-pub mod stand_in;
 pub mod summary;
 
 pub use fault::PageFault;

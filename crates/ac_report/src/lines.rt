@@ -5,16 +5,17 @@ ghost use Rattle.ac_base.specs.Devices.{Rises};
 ghost use Rattle.ac_query.specs.QueriesShown.{asked_of};
 ghost use Rattle.ac_query.specs.Tokens.{ids_text};
 ghost use Rattle.ac_search.specs.Pages.{cut, ids_of};
-ghost use Rattle.ac_report.specs.StandIn.{providers_of};
+ghost use Rattle.ac_tables.specs.CloudWorld.{providers_of};
 ghost use Rattle.ac_report.specs.Texts.{line, lines};
 ghost use Rattle.ac_report.specs.Pages.{IsAssignment, TakesPart, LosesSome, behind};
 
 use crate::fault::PageFault;
 use crate::pushing::push_all;
-use crate::stand_in::Cloud;
+
 use ac_base::{NoMemory, Sink};
 use ac_query::Query;
 use ac_search::Source;
+use ac_tables::Cloud;
 use std::alloc::Global;
 
 // Whether no further list is wanted.

@@ -8,16 +8,17 @@ ghost use Rattle.ac_query.specs.Asked.{slots_of};
 ghost use Rattle.ac_query.specs.GroupsShown.{need_entry, group_entry};
 ghost use Rattle.ac_query.specs.QueriesShown.{asked_of};
 ghost use Rattle.ac_search.specs.Placed.{assigned};
-ghost use Rattle.ac_report.specs.StandIn.{providers_of};
+ghost use Rattle.ac_tables.specs.CloudWorld.{providers_of};
 ghost use Rattle.ac_report.specs.Pages.{IsAssignment};
 ghost use Rattle.ac_report.specs.Parts.{AreHosts, AreNeeds, need_at, row_shown, with_needs, sum_at, sums_of, allocation_of};
 ghost use Rattle.ac_report.specs.Trees.{provider_text, texts, group_name, allocations, mappings, request};
 ghost use Rattle.ac_report.specs.Texts.{request_text};
 
 use crate::ids::{id_string, id_value};
-use crate::stand_in::Cloud;
+
 use ac_base::NoMemory;
 use ac_query::{Group, Need, Query};
+use ac_tables::Cloud;
 use serde_json::{Map, Value, json};
 use std::alloc::{AllocError, Global};
 use std::collections::{BTreeMap, BTreeSet};

@@ -2,14 +2,16 @@ ghost use Rattle.std.specs.Prelude.{◌≡◌, ◌<◌, ◌++◌, ◌∷◌, IfO
 ghost use Rattle.serde_json.specs.Data.{string};
 ghost use Rattle.serde_json.specs.View.{view};
 ghost use Rattle.ac_base.specs.Names.{trait_bytes};
-ghost use Rattle.ac_tables.specs.World.{provider_at};
-ghost use Rattle.ac_report.specs.StandIn.{providers_of, entry_shown};
+ghost use Rattle.ac_tables.specs.World.{id_at, parent_of};
+ghost use Rattle.ac_tables.specs.CloudWorld.{providers_of};
+ghost use Rattle.ac_tables.specs.Entries.{entry_pair};
 ghost use Rattle.ac_report.specs.Trees.{id_or_null, texts, holdings, summary};
 ghost use Rattle.ac_report.specs.Texts.{summary_text};
 
 use crate::ids::id_value;
-use crate::stand_in::{Cloud, Entry};
+
 use ac_base::{Id, NoMemory, TraitName};
+use ac_tables::{Cloud, Entry};
 use serde_json::{Map, Value, json};
 use std::alloc::{AllocError, Global};
 
@@ -38,7 +40,7 @@ fn traits_value(alloc: Global, traits: &[TraitName]) -> Result<Value, AllocError
 // What a provider has of each class.
 #[tactic(auto, unfolding(crate::specs::Trees::holdings, crate::specs::Trees::holding))]
 fn holdings_value(alloc: Global, entries: &[Entry]) -> Result<Value, AllocError>
-    ensures { IfOk result (λ v. view v ≡ holdings (map entry_shown entries.now)) }
+    ensures { IfOk result (λ v. view v ≡ holdings (map entry_pair entries.now)) }
 {
     let mut members = Map::new(alloc);
     for entry in entries {
@@ -52,7 +54,7 @@ fn holdings_value(alloc: Global, entries: &[Entry]) -> Result<Value, AllocError>
 
 fn parent_id(cloud: &Cloud, ix: u32) -> Option<Id>
     requires { ix < length (providers_of cloud.now) }
-    ensures { result ≡ (provider_at (providers_of cloud.now) ix).parent }
+    ensures { result ≡ parent_of (providers_of cloud.now) (id_at (providers_of cloud.now) ix) }
 {
     Some(cloud.id(cloud.parent(ix)?))
 }

@@ -1,5 +1,5 @@
 use Rattle.std.proofs.Common.{◌≡◌, ◌++◌, map, take}
-use Rattle.ac_report.specs.StandIn.{providers_of}
+use Rattle.ac_tables.specs.CloudWorld.{providers_of}
 use Rattle.ac_report.specs.Trees.{provider_text}
 use Rattle.ac_report.proofs.LinesWritten.{behind_commas}
 use Rattle.ac_report.proofs.lines.put_ids.Given as goal

@@ -1,7 +1,7 @@
 use Rattle.std.proofs.Common.{◌≡◌, ◌∙◌, ◌≤◌, ◌+◌, Some, ap, sym, arith}
 use Rattle.ac_query.specs.QueriesShown.{asked_of}
 use Rattle.ac_search.specs.Lists.{head_of, tail_of}
-use Rattle.ac_report.specs.StandIn.{providers_of}
+use Rattle.ac_tables.specs.CloudWorld.{providers_of}
 use Rattle.ac_report.specs.Pages.{IsAssignment}
 use Rattle.ac_report.proofs.Leaving.{on_err}
 use Rattle.ac_report.proofs.LinesWritten.{leaves_line, leaves_line_part}

@@ -11,7 +11,7 @@ use Rattle.ac_search.specs.Placed.{assigned}
 use Rattle.ac_tables.specs.Sorted.{rising}
 use Rattle.ac_base.specs.Texts.{id_text}
 use Rattle.ac_report.specs.Parts.{need_at, allocation_of}
-use Rattle.ac_report.specs.StandIn.{providers_of}
+use Rattle.ac_tables.specs.CloudWorld.{providers_of}
 use Rattle.ac_report.specs.Trees.{gathered, gives, needs_on, provider_text, allocation, allocations}
 use Rattle.ac_report.proofs.Gathering.{put_same, allocation_is}
 use Rattle.ac_report.proofs.Serving.{Needs, IsRow, Named, gathered_onto, all_rising, keys_of_rows, rows_are, kept_step, gives_is}

@@ -5,7 +5,7 @@ use Rattle.serde_json.specs.View.{members_view}
 use Rattle.ac_query.specs.QueriesShown.{asked_of}
 use Rattle.ac_search.specs.Placed.{assigned}
 use Rattle.ac_tables.specs.Sorted.{rising}
-use Rattle.ac_report.specs.StandIn.{providers_of}
+use Rattle.ac_tables.specs.CloudWorld.{providers_of}
 use Rattle.ac_report.specs.Trees.{gathered, gives, provider_text, allocation}
 use Rattle.ac_report.proofs.Serving.{IsRow, Named, gathered_onto}
 use Rattle.ac_report.proofs.request.allocations_value.Given as goal
