@@ -7,3 +7,7 @@ pub mod Draining
 pub mod TokenGiven
 pub mod Asking
 pub mod Outputs
+pub mod Words
+pub mod Program
+pub mod Answer
+pub mod Run

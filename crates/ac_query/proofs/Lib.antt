@@ -21,3 +21,4 @@ pub mod WrittenIds
 pub mod SlotCounts
 pub mod Amounts
 pub mod SlotPlaces
+pub mod Locating

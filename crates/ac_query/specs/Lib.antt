@@ -16,3 +16,4 @@ pub mod SlotsShown
 pub mod QueriesShown
 pub mod Tokens
 pub mod Laws
+pub mod Located

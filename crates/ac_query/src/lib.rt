@@ -10,6 +10,7 @@ pub mod fault;
 mod given;
 pub mod group;
 pub mod laws;
+pub mod locate;
 mod parameter;
 mod pass;
 pub mod query;

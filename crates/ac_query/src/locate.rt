@@ -1,0 +1,42 @@
+//! Tokens in a cloud.
+ghost use Rattle.std.specs.Prelude.{◌≡◌, ◌<◌, IfOk, length};
+ghost use Rattle.std.specs.List.{All};
+ghost use Rattle.std.specs.Option.{option_map};
+ghost use Rattle.std.specs.String.{string_bytes};
+ghost use Rattle.ac_tables.specs.CloudWorld.{providers_of};
+ghost use Rattle.ac_query.specs.Located.{ids_at, places_of};
+ghost use Rattle.ac_query.specs.Tokens.{ids_of, ids_text};
+
+use crate::token::Token;
+use crate::write::write_ids;
+use ac_base::NoMemory;
+use ac_tables::Cloud;
+use std::alloc::Global;
+
+impl Token {
+    /// The places of its providers; `None` where one is no provider of the cloud.
+    pub fn locate(&self, alloc: Global, cloud: &Cloud) -> Result<Option<Vec<u32>>, NoMemory>
+        ensures { IfOk result (λ places. option_map (λ list. list.items) places ≡ places_of (providers_of cloud.now) (ids_of self.now)) }
+    {
+        let mut places = Vec::new(alloc);
+        for id in self.ids() {
+            let Some(place) = cloud.index_of(*id) else {
+                return Ok(None);
+            };
+            places.push(place)?;
+        }
+        Ok(Some(places))
+    }
+
+    /// The text of a list of providers: their UUIDs, joined by commas.
+    pub fn write(alloc: Global, cloud: &Cloud, list: &[u32]) -> Result<String, NoMemory>
+        requires { All (λ place. place < length (providers_of cloud.now)) list.now }
+        ensures { IfOk result (λ text. string_bytes text ≡ ids_text (ids_at (providers_of cloud.now) list.now)) }
+    {
+        let mut ids = Vec::new(alloc);
+        for place in list {
+            ids.push(cloud.id(*place))?;
+        }
+        write_ids(alloc, &ids)
+    }
+}
