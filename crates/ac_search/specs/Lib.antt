@@ -8,4 +8,5 @@ pub mod Judge
 pub mod Pages
 pub mod Odometer
 pub mod ListsShown
+pub mod PlainShown
 pub mod Laws

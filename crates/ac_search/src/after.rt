@@ -2,16 +2,17 @@
 
 ghost use Rattle.std.specs.Prelude.{◌≡◌, ◌<◌, length};
 ghost use Rattle.std.specs.List.{All};
+ghost use Rattle.ac_tables.specs.CloudWorld.{providers_of};
 ghost use Rattle.ac_search.specs.Order.{lex_lt};
 ghost use Rattle.ac_search.specs.Pages.{ids_of};
 
-use crate::cloud::Cloud;
 use ac_base::Id;
+use ac_tables::Cloud;
 
 /// Whether the ids of a list of providers are after these.
-pub(crate) fn is_after<C: Cloud>(cloud: &C, ids: &[Id], list: &[u32]) -> bool
-    requires { All (λ p. p < length (C.providers cloud.now)) list.now }
-    ensures { result ≡ lex_lt ids.now (ids_of (C.providers cloud.now) list.now) }
+pub(crate) fn is_after(cloud: &Cloud, ids: &[Id], list: &[u32]) -> bool
+    requires { All (λ p. p < length (providers_of cloud.now)) list.now }
+    ensures { result ≡ lex_lt ids.now (ids_of (providers_of cloud.now) list.now) }
 {
     for (i, id) in ids.iter().enumerate() {
         if i == list.len() {

@@ -1,24 +1,25 @@
 ghost use Rattle.std.specs.Prelude.{◌≡◌, ◌<◌, length, IsTrue, ◌↔◌};
 ghost use Rattle.std.specs.List.{All};
+ghost use Rattle.ac_tables.specs.CloudWorld.{providers_of};
 ghost use Rattle.ac_query.specs.Asked.{slots_of};
 ghost use Rattle.ac_query.specs.QueriesShown.{asked_of};
 ghost use Rattle.ac_search.specs.Judge.{judge, is_candidate};
 
 use crate::anchor::has_anchor;
-use crate::cloud::Cloud;
 use crate::each::{all_are_in_trees, all_have_aggregates, all_have_traits, all_have_units};
 use crate::sums::have_room;
 use crate::verdict::{Rule, Verdict};
 use crate::whole::{are_collective, are_isolated, have_tops};
 use ac_query::Query;
+use ac_tables::Cloud;
 
 /// The verdict on one list of providers, a place for each slot: the first rule, in their order, that it breaks at any
 /// place. It takes no memory.
 #[tactic(auto, unfolding(crate::specs::Judge::judge, crate::specs::Judge::tests))]
-pub fn verify<C: Cloud>(cloud: &C, query: &Query, list: &[u32]) -> Verdict
+pub fn verify(cloud: &Cloud, query: &Query, list: &[u32]) -> Verdict
     requires slots { length list.now ≡ length (slots_of (asked_of query.now)) }
-    requires providers { All (λ p. p < length (C.providers cloud.now)) list.now }
-    ensures { result ≡ judge (C.providers cloud.now) (asked_of query.now) list.now }
+    requires providers { All (λ p. p < length (providers_of cloud.now)) list.now }
+    ensures { result ≡ judge (providers_of cloud.now) (asked_of query.now) list.now }
 {
     if !all_have_units(cloud, query, list) {
         return Verdict::Broken(Rule::Units);
@@ -52,10 +53,10 @@ pub fn verify<C: Cloud>(cloud: &C, query: &Query, list: &[u32]) -> Verdict
 
 /// Whether a list of providers is a candidate.
 #[tactic(auto, using(crate::proofs::JudgeLemmas::judged_candidate, crate::proofs::JudgeLemmas::judged_broken))]
-pub(crate) fn is_candidate<C: Cloud>(cloud: &C, query: &Query, list: &[u32]) -> bool
+pub(crate) fn is_candidate(cloud: &Cloud, query: &Query, list: &[u32]) -> bool
     requires slots { length list.now ≡ length (slots_of (asked_of query.now)) }
-    requires providers { All (λ p. p < length (C.providers cloud.now)) list.now }
-    ensures { result ≡ is_candidate (C.providers cloud.now) (asked_of query.now) list.now }
+    requires providers { All (λ p. p < length (providers_of cloud.now)) list.now }
+    ensures { result ≡ is_candidate (providers_of cloud.now) (asked_of query.now) list.now }
 {
     match verify(cloud, query, list) {
         Verdict::Candidate => true,

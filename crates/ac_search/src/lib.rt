@@ -5,7 +5,6 @@
 
 mod after;
 mod anchor;
-pub mod cloud;
 mod each;
 mod judging;
 pub mod laws;

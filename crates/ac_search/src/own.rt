@@ -3,6 +3,7 @@
 ghost use Rattle.std.specs.Prelude.{◌≡◌, ◌<◌, length, map};
 ghost use Rattle.ac_base.specs.Names.{trait_bytes};
 ghost use Rattle.ac_tables.specs.World.{provider_at};
+ghost use Rattle.ac_tables.specs.CloudWorld.{providers_of};
 ghost use Rattle.ac_query.specs.Asked.{slots_of};
 ghost use Rattle.ac_query.specs.GroupsShown.{need_entry, rule_shown};
 ghost use Rattle.ac_query.specs.QueriesShown.{asked_of};
@@ -10,15 +11,15 @@ ghost use Rattle.std.specs.List.{list_any};
 ghost use Rattle.ac_search.specs.Placed.{placed_at};
 ghost use Rattle.ac_search.specs.Own.{stock_of, admits, units_fit, has_all, has_none, traits_fit, counts_in, meets_rule, aggregates_fit, tree_fits};
 
-use crate::cloud::Cloud;
 use crate::slots::{group_at, is_suffixed, needs_at};
 use ac_base::{Id, TraitName};
 use ac_query::{AggregateRule, Need, Query};
+use ac_tables::Cloud;
 
 // Whether the provider has an inventory of the class whose units admit the amount.
-fn admits_need<C: Cloud>(cloud: &C, ix: u32, need: &Need) -> bool
-    requires { ix < length (C.providers cloud.now) }
-    ensures { result ≡ admits (stock_of (provider_at (C.providers cloud.now) ix) (need_entry need.now).0) (need_entry need.now).1 }
+fn admits_need(cloud: &Cloud, ix: u32, need: &Need) -> bool
+    requires { ix < length (providers_of cloud.now) }
+    ensures { result ≡ admits (stock_of (provider_at (providers_of cloud.now) ix) (need_entry need.now).0) (need_entry need.now).1 }
 {
     match cloud.inventory(ix, need.class()) {
         Some(inventory) => inventory.unit_ok(u64::from(need.amount())),
@@ -28,10 +29,10 @@ fn admits_need<C: Cloud>(cloud: &C, ix: u32, need: &Need) -> bool
 
 /// Units: whether the provider has inventories whose units admit the amounts of the slot.
 #[tactic(auto, unfolding(crate::specs::Own::units_fit))]
-pub(crate) fn has_units<C: Cloud>(cloud: &C, query: &Query, s: usize, ix: u32) -> bool
+pub(crate) fn has_units(cloud: &Cloud, query: &Query, s: usize, ix: u32) -> bool
     requires slot { s < length (slots_of (asked_of query.now)) }
-    requires provider { ix < length (C.providers cloud.now) }
-    ensures { result ≡ units_fit (C.providers cloud.now) (placed_at (asked_of query.now) s ix) }
+    requires provider { ix < length (providers_of cloud.now) }
+    ensures { result ≡ units_fit (providers_of cloud.now) (placed_at (asked_of query.now) s ix) }
 {
     for need in needs_at(query, s) {
         if !admits_need(cloud, ix, need) {
@@ -42,9 +43,9 @@ pub(crate) fn has_units<C: Cloud>(cloud: &C, query: &Query, s: usize, ix: u32) -
 }
 
 /// Whether the provider has all of these traits.
-pub(crate) fn has_all<C: Cloud>(cloud: &C, ix: u32, names: &[TraitName]) -> bool
-    requires { ix < length (C.providers cloud.now) }
-    ensures { result ≡ has_all (provider_at (C.providers cloud.now) ix) (map trait_bytes names.now) }
+pub(crate) fn has_all(cloud: &Cloud, ix: u32, names: &[TraitName]) -> bool
+    requires { ix < length (providers_of cloud.now) }
+    ensures { result ≡ has_all (provider_at (providers_of cloud.now) ix) (map trait_bytes names.now) }
 {
     for name in names {
         if !cloud.has_trait(ix, name) {
@@ -55,9 +56,9 @@ pub(crate) fn has_all<C: Cloud>(cloud: &C, ix: u32, names: &[TraitName]) -> bool
 }
 
 /// Whether the provider has none of these traits.
-pub(crate) fn has_none<C: Cloud>(cloud: &C, ix: u32, names: &[TraitName]) -> bool
-    requires { ix < length (C.providers cloud.now) }
-    ensures { result ≡ has_none (provider_at (C.providers cloud.now) ix) (map trait_bytes names.now) }
+pub(crate) fn has_none(cloud: &Cloud, ix: u32, names: &[TraitName]) -> bool
+    requires { ix < length (providers_of cloud.now) }
+    ensures { result ≡ has_none (provider_at (providers_of cloud.now) ix) (map trait_bytes names.now) }
 {
     for name in names {
         if cloud.has_trait(ix, name) {
@@ -69,10 +70,10 @@ pub(crate) fn has_none<C: Cloud>(cloud: &C, ix: u32, names: &[TraitName]) -> boo
 
 /// SlotTraits: whether the provider has no forbidden trait, and in a suffixed group each required one.
 #[tactic(auto, unfolding(crate::specs::Own::traits_fit))]
-pub(crate) fn has_slot_traits<C: Cloud>(cloud: &C, query: &Query, s: usize, ix: u32) -> bool
+pub(crate) fn has_slot_traits(cloud: &Cloud, query: &Query, s: usize, ix: u32) -> bool
     requires slot { s < length (slots_of (asked_of query.now)) }
-    requires provider { ix < length (C.providers cloud.now) }
-    ensures { result ≡ traits_fit (C.providers cloud.now) (placed_at (asked_of query.now) s ix) }
+    requires provider { ix < length (providers_of cloud.now) }
+    ensures { result ≡ traits_fit (providers_of cloud.now) (placed_at (asked_of query.now) s ix) }
 {
     let group = group_at(query, s);
     has_none(cloud, ix, group.forbidden())
@@ -80,20 +81,20 @@ pub(crate) fn has_slot_traits<C: Cloud>(cloud: &C, query: &Query, s: usize, ix: 
 }
 
 // Whether an aggregate is the provider's, or in the unsuffixed group its root's.
-fn counts_in<C: Cloud>(cloud: &C, query: &Query, s: usize, ix: u32, aggregate: Id) -> bool
+fn counts_in(cloud: &Cloud, query: &Query, s: usize, ix: u32, aggregate: Id) -> bool
     requires slot { s < length (slots_of (asked_of query.now)) }
-    requires provider { ix < length (C.providers cloud.now) }
-    ensures { result ≡ counts_in (C.providers cloud.now) (placed_at (asked_of query.now) s ix) aggregate }
+    requires provider { ix < length (providers_of cloud.now) }
+    ensures { result ≡ counts_in (providers_of cloud.now) (placed_at (asked_of query.now) s ix) aggregate }
 {
     cloud.in_aggregate(ix, aggregate)
         || (!is_suffixed(query, s) && cloud.in_aggregate(cloud.root(ix), aggregate))
 }
 
 // Whether one of the aggregates is the provider's.
-fn counts_in_any<C: Cloud>(cloud: &C, query: &Query, s: usize, ix: u32, ids: &[Id]) -> bool
+fn counts_in_any(cloud: &Cloud, query: &Query, s: usize, ix: u32, ids: &[Id]) -> bool
     requires slot { s < length (slots_of (asked_of query.now)) }
-    requires provider { ix < length (C.providers cloud.now) }
-    ensures { result ≡ list_any (λ a. counts_in (C.providers cloud.now) (placed_at (asked_of query.now) s ix) a) ids.now }
+    requires provider { ix < length (providers_of cloud.now) }
+    ensures { result ≡ list_any (λ a. counts_in (providers_of cloud.now) (placed_at (asked_of query.now) s ix) a) ids.now }
 {
     for id in ids {
         if counts_in(cloud, query, s, ix, *id) {
@@ -105,20 +106,20 @@ fn counts_in_any<C: Cloud>(cloud: &C, query: &Query, s: usize, ix: u32, ids: &[I
 
 // Whether a rule on aggregates is met.
 #[tactic(auto, unfolding(crate::specs::Own::meets_rule))]
-fn meets_rule<C: Cloud>(cloud: &C, query: &Query, s: usize, ix: u32, rule: &AggregateRule) -> bool
+fn meets_rule(cloud: &Cloud, query: &Query, s: usize, ix: u32, rule: &AggregateRule) -> bool
     requires slot { s < length (slots_of (asked_of query.now)) }
-    requires provider { ix < length (C.providers cloud.now) }
-    ensures { result ≡ meets_rule (C.providers cloud.now) (placed_at (asked_of query.now) s ix) (rule_shown rule.now) }
+    requires provider { ix < length (providers_of cloud.now) }
+    ensures { result ≡ meets_rule (providers_of cloud.now) (placed_at (asked_of query.now) s ix) (rule_shown rule.now) }
 {
     counts_in_any(cloud, query, s, ix, rule.ids()) != rule.forbids()
 }
 
 /// Aggregates: whether each rule of the slot's group is met.
 #[tactic(auto, unfolding(crate::specs::Own::aggregates_fit))]
-pub(crate) fn has_aggregates<C: Cloud>(cloud: &C, query: &Query, s: usize, ix: u32) -> bool
+pub(crate) fn has_aggregates(cloud: &Cloud, query: &Query, s: usize, ix: u32) -> bool
     requires slot { s < length (slots_of (asked_of query.now)) }
-    requires provider { ix < length (C.providers cloud.now) }
-    ensures { result ≡ aggregates_fit (C.providers cloud.now) (placed_at (asked_of query.now) s ix) }
+    requires provider { ix < length (providers_of cloud.now) }
+    ensures { result ≡ aggregates_fit (providers_of cloud.now) (placed_at (asked_of query.now) s ix) }
 {
     for rule in group_at(query, s).member_of() {
         if !meets_rule(cloud, query, s, ix, rule) {
@@ -130,10 +131,10 @@ pub(crate) fn has_aggregates<C: Cloud>(cloud: &C, query: &Query, s: usize, ix: u
 
 /// Tree: whether the provider is in the tree that the slot's group names.
 #[tactic(auto, unfolding(crate::specs::Own::tree_fits))]
-pub(crate) fn is_in_tree<C: Cloud>(cloud: &C, query: &Query, s: usize, ix: u32) -> bool
+pub(crate) fn is_in_tree(cloud: &Cloud, query: &Query, s: usize, ix: u32) -> bool
     requires slot { s < length (slots_of (asked_of query.now)) }
-    requires provider { ix < length (C.providers cloud.now) }
-    ensures { result ≡ tree_fits (C.providers cloud.now) (placed_at (asked_of query.now) s ix) }
+    requires provider { ix < length (providers_of cloud.now) }
+    ensures { result ≡ tree_fits (providers_of cloud.now) (placed_at (asked_of query.now) s ix) }
 {
     match group_at(query, s).in_tree() {
         None => true,

@@ -3,23 +3,24 @@
 ghost use Rattle.std.specs.Prelude.{◌≡◌, ◌<◌, ◌≤◌, ◌&&◌, ◌+◌, ℕ, List, length, map, drop, get_or, [], slice_index};
 ghost use Rattle.std.specs.List.{All, list_all, list_any};
 ghost use Rattle.ac_base.specs.Names.{trait_bytes};
+ghost use Rattle.ac_tables.specs.CloudWorld.{providers_of};
 ghost use Rattle.ac_query.specs.Asked.{slots_of};
 ghost use Rattle.ac_query.specs.QueriesShown.{asked_of};
 ghost use Rattle.ac_search.specs.Placed.{placed, assigned, placed_at};
 ghost use Rattle.ac_search.specs.Together.{is_brought, collective, are_apart, all_apart, isolate, listed, is_top, subtree, takes_root, hosts_all, anchor};
 
-use crate::cloud::Cloud;
 use crate::own::{has_all, has_none};
 use crate::slots::{is_listed, is_set_apart, is_suffixed};
 use ac_base::TraitName;
 use ac_query::Query;
+use ac_tables::Cloud;
 
 // Whether the provider of some unsuffixed slot has a trait.
 #[tactic(auto, using(crate::proofs::PlacedLemmas::placed_more, crate::proofs::PlacedLemmas::placed_end), unfolding(crate::specs::Together::is_brought))]
-fn is_brought<C: Cloud>(cloud: &C, query: &Query, list: &[u32], name: &TraitName) -> bool
+fn is_brought(cloud: &Cloud, query: &Query, list: &[u32], name: &TraitName) -> bool
     requires slots { length list.now ≤ length (slots_of (asked_of query.now)) }
-    requires providers { All (λ p. p < length (C.providers cloud.now)) list.now }
-    ensures { result ≡ is_brought (C.providers cloud.now) (assigned (asked_of query.now) list.now) (trait_bytes name.now) }
+    requires providers { All (λ p. p < length (providers_of cloud.now)) list.now }
+    ensures { result ≡ is_brought (providers_of cloud.now) (assigned (asked_of query.now) list.now) (trait_bytes name.now) }
 {
     for (s, ix) in list.iter().enumerate() {
         if !is_suffixed(query, s) && cloud.has_trait(*ix, name) {
@@ -30,10 +31,10 @@ fn is_brought<C: Cloud>(cloud: &C, query: &Query, list: &[u32], name: &TraitName
 }
 
 // Whether each of these traits is brought.
-fn are_brought<C: Cloud>(cloud: &C, query: &Query, list: &[u32], names: &[TraitName]) -> bool
+fn are_brought(cloud: &Cloud, query: &Query, list: &[u32], names: &[TraitName]) -> bool
     requires slots { length list.now ≤ length (slots_of (asked_of query.now)) }
-    requires providers { All (λ p. p < length (C.providers cloud.now)) list.now }
-    ensures { result ≡ list_all (λ name. is_brought (C.providers cloud.now) (assigned (asked_of query.now) list.now) name) (map trait_bytes names.now) }
+    requires providers { All (λ p. p < length (providers_of cloud.now)) list.now }
+    ensures { result ≡ list_all (λ name. is_brought (providers_of cloud.now) (assigned (asked_of query.now) list.now) name) (map trait_bytes names.now) }
 {
     for name in names {
         if !is_brought(cloud, query, list, name) {
@@ -45,10 +46,10 @@ fn are_brought<C: Cloud>(cloud: &C, query: &Query, list: &[u32], names: &[TraitN
 
 /// Collective: whether the providers of the unsuffixed slots have the required traits of their group together.
 #[tactic(auto, unfolding(crate::specs::Together::collective))]
-pub(crate) fn are_collective<C: Cloud>(cloud: &C, query: &Query, list: &[u32]) -> bool
+pub(crate) fn are_collective(cloud: &Cloud, query: &Query, list: &[u32]) -> bool
     requires slots { length list.now ≤ length (slots_of (asked_of query.now)) }
-    requires providers { All (λ p. p < length (C.providers cloud.now)) list.now }
-    ensures { result ≡ collective (C.providers cloud.now) (asked_of query.now) (assigned (asked_of query.now) list.now) }
+    requires providers { All (λ p. p < length (providers_of cloud.now)) list.now }
+    ensures { result ≡ collective (providers_of cloud.now) (asked_of query.now) (assigned (asked_of query.now) list.now) }
 {
     for group in query.groups() {
         if group.suffix().is_none() && !are_brought(cloud, query, list, group.required()) {
@@ -109,12 +110,12 @@ pub(crate) fn are_isolated(query: &Query, list: &[u32]) -> bool
 
 // Whether a provider is above all providers of the slots that a list of `same_subtree` names.
 #[tactic(auto, using(crate::proofs::PlacedLemmas::placed_more, crate::proofs::PlacedLemmas::placed_end), unfolding(crate::specs::Together::is_top))]
-fn is_top<C: Cloud>(cloud: &C, query: &Query, list: &[u32], k: usize, top: u32) -> bool
+fn is_top(cloud: &Cloud, query: &Query, list: &[u32], k: usize, top: u32) -> bool
     requires subtree { k < length (asked_of query.now).subtrees }
     requires slots { length list.now ≤ length (slots_of (asked_of query.now)) }
-    requires provider { top < length (C.providers cloud.now) }
-    requires providers { All (λ p. p < length (C.providers cloud.now)) list.now }
-    ensures { result ≡ is_top (C.providers cloud.now) (listed (get_or (asked_of query.now).subtrees k []) (assigned (asked_of query.now) list.now)) top }
+    requires provider { top < length (providers_of cloud.now) }
+    requires providers { All (λ p. p < length (providers_of cloud.now)) list.now }
+    ensures { result ≡ is_top (providers_of cloud.now) (listed (get_or (asked_of query.now).subtrees k []) (assigned (asked_of query.now) list.now)) top }
 {
     for (s, ix) in list.iter().enumerate() {
         if is_listed(query, k, s) && !cloud.is_ancestor(top, *ix) {
@@ -126,11 +127,11 @@ fn is_top<C: Cloud>(cloud: &C, query: &Query, list: &[u32], k: usize, top: u32) 
 
 // Whether one of the providers that a list of `same_subtree` names is above all of them.
 #[tactic(auto, using(crate::proofs::PlacedLemmas::placed_more, crate::proofs::PlacedLemmas::placed_end))]
-fn has_top<C: Cloud>(cloud: &C, query: &Query, list: &[u32], k: usize) -> bool
+fn has_top(cloud: &Cloud, query: &Query, list: &[u32], k: usize) -> bool
     requires subtree { k < length (asked_of query.now).subtrees }
     requires slots { length list.now ≤ length (slots_of (asked_of query.now)) }
-    requires providers { All (λ p. p < length (C.providers cloud.now)) list.now }
-    ensures { result ≡ list_any (λ a. is_top (C.providers cloud.now) (listed (get_or (asked_of query.now).subtrees k []) (assigned (asked_of query.now) list.now)) a) (listed (get_or (asked_of query.now).subtrees k []) (assigned (asked_of query.now) list.now)) }
+    requires providers { All (λ p. p < length (providers_of cloud.now)) list.now }
+    ensures { result ≡ list_any (λ a. is_top (providers_of cloud.now) (listed (get_or (asked_of query.now).subtrees k []) (assigned (asked_of query.now) list.now)) a) (listed (get_or (asked_of query.now).subtrees k []) (assigned (asked_of query.now) list.now)) }
 {
     for (s, ix) in list.iter().enumerate() {
         if is_listed(query, k, s) && is_top(cloud, query, list, k, *ix) {
@@ -142,10 +143,10 @@ fn has_top<C: Cloud>(cloud: &C, query: &Query, list: &[u32], k: usize) -> bool
 
 /// Subtree: whether, of the providers that each list of `same_subtree` names, one is above all.
 #[tactic(auto, unfolding(crate::specs::Together::subtree))]
-pub(crate) fn have_tops<C: Cloud>(cloud: &C, query: &Query, list: &[u32]) -> bool
+pub(crate) fn have_tops(cloud: &Cloud, query: &Query, list: &[u32]) -> bool
     requires slots { length list.now ≤ length (slots_of (asked_of query.now)) }
-    requires providers { All (λ p. p < length (C.providers cloud.now)) list.now }
-    ensures { result ≡ subtree (C.providers cloud.now) (asked_of query.now) (assigned (asked_of query.now) list.now) }
+    requires providers { All (λ p. p < length (providers_of cloud.now)) list.now }
+    ensures { result ≡ subtree (providers_of cloud.now) (asked_of query.now) (assigned (asked_of query.now) list.now) }
 {
     for k in 0..query.subtrees() {
         if !has_top(cloud, query, list, k) {

@@ -3,11 +3,12 @@ use Rattle.std.specs.List.{list_all}
 use Rattle.ac_query.specs.QueriesShown.{asked_of}
 use Rattle.ac_query.specs.GroupsShown.{rule_shown}
 use Rattle.ac_query.specs.Values.{AggregateRule}
+use Rattle.ac_tables.specs.CloudWorld.{providers_of}
 use Rattle.ac_search.specs.Placed.{placed_at}
 use Rattle.ac_search.specs.Own.{meets_rule}
 use Rattle.ac_search.proofs.own.has_aggregates.Given as goal
 
 abbrev pub invariant-loop-rule : goal.invariant-loop-rule
-invariant-loop-rule g l =
-    let meets = λ (rule : AggregateRule). meets_rule (g.C.Cloud.providers l.cloud) (placed_at (asked_of l.query) l.s l.ix) rule in
+invariant-loop-rule l =
+    let meets = λ (rule : AggregateRule). meets_rule (providers_of l.cloud) (placed_at (asked_of l.query) l.s l.ix) rule in
     list_all meets (map rule_shown (drop l.rule-index l.rule-items)) ≡ list_all meets (map rule_shown l.rule-items)

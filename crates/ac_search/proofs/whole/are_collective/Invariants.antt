@@ -3,6 +3,7 @@ use Rattle.std.specs.List.{list_all}
 use Rattle.ac_query.specs.Asked.{Group}
 use Rattle.ac_query.specs.GroupsShown.{group_entry}
 use Rattle.ac_query.specs.QueriesShown.{asked_of}
+use Rattle.ac_tables.specs.CloudWorld.{providers_of}
 use Rattle.ac_search.specs.Placed.{assigned}
 use Rattle.ac_search.specs.Together.{is_brought}
 use Rattle.std.specs.Option.{is_some}
@@ -10,8 +11,8 @@ use Rattle.std.specs.Prelude.{Option, ◌||◌}
 use Rattle.ac_search.proofs.whole.are_collective.Given as goal
 
 abbrev pub invariant-loop-group : goal.invariant-loop-group
-invariant-loop-group g l =
-    let all = g.C.Cloud.providers l.cloud in
+invariant-loop-group l =
+    let all = providers_of l.cloud in
     let xs = assigned (asked_of l.query) l.list in
     let one = λ (e : Option (List ℕ) × Group). is_some e.0 || list_all (λ name. is_brought all xs name) e.1.required in
     list_all one (map group_entry (drop l.group-index l.group-items)) ≡ list_all one (map group_entry l.group-items)

@@ -4,13 +4,14 @@ use Rattle.std.specs.Option.{option_map}
 use Rattle.ac_query.specs.Asked.{slots_of}
 use Rattle.ac_query.specs.QueriesShown.{asked_of}
 use Rattle.ac_query.specs.SlotsShown.{slot_group}
+use Rattle.ac_tables.specs.CloudWorld.{providers_of}
 use Rattle.ac_search.specs.Pages.{rest, chosen}
 use Rattle.ac_search.proofs.ChosenLemmas.{chosen_all}
 use Rattle.ac_search.proofs.plain.Plain.new.Goals as goal
 
 pub returns : goal.returns
-returns g c =
-    let all = g.C.Cloud.providers c.args.cloud.now in
+returns c =
+    let all = providers_of c.args.cloud.now in
     let asked = asked_of c.args.query.now in
     let x = option_map (λ ids. ids.items) c.in_ok-after.after in
     let slots : length c.slots.result.now ≡ length (slots_of asked) =

@@ -1,38 +1,47 @@
-use Rattle.std.proofs.Common.{sym, ap, ◌∙◌}
-use Rattle.std.specs.Option.{option_map}
+use Rattle.std.proofs.Common.{◌≡◌, ◌&&◌, ℕ, List, [], ◌∷◌, Bool, true, false, sym, ap, ◌∙◌}
 use Rattle.ac_query.specs.QueriesShown.{asked_of}
-use Rattle.ac_search.specs.Pages.{chosen}
+use Rattle.ac_tables.specs.CloudWorld.{providers_of}
+use Rattle.ac_search.specs.Judge.{is_candidate}
+use Rattle.ac_search.specs.Pages.{is_after, chosen}
 use Rattle.ac_search.specs.ListsShown.{list_of, lists_left}
+use Rattle.ac_search.specs.PlainShown.{after_of, left_of}
+use Rattle.ac_search.specs.declared.plain.Plain.{Plain}
 use Rattle.ac_search.proofs.ChosenLemmas.{chosen_here, chosen_later, chosen_none}
 use Rattle.ac_search.proofs.plain.Plain.step.Goals as goal
 
+-- what is left, where these are the lists that are still to come
+abbrev among : Plain → List (List ℕ) → List (List ℕ)
+among p lists = chosen (providers_of p.cloud.now) (asked_of p.query.now) (after_of p) lists
+
+-- a list is a candidate, and comes after the ids
+abbrev wants : Plain → List ℕ → Bool
+wants p t = is_candidate (providers_of p.cloud.now) (asked_of p.query.now) t && is_after (providers_of p.cloud.now) (after_of p) t
+
+gives : (p : Plain) (t : List ℕ) (ts : List (List ℕ)) (wanted : Bool) → lists_left p.lists ≡ t ∷ ts → wanted ≡ wants p t → wanted ≡ true → left_of p ≡ t ∷ among p ts
+gives p t ts wanted is e yes' =
+    ap (among p) is ∙ chosen_here (providers_of p.cloud.now) (asked_of p.query.now) (after_of p) t ts (sym e ∙ yes')
+
+passes : (p : Plain) (t : List ℕ) (ts : List (List ℕ)) (wanted : Bool) → lists_left p.lists ≡ t ∷ ts → wanted ≡ wants p t → wanted ≡ false → left_of p ≡ among p ts
+passes p t ts wanted is e no' =
+    ap (among p) is ∙ chosen_later (providers_of p.cloud.now) (asked_of p.query.now) (after_of p) t ts (sym e ∙ no')
+
+ends : (p : Plain) (ts : List (List ℕ)) → ts ≡ [] → among p ts ≡ []
+ends p ts is = ap (among p) is ∙ chosen_none (providers_of p.cloud.now) (asked_of p.query.now) (after_of p)
+
 pub returns-then-is_wanted : goal.returns-then-is_wanted
-returns-then-is_wanted g c =
-    let p = c.loop-self.self in
-    let all = g.C.Cloud.providers p.cloud.now in
-    let asked = asked_of p.query.now in
-    let x = option_map (λ ids. ids.items) p.after in
+returns-then-is_wanted c =
     sym c.loop-self.invariant
-    ∙ (ap (chosen all asked x) c.loop-self-test.ensures.given
-    ∙ chosen_here all asked x (list_of c.step.new.self) (lists_left c.step.new.self) (sym c.is_wanted.ensures ∙ c.if-is_wanted.true))
+    ∙ gives c.loop-self.self (list_of c.step.new.self) (lists_left c.step.new.self) c.is_wanted.result
+    c.loop-self-test.ensures.given c.is_wanted.ensures c.if-is_wanted.true
 
 pub loop-self-preserved : goal.loop-self-preserved
-loop-self-preserved g c =
-    let p = c.loop-self.self in
-    let all = g.C.Cloud.providers p.cloud.now in
-    let asked = asked_of p.query.now in
-    let x = option_map (λ ids. ids.items) p.after in
-    sym (ap (chosen all asked x) c.loop-self-test.ensures.given
-    ∙ chosen_later all asked x (list_of c.step.new.self) (lists_left c.step.new.self) (sym c.is_wanted.ensures ∙ c.if-is_wanted.false))
+loop-self-preserved c =
+    sym (passes c.loop-self.self (list_of c.step.new.self) (lists_left c.step.new.self) c.is_wanted.result
+    c.loop-self-test.ensures.given c.is_wanted.ensures c.if-is_wanted.false)
     ∙ c.loop-self.invariant
 
 pub returns : goal.returns
-returns g c =
-    let p = c.loop-self.self in
-    let all = g.C.Cloud.providers p.cloud.now in
-    let asked = asked_of p.query.now in
-    let x = option_map (λ ids. ids.items) p.after in
-    let none = chosen_none all asked x in (
-      sym c.loop-self.invariant ∙ (ap (chosen all asked x) c.loop-self-test.ensures.given.0 ∙ none),
-      ap (chosen all asked x) c.loop-self-test.ensures.given.1 ∙ none,
-    )
+returns c = (
+  sym c.loop-self.invariant ∙ ends c.loop-self.self (lists_left c.loop-self.self.lists) c.loop-self-test.ensures.given.0,
+  ends c.loop-self.self (lists_left c.step.new.self) c.loop-self-test.ensures.given.1,
+)
