@@ -47,7 +47,7 @@ hex_rises : (x y : ℕ) → x < y → y < 16 → hex_digit lower x < hex_digit l
 hex_rises x y h k = grind (arith, nat_tests)
 
 -- two that aren't in the wrong order are equal or in order
-at_most_cases : (a b : ℕ) → a ≤ b → (a < b) ⊎ (a ≡ b)
+pub at_most_cases : (a b : ℕ) → a ≤ b → (a < b) ⊎ (a ≡ b)
 at_most_cases a b h = told (eqb_tells a b)
   where
     told : ((eqb a b ≡ true) × (a ≡ b)) ⊎ ((eqb a b ≡ false) × (a ≢ b)) → (a < b) ⊎ (a ≡ b)

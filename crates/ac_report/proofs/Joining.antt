@@ -10,15 +10,10 @@ use Rattle.ac_query.specs.Asked.{Asked}
 use Rattle.ac_report.specs.Trees.{gathered, provider_text, request, summary}
 use Rattle.ac_report.specs.Texts.{request_text, summary_text, summarized, body_tree, body, with_commas, summary_piece, head_text, middle_text, tail_text, pieces, joined, meets_root}
 use Rattle.ac_report.specs.Laws.{AreProviders}
+use Rattle.ac_report.specs.Marks.{requests_text, summaries_text}
 use Rattle.ac_report.proofs.Listed.{Named, listed, RiseFrom, gathered_listed, rise_from}
 
 -- ---- the parts of the pieces
-
-abbrev pub requests_text : List Provider → Asked → Bool → List (List ℕ) → List ℕ
-requests_text all asked later lists = joined (with_commas later (map (request_text all asked) lists))
-
-abbrev pub summaries_text : List Provider → Bool → List ℕ → List ℕ
-summaries_text all later places = joined (with_commas later (map (summary_piece all) places))
 
 abbrev pub page_text : List Provider → Asked → List (List ℕ) → List ℕ
 page_text all asked lists = head_text ++ (requests_text all asked false lists ++ (middle_text ++ (summaries_text all false (summarized all lists) ++ tail_text)))

@@ -8,3 +8,5 @@ pub mod PlainTrees
 pub mod Gathering
 pub mod Rows
 pub mod Serving
+pub mod Marking
+pub mod Summing

@@ -1,7 +1,8 @@
 -- Trees with no float, and their texts.
-use Rattle.std.proofs.Common.{◌≡◌, ℕ, suc, ◌+◌, not, List, [], ◌∷◌, ◌++◌, refl, ap, ◌∙◌, Bool, true, false, ◌||◌, String, Global, string_bytes, map, fold, Option, Some, None, Ordering, Less, Equal, Greater, nat_cmp}
+use Rattle.std.proofs.Common.{◌≡◌, ℕ, suc, ◌+◌, not, List, [], ◌∷◌, ◌++◌, refl, ap, ◌∙◌, Bool, true, false, ◌||◌, String, Global, string_bytes, map, fold, Option, Some, None, Result, IfOk, Ordering, Less, Equal, Greater, nat_cmp}
 use Rattle.std.specs.List.{filter}
 use Rattle.std.specs.Ordering.{match_ordering}
+use Rattle.std.proofs.lemmas.Result.{IfOk-weaker}
 use Rattle.serde_json.specs.Data.{Data, Members, no_members, member, put, string, number, unsigned}
 use Rattle.serde_json.specs.View.{view, items_of}
 use Rattle.serde_json.specs.Written.{compact_text, has_float, items_have_float, members_have_float}
@@ -105,3 +106,8 @@ mappings_plain all asked xs = mappings_fold all xs 0 asked.groups no_members ref
 pub request_plain : (all : List Provider) (asked : Asked) (list : List ℕ) → has_float (request all asked list) ≡ false
 unfolding request
 request_plain all asked list = rw (allocations_plain all (assigned asked list) list, mappings_plain all asked (assigned asked list)) refl
+
+-- the text of a value whose tree has no float
+pub plain_text : {E : Type 0} (r : Result (String Global) E) (v : Value) (d : Data) → view v ≡ d → has_float d ≡ false
+    → IfOk r (λ s. has_float (view v) ≡ false → string_bytes s ≡ compact_text (view v)) → IfOk r (λ s. string_bytes s ≡ compact_text d)
+plain_text r v d e plain h = IfOk-weaker r _ _ (λ s p. rw e at (p (rw e plain))) h

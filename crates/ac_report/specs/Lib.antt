@@ -3,3 +3,4 @@ pub mod Texts
 pub mod Pages
 pub mod Laws
 pub mod Parts
+pub mod Marks

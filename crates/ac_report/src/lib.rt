@@ -7,10 +7,13 @@ pub mod fault;
 mod ids;
 pub mod laws;
 pub mod lines;
+pub mod page;
 mod pushing;
 pub mod request;
 pub mod summary;
 
 pub use fault::PageFault;
 pub use lines::write_tokens;
+pub use page::write_page;
+pub use request::request_text;
 pub use summary::summary_text;

@@ -6,9 +6,9 @@ ghost use Rattle.ac_tables.specs.World.{id_at, parent_of};
 ghost use Rattle.ac_tables.specs.CloudWorld.{providers_of};
 ghost use Rattle.ac_tables.specs.Entries.{entry_pair};
 ghost use Rattle.ac_report.specs.Trees.{id_or_null, texts, holdings, summary};
-ghost use Rattle.ac_report.specs.Texts.{summary_text};
+ghost use Rattle.ac_report.specs.Texts.{summary_piece, summary_text};
 
-use crate::ids::id_value;
+use crate::ids::{id_value, quoted_id};
 
 use ac_base::{Id, NoMemory, TraitName};
 use ac_tables::{Cloud, Entry};
@@ -82,4 +82,17 @@ pub fn summary_text(alloc: Global, cloud: &Cloud, ix: u32) -> Result<String, NoM
     ensures { IfOk result (λ s. string_bytes s ≡ summary_text (providers_of cloud.now) ix) }
 {
     Ok(summary_value(alloc, cloud, ix)?.to_string(alloc)?)
+}
+
+// A summary after its quoted id and a colon.
+#[tactic(auto, unfolding(crate::specs::Texts::summary_piece))]
+pub(crate) fn summary_piece(alloc: Global, cloud: &Cloud, ix: u32) -> Result<String, NoMemory>
+    requires { ix < length (providers_of cloud.now) }
+    ensures { IfOk result (λ s. string_bytes s ≡ summary_piece (providers_of cloud.now) ix) }
+{
+    let mut piece = quoted_id(alloc, cloud.id(ix))?;
+    let text = summary_text(alloc, cloud, ix)?;
+    piece.push_str(":")?;
+    piece.push_str(text.as_str())?;
+    Ok(piece)
 }

@@ -1,0 +1,86 @@
+use Rattle.std.proofs.Common.{◌≡◌, ◌∙◌, ◌<◌, ap, sym, subst, arith, Some, false, get_or, length, List, ℕ, ◌++◌}
+use Rattle.std.specs.List.{list_any}
+use Rattle.std.specs.Io.KnownBytes.{Appends}
+use Rattle.serde_json.specs.Written.{comma_if}
+use Rattle.ac_query.specs.QueriesShown.{asked_of}
+use Rattle.ac_search.specs.Lists.{head_of, tail_of}
+use Rattle.ac_search.specs.Pages.{cut}
+use Rattle.ac_tables.specs.CloudWorld.{providers_of}
+use Rattle.ac_tables.specs.World.{id_at}
+use Rattle.ac_report.specs.Pages.{IsAssignment, TakesPart}
+use Rattle.ac_report.specs.Texts.{request_text, meets_root}
+use Rattle.ac_report.proofs.Leaving.{on_err}
+use Rattle.ac_report.proofs.Marking.{marks_step}
+use Rattle.ac_report.proofs.Paging.{after, counted, all_head, all_tail, cut_step, behind_step, gone_step, loses_one, count_step, room_step}
+use Rattle.ac_report.proofs.Summing.{leaves_listed, leaves_listed_part}
+use Rattle.ac_report.proofs.page.write_requests.Goals as goal
+
+pub request_text-requires : goal.request_text-requires
+request_text-requires g c =
+    all_head (IsAssignment (providers_of c.args.cloud.now) (asked_of c.args.query.now)) (g.S.Source.left c.lists.source) c.in-Some.list.now (sym c.in-Some.ensures.head) c.lists.invariant.assigned
+
+pub returns-in_err-text-in-Some-clause-gone : goal.returns-in_err-text-in-Some-clause-gone
+returns-in_err-text-in-Some-clause-gone g c =
+    let left = g.S.Source.left in
+    let limit = (asked_of c.args.query.now).limit in
+    let more : limit ≡ Some c.lists.count → ⊥ = λ e. let full = c.is_full.ensures.1 (c.limit-limit.ensures ∙ e) in cc in
+    let tail : left c.next.follows.lender-at-none ≡ tail_of (left c.lists.source) = c.next.follows.holds-at-none.0 in
+    on_err c.from_residual.result _
+    (rw tail (loses_one limit c.lists.count (left c.args.source.now) (left c.lists.source) c.in-Some.list.now (sym c.in-Some.ensures.head) more c.lists.invariant.room c.lists.invariant.gone))
+
+pub returns-in_err-push_listed-clause-gone : goal.returns-in_err-push_listed-clause-gone
+returns-in_err-push_listed-clause-gone g c =
+    let left = g.S.Source.left in
+    let limit = (asked_of c.args.query.now).limit in
+    let more : limit ≡ Some c.lists.count → ⊥ = λ e. let full = c.is_full.ensures.1 (c.limit-limit.ensures ∙ e) in cc in
+    let tail : left c.next.follows.lender-at-none ≡ tail_of (left c.lists.source) = c.next.follows.holds-at-none.0 in
+    on_err c.from_residual-in_err-push_listed.result _
+    (rw tail (loses_one limit c.lists.count (left c.args.source.now) (left c.lists.source) c.in-Some.list.now (sym c.in-Some.ensures.head) more c.lists.invariant.room c.lists.invariant.gone))
+
+pub returns-in_err-push_listed-clause-part : goal.returns-in_err-push_listed-clause-part
+returns-in_err-push_listed-clause-part g c =
+    let all = providers_of c.args.cloud.now in
+    let asked = asked_of c.args.query.now in
+    let limit = asked.limit in
+    let count = c.lists.count in
+    let ls = g.S.Source.left c.lists.source in
+    let x = c.in-Some.list.now in
+    let more : limit ≡ Some count → ⊥ = λ e. let full = c.is_full.ensures.1 (c.limit-limit.ensures ∙ e) in cc in
+    let told = c.as_bytes.ensures.value ∙ c.in_ok-text-in-Some.ensures in
+    let P : List ℕ → Type 0 = λ text. TakesPart (g.W.Sink.taken c.lists.out) (g.W.Sink.taken c.push_listed.new.out) (comma_if c.lists.later ++ text) in
+    on_err c.from_residual-in_err-push_listed.result _
+    (leaves_listed_part (request_text all asked) _ _ _ _ c.lists.later (cut (after limit count) ls) (cut (after limit (counted count)) (tail_of ls)) x
+    (cut_step limit count ls x more c.lists.invariant.room (sym c.in-Some.ensures.head)) c.lists.invariant.leaves (subst P told c.in_err-push_listed.ensures.part))
+
+pub lists-preserved : goal.lists-preserved
+lists-preserved g c =
+    let all = providers_of c.args.cloud.now in
+    let asked = asked_of c.args.query.now in
+    let limit = asked.limit in
+    let count = c.lists.count in
+    let left = g.S.Source.left in
+    let whole = left c.args.source.now in
+    let ls = left c.lists.source in
+    let x = c.in-Some.list.now in
+    let room = c.lists.invariant.room in
+    let more : limit ≡ Some count → ⊥ = λ e. let full = c.is_full.ensures.1 (c.limit-limit.ensures ∙ e) in cc in
+    let head : head_of ls ≡ Some x = sym c.in-Some.ensures.head in
+    let told = c.as_bytes.ensures.value ∙ c.in_ok-text-in-Some.ensures in
+    let P : List ℕ → Type 0 = λ text. Appends (g.W.Sink.taken c.lists.out) (g.W.Sink.taken c.push_listed.new.out) (comma_if c.lists.later ++ text) in
+    let taken = subst P told c.in_ok-push_listed.ensures.ok in
+    let tail : left c.next.follows.lender-at-none ≡ tail_of ls = c.next.follows.holds-at-none.0 in
+    let long : length c.mark_roots.new.marks ≡ length c.lists.marks = c.mark_roots.ensures.long in
+    rw (tail, c.saturating_add-count.ensures)
+    (record {
+      assigned = all_tail (IsAssignment all asked) ls c.lists.invariant.assigned;
+      leaves = leaves_listed (request_text all asked) _ _ _ _ c.lists.later (cut (after limit count) ls) (cut (after limit (counted count)) (tail_of ls)) x (cut_step limit count ls x more room head) c.lists.invariant.leaves taken;
+      behind = sym (behind_step limit count ls x more room head) ∙ c.lists.invariant.behind;
+      count = count_step limit ls x count _ more room head c.lists.invariant.count;
+      counted = omega arith;
+      room = room_step limit count more room;
+      gone = gone_step count whole ls x head c.lists.invariant.gone;
+      marks_long = long ∙ c.lists.invariant.marks_long;
+      marked = λ r below. marks_step all limit count ls x (id_at all r) (list_any (meets_root all (id_at all r)) (cut limit whole)) (get_or c.lists.marks r false) (get_or c.mark_roots.new.marks r false) more room head
+        (c.lists.invariant.marked r below) (c.mark_roots.ensures.marked r (omega (arith, below, c.lists.invariant.marks_long)));
+      failures = omega (arith, c.lists.invariant.failures, c.in_ok-push_listed.ensures.failures);
+    })

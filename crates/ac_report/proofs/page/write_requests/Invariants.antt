@@ -1,0 +1,35 @@
+use Rattle.std.proofs.Common.{◌≡◌, ◌<◌, ◌≤◌, ◌+◌, ◌||◌, min, length, ℕ, false, get_or}
+use Rattle.std.specs.List.{All, list_any}
+use Rattle.ac_query.specs.QueriesShown.{asked_of}
+use Rattle.ac_search.specs.Pages.{cut}
+use Rattle.ac_tables.specs.CloudWorld.{providers_of}
+use Rattle.ac_tables.specs.World.{id_at}
+use Rattle.ac_report.specs.Marks.{requests_text}
+use Rattle.ac_report.specs.Pages.{IsAssignment, behind}
+use Rattle.ac_report.specs.Texts.{meets_root}
+use Rattle.ac_report.proofs.Leaving.{Leaves}
+use Rattle.ac_report.proofs.Paging.{after, IsRoom, Gone}
+use Rattle.ac_report.proofs.page.write_requests.Given as goal
+
+-- what is left to write, of what was there to write
+abbrev pub invariant-lists : goal.invariant-lists
+invariant-lists g l =
+    let left = g.S.Source.left in
+    let all = providers_of l.cloud in
+    let asked = asked_of l.query in
+    let wanted = after asked.limit l.count in
+    record {
+      assigned : All (IsAssignment all asked) (left l.source);
+      leaves : Leaves (g.W.Sink.taken l.fn.out) (g.W.Sink.taken l.out) (requests_text all asked false (cut asked.limit (left l.fn.source))) (requests_text all asked l.later (cut wanted (left l.source)));
+      behind : behind wanted (left l.source) ≡ behind asked.limit (left l.fn.source);
+      count : min (l.count + length (cut wanted (left l.source))) 4294967295 ≡ min (length (cut asked.limit (left l.fn.source))) 4294967295;
+      counted : l.count ≤ 4294967295;
+      room : IsRoom asked.limit l.count;
+      gone : Gone l.count (left l.fn.source) (left l.source);
+      marks_long : length l.marks ≡ length all;
+      marked : (r : ℕ) → r < length all → list_any (meets_root all (id_at all r)) (cut asked.limit (left l.fn.source)) ≡ (get_or l.marks r false || list_any (meets_root all (id_at all r)) (cut wanted (left l.source)));
+      failures : g.W.Sink.failures l.fn.out ≤ g.W.Sink.failures l.out;
+    }
+
+abbrev pub decreases-lists : goal.decreases-lists
+decreases-lists g l = length (g.S.Source.left l.source)

@@ -1,0 +1,23 @@
+-- The parts of a body, as private clauses speak of them: texts of some requests and summaries, and marks of roots.
+use Rattle.std.specs.Prelude.{◌≡◌, ◌<◌, ◌==◌, ℕ, Bool, false, List, map, length, slice_index_or}
+use Rattle.std.specs.List.{list_any}
+use Rattle.ac_tables.specs.World.{Provider, id_at, root_of}
+use Rattle.ac_query.specs.Asked.{Asked}
+use Rattle.ac_report.specs.Texts.{request_text, summary_piece, with_commas, joined, meets_root}
+
+-- the requests of lists, the first after a comma where something stands before
+abbrev pub requests_text : List Provider → Asked → Bool → List (List ℕ) → List ℕ
+requests_text all asked later lists = joined (with_commas later (map (request_text all asked) lists))
+
+-- the same of summaries
+abbrev pub summaries_text : List Provider → Bool → List ℕ → List ℕ
+summaries_text all later places = joined (with_commas later (map (summary_piece all) places))
+
+-- the provider at a place has this root
+abbrev pub has_root : List Provider → ℕ → ℕ → Bool
+has_root all root ix = root_of all (id_at all ix) == root
+
+-- a mark for each provider, at the roots of the providers of some lists
+pub record IsMarked (all : List Provider) (lists : List (List ℕ)) (marks : List Bool) : Type 0 where
+  pub long : length marks ≡ length all
+  pub at_root : (r : ℕ) → r < length all → slice_index_or marks r false ≡ list_any (meets_root all (id_at all r)) lists

@@ -1,0 +1,238 @@
+ghost use Rattle.std.specs.Prelude.{◌≡◌, ◌≤◌, ◌<◌, ◌^◌, ◌++◌, ◌||◌, ℕ, List, [], false, IfOk, OnOk, OnErr, Err, length, min, slice_index_or};
+ghost use Rattle.std.specs.List.{All};
+ghost use Rattle.std.specs.Io.KnownBytes.{Appends};
+ghost use Rattle.serde_json.specs.Written.{comma_if};
+ghost use Rattle.ac_base.specs.Devices.{Rises};
+ghost use Rattle.ac_tables.specs.CloudWorld.{providers_of};
+ghost use Rattle.ac_tables.specs.World.{id_at};
+ghost use Rattle.ac_query.specs.QueriesShown.{asked_of};
+ghost use Rattle.ac_search.specs.Pages.{cut};
+ghost use Rattle.ac_report.specs.Laws.{AreProviders};
+ghost use Rattle.ac_report.specs.Marks.{IsMarked, has_root, requests_text, summaries_text};
+ghost use Rattle.ac_report.specs.Pages.{IsAssignment, TakesPart, LosesSome, behind};
+ghost use Rattle.ac_report.specs.Texts.{body, head_text, middle_text, tail_text, summary_piece, summarized, meets_root};
+
+use crate::fault::PageFault;
+use crate::lines::is_full;
+use crate::pushing::{WriteFailed, push_all};
+use crate::request::request_text;
+use crate::summary::summary_piece;
+use ac_base::Sink;
+use ac_query::Query;
+use ac_search::Source;
+use ac_tables::Cloud;
+use std::alloc::{AllocError, Global};
+
+// Pushes a text, after a comma where something stands before.
+#[tactic(auto, using(crate::proofs::Leaving::appends_both, crate::proofs::Leaving::part_of_first, crate::proofs::Leaving::part_of_second))]
+fn push_listed<W: Sink>(out: &mut W, later: bool, text: &[u8]) -> Result<(), WriteFailed>
+    ensures ok { OnOk result (Appends (W.taken out.old) (W.taken out.new) (comma_if later ++ text.now)) }
+    ensures part { OnErr result (TakesPart (W.taken out.old) (W.taken out.new) (comma_if later ++ text.now)) }
+    ensures rises { OnErr result (Rises (W.failures out.old) (W.failures out.new)) }
+    ensures failures { W.failures out.old ≤ W.failures out.new }
+{
+    if !later {
+        return push_all(out, text);
+    }
+    push_all(out, b",")?;
+    push_all(out, text)
+}
+
+// An id that is read is a number of 128 bits.
+fn read_id(cloud: &Cloud, ix: u32)
+    requires { ix < length (providers_of cloud.now) }
+    ensures { id_at (providers_of cloud.now) ix < 2 ^ 128 }
+{
+    let _id = cloud.id(ix);
+}
+
+// Reads all ids once: that their written forms rise as they do rests on their size.
+fn read_ids(cloud: &Cloud)
+    ensures { AreProviders (providers_of cloud.now) }
+{
+    for ix in 0..cloud.len() {
+        read_id(cloud, ix);
+    }
+}
+
+// Marks at no root.
+fn new_marks(alloc: Global, cloud: &Cloud) -> Result<Vec<bool>, AllocError>
+    ensures { IfOk result (λ v. IsMarked (providers_of cloud.now) [] v.items) }
+{
+    vec![in alloc; false; cloud.len() as usize]
+}
+
+// Marks the root of a provider.
+fn mark_root(cloud: &Cloud, ix: u32, marks: &mut [bool])
+    requires long { length marks.old ≡ length (providers_of cloud.now) }
+    requires provider { ix < length (providers_of cloud.now) }
+    ensures long { length marks.new ≡ length marks.old }
+    ensures marked { (r : ℕ) → r < length marks.old → slice_index_or marks.new r false ≡ (slice_index_or marks.old r false || has_root (providers_of cloud.now) (id_at (providers_of cloud.now) r) ix) }
+{
+    marks[cloud.root(ix) as usize] = true;
+}
+
+// Marks the roots of a list's providers.
+fn mark_roots(cloud: &Cloud, list: &[u32], marks: &mut [bool])
+    requires long { length marks.old ≡ length (providers_of cloud.now) }
+    requires providers { All (λ ix. ix < length (providers_of cloud.now)) list.now }
+    ensures long { length marks.new ≡ length marks.old }
+    ensures marked { (r : ℕ) → r < length marks.old → slice_index_or marks.new r false ≡ (slice_index_or marks.old r false || meets_root (providers_of cloud.now) (id_at (providers_of cloud.now) r) list.now) }
+{
+    for ix in list {
+        mark_root(cloud, *ix, marks);
+    }
+}
+
+// Writes the requests of the lists that are left, up to the limit, marks the roots of their providers, and answers how many.
+fn write_requests<S: Source, W: Sink>(
+    alloc: Global,
+    cloud: &Cloud,
+    query: &Query,
+    source: &mut S,
+    out: &mut W,
+    marks: &mut [bool],
+) -> Result<u32, PageFault>
+    requires lists { All (IsAssignment (providers_of cloud.now) (asked_of query.now)) (S.left source.old) }
+    requires marks { IsMarked (providers_of cloud.now) [] marks.old }
+    ensures text { OnOk result (Appends (W.taken out.old) (W.taken out.new) (requests_text (providers_of cloud.now) (asked_of query.now) false (cut (asked_of query.now).limit (S.left source.old)))) }
+    ensures left { OnOk result (S.left source.new ≡ behind (asked_of query.now).limit (S.left source.old)) }
+    ensures count { IfOk result (λ n. n ≡ min (length (cut (asked_of query.now).limit (S.left source.old))) 4294967295) }
+    ensures marks { OnOk result (IsMarked (providers_of cloud.now) (cut (asked_of query.now).limit (S.left source.old)) marks.new) }
+    ensures part { OnErr result (TakesPart (W.taken out.old) (W.taken out.new) (requests_text (providers_of cloud.now) (asked_of query.now) false (cut (asked_of query.now).limit (S.left source.old)))) }
+    ensures gone { OnErr result (LosesSome (asked_of query.now).limit (S.left source.old) (S.left source.new)) }
+    ensures failed { result ≡ Err PageFault.WriteFailed → Rises (W.failures out.old) (W.failures out.new) }
+    ensures failures { W.failures out.old ≤ W.failures out.new }
+{
+    let limit = query.limit();
+    let mut count: u32 = 0;
+    let mut later = false;
+    'lists: while !is_full(limit, count) {
+        let text = match source.next() {
+            None => return Ok(count),
+            Some(list) => {
+                mark_roots(cloud, list, marks);
+                request_text(alloc, cloud, query, list)?
+            }
+        };
+        push_listed(out, later, text.as_bytes())?;
+        later = true;
+        count = count.saturating_add(1);
+    }
+    Ok(count)
+}
+
+// Writes a summary after its id, and after a comma where one stands before.
+fn write_summary<W: Sink>(alloc: Global, cloud: &Cloud, ix: u32, later: bool, out: &mut W) -> Result<(), PageFault>
+    requires { ix < length (providers_of cloud.now) }
+    ensures ok { OnOk result (Appends (W.taken out.old) (W.taken out.new) (comma_if later ++ summary_piece (providers_of cloud.now) ix)) }
+    ensures part { OnErr result (TakesPart (W.taken out.old) (W.taken out.new) (comma_if later ++ summary_piece (providers_of cloud.now) ix)) }
+    ensures failed { result ≡ Err PageFault.WriteFailed → Rises (W.failures out.old) (W.failures out.new) }
+    ensures failures { W.failures out.old ≤ W.failures out.new }
+{
+    let piece = summary_piece(alloc, cloud, ix)?;
+    push_listed(out, later, piece.as_bytes())?;
+    Ok(())
+}
+
+// Writes the summaries of the providers whose root is marked.
+fn write_summaries<W: Sink>(alloc: Global, cloud: &Cloud, marks: &[bool], out: &mut W) -> Result<(), PageFault>
+    requires { length marks.now ≡ length (providers_of cloud.now) }
+    ensures ok { OnOk result ((lists : List (List ℕ)) → IsMarked (providers_of cloud.now) lists marks.now → Appends (W.taken out.old) (W.taken out.new) (summaries_text (providers_of cloud.now) false (summarized (providers_of cloud.now) lists))) }
+    ensures part { OnErr result ((lists : List (List ℕ)) → IsMarked (providers_of cloud.now) lists marks.now → TakesPart (W.taken out.old) (W.taken out.new) (summaries_text (providers_of cloud.now) false (summarized (providers_of cloud.now) lists))) }
+    ensures failed { result ≡ Err PageFault.WriteFailed → Rises (W.failures out.old) (W.failures out.new) }
+    ensures failures { W.failures out.old ≤ W.failures out.new }
+{
+    let mut later = false;
+    for ix in 0..cloud.len() {
+        if !marks[cloud.root(ix) as usize] {
+            continue;
+        }
+        write_summary(alloc, cloud, ix, later, out)?;
+        later = true;
+    }
+    Ok(())
+}
+
+#[tactic(auto, unfolding(crate::specs::Texts::head_text))]
+fn push_head<W: Sink>(out: &mut W) -> Result<(), WriteFailed>
+    ensures ok { OnOk result (Appends (W.taken out.old) (W.taken out.new) head_text) }
+    ensures part { OnErr result (TakesPart (W.taken out.old) (W.taken out.new) head_text) }
+    ensures rises { OnErr result (Rises (W.failures out.old) (W.failures out.new)) }
+    ensures failures { W.failures out.old ≤ W.failures out.new }
+{
+    push_all(out, b"{\"allocation_requests\":[")
+}
+
+#[tactic(auto, unfolding(crate::specs::Texts::middle_text))]
+fn push_middle<W: Sink>(out: &mut W) -> Result<(), WriteFailed>
+    ensures ok { OnOk result (Appends (W.taken out.old) (W.taken out.new) middle_text) }
+    ensures part { OnErr result (TakesPart (W.taken out.old) (W.taken out.new) middle_text) }
+    ensures rises { OnErr result (Rises (W.failures out.old) (W.failures out.new)) }
+    ensures failures { W.failures out.old ≤ W.failures out.new }
+{
+    push_all(out, b"],\"provider_summaries\":{")
+}
+
+#[tactic(auto, unfolding(crate::specs::Texts::tail_text))]
+fn push_tail<W: Sink>(out: &mut W) -> Result<(), WriteFailed>
+    ensures ok { OnOk result (Appends (W.taken out.old) (W.taken out.new) tail_text) }
+    ensures part { OnErr result (TakesPart (W.taken out.old) (W.taken out.new) tail_text) }
+    ensures rises { OnErr result (Rises (W.failures out.old) (W.failures out.new)) }
+    ensures failures { W.failures out.old ≤ W.failures out.new }
+{
+    push_all(out, b"}}\n")
+}
+
+// Writes the body, with marks at no root.
+fn write_parts<S: Source, W: Sink>(
+    alloc: Global,
+    cloud: &Cloud,
+    query: &Query,
+    source: &mut S,
+    out: &mut W,
+    marks: &mut [bool],
+) -> Result<u32, PageFault>
+    requires lists { All (IsAssignment (providers_of cloud.now) (asked_of query.now)) (S.left source.old) }
+    requires providers { AreProviders (providers_of cloud.now) }
+    requires marks { IsMarked (providers_of cloud.now) [] marks.old }
+    ensures text { OnOk result (Appends (W.taken out.old) (W.taken out.new) (body (providers_of cloud.now) (asked_of query.now) (cut (asked_of query.now).limit (S.left source.old)))) }
+    ensures left { OnOk result (S.left source.new ≡ behind (asked_of query.now).limit (S.left source.old)) }
+    ensures count { IfOk result (λ n. n ≡ min (length (cut (asked_of query.now).limit (S.left source.old))) 4294967295) }
+    ensures part { OnErr result (TakesPart (W.taken out.old) (W.taken out.new) (body (providers_of cloud.now) (asked_of query.now) (cut (asked_of query.now).limit (S.left source.old)))) }
+    ensures gone { OnErr result (LosesSome (asked_of query.now).limit (S.left source.old) (S.left source.new)) }
+    ensures failed { result ≡ Err PageFault.WriteFailed → Rises (W.failures out.old) (W.failures out.new) }
+    ensures failures { W.failures out.old ≤ W.failures out.new }
+{
+    push_head(out)?;
+    let count = write_requests(alloc, cloud, query, source, out, marks)?;
+    push_middle(out)?;
+    write_summaries(alloc, cloud, marks, out)?;
+    push_tail(out)?;
+    Ok(count)
+}
+
+/// Writes the JSON body of the lists that are left, at most as many as the query's limit, with the summaries of their providers' trees,
+/// and answers how many lists these are, at most 4294967295.
+///
+/// The next list is taken only once the request of the one before is pushed whole.
+pub fn write_page<S: Source, W: Sink>(
+    alloc: Global,
+    cloud: &Cloud,
+    query: &Query,
+    source: &mut S,
+    out: &mut W,
+) -> Result<u32, PageFault>
+    requires { All (IsAssignment (providers_of cloud.now) (asked_of query.now)) (S.left source.old) }
+    ensures text { OnOk result (Appends (W.taken out.old) (W.taken out.new) (body (providers_of cloud.now) (asked_of query.now) (cut (asked_of query.now).limit (S.left source.old)))) }
+    ensures left { OnOk result (S.left source.new ≡ behind (asked_of query.now).limit (S.left source.old)) }
+    ensures count { IfOk result (λ n. n ≡ min (length (cut (asked_of query.now).limit (S.left source.old))) 4294967295) }
+    ensures part { OnErr result (TakesPart (W.taken out.old) (W.taken out.new) (body (providers_of cloud.now) (asked_of query.now) (cut (asked_of query.now).limit (S.left source.old)))) }
+    ensures gone { OnErr result (LosesSome (asked_of query.now).limit (S.left source.old) (S.left source.new)) }
+    ensures failed { result ≡ Err PageFault.WriteFailed → Rises (W.failures out.old) (W.failures out.new) }
+    ensures failures { W.failures out.old ≤ W.failures out.new }
+{
+    read_ids(cloud);
+    let mut marks = new_marks(alloc, cloud)?;
+    write_parts(alloc, cloud, query, source, out, &mut marks)
+}
