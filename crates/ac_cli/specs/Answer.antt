@@ -6,11 +6,12 @@ use Rattle.ac_tables.specs.AggregateTable.{aggregate_columns}
 use Rattle.ac_tables.specs.TraitTable.{trait_columns}
 use Rattle.ac_tables.specs.UsageTable.{usage_columns}
 use Rattle.ac_tables.specs.Tables.{Tables, records_or_header, tables_fault, world_stated}
-use Rattle.ac_tables.specs.World.{World, Sizes, Provider, place_of}
+use Rattle.ac_tables.specs.World.{World, Provider}
 use Rattle.ac_tables.specs.declared.fault.TableFault.{TableFault}
 use Rattle.ac_tables.specs.declared.fault.TableFault.TheVariants as fault
 use Rattle.ac_query.specs.Asked.{Asked}
 use Rattle.ac_query.specs.Faults.{query_fault}
+use Rattle.ac_query.specs.Located.{places_of}
 use Rattle.ac_query.specs.Gathered.{asked_by}
 use Rattle.ac_query.specs.Pairs.{pairs_of}
 use Rattle.ac_search.specs.Judge.{judge}
@@ -49,11 +50,6 @@ told None say otherwise = otherwise
 told (Some x) say otherwise = say x
 
 -- ---- the outputs
-
--- the places of all these ids, where each is a provider's
-abbrev pub places_of : List Provider → List ℕ → Option (List ℕ)
-places_of all [] = Some []
-places_of all (id ∷ ids) = option_and_then (λ ix. option_and_then (λ list. Some (ix ∷ list)) (places_of all ids)) (place_of all id)
 
 -- the verdict on a list of ids
 abbrev pub verdict_on : List Provider → Asked → Option (List ℕ) → Outcome

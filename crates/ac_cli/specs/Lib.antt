@@ -7,7 +7,5 @@ pub mod Draining
 pub mod TokenGiven
 pub mod Asking
 pub mod Outputs
-pub mod Words
-pub mod Program
 pub mod Answer
 pub mod Run

@@ -1,6 +1,7 @@
 //! Which providers of a cloud could host a workload, asked of exported Placement tables.
 #![tactic(auto)]
 
+mod answering;
 mod asking;
 mod digits;
 mod draining;
