@@ -18,6 +18,9 @@ mod sums;
 pub mod verdict;
 mod whole;
 
+#[cfg(test)]
+mod tests;
+
 pub use judging::verify;
 pub use plain::Plain;
 pub use source::Source;
