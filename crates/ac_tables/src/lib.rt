@@ -34,3 +34,6 @@ pub use entry::Entry;
 pub use fault::{Table, TableFault, TableKind};
 pub use read::Sources;
 pub use reading::{ReadFault, drain};
+
+#[cfg(test)]
+mod tests;

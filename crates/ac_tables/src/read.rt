@@ -15,6 +15,7 @@ use crate::usages::read_usages;
 use std::alloc::Global;
 
 /// The texts of the tables. A table that isn't there is its header alone.
+#[derive(Clone, Copy, Debug)]
 pub struct Sources<'a> {
     pub providers: &'a [u8],
     pub inventories: &'a [u8],
