@@ -15,11 +15,10 @@ pub mod plain;
 mod slots;
 pub mod source;
 mod sums;
-pub mod verdict;
-mod whole;
-
 #[cfg(test)]
 mod tests;
+pub mod verdict;
+mod whole;
 
 pub use judging::verify;
 pub use plain::Plain;

@@ -48,7 +48,11 @@ fn table(alloc: Global, header: &str, rows: &str) -> Result<String, AllocError> 
 }
 
 fn cloud_of(alloc: Global, rows: Rows) -> Result<Option<Cloud>, AllocError> {
-    let providers = table(alloc, "uuid,root_provider_uuid,parent_provider_uuid", rows.providers)?;
+    let providers = table(
+        alloc,
+        "uuid,root_provider_uuid,parent_provider_uuid",
+        rows.providers,
+    )?;
     let inventories = table(
         alloc,
         "resource_provider,resource_class,total,reserved,min_unit,max_unit,step_size,allocation_ratio",
@@ -65,17 +69,17 @@ fn cloud_of(alloc: Global, rows: Rows) -> Result<Option<Cloud>, AllocError> {
     {
         return Ok(None);
     }
-    let sources = Sources {
+    let usages = Some(usages.as_bytes());
+    let traits = Some(traits.as_bytes());
+    let aggregates = Some(aggregates.as_bytes());
+    let src = Sources {
         providers: providers.as_bytes(),
         inventories: inventories.as_bytes(),
-        usages: Some(usages.as_bytes()),
-        traits: Some(traits.as_bytes()),
-        aggregates: Some(aggregates.as_bytes()),
+        usages,
+        traits,
+        aggregates,
     };
-    match Cloud::read(alloc, &sources) {
-        Ok(cloud) => Ok(Some(cloud)),
-        Err(_) => Ok(None),
-    }
+    Ok(Cloud::read(alloc, &src).ok())
 }
 
 fn query_of(alloc: Global, text: &str) -> Result<Option<Query>, AllocError> {
@@ -103,7 +107,12 @@ fn places(alloc: Global, cloud: &Cloud, ids: &str) -> Result<Vec<u32>, AllocErro
     Ok(list)
 }
 
-fn verdict_of(alloc: Global, rows: Rows, query: &str, ids: &str) -> Result<Option<Verdict>, AllocError> {
+fn verdict_of(
+    alloc: Global,
+    rows: Rows,
+    query: &str,
+    ids: &str,
+) -> Result<Option<Verdict>, AllocError> {
     let Some(cloud) = cloud_of(alloc, rows)? else {
         return Ok(None);
     };
@@ -133,7 +142,13 @@ fn ends(alloc: Global, cloud: &Cloud, list: &[u32]) -> Result<String, AllocError
 }
 
 // All lists that a plain source gives, one after another, and then whether it gives `None` twice.
-fn gives(alloc: Global, rows: Rows, query: &str, after: Option<&str>, most: u32) -> Result<String, AllocError> {
+fn gives(
+    alloc: Global,
+    rows: Rows,
+    query: &str,
+    after: Option<&str>,
+    most: u32,
+) -> Result<String, AllocError> {
     let mut text = String::new(alloc);
     let Some(cloud) = cloud_of(alloc, rows)? else {
         return Ok(text);
@@ -290,44 +305,199 @@ const EVEN: Rows<'static> = Rows {
     ..NONE
 };
 
-// Each cloud and query with what a plain source gives: the ends of the ids of each list, and a point where `None`
-// comes twice.
+// The cases say what a plain source gives: the ends of the ids of each list, and a point where `None` comes twice.
+
 #[test]
-fn gives_the_candidates_in_order(rt: HostRuntime) -> Result<(), Fail> {
+fn sums_over_groups(rt: HostRuntime) -> Result<(), Fail> {
     let cases = [
-        (PAIR, "resources1=VCPU:5&resources2=VCPU:5&group_policy=none", None, "01 02 /02 01 /."),
-        (PAIR, "resources1=VCPU:5&resources2=VCPU:5&group_policy=none", Some("@01,@07"), "02 01 /."),
-        (PAIR, "resources1=VCPU:5&resources2=VCPU:5&group_policy=none", Some("@01,@02"), "02 01 /."),
-        (PAIR, "resources1=VCPU:5&resources2=VCPU:5&group_policy=none", Some("@02,@01"), "."),
-        (PAIR, "resources1=VCPU:5&resources2=VCPU:5&group_policy=none", Some("@07,@07"), "."),
-        (NARROW, "resources1=VCPU:3&resources2=VCPU:3&group_policy=none", None, "."),
-        (SIBLINGS, "resources=VCPU:1,PGPU:1&required=CUSTOM_A,CUSTOM_B", None, "03 02 /."),
-        (SHARED, "resources=DISK_GB:10", None, "09 /."),
-        (SHARED, "resources=DISK_GB:10,VCPU:1", None, "09 01 /09 03 /."),
-        (SHARED, "resources=DISK_GB:10,VCPU:1", Some("@09,@01"), "09 03 /."),
-        (CHILD, "resources=VCPU:1&member_of=@a1", None, "02 /."),
-        (CHILD, "resources1=VCPU:1&member_of1=@a1", None, "."),
-        (CHILD, "resources=VCPU:1&member_of=!@a1", None, "."),
-        (MEMORY, "resources=MEMORY_MB:512&resources1=VCPU:1&resources2=VCPU:1&group_policy=isolate", None, "01 01 02 /01 02 01 /."),
-        (NUMA, "resources_PF=VCPU:1&required_NUMA=HW_NUMA_ROOT&same_subtree=_NUMA,_PF", None, "02 04 /."),
-        (NUMA, "resources_PF=VCPU:1&required_NUMA=!CUSTOM_X&same_subtree=_NUMA,_PF&group_policy=isolate", None, "01 04 /02 04 /04 04 /."),
+        (
+            PAIR,
+            "resources1=VCPU:5&resources2=VCPU:5&group_policy=none",
+            None,
+            "01 02 /02 01 /.",
+        ),
+        (
+            PAIR,
+            "resources1=VCPU:5&resources2=VCPU:5&group_policy=none",
+            Some("@01,@07"),
+            "02 01 /.",
+        ),
+        (
+            PAIR,
+            "resources1=VCPU:5&resources2=VCPU:5&group_policy=none",
+            Some("@01,@02"),
+            "02 01 /.",
+        ),
+        (
+            PAIR,
+            "resources1=VCPU:5&resources2=VCPU:5&group_policy=none",
+            Some("@02,@01"),
+            ".",
+        ),
+        (
+            PAIR,
+            "resources1=VCPU:5&resources2=VCPU:5&group_policy=none",
+            Some("@07,@07"),
+            ".",
+        ),
+        (
+            NARROW,
+            "resources1=VCPU:3&resources2=VCPU:3&group_policy=none",
+            None,
+            ".",
+        ),
         (USED, "resources=VCPU:1", None, "01 /."),
+    ];
+    for (rows, query, after, want) in cases {
+        let got = gives(rt.alloc(), rows, query, after, 9)?;
+        assert_eq!(rt; got.as_str(), want, "{query}");
+    }
+    Ok(())
+}
+
+#[test]
+fn sums_over_groups_again(rt: HostRuntime) -> Result<(), Fail> {
+    let cases = [
         (USED, "resources=VCPU:2", None, "."),
         (OVERUSED, "resources=VCPU:1", None, "."),
-        (STRANGERS, "resources1=VCPU:5&resources2=VCPU:5&group_policy=none", None, "."),
-        (MARKED, "resources=VCPU:1&root_required=!CUSTOM_OLD", None, "03 /."),
-        (MARKED, "resources=VCPU:1&in_tree=@01", None, "02 /."),
-        (MARKED, "resources=VCPU:1&in_tree=@08", None, "."),
-        (MARKED, "resources=VCPU:1&required=!CUSTOM_OLD", None, "02 /03 /."),
+        (
+            STRANGERS,
+            "resources1=VCPU:5&resources2=VCPU:5&group_policy=none",
+            None,
+            ".",
+        ),
         (EVEN, "resources=VCPU:4", None, "01 /."),
         (EVEN, "resources=VCPU:1", None, "."),
         (EVEN, "resources=VCPU:3", None, "."),
+    ];
+    for (rows, query, after, want) in cases {
+        let got = gives(rt.alloc(), rows, query, after, 9)?;
+        assert_eq!(rt; got.as_str(), want, "{query}");
+    }
+    Ok(())
+}
+
+#[test]
+fn shares_through_aggregates(rt: HostRuntime) -> Result<(), Fail> {
+    let cases = [
+        (SHARED, "resources=DISK_GB:10", None, "09 /."),
+        (
+            SHARED,
+            "resources=DISK_GB:10,VCPU:1",
+            None,
+            "09 01 /09 03 /.",
+        ),
+        (
+            SHARED,
+            "resources=DISK_GB:10,VCPU:1",
+            Some("@09,@01"),
+            "09 03 /.",
+        ),
         (ALONE, "resources=DISK_GB:10", None, "09 /."),
-        (SHARED_SSD, "resources=DISK_GB:10,VCPU:1&required=CUSTOM_SSD", None, "09 01 /09 03 /."),
-        (SHARED_X, "resources=DISK_GB:10&root_required=CUSTOM_X", None, "09 /."),
-        (SHARED_X, "resources=DISK_GB:10,VCPU:1&root_required=CUSTOM_X", None, "09 03 /."),
-        (SHARED_X, "resources=DISK_GB:10&root_required=CUSTOM_Y", None, "."),
-        (SHARED_X, "resources=DISK_GB:10,VCPU:1&root_required=CUSTOM_Y", None, "."),
+        (
+            SHARED_SSD,
+            "resources=DISK_GB:10,VCPU:1&required=CUSTOM_SSD",
+            None,
+            "09 01 /09 03 /.",
+        ),
+        (
+            SHARED_X,
+            "resources=DISK_GB:10&root_required=CUSTOM_X",
+            None,
+            "09 /.",
+        ),
+        (
+            SHARED_X,
+            "resources=DISK_GB:10,VCPU:1&root_required=CUSTOM_X",
+            None,
+            "09 03 /.",
+        ),
+    ];
+    for (rows, query, after, want) in cases {
+        let got = gives(rt.alloc(), rows, query, after, 9)?;
+        assert_eq!(rt; got.as_str(), want, "{query}");
+    }
+    Ok(())
+}
+
+#[test]
+fn shares_through_aggregates_again(rt: HostRuntime) -> Result<(), Fail> {
+    let cases = [
+        (
+            SHARED_X,
+            "resources=DISK_GB:10&root_required=CUSTOM_Y",
+            None,
+            ".",
+        ),
+        (
+            SHARED_X,
+            "resources=DISK_GB:10,VCPU:1&root_required=CUSTOM_Y",
+            None,
+            ".",
+        ),
+    ];
+    for (rows, query, after, want) in cases {
+        let got = gives(rt.alloc(), rows, query, after, 9)?;
+        assert_eq!(rt; got.as_str(), want, "{query}");
+    }
+    Ok(())
+}
+
+#[test]
+fn takes_traits_trees_and_subtrees(rt: HostRuntime) -> Result<(), Fail> {
+    let cases = [
+        (
+            SIBLINGS,
+            "resources=VCPU:1,PGPU:1&required=CUSTOM_A,CUSTOM_B",
+            None,
+            "03 02 /.",
+        ),
+        (CHILD, "resources=VCPU:1&member_of=@a1", None, "02 /."),
+        (CHILD, "resources1=VCPU:1&member_of1=@a1", None, "."),
+        (CHILD, "resources=VCPU:1&member_of=!@a1", None, "."),
+        (
+            MEMORY,
+            "resources=MEMORY_MB:512&resources1=VCPU:1&resources2=VCPU:1&group_policy=isolate",
+            None,
+            "01 01 02 /01 02 01 /.",
+        ),
+        (
+            NUMA,
+            "resources_PF=VCPU:1&required_NUMA=HW_NUMA_ROOT&same_subtree=_NUMA,_PF",
+            None,
+            "02 04 /.",
+        ),
+        (
+            NUMA,
+            "resources_PF=VCPU:1&required_NUMA=!CUSTOM_X&same_subtree=_NUMA,_PF&group_policy=isolate",
+            None,
+            "01 04 /02 04 /04 04 /.",
+        ),
+    ];
+    for (rows, query, after, want) in cases {
+        let got = gives(rt.alloc(), rows, query, after, 9)?;
+        assert_eq!(rt; got.as_str(), want, "{query}");
+    }
+    Ok(())
+}
+
+#[test]
+fn takes_traits_trees_and_subtrees_again(rt: HostRuntime) -> Result<(), Fail> {
+    let cases = [
+        (
+            MARKED,
+            "resources=VCPU:1&root_required=!CUSTOM_OLD",
+            None,
+            "03 /.",
+        ),
+        (MARKED, "resources=VCPU:1&in_tree=@01", None, "02 /."),
+        (MARKED, "resources=VCPU:1&in_tree=@08", None, "."),
+        (
+            MARKED,
+            "resources=VCPU:1&required=!CUSTOM_OLD",
+            None,
+            "02 /03 /.",
+        ),
     ];
     for (rows, query, after, want) in cases {
         let got = gives(rt.alloc(), rows, query, after, 9)?;
@@ -339,18 +509,78 @@ fn gives_the_candidates_in_order(rt: HostRuntime) -> Result<(), Fail> {
 #[test]
 fn tells_the_first_rule_that_is_broken(rt: HostRuntime) -> Result<(), Fail> {
     let cases = [
-        (PAIR, "resources1=VCPU:5&resources2=VCPU:5&group_policy=none", "@01,@01", Verdict::Broken(Rule::Sums)),
-        (PAIR, "resources1=VCPU:5&resources2=VCPU:5&group_policy=none", "@01,@02", Verdict::Candidate),
-        (CHILD, "resources1=VCPU:1&member_of1=@a1", "@02", Verdict::Broken(Rule::Aggregates)),
-        (MEMORY, "resources=MEMORY_MB:512&resources1=VCPU:1&resources2=VCPU:1&group_policy=isolate", "@01,@01,@01", Verdict::Broken(Rule::Isolate)),
-        (NUMA, "resources_PF=VCPU:1&required_NUMA=HW_NUMA_ROOT&same_subtree=_NUMA,_PF", "@03,@04", Verdict::Broken(Rule::Subtree)),
-        (STRANGERS, "resources1=VCPU:5&resources2=VCPU:5&group_policy=none", "@01,@03", Verdict::Broken(Rule::Anchor)),
-        (EVEN, "resources=VCPU:1", "@01", Verdict::Broken(Rule::Units)),
-        (EVEN, "resources=VCPU:3", "@01", Verdict::Broken(Rule::Units)),
-        (OLD_PAIR, "resources1=VCPU:1&required1=!CUSTOM_OLD", "@01", Verdict::Broken(Rule::SlotTraits)),
-        (OLD_PAIR, "resources1=VCPU:1&required1=!CUSTOM_OLD&resources2=VCPU:9&group_policy=none", "@01,@02", Verdict::Broken(Rule::Units)),
-        (MARKED, "resources=VCPU:1&in_tree=@08", "@02", Verdict::Broken(Rule::Tree)),
-        (SIBLINGS, "resources=VCPU:1,PGPU:1&required=CUSTOM_A,CUSTOM_X", "@03,@02", Verdict::Broken(Rule::Collective)),
+        (
+            PAIR,
+            "resources1=VCPU:5&resources2=VCPU:5&group_policy=none",
+            "@01,@01",
+            Verdict::Broken(Rule::Sums),
+        ),
+        (
+            PAIR,
+            "resources1=VCPU:5&resources2=VCPU:5&group_policy=none",
+            "@01,@02",
+            Verdict::Candidate,
+        ),
+        (
+            CHILD,
+            "resources1=VCPU:1&member_of1=@a1",
+            "@02",
+            Verdict::Broken(Rule::Aggregates),
+        ),
+        (
+            MEMORY,
+            "resources=MEMORY_MB:512&resources1=VCPU:1&resources2=VCPU:1&group_policy=isolate",
+            "@01,@01,@01",
+            Verdict::Broken(Rule::Isolate),
+        ),
+        (
+            NUMA,
+            "resources_PF=VCPU:1&required_NUMA=HW_NUMA_ROOT&same_subtree=_NUMA,_PF",
+            "@03,@04",
+            Verdict::Broken(Rule::Subtree),
+        ),
+        (
+            STRANGERS,
+            "resources1=VCPU:5&resources2=VCPU:5&group_policy=none",
+            "@01,@03",
+            Verdict::Broken(Rule::Anchor),
+        ),
+        (
+            EVEN,
+            "resources=VCPU:1",
+            "@01",
+            Verdict::Broken(Rule::Units),
+        ),
+        (
+            EVEN,
+            "resources=VCPU:3",
+            "@01",
+            Verdict::Broken(Rule::Units),
+        ),
+        (
+            OLD_PAIR,
+            "resources1=VCPU:1&required1=!CUSTOM_OLD",
+            "@01",
+            Verdict::Broken(Rule::SlotTraits),
+        ),
+        (
+            OLD_PAIR,
+            "resources1=VCPU:1&required1=!CUSTOM_OLD&resources2=VCPU:9&group_policy=none",
+            "@01,@02",
+            Verdict::Broken(Rule::Units),
+        ),
+        (
+            MARKED,
+            "resources=VCPU:1&in_tree=@08",
+            "@02",
+            Verdict::Broken(Rule::Tree),
+        ),
+        (
+            SIBLINGS,
+            "resources=VCPU:1,PGPU:1&required=CUSTOM_A,CUSTOM_X",
+            "@03,@02",
+            Verdict::Broken(Rule::Collective),
+        ),
     ];
     for (rows, query, ids, want) in cases {
         let got = verdict_of(rt.alloc(), rows, query, ids)?;
