@@ -15,6 +15,8 @@ pub mod plain;
 mod slots;
 pub mod source;
 mod sums;
+#[cfg(test)]
+mod tests;
 pub mod verdict;
 mod whole;
 

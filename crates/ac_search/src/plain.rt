@@ -13,6 +13,7 @@ ghost use Rattle.ac_search.specs.ListsShown.{list_of, bound_of};
 use crate::after::is_after;
 use crate::judging::is_candidate;
 use crate::lists::AllLists;
+use crate::slots::count_slots;
 use crate::source::Source;
 use ac_base::{Id, NoMemory};
 use ac_query::{Query, Token};
@@ -45,7 +46,7 @@ impl<'a> Plain<'a> {
         ensures { IfOk result (λ plain. ⟦<Plain<'a> as Source>⟧.left plain ≡ rest (providers_of cloud.now) (asked_of query.now) (option_map (λ t. tokens.ids_of t.now) after.entry)) }
     {
         let after = copy_ids(alloc, after)?;
-        let lists = AllLists::new(alloc, query.slots().len(), cloud.len())?;
+        let lists = AllLists::new(alloc, count_slots(query), cloud.len())?;
         Ok(Plain {
             cloud,
             query,

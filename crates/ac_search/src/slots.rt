@@ -10,6 +10,13 @@ ghost use Rattle.ac_search.specs.Together.{is_set_apart};
 
 use ac_query::{Group, Need, Query};
 
+/// How many slots there are.
+pub(crate) fn count_slots(query: &Query) -> usize
+    ensures { result ≡ length (slots_of (asked_of query.now)) }
+{
+    query.slots().len()
+}
+
 /// The place of a slot's group among the groups.
 fn place_at(query: &Query, s: usize) -> usize
     requires { s < length (slots_of (asked_of query.now)) }

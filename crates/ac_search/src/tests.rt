@@ -1,0 +1,590 @@
+//! Worked examples: small clouds, the candidates of a query in them, and the verdict on one list.
+ghost use Rattle.std.specs.Prelude.{◌<◌, length, IfOk};
+ghost use Rattle.std.specs.List.{All};
+ghost use Rattle.ac_tables.specs.CloudWorld.{providers_of};
+
+use crate::plain::Plain;
+use crate::slots::count_slots;
+use crate::source::Source;
+use crate::verdict::{Rule, Verdict};
+use crate::verify;
+use ac_base::Id;
+use ac_query::{Query, Token};
+use ac_tables::{Cloud, Sources};
+use std::alloc::{AllocError, Global};
+use std::test::Fail;
+
+const LIMIT: usize = 67_108_864;
+
+// The rows of tables; `@01` is the UUID that ends with 01.
+#[derive(Clone, Copy)]
+struct Rows<'a> {
+    // A provider, its root and its parent.
+    providers: &'a str,
+    // A provider, a class, the total and what stands behind it.
+    inventories: &'a str,
+    usages: &'a str,
+    traits: &'a str,
+    aggregates: &'a str,
+}
+
+fn expanded(alloc: Global, text: &str) -> Result<String, AllocError> {
+    let mut whole = String::new(alloc);
+    for (place, piece) in text.split('@').enumerate() {
+        if place > 0 {
+            whole.push_str("00000000-0000-0000-0000-0000000000")?;
+        }
+        whole.push_str(piece)?;
+    }
+    Ok(whole)
+}
+
+// The rows of a table under its header.
+fn table(alloc: Global, header: &str, rows: &str) -> Result<String, AllocError> {
+    let mut whole = String::from_str(alloc, header)?;
+    whole.push_str("\n")?;
+    whole.push_str(expanded(alloc, rows)?.as_str())?;
+    Ok(whole)
+}
+
+fn cloud_of(alloc: Global, rows: Rows) -> Result<Option<Cloud>, AllocError> {
+    let providers = table(
+        alloc,
+        "uuid,root_provider_uuid,parent_provider_uuid",
+        rows.providers,
+    )?;
+    let inventories = table(
+        alloc,
+        "resource_provider,resource_class,total,reserved,min_unit,max_unit,step_size,allocation_ratio",
+        rows.inventories,
+    )?;
+    let usages = table(alloc, "resource_provider,resource_class,usage", rows.usages)?;
+    let traits = table(alloc, "resource_provider,name", rows.traits)?;
+    let aggregates = table(alloc, "resource_provider,uuid", rows.aggregates)?;
+    if providers.len() > LIMIT
+        || inventories.len() > LIMIT
+        || usages.len() > LIMIT
+        || traits.len() > LIMIT
+        || aggregates.len() > LIMIT
+    {
+        return Ok(None);
+    }
+    let usages = Some(usages.as_bytes());
+    let traits = Some(traits.as_bytes());
+    let aggregates = Some(aggregates.as_bytes());
+    let src = Sources {
+        providers: providers.as_bytes(),
+        inventories: inventories.as_bytes(),
+        usages,
+        traits,
+        aggregates,
+    };
+    Ok(Cloud::read(alloc, &src).ok())
+}
+
+fn query_of(alloc: Global, text: &str) -> Result<Option<Query>, AllocError> {
+    let text = expanded(alloc, text)?;
+    match Query::read(alloc, text.as_str()) {
+        Ok(query) => Ok(Some(query)),
+        Err(_) => Ok(None),
+    }
+}
+
+// The places of ids; an unknown one is left out.
+fn places(alloc: Global, cloud: &Cloud, ids: &str) -> Result<Vec<u32>, AllocError>
+    ensures { IfOk result (λ list. All (λ p. p < length (providers_of cloud.now)) list.items) }
+{
+    let mut list = Vec::new(alloc);
+    for piece in ids.split(',') {
+        let Some(id) = Id::read(piece.as_bytes()) else {
+            continue;
+        };
+        let Some(ix) = cloud.index_of(id) else {
+            continue;
+        };
+        list.push(ix)?;
+    }
+    Ok(list)
+}
+
+fn verdict_of(
+    alloc: Global,
+    rows: Rows,
+    query: &str,
+    ids: &str,
+) -> Result<Option<Verdict>, AllocError> {
+    let Some(cloud) = cloud_of(alloc, rows)? else {
+        return Ok(None);
+    };
+    let Some(query) = query_of(alloc, query)? else {
+        return Ok(None);
+    };
+    let ids = expanded(alloc, ids)?;
+    let list = places(alloc, &cloud, ids.as_str())?;
+    if list.len() != count_slots(&query) {
+        return Ok(None);
+    }
+    Ok(Some(verify(&cloud, &query, list.as_slice())))
+}
+
+// The last two digits of each id of a list.
+fn ends(alloc: Global, cloud: &Cloud, list: &[u32]) -> Result<String, AllocError> {
+    let mut text = String::new(alloc);
+    for ix in list {
+        if *ix < cloud.len() {
+            let id = cloud.id(*ix).text();
+            text.push(char::from(id[34]))?;
+            text.push(char::from(id[35]))?;
+        }
+        text.push(' ')?;
+    }
+    Ok(text)
+}
+
+// All lists that a plain source gives, one after another, and then whether it gives `None` twice.
+fn gives(
+    alloc: Global,
+    rows: Rows,
+    query: &str,
+    after: Option<&str>,
+    most: u32,
+) -> Result<String, AllocError> {
+    let mut text = String::new(alloc);
+    let Some(cloud) = cloud_of(alloc, rows)? else {
+        return Ok(text);
+    };
+    let Some(query) = query_of(alloc, query)? else {
+        return Ok(text);
+    };
+    let token = match after {
+        Some(ids) => match Token::read(alloc, expanded(alloc, ids)?.as_str(), &query) {
+            Ok(token) => Some(token),
+            Err(_) => return Ok(text),
+        },
+        None => None,
+    };
+    let Ok(mut source) = Plain::new(alloc, &cloud, &query, token.as_ref()) else {
+        return Ok(text);
+    };
+    for _ in 0..most {
+        match source.next() {
+            Some(list) => {
+                text.push_str(ends(alloc, &cloud, list)?.as_str())?;
+                text.push('/')?;
+            }
+            None => {
+                if source.next().is_none() {
+                    text.push('.')?;
+                }
+                return Ok(text);
+            }
+        }
+    }
+    Ok(text)
+}
+
+const NONE: Rows<'static> = Rows {
+    providers: "",
+    inventories: "",
+    usages: "",
+    traits: "",
+    aggregates: "",
+};
+
+const PAIR: Rows<'static> = Rows {
+    providers: "@01,@01,\n@02,@01,@01\n",
+    inventories: "@01,VCPU,8,0,1,8,1,1.0\n@02,VCPU,8,0,1,8,1,1.0\n",
+    ..NONE
+};
+
+const OLD_PAIR: Rows<'static> = Rows {
+    providers: "@01,@01,\n@02,@01,@01\n",
+    inventories: "@01,VCPU,8,0,1,8,1,1.0\n@02,VCPU,8,0,1,8,1,1.0\n",
+    traits: "@01,CUSTOM_OLD\n",
+    ..NONE
+};
+
+const STRANGERS: Rows<'static> = Rows {
+    providers: "@01,@01,\n@03,@03,\n",
+    inventories: "@01,VCPU,8,0,1,8,1,1.0\n@03,VCPU,8,0,1,8,1,1.0\n",
+    ..NONE
+};
+
+const NARROW: Rows<'static> = Rows {
+    providers: "@01,@01,\n",
+    inventories: "@01,VCPU,100,0,1,4,1,1.0\n",
+    ..NONE
+};
+
+const SIBLINGS: Rows<'static> = Rows {
+    providers: "@01,@01,\n@02,@01,@01\n@03,@01,@01\n",
+    inventories: "@02,VCPU,8,0,1,8,1,1.0\n@03,PGPU,1,0,1,1,1,1.0\n",
+    traits: "@02,CUSTOM_A\n@03,CUSTOM_B\n",
+    ..NONE
+};
+
+// Two trees that share the disk of a provider in neither.
+const SHARED: Rows<'static> = Rows {
+    providers: "@01,@01,\n@02,@01,@01\n@03,@03,\n@04,@03,@03\n@09,@09,\n",
+    inventories: "@01,VCPU,8,0,1,8,1,1.0\n@03,VCPU,8,0,1,8,1,1.0\n@09,DISK_GB,100,0,1,100,1,1.0\n",
+    traits: "@09,MISC_SHARES_VIA_AGGREGATE\n",
+    aggregates: "@02,@a1\n@04,@a1\n@09,@a1\n",
+    ..NONE
+};
+
+const SHARED_SSD: Rows<'static> = Rows {
+    providers: "@01,@01,\n@02,@01,@01\n@03,@03,\n@04,@03,@03\n@09,@09,\n",
+    inventories: "@01,VCPU,8,0,1,8,1,1.0\n@03,VCPU,8,0,1,8,1,1.0\n@09,DISK_GB,100,0,1,100,1,1.0\n",
+    traits: "@09,MISC_SHARES_VIA_AGGREGATE\n@09,CUSTOM_SSD\n",
+    aggregates: "@02,@a1\n@04,@a1\n@09,@a1\n",
+    ..NONE
+};
+
+const SHARED_X: Rows<'static> = Rows {
+    providers: "@01,@01,\n@02,@01,@01\n@03,@03,\n@04,@03,@03\n@09,@09,\n",
+    inventories: "@01,VCPU,8,0,1,8,1,1.0\n@03,VCPU,8,0,1,8,1,1.0\n@09,DISK_GB,100,0,1,100,1,1.0\n",
+    traits: "@09,MISC_SHARES_VIA_AGGREGATE\n@03,CUSTOM_X\n",
+    aggregates: "@02,@a1\n@04,@a1\n@09,@a1\n",
+    ..NONE
+};
+
+const ALONE: Rows<'static> = Rows {
+    providers: "@09,@09,\n",
+    inventories: "@09,DISK_GB,100,0,1,100,1,1.0\n",
+    traits: "@09,MISC_SHARES_VIA_AGGREGATE\n",
+    ..NONE
+};
+
+// A provider whose root is in an aggregate.
+const CHILD: Rows<'static> = Rows {
+    providers: "@01,@01,\n@02,@01,@01\n",
+    inventories: "@02,VCPU,8,0,1,8,1,1.0\n",
+    aggregates: "@01,@a1\n",
+    ..NONE
+};
+
+const MEMORY: Rows<'static> = Rows {
+    providers: "@01,@01,\n@02,@01,@01\n",
+    inventories: "@01,VCPU,8,0,1,8,1,1.0\n@01,MEMORY_MB,4096,0,1,4096,1,1.0\n@02,VCPU,8,0,1,8,1,1.0\n",
+    ..NONE
+};
+
+// Two NUMA nodes, one of which has a function.
+const NUMA: Rows<'static> = Rows {
+    providers: "@01,@01,\n@02,@01,@01\n@03,@01,@01\n@04,@01,@02\n",
+    inventories: "@04,VCPU,4,0,1,4,1,1.0\n",
+    traits: "@02,HW_NUMA_ROOT\n@03,HW_NUMA_ROOT\n",
+    ..NONE
+};
+
+const USED: Rows<'static> = Rows {
+    providers: "@01,@01,\n",
+    inventories: "@01,VCPU,8,0,1,8,1,1.0\n",
+    usages: "@01,VCPU,7\n",
+    ..NONE
+};
+
+const OVERUSED: Rows<'static> = Rows {
+    providers: "@01,@01,\n",
+    inventories: "@01,VCPU,8,0,1,8,1,1.0\n",
+    usages: "@01,VCPU,9\n",
+    ..NONE
+};
+
+const MARKED: Rows<'static> = Rows {
+    providers: "@01,@01,\n@02,@01,@01\n@03,@03,\n",
+    inventories: "@02,VCPU,8,0,1,8,1,1.0\n@03,VCPU,8,0,1,8,1,1.0\n",
+    traits: "@01,CUSTOM_OLD\n",
+    ..NONE
+};
+
+// Only even amounts.
+const EVEN: Rows<'static> = Rows {
+    providers: "@01,@01,\n",
+    inventories: "@01,VCPU,8,0,2,8,2,1.0\n",
+    ..NONE
+};
+
+// The cases say what a plain source gives: the ends of the ids of each list, and a point where `None` comes twice.
+
+#[test]
+fn sums_over_groups(rt: HostRuntime) -> Result<(), Fail> {
+    let cases = [
+        (
+            PAIR,
+            "resources1=VCPU:5&resources2=VCPU:5&group_policy=none",
+            None,
+            "01 02 /02 01 /.",
+        ),
+        (
+            PAIR,
+            "resources1=VCPU:5&resources2=VCPU:5&group_policy=none",
+            Some("@01,@07"),
+            "02 01 /.",
+        ),
+        (
+            PAIR,
+            "resources1=VCPU:5&resources2=VCPU:5&group_policy=none",
+            Some("@01,@02"),
+            "02 01 /.",
+        ),
+        (
+            PAIR,
+            "resources1=VCPU:5&resources2=VCPU:5&group_policy=none",
+            Some("@02,@01"),
+            ".",
+        ),
+        (
+            PAIR,
+            "resources1=VCPU:5&resources2=VCPU:5&group_policy=none",
+            Some("@07,@07"),
+            ".",
+        ),
+        (
+            NARROW,
+            "resources1=VCPU:3&resources2=VCPU:3&group_policy=none",
+            None,
+            ".",
+        ),
+        (USED, "resources=VCPU:1", None, "01 /."),
+    ];
+    for (rows, query, after, want) in cases {
+        let got = gives(rt.alloc(), rows, query, after, 9)?;
+        assert_eq!(rt; got.as_str(), want, "{query}");
+    }
+    Ok(())
+}
+
+#[test]
+fn sums_over_groups_again(rt: HostRuntime) -> Result<(), Fail> {
+    let cases = [
+        (USED, "resources=VCPU:2", None, "."),
+        (OVERUSED, "resources=VCPU:1", None, "."),
+        (
+            STRANGERS,
+            "resources1=VCPU:5&resources2=VCPU:5&group_policy=none",
+            None,
+            ".",
+        ),
+        (EVEN, "resources=VCPU:4", None, "01 /."),
+        (EVEN, "resources=VCPU:1", None, "."),
+        (EVEN, "resources=VCPU:3", None, "."),
+    ];
+    for (rows, query, after, want) in cases {
+        let got = gives(rt.alloc(), rows, query, after, 9)?;
+        assert_eq!(rt; got.as_str(), want, "{query}");
+    }
+    Ok(())
+}
+
+#[test]
+fn shares_through_aggregates(rt: HostRuntime) -> Result<(), Fail> {
+    let cases = [
+        (SHARED, "resources=DISK_GB:10", None, "09 /."),
+        (
+            SHARED,
+            "resources=DISK_GB:10,VCPU:1",
+            None,
+            "09 01 /09 03 /.",
+        ),
+        (
+            SHARED,
+            "resources=DISK_GB:10,VCPU:1",
+            Some("@09,@01"),
+            "09 03 /.",
+        ),
+        (ALONE, "resources=DISK_GB:10", None, "09 /."),
+        (
+            SHARED_SSD,
+            "resources=DISK_GB:10,VCPU:1&required=CUSTOM_SSD",
+            None,
+            "09 01 /09 03 /.",
+        ),
+        (
+            SHARED_X,
+            "resources=DISK_GB:10&root_required=CUSTOM_X",
+            None,
+            "09 /.",
+        ),
+        (
+            SHARED_X,
+            "resources=DISK_GB:10,VCPU:1&root_required=CUSTOM_X",
+            None,
+            "09 03 /.",
+        ),
+    ];
+    for (rows, query, after, want) in cases {
+        let got = gives(rt.alloc(), rows, query, after, 9)?;
+        assert_eq!(rt; got.as_str(), want, "{query}");
+    }
+    Ok(())
+}
+
+#[test]
+fn shares_through_aggregates_again(rt: HostRuntime) -> Result<(), Fail> {
+    let cases = [
+        (
+            SHARED_X,
+            "resources=DISK_GB:10&root_required=CUSTOM_Y",
+            None,
+            ".",
+        ),
+        (
+            SHARED_X,
+            "resources=DISK_GB:10,VCPU:1&root_required=CUSTOM_Y",
+            None,
+            ".",
+        ),
+    ];
+    for (rows, query, after, want) in cases {
+        let got = gives(rt.alloc(), rows, query, after, 9)?;
+        assert_eq!(rt; got.as_str(), want, "{query}");
+    }
+    Ok(())
+}
+
+#[test]
+fn takes_traits_trees_and_subtrees(rt: HostRuntime) -> Result<(), Fail> {
+    let cases = [
+        (
+            SIBLINGS,
+            "resources=VCPU:1,PGPU:1&required=CUSTOM_A,CUSTOM_B",
+            None,
+            "03 02 /.",
+        ),
+        (CHILD, "resources=VCPU:1&member_of=@a1", None, "02 /."),
+        (CHILD, "resources1=VCPU:1&member_of1=@a1", None, "."),
+        (CHILD, "resources=VCPU:1&member_of=!@a1", None, "."),
+        (
+            MEMORY,
+            "resources=MEMORY_MB:512&resources1=VCPU:1&resources2=VCPU:1&group_policy=isolate",
+            None,
+            "01 01 02 /01 02 01 /.",
+        ),
+        (
+            NUMA,
+            "resources_PF=VCPU:1&required_NUMA=HW_NUMA_ROOT&same_subtree=_NUMA,_PF",
+            None,
+            "02 04 /.",
+        ),
+        (
+            NUMA,
+            "resources_PF=VCPU:1&required_NUMA=!CUSTOM_X&same_subtree=_NUMA,_PF&group_policy=isolate",
+            None,
+            "01 04 /02 04 /04 04 /.",
+        ),
+    ];
+    for (rows, query, after, want) in cases {
+        let got = gives(rt.alloc(), rows, query, after, 9)?;
+        assert_eq!(rt; got.as_str(), want, "{query}");
+    }
+    Ok(())
+}
+
+#[test]
+fn takes_traits_trees_and_subtrees_again(rt: HostRuntime) -> Result<(), Fail> {
+    let cases = [
+        (
+            MARKED,
+            "resources=VCPU:1&root_required=!CUSTOM_OLD",
+            None,
+            "03 /.",
+        ),
+        (MARKED, "resources=VCPU:1&in_tree=@01", None, "02 /."),
+        (MARKED, "resources=VCPU:1&in_tree=@08", None, "."),
+        (
+            MARKED,
+            "resources=VCPU:1&required=!CUSTOM_OLD",
+            None,
+            "02 /03 /.",
+        ),
+    ];
+    for (rows, query, after, want) in cases {
+        let got = gives(rt.alloc(), rows, query, after, 9)?;
+        assert_eq!(rt; got.as_str(), want, "{query}");
+    }
+    Ok(())
+}
+
+#[test]
+fn tells_the_first_rule_that_is_broken(rt: HostRuntime) -> Result<(), Fail> {
+    let cases = [
+        (
+            PAIR,
+            "resources1=VCPU:5&resources2=VCPU:5&group_policy=none",
+            "@01,@01",
+            Verdict::Broken(Rule::Sums),
+        ),
+        (
+            PAIR,
+            "resources1=VCPU:5&resources2=VCPU:5&group_policy=none",
+            "@01,@02",
+            Verdict::Candidate,
+        ),
+        (
+            CHILD,
+            "resources1=VCPU:1&member_of1=@a1",
+            "@02",
+            Verdict::Broken(Rule::Aggregates),
+        ),
+        (
+            MEMORY,
+            "resources=MEMORY_MB:512&resources1=VCPU:1&resources2=VCPU:1&group_policy=isolate",
+            "@01,@01,@01",
+            Verdict::Broken(Rule::Isolate),
+        ),
+        (
+            NUMA,
+            "resources_PF=VCPU:1&required_NUMA=HW_NUMA_ROOT&same_subtree=_NUMA,_PF",
+            "@03,@04",
+            Verdict::Broken(Rule::Subtree),
+        ),
+        (
+            STRANGERS,
+            "resources1=VCPU:5&resources2=VCPU:5&group_policy=none",
+            "@01,@03",
+            Verdict::Broken(Rule::Anchor),
+        ),
+        (
+            EVEN,
+            "resources=VCPU:1",
+            "@01",
+            Verdict::Broken(Rule::Units),
+        ),
+        (
+            EVEN,
+            "resources=VCPU:3",
+            "@01",
+            Verdict::Broken(Rule::Units),
+        ),
+        (
+            OLD_PAIR,
+            "resources1=VCPU:1&required1=!CUSTOM_OLD",
+            "@01",
+            Verdict::Broken(Rule::SlotTraits),
+        ),
+        (
+            OLD_PAIR,
+            "resources1=VCPU:1&required1=!CUSTOM_OLD&resources2=VCPU:9&group_policy=none",
+            "@01,@02",
+            Verdict::Broken(Rule::Units),
+        ),
+        (
+            MARKED,
+            "resources=VCPU:1&in_tree=@08",
+            "@02",
+            Verdict::Broken(Rule::Tree),
+        ),
+        (
+            SIBLINGS,
+            "resources=VCPU:1,PGPU:1&required=CUSTOM_A,CUSTOM_X",
+            "@03,@02",
+            Verdict::Broken(Rule::Collective),
+        ),
+    ];
+    for (rows, query, ids, want) in cases {
+        let got = verdict_of(rt.alloc(), rows, query, ids)?;
+        assert!(rt; got == Some(want), "{query} {ids}");
+    }
+    Ok(())
+}
