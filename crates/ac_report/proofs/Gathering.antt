@@ -13,7 +13,7 @@ use Rattle.ac_search.specs.Together.{amount_of, sum_on}
 use Rattle.ac_report.specs.Parts.{need_at, sum_at, sums_of, allocation_of}
 use Rattle.ac_report.specs.Trees.{gathered, needs_on, sum, allocation}
 
-abbrev Named : Type 0
+abbrev pub Named : Type 0
 Named = List ℕ × Data
 
 pub put_same : (k l : List ℕ) (d e : Data) (ms ns : Members) → k ≡ l → d ≡ e → ms ≡ ns → put k d ms ≡ put l e ns
@@ -100,3 +100,6 @@ moved show g f done new v left rest p whole added is shown h =
     ∙ ap (λ w. map show done ++ w ∷ map g (map f rest)) shown
     ∙ ap (λ l. map show done ++ map g (map f l)) (sym is)
     ∙ h
+
+pub bytes_eq_refl : (xs : List ℕ) → bytes_eq xs xs ≡ true
+bytes_eq_refl xs = (bytes_eq-Decides xs xs).1 refl

@@ -137,7 +137,7 @@ needs_push xs x ix =
     ∙ ap (λ l. needs_on xs ix ++ l) (append-nil (if nat_eq x.provider ix then x.slot.needs else []))
 
 -- nothing is needed of who serves no slot
-needs_none : (xs : List Placed) (ix : ℕ) → list_any (λ p. nat_eq p ix) (map (λ x. x.provider) xs) ≡ false → needs_on xs ix ≡ []
+pub needs_none : (xs : List Placed) (ix : ℕ) → list_any (λ p. nat_eq p ix) (map (λ x. x.provider) xs) ≡ false → needs_on xs ix ≡ []
 needs_none [] ix h = refl
 needs_none (x ∷ xs) ix h = by (nat_eq x.provider ix) (needs_none xs ix) h
   where
@@ -236,7 +236,7 @@ all_fold P (x ∷ xs) done h k =
 pub all_rising : (P : ℕ → Type 0) (xs : List ℕ) → All P xs → All P (rising nat_cmp xs)
 all_rising P xs h = all_fold P xs [] h (λ i d lt. absurd (omega arith))
 
-all_cons : (P : ℕ → Type 0) (x : ℕ) (xs : List ℕ) → P x → All P xs → All P (x ∷ xs)
+pub all_cons : (P : ℕ → Type 0) (x : ℕ) (xs : List ℕ) → P x → All P xs → All P (x ∷ xs)
 all_cons P x xs h k zero d lt = h
 all_cons P x xs h k (suc i) d lt = k i d (omega arith)
 
