@@ -1,21 +1,20 @@
 -- Assignments with one request are the same.
-use Rattle.std.proofs.Common.{◌≡◌, ◌≢◌, ℕ, zero, suc, ◌+◌, ◌<◌, ◌≤◌, List, [], ◌∷◌, ◌++◌, take, drop, map, length, refl, sym, ap, ◌∙◌, subst, Bool, true, false, Option, Some, None, if◌then◌else◌, IsSome, nat_cmp, Ordering, Less, Equal, Greater, arith}
-use Rattle.std.specs.Prelude.{bytes_eq, nat_eq}
+use Rattle.std.proofs.Common.{◌≡◌, ℕ, zero, suc, ◌+◌, ◌<◌, List, [], ◌∷◌, ◌++◌, take, drop, map, length, refl, sym, ap, ◌∙◌, Bool, true, false, Option, Some, None, if◌then◌else◌, nat_cmp, Ordering, Less, Equal, Greater, arith}
+use Rattle.std.specs.Prelude.{nat_eq}
 use Rattle.std.specs.List.{All, AllByRecursion, filter}
 use Rattle.std.specs.Ordering.{is_eq}
 use Rattle.std.proofs.lemmas.Cmp.{ranked}
 use Rattle.std.proofs.lemmas.Map.Text.{is_eq-slice_cmp}
 use Rattle.std.proofs.lemmas.List.{length-map, length-take, length-drop, take-append-drop}
-use Rattle.serde_json.specs.Data.{Data, Members, no_members, object}
+use Rattle.serde_json.specs.Data.{no_members}
 use Rattle.ac_base.specs.Texts.{text_cmp}
-use Rattle.ac_query.specs.Asked.{Asked, Slot, Group, slots_of, slots_from, group_slots, class_slot}
+use Rattle.ac_query.specs.Asked.{Asked, Slot, Group, slots_of, slots_from, class_slot}
 use Rattle.ac_search.specs.Placed.{Placed, placed, assigned}
-use Rattle.ac_search.specs.Together.{amount_of, sum_on}
+use Rattle.ac_search.specs.Together.{sum_on}
 use Rattle.ac_tables.specs.World.{Provider}
 use Rattle.ac_tables.specs.Sorted.{rising}
-use Rattle.ac_report.specs.Laws.{AreProviders, AreNeeds, AreSuffixed, IsFirstPlain, IsInOrder, RequestsDiffer}
-use Rattle.ac_report.specs.Pages.{IsAssignment}
-use Rattle.ac_report.specs.Trees.{gathered, gives, hosts, allocation, allocations, mappings, mappings_from, provider_text, request}
+use Rattle.ac_report.specs.Laws.{AreProviders, AreNeeds, IsFirstPlain, RequestsDiffer}
+use Rattle.ac_report.specs.Trees.{gathered, gives, hosts, allocations, mappings, mappings_from, provider_text, request}
 use Rattle.ac_report.proofs.Differing.{suffixed_agree, classes_agree}
 use Rattle.ac_report.proofs.Finding.{AreTold, find, hosts_agree, mappings_agree}
 use Rattle.ac_report.proofs.FindingSums.{here, taken_of, sums_agree}
@@ -55,7 +54,7 @@ class_hosts g [] t k h = refl
 class_hosts g (need ∷ needs) [] k h = refl
 class_hosts g (need ∷ needs) (p ∷ t) k h =
     ap (λ b. map (λ (x : Placed). x.provider) (if b then record { slot = class_slot 0 g need; provider = p } ∷ filter (λ x. nat_eq x.slot.place k) (placed (map (class_slot 0 g) needs) t) else filter (λ x. nat_eq x.slot.place k) (placed (map (class_slot 0 g) needs) t)))
-      (not_eq 0 k (λ e. omega (arith, e, h)))
+    (not_eq 0 k (λ e. omega (arith, e, h)))
     ∙ class_hosts g needs t k h
 
 part_hosts : (g : Group) (gs : List (Option (List ℕ) × Group)) (t : List ℕ) (k : ℕ) → 0 < k
@@ -101,11 +100,11 @@ agree ((None, g) ∷ gs) n t u first needs l m a h s =
     let whole : length (slots_from 0 ((None, g) ∷ gs)) ≡ size + length (slots_from 1 gs) = length_parts cs (slots_from 1 gs) in
     let rest : drop size t ≡ drop size u =
     suffixed_agree 1 gs (drop size t) (drop size u) first (omega (arith, length-drop size t, l, whole)) (omega (arith, length-drop size u, m, whole))
-      (λ k low below. sym (ap (rising nat_cmp) (part_hosts g gs t k (omega (arith, low)))) ∙ h k (omega (arith, below)) ∙ ap (rising nat_cmp) (part_hosts g gs u k (omega (arith, low)))) in
+    (λ k low below. sym (ap (rising nat_cmp) (part_hosts g gs t k (omega (arith, low)))) ∙ h k (omega (arith, below)) ∙ ap (rising nat_cmp) (part_hosts g gs u k (omega (arith, low)))) in
     let front : take size t ≡ take size u =
     classes_agree 0 g g.needs (take size t) (take size u) needs.0.positive needs.0.once (omega (arith, length-take size t, l, whole, count)) (omega (arith, length-take size u, m, whole, count)) n (below_part n size t a)
-      (λ ix c low. same_rest _ _ (sum_on (placed (slots_from 1 gs) (drop size t)) ix c) (sum_on (placed (slots_from 1 gs) (drop size u)) ix c) (sym (part_sums g gs t ix c) ∙ s ix c low ∙ part_sums g gs u ix c)
-        (ap (λ l. sum_on (placed (slots_from 1 gs) l) ix c) rest)) in
+    (λ ix c low. same_rest _ _ (sum_on (placed (slots_from 1 gs) (drop size t)) ix c) (sum_on (placed (slots_from 1 gs) (drop size u)) ix c) (sym (part_sums g gs t ix c) ∙ s ix c low ∙ part_sums g gs u ix c)
+    (ap (λ l. sum_on (placed (slots_from 1 gs) l) ix c) rest)) in
     sym (take-append-drop size t) ∙ ap (λ l. l ++ drop size t) front ∙ ap (λ l. take size u ++ l) rest ∙ take-append-drop size u
 
 -- ---- texts of places
@@ -160,8 +159,8 @@ requests_differ all asked t u are order at au e =
     let P : ℕ → Type 0 = λ p. p < length all in
     agree asked.groups (length all) t u order.first order.needs at.long au.long at.below
     (λ k low. hosts_agree all told xs ys k (all_hosts P (slots_of asked) t k at.below) (all_hosts P (slots_of asked) u k au.below)
-      (mappings_agree all xs ys 0 asked.groups no_members no_members order.names groups k (omega arith) (omega (arith, low))))
+    (mappings_agree all xs ys 0 asked.groups no_members no_members order.names groups k (omega arith) (omega (arith, low))))
     (λ ix c low. sums_agree xs ys ix c
-      (sym (taken_of all told xs t ix (providers_are (slots_of asked) t at.long) low (all_filter P (λ ix. gives xs ix) (rising nat_cmp t) (all_rising P t at.below)))
-      ∙ ap (find (provider_text all ix)) taken
-      ∙ taken_of all told ys u ix (providers_are (slots_of asked) u au.long) low (all_filter P (λ ix. gives ys ix) (rising nat_cmp u) (all_rising P u au.below))))
+    (sym (taken_of all told xs t ix (providers_are (slots_of asked) t at.long) low (all_filter P (λ ix. gives xs ix) (rising nat_cmp t) (all_rising P t at.below)))
+    ∙ ap (find (provider_text all ix)) taken
+    ∙ taken_of all told ys u ix (providers_are (slots_of asked) u au.long) low (all_filter P (λ ix. gives ys ix) (rising nat_cmp u) (all_rising P u au.below))))

@@ -1,13 +1,13 @@
 -- Lists that the hosts of their groups and their sums tell apart.
-use Rattle.std.proofs.Common.{◌≡◌, ◌≢◌, ◌⊎◌, inl, inr, ℕ, zero, suc, ◌+◌, ◌<◌, ◌≤◌, List, [], ◌∷◌, ◌++◌, map, fold, length, refl, sym, ap, ◌∙◌, subst, Bool, true, false, ◌||◌, eqb, Option, Some, None, nat_cmp, if◌then◌else◌, IsSome, length-append, arith}
-use Rattle.std.specs.Prelude.{nat_eq, bytes_eq, ⊤}
+use Rattle.std.proofs.Common.{◌≡◌, ℕ, ◌+◌, ◌<◌, ◌≤◌, List, [], ◌∷◌, map, length, refl, sym, ap, ◌∙◌, Bool, true, false, Option, Some, None, nat_cmp, if◌then◌else◌, arith}
+use Rattle.std.specs.Prelude.{nat_eq, bytes_eq}
 use Rattle.std.specs.List.{AllByRecursion, filter}
 use Rattle.std.proofs.lemmas.Bool.{eqb-true, eq-eqb}
-use Rattle.ac_query.specs.Asked.{Asked, Slot, Group, slots_from, group_slots, class_slot, suffix_slot}
+use Rattle.ac_query.specs.Asked.{Group, slots_from, class_slot, suffix_slot}
 use Rattle.ac_search.specs.Placed.{Placed, placed}
 use Rattle.ac_search.specs.Together.{amount_of, sum_on}
 use Rattle.ac_tables.specs.Sorted.{rising}
-use Rattle.ac_report.specs.Laws.{AreApart, AreNeeds, AreSuffixed}
+use Rattle.ac_report.specs.Laws.{AreApart, AreSuffixed}
 use Rattle.ac_report.specs.Trees.{hosts}
 use Rattle.ac_report.proofs.Rows.{not_eq}
 use Rattle.ac_report.proofs.Gathering.{bytes_eq_sym, bytes_eq_refl}
@@ -19,19 +19,19 @@ hosts_before i k ((None, g) ∷ gs) t s h = let no_suffix : false ≡ true = s.0
 hosts_before i k ((Some n, g) ∷ gs) [] s h = refl
 hosts_before i k ((Some n, g) ∷ gs) (p ∷ t) s h =
     ap (λ b. map (λ (x : Placed). x.provider) (if b then record { slot = suffix_slot i n g; provider = p } ∷ filter (λ x. nat_eq x.slot.place k) (placed (slots_from (i + 1) gs) t) else filter (λ x. nat_eq x.slot.place k) (placed (slots_from (i + 1) gs) t)))
-      (not_eq i k (λ e. omega (arith, e, h)))
+    (not_eq i k (λ e. omega (arith, e, h)))
     ∙ hosts_before (i + 1) k gs t s.1 (omega arith)
 
 head_host : (i : ℕ) (n : List ℕ) (g : Group) (gs : List (Option (List ℕ) × Group)) (p : ℕ) (t : List ℕ) → AreSuffixed gs → hosts (placed (slots_from i ((Some n, g) ∷ gs)) (p ∷ t)) i ≡ p ∷ []
 head_host i n g gs p t s =
     ap (λ b. map (λ (x : Placed). x.provider) (if b then record { slot = suffix_slot i n g; provider = p } ∷ filter (λ x. nat_eq x.slot.place i) (placed (slots_from (i + 1) gs) t) else filter (λ x. nat_eq x.slot.place i) (placed (slots_from (i + 1) gs) t)))
-      (eq-eqb i i refl)
+    (eq-eqb i i refl)
     ∙ ap (λ l. p ∷ l) (hosts_before (i + 1) i gs t s (omega arith))
 
 later_host : (i k : ℕ) (n : List ℕ) (g : Group) (gs : List (Option (List ℕ) × Group)) (p : ℕ) (t : List ℕ) → i < k → hosts (placed (slots_from i ((Some n, g) ∷ gs)) (p ∷ t)) k ≡ hosts (placed (slots_from (i + 1) gs) t) k
 later_host i k n g gs p t h =
     ap (λ b. map (λ (x : Placed). x.provider) (if b then record { slot = suffix_slot i n g; provider = p } ∷ filter (λ x. nat_eq x.slot.place k) (placed (slots_from (i + 1) gs) t) else filter (λ x. nat_eq x.slot.place k) (placed (slots_from (i + 1) gs) t)))
-      (not_eq i k (λ e. omega (arith, e, h)))
+    (not_eq i k (λ e. omega (arith, e, h)))
 
 -- suffixed groups have one provider each
 pub suffixed_agree : (i : ℕ) (gs : List (Option (List ℕ) × Group)) (t u : List ℕ) → AreSuffixed gs → length t ≡ length (slots_from i gs) → length u ≡ length (slots_from i gs)
@@ -47,7 +47,7 @@ suffixed_agree i ((Some n, g) ∷ gs) (p ∷ t) (q ∷ u) s l m h =
     sym (ap (rising nat_cmp) (head_host i n g gs p t s.1)) ∙ h i (omega arith) (omega arith) ∙ ap (rising nat_cmp) (head_host i n g gs q u s.1) in
     let first : p ≡ q = cc in
     let more : t ≡ u = suffixed_agree (i + 1) gs t u s.1 (omega (arith, l)) (omega (arith, m))
-      (λ k low below. sym (ap (rising nat_cmp) (later_host i k n g gs p t (omega (arith, low)))) ∙ h k (omega (arith, low)) (omega (arith, below)) ∙ ap (rising nat_cmp) (later_host i k n g gs q u (omega (arith, low)))) in
+    (λ k low below. sym (ap (rising nat_cmp) (later_host i k n g gs p t (omega (arith, low)))) ∙ h k (omega (arith, low)) (omega (arith, below)) ∙ ap (rising nat_cmp) (later_host i k n g gs q u (omega (arith, low)))) in
     ap (λ x. x ∷ t) first ∙ ap (λ l. q ∷ l) more
 
 -- ---- the slots of single classes
@@ -99,7 +99,7 @@ classes_agree i g (need ∷ needs) (p ∷ t) (q ∷ u) pos once l m n b h =
     ap (λ b. if b then need.1 else 0) (sym (eq-eqb p p refl)) ∙ sym (head_sum i g need needs p t p once.0) ∙ h p need.0 b.0 ∙ head_sum i g need needs q u p once.0 in
     let first : q ≡ p = eqb-true q p (chosen (nat_eq q p) need.1 pos.0 mine) in
     let more : t ≡ u = classes_agree i g needs t u pos.1 once.1 (omega (arith, l)) (omega (arith, m)) n b.1
-      (λ ix c low. same_rest (if nat_eq p ix then amount_of (need ∷ []) c else 0) (if nat_eq q ix then amount_of (need ∷ []) c else 0) _ _ (ap (λ r. if nat_eq r ix then amount_of (need ∷ []) c else 0) (sym first)) (h ix c low)) in
+    (λ ix c low. same_rest (if nat_eq p ix then amount_of (need ∷ []) c else 0) (if nat_eq q ix then amount_of (need ∷ []) c else 0) _ _ (ap (λ r. if nat_eq r ix then amount_of (need ∷ []) c else 0) (sym first)) (h ix c low)) in
     ap (λ x. x ∷ t) (sym first) ∙ ap (λ l. q ∷ l) more
   where
     same_rest : (a b c d : ℕ) → a ≡ b → a + c ≡ b + d → c ≡ d

@@ -1,14 +1,13 @@
 -- Members by their names.
-use Rattle.std.proofs.Common.{◌≡◌, ◌⊎◌, inl, inr, ℕ, zero, suc, ◌+◌, ◌<◌, ◌≤◌, List, [], ◌∷◌, ◌++◌, map, fold, length, refl, sym, ap, ◌∙◌, subst, Bool, true, false, ◌||◌, Option, Some, None, if◌then◌else◌, Ordering, Less, Equal, Greater, nat_cmp, arith}
-use Rattle.std.specs.Prelude.{bytes_eq, ⊤}
-use Rattle.std.specs.List.{All, AllByRecursion, list_any}
+use Rattle.std.proofs.Common.{◌≡◌, ◌⊎◌, inl, inr, ℕ, suc, ◌+◌, ◌<◌, ◌≤◌, List, [], ◌∷◌, map, fold, length, refl, sym, ap, ◌∙◌, Bool, true, false, Option, Some, None, if◌then◌else◌, Ordering, Less, Equal, Greater, nat_cmp, arith}
+use Rattle.std.specs.Prelude.{bytes_eq}
+use Rattle.std.specs.List.{All, AllByRecursion}
 use Rattle.ac_report.proofs.IdTexts.{at_most_cases}
 use Rattle.ac_report.proofs.Serving.{all_rising}
-use Rattle.std.specs.Cmp.Lexicographic.{slice_cmp}
 use Rattle.std.specs.Ordering.{match_ordering, is_eq}
 use Rattle.std.proofs.lemmas.Map.Text.{is_eq-slice_cmp}
 use Rattle.std.proofs.lemmas.Slice.Eq.{bytes_eq-Decides}
-use Rattle.serde_json.specs.Data.{Data, Members, no_members, member, put, string, array, Items, no_items, item}
+use Rattle.serde_json.specs.Data.{Data, Members, no_members, member, put, string}
 use Rattle.serde_json.specs.View.{items_of}
 use Rattle.ac_base.specs.Texts.{text_cmp}
 use Rattle.ac_query.specs.Asked.{Group}
@@ -16,8 +15,8 @@ use Rattle.ac_search.specs.Placed.{Placed}
 use Rattle.ac_tables.specs.World.{Provider}
 use Rattle.ac_tables.specs.Sorted.{rising}
 use Rattle.ac_report.specs.Laws.{AreApart}
-use Rattle.ac_report.specs.Trees.{gathered, group_name, hosts, mapping, mappings_from, provider_text, texts}
-use Rattle.ac_report.proofs.Gathering.{Named, bytes_eq_sym, bytes_eq_refl}
+use Rattle.ac_report.specs.Trees.{group_name, hosts, mapping, mappings_from, provider_text, texts}
+use Rattle.ac_report.proofs.Gathering.{Named, bytes_eq_refl}
 
 -- the value at a name
 abbrev pub find : List ℕ → Members → Option Data
@@ -96,6 +95,7 @@ mappings_agree all xs ys place (g ∷ gs) donex doney a e k low below =
     here =
         let found : Some (hosts_tree all xs place) ≡ Some (hosts_tree all ys place) =
         sym (first_found all xs place g gs donex a.0) ∙ ap (find (group_name g)) e ∙ first_found all ys place g gs doney a.0 in cc
+
     agree_by : (place < k) ⊎ (place ≡ k) → (place < k → hosts_tree all xs k ≡ hosts_tree all ys k) → hosts_tree all xs k ≡ hosts_tree all ys k
     agree_by (inr s) more = ap (hosts_tree all xs) (sym s) ∙ here ∙ ap (hosts_tree all ys) s
     agree_by (inl l) more = more l

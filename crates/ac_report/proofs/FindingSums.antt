@@ -1,18 +1,18 @@
 -- What is taken of providers, back to the sums of classes.
-use Rattle.std.proofs.Common.{◌≡◌, ◌≢◌, ◌⊎◌, inl, inr, ℕ, zero, suc, ◌+◌, ◌<◌, List, [], ◌∷◌, ◌++◌, map, length, refl, sym, ap, ◌∙◌, Bool, true, false, not, ◌||◌, ◌&&◌, eqb, Option, Some, None, if◌then◌else◌, nat_cmp, arith}
+use Rattle.std.proofs.Common.{◌≡◌, ◌≢◌, ◌⊎◌, inl, inr, ℕ, suc, ◌+◌, ◌<◌, List, [], ◌∷◌, map, length, refl, sym, ap, ◌∙◌, Bool, true, false, not, ◌||◌, ◌&&◌, eqb, Option, Some, None, if◌then◌else◌, nat_cmp, arith}
 use Rattle.std.specs.Prelude.{bytes_eq, nat_eq}
 use Rattle.std.specs.List.{All, filter, list_any}
 use Rattle.std.proofs.lemmas.Slice.Eq.{bytes_eq-Decides}
 use Rattle.std.proofs.lemmas.Bool.Decides.{eqb_tells}
-use Rattle.serde_json.specs.Data.{Data, Members, no_members, member, put, number, unsigned, object}
+use Rattle.serde_json.specs.Data.{Data, Members, no_members, put, number, unsigned}
 use Rattle.ac_search.specs.Placed.{Placed}
 use Rattle.ac_search.specs.Together.{amount_of, sum_on, is_empty}
 use Rattle.ac_tables.specs.World.{Provider}
 use Rattle.ac_tables.specs.Sorted.{rising}
-use Rattle.ac_report.specs.Trees.{gathered, gives, needs_on, provider_text, sum, allocation, allocations}
+use Rattle.ac_report.specs.Trees.{gathered, gives, needs_on, provider_text, sum, allocation}
 use Rattle.ac_report.proofs.Finding.{find, find_put, onto, AreTold}
 use Rattle.ac_report.proofs.Gathering.{Named, bytes_eq_sym, bytes_eq_refl, sum_on_is}
-use Rattle.ac_report.proofs.Rows.{any_rising, not_eq}
+use Rattle.ac_report.proofs.Rows.{any_rising}
 use Rattle.ac_report.proofs.Serving.{needs_none}
 
 abbrev pub here : List Provider → List Placed → ℕ → Named
@@ -57,6 +57,7 @@ any_kept g ix (p ∷ ps) = by (eqb_tells p ix) (g p) refl (any_kept g ix ps)
     found : (b a : Bool) → a ≡ (g ix && list_any (λ p. nat_eq p ix) ps) → b ≡ g ix → (if b then true else a) ≡ (g ix && true)
     found true a e s = ap (λ b. b && true) s
     found false a e s = e ∙ ap (λ b. b && list_any (λ p. nat_eq p ix) ps) (sym s) ∙ ap (λ b. b && true) s
+
     by : ((eqb p ix ≡ true) × (p ≡ ix)) ⊎ ((eqb p ix ≡ false) × (p ≢ ix)) → (b : Bool) → b ≡ g p → list_any (λ p. nat_eq p ix) (filter g ps) ≡ (g ix && list_any (λ p. nat_eq p ix) ps)
         → list_any (λ p. nat_eq p ix) (if b then p ∷ filter g ps else filter g ps) ≡ (g ix && (nat_eq p ix || list_any (λ p. nat_eq p ix) ps))
     by (inl s) true e more = ap (λ b. b || list_any (λ p. nat_eq p ix) (filter g ps)) s.0 ∙ found true (list_any (λ p. nat_eq p ix) (filter g ps)) more (e ∙ ap g s.1) ∙ ap (λ b. g ix && (b || list_any (λ p. nat_eq p ix) ps)) (sym s.0)
@@ -71,6 +72,7 @@ giver_listed xs t ix e = by (list_any (λ p. nat_eq p ix) t) refl
     all_true : (b : Bool) → (b && true) ≡ b
     all_true true = refl
     all_true false = refl
+
     by : (b : Bool) → b ≡ list_any (λ p. nat_eq p ix) t → (gives xs ix && b) ≡ gives xs ix
     by true s = all_true (gives xs ix)
     by false s = let none : gives xs ix ≡ false = ap (λ l. not (is_empty l)) (needs_none xs ix (ap (list_any (λ p. nat_eq p ix)) e ∙ sym s)) in ap (λ b. b && false) none ∙ sym none
@@ -81,7 +83,7 @@ pub taken_of : (all : List Provider) → AreTold all → (xs : List Placed) (t :
 taken_of all told xs t ix e h a =
     find_rows all told xs ix (filter (λ ix. gives xs ix) (rising nat_cmp t)) no_members h a
     ∙ ap (λ b. if b then Some (allocation xs ix) else None)
-      (any_kept (λ ix. gives xs ix) ix (rising nat_cmp t) ∙ ap (λ b. gives xs ix && b) (any_rising ix t) ∙ giver_listed xs t ix e)
+    (any_kept (λ ix. gives xs ix) ix (rising nat_cmp t) ∙ ap (λ b. gives xs ix && b) (any_rising ix t) ∙ giver_listed xs t ix e)
 
 -- ---- sums of classes
 

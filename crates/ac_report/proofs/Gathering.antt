@@ -1,7 +1,6 @@
 -- Objects that are gathered member by member, and the sums that they show.
-use Rattle.std.proofs.Common.{◌≡◌, ℕ, zero, suc, ◌+◌, ◌<◌, ◌≤◌, List, [], ◌∷◌, ◌++◌, take, map, fold, length, get_or, refl, sym, ap, ◌∙◌, subst, Bool, true, false, not, if◌then◌else◌, add_assoc, append_assoc, codes, arith}
+use Rattle.std.proofs.Common.{◌≡◌, ℕ, zero, suc, ◌+◌, ◌<◌, ◌≤◌, List, [], ◌∷◌, ◌++◌, take, map, fold, length, get_or, refl, sym, ap, ◌∙◌, Bool, true, false, if◌then◌else◌, add_assoc, append_assoc, codes, arith}
 use Rattle.std.specs.Prelude.{bytes_eq, nat_eq}
-use Rattle.std.specs.List.{sum_by, flat_map, filter}
 use Rattle.std.specs.Borrow.{Bor}
 use Rattle.std.specs.Bool.{Decides}
 use Rattle.std.proofs.lemmas.Slice.Eq.{bytes_eq-Decides}
