@@ -1,7 +1,6 @@
 -- Objects that are gathered member by member, and the sums that they show.
-use Rattle.std.proofs.Common.{◌≡◌, ℕ, zero, suc, ◌+◌, ◌<◌, ◌≤◌, List, [], ◌∷◌, ◌++◌, take, map, fold, length, get_or, refl, sym, ap, ◌∙◌, subst, Bool, true, false, not, if◌then◌else◌, add_assoc, append_assoc, codes, arith}
+use Rattle.std.proofs.Common.{◌≡◌, ℕ, zero, suc, ◌+◌, ◌<◌, ◌≤◌, List, [], ◌∷◌, ◌++◌, take, map, fold, length, get_or, refl, sym, ap, ◌∙◌, Bool, true, false, if◌then◌else◌, add_assoc, append_assoc, codes, arith}
 use Rattle.std.specs.Prelude.{bytes_eq, nat_eq}
-use Rattle.std.specs.List.{sum_by, flat_map, filter}
 use Rattle.std.specs.Borrow.{Bor}
 use Rattle.std.specs.Bool.{Decides}
 use Rattle.std.proofs.lemmas.Slice.Eq.{bytes_eq-Decides}
@@ -13,7 +12,7 @@ use Rattle.ac_search.specs.Together.{amount_of, sum_on}
 use Rattle.ac_report.specs.Parts.{need_at, sum_at, sums_of, allocation_of}
 use Rattle.ac_report.specs.Trees.{gathered, needs_on, sum, allocation}
 
-abbrev Named : Type 0
+abbrev pub Named : Type 0
 Named = List ℕ × Data
 
 pub put_same : (k l : List ℕ) (d e : Data) (ms ns : Members) → k ≡ l → d ≡ e → ms ≡ ns → put k d ms ≡ put l e ns
@@ -100,3 +99,6 @@ moved show g f done new v left rest p whole added is shown h =
     ∙ ap (λ w. map show done ++ w ∷ map g (map f rest)) shown
     ∙ ap (λ l. map show done ++ map g (map f l)) (sym is)
     ∙ h
+
+pub bytes_eq_refl : (xs : List ℕ) → bytes_eq xs xs ≡ true
+bytes_eq_refl xs = (bytes_eq-Decides xs xs).1 refl

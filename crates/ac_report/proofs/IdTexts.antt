@@ -1,8 +1,7 @@
 -- The written forms of ids rise as the ids do.
-use Rattle.std.proofs.Common.{◌≡◌, ◌⊎◌, inl, inr, ℕ, zero, suc, ◌+◌, ◌-◌, ◌*◌, ◌/◌, ◌%◌, ◌^◌, ◌<◌, ◌≤◌, ◌==◌, ◌≢◌, eqb, ◌||◌, ◌∙◌, refl, sym, ap, ap₂, subst, List, [], ◌∷◌, ◌++◌, Bool, true, false, cond, nat_lt, if◌then◌else◌, Ordering, Less, Equal, Greater, nat_cmp, lit<, arith}
+use Rattle.std.proofs.Common.{◌≡◌, ◌⊎◌, inl, inr, ℕ, zero, suc, ◌/◌, ◌%◌, ◌^◌, ◌<◌, ◌≤◌, ◌==◌, ◌≢◌, eqb, ◌||◌, ◌∙◌, refl, sym, ap, ap₂, List, [], ◌∷◌, ◌++◌, true, false, if◌then◌else◌, Less, Equal, nat_cmp, lit<, arith}
 use Rattle.std.specs.Int.{byte_at}
 use Rattle.std.specs.Cmp.{nat_cmp_is}
-use Rattle.std.specs.Cmp.Lexicographic.{slice_cmp}
 use Rattle.std.specs.Ordering.{ordering_then}
 use Rattle.std.proofs.Math.Nat.{div-div-eq-div-mul, div-one, div-mul-le_self, pow-suc}
 use Rattle.std.proofs.lemmas.Nat.{le-div}

@@ -10,3 +10,7 @@ pub mod Rows
 pub mod Serving
 pub mod Marking
 pub mod Summing
+pub mod Differing
+pub mod Finding
+pub mod FindingSums
+pub mod Assigning

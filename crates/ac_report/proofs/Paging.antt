@@ -1,7 +1,6 @@
 -- A page, list by list: what is still wanted of what is left.
-use Rattle.std.proofs.Common.{◌≡◌, ℕ, zero, suc, min, ◌<◌, ◌≤◌, ◌-◌, ◌+◌, ◌∙◌, sym, ap, refl, List, [], ◌∷◌, ◌++◌, take, drop, length, Option, Some, None, append_assoc, append-nil, subst, length-append, arith}
+use Rattle.std.proofs.Common.{◌≡◌, ℕ, zero, suc, min, ◌≤◌, ◌-◌, ◌+◌, ◌∙◌, sym, ap, refl, List, [], ◌∷◌, ◌++◌, take, drop, length, Option, Some, None, append_assoc, append-nil, subst, length-append, arith}
 use Rattle.std.specs.Prelude.{⊤}
-use Rattle.std.specs.Option.{option_map}
 use Rattle.std.specs.List.{All}
 use Rattle.std.proofs.lemmas.List.{take-append-drop}
 use Rattle.ac_search.specs.Lists.{head_of, tail_of}

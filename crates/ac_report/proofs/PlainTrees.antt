@@ -1,14 +1,14 @@
 -- Trees with no float, and their texts.
-use Rattle.std.proofs.Common.{◌≡◌, ℕ, suc, ◌+◌, not, List, [], ◌∷◌, ◌++◌, refl, ap, ◌∙◌, Bool, true, false, ◌||◌, String, Global, string_bytes, map, fold, Option, Some, None, Result, IfOk, Ordering, Less, Equal, Greater, nat_cmp}
+use Rattle.std.proofs.Common.{◌≡◌, ℕ, ◌+◌, List, [], ◌∷◌, refl, Bool, true, false, ◌||◌, String, Global, string_bytes, map, fold, Option, Some, None, Result, IfOk, Ordering, Less, Equal, Greater, nat_cmp}
 use Rattle.std.specs.List.{filter}
 use Rattle.std.specs.Ordering.{match_ordering}
 use Rattle.std.proofs.lemmas.Result.{IfOk-weaker}
-use Rattle.serde_json.specs.Data.{Data, Members, no_members, member, put, string, number, unsigned}
+use Rattle.serde_json.specs.Data.{Data, Members, no_members, member, put, string}
 use Rattle.serde_json.specs.View.{view, items_of}
 use Rattle.serde_json.specs.Written.{compact_text, has_float, items_have_float, members_have_float}
 use Rattle.serde_json.specs.declared.value.Value.{Value}
-use Rattle.ac_base.specs.Texts.{id_text, text_cmp}
-use Rattle.ac_tables.specs.World.{Held, Provider, provider_at, id_at, parent_of, root_of}
+use Rattle.ac_base.specs.Texts.{text_cmp}
+use Rattle.ac_tables.specs.World.{Held, Provider, provider_at, id_at, parent_of}
 use Rattle.ac_query.specs.Asked.{Group, Asked}
 use Rattle.ac_search.specs.Placed.{Placed, assigned}
 use Rattle.ac_tables.specs.Sorted.{rising}

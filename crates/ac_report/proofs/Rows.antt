@@ -1,5 +1,5 @@
 -- Numbers that rise, each with something.
-use Rattle.std.proofs.Common.{◌≡◌, ℕ, zero, suc, ◌+◌, ◌<◌, List, [], ◌∷◌, ◌++◌, map, fold, refl, sym, ap, ◌∙◌, Bool, true, false, ◌||◌, Option, Some, None, if◌then◌else◌, nat_cmp, Ordering, Less, Equal, Greater, add-zero, arith}
+use Rattle.std.proofs.Common.{◌≡◌, ℕ, ◌<◌, List, [], ◌∷◌, ◌++◌, map, fold, refl, sym, ap, ◌∙◌, Bool, true, false, ◌||◌, Some, if◌then◌else◌, nat_cmp, Ordering, Less, Equal, Greater, arith}
 use Rattle.std.specs.Prelude.{⊤, nat_eq, unwrap_or}
 use Rattle.std.specs.List.{AllByRecursion, list_any}
 use Rattle.std.specs.Map.{lookup}
@@ -7,7 +7,7 @@ use Rattle.std.specs.Ordering.{match_ordering, is_eq}
 use Rattle.std.specs.BTreeMap.{insert_entry, is_at}
 use Rattle.std.specs.BTreeSet.{insert_key}
 use Rattle.std.proofs.lemmas.Cmp.{ranked}
-use Rattle.std.proofs.lemmas.Bool.{eqb-true, eq-eqb}
+use Rattle.std.proofs.lemmas.Bool.{eqb-true}
 use Rattle.ac_tables.specs.Sorted.{rising}
 
 -- each number is below those behind it

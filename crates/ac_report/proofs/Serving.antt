@@ -1,31 +1,30 @@
 -- What a list gives to groups and asks of providers, slot by slot.
-use Rattle.std.proofs.Common.{◌≡◌, ◌≢◌, ◌⊎◌, inl, inr, ℕ, zero, suc, ◌+◌, ◌<◌, ◌≤◌, List, [], ◌∷◌, ◌++◌, take, map, fold, length, get_or, refl, sym, ap, ◌∙◌, subst, Bool, true, false, not, ◌||◌, eqb, Option, Some, None, append_assoc, append-nil, nat_cmp, if◌then◌else◌, Vec, Global, arith}
+use Rattle.std.proofs.Common.{◌≡◌, ◌≢◌, ◌⊎◌, inl, inr, ℕ, zero, suc, ◌+◌, ◌<◌, ◌≤◌, List, [], ◌∷◌, ◌++◌, take, map, fold, length, get_or, refl, sym, ap, ◌∙◌, Bool, true, false, not, ◌||◌, eqb, Option, Some, None, append-nil, nat_cmp, if◌then◌else◌, Vec, Global, arith}
 use Rattle.std.specs.Prelude.{nat_eq, unwrap_or, slice_get}
 use Rattle.std.specs.Borrow.{Bor}
 use Rattle.std.specs.BTreeMap.{insert_entry, is_at}
 use Rattle.std.specs.BTreeSet.{BTreeSet, insert_key}
-use Rattle.std.specs.List.{All, AllByRecursion, filter, flat_map, list_any}
+use Rattle.std.specs.List.{All, AllByRecursion, filter, list_any}
 use Rattle.std.specs.Map.{lookup}
 use Rattle.std.specs.Option.{option_map}
 use Rattle.std.proofs.Math.ListN.{set}
 use Rattle.std.proofs.lemmas.List.{get_or-set_same, get_or-set_other, take_more, map-append}
-use Rattle.std.proofs.lemmas.Bool.{eqb-true, eq-eqb}
+use Rattle.std.proofs.lemmas.Bool.{eq-eqb}
 use Rattle.std.proofs.lemmas.Bool.Decides.{eqb_tells}
 use Rattle.std.proofs.lemmas.Grind.{flat_map-append}
 use Rattle.std.proofs.lemmas.Option.{slice_get-get_or}
 use Rattle.ac_base.proofs.ShownKeys.{insert_shown, lookup_shown}
 use Rattle.ac_query.specs.declared.group.Need.{Need}
-use Rattle.ac_query.specs.GroupsShown.{need_entry}
 use Rattle.ac_query.specs.Asked.{Asked, Slot, Group, slots_of, slots_from, group_slots}
-use Rattle.ac_search.specs.Placed.{Placed, placed, assigned}
+use Rattle.ac_search.specs.Placed.{Placed, placed}
 use Rattle.ac_tables.specs.Sorted.{rising}
-use Rattle.ac_report.specs.Parts.{AreHosts, AreNeeds, need_at, row, row_shown, with_needs}
+use Rattle.ac_report.specs.Parts.{AreHosts, need_at, row, row_shown, with_needs}
 use Rattle.serde_json.specs.Data.{Data, Members, no_members, put}
 use Rattle.std.proofs.lemmas.Map.Views.{All-insert_key}
 use Rattle.ac_tables.specs.World.{Provider}
 use Rattle.ac_search.specs.Together.{is_empty}
 use Rattle.ac_report.specs.Trees.{gathered, gives, hosts, needs_on, mapping, mappings_from}
-use Rattle.ac_report.proofs.Rows.{at, row_insert, row_look, rising_push, rising_sorted, any_rising, not_eq}
+use Rattle.ac_report.proofs.Rows.{row_insert, row_look, rising_push, rising_sorted, any_rising, not_eq}
 
 -- ---- slots and their providers
 
@@ -137,7 +136,7 @@ needs_push xs x ix =
     ∙ ap (λ l. needs_on xs ix ++ l) (append-nil (if nat_eq x.provider ix then x.slot.needs else []))
 
 -- nothing is needed of who serves no slot
-needs_none : (xs : List Placed) (ix : ℕ) → list_any (λ p. nat_eq p ix) (map (λ x. x.provider) xs) ≡ false → needs_on xs ix ≡ []
+pub needs_none : (xs : List Placed) (ix : ℕ) → list_any (λ p. nat_eq p ix) (map (λ x. x.provider) xs) ≡ false → needs_on xs ix ≡ []
 needs_none [] ix h = refl
 needs_none (x ∷ xs) ix h = by (nat_eq x.provider ix) (needs_none xs ix) h
   where
@@ -236,7 +235,7 @@ all_fold P (x ∷ xs) done h k =
 pub all_rising : (P : ℕ → Type 0) (xs : List ℕ) → All P xs → All P (rising nat_cmp xs)
 all_rising P xs h = all_fold P xs [] h (λ i d lt. absurd (omega arith))
 
-all_cons : (P : ℕ → Type 0) (x : ℕ) (xs : List ℕ) → P x → All P xs → All P (x ∷ xs)
+pub all_cons : (P : ℕ → Type 0) (x : ℕ) (xs : List ℕ) → P x → All P xs → All P (x ∷ xs)
 all_cons P x xs h k zero d lt = h
 all_cons P x xs h k (suc i) d lt = k i d (omega arith)
 

@@ -1,5 +1,5 @@
 -- Requests and summaries, one after another, and the whole body.
-use Rattle.std.proofs.Common.{◌≡◌, ℕ, suc, ◌+◌, List, [], ◌∷◌, ◌++◌, Option, refl, sym, ap, ◌∙◌, subst, Bool, true, false, map, arith}
+use Rattle.std.proofs.Common.{◌≡◌, ℕ, suc, ◌+◌, List, ◌∷◌, ◌++◌, Option, refl, sym, ap, ◌∙◌, subst, Bool, true, false, map}
 use Rattle.std.specs.List.{filter, range_with_len}
 use Rattle.std.specs.Io.KnownBytes.{Appends}
 use Rattle.serde_json.specs.Written.{comma_if}

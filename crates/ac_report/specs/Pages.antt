@@ -1,6 +1,5 @@
 -- What a writer of a page does to its sink and to its source.
 use Rattle.std.specs.Prelude.{◌≡◌, ℕ, ◌≤◌, List, [], ◌++◌, drop, length, Option, Some, None, ⊤}
-use Rattle.std.specs.List.{All}
 use Rattle.ac_tables.specs.World.{Provider}
 use Rattle.ac_query.specs.Asked.{Asked, slots_of}
 use Rattle.ac_search.specs.Lists.{IsListBelow}

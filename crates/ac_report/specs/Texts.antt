@@ -1,5 +1,5 @@
 -- The texts of pages: the body of a list of lists, the pieces that it is written in, and a line for each list.
-use Rattle.std.specs.Prelude.{◌≡◌, ℕ, ◌==◌, Bool, true, false, List, [], ◌∷◌, ◌++◌, codes, map, length}
+use Rattle.std.specs.Prelude.{ℕ, ◌==◌, Bool, true, false, List, [], ◌∷◌, ◌++◌, codes, map, length}
 use Rattle.std.specs.List.{filter, flat_map, list_any, range_with_len}
 use Rattle.serde_json.specs.Data.{Data, array, object, string, no_members, member}
 use Rattle.serde_json.specs.View.{items_of}

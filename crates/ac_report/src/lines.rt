@@ -11,7 +11,6 @@ ghost use Rattle.ac_report.specs.Pages.{IsAssignment, TakesPart, LosesSome, behi
 
 use crate::fault::PageFault;
 use crate::pushing::push_all;
-
 use ac_base::{NoMemory, Sink};
 use ac_query::Query;
 use ac_search::Source;

@@ -123,7 +123,13 @@ fn write_requests<S: Source, W: Sink>(
 }
 
 // Writes a summary after its id, and after a comma where one stands before.
-fn write_summary<W: Sink>(alloc: Global, cloud: &Cloud, ix: u32, later: bool, out: &mut W) -> Result<(), PageFault>
+fn write_summary<W: Sink>(
+    alloc: Global,
+    cloud: &Cloud,
+    ix: u32,
+    later: bool,
+    out: &mut W,
+) -> Result<(), PageFault>
     requires { ix < length (providers_of cloud.now) }
     ensures ok { OnOk result (Appends (W.taken out.old) (W.taken out.new) (comma_if later ++ summary_piece (providers_of cloud.now) ix)) }
     ensures part { OnErr result (TakesPart (W.taken out.old) (W.taken out.new) (comma_if later ++ summary_piece (providers_of cloud.now) ix)) }
@@ -136,7 +142,12 @@ fn write_summary<W: Sink>(alloc: Global, cloud: &Cloud, ix: u32, later: bool, ou
 }
 
 // Writes the summaries of the providers whose root is marked.
-fn write_summaries<W: Sink>(alloc: Global, cloud: &Cloud, marks: &[bool], out: &mut W) -> Result<(), PageFault>
+fn write_summaries<W: Sink>(
+    alloc: Global,
+    cloud: &Cloud,
+    marks: &[bool],
+    out: &mut W,
+) -> Result<(), PageFault>
     requires { length marks.now ≡ length (providers_of cloud.now) }
     ensures ok { OnOk result ((lists : List (List ℕ)) → IsMarked (providers_of cloud.now) lists marks.now → Appends (W.taken out.old) (W.taken out.new) (summaries_text (providers_of cloud.now) false (summarized (providers_of cloud.now) lists))) }
     ensures part { OnErr result ((lists : List (List ℕ)) → IsMarked (providers_of cloud.now) lists marks.now → TakesPart (W.taken out.old) (W.taken out.new) (summaries_text (providers_of cloud.now) false (summarized (providers_of cloud.now) lists))) }

@@ -15,7 +15,6 @@ ghost use Rattle.ac_report.specs.Trees.{provider_text, texts, group_name, alloca
 ghost use Rattle.ac_report.specs.Texts.{request_text};
 
 use crate::ids::{id_string, id_value};
-
 use ac_base::NoMemory;
 use ac_query::{Group, Need, Query};
 use ac_tables::Cloud;
@@ -36,7 +35,11 @@ fn empty_sets(alloc: Global, count: usize) -> Result<Vec<BTreeSet<u32>>, AllocEr
 }
 
 // The providers of each group's slots.
-fn hosts_by_group(alloc: Global, query: &Query, list: &[u32]) -> Result<Vec<BTreeSet<u32>>, AllocError>
+fn hosts_by_group(
+    alloc: Global,
+    query: &Query,
+    list: &[u32],
+) -> Result<Vec<BTreeSet<u32>>, AllocError>
     requires { length list.now ≡ length (slots_of (asked_of query.now)) }
     ensures long { IfOk result (λ v. length v.items ≡ length (asked_of query.now).groups) }
     ensures hosts { IfOk result (λ v. AreHosts (assigned (asked_of query.now) list.now) v.items) }
@@ -73,7 +76,12 @@ fn suffix_text(group: &Group) -> &str
 }
 
 // Each group's suffix, and the ids of its slots' providers.
-fn mappings_value(alloc: Global, cloud: &Cloud, query: &Query, list: &[u32]) -> Result<Value, AllocError>
+fn mappings_value(
+    alloc: Global,
+    cloud: &Cloud,
+    query: &Query,
+    list: &[u32],
+) -> Result<Value, AllocError>
     requires { IsAssignment (providers_of cloud.now) (asked_of query.now) list.now }
     ensures { IfOk result (λ v. view v ≡ mappings (providers_of cloud.now) (asked_of query.now) (assigned (asked_of query.now) list.now)) }
 {
@@ -110,7 +118,11 @@ fn add_needs<'a>(
 }
 
 // What is needed of each provider.
-fn needs_by_provider<'a>(alloc: Global, query: &'a Query, list: &[u32]) -> Result<BTreeMap<u32, Vec<&'a Need>>, AllocError>
+fn needs_by_provider<'a>(
+    alloc: Global,
+    query: &'a Query,
+    list: &[u32],
+) -> Result<BTreeMap<u32, Vec<&'a Need>>, AllocError>
     requires { length list.now ≡ length (slots_of (asked_of query.now)) }
     ensures { IfOk result (λ m. AreNeeds (assigned (asked_of query.now) list.now) list.now m) }
 {
@@ -164,7 +176,12 @@ fn allocation_value(alloc: Global, needs: &[&Need]) -> Result<Value, AllocError>
 }
 
 // What is taken of each provider of which something is needed.
-fn allocations_value(alloc: Global, cloud: &Cloud, query: &Query, list: &[u32]) -> Result<Value, AllocError>
+fn allocations_value(
+    alloc: Global,
+    cloud: &Cloud,
+    query: &Query,
+    list: &[u32],
+) -> Result<Value, AllocError>
     requires { IsAssignment (providers_of cloud.now) (asked_of query.now) list.now }
     ensures { IfOk result (λ v. view v ≡ allocations (providers_of cloud.now) (assigned (asked_of query.now) list.now) list.now) }
 {
@@ -182,7 +199,12 @@ fn allocations_value(alloc: Global, cloud: &Cloud, query: &Query, list: &[u32]) 
 }
 
 #[tactic(auto, unfolding(crate::specs::Trees::request))]
-fn request_value(alloc: Global, cloud: &Cloud, query: &Query, list: &[u32]) -> Result<Value, AllocError>
+fn request_value(
+    alloc: Global,
+    cloud: &Cloud,
+    query: &Query,
+    list: &[u32],
+) -> Result<Value, AllocError>
     requires { IsAssignment (providers_of cloud.now) (asked_of query.now) list.now }
     ensures { IfOk result (λ v. view v ≡ request (providers_of cloud.now) (asked_of query.now) list.now) }
 {
@@ -192,7 +214,12 @@ fn request_value(alloc: Global, cloud: &Cloud, query: &Query, list: &[u32]) -> R
 }
 
 /// The allocation request of a list of one provider for each slot, as compact JSON: what is taken of each provider, and the providers of each group.
-pub fn request_text(alloc: Global, cloud: &Cloud, query: &Query, list: &[u32]) -> Result<String, NoMemory>
+pub fn request_text(
+    alloc: Global,
+    cloud: &Cloud,
+    query: &Query,
+    list: &[u32],
+) -> Result<String, NoMemory>
     requires { IsAssignment (providers_of cloud.now) (asked_of query.now) list.now }
     ensures { IfOk result (λ s. string_bytes s ≡ request_text (providers_of cloud.now) (asked_of query.now) list.now) }
 {

@@ -9,7 +9,6 @@ ghost use Rattle.ac_report.specs.Trees.{id_or_null, texts, holdings, summary};
 ghost use Rattle.ac_report.specs.Texts.{summary_piece, summary_text};
 
 use crate::ids::{id_value, quoted_id};
-
 use ac_base::{Id, NoMemory, TraitName};
 use ac_tables::{Cloud, Entry};
 use serde_json::{Map, Value, json};

@@ -1,4 +1,3 @@
-use Rattle.std.proofs.Common.{◌≡◌}
 use Rattle.ac_tables.specs.CloudWorld.{providers_of}
 use Rattle.ac_report.proofs.Marking.{in_order, mark_step}
 use Rattle.ac_report.proofs.page.mark_root.Goals as goal

@@ -1,4 +1,4 @@
-use Rattle.std.proofs.Common.{sym, subst, List, ℕ, false, ◌++◌}
+use Rattle.std.proofs.Common.{sym, subst, List, ℕ, false}
 use Rattle.std.specs.Io.KnownBytes.{Appends}
 use Rattle.ac_query.specs.QueriesShown.{asked_of}
 use Rattle.ac_search.specs.Pages.{cut}

@@ -1,4 +1,4 @@
-use Rattle.std.proofs.Common.{◌≡◌, ◌∙◌, ◌<◌, ap, sym, subst, arith, Some, false, get_or, length, List, ℕ, ◌++◌}
+use Rattle.std.proofs.Common.{◌≡◌, ◌∙◌, sym, subst, arith, Some, false, get_or, length, List, ℕ, ◌++◌}
 use Rattle.std.specs.List.{list_any}
 use Rattle.std.specs.Io.KnownBytes.{Appends}
 use Rattle.serde_json.specs.Written.{comma_if}
@@ -81,6 +81,6 @@ lists-preserved g c =
       gone = gone_step count whole ls x head c.lists.invariant.gone;
       marks_long = long ∙ c.lists.invariant.marks_long;
       marked = λ r below. marks_step all limit count ls x (id_at all r) (list_any (meets_root all (id_at all r)) (cut limit whole)) (get_or c.lists.marks r false) (get_or c.mark_roots.new.marks r false) more room head
-        (c.lists.invariant.marked r below) (c.mark_roots.ensures.marked r (omega (arith, below, c.lists.invariant.marks_long)));
+          (c.lists.invariant.marked r below) (c.mark_roots.ensures.marked r (omega (arith, below, c.lists.invariant.marks_long)));
       failures = omega (arith, c.lists.invariant.failures, c.in_ok-push_listed.ensures.failures);
     })

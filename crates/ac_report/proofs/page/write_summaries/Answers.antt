@@ -1,10 +1,9 @@
-use Rattle.std.proofs.Common.{◌≡◌, ℕ, ◌+◌, ◌-◌, suc, List, Bool, true, false, get_or, length, sym, ap, ◌∙◌, refl, arith}
+use Rattle.std.proofs.Common.{◌≡◌, ℕ, ◌+◌, ◌-◌, suc, Bool, true, false, length, sym, ap, ◌∙◌, refl, arith}
 use Rattle.std.specs.List.{list_any}
 use Rattle.ac_tables.specs.CloudWorld.{providers_of}
 use Rattle.ac_tables.specs.World.{id_at, root_of}
-use Rattle.ac_report.specs.Marks.{IsMarked}
 use Rattle.ac_report.specs.Texts.{summary_piece, meets_root}
-use Rattle.ac_report.proofs.Leaving.{on_err, leaves_none}
+use Rattle.ac_report.proofs.Leaving.{on_err}
 use Rattle.ac_report.proofs.Summing.{step_taken, step_skipped, leaves_listed, leaves_listed_part, leaves_same}
 use Rattle.ac_report.proofs.page.write_summaries.Goals as goal
 
@@ -16,10 +15,10 @@ loop-ix-preserved-then-not-marks-root g c =
     let more : n - ix ≡ suc (n - (ix + 1)) = omega (arith, c.len-ix-end.ensures) in
     record {
       leaves = λ lists m.
-        let t : ℕ → Bool = λ ix. list_any (meets_root all (root_of all (id_at all ix))) lists in
-        let test : t ix ≡ false = ap (λ r. list_any (meets_root all r) lists) (sym c.root.ensures.id) ∙ sym (m.at_root c.root.result c.root.ensures.inside) ∙ c.if-not-marks-root.true in
-        leaves_same (summary_piece all) _ _ _ c.loop-ix.later _ _ (step_skipped t ix (ix + 1) (n - ix) (n - (ix + 1)) test more refl) (c.loop-ix.invariant.leaves lists m);
-      failures = c.loop-ix.invariant.failures
+          let t : ℕ → Bool = λ ix. list_any (meets_root all (root_of all (id_at all ix))) lists in
+          let test : t ix ≡ false = ap (λ r. list_any (meets_root all r) lists) (sym c.root.ensures.id) ∙ sym (m.at_root c.root.result c.root.ensures.inside) ∙ c.if-not-marks-root.true in
+          leaves_same (summary_piece all) _ _ _ c.loop-ix.later _ _ (step_skipped t ix (ix + 1) (n - ix) (n - (ix + 1)) test more refl) (c.loop-ix.invariant.leaves lists m);
+      failures = c.loop-ix.invariant.failures;
     }
 
 pub returns-in_err-write_summary-clause-part : goal.returns-in_err-write_summary-clause-part
@@ -30,9 +29,9 @@ returns-in_err-write_summary-clause-part g c =
     let more : n - ix ≡ suc (n - (ix + 1)) = omega (arith, c.len-ix-end.ensures) in
     on_err c.from_residual.result _
     (λ lists m.
-      let t : ℕ → Bool = λ ix. list_any (meets_root all (root_of all (id_at all ix))) lists in
-      let test : t ix ≡ true = ap (λ r. list_any (meets_root all r) lists) (sym c.root.ensures.id) ∙ sym (m.at_root c.root.result c.root.ensures.inside) ∙ c.if-not-marks-root.false in
-      leaves_listed_part (summary_piece all) _ _ _ _ c.loop-ix.later _ _ ix (step_taken t ix (ix + 1) (n - ix) (n - (ix + 1)) test more refl) (c.loop-ix.invariant.leaves lists m) c.in_err-write_summary.ensures.part)
+    let t : ℕ → Bool = λ ix. list_any (meets_root all (root_of all (id_at all ix))) lists in
+    let test : t ix ≡ true = ap (λ r. list_any (meets_root all r) lists) (sym c.root.ensures.id) ∙ sym (m.at_root c.root.result c.root.ensures.inside) ∙ c.if-not-marks-root.false in
+    leaves_listed_part (summary_piece all) _ _ _ _ c.loop-ix.later _ _ ix (step_taken t ix (ix + 1) (n - ix) (n - (ix + 1)) test more refl) (c.loop-ix.invariant.leaves lists m) c.in_err-write_summary.ensures.part)
 
 pub loop-ix-preserved : goal.loop-ix-preserved
 loop-ix-preserved g c =
@@ -42,8 +41,8 @@ loop-ix-preserved g c =
     let more : n - ix ≡ suc (n - (ix + 1)) = omega (arith, c.len-ix-end.ensures) in
     record {
       leaves = λ lists m.
-        let t : ℕ → Bool = λ ix. list_any (meets_root all (root_of all (id_at all ix))) lists in
-        let test : t ix ≡ true = ap (λ r. list_any (meets_root all r) lists) (sym c.root.ensures.id) ∙ sym (m.at_root c.root.result c.root.ensures.inside) ∙ c.if-not-marks-root.false in
-        leaves_listed (summary_piece all) _ _ _ _ c.loop-ix.later _ _ ix (step_taken t ix (ix + 1) (n - ix) (n - (ix + 1)) test more refl) (c.loop-ix.invariant.leaves lists m) c.in_ok-write_summary.ensures.ok;
-      failures = omega (arith, c.loop-ix.invariant.failures, c.in_ok-write_summary.ensures.failures)
+          let t : ℕ → Bool = λ ix. list_any (meets_root all (root_of all (id_at all ix))) lists in
+          let test : t ix ≡ true = ap (λ r. list_any (meets_root all r) lists) (sym c.root.ensures.id) ∙ sym (m.at_root c.root.result c.root.ensures.inside) ∙ c.if-not-marks-root.false in
+          leaves_listed (summary_piece all) _ _ _ _ c.loop-ix.later _ _ ix (step_taken t ix (ix + 1) (n - ix) (n - (ix + 1)) test more refl) (c.loop-ix.invariant.leaves lists m) c.in_ok-write_summary.ensures.ok;
+      failures = omega (arith, c.loop-ix.invariant.failures, c.in_ok-write_summary.ensures.failures);
     }

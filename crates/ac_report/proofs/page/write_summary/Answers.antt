@@ -1,4 +1,4 @@
-use Rattle.std.proofs.Common.{◌≡◌, subst, List, ℕ, ◌++◌, ◌∙◌}
+use Rattle.std.proofs.Common.{subst, List, ℕ, ◌++◌, ◌∙◌}
 use Rattle.std.specs.Io.KnownBytes.{Appends}
 use Rattle.serde_json.specs.Written.{comma_if}
 use Rattle.ac_report.specs.Pages.{TakesPart}

@@ -1,7 +1,5 @@
-use Rattle.std.proofs.Common.{◌≡◌, ◌∙◌, ap, map, rules, Result, Ok, Err}
-use Rattle.std.specs.Prelude.{OnOk, unwrap_or}
-use Rattle.std.specs.BTreeMap.{insert_entry}
-use Rattle.std.specs.Ordering.{nat_cmp}
+use Rattle.std.proofs.Common.{◌≡◌, ◌∙◌, ap, map, rules}
+use Rattle.std.specs.Prelude.{unwrap_or}
 use Rattle.ac_query.specs.GroupsShown.{need_entry}
 use Rattle.ac_report.proofs.Serving.{needs_added}
 use Rattle.ac_report.proofs.Leaving.{on_ok_weaker}
@@ -11,8 +9,7 @@ pub returns : goal.returns
 returns c =
     let old = c.args.needs.now.entries in
     let more = c.push_needs.new.needs in
-    let put : c.needs-3-1.given.0.entries ≡ insert_entry nat_cmp old c.args.provider more = search rules in
     on_ok_weaker c.push_needs.result _ _
     (needs_added old _ c.args.provider c.or_insert.result.now more c.new.result (map need_entry c.args.more.now) c.new.ensures.items
-    (c.or_insert.ensures.value ∙ ap (λ o. unwrap_or o c.new.result) c.in_ok-needs.ensures.value) put)
+    (c.or_insert.ensures.value ∙ ap (λ o. unwrap_or o c.new.result) c.in_ok-needs.ensures.value) (search rules))
     c.push_needs.ensures

@@ -1,11 +1,9 @@
-use Rattle.std.proofs.Common.{◌≡◌, ◌∙◌, ◌<◌, ◌∷◌, [], refl, ℕ, List, Bool, true, Vec, Global, sym, ap, subst, map, length, rules}
-use Rattle.std.specs.Borrow.{Bor}
+use Rattle.std.proofs.Common.{◌≡◌, ◌∙◌, ◌<◌, ◌∷◌, [], refl, ℕ, List, Bool, true, sym, ap, subst, map, length, rules}
 use Rattle.std.specs.List.{AllByRecursion, filter}
 use Rattle.std.specs.Ordering.{nat_cmp}
-use Rattle.serde_json.specs.Data.{object, put}
+use Rattle.serde_json.specs.Data.{object}
 use Rattle.serde_json.specs.View.{view, members_view}
 use Rattle.serde_json.proofs.Views.{view-Object}
-use Rattle.ac_query.specs.declared.group.Need.{Need}
 use Rattle.ac_query.specs.QueriesShown.{asked_of}
 use Rattle.ac_search.specs.Placed.{assigned}
 use Rattle.ac_tables.specs.Sorted.{rising}
@@ -29,8 +27,8 @@ loop-provider-init c =
     let P : List (ℕ × Needs) → Type 0 = λ es. AllByRecursion (IsRow (length all) xs) es in
     record {
       members = ap (λ ms. gathered_onto (members_view ms) (map F (filter (λ ix. gives xs ix) (map (λ e. e.0) c.into_iter-provider-iterator.result)))) c.new-members.ensures.empty
-        ∙ ap (λ es. gathered (map F (filter (λ ix. gives xs ix) (map (λ e. e.0) es)))) it
-        ∙ ap (λ ks. gathered (map F (filter (λ ix. gives xs ix) ks))) keys;
+          ∙ ap (λ es. gathered (map F (filter (λ ix. gives xs ix) (map (λ e. e.0) es)))) it
+          ∙ ap (λ ks. gathered (map F (filter (λ ix. gives xs ix) ks))) keys;
       rows = subst P (sym it) (rows_are (length all) xs entries (rising nat_cmp list) c.in_ok-needs.ensures (all_rising (λ ix. ix < length all) list c.requires.below));
     }
 
@@ -54,10 +52,10 @@ loop-provider-preserved c =
     let key = c.as_str.ensures.value ∙ c.in_ok-id.ensures ∙ ap id_text c.id.ensures in
     record {
       members =
-        ap (λ ms. gathered_onto ms (map F (filter t (map (λ e. e.0) rest)))) (c.in_ok-put.ensures.ok ∙ put_same c.as_str.result.now (provider_text all p) (view c.in_ok-allocation.allocation) (allocation xs p) before before key value refl)
-        ∙ sym (kept_step F t p (map (λ e. e.0) rest) before some)
-        ∙ ap (λ es. gathered_onto before (map F (filter t (map (λ e. e.0) es)))) (sym is)
-        ∙ c.loop-provider.invariant.members;
+          ap (λ ms. gathered_onto ms (map F (filter t (map (λ e. e.0) rest)))) (c.in_ok-put.ensures.ok ∙ put_same c.as_str.result.now (provider_text all p) (view c.in_ok-allocation.allocation) (allocation xs p) before before key value refl)
+          ∙ sym (kept_step F t p (map (λ e. e.0) rest) before some)
+          ∙ ap (λ es. gathered_onto before (map F (filter t (map (λ e. e.0) es)))) (sym is)
+          ∙ c.loop-provider.invariant.members;
       rows = rows.1;
     }
 

@@ -1,6 +1,4 @@
-use Rattle.std.proofs.Common.{◌≡◌, ◌<◌, ◌∙◌, ℕ, sym, ap, length, get_or, take, arith}
-use Rattle.std.specs.BTreeSet.{BTreeSet}
-use Rattle.std.specs.List.{All}
+use Rattle.std.proofs.Common.{◌≡◌, ◌<◌, ◌∙◌, ap, length, get_or, arith}
 use Rattle.std.specs.Ordering.{nat_cmp}
 use Rattle.std.proofs.Math.ListN.{set}
 use Rattle.std.proofs.lemmas.List.{length-set, take_all}
@@ -10,7 +8,7 @@ use Rattle.ac_query.specs.SlotsShown.{slot_group}
 use Rattle.ac_search.specs.Placed.{placed, assigned}
 use Rattle.ac_tables.specs.Sorted.{rising}
 use Rattle.ac_report.specs.Trees.{hosts}
-use Rattle.ac_report.proofs.Serving.{no_slot, place_there, placed_in, placed_in_is, placed_long, hosts_start, hosts_step, shown_at}
+use Rattle.ac_report.proofs.Serving.{no_slot, place_there, placed_in, placed_in_is, placed_long, hosts_step, shown_at}
 use Rattle.ac_report.proofs.request.hosts_by_group.Goals as goal
 
 pub index_mut-requires : goal.index_mut-requires
@@ -36,8 +34,8 @@ loop-i-preserved c =
     record {
       long = length-set sets c.group.result c.insert.new.self ∙ c.loop-i.invariant.long;
       hosts = λ g d below.
-        ap (λ n. (get_or (set sets n c.insert.new.self) g d).keys) group
-        ∙ hosts_step (placed ss list) sets i g d c.insert.new.self c.index_mut.result.now x long (placed_in_is ss list i short c.loop-i-test.true) low
+          ap (λ n. (get_or (set sets n c.insert.new.self) g d).keys) group
+          ∙ hosts_step (placed ss list) sets i g d c.insert.new.self c.index_mut.result.now x long (placed_in_is ss list i short c.loop-i-test.true) low
           (c.index_mut.ensures.value ∙ ap (λ n. get_or sets n c.index_mut.result.now) group) c.in_ok-insert.ensures.keys c.loop-i.invariant.hosts (omega (arith, below, length-set sets c.group.result c.insert.new.self));
     }
 

@@ -15,6 +15,6 @@ loop-provider-preserved c =
     let P : List ℕ → Type 0 = λ ps. All (λ ix. ix < length all) ps in
     record {
       ids = moved view (λ x. string x) (provider_text all) c.loop-provider.ids.items _ c.in_ok-id_value.field-0 c.loop-provider.provider-iterator c.next.new.self c.in-Some.provider.now _
-        c.in_ok-push.ensures.items is (c.in_ok-id_value.ensures ∙ ap (λ id. string (id_text id)) c.id.ensures) c.loop-provider.invariant.ids;
+          c.in_ok-push.ensures.items is (c.in_ok-id_value.ensures ∙ ap (λ id. string (id_text id)) c.id.ensures) c.loop-provider.invariant.ids;
       below = λ k d lt. subst P is c.loop-provider.invariant.below (suc k) d (omega (arith, lt));
     }

@@ -44,7 +44,7 @@ loop-i-preserved c =
     let entry : group_entry g ≡ get_or asked.groups i (group_entry g) = ap group_entry c.index-groups-i.is ∙ entry_at group_entry c.groups-groups.result.now asked.groups i g (group_entry g) c.groups-groups.ensures short in
     c.in_ok-put.ensures.ok
     ∙ put_same c.suffix_text.result.now (group_name (get_or asked.groups i (group_entry g))) (view c.in_ok-ids.ids) (texts (map (provider_text all) (rising nat_cmp (hosts xs i)))) (members_view c.loop-i.members.entries) (gathered (mappings_from all xs 0 (take i asked.groups)))
-      (c.suffix_text.ensures ∙ ap group_name entry) (c.in_ok-ids.ensures ∙ ap (λ l. texts (map (provider_text all) l)) are) c.loop-i.invariant
+    (c.suffix_text.ensures ∙ ap group_name entry) (c.in_ok-ids.ensures ∙ ap (λ l. texts (map (provider_text all) l)) are) c.loop-i.invariant
     ∙ sym (mapped_more all xs asked.groups i (group_entry g) short)
 
 pub returns : goal.returns

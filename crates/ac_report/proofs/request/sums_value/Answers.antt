@@ -25,7 +25,7 @@ loop-need-preserved c =
     let sum = c.total_at-total.ensures ∙ ap (λ q. unwrap_or (get_by (λ k. slice_cmp nat_cmp q k.now) c.in_ok-totals.totals) 0) key ∙ c.in_ok-totals.ensures class ∙ sum_at_is class needs in
     c.in_ok-put.ensures.ok
     ∙ put_same c.text-class.result.now class (view c.from.result) (number (unsigned (amount_of (map need_at needs) class))) (members_view c.loop-need.members.entries) (gathered (map F (take i needs)))
-      key (c.from.ensures ∙ ap (λ n. number (unsigned n)) sum) c.loop-need.invariant
+    key (c.from.ensures ∙ ap (λ n. number (unsigned n)) sum) c.loop-need.invariant
     ∙ ap (λ n. put (F n).0 (F n).1 (gathered (map F (take i needs)))) c.need-item.is
     ∙ sym (gathered_more F needs i item c.loop-need-test.true)
 
