@@ -19,6 +19,11 @@ pub request_text-requires : goal.request_text-requires
 request_text-requires g c =
     all_head (IsAssignment (providers_of c.args.cloud.now) (asked_of c.args.query.now)) (g.S.Source.left c.lists.source) c.in-Some.list.now (sym c.in-Some.ensures.head) c.lists.invariant.assigned
 
+pub mark_roots-requires-clause-providers : goal.mark_roots-requires-clause-providers
+mark_roots-requires-clause-providers g c =
+    let assigned = all_head (IsAssignment (providers_of c.args.cloud.now) (asked_of c.args.query.now)) (g.S.Source.left c.lists.source) c.in-Some.list.now (sym c.in-Some.ensures.head) c.lists.invariant.assigned in
+    assigned.below
+
 pub returns-in_err-text-in-Some-clause-gone : goal.returns-in_err-text-in-Some-clause-gone
 returns-in_err-text-in-Some-clause-gone g c =
     let left = g.S.Source.left in

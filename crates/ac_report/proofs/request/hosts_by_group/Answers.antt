@@ -16,7 +16,7 @@ index_mut-requires c =
     let asked = asked_of c.args.query.now in
     let i = c.loop-i.i in
     let short : i < length (slots_of asked) = omega (arith, c.requires, c.loop-i-test.true) in
-    let group : c.group.result ≡ (get_or (slots_of asked) i no_slot).place = c.group.ensures ∙ shown_at slot_group (λ s. s.place) c.slots-slots.result.now (slots_of asked) i _ no_slot c.slots-slots.ensures short in
+    let group : c.group.result ≡ (get_or (slots_of asked) i no_slot).place = c.group.ensures ∙ shown_at slot_group (λ s. s.place) c.slots-slots.result.now (slots_of asked) i _ no_slot c.slots-slots.ensures.groups short in
     omega (arith, group, place_there asked i no_slot short, c.loop-i.invariant.long)
 
 pub loop-i-preserved : goal.loop-i-preserved
@@ -28,7 +28,7 @@ loop-i-preserved c =
     let i = c.loop-i.i in
     let short : i < length ss = omega (arith, c.requires, c.loop-i-test.true) in
     let x = placed_in ss list i in
-    let group : c.group.result ≡ x.slot.place = c.group.ensures ∙ shown_at slot_group (λ s. s.place) c.slots-slots.result.now ss i _ no_slot c.slots-slots.ensures short in
+    let group : c.group.result ≡ x.slot.place = c.group.ensures ∙ shown_at slot_group (λ s. s.place) c.slots-slots.result.now ss i _ no_slot c.slots-slots.ensures.groups short in
     let low : x.slot.place < length sets = omega (arith, place_there asked i no_slot short, c.loop-i.invariant.long) in
     let long : i < length (placed ss list) = omega (arith, placed_long ss list c.requires, c.loop-i-test.true) in
     record {

@@ -20,7 +20,7 @@ use Rattle.ac_report.proofs.request.mappings_value.Goals as goal
 pub ids_value-requires : goal.ids_value-requires
 ids_value-requires c =
     let asked = asked_of c.args.query.now in
-    let count : length c.groups-groups.result.now ≡ length asked.groups = sym (length-map c.groups-groups.result.now group_entry) ∙ ap length c.groups-groups.ensures in
+    let count : length c.groups-groups.result.now ≡ length asked.groups = sym (length-map c.groups-groups.result.now group_entry) ∙ ap length c.groups-groups.ensures.groups in
     let i = c.loop-i.i in
     let P : ℕ → Type 0 = λ ix. ix < length (providers_of c.args.cloud.now) in
     let Q : List ℕ → Type 0 = λ l. All P l in
@@ -34,14 +34,14 @@ unfolding mapping
 loop-i-preserved c =
     let all = providers_of c.args.cloud.now in
     let asked = asked_of c.args.query.now in
-    let count : length c.groups-groups.result.now ≡ length asked.groups = sym (length-map c.groups-groups.result.now group_entry) ∙ ap length c.groups-groups.ensures in
+    let count : length c.groups-groups.result.now ≡ length asked.groups = sym (length-map c.groups-groups.result.now group_entry) ∙ ap length c.groups-groups.ensures.groups in
     let xs = assigned asked c.args.list.now in
     let i = c.loop-i.i in
     let g = c.index-groups-i.result in
     let short : i < length asked.groups = omega (arith, count, c.loop-i-test.true) in
     let low : i < length c.in_ok-hosts.hosts.items = omega (arith, c.in_ok-hosts.ensures.long, short) in
     let are : c.index.result.now.keys ≡ rising nat_cmp (hosts xs i) = ap (λ (s : BTreeSet ℕ). s.keys) c.index.ensures ∙ c.in_ok-hosts.ensures.hosts i c.index.result.now low in
-    let entry : group_entry g ≡ get_or asked.groups i (group_entry g) = ap group_entry c.index-groups-i.is ∙ entry_at group_entry c.groups-groups.result.now asked.groups i g (group_entry g) c.groups-groups.ensures short in
+    let entry : group_entry g ≡ get_or asked.groups i (group_entry g) = ap group_entry c.index-groups-i.is ∙ entry_at group_entry c.groups-groups.result.now asked.groups i g (group_entry g) c.groups-groups.ensures.groups short in
     c.in_ok-put.ensures.ok
     ∙ put_same c.suffix_text.result.now (group_name (get_or asked.groups i (group_entry g))) (view c.in_ok-ids.ids) (texts (map (provider_text all) (rising nat_cmp (hosts xs i)))) (members_view c.loop-i.members.entries) (gathered (mappings_from all xs 0 (take i asked.groups)))
     (c.suffix_text.ensures ∙ ap group_name entry) (c.in_ok-ids.ensures ∙ ap (λ l. texts (map (provider_text all) l)) are) c.loop-i.invariant
@@ -52,7 +52,7 @@ unfolding mappings
 returns c =
     let all = providers_of c.args.cloud.now in
     let asked = asked_of c.args.query.now in
-    let count : length c.groups-groups.result.now ≡ length asked.groups = sym (length-map c.groups-groups.result.now group_entry) ∙ ap length c.groups-groups.ensures in
+    let count : length c.groups-groups.result.now ≡ length asked.groups = sym (length-map c.groups-groups.result.now group_entry) ∙ ap length c.groups-groups.ensures.groups in
     let xs = assigned asked c.args.list.now in
     view-Object c.loop-i.members
     ∙ ap object (c.loop-i.invariant ∙ ap (λ l. gathered (mappings_from all xs 0 l)) (take_all c.loop-i.i asked.groups (omega (arith, count, c.loop-i-test.false))))
