@@ -2,3 +2,4 @@ pub mod Leaving
 pub mod DecimalSteps
 pub mod PiecesWritten
 pub mod Drained
+pub mod FewBytes
