@@ -3,3 +3,4 @@ pub mod DecimalSteps
 pub mod PiecesWritten
 pub mod Drained
 pub mod FewBytes
+pub mod Assignments

@@ -1,0 +1,11 @@
+use Rattle.std.proofs.Common.{sym, subst}
+use Rattle.std.specs.List.{All}
+use Rattle.ac_query.specs.QueriesShown.{asked_of}
+use Rattle.ac_report.specs.Pages.{IsAssignment}
+use Rattle.ac_tables.specs.CloudWorld.{providers_of}
+use Rattle.ac_cli.proofs.Assignments.{assignments}
+use Rattle.ac_cli.proofs.answering.write_body.Goals as goal
+
+pub write_page-requires : goal.write_page-requires
+write_page-requires g c =
+    subst (All (IsAssignment (providers_of c.args.cloud.now) (asked_of c.args.query.now))) (sym c.in-Ok.ensures) (assignments _ _ _)
