@@ -1,5 +1,6 @@
 -- Lists of one provider for each slot: those of a page, and those that ids name.
-use Rattle.std.proofs.Common.{◌≡◌, ◌∙◌, ℕ, ◌<◌, ◌≤◌, ◌+◌, Bool, true, List, [], ◌∷◌, length, Option, Some, None, refl, sym, ap, arith}
+use Rattle.std.proofs.Common.{◌≡◌, ℕ, suc, ◌<◌, Bool, true, List, [], ◌∷◌, length, Option, Some, None, refl, sym, ap, subst}
+use Rattle.std.specs.Option.{option_map, option_and_then}
 use Rattle.std.specs.List.{All, AllByRecursion as Each, filter}
 use Rattle.std.proofs.lemmas.List.Elements.{All-from_recursion}
 use Rattle.ac_query.specs.Asked.{Asked, slots_of}
@@ -9,7 +10,9 @@ use Rattle.ac_search.proofs.ListLemmas.{each_all_lists}
 use Rattle.ac_search.specs.Judge.{is_candidate}
 use Rattle.ac_search.specs.Lists.{all_lists}
 use Rattle.ac_search.specs.Pages.{candidates, is_after, rest}
-use Rattle.ac_tables.specs.World.{Provider}
+use Rattle.ac_search.proofs.PlaceLemmas.{found_within}
+use Rattle.ac_query.specs.Located.{places_of}
+use Rattle.ac_tables.specs.World.{Provider, place_of}
 
 kept : (P : List ℕ → Type 0) (test : List ℕ → Bool) (lists : List (List ℕ)) → Each P lists → Each P (filter test lists)
 kept P test lists h = each_weaker (λ t. (test t ≡ true) × P t) P (filter test lists) (λ t q. q.1) (each_filter P test lists h)
@@ -21,3 +24,24 @@ assignments all asked ids =
     All-from_recursion (IsAssignment all asked) _
       (kept (IsAssignment all asked) (λ t. is_after all ids t) (filter (λ t. is_candidate all asked t) lists)
         (kept (IsAssignment all asked) (λ t. is_candidate all asked t) lists (each_all_lists (length all) (length (slots_of asked)))))
+
+-- as many places as ids, each a provider's
+abbrev AreFound : List Provider → List ℕ → List ℕ → Type 0
+AreFound all ids places = (length places ≡ length ids) × Each (λ p. p < length all) places
+
+one_more : (all : List Provider) (id : ℕ) (ids : List ℕ) (found : Option ℕ) (others : Option (List ℕ)) (places : List ℕ) → place_of all id ≡ found
+    → Some places ≡ option_and_then (λ place. option_map (λ places. place ∷ places) others) found
+    → ((rest : List ℕ) → Some rest ≡ others → AreFound all ids rest) → AreFound all (id ∷ ids) places
+one_more all id ids None others places h e f = absurd (cc)
+one_more all id ids (Some p) None places h e f = absurd (cc)
+one_more all id ids (Some p) (Some rest) [] h e f = absurd (cc)
+one_more all id ids (Some p) (Some rest) (q ∷ more) h e f =
+    let first : p ≡ q = cc in
+    let same : more ≡ rest = cc in
+    let behind = f more (ap Some same) in
+    (ap suc behind.0, (subst (λ place. place < length all) first (found_within all id p h), behind.1))
+
+pub located : (all : List Provider) (ids places : List ℕ) → Some places ≡ places_of all ids → AreFound all ids places
+located all [] [] e = (refl, tt)
+located all [] (p ∷ places) e = absurd (cc)
+located all (id ∷ ids) places e = one_more all id ids (place_of all id) (places_of all ids) places refl e (λ rest r. located all ids rest r)
