@@ -4,3 +4,6 @@ pub mod PiecesWritten
 pub mod Drained
 pub mod FewBytes
 pub mod Assignments
+pub mod EnteredCommand
+pub mod FilledRows
+pub mod FilledWalk

@@ -9,3 +9,4 @@ pub mod Asking
 pub mod Outputs
 pub mod Answer
 pub mod Run
+pub mod Words
