@@ -10,3 +10,4 @@ pub mod Outputs
 pub mod Answer
 pub mod Run
 pub mod Words
+pub mod Jobs

@@ -36,7 +36,7 @@ fn slice_of(text: &Option<Vec<u8>>) -> Option<&[u8]>
 }
 
 // The cloud of the tables' texts.
-fn read_cloud(alloc: Global, texts: &Texts) -> Result<Cloud, Refusal>
+pub fn read_cloud(alloc: Global, texts: &Texts) -> Result<Cloud, Refusal>
     requires { too_large (texts_shown texts.now) ≡ None }
     ensures fine { OnOk result (tables_fault (tables_in (texts_shown texts.now)) ≡ None) }
     ensures world { IfOk result (λ cloud. world_of cloud ≡ world_stated (tables_in (texts_shown texts.now))) }
@@ -69,7 +69,7 @@ fn push_text<W: Sink>(out: &mut W, text: &[u8], status: u8) -> Result<u8, Refusa
 }
 
 // How much the tables told.
-fn write_counts<W: Sink>(cloud: &Cloud, out: &mut W) -> Result<u8, Refusal>
+pub fn write_counts<W: Sink>(cloud: &Cloud, out: &mut W) -> Result<u8, Refusal>
     ensures ok { IfOk result (IsWritten (written (counts (world_of cloud.now).sizes) 0) (W.taken out.old) (W.taken out.new)) }
     ensures fault { IfErr result (ExplainsOutcome (written (counts (world_of cloud.now).sizes) 0) (W.taken out.old) (W.taken out.new) (Rises (W.failures out.old) (W.failures out.new))) }
 {
@@ -80,7 +80,7 @@ fn write_counts<W: Sink>(cloud: &Cloud, out: &mut W) -> Result<u8, Refusal>
 }
 
 // The tokens of a page, a line each.
-fn write_lines<W: Sink>(
+pub fn write_lines<W: Sink>(
     alloc: Global,
     cloud: &Cloud,
     query: &Query,
@@ -101,7 +101,7 @@ fn write_lines<W: Sink>(
 }
 
 // The body of a page.
-fn write_body<W: Sink>(
+pub fn write_body<W: Sink>(
     alloc: Global,
     cloud: &Cloud,
     query: &Query,
@@ -122,7 +122,7 @@ fn write_body<W: Sink>(
 }
 
 // The verdict on the list that a token names.
-fn write_verdict<W: Sink>(
+pub fn write_verdict<W: Sink>(
     alloc: Global,
     cloud: &Cloud,
     query: &Query,

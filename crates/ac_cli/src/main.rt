@@ -9,6 +9,7 @@ mod inputs;
 mod outputs;
 mod refusal;
 mod report;
+mod run;
 mod telling;
 mod words;
 
