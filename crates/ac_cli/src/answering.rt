@@ -84,13 +84,13 @@ pub fn write_lines<W: Sink>(
     alloc: Global,
     cloud: &Cloud,
     query: &Query,
-    token: Option<&Token>,
+    token: &Option<Token>,
     out: &mut W,
 ) -> Result<u8, Refusal>
-    ensures ok { IfOk result (IsWritten (page_lines (providers_of cloud.now) (asked_of query.now) (option_map (λ t. ids_of t.now) token.entry)) (W.taken out.old) (W.taken out.new)) }
-    ensures fault { IfErr result (ExplainsOutcome (page_lines (providers_of cloud.now) (asked_of query.now) (option_map (λ t. ids_of t.now) token.entry)) (W.taken out.old) (W.taken out.new) (Rises (W.failures out.old) (W.failures out.new))) }
+    ensures ok { IfOk result (IsWritten (page_lines (providers_of cloud.now) (asked_of query.now) (option_map ids_of token.now)) (W.taken out.old) (W.taken out.new)) }
+    ensures fault { IfErr result (ExplainsOutcome (page_lines (providers_of cloud.now) (asked_of query.now) (option_map ids_of token.now)) (W.taken out.old) (W.taken out.new) (Rises (W.failures out.old) (W.failures out.new))) }
 {
-    let Ok(mut source) = Plain::new(alloc, cloud, query, token) else {
+    let Ok(mut source) = Plain::new(alloc, cloud, query, token.as_ref()) else {
         return Err(Refusal::NoMemory);
     };
     match write_tokens(alloc, cloud, query, &mut source, out) {
@@ -105,13 +105,13 @@ pub fn write_body<W: Sink>(
     alloc: Global,
     cloud: &Cloud,
     query: &Query,
-    token: Option<&Token>,
+    token: &Option<Token>,
     out: &mut W,
 ) -> Result<u8, Refusal>
-    ensures ok { IfOk result (IsWritten (page_body (providers_of cloud.now) (asked_of query.now) (option_map (λ t. ids_of t.now) token.entry)) (W.taken out.old) (W.taken out.new)) }
-    ensures fault { IfErr result (ExplainsOutcome (page_body (providers_of cloud.now) (asked_of query.now) (option_map (λ t. ids_of t.now) token.entry)) (W.taken out.old) (W.taken out.new) (Rises (W.failures out.old) (W.failures out.new))) }
+    ensures ok { IfOk result (IsWritten (page_body (providers_of cloud.now) (asked_of query.now) (option_map ids_of token.now)) (W.taken out.old) (W.taken out.new)) }
+    ensures fault { IfErr result (ExplainsOutcome (page_body (providers_of cloud.now) (asked_of query.now) (option_map ids_of token.now)) (W.taken out.old) (W.taken out.new) (Rises (W.failures out.old) (W.failures out.new))) }
 {
-    let Ok(mut source) = Plain::new(alloc, cloud, query, token) else {
+    let Ok(mut source) = Plain::new(alloc, cloud, query, token.as_ref()) else {
         return Err(Refusal::NoMemory);
     };
     match write_page(alloc, cloud, query, &mut source, out) {

@@ -45,11 +45,11 @@ fn answer_over<W: Sink>(alloc: Global, cloud: &Cloud, job: &Job, out: &mut W) ->
         Command::Check => write_counts(cloud, out),
         Command::Candidates => {
             let wanted = read_wanted(alloc, job)?;
-            write_body(alloc, cloud, &wanted.query, wanted.token.as_ref(), out)
+            write_body(alloc, cloud, &wanted.query, &wanted.token, out)
         }
         Command::Tokens => {
             let wanted = read_wanted(alloc, job)?;
-            write_lines(alloc, cloud, &wanted.query, wanted.token.as_ref(), out)
+            write_lines(alloc, cloud, &wanted.query, &wanted.token, out)
         }
         Command::Verify => {
             let wanted = read_wanted(alloc, job)?;
