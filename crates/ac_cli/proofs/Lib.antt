@@ -4,6 +4,7 @@ pub mod PiecesWritten
 pub mod Drained
 pub mod FewBytes
 pub mod Assignments
+pub mod WantedSaid
 pub mod EnteredCommand
 pub mod FilledRows
 pub mod FilledWalk

@@ -1,6 +1,7 @@
 //! A run: from feeds and a job to sinks and a status.
-ghost use Rattle.std.specs.Prelude.{◌≡◌, IfOk, IfErr, option_map};
+ghost use Rattle.std.specs.Prelude.{◌≡◌, IfOk, IfErr, IfSome, is_some, length, option_map};
 ghost use Rattle.ac_base.specs.Devices.{Rises};
+ghost use Rattle.ac_query.specs.Asked.{slots_of};
 ghost use Rattle.ac_query.specs.QueriesShown.{asked_of};
 ghost use Rattle.ac_query.specs.Tokens.{ids_of};
 ghost use Rattle.ac_tables.specs.CloudWorld.{world_of};
@@ -27,6 +28,8 @@ struct Wanted {
 
 // The query, then the token.
 fn read_wanted(alloc: Global, job: &Job) -> Result<Wanted, Refusal>
+    ensures given { IfOk result (λ wanted. is_some wanted.token ≡ is_some (task_of job.now).token) }
+    ensures slots { IfOk result (λ wanted. IfSome wanted.token (λ token. length (ids_of token) ≡ length (slots_of (asked_of wanted.query)))) }
     ensures wanted { IfOk result (λ wanted. (say : Says) → past_query say (task_of job.now) ≡ say (asked_of wanted.query) (option_map ids_of wanted.token)) }
     ensures fault { IfErr result (ExplainsWanted (task_of job.now)) }
 {
@@ -36,6 +39,7 @@ fn read_wanted(alloc: Global, job: &Job) -> Result<Wanted, Refusal>
 }
 
 // The answer over a cloud.
+#[tactic(auto, using(crate::proofs::WantedSaid::explains_candidates, crate::proofs::WantedSaid::explains_tokens, crate::proofs::WantedSaid::explains_verify))]
 fn answer_over<W: Sink>(alloc: Global, cloud: &Cloud, job: &Job, out: &mut W) -> Result<u8, Refusal>
     requires { HasToken job.now.command (option_map (λ token. token.now) job.now.token) }
     ensures ok { IfOk result (IsWritten (answer_in job.now.command (task_of job.now) (world_of cloud.now)) (W.taken out.old) (W.taken out.new)) }

@@ -1,0 +1,58 @@
+-- What is said of a query and a token that were read, and of those that were refused.
+use Rattle.std.proofs.Common.{◌≡◌, ◌∙◌, ℕ, ◌==◌, Bool, true, false, List, [], ◌++◌, length, Option, Some, None, if◌then◌else◌, refl, sym, ap, subst, append-nil, arith}
+use Rattle.std.proofs.lemmas.Bool.Decides.{nat_tests}
+use Rattle.std.specs.Io.KnownBytes.{Keeps}
+use Rattle.ac_query.specs.Asked.{Asked}
+use Rattle.ac_query.specs.Tokens.{fault_of}
+use Rattle.ac_query.specs.declared.token.TokenFault.{TokenFault}
+use Rattle.ac_query.specs.declared.token.TokenFault.TheVariants.{WrongLength}
+use Rattle.ac_tables.specs.World.{World}
+use Rattle.ac_cli.proofs.Leaving.{leaves_part, leaves_start}
+use Rattle.ac_cli.specs.Answer.{Says, Task, answer_in, page_body, page_lines, past_query, verdict_line}
+use Rattle.ac_cli.specs.Jobs.{ExplainsWanted}
+use Rattle.ac_cli.specs.Run.{ExplainsOutcome}
+use Rattle.ac_cli.specs.declared.refusal.Refusal.{Refusal}
+use Rattle.ac_cli.specs.declared.refusal.Refusal.TheVariants as why
+use Rattle.ac_cli.specs.declared.words.Command.{Command}
+use Rattle.ac_cli.specs.declared.words.Command.TheVariants as command
+
+-- an accepted token has an id for each slot
+pub has_slots : (slots : ℕ) (ids : Option (List ℕ)) (list : List ℕ) → fault_of slots ids ≡ None → ids ≡ Some list → length list ≡ slots
+has_slots slots None list h e = absurd (cc)
+has_slots slots (Some ids) list h e = let same : ids ≡ list = cc in subst (λ l. length l ≡ slots) same (by_test (length ids == slots) refl h)
+  where
+    by_test : (test : Bool) → (length ids == slots) ≡ test → (if test then None else Some WrongLength) ≡ None → length ids ≡ slots
+    by_test true e h = grind (arith, nat_tests)
+    by_test false e h = absurd (cc)
+
+keeps : (s : Option (List ℕ)) → Keeps s s
+keeps None = tt
+keeps (Some xs) = refl
+
+-- a refusal of what is asked explains the outcome, and leaves the sink as it is
+explains_said : (task : Task) (say : Says) (s : Option (List ℕ)) (rose : Type 0) (refusal : Refusal) → ExplainsWanted task refusal
+    → ExplainsOutcome (past_query say task) s s rose refusal
+explains_said task say s rose (why.Query f) h = (h say, keeps s)
+explains_said task say s rose (why.Token f) h = (h say, keeps s)
+explains_said task say s rose why.NoMemory h = leaves_part s s _ _ (leaves_start s _)
+explains_said task say s rose (why.Unreadable t) h = absurd h
+explains_said task say s rose (why.TooLarge t) h = absurd h
+explains_said task say s rose (why.Record t row k) h = absurd h
+explains_said task say s rose why.Output h = absurd h
+
+-- ---- of each command that asks
+
+module _ (given : Command) (task : Task) (world : World) (s : Option (List ℕ)) (rose : Type 0) (refusal : Refusal) where
+  explains : (k : Command) (say : Says) → given ≡ k → answer_in k task world ≡ past_query say task → ExplainsWanted task refusal
+      → ExplainsOutcome (answer_in given task world) s s rose refusal
+  explains k say is e h =
+      subst (λ o. ExplainsOutcome o s s rose refusal) (sym (ap (λ k. answer_in k task world) is ∙ e)) (explains_said task say s rose refusal h)
+
+  pub explains_candidates : given ≡ command.Candidates → ExplainsWanted task refusal → ExplainsOutcome (answer_in given task world) s s rose refusal
+  explains_candidates is h = explains command.Candidates (page_body world.providers) is refl h
+
+  pub explains_tokens : given ≡ command.Tokens → ExplainsWanted task refusal → ExplainsOutcome (answer_in given task world) s s rose refusal
+  explains_tokens is h = explains command.Tokens (page_lines world.providers) is refl h
+
+  pub explains_verify : given ≡ command.Verify → ExplainsWanted task refusal → ExplainsOutcome (answer_in given task world) s s rose refusal
+  explains_verify is h = explains command.Verify (verdict_line world.providers) is refl h
