@@ -5,6 +5,8 @@ pub mod Drained
 pub mod FewBytes
 pub mod Assignments
 pub mod WantedSaid
+pub mod Attempted
+pub mod Told
 pub mod EnteredCommand
 pub mod FilledRows
 pub mod FilledWalk

@@ -25,7 +25,7 @@ has_slots slots (Some ids) list h e = let same : ids ≡ list = cc in subst (λ 
     by_test true e h = grind (arith, nat_tests)
     by_test false e h = absurd (cc)
 
-keeps : (s : Option (List ℕ)) → Keeps s s
+pub keeps : (s : Option (List ℕ)) → Keeps s s
 keeps None = tt
 keeps (Some xs) = refl
 

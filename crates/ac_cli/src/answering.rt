@@ -1,5 +1,5 @@
 //! The answers over tables that were read, each written with its status.
-ghost use Rattle.std.specs.Prelude.{◌≡◌, IfOk, IfErr, OnOk, Some, None, length};
+ghost use Rattle.std.specs.Prelude.{◌≡◌, ◌≤◌, IfOk, IfErr, OnOk, Some, None, length};
 ghost use Rattle.std.specs.Option.{option_map};
 ghost use Rattle.ac_base.specs.Devices.{Rises};
 ghost use Rattle.ac_tables.specs.Source.{AreFew};
@@ -59,6 +59,8 @@ pub fn read_cloud(alloc: Global, texts: &Texts) -> Result<Cloud, Refusal>
 
 // A text that is at hand, with its status.
 fn push_text<W: Sink>(out: &mut W, text: &[u8], status: u8) -> Result<u8, Refusal>
+    requires { status ≤ 1 }
+    ensures few { IfOk result (λ status. status ≤ 1) }
     ensures ok { IfOk result (IsWritten (written text.now status) (W.taken out.old) (W.taken out.new)) }
     ensures fault { IfErr result (ExplainsOutcome (written text.now status) (W.taken out.old) (W.taken out.new) (Rises (W.failures out.old) (W.failures out.new))) }
 {
@@ -70,6 +72,7 @@ fn push_text<W: Sink>(out: &mut W, text: &[u8], status: u8) -> Result<u8, Refusa
 
 // How much the tables told.
 pub fn write_counts<W: Sink>(cloud: &Cloud, out: &mut W) -> Result<u8, Refusal>
+    ensures few { IfOk result (λ status. status ≤ 1) }
     ensures ok { IfOk result (IsWritten (written (counts (world_of cloud.now).sizes) 0) (W.taken out.old) (W.taken out.new)) }
     ensures fault { IfErr result (ExplainsOutcome (written (counts (world_of cloud.now).sizes) 0) (W.taken out.old) (W.taken out.new) (Rises (W.failures out.old) (W.failures out.new))) }
 {
@@ -87,6 +90,7 @@ pub fn write_lines<W: Sink>(
     token: &Option<Token>,
     out: &mut W,
 ) -> Result<u8, Refusal>
+    ensures few { IfOk result (λ status. status ≤ 1) }
     ensures ok { IfOk result (IsWritten (page_lines (providers_of cloud.now) (asked_of query.now) (option_map ids_of token.now)) (W.taken out.old) (W.taken out.new)) }
     ensures fault { IfErr result (ExplainsOutcome (page_lines (providers_of cloud.now) (asked_of query.now) (option_map ids_of token.now)) (W.taken out.old) (W.taken out.new) (Rises (W.failures out.old) (W.failures out.new))) }
 {
@@ -108,6 +112,7 @@ pub fn write_body<W: Sink>(
     token: &Option<Token>,
     out: &mut W,
 ) -> Result<u8, Refusal>
+    ensures few { IfOk result (λ status. status ≤ 1) }
     ensures ok { IfOk result (IsWritten (page_body (providers_of cloud.now) (asked_of query.now) (option_map ids_of token.now)) (W.taken out.old) (W.taken out.new)) }
     ensures fault { IfErr result (ExplainsOutcome (page_body (providers_of cloud.now) (asked_of query.now) (option_map ids_of token.now)) (W.taken out.old) (W.taken out.new) (Rises (W.failures out.old) (W.failures out.new))) }
 {
@@ -130,6 +135,7 @@ pub fn write_verdict<W: Sink>(
     out: &mut W,
 ) -> Result<u8, Refusal>
     requires { length (ids_of token.now) ≡ length (slots_of (asked_of query.now)) }
+    ensures few { IfOk result (λ status. status ≤ 1) }
     ensures ok { IfOk result (IsWritten (verdict_line (providers_of cloud.now) (asked_of query.now) (Some (ids_of token.now))) (W.taken out.old) (W.taken out.new)) }
     ensures fault { IfErr result (ExplainsOutcome (verdict_line (providers_of cloud.now) (asked_of query.now) (Some (ids_of token.now))) (W.taken out.old) (W.taken out.new) (Rises (W.failures out.old) (W.failures out.new))) }
 {

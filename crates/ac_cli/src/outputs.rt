@@ -1,5 +1,5 @@
 //! Small outputs, pushed without memory: the counts of the tables, and the verdict on a list.
-ghost use Rattle.std.specs.Prelude.{◌≡◌};
+ghost use Rattle.std.specs.Prelude.{◌≡◌, ◌≤◌};
 ghost use Rattle.ac_tables.specs.CloudWorld.{sizes_of};
 ghost use Rattle.ac_cli.specs.Outputs.{broken_line, counts, verdict_status, verdict_text};
 ghost use Rattle.ac_cli.specs.Writing.{Pushes};
@@ -41,7 +41,8 @@ pub fn verdict_text(verdict: Verdict) -> &'static [u8]
 
 /// 0 where a list is a candidate, 1 where it breaks a rule.
 pub fn verdict_status(verdict: Verdict) -> u8
-    ensures { result ≡ verdict_status verdict }
+    ensures said { result ≡ verdict_status verdict }
+    ensures few { result ≤ 1 }
 {
     match verdict {
         Verdict::Candidate => 0,
