@@ -11,3 +11,4 @@ pub mod Answer
 pub mod Run
 pub mod Words
 pub mod Jobs
+pub mod Program

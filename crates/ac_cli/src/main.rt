@@ -7,10 +7,16 @@ mod digits;
 mod draining;
 mod inputs;
 mod outputs;
+mod program;
 mod refusal;
 mod report;
 mod run;
+mod sample;
 mod telling;
 mod words;
 
-fn main() {}
+use std::process::ExitCode;
+
+fn main(rt: HostRuntime) -> ExitCode {
+    ExitCode::from(program::status(&rt, rt.stdout(), &mut rt.stderr()))
+}

@@ -1,0 +1,167 @@
+//! The program around `run`: its words, its files and the standard streams.
+ghost use Rattle.std.specs.Prelude.{◌≡◌, ◌≤◌, ◌<◌, IfErr, IfOk, is_some, option_map, true};
+ghost use Rattle.std.specs.Io.KnownBytes.{Appends};
+ghost use Rattle.ac_cli.specs.Answer.{answer};
+ghost use Rattle.ac_cli.specs.Feeds.{Bytes, TellBytes};
+ghost use Rattle.ac_cli.specs.Jobs.{task_of};
+ghost use Rattle.ac_cli.specs.Program.{status_of};
+ghost use Rattle.ac_cli.specs.Words.{HasToken, path_of};
+
+use crate::inputs::Inputs;
+use crate::refusal::Refusal;
+use crate::run::run;
+use crate::sample;
+use crate::telling::tell;
+use crate::words::{Job, WordFault, Words, read_words};
+use ac_base::{Feed, FromRead, ToWrite};
+use ac_tables::Table;
+use std::alloc::Global;
+use std::io::{BufWriter, ErrorKind, Write};
+use std::rt::{Env, Files};
+use std::{env, fs};
+
+// How many bytes of output are gathered before they are written.
+const BUFFER: usize = 65536;
+
+// Why the program ends without its output.
+#[derive(Drop)]
+enum Stop {
+    // The words are refused, with `clap`'s text.
+    Words(String),
+    // The words are not UTF-8.
+    NotText,
+    // A file can't be opened, the output did not take all, or a growth was refused.
+    Refused(Refusal),
+    // `run` told it, with this status.
+    Told(u8),
+}
+
+/// The whole program: its exit status.
+pub fn status<R: Env + Files + AllocGlobal, O: Write + Drop, E: Write>(
+    rt: &R,
+    out: O,
+    err: &mut E,
+) -> u8 {
+    match answer(rt, out, err) {
+        Ok((status, _out)) => status,
+        Err(stop) => end(err, &stop),
+    }
+}
+
+// Tells why the program ends: its exit status.
+fn end<E: Write>(err: &mut E, stop: &Stop) -> u8
+    ensures { result ≡ status_of stop.now }
+{
+    match stop {
+        Stop::Words(text) => {
+            let _ = err.write_all(text.as_bytes());
+            2
+        }
+        Stop::NotText => {
+            let _ = err.write_all(b"error: the words are not UTF-8\n");
+            2
+        }
+        Stop::Refused(refusal) => tell(&mut ToWrite::new(err), refusal),
+        Stop::Told(status) => *status,
+    }
+}
+
+fn answer<R: Env + Files + AllocGlobal, O: Write + Drop, E: Write>(
+    rt: &R,
+    out: O,
+    err: &mut E,
+) -> Result<(u8, O), Stop> {
+    let given = given_words(rt)?;
+    if given.len() < 2 {
+        return answer_job(rt.alloc(), &sample::job(), &mut sample::inputs(), out, err);
+    }
+    match read_words(rt.alloc(), given.as_slice()) {
+        Ok(words) => {
+            let mut inputs = Inputs {
+                providers: needed_feed(rt, &words, Table::Providers)?,
+                inventories: needed_feed(rt, &words, Table::Inventories)?,
+                usages: feed(rt, &words, Table::Usages)?,
+                traits: feed(rt, &words, Table::Traits)?,
+                aggregates: feed(rt, &words, Table::Aggregates)?,
+            };
+            answer_job(rt.alloc(), &words.job(), &mut inputs, out, err)
+        }
+        Err(WordFault::Help(text)) => show(text.as_str(), out),
+        Err(WordFault::Refused(text)) => Err(Stop::Words(text)),
+        Err(WordFault::NoMemory) => Err(Stop::Refused(Refusal::NoMemory)),
+    }
+}
+
+// The words of the command line, with the program's own name.
+fn given_words<R: Env + AllocGlobal>(rt: &R) -> Result<Vec<String>, Stop> {
+    match env::args(rt) {
+        Ok(words) => match words.collect(rt.alloc()) {
+            Ok(words) => Ok(words),
+            Err(_) => Err(Stop::Refused(Refusal::NoMemory)),
+        },
+        Err(error) if error.kind() == ErrorKind::OutOfMemory => {
+            Err(Stop::Refused(Refusal::NoMemory))
+        }
+        Err(_) => Err(Stop::NotText),
+    }
+}
+
+// Opens the file of a table.
+fn opened<R: Files>(rt: &R, path: &str, table: Table) -> Result<FromRead<R::File>, Stop> {
+    match fs::open(rt, path) {
+        Ok(file) => Ok(FromRead::new(file)),
+        Err(_) => Err(Stop::Refused(Refusal::Unreadable(table))),
+    }
+}
+
+// The file of a table that has to be given.
+fn needed_feed<R: Files>(rt: &R, words: &Words, table: Table) -> Result<FromRead<R::File>, Stop>
+    requires { is_some (path_of words.now table) ≡ true }
+{
+    match words.path(table) {
+        Some(path) => opened(rt, path, table),
+        None => unreachable!(),
+    }
+}
+
+// The file of a table, where one was given.
+fn feed<R: Files>(rt: &R, words: &Words, table: Table) -> Result<Option<FromRead<R::File>>, Stop> {
+    match words.path(table) {
+        Some(path) => Ok(Some(opened(rt, path, table)?)),
+        None => Ok(None),
+    }
+}
+
+// Runs the job: its status, and the output, where all of the answer has arrived if it was written.
+fn answer_job<F: Feed, O: Write + Drop, E: Write>(
+    alloc: Global,
+    job: &Job<'_>,
+    inputs: &mut Inputs<F>,
+    out: O,
+    err: &mut E,
+) -> Result<(u8, O), Stop>
+    requires { HasToken job.now.command (option_map (λ token. token.now) job.now.token) }
+    ensures written { IfOk result (λ end. end.0 ≤ 1 → (b : Bytes) → TellBytes F.remaining inputs.old b → Appends (O.contents out) (O.contents end.1) (answer (task_of job.now) b).output) }
+    ensures unwritten { IfErr result (λ stop. 1 < status_of stop) }
+{
+    let Ok(buffer) = BufWriter::with_capacity(alloc, BUFFER, out) else {
+        return Err(Stop::Refused(Refusal::NoMemory));
+    };
+    let mut sink = ToWrite::new(buffer);
+    let status = run(alloc, job, inputs, &mut sink, &mut ToWrite::new(err));
+    match sink.into_inner().into_inner() {
+        Ok(out) => Ok((status, out)),
+        Err(_) if status <= 1 => Err(Stop::Refused(Refusal::Output)),
+        Err(_) => Err(Stop::Told(status)),
+    }
+}
+
+// Writes a text that was asked for.
+fn show<O: Write + Drop>(text: &str, mut out: O) -> Result<(u8, O), Stop>
+    ensures { IfOk result (λ end. (end.0 ≡ 0) × Appends (O.contents out) (O.contents end.1) text.now) }
+{
+    match out.write_all(text.as_bytes()) {
+        Ok(()) => Ok((0, out)),
+        Err(_) => Err(Stop::Refused(Refusal::Output)),
+    }
+}
