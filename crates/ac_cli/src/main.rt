@@ -20,3 +20,6 @@ use std::process::ExitCode;
 fn main(rt: HostRuntime) -> ExitCode {
     ExitCode::from(program::status(&rt, rt.stdout(), &mut rt.stderr()))
 }
+
+#[cfg(test)]
+mod tests;
