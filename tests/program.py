@@ -1,8 +1,9 @@
 #!/usr/bin/env python3
-"""tests/program.py [--deep] [WORD]: runs the built ./ac_cli as a user would, and says which cases went wrong.
+"""tests/program.py [--all] [--deep] [WORD]: runs the built ./ac_cli as a user would, and says which cases went wrong.
 
-With a word, only the cases whose names have it. With --deep, also the searches among more lists than can be gone through one after
-another. Where AC_CLI is set, it names the program to run. The last line is `N passed, M failed`, and the status is 0 only where M is 0."""
+With a word, only the cases whose names have it. With --all it names each case, and not only those that went wrong. With --deep, also the
+searches among more lists than can be gone through one after another. Where AC_CLI is set, it names the program to run. The last line is
+`N passed, M failed`, and the status is 0 only where M is 0."""
 from __future__ import annotations
 
 import os
@@ -14,13 +15,17 @@ import sys
 import tempfile
 from concurrent.futures import ThreadPoolExecutor
 
+sys.dont_write_bytecode = True
+
 from cases import DEEP, SMALL, SOME, Case, cuts, full, lines, tables
 from export import exports
 from large import LARGE
 from model import drawn
 
 ROOT = os.path.dirname(os.path.dirname(os.path.abspath(__file__)))
-PROGRAM = os.environ.get('AC_CLI', os.path.join(ROOT, 'ac_cli'))
+# ./ac_cli looks at every source before it runs the program, so it is called once, and for the commands that the pages show.
+LAUNCHER = os.environ.get('AC_CLI', os.path.join(ROOT, 'ac_cli'))
+PROGRAM = os.environ.get('AC_CLI', os.path.join(ROOT, 'out', 'ac_cli'))
 EXAMPLES = os.path.join(ROOT, 'examples')
 PROVIDERS = os.path.join(EXAMPLES, 'providers.csv')
 INVENTORIES = os.path.join(EXAMPLES, 'inventories.csv')
@@ -145,7 +150,7 @@ def shown(page):
         command, says = block[1].replace('\\\n', ' '), block[2]
         if '| jq' in command and not shutil.which('jq'):
             continue
-        shell = ['sh', '-c', f'{settings}exec 2>&1; {shlex.quote(PROGRAM)}{command.removeprefix("./ac_cli")}']
+        shell = ['sh', '-c', f'{settings}exec 2>&1; {shlex.quote(LAUNCHER)}{command.removeprefix("./ac_cli")}']
         yield Case(f'{page}: {command}', shell, says, status=status_of(says or ''))
 
 
@@ -174,6 +179,9 @@ def files(case, folder):
         yield from (f'--{name}', path)
 
 
+PAGES = Case('the documents name what is there', ['sh', '-c', 'python3 -B tests/pages.py'])
+
+
 def reader_gone():
     """The end of a pipe that nobody reads."""
     read, write = os.pipe()
@@ -181,10 +189,10 @@ def reader_gone():
     return os.fdopen(write, 'wb')
 
 
-def run(case, seconds=SECONDS):
+def run(case, seconds=SECONDS, program=PROGRAM):
     """Returns what came on standard output and on standard error, and the status."""
     with tempfile.TemporaryDirectory() as folder, open(case.to or os.devnull, 'wb') as to, open(case.err_to or os.devnull, 'wb') as err_to:
-        words = case.words if case.words[:1] == ['sh'] else [PROGRAM, *case.words]
+        words = case.words if case.words[:1] == ['sh'] else [program, *case.words]
         gone = reader_gone() if case.closed else None
         ran = subprocess.run([*words, *files(case, folder)], cwd=case.folder or ROOT, input=case.given, timeout=seconds,
                              stdout=gone or (to if case.to else subprocess.PIPE), stderr=err_to if case.err_to else subprocess.PIPE)
@@ -217,8 +225,8 @@ def wrong(case):
 
 
 def main(*given):
-    deep, word = '--deep' in given, ''.join(text for text in given if text != '--deep')
-    _, said, status = run(Case('build', ['--help']), seconds=None)
+    words = [text for text in given if text not in ('--all', '--deep')]
+    _, said, status = run(Case('build', ['--help']), seconds=None, program=LAUNCHER)
     if status == NOT_BUILT:
         print(f'FAILED to build the program:\n{said}\n0 passed, 1 failed')
         return 1
@@ -226,15 +234,16 @@ def main(*given):
     if len({case.out for case in rules if case.out.startswith('no: rule')}) < 9:
         print('FAILED to find an example of each rule in docs/RULES.md\n0 passed, 1 failed')
         return 1
-    pages = [case for page in ('README.md', 'docs/README-parts.md', 'examples/README.md', 'docs/RULES.md', 'docs/FORMATS.md', 'docs/EXPORT.md')
+    pages = [case for page in ('README.md', 'examples/README.md', 'docs/RULES.md', 'docs/FORMATS.md', 'docs/EXPORT.md')
              for case in shown(page)]
-    cases = [*HELP, *WORDS, *FILES, *DEVICES, *SMALL, *pages, *rules, *exports(), *drawn(150), *LARGE, *cuts(), *(DEEP if deep else ())]
-    cases = [case for case in cases if word in case.name]
+    cases = [PAGES, *HELP, *WORDS, *FILES, *DEVICES, *SMALL, *pages, *rules, *exports(), *drawn(150), *LARGE, *cuts(), *(DEEP if '--deep' in given else ())]
+    cases = [case for case in cases if all(word in case.name for word in words)]
     failed = 0
     with ThreadPoolExecutor(max_workers=2) as pool:
         for case, why in zip(cases, pool.map(wrong, cases)):
             failed += why is not None
-            print(f'ok     {case.name}' if why is None else f'FAILED {case.name}: {why}', flush=True)
+            if why or '--all' in given:
+                print(f'FAILED {case.name}: {why}' if why else f'ok     {case.name}', flush=True)
     print(f'{len(cases) - failed} passed, {failed} failed')
     return 1 if failed else 0
 
