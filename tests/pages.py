@@ -2,7 +2,7 @@
 """tests/pages.py: says where the documents and the tree differ, a line each. The status is 0 only where nothing is said.
 
 Links lead to files and headings that are there. docs/MAP.md names every source and every definition, and no other file. Each clause that
-docs/PROMISES.md quotes stands in the sources of its crate, every public function with a contract is named there, and each edit that it names is there."""
+docs/PROMISES.md quotes stands in the sources of its crate, every public function is named there, and each edit that it names is there."""
 from __future__ import annotations
 
 import fnmatch
@@ -71,11 +71,12 @@ def mapped():
 
 def sources(crate):
     """The sources without the tests, on one line."""
-    return ' '.join(re.sub(r'\s+', ' ', text(f'crates/{crate}/{path}')) for path in sorted(files(crate)) if path.endswith('.rt') and 'tests' not in path)
+    code = [path for path in sorted(files(crate)) if path.endswith('.rt') and 'tests' not in path]
+    return ' '.join(re.sub(r'\s+', ' ', text(f'crates/{crate}/{path}')) for path in code)
 
 
 def public(crate):
-    """The names of public functions with a contract that a module hands on."""
+    """The names of public functions that the crate hands on."""
     root = text(f'crates/{crate}/src/lib.rt') if there(f'crates/{crate}/src/lib.rt') else ''
     for path in sorted(files(crate)):
         module = path.split('/')[1].removesuffix('.rt')

@@ -19,6 +19,7 @@ sys.dont_write_bytecode = True
 
 from cases import DEEP, SMALL, SOME, Case, cuts, full, lines, tables
 from export import exports
+from faults import drawn_queries, drawn_tables
 from large import LARGE
 from model import drawn
 
@@ -236,7 +237,9 @@ def main(*given):
         return 1
     pages = [case for page in ('README.md', 'examples/README.md', 'docs/RULES.md', 'docs/FORMATS.md', 'docs/EXPORT.md')
              for case in shown(page)]
-    cases = [PAGES, *HELP, *WORDS, *FILES, *DEVICES, *SMALL, *pages, *rules, *exports(), *drawn(150), *LARGE, *cuts(), *(DEEP if '--deep' in given else ())]
+    chance = [*drawn(150), *drawn_tables(200), *drawn_queries(200)]
+    cases = [PAGES, *HELP, *WORDS, *FILES, *DEVICES, *SMALL, *pages, *rules, *exports(), *chance, *LARGE, *cuts()]
+    cases += DEEP if '--deep' in given else []
     cases = [case for case in cases if all(word in case.name for word in words)]
     failed = 0
     with ThreadPoolExecutor(max_workers=2) as pool:
