@@ -1,18 +1,21 @@
 #!/usr/bin/env python3
-"""tests/pages.py: says where the documents and the tree differ, a line each. The status is 0 only where nothing is said.
+"""tests/pages.py [--write]: says where the documents and the tree differ, a line each. The status is 0 only where nothing is said.
 
 Links lead to files and headings that are there. docs/MAP.md names every source and every definition, and no other file. Each clause that
-docs/PROMISES.md quotes stands in the sources of its crate, every public function is named there, and each edit that it names is there."""
+docs/PROMISES.md quotes stands in the sources of its crate, every public function is named there, and so are all edits of the crate and no
+other. With --write the lists of edits there are first made anew."""
 from __future__ import annotations
 
-import fnmatch
 import glob
 import os
 import re
 import sys
+import textwrap
 
 ROOT = os.path.dirname(os.path.dirname(os.path.abspath(__file__)))
 PAGES = ['README.md', *(f'docs/{name}' for name in sorted(os.listdir(os.path.join(ROOT, 'docs')))), 'examples/README.md']
+PROMISES = 'docs/PROMISES.md'
+EDITS = re.compile(r'^Edits: .*?(?=\n\n)', re.M | re.S)
 SHORT = {'ALL': ('(providers_of cloud.now)', '(providers_of self.now)'), 'ASKED': ('(asked_of query.now)', '(asked_of self.now)')}
 
 
@@ -91,28 +94,46 @@ def expansions(clause):
     return found
 
 
+def edits(crate):
+    """The paragraph that names the edits of a crate."""
+    found = glob.glob(os.path.join(ROOT, 'crates', crate, 'must-fail', '*.edit'))
+    names = ', '.join(f'`{name}`' for name in sorted(os.path.basename(path).removesuffix('.edit') for path in found))
+    return textwrap.fill(f'Edits: {names or "none"}.', 150, break_long_words=False, break_on_hyphens=False)
+
+
+def write_edits():
+    """Makes the lists of edits anew."""
+    page = re.split(r'^(?=## )', text(PROMISES), flags=re.M)
+    for place, part in enumerate(page):
+        crate = re.match(r'## `(\w+)`', part)
+        if crate:
+            page[place] = EDITS.sub(lambda _: edits(crate[1]), part)
+    with open(os.path.join(ROOT, PROMISES), 'w', encoding='utf-8') as file:
+        file.write(''.join(page))
+
+
 def promised():
-    page = 'docs/PROMISES.md'
-    for crate, part in parts(page):
+    for crate, part in parts(PROMISES):
         if not crate:
             continue
         code = sources(crate)
         quoted = [span for span in spans(part) if re.match(r'(ensures|requires)\W', span)]
         for block in re.findall(r'^```\w*\n(.*?)^```', part, re.M | re.S):
             quoted += [line.strip() for line in re.split(r'\n(?=\s*(?:ensures|requires)\b)', block) if re.match(r'\s*(ensures|requires)\b', line)]
-        yield from (f'{page}: {crate} has no clause {clause}' for clause in quoted if not any(one in code for one in expansions(clause)))
+        yield from (f'{PROMISES}: {crate} has no clause {clause}' for clause in quoted if not any(one in code for one in expansions(clause)))
         named = set(re.findall(r'\w+', ' '.join(spans(part))))
-        yield from (f'{page}: {crate}: nothing is said of {name}' for name in sorted(set(public(crate)) - named))
-        edits = [os.path.basename(path).removesuffix('.edit') for path in glob.glob(os.path.join(ROOT, 'crates', crate, 'must-fail', '*.edit'))]
-        for paragraph in re.findall(r'^Edits: (.*?)\n\n', part + '\n\n', re.M | re.S):
-            yield from (f'{page}: {crate} has no edit {name}' for name in spans(paragraph) if not fnmatch.filter(edits, name))
+        yield from (f'{PROMISES}: {crate}: nothing is said of {name}' for name in sorted(set(public(crate)) - named))
+        if EDITS.findall(part) != [edits(crate)]:
+            yield f'{PROMISES}: {crate}: the list of edits is another one (tests/pages.py --write)'
 
 
-def main():
+def main(*given):
+    if '--write' in given:
+        write_edits()
     said = [*(line for page in PAGES for line in links(page)), *mapped(), *promised()]
     print(''.join(line + '\n' for line in said), end='')
     return 1 if said else 0
 
 
 if __name__ == '__main__':
-    sys.exit(main())
+    sys.exit(main(*sys.argv[1:]))
