@@ -25,8 +25,8 @@ from model import drawn
 
 ROOT = os.path.dirname(os.path.dirname(os.path.abspath(__file__)))
 # ./ac_cli looks at every source before it runs the program, so it is called once, and for the commands that the pages show.
-LAUNCHER = os.environ.get('AC_CLI', os.path.join(ROOT, 'ac_cli'))
-PROGRAM = os.environ.get('AC_CLI', os.path.join(ROOT, 'out', 'ac_cli'))
+LAUNCHER = os.path.abspath(os.environ.get('AC_CLI', os.path.join(ROOT, 'ac_cli')))
+PROGRAM = os.path.abspath(os.environ.get('AC_CLI', os.path.join(ROOT, 'out', 'ac_cli')))
 EXAMPLES = os.path.join(ROOT, 'examples')
 PROVIDERS = os.path.join(EXAMPLES, 'providers.csv')
 INVENTORIES = os.path.join(EXAMPLES, 'inventories.csv')
