@@ -1,26 +1,39 @@
 #!/bin/bash
-# bench/time.sh [PROVIDERS..]: times the proved program on clouds of so many providers (4096, 16384 and 65536, if none is named), with three
-# resource classes each. Beside it, over the same bytes and in the same run: the ported csv alone (bench/csv_alone), wc, Python's csv module,
-# and a plain Rust program that only splits and counts (bench/anchor, where rustc is there). The last two clouds repeat the largest with its rows in order and in reverse.
-# Each figure is the best of three runs: wall time, and the most memory held at once.
+# bench/time.sh [--deep] [PROVIDERS..]: times the proved program on clouds of so many providers (4096, 16384 and 65536, if none is named): five
+# tables with three resource classes, eight traits and two aggregates each (bench/make_tables.py tells the shapes). Beside `check`, over the
+# same bytes and in the same run: the ported csv alone (bench/csv_alone.rattle), wc, Python's csv module, and a plain Rust program that only
+# splits and counts (bench/anchor, where rustc is there). Then `tokens` and `candidates`, whole and with a limit, from the start and after a
+# token, and `verify`. For the largest number also the rows in order and in reverse, and one chain. With --deep, also searches with several
+# slots, which a search that goes through all lists doesn't end. Where AC_CLI is set, it names the program.
+# Each figure is the best of three runs, or that of one which took more than ten seconds: wall time, and the most memory held at once.
 
 set -eu
 export LC_ALL=C
 bench=$(dirname "$(readlink -f "$0")")
 room=$(mktemp -d)
 trap 'rm -rf "$room"' EXIT
+deep=''
+if [[ ${1-} == --deep ]]; then
+    deep=yes
+    shift
+fi
 
-"$bench/../ac_cli" --help >"$room/help"
-program=$(dirname "$bench")/out/ac_cli
+program=${AC_CLI-}
+if [[ -z $program ]]; then
+    "$bench/../ac_cli" --help >"$room/help"
+    program=$(dirname "$bench")/out/ac_cli
+fi
 anchor=''
 if command -v rustc >"$room/rustc" && rustc -O -o "$room/reading" "$bench/anchor/reading.rs"; then
     anchor=$room/reading
 fi
 
-# The ported csv alone, which reads the same bytes into the same records.
+# The ported csv alone, which reads the same bytes into the same records: a crate of its own, made for this run.
 ported=''
-if (cd "$bench/csv_alone/crates/csv_alone" && rt run) >"$room/ported.log" 2>&1 </dev/null; then
-    ported=$bench/csv_alone/crates/csv_alone/out/csv_alone
+alone=$room/alone/crates/csv_alone
+mkdir -p "$alone/src" && cp "$bench/csv_alone.rattle" "$alone/src/main.rt" && echo 'csv_alone: csv' >"$room/alone/crates.txt"
+if (cd "$room/alone" && git init -q && cd "$alone" && rt run) >"$room/ported.log" 2>&1 </dev/null; then
+    ported=$alone/out/csv_alone
 fi
 
 # The interpreter itself: python3 can be a script that looks for it first.
@@ -31,7 +44,7 @@ for path in sys.argv[1:]:
     with open(path, newline="") as file:
         print(sum(1 for record in csv.reader(file)))'
 
-# best NAME COMMAND..: a line with the least wall time and the least of the peaks of memory over three runs
+# best NAME COMMAND..: a line with the least wall time and the least of the peaks of memory over its runs
 best() {
     local name=$1 least='' lowest='' began took peak
     shift
@@ -45,30 +58,57 @@ best() {
         peak=$(<"$room/peak")
         [[ -n $least && $took -ge $least ]] || least=$took
         [[ -n $lowest && $peak -ge $lowest ]] || lowest=$peak
+        [[ $took -lt 10000000 ]] || break
     done
-    printf '  %-22s %8d.%d ms %8d MiB %9d lines\n' "$name" $((least / 1000)) $((least / 100 % 10)) $((lowest / 1024)) "$(wc -l <"$room/out")"
+    printf '  %-34s %8d.%d ms %6d MiB %9d lines %10d bytes\n' "$name" $((least / 1000)) $((least / 100 % 10)) $((lowest / 1024)) \
+        "$(wc -l <"$room/out")" "$(wc -c <"$room/out")"
 }
 
-# cloud PROVIDERS ORDER: makes the tables and names them
+# cloud PROVIDERS ORDER SHAPE: makes the tables, names them, and times their reading
 cloud() {
-    "$python" "$bench/make_tables.py" "$room" --providers "$1" --order "$2"
-    printf '%d providers, rows %s: %d bytes\n' "$1" "$2" "$(cat "$room/providers.csv" "$room/inventories.csv" | wc -c)"
+    rm -f "$room"/*.csv
+    "$python" "$bench/make_tables.py" "$room" --providers "$1" --order "$2" --shape "$3"
+    files=("$room"/{providers,inventories,usages,traits,aggregates}.csv)
+    tables=(--providers "${files[0]}" --inventories "${files[1]}" --usages "${files[2]}" --traits "${files[3]}" --aggregates "${files[4]}")
+    printf '%s, %d providers, rows %s: %d rows, %d bytes\n' "$3" "$1" "$2" "$(cat "${files[@]}" | wc -l)" "$(cat "${files[@]}" | wc -c)"
+    best 'ac_cli check' "$program" check "${tables[@]}"
 }
 
-tokens() {
-    best 'ac_cli tokens' "$program" tokens 'resources=VCPU:2' --providers "$room/providers.csv" --inventories "$room/inventories.csv"
+# search QUERY [whole]: times both writers with a limit, from the start and after the last line of that page, and the verdict on that line;
+# with `whole` also without a limit
+search() {
+    local last
+    echo "  $1"
+    if [[ ${2-} == whole ]]; then
+        best 'tokens' "$program" tokens "$1" "${tables[@]}"
+        best 'candidates' "$program" candidates "$1" "${tables[@]}"
+    fi
+    best 'candidates, limit 1000' "$program" candidates "$1&limit=1000" "${tables[@]}"
+    best 'tokens, limit 1000' "$program" tokens "$1&limit=1000" "${tables[@]}"
+    last=$(tail -n 1 "$room/out")
+    if [[ -n $last ]]; then
+        best 'tokens, limit 1000, after' "$program" tokens "$1&limit=1000" --after "$last" "${tables[@]}"
+        best 'verify' "$program" verify "$1" "$last" "${tables[@]}"
+    fi
 }
 
 [[ $# -gt 0 ]] || set -- 4096 16384 65536
 for providers; do
-    cloud "$providers" shuffled
-    tokens
-    [[ -z $ported ]] || best 'ported csv alone' "$ported" "$room/providers.csv" "$room/inventories.csv"
-    [[ -z $anchor ]] || best 'splitting, plain Rust' "$anchor" "$room/providers.csv" "$room/inventories.csv"
-    best 'wc -l' wc -l "$room/providers.csv" "$room/inventories.csv"
-    best "Python's csv, started" "$python" -c "$read_by_python" "$room/providers.csv" "$room/inventories.csv"
+    cloud "$providers" shuffled flat
+    [[ -z $ported ]] || best 'ported csv alone' "$ported" "${files[@]}"
+    [[ -z $anchor ]] || best 'splitting, plain Rust' "$anchor" "${files[@]}"
+    best 'wc -l' wc -l "${files[@]}"
+    best "Python's csv, started" "$python" -c "$read_by_python" "${files[@]}"
+    search 'resources=VCPU:2' whole
+    search 'resources1=VCPU:2,MEMORY_MB:512&required1=!CUSTOM_TRAIT_7'
+    [[ -z $deep ]] || search 'resources=VCPU:2,MEMORY_MB:512,DISK_GB:512'
 done
-for order in sorted reversed; do
-    cloud "$providers" "$order"
-    tokens
-done
+cloud "$providers" sorted flat
+cloud "$providers" reversed flat
+cloud "$providers" shuffled chain
+search 'resources=VCPU:2'
+[[ -n $deep ]] || exit 0
+cloud "$providers" shuffled numa
+search 'resources_A=VCPU:1,MEMORY_MB:512&resources_B=VCPU:1,MEMORY_MB:512&resources_C=SRIOV_NET_VF:1&resources_D=SRIOV_NET_VF:1&same_subtree=_A,_C&same_subtree=_B,_D&group_policy=isolate'
+cloud "$((providers < 20000 ? providers : 20000))" shuffled disk
+search 'resources=VCPU:2,DISK_GB:512'

@@ -1,0 +1,139 @@
+#!/usr/bin/env python3
+"""tests/pages.py [--write]: says where the documents and the tree differ, a line each. The status is 0 only where nothing is said.
+
+Links lead to files and headings that are there. docs/MAP.md names every source and every definition, and no other file. Each clause that
+docs/PROMISES.md quotes stands in the sources of its crate, every public function is named there, and so are all edits of the crate and no
+other. With --write the lists of edits there are first made anew."""
+from __future__ import annotations
+
+import glob
+import os
+import re
+import sys
+import textwrap
+
+ROOT = os.path.dirname(os.path.dirname(os.path.abspath(__file__)))
+PAGES = ['README.md', *(f'docs/{name}' for name in sorted(os.listdir(os.path.join(ROOT, 'docs')))), 'examples/README.md']
+PROMISES = 'docs/PROMISES.md'
+EDITS = re.compile(r'^Edits: .*?(?=\n\n)', re.M | re.S)
+SHORT = {'ALL': ('(providers_of cloud.now)', '(providers_of self.now)'), 'ASKED': ('(asked_of query.now)', '(asked_of self.now)')}
+
+
+def text(path):
+    with open(os.path.join(ROOT, path), encoding='utf-8') as file:
+        return file.read()
+
+
+def there(path):
+    return os.path.exists(os.path.join(ROOT, path))
+
+
+def parts(page):
+    """The name in the heading of each part that is of a crate, or None, and its text."""
+    found = re.split(r'^## (?:`(\w+)`)?.*$', text(page), flags=re.M)
+    return list(zip([None, *found[1::2]], found[::2]))
+
+
+def spans(part):
+    return re.findall(r'`([^`\n]+)`', part)
+
+
+def anchors(page):
+    """The headings of a page as links name them."""
+    return [re.sub(r'[^\w\- ]', '', heading.lower()).replace(' ', '-') for heading in re.findall(r'^#+ (.*)$', text(page), re.M)]
+
+
+def links(page):
+    for to in re.findall(r'\]\(([^)\s]+)\)', text(page)):
+        path, _, anchor = to.partition('#')
+        path = os.path.normpath(os.path.join(os.path.dirname(page), path)) if path else page
+        if not there(path):
+            yield f'{page}: no {to}'
+        elif anchor and anchor not in anchors(path):
+            yield f'{page}: no heading for {to}'
+
+
+def files(crate):
+    found = glob.glob(os.path.join(ROOT, 'crates', crate, 'src', '**', '*.rt'), recursive=True)
+    found += glob.glob(os.path.join(ROOT, 'crates', crate, 'specs', '*.antt'))
+    return {os.path.relpath(path, os.path.join(ROOT, 'crates', crate)) for path in found}
+
+
+def mapped():
+    page = 'docs/MAP.md'
+    for crate, part in parts(page):
+        named = [span for row in re.findall(r'^\| `([^`]+)` \|', part, re.M) for span in [row] if '/' in span or crate is None]
+        if crate:
+            yield from (f'{page}: {crate} has no {path}' for path in named if path not in files(crate))
+            yield from (f'{page}: {crate}/{path} is not named' for path in sorted(files(crate) - set(named)))
+        else:
+            yield from (f'{page}: no {path}' for path in named if not there(path) and not there('crates/' + path))
+    yield from (f'{page}: {line.split(":")[0]} has no part' for line in text('crates.txt').splitlines()
+                if not line.startswith('#') and line.split(':')[0] not in dict(parts(page)))
+
+
+def sources(crate):
+    """The sources without the tests, on one line."""
+    code = [path for path in sorted(files(crate)) if path.endswith('.rt') and 'tests' not in path]
+    return ' '.join(re.sub(r'\s+', ' ', text(f'crates/{crate}/{path}')) for path in code)
+
+
+def public(crate):
+    """The names of public functions that the crate hands on."""
+    root = text(f'crates/{crate}/src/lib.rt') if there(f'crates/{crate}/src/lib.rt') else ''
+    for path in sorted(files(crate)):
+        module = path.split('/')[1].removesuffix('.rt')
+        if path.endswith('.rt') and 'tests' not in path and (f'pub mod {module};' in root or f'pub use {module}::' in root):
+            yield from re.findall(r'^ *pub fn (\w+)', text(f'crates/{crate}/{path}'), re.M)
+
+
+def expansions(clause):
+    found = [re.sub(r'\s+', ' ', clause)]
+    for word, forms in SHORT.items():
+        found = [re.sub(rf'\b{word}\b', form, one) for one in found for form in forms]
+    return found
+
+
+def edits(crate):
+    """The paragraph that names the edits of a crate."""
+    found = glob.glob(os.path.join(ROOT, 'crates', crate, 'must-fail', '*.edit'))
+    names = ', '.join(f'`{name}`' for name in sorted(os.path.basename(path).removesuffix('.edit') for path in found))
+    return textwrap.fill(f'Edits: {names or "none"}.', 150, break_long_words=False, break_on_hyphens=False)
+
+
+def write_edits():
+    """Makes the lists of edits anew."""
+    page = re.split(r'^(?=## )', text(PROMISES), flags=re.M)
+    for place, part in enumerate(page):
+        crate = re.match(r'## `(\w+)`', part)
+        if crate:
+            page[place] = EDITS.sub(lambda _: edits(crate[1]), part)
+    with open(os.path.join(ROOT, PROMISES), 'w', encoding='utf-8') as file:
+        file.write(''.join(page))
+
+
+def promised():
+    for crate, part in parts(PROMISES):
+        if not crate:
+            continue
+        code = sources(crate)
+        quoted = [span for span in spans(part) if re.match(r'(ensures|requires)\W', span)]
+        for block in re.findall(r'^```\w*\n(.*?)^```', part, re.M | re.S):
+            quoted += [line.strip() for line in re.split(r'\n(?=\s*(?:ensures|requires)\b)', block) if re.match(r'\s*(ensures|requires)\b', line)]
+        yield from (f'{PROMISES}: {crate} has no clause {clause}' for clause in quoted if not any(one in code for one in expansions(clause)))
+        named = set(re.findall(r'\w+', ' '.join(spans(part))))
+        yield from (f'{PROMISES}: {crate}: nothing is said of {name}' for name in sorted(set(public(crate)) - named))
+        if EDITS.findall(part) != [edits(crate)]:
+            yield f'{PROMISES}: {crate}: the list of edits is another one (tests/pages.py --write)'
+
+
+def main(*given):
+    if '--write' in given:
+        write_edits()
+    said = [*(line for page in PAGES for line in links(page)), *mapped(), *promised()]
+    print(''.join(line + '\n' for line in said), end='')
+    return 1 if said else 0
+
+
+if __name__ == '__main__':
+    sys.exit(main(*sys.argv[1:]))
