@@ -3,3 +3,4 @@ pub mod NameFacts
 pub mod Known
 pub mod Powers
 pub mod ShownKeys
+pub mod Leaving

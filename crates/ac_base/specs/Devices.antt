@@ -1,5 +1,5 @@
 -- What feeds and sinks do to the bytes that are known of them, and how their failures count.
-use Rattle.std.specs.Prelude.{◌≡◌, ℕ, ◌+◌, ◌<◌, ◌≤◌, ◌==◌, ◌&&◌, Bool, true, false, if◌then◌else◌, nat_lt, List, take, length, Option, Result, Ok, Err}
+use Rattle.std.specs.Prelude.{◌≡◌, ℕ, ◌+◌, ◌<◌, ◌≤◌, ◌==◌, ◌&&◌, Bool, true, false, if◌then◌else◌, nat_lt, List, ◌++◌, take, length, Option, Some, None, Result, Ok, Err, ⊤}
 use Rattle.std.specs.Io.KnownBytes.{Consumes, Keeps, IsAtEnd, Appends}
 use Rattle.std.specs.IoError.{error_kind}
 use Rattle.std.specs.declared.io.Error.{Error}
@@ -59,3 +59,9 @@ IsPullOf (Err e) answer = (error_kind e ≡ Interrupted → answer ≡ pull.Agai
 abbrev pub IsPushOf : Result ℕ Error → Push → Type 0
 IsPushOf (Ok n) answer = answer ≡ push.Took n
 IsPushOf (Err e) answer = (error_kind e ≡ Interrupted → answer ≡ push.Again) × ((error_kind e ≡ Interrupted → ⊥) → answer ≡ push.Failed)
+
+-- a first part of some bytes was taken, where the bytes taken are known
+abbrev pub TakesPart : Option (List ℕ) → Option (List ℕ) → List ℕ → Type 0
+TakesPart None new bytes = ⊤
+TakesPart (Some xs) None bytes = ⊥
+TakesPart (Some xs) (Some ys) bytes = (part rest : List ℕ) × (bytes ≡ part ++ rest) × (ys ≡ xs ++ part)

@@ -12,6 +12,7 @@ pub mod mem_sink;
 pub mod memory;
 pub mod name;
 pub mod number;
+pub mod pushing;
 pub mod to_write;
 
 pub use device::{Feed, Pull, Push, Sink};
@@ -23,6 +24,7 @@ pub use mem_sink::MemSink;
 pub use memory::Turn;
 pub use name::{ClassName, NoMemory, Suffix, TraitName};
 pub use number::{Ratio, read_count};
+pub use pushing::{WriteFailed, push_all};
 pub use to_write::ToWrite;
 
 #[cfg(test)]

@@ -5,14 +5,14 @@ use Rattle.ac_tables.specs.World.{World}
 use Rattle.ac_tables.specs.declared.fault.Table.{Table}
 use Rattle.ac_tables.specs.declared.fault.TableFault.{TableFault}
 use Rattle.ac_tables.specs.declared.fault.TableFault.TheVariants as fault
-use Rattle.ac_cli.proofs.Leaving.{leaves_part, leaves_start}
+use Rattle.ac_base.proofs.Leaving.{part_none}
+use Rattle.ac_base.specs.Devices.{TakesPart}
 use Rattle.ac_cli.proofs.WantedSaid.{keeps}
 use Rattle.ac_cli.specs.Answer.{Outcome, Task, answer, answer_in, answer_over, refused, table_refused, tables_in}
 use Rattle.ac_cli.specs.Draining.{ExplainsReading}
 use Rattle.ac_cli.specs.Feeds.{Bytes, FeedRose, TellBytes, too_large}
 use Rattle.ac_cli.specs.Lines.{record_line, too_large_line}
 use Rattle.ac_cli.specs.Run.{Explains, ExplainsOutcome, ExplainsTables, IsWritten}
-use Rattle.ac_cli.specs.Writing.{TakesPart}
 use Rattle.ac_cli.specs.declared.inputs.Inputs.{Inputs}
 use Rattle.ac_cli.specs.declared.refusal.Refusal.{Refusal}
 use Rattle.ac_cli.specs.declared.refusal.Refusal.TheVariants as why
@@ -35,9 +35,6 @@ module _ (task : Task) (b : Bytes) where
 
 -- ---- why there is no answer
 
-nothing : (s : Option (List ℕ)) (bytes : List ℕ) → TakesPart s s bytes
-nothing s bytes = leaves_part s s bytes bytes (leaves_start s bytes)
-
 module _ {R : Type 0} (remaining : R → Option (List ℕ)) (failures : R → ℕ) (task : Task) (from to : Inputs R) (s : Option (List ℕ)) (rose : Type 0) where
   pub explains_reading : (refusal : Refusal) → ExplainsReading remaining failures from to refusal → Explains remaining failures task from to s s rose refusal
   explains_reading (why.Unreadable t) h = (h, keeps s)
@@ -46,7 +43,7 @@ module _ {R : Type 0} (remaining : R → Option (List ℕ)) (failures : R → �
   explains_reading (why.Query f) h = absurd h
   explains_reading (why.Token f) h = absurd h
   explains_reading why.Output h = absurd h
-  explains_reading why.NoMemory h = λ b tell. nothing s _
+  explains_reading why.NoMemory h = λ b tell. part_none s _
 
   -- the texts were read
   module _ (texts : Bytes) (told : (b : Bytes) → TellBytes remaining from b → texts ≡ b) (few : too_large texts ≡ None) where
@@ -58,7 +55,7 @@ module _ {R : Type 0} (remaining : R → Option (List ℕ)) (failures : R → �
     explains_tables (why.Query f) h = absurd h
     explains_tables (why.Token f) h = absurd h
     explains_tables why.Output h = absurd h
-    explains_tables why.NoMemory h = λ b tell. nothing s _
+    explains_tables why.NoMemory h = λ b tell. part_none s _
 
     -- and state this world
     module _ (world : World) (fine : tables_fault (tables_in texts) ≡ None) (stated : world ≡ world_stated (tables_in texts)) where

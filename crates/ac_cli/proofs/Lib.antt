@@ -1,4 +1,3 @@
-pub mod Leaving
 pub mod DecimalSteps
 pub mod PiecesWritten
 pub mod Drained

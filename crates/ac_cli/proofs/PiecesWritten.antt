@@ -2,8 +2,8 @@
 use Rattle.std.proofs.Common.{◌≡◌, ◌∙◌, ℕ, suc, ◌<◌, List, ◌∷◌, ◌++◌, drop, get_or, length, Option, ap, subst, drop-cons}
 use Rattle.std.specs.Prelude.{Result, Ok, Err, OnErr}
 use Rattle.std.specs.List.{flat_map}
-use Rattle.ac_cli.specs.Writing.{TakesPart}
-use Rattle.ac_cli.proofs.Leaving.{Leaves, leaves_takes_part}
+use Rattle.ac_base.specs.Devices.{TakesPart}
+use Rattle.ac_base.proofs.Leaving.{Leaves, leaves_takes_part}
 
 -- a part of the next piece was taken
 pub piece_part : {X : Type 0} (f : X → List ℕ) (xs : List X) (i : ℕ) (d : X) (a b c : Option (List ℕ)) (whole : List ℕ) → i < length xs

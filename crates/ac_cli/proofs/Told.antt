@@ -1,7 +1,6 @@
 -- What a refusal that was told says of the answer.
 use Rattle.std.proofs.Common.{◌≡◌, ℕ, ◌<◌, List, [], ◌∷◌, Option, Some, None, refl, sym, ap, subst, arith}
 use Rattle.std.specs.Prelude.{Contains}
-use Rattle.std.specs.Io.KnownBytes.{Keeps}
 use Rattle.ac_tables.specs.declared.fault.Table.{Table}
 use Rattle.ac_cli.specs.Answer.{Task, answer, refused}
 use Rattle.ac_cli.specs.Feeds.{Bytes, FeedRose, TellBytes}
@@ -27,23 +26,21 @@ module _ {R : Type 0} (remaining : R → Option (List ℕ)) (failures : R → �
   IsTold refusal = TakesLine err_old err_new before after (line_of refusal)
 
   abbrev Refused : Refusal → Type 0
-  Refused refusal = (b : Bytes) → TellBytes remaining from b → IsRefused (answer task b) old new err_old err_new before after (status_of refusal)
+  Refused refusal = (b : Bytes) → TellBytes remaining from b → IsRefused (answer task b) err_old err_new before after (status_of refusal)
 
   -- the answer is this very refusal
-  the_answer : (refusal : Refusal) → ((b : Bytes) → TellBytes remaining from b → answer task b ≡ refused (line_of refusal) (status_of refusal)) → Keeps old new
-      → IsTold refusal → Refused refusal
-  the_answer refusal e k l b tell = record {
+  the_answer : (refusal : Refusal) → ((b : Bytes) → TellBytes remaining from b → answer task b ≡ refused (line_of refusal) (status_of refusal)) → IsTold refusal → Refused refusal
+  the_answer refusal e l b tell = record {
     output = ap (λ o. o.output) (e b tell);
-    kept = k;
     line = subst (λ o. TakesLine err_old err_new before after o.line) (sym (e b tell)) l;
     status = sym (ap (λ o. o.status) (e b tell));
   }
 
   pub tables : (refusal : Refusal) → Explains remaining failures task from to old new out_rose refusal → IsTold refusal → status_of refusal ≡ 3
-      → (failed : Option Table) × FailsOr (λ t. IsUnread (FeedRose failures from to t) t old new err_old err_new before after) (Refused refusal) failed
-  tables (why.Unreadable t) h l e = (Some t, record { rises = h.0; kept = h.1; line = l })
-  tables (why.TooLarge t) h l e = (None, the_answer (why.TooLarge t) h.0 h.1 l)
-  tables (why.Record t row kind) h l e = (None, the_answer (why.Record t row kind) h.0 h.1 l)
+      → (failed : Option Table) × FailsOr (λ t. IsUnread (FeedRose failures from to t) t err_old err_new before after) (Refused refusal) failed
+  tables (why.Unreadable t) h l e = (Some t, record { rises = h.0; line = l })
+  tables (why.TooLarge t) h l e = (None, the_answer (why.TooLarge t) h.0 l)
+  tables (why.Record t row kind) h l e = (None, the_answer (why.Record t row kind) h.0 l)
   tables (why.Query f) h l e = absurd (cc)
   tables (why.Token f) h l e = absurd (cc)
   tables why.Output h l e = absurd (cc)

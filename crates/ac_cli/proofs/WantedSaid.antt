@@ -7,7 +7,7 @@ use Rattle.ac_query.specs.Tokens.{fault_of}
 use Rattle.ac_query.specs.declared.token.TokenFault.{TokenFault}
 use Rattle.ac_query.specs.declared.token.TokenFault.TheVariants.{WrongLength}
 use Rattle.ac_tables.specs.World.{World}
-use Rattle.ac_cli.proofs.Leaving.{leaves_part, leaves_start}
+use Rattle.ac_base.proofs.Leaving.{part_none}
 use Rattle.ac_cli.specs.Answer.{Says, Task, answer_in, page_body, page_lines, past_query, verdict_line}
 use Rattle.ac_cli.specs.Jobs.{ExplainsWanted}
 use Rattle.ac_cli.specs.Run.{ExplainsOutcome}
@@ -34,7 +34,7 @@ explains_said : (task : Task) (say : Says) (s : Option (List ℕ)) (rose : Type 
     → ExplainsOutcome (past_query say task) s s rose refusal
 explains_said task say s rose (why.Query f) h = (h say, keeps s)
 explains_said task say s rose (why.Token f) h = (h say, keeps s)
-explains_said task say s rose why.NoMemory h = leaves_part s s _ _ (leaves_start s _)
+explains_said task say s rose why.NoMemory h = part_none s _
 explains_said task say s rose (why.Unreadable t) h = absurd h
 explains_said task say s rose (why.TooLarge t) h = absurd h
 explains_said task say s rose (why.Record t row k) h = absurd h

@@ -1,6 +1,7 @@
 -- What is known after each part of a run.
 use Rattle.std.specs.Prelude.{◌≡◌, ℕ, List, [], Option, Some, None, ⊤}
 use Rattle.std.specs.Io.KnownBytes.{Appends, Keeps}
+use Rattle.ac_base.specs.Devices.{TakesPart}
 use Rattle.ac_tables.specs.declared.fault.Table.{Table}
 use Rattle.ac_tables.specs.declared.fault.TableFault.{TableFault}
 use Rattle.ac_tables.specs.declared.fault.TableFault.TheVariants as fault
@@ -8,7 +9,7 @@ use Rattle.ac_cli.specs.Answer.{Outcome, Task, answer, refused, tables_in}
 use Rattle.ac_cli.specs.Feeds.{Bytes, TellBytes, FeedRose}
 use Rattle.ac_cli.specs.Lines.{unreadable_line}
 use Rattle.ac_cli.specs.Refusals.{line_of, status_of}
-use Rattle.ac_cli.specs.Writing.{TakesLine, TakesPart}
+use Rattle.ac_cli.specs.Writing.{TakesLine}
 use Rattle.ac_cli.specs.declared.inputs.Inputs.{Inputs}
 use Rattle.ac_cli.specs.declared.refusal.Refusal.{Refusal}
 use Rattle.ac_cli.specs.declared.refusal.Refusal.TheVariants as why
@@ -56,16 +57,14 @@ pub record IsAnswered (outcome : Outcome) (out_old out_new err_old err_new : Opt
   pub status : given ≡ outcome.status
 
 -- A refusal was told: its line as far as the error sink took it, and its status. There is no output.
-pub record IsRefused (outcome : Outcome) (out_old out_new err_old err_new : Option (List ℕ)) (before after given : ℕ) : Type 0 where
+pub record IsRefused (outcome : Outcome) (err_old err_new : Option (List ℕ)) (before after given : ℕ) : Type 0 where
   pub output : outcome.output ≡ []
-  pub kept : Keeps out_old out_new
   pub line : TakesLine err_old err_new before after outcome.line
   pub status : given ≡ outcome.status
 
 -- The feed of a table failed, which the line says.
-pub record IsUnread (rose : Type 0) (table : Table) (out_old out_new err_old err_new : Option (List ℕ)) (before after : ℕ) : Type 0 where
+pub record IsUnread (rose : Type 0) (table : Table) (err_old err_new : Option (List ℕ)) (before after : ℕ) : Type 0 where
   pub rises : rose
-  pub kept : Keeps out_old out_new
   pub line : TakesLine err_old err_new before after (unreadable_line table)
 
 -- the feed of a table failed, or, where none is named, the tables have a fault

@@ -1,13 +1,7 @@
 -- What a sink takes of a text.
 use Rattle.std.specs.Prelude.{◌≡◌, ℕ, ◌<◌, List, [], ◌∷◌, ◌++◌, map, Option, Some, None, Result, Ok, Err, ⊤}
 use Rattle.std.specs.Io.KnownBytes.{Appends}
-use Rattle.ac_base.specs.Devices.{Rises}
-
--- a first part of the bytes was taken
-abbrev pub TakesPart : Option (List ℕ) → Option (List ℕ) → List ℕ → Type 0
-TakesPart None new bytes = ⊤
-TakesPart (Some xs) None bytes = ⊥
-TakesPart (Some xs) (Some ys) bytes = (part rest : List ℕ) × (bytes ≡ part ++ rest) × (ys ≡ xs ++ part)
+use Rattle.ac_base.specs.Devices.{Rises, TakesPart}
 
 -- a text was pushed whole, or a first part of it, and then the sink's count of failures rose
 abbrev pub Pushes : {X Y : Type 0} → Result X Y → Option (List ℕ) → Option (List ℕ) → ℕ → ℕ → List ℕ → Type 0

@@ -5,9 +5,8 @@ ghost use Rattle.ac_cli.specs.Outputs.{broken_line, counts, verdict_status, verd
 ghost use Rattle.ac_cli.specs.Writing.{Pushes};
 
 use crate::digits::Digits;
-use crate::report::pieces::push_pieces;
-use crate::report::pushing::WriteFailed;
-use ac_base::Sink;
+use crate::pieces::push_pieces;
+use ac_base::{Sink, WriteFailed};
 use ac_search::{Rule, Verdict};
 use ac_tables::Counts;
 

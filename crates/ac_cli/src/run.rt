@@ -1,6 +1,7 @@
 //! A run: from feeds and a job to sinks and a status.
 ghost use Rattle.std.specs.Prelude.{◌≡◌, ◌≢◌, ◌≤◌, IfOk, IfErr, IfSome, Option, is_some, length, option_map, ◌∷◌, [], Contains};
-ghost use Rattle.ac_base.specs.Devices.{Rises};
+ghost use Rattle.std.specs.Io.KnownBytes.{Keeps};
+ghost use Rattle.ac_base.specs.Devices.{Rises, TakesPart};
 ghost use Rattle.ac_query.specs.Asked.{slots_of};
 ghost use Rattle.ac_query.specs.QueriesShown.{asked_of};
 ghost use Rattle.ac_query.specs.Tokens.{ids_of};
@@ -12,7 +13,7 @@ ghost use Rattle.ac_cli.specs.Jobs.{ExplainsWanted, task_of};
 ghost use Rattle.ac_cli.specs.Lines.{memory_line, output_line};
 ghost use Rattle.ac_cli.specs.Run.{Explains, ExplainsOutcome, FailsOr, IsAnswered, IsRefused, IsUnread, IsWritten};
 ghost use Rattle.ac_cli.specs.Words.{HasToken};
-ghost use Rattle.ac_cli.specs.Writing.{TakesLine, TakesPart};
+ghost use Rattle.ac_cli.specs.Writing.{TakesLine};
 
 use crate::answering::{read_cloud, write_body, write_counts, write_lines, write_verdict};
 use crate::asking::{read_query, read_token};
@@ -124,13 +125,14 @@ pub fn run<R: Feed, W: Sink, E: Sink>(
     ensures written { result ≤ 1 → (b : Bytes) → TellBytes R.remaining inputs.old b
         → IsAnswered (answer (task_of job.now) b) (W.taken out.old) (W.taken out.new) (E.taken err.old) (E.taken err.new) result }
     ensures tables { result ≡ 3 → (failed : Option Table)
-        × FailsOr (λ t. IsUnread (FeedRose R.failures inputs.old inputs.new t) t (W.taken out.old) (W.taken out.new) (E.taken err.old) (E.taken err.new) (E.failures err.old) (E.failures err.new))
-        ((b : Bytes) → TellBytes R.remaining inputs.old b → IsRefused (answer (task_of job.now) b) (W.taken out.old) (W.taken out.new) (E.taken err.old) (E.taken err.new) (E.failures err.old) (E.failures err.new) result)
+        × FailsOr (λ t. IsUnread (FeedRose R.failures inputs.old inputs.new t) t (E.taken err.old) (E.taken err.new) (E.failures err.old) (E.failures err.new))
+        ((b : Bytes) → TellBytes R.remaining inputs.old b → IsRefused (answer (task_of job.now) b) (E.taken err.old) (E.taken err.new) (E.failures err.old) (E.failures err.new) result)
         failed }
     ensures query { result ≡ 4 → (b : Bytes) → TellBytes R.remaining inputs.old b
-        → IsRefused (answer (task_of job.now) b) (W.taken out.old) (W.taken out.new) (E.taken err.old) (E.taken err.new) (E.failures err.old) (E.failures err.new) result }
+        → IsRefused (answer (task_of job.now) b) (E.taken err.old) (E.taken err.new) (E.failures err.old) (E.failures err.new) result }
     ensures token { result ≡ 5 → (b : Bytes) → TellBytes R.remaining inputs.old b
-        → IsRefused (answer (task_of job.now) b) (W.taken out.old) (W.taken out.new) (E.taken err.old) (E.taken err.new) (E.failures err.old) (E.failures err.new) result }
+        → IsRefused (answer (task_of job.now) b) (E.taken err.old) (E.taken err.new) (E.failures err.old) (E.failures err.new) result }
+    ensures untouched { 3 ≤ result → result ≤ 5 → Keeps (W.taken out.old) (W.taken out.new) }
     ensures output { result ≡ 6 → Rises (W.failures out.old) (W.failures out.new)
         × TakesLine (E.taken err.old) (E.taken err.new) (E.failures err.old) (E.failures err.new) output_line }
     ensures memory { result ≡ 7 → TakesLine (E.taken err.old) (E.taken err.new) (E.failures err.old) (E.failures err.new) memory_line }

@@ -6,10 +6,9 @@ ghost use Rattle.ac_cli.specs.Refusals.{line_of, line_of_query, status_of};
 ghost use Rattle.ac_cli.specs.Writing.{Pushes, TakesLine};
 
 use crate::digits::Digits;
+use crate::pieces::push_pieces;
 use crate::refusal::{Refusal, kind_name, table_name};
-use crate::report::pieces::push_pieces;
-use crate::report::pushing::{WriteFailed, push_all};
-use ac_base::Sink;
+use ac_base::{Sink, WriteFailed, push_all};
 use ac_query::{QueryFault, TokenFault};
 use ac_tables::{Table, TableKind};
 

@@ -1,4 +1,4 @@
-pub mod Leaving
+pub mod Outcomes
 pub mod Paging
 pub mod LinesWritten
 pub mod IdTexts

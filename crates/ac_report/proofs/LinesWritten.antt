@@ -11,8 +11,8 @@ use Rattle.ac_search.specs.Pages.{cut, ids_of}
 use Rattle.ac_tables.specs.World.{Provider}
 use Rattle.ac_report.specs.Trees.{provider_text}
 use Rattle.ac_report.specs.Texts.{line, lines}
-use Rattle.ac_report.specs.Pages.{TakesPart}
-use Rattle.ac_report.proofs.Leaving.{Leaves, leaves_appends, leaves_takes_part}
+use Rattle.ac_base.specs.Devices.{TakesPart}
+use Rattle.ac_base.proofs.Leaving.{Leaves, leaves_appends, leaves_takes_part}
 use Rattle.ac_report.proofs.Paging.{after, counted, IsRoom, cut_step}
 
 -- texts behind commas

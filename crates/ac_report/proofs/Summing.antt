@@ -3,9 +3,9 @@ use Rattle.std.proofs.Common.{◌≡◌, ℕ, suc, ◌+◌, List, ◌∷◌, ◌
 use Rattle.std.specs.List.{filter, range_with_len}
 use Rattle.std.specs.Io.KnownBytes.{Appends}
 use Rattle.serde_json.specs.Written.{comma_if}
-use Rattle.ac_report.specs.Pages.{TakesPart}
+use Rattle.ac_base.specs.Devices.{TakesPart}
 use Rattle.ac_report.specs.Texts.{joined, with_commas}
-use Rattle.ac_report.proofs.Leaving.{Leaves, leaves_appends, leaves_takes_part, appends_both, part_of_first, part_of_second}
+use Rattle.ac_base.proofs.Leaving.{Leaves, leaves_appends, leaves_takes_part, appends_both, part_of_first, part_of_second}
 
 from_step : (first next n m : ℕ) → n ≡ suc m → next ≡ first + 1 → range_with_len first n ≡ first ∷ range_with_len next m
 from_step first next n m e k = ap (range_with_len first) e ∙ ap (λ i. first ∷ range_with_len i m) (sym k)

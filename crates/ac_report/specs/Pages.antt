@@ -13,12 +13,6 @@ abbrev pub behind : Option ℕ → List (List ℕ) → List (List ℕ)
 behind None lists = []
 behind (Some n) lists = drop n lists
 
--- a first part of some bytes was taken, where the bytes taken are known
-abbrev pub TakesPart : Option (List ℕ) → Option (List ℕ) → List ℕ → Type 0
-TakesPart None new bytes = ⊤
-TakesPart (Some xs) None bytes = ⊥
-TakesPart (Some xs) (Some ys) bytes = (part rest : List ℕ) × (bytes ≡ part ++ rest) × (ys ≡ xs ++ part)
-
 -- so many are no more than the limit
 abbrev pub IsWithin : ℕ → Option ℕ → Type 0
 IsWithin count None = ⊤

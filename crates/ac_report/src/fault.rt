@@ -1,5 +1,4 @@
-use crate::pushing::WriteFailed;
-use ac_base::NoMemory;
+use ac_base::{NoMemory, WriteFailed};
 use std::alloc::AllocError;
 use thiserror::Error;
 

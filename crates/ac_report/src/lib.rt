@@ -8,7 +8,6 @@ mod ids;
 pub mod laws;
 pub mod lines;
 pub mod page;
-mod pushing;
 pub mod request;
 pub mod summary;
 

@@ -1,17 +1,16 @@
 ghost use Rattle.std.specs.Prelude.{◌≡◌, ◌≤◌, ◌<◌, ◌++◌, ◌↔◌, ◌∷◌, [], OnOk, OnErr, IfOk, Err, IsTrue, Some, length, min};
 ghost use Rattle.std.specs.List.{All};
 ghost use Rattle.std.specs.Io.KnownBytes.{Appends};
-ghost use Rattle.ac_base.specs.Devices.{Rises};
+ghost use Rattle.ac_base.specs.Devices.{Rises, TakesPart};
 ghost use Rattle.ac_query.specs.QueriesShown.{asked_of};
 ghost use Rattle.ac_query.specs.Tokens.{ids_text};
 ghost use Rattle.ac_search.specs.Pages.{cut, ids_of};
 ghost use Rattle.ac_tables.specs.CloudWorld.{providers_of};
 ghost use Rattle.ac_report.specs.Texts.{line, lines};
-ghost use Rattle.ac_report.specs.Pages.{IsAssignment, TakesPart, LosesSome, behind};
+ghost use Rattle.ac_report.specs.Pages.{IsAssignment, LosesSome, behind};
 
 use crate::fault::PageFault;
-use crate::pushing::push_all;
-use ac_base::{NoMemory, Sink};
+use ac_base::{NoMemory, Sink, push_all};
 use ac_query::Query;
 use ac_search::Source;
 use ac_tables::Cloud;

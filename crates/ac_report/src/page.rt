@@ -2,29 +2,28 @@ ghost use Rattle.std.specs.Prelude.{◌≡◌, ◌≤◌, ◌<◌, ◌^◌, ◌+
 ghost use Rattle.std.specs.List.{All};
 ghost use Rattle.std.specs.Io.KnownBytes.{Appends};
 ghost use Rattle.serde_json.specs.Written.{comma_if};
-ghost use Rattle.ac_base.specs.Devices.{Rises};
+ghost use Rattle.ac_base.specs.Devices.{Rises, TakesPart};
 ghost use Rattle.ac_tables.specs.CloudWorld.{providers_of};
 ghost use Rattle.ac_tables.specs.World.{id_at};
 ghost use Rattle.ac_query.specs.QueriesShown.{asked_of};
 ghost use Rattle.ac_search.specs.Pages.{cut};
 ghost use Rattle.ac_report.specs.Laws.{AreProviders};
 ghost use Rattle.ac_report.specs.Marks.{IsMarked, has_root, requests_text, summaries_text};
-ghost use Rattle.ac_report.specs.Pages.{IsAssignment, TakesPart, LosesSome, behind};
+ghost use Rattle.ac_report.specs.Pages.{IsAssignment, LosesSome, behind};
 ghost use Rattle.ac_report.specs.Texts.{body, head_text, middle_text, tail_text, summary_piece, summarized, meets_root};
 
 use crate::fault::PageFault;
 use crate::lines::is_full;
-use crate::pushing::{WriteFailed, push_all};
 use crate::request::request_text;
 use crate::summary::summary_piece;
-use ac_base::Sink;
+use ac_base::{Sink, WriteFailed, push_all};
 use ac_query::Query;
 use ac_search::Source;
 use ac_tables::Cloud;
 use std::alloc::{AllocError, Global};
 
 // Pushes a text, after a comma where something stands before.
-#[tactic(auto, using(crate::proofs::Leaving::appends_both, crate::proofs::Leaving::part_of_first, crate::proofs::Leaving::part_of_second))]
+#[tactic(auto, using(ac_base::proofs::Leaving::appends_both, ac_base::proofs::Leaving::part_of_first, ac_base::proofs::Leaving::part_of_second))]
 fn push_listed<W: Sink>(out: &mut W, later: bool, text: &[u8]) -> Result<(), WriteFailed>
     ensures ok { OnOk result (Appends (W.taken out.old) (W.taken out.new) (comma_if later ++ text.now)) }
     ensures part { OnErr result (TakesPart (W.taken out.old) (W.taken out.new) (comma_if later ++ text.now)) }

@@ -3,7 +3,7 @@ use Rattle.ac_query.specs.QueriesShown.{asked_of}
 use Rattle.ac_search.specs.Lists.{head_of, tail_of}
 use Rattle.ac_tables.specs.CloudWorld.{providers_of}
 use Rattle.ac_report.specs.Pages.{IsAssignment}
-use Rattle.ac_report.proofs.Leaving.{on_err}
+use Rattle.ac_report.proofs.Outcomes.{on_err}
 use Rattle.ac_report.proofs.LinesWritten.{leaves_line, leaves_line_part}
 use Rattle.ac_report.proofs.Paging.{all_tail, behind_step, count_step, gone_step, loses_one, room_step}
 use Rattle.ac_report.proofs.lines.write_tokens.Goals as goal

@@ -5,7 +5,7 @@ use Rattle.ac_search.specs.Pages.{cut}
 use Rattle.ac_tables.specs.CloudWorld.{providers_of}
 use Rattle.ac_report.specs.Texts.{lines}
 use Rattle.ac_report.specs.Pages.{IsAssignment, behind}
-use Rattle.ac_report.proofs.Leaving.{Leaves}
+use Rattle.ac_base.proofs.Leaving.{Leaves}
 use Rattle.ac_report.proofs.Paging.{after, IsRoom, Gone}
 use Rattle.ac_report.proofs.lines.write_tokens.Given as goal
 

@@ -4,10 +4,10 @@ use Rattle.ac_query.specs.QueriesShown.{asked_of}
 use Rattle.ac_search.specs.Pages.{cut}
 use Rattle.ac_tables.specs.CloudWorld.{providers_of}
 use Rattle.ac_report.specs.Marks.{requests_text, summaries_text}
-use Rattle.ac_report.specs.Pages.{TakesPart}
+use Rattle.ac_base.specs.Devices.{TakesPart}
 use Rattle.ac_report.specs.Texts.{head_text, middle_text, tail_text, summarized}
 use Rattle.ac_report.proofs.Joining.{body_is}
-use Rattle.ac_report.proofs.Leaving.{on_err}
+use Rattle.ac_report.proofs.Outcomes.{on_err}
 use Rattle.ac_report.proofs.Paging.{loses_page}
 use Rattle.ac_report.proofs.Summing.{five, part_1, part_2, part_3, part_4, part_5}
 use Rattle.ac_report.proofs.page.write_parts.Goals as goal

@@ -7,9 +7,10 @@ use Rattle.ac_search.specs.Lists.{head_of, tail_of}
 use Rattle.ac_search.specs.Pages.{cut}
 use Rattle.ac_tables.specs.CloudWorld.{providers_of}
 use Rattle.ac_tables.specs.World.{id_at}
-use Rattle.ac_report.specs.Pages.{IsAssignment, TakesPart}
+use Rattle.ac_base.specs.Devices.{TakesPart}
+use Rattle.ac_report.specs.Pages.{IsAssignment}
 use Rattle.ac_report.specs.Texts.{request_text, meets_root}
-use Rattle.ac_report.proofs.Leaving.{on_err}
+use Rattle.ac_report.proofs.Outcomes.{on_err}
 use Rattle.ac_report.proofs.Marking.{marks_step}
 use Rattle.ac_report.proofs.Paging.{after, counted, all_head, all_tail, cut_step, behind_step, gone_step, loses_one, count_step, room_step}
 use Rattle.ac_report.proofs.Summing.{leaves_listed, leaves_listed_part}

@@ -7,7 +7,7 @@ use Rattle.ac_tables.specs.World.{id_at}
 use Rattle.ac_report.specs.Marks.{requests_text}
 use Rattle.ac_report.specs.Pages.{IsAssignment, behind}
 use Rattle.ac_report.specs.Texts.{meets_root}
-use Rattle.ac_report.proofs.Leaving.{Leaves}
+use Rattle.ac_base.proofs.Leaving.{Leaves}
 use Rattle.ac_report.proofs.Paging.{after, IsRoom, Gone}
 use Rattle.ac_report.proofs.page.write_requests.Given as goal
 

@@ -3,7 +3,7 @@ use Rattle.std.specs.List.{list_any}
 use Rattle.ac_tables.specs.CloudWorld.{providers_of}
 use Rattle.ac_tables.specs.World.{id_at, root_of}
 use Rattle.ac_report.specs.Texts.{summary_piece, meets_root}
-use Rattle.ac_report.proofs.Leaving.{on_err}
+use Rattle.ac_report.proofs.Outcomes.{on_err}
 use Rattle.ac_report.proofs.Summing.{step_taken, step_skipped, leaves_listed, leaves_listed_part, leaves_same}
 use Rattle.ac_report.proofs.page.write_summaries.Goals as goal
 

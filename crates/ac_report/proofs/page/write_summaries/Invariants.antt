@@ -4,7 +4,7 @@ use Rattle.ac_tables.specs.CloudWorld.{providers_of}
 use Rattle.ac_tables.specs.World.{id_at, root_of}
 use Rattle.ac_report.specs.Marks.{IsMarked, summaries_text}
 use Rattle.ac_report.specs.Texts.{meets_root}
-use Rattle.ac_report.proofs.Leaving.{Leaves}
+use Rattle.ac_base.proofs.Leaving.{Leaves}
 use Rattle.ac_report.proofs.page.write_summaries.Given as goal
 
 -- what is left to write

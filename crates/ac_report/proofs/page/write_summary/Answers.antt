@@ -1,8 +1,8 @@
 use Rattle.std.proofs.Common.{subst, List, ℕ, ◌++◌, ◌∙◌}
 use Rattle.std.specs.Io.KnownBytes.{Appends}
 use Rattle.serde_json.specs.Written.{comma_if}
-use Rattle.ac_report.specs.Pages.{TakesPart}
-use Rattle.ac_report.proofs.Leaving.{on_err}
+use Rattle.ac_base.specs.Devices.{TakesPart}
+use Rattle.ac_report.proofs.Outcomes.{on_err}
 use Rattle.ac_report.proofs.page.write_summary.Goals as goal
 
 pub returns-clause-ok : goal.returns-clause-ok

@@ -2,7 +2,7 @@ use Rattle.std.proofs.Common.{◌≡◌, ◌∙◌, ap, map, rules}
 use Rattle.std.specs.Prelude.{unwrap_or}
 use Rattle.ac_query.specs.GroupsShown.{need_entry}
 use Rattle.ac_report.proofs.Serving.{needs_added}
-use Rattle.ac_report.proofs.Leaving.{on_ok_weaker}
+use Rattle.ac_report.proofs.Outcomes.{on_ok_weaker}
 use Rattle.ac_report.proofs.request.add_needs.Goals as goal
 
 pub returns : goal.returns

@@ -1,6 +1,6 @@
 use Rattle.std.proofs.Common.{Bor, ℕ, List, arith, rules}
 use Rattle.ac_cli.proofs.PiecesWritten.{piece_part, on_err}
-use Rattle.ac_cli.proofs.report.pieces.push_pieces.Goals as goal
+use Rattle.ac_cli.proofs.pieces.push_pieces.Goals as goal
 
 pub returns-in_err-push_all-clause-part : goal.returns-in_err-push_all-clause-part
 returns-in_err-push_all-clause-part g c =

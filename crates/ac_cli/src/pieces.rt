@@ -1,11 +1,10 @@
+//! Texts in pieces, pushed whole into a sink.
 ghost use Rattle.std.specs.Prelude.{◌≤◌, OnOk, OnErr};
 ghost use Rattle.std.specs.List.{flat_map};
 ghost use Rattle.std.specs.Io.KnownBytes.{Appends};
-ghost use Rattle.ac_base.specs.Devices.{Rises};
-ghost use Rattle.ac_cli.specs.Writing.{TakesPart};
+ghost use Rattle.ac_base.specs.Devices.{Rises, TakesPart};
 
-use super::pushing::{WriteFailed, push_all};
-use ac_base::Sink;
+use ac_base::{Sink, WriteFailed, push_all};
 
 /// Pushes pieces one after the other, until one isn't taken whole. After a fault the sink has taken a first part of them.
 pub fn push_pieces<W: Sink>(out: &mut W, pieces: &[&[u8]]) -> Result<(), WriteFailed>

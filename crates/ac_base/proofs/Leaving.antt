@@ -1,9 +1,9 @@
 -- A sink that has taken all but a rest of some bytes.
-use Rattle.std.proofs.Common.{◌≡◌, ℕ, ◌≤◌, ◌∙◌, sym, ap, refl, List, [], ◌∷◌, ◌++◌, take, drop, length, subst, Option, Some, None, append_assoc, append-nil}
+use Rattle.std.proofs.Common.{◌≡◌, ℕ, ◌∙◌, sym, ap, refl, List, [], ◌++◌, take, drop, subst, Option, Some, None, append_assoc, append-nil}
 use Rattle.std.specs.Prelude.{⊤}
 use Rattle.std.proofs.lemmas.List.{take-append-drop}
 use Rattle.std.specs.Io.KnownBytes.{Appends, Keeps}
-use Rattle.ac_cli.specs.Writing.{TakesPart}
+use Rattle.ac_base.specs.Devices.{TakesPart}
 
 -- of these bytes it has taken all but the rest
 abbrev pub Leaves : Option (List ℕ) → Option (List ℕ) → List ℕ → List ℕ → Type 0
@@ -55,3 +55,28 @@ leaves_takes_part (Some u) (Some v) (Some w) bytes piece rest h k = (
   h.1 ∙ ap (λ l. h.0 ++ (l ++ rest)) k.2 ∙ ap (λ l. h.0 ++ l) (append_assoc k.0 k.1 rest) ∙ sym (append_assoc h.0 k.0 (k.1 ++ rest)),
   k.3 ∙ ap (λ l. l ++ k.0) h.2 ∙ append_assoc u h.0 k.0,
 )
+
+-- ---- two pieces, one after the other
+
+pub appends_both : (a b c : Option (List ℕ)) (x y : List ℕ) → Appends a b x → Appends b c y → Appends a c (x ++ y)
+appends_both None b c x y h k = tt
+appends_both (Some u) None c x y h k = absurd h
+appends_both (Some u) (Some v) None x y h k = absurd k
+appends_both (Some u) (Some v) (Some w) x y h k = k ∙ ap (λ l. l ++ y) h ∙ append_assoc u x y
+
+pub part_of_first : (a b : Option (List ℕ)) (x y : List ℕ) → TakesPart a b x → TakesPart a b (x ++ y)
+part_of_first None b x y h = tt
+part_of_first (Some u) None x y h = absurd h
+part_of_first (Some u) (Some v) x y h = (h.0, h.1 ++ y, ap (λ l. l ++ y) h.2 ∙ append_assoc h.0 h.1 y, h.3)
+
+pub part_of_second : (a b c : Option (List ℕ)) (x y : List ℕ) → Appends a b x → TakesPart b c y → TakesPart a c (x ++ y)
+part_of_second None b c x y h k = tt
+part_of_second (Some u) None c x y h k = absurd h
+part_of_second (Some u) (Some v) None x y h k = absurd k
+part_of_second (Some u) (Some v) (Some w) x y h k =
+    (x ++ k.0, k.1, ap (λ l. x ++ l) k.2 ∙ sym (append_assoc x k.0 k.1), k.3 ∙ ap (λ l. l ++ k.0) h ∙ append_assoc u x k.0)
+
+-- nothing was taken
+pub part_none : (a : Option (List ℕ)) (bytes : List ℕ) → TakesPart a a bytes
+part_none None bytes = tt
+part_none (Some u) bytes = ([], bytes, refl, sym (append-nil u))

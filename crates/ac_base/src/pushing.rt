@@ -1,9 +1,9 @@
+//! Whole pieces pushed into a sink.
 ghost use Rattle.std.specs.Prelude.{◌≤◌, OnOk, OnErr};
 ghost use Rattle.std.specs.Io.KnownBytes.{Appends};
-ghost use Rattle.ac_base.specs.Devices.{Rises};
-ghost use Rattle.ac_report.specs.Pages.{TakesPart};
+ghost use Rattle.ac_base.specs.Devices.{Rises, TakesPart};
 
-use ac_base::{Push, Sink};
+use crate::device::{Push, Sink};
 
 /// The device failed, or was interrupted more often in a row than is borne.
 #[derive(Clone, Copy, Debug, PartialEq, Eq)]

@@ -1,7 +1,7 @@
 use Rattle.std.proofs.Common.{◌≤◌, drop, Bor, ℕ, List}
 use Rattle.std.specs.List.{flat_map}
-use Rattle.ac_cli.proofs.Leaving.{Leaves}
-use Rattle.ac_cli.proofs.report.pieces.push_pieces.Given as goal
+use Rattle.ac_base.proofs.Leaving.{Leaves}
+use Rattle.ac_cli.proofs.pieces.push_pieces.Given as goal
 
 abbrev pub invariant-loop-piece : goal.invariant-loop-piece
 invariant-loop-piece g l =

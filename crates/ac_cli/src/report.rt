@@ -1,3 +1,0 @@
-//! Texts pushed whole into a sink.
-pub mod pieces;
-pub mod pushing;
