@@ -39,7 +39,7 @@ below_insert x k (y ∷ ks) less all = by_order (text_cmp k y) refl (below_inser
     by_order Equal is later = rw is all
     by_order Greater is later = rw is (all.0, later)
 
-insert_sorted : (ks : List (List ℕ)) (k : List ℕ) → IsStrictlySortedBy text_cmp ks → IsStrictlySortedBy text_cmp (insert_key text_cmp ks k)
+pub insert_sorted : (ks : List (List ℕ)) (k : List ℕ) → IsStrictlySortedBy text_cmp ks → IsStrictlySortedBy text_cmp (insert_key text_cmp ks k)
 unfolding IsStrictlySortedBy
 insert_sorted [] k s = (tt, tt)
 insert_sorted (x ∷ ks) k s = by_order (text_cmp k x) refl (insert_sorted ks k s.1)
@@ -51,11 +51,11 @@ insert_sorted (x ∷ ks) k s = by_order (text_cmp k x) refl (insert_sorted ks k 
         let below : text_cmp x k ≡ Less = nat_list_cmp_total.antisymm x k ∙ ap ordering_reverse is in
         rw is (below_insert x k ks below s.0, later)
 
-order_sorted : (ks more : List (List ℕ)) → IsStrictlySortedBy text_cmp ks → IsStrictlySortedBy text_cmp (in_order_with ks more)
+pub order_sorted : (ks more : List (List ℕ)) → IsStrictlySortedBy text_cmp ks → IsStrictlySortedBy text_cmp (in_order_with ks more)
 order_sorted ks [] s = s
 order_sorted ks (x ∷ more) s = order_sorted (insert_key text_cmp ks x) more (insert_sorted ks x s)
 
-empty_sorted : IsStrictlySortedBy text_cmp []
+pub empty_sorted : IsStrictlySortedBy text_cmp []
 unfolding IsStrictlySortedBy
 empty_sorted = tt
 
