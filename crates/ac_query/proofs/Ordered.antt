@@ -6,8 +6,10 @@ use Rattle.std.specs.List.Sorted.{IsStrictlySortedBy}
 use Rattle.std.specs.Map.{lookup, keys_of, values_of}
 use Rattle.std.specs.BTreeMap.{is_at}
 use Rattle.std.specs.Str.{bytes_eq}
+use Rattle.std.proofs.lemmas.Cmp.{nat_list_cmp_total}
 use Rattle.std.proofs.lemmas.Map.Views.{All-insert_key, All-values-insert_entry, IfSome-lookup_from_All}
 use Rattle.ac_base.specs.Texts.{text_cmp, id_value}
+use Rattle.ac_tables.proofs.SortedSets.{insert_sorted, empty_sorted}
 use Rattle.ac_query.specs.declared.parameter.Field.TheVariants as field
 use Rattle.ac_query.specs.Parameters.{Parameter, of_group, root_required, group_policy, same_subtree, limit, parameter}
 use Rattle.ac_query.specs.Values.{Part, needs, traits, aggregates, tree, Given, in_group, root_traits, policy, subtree, at_most, given_of, needs_value, traits_value, rule_value, policy_value, subtree_value, amount_value}
@@ -15,7 +17,6 @@ use Rattle.ac_query.specs.Pairs.{read_pair, given}
 use Rattle.ac_query.specs.Asked.{Group}
 use Rattle.ac_query.specs.Gathered.{Gathered, empty_group, nothing, with_part, grown, with_given, plain_groups, of_suffix, as_asked, gathered, asked_by}
 use Rattle.ac_query.specs.InOrder.{group_name, AreApart, AreNeeds, AreSuffixed, IsFirstPlain, IsInOrder, QueryInOrder}
-use Rattle.ac_query.proofs.Asking.{insert_sorted, empty_sorted}
 use Rattle.ac_query.proofs.Gathering.{keys-insert_entry}
 use Rattle.ac_query.proofs.Choosing.{any_some, then_some, map_some, all_chosen}
 use Rattle.ac_query.proofs.PositiveNeeds.{apart_from_sorted, needs_are}
@@ -81,7 +82,7 @@ one_given d (in_group (Some s) p) h k =
     record {
       plain = h.plain;
       long = subst (All (λ s. 0 < length s)) (sym (keys-insert_entry d.suffixed s more)) (All-insert_key text_cmp s (λ s. 0 < length s) (keys_of d.suffixed) h.long k.0);
-      sorted = subst (IsStrictlySortedBy text_cmp) (sym (keys-insert_entry d.suffixed s more)) (insert_sorted (keys_of d.suffixed) s h.sorted);
+      sorted = subst (IsStrictlySortedBy text_cmp) (sym (keys-insert_entry d.suffixed s more)) (insert_sorted nat_list_cmp_total (keys_of d.suffixed) s h.sorted);
       groups = All-values-insert_entry text_cmp s more HasNeeds d.suffixed h.groups (grown_served (lookup (is_at (text_cmp s)) d.suffixed) p found k.1);
     }
 one_given d (root_traits t) h k = record { plain = h.plain; long = h.long; sorted = h.sorted; groups = h.groups }
@@ -94,7 +95,7 @@ all_given d [] h all = h
 all_given d (v ∷ gs) h all = all_given (with_given d v) gs (one_given d v h all.0) all.1
 
 nothing_ordered : IsOrdered nothing
-nothing_ordered = record { plain = tt; long = λ i d h. absurd (omega (arith, h)); sorted = empty_sorted; groups = λ i d h. absurd (omega (arith, h)) }
+nothing_ordered = record { plain = tt; long = λ i d h. absurd (omega (arith, h)); sorted = empty_sorted nat_list_cmp_total; groups = λ i d h. absurd (omega (arith, h)) }
 
 -- ---- the groups
 suffixed : (es : List (List ℕ × Group)) → AreSuffixed (map of_suffix es)

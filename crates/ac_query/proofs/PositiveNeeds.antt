@@ -9,12 +9,13 @@ use Rattle.std.specs.Map.{lookup, keys_of, values_of}
 use Rattle.std.specs.BTreeMap.{is_at}
 use Rattle.std.specs.Str.{bytes_eq}
 use Rattle.std.specs.Cmp.Lexicographic.{texts_ties}
+use Rattle.std.proofs.lemmas.Cmp.{nat_list_cmp_total}
 use Rattle.std.proofs.lemmas.Map.Views.{All-values-insert_entry}
 use Rattle.ac_base.specs.Texts.{text_cmp, name_value, count_value}
+use Rattle.ac_tables.proofs.SortedSets.{insert_sorted, empty_sorted}
 use Rattle.ac_query.specs.Texts.{is_colon, items_of}
 use Rattle.ac_query.specs.Values.{positive, amount_value, need_of, has_colon, need_value, with_need, with_need_item, needs_value}
 use Rattle.ac_query.specs.InOrder.{AreApart, AreNeeds}
-use Rattle.ac_query.proofs.Asking.{insert_sorted, empty_sorted}
 use Rattle.ac_query.proofs.Gathering.{keys-insert_entry}
 use Rattle.ac_query.proofs.Choosing.{any_some, then_some, map_some, either_some}
 
@@ -47,7 +48,7 @@ record AreKept (needs : List (List ℕ × ℕ)) : Type 0 where
 one_need : (needs : List (List ℕ × ℕ)) (need : List ℕ × ℕ) → AreKept needs → 0 < need.1 → IfSome (with_need needs need) AreKept
 one_need needs need kept h =
     either_some AreKept (is_some (lookup (is_at (text_cmp need.0)) needs)) None _ tt record {
-      classes = subst (IsStrictlySortedBy text_cmp) (sym (keys-insert_entry needs need.0 need.1)) (insert_sorted (keys_of needs) need.0 kept.classes);
+      classes = subst (IsStrictlySortedBy text_cmp) (sym (keys-insert_entry needs need.0 need.1)) (insert_sorted nat_list_cmp_total (keys_of needs) need.0 kept.classes);
       amounts = All-values-insert_entry text_cmp need.0 need.1 (λ n. 0 < n) needs kept.amounts h;
     }
 
@@ -60,7 +61,7 @@ all_items o [] h = h
 all_items o (item ∷ items) h = all_items (with_need_item o item) items (one_item o item h)
 
 none_kept : AreKept []
-none_kept = record { classes = empty_sorted; amounts = λ i d h. absurd (omega (arith, h)) }
+none_kept = record { classes = empty_sorted nat_list_cmp_total; amounts = λ i d h. absurd (omega (arith, h)) }
 
 kept : (text : List ℕ) → IfSome (needs_value text) AreKept
 unfolding needs_value

@@ -35,11 +35,11 @@ module _ {K : Type 0} {R : K → K → Ordering} (total : IsTotalOrder R) where
           let below : R x k ≡ Less = total.antisymm x k ∙ ap ordering_reverse is in
           rw is (below_insert x k ks below s.0, later)
 
-  pub all_sorted : (ks more : List K) → IsStrictlySortedBy R ks → IsStrictlySortedBy R (fold (insert_key R) ks more)
+  all_sorted : (ks more : List K) → IsStrictlySortedBy R ks → IsStrictlySortedBy R (fold (insert_key R) ks more)
   all_sorted ks [] s = s
   all_sorted ks (x ∷ more) s = all_sorted (insert_key R ks x) more (insert_sorted ks x s)
 
-  empty_sorted : IsStrictlySortedBy R []
+  pub empty_sorted : IsStrictlySortedBy R []
   unfolding IsStrictlySortedBy
   empty_sorted = tt
 
