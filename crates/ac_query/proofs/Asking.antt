@@ -1,8 +1,5 @@
 -- Where no pair has a fault, exactly one record is what the pairs ask for.
 use Rattle.std.proofs.Common.{◌≡◌, ◌||◌, append_assoc, ℕ, suc, Bool, true, false, List, [], ◌∷◌, ◌++◌, map, Option, Some, None, refl, sym, ap, ap₂, ◌∙◌, subst}
-use Rattle.std.specs.declared.cmp.Ordering.{Ordering}
-use Rattle.std.specs.declared.cmp.Ordering.TheVariants.{Less, Equal, Greater}
-use Rattle.std.specs.Ordering.{ordering_reverse}
 use Rattle.std.specs.List.{fold, filter_map, slice_get, AllByRecursion}
 use Rattle.std.specs.List.Sorted.{IsStrictlySortedBy}
 use Rattle.std.specs.Map.{keys_of}
@@ -12,6 +9,7 @@ use Rattle.std.proofs.lemmas.List.{map-append, append-nil}
 use Rattle.std.proofs.lemmas.Map.Entries.{lookup_from_place}
 use Rattle.std.proofs.lemmas.Map.Keys.{IsDistinct-from_sorted}
 use Rattle.ac_base.specs.Texts.{text_cmp}
+use Rattle.ac_tables.proofs.SortedSets.{rising_sorted}
 use Rattle.ac_query.specs.Texts.{has_text, in_order_with}
 use Rattle.ac_query.specs.Values.{Part, Given}
 use Rattle.ac_query.specs.Pairs.{given}
@@ -26,39 +24,6 @@ use Rattle.ac_query.proofs.Once.{policy_once, limit_once, needs_once, tree_once}
 use Rattle.ac_query.proofs.Gathering.{told_from_short, group_asks, policy_latest, limit_latest, subtrees_all, root_required_all, root_forbidden_all, grown_all, grown_there, plain_grown, suffixes_all, found_grown}
 
 -- ---- texts in byte order
-all_weaker : {X : Type 0} (P Q : X → Type 0) → ((x : X) → P x → Q x) → (xs : List X) → AllByRecursion P xs → AllByRecursion Q xs
-all_weaker P Q h [] all = tt
-all_weaker P Q h (x ∷ xs) all = (h x all.0, all_weaker P Q h xs all.1)
-
-below_insert : (x k : List ℕ) (ks : List (List ℕ)) → text_cmp x k ≡ Less → AllByRecursion (λ y. text_cmp x y ≡ Less) ks → AllByRecursion (λ y. text_cmp x y ≡ Less) (insert_key text_cmp ks k)
-below_insert x k [] less all = (less, tt)
-below_insert x k (y ∷ ks) less all = by_order (text_cmp k y) refl (below_insert x k ks less all.1)
-  where
-    by_order : (o : Ordering) → text_cmp k y ≡ o → AllByRecursion (λ z. text_cmp x z ≡ Less) (insert_key text_cmp ks k) → AllByRecursion (λ z. text_cmp x z ≡ Less) (insert_key text_cmp (y ∷ ks) k)
-    by_order Less is later = rw is (less, all)
-    by_order Equal is later = rw is all
-    by_order Greater is later = rw is (all.0, later)
-
-insert_sorted : (ks : List (List ℕ)) (k : List ℕ) → IsStrictlySortedBy text_cmp ks → IsStrictlySortedBy text_cmp (insert_key text_cmp ks k)
-unfolding IsStrictlySortedBy
-insert_sorted [] k s = (tt, tt)
-insert_sorted (x ∷ ks) k s = by_order (text_cmp k x) refl (insert_sorted ks k s.1)
-  where
-    by_order : (o : Ordering) → text_cmp k x ≡ o → IsStrictlySortedBy text_cmp (insert_key text_cmp ks k) → IsStrictlySortedBy text_cmp (insert_key text_cmp (x ∷ ks) k)
-    by_order Less is later = rw is ((is, all_weaker _ _ (λ y h. nat_list_cmp_total.trans k x y is h) ks s.0), s)
-    by_order Equal is later = rw is s
-    by_order Greater is later =
-        let below : text_cmp x k ≡ Less = nat_list_cmp_total.antisymm x k ∙ ap ordering_reverse is in
-        rw is (below_insert x k ks below s.0, later)
-
-order_sorted : (ks more : List (List ℕ)) → IsStrictlySortedBy text_cmp ks → IsStrictlySortedBy text_cmp (in_order_with ks more)
-order_sorted ks [] s = s
-order_sorted ks (x ∷ more) s = order_sorted (insert_key text_cmp ks x) more (insert_sorted ks x s)
-
-empty_sorted : IsStrictlySortedBy text_cmp []
-unfolding IsStrictlySortedBy
-empty_sorted = tt
-
 -- whether a text is among some, or among others
 has_text-append : (xs ys : List (List ℕ)) (t : List ℕ) → has_text (xs ++ ys) t ≡ has_text xs t || has_text ys t
 has_text-append [] ys t = refl
@@ -78,7 +43,7 @@ order_has ks (x ∷ more) t =
     ∙ ap (λ l. has_text l t) (append_assoc ks (x ∷ []) more)
 
 pub order_holds : OrderHolds
-order_holds texts = (order_sorted [] texts empty_sorted, order_has [] texts)
+order_holds texts = (rising_sorted nat_list_cmp_total texts, order_has [] texts)
 
 -- ---- all of a list
 all_from_places : {X : Type 0} (P : X → Type 0) (xs : List X) → ((i : ℕ) (x : X) → slice_get xs i ≡ Some x → P x) → AllByRecursion P xs
@@ -120,7 +85,7 @@ module _ (pairs : List (List ℕ × List ℕ)) (fine : first_fault (pairs_condit
   plain_fits (Some g) is = (group_fits None g is, tt)
 
   sorted : IsStrictlySortedBy text_cmp (keys_of (gathered pairs).suffixed)
-  sorted = subst (IsStrictlySortedBy text_cmp) (sym (suffixes_all nothing all)) (order_sorted [] (filter_map suffix_in all) empty_sorted)
+  sorted = subst (IsStrictlySortedBy text_cmp) (sym (suffixes_all nothing all)) (rising_sorted nat_list_cmp_total (filter_map suffix_in all))
 
   suffixed_fits : AllByRecursion (λ e. AsksOfGroup (parts_of e.0 all) e.1) (map of_suffix (gathered pairs).suffixed)
   suffixed_fits =

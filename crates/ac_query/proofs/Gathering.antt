@@ -143,7 +143,7 @@ plain_grown d (subtree names ∷ gs) = plain_grown (with_given d (subtree names)
 plain_grown d (at_most n ∷ gs) = plain_grown (with_given d (at_most n)) gs
 
 -- the keys of entries with one more
-keys-insert_entry : {X : Type 0} (es : List (List ℕ × X)) (k : List ℕ) (v : X) → keys_of (insert_entry text_cmp es k v) ≡ insert_key text_cmp (keys_of es) k
+pub keys-insert_entry : {X : Type 0} (es : List (List ℕ × X)) (k : List ℕ) (v : X) → keys_of (insert_entry text_cmp es k v) ≡ insert_key text_cmp (keys_of es) k
 keys-insert_entry [] k v = refl
 keys-insert_entry {X = X} (e ∷ es) k v = by_order (text_cmp k e.0) (keys-insert_entry es k v)
   where

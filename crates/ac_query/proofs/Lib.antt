@@ -22,3 +22,7 @@ pub mod SlotCounts
 pub mod Amounts
 pub mod SlotPlaces
 pub mod Locating
+pub mod Choosing
+pub mod PositiveNeeds
+pub mod LongSuffixes
+pub mod Ordered

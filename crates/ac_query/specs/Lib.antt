@@ -15,5 +15,6 @@ pub mod FaultsShown
 pub mod SlotsShown
 pub mod QueriesShown
 pub mod Tokens
+pub mod InOrder
 pub mod Laws
 pub mod Located

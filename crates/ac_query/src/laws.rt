@@ -1,4 +1,5 @@
 //! Laws of the definitions. Each function does nothing: its contract is the law.
+ghost use Rattle.ac_query.specs.InOrder.{QueryInOrder};
 ghost use Rattle.ac_query.specs.Laws.{AsksOnce, OrderHolds, SlotsNameGroups, TokenReads};
 
 /// Where no pair has a fault, exactly one record is what the pairs ask for, and it is the one that is gathered.
@@ -19,4 +20,10 @@ pub fn token_reads()
 /// The place of a slot is that of its group.
 pub fn slots_name_groups()
     ensures { SlotsNameGroups }
+{}
+
+/// What pairs ask for is in order: only the first group may have no suffix, suffixes are different and none is empty, each amount is at
+/// least 1, and no class of a group stands twice. So it is of each query that is accepted.
+pub fn query_in_order()
+    ensures { QueryInOrder }
 {}

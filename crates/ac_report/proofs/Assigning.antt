@@ -9,11 +9,17 @@ use Rattle.std.proofs.lemmas.List.{length-map, length-take, length-drop, take-ap
 use Rattle.serde_json.specs.Data.{no_members}
 use Rattle.ac_base.specs.Texts.{text_cmp}
 use Rattle.ac_query.specs.Asked.{Asked, Slot, Group, slots_of, slots_from, class_slot}
+use Rattle.ac_query.specs.Gathered.{asked_by}
+use Rattle.ac_query.specs.InOrder.{AreNeeds, IsFirstPlain}
+use Rattle.ac_query.proofs.Ordered.{query_in_order}
 use Rattle.ac_search.specs.Placed.{Placed, placed, assigned}
 use Rattle.ac_search.specs.Together.{sum_on}
+use Rattle.ac_tables.specs.Laws.{AreProviders}
+use Rattle.ac_tables.specs.Tables.{world_stated}
 use Rattle.ac_tables.specs.World.{Provider}
 use Rattle.ac_tables.specs.Sorted.{rising}
-use Rattle.ac_report.specs.Laws.{AreProviders, AreNeeds, IsFirstPlain, RequestsDiffer}
+use Rattle.ac_tables.proofs.ProvidersStated.{providers_in_order}
+use Rattle.ac_report.specs.Laws.{RequestsDiffer, StatedRequestsDiffer}
 use Rattle.ac_report.specs.Trees.{gathered, gives, hosts, allocations, mappings, mappings_from, provider_text, request}
 use Rattle.ac_report.proofs.Differing.{suffixed_agree, classes_agree}
 use Rattle.ac_report.proofs.Finding.{AreTold, find, hosts_agree, mappings_agree}
@@ -164,3 +170,6 @@ requests_differ all asked t u are order at au e =
     (sym (taken_of all told xs t ix (providers_are (slots_of asked) t at.long) low (all_filter P (λ ix. gives xs ix) (rising nat_cmp t) (all_rising P t at.below)))
     ∙ ap (find (provider_text all ix)) taken
     ∙ taken_of all told ys u ix (providers_are (slots_of asked) u au.long) low (all_filter P (λ ix. gives ys ix) (rising nat_cmp u) (all_rising P u au.below))))
+
+pub stated_requests_differ : StatedRequestsDiffer
+stated_requests_differ tables pairs t u = requests_differ (world_stated tables).providers (asked_by pairs) t u (providers_in_order tables) (query_in_order pairs)

@@ -7,7 +7,7 @@ use Rattle.ac_query.specs.Asked.{Group, slots_from, class_slot, suffix_slot}
 use Rattle.ac_search.specs.Placed.{Placed, placed}
 use Rattle.ac_search.specs.Together.{amount_of, sum_on}
 use Rattle.ac_tables.specs.Sorted.{rising}
-use Rattle.ac_report.specs.Laws.{AreApart, AreSuffixed}
+use Rattle.ac_query.specs.InOrder.{AreApart, AreSuffixed}
 use Rattle.ac_report.specs.Trees.{hosts}
 use Rattle.ac_report.proofs.Rows.{not_eq}
 use Rattle.ac_report.proofs.Gathering.{bytes_eq_sym, bytes_eq_refl}

@@ -14,8 +14,8 @@ use Rattle.ac_query.specs.Asked.{Group}
 use Rattle.ac_search.specs.Placed.{Placed}
 use Rattle.ac_tables.specs.World.{Provider}
 use Rattle.ac_tables.specs.Sorted.{rising}
-use Rattle.ac_report.specs.Laws.{AreApart}
-use Rattle.ac_report.specs.Trees.{group_name, hosts, mapping, mappings_from, provider_text, texts}
+use Rattle.ac_query.specs.InOrder.{group_name, AreApart}
+use Rattle.ac_report.specs.Trees.{hosts, mapping, mappings_from, provider_text, texts}
 use Rattle.ac_report.proofs.Gathering.{Named, bytes_eq_refl}
 
 -- the value at a name

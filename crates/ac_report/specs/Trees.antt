@@ -1,7 +1,6 @@
 -- The trees of JSON that a page is made of: summaries of providers, and requests.
 use Rattle.std.specs.Prelude.{ℕ, ◌+◌, ◌==◌, Bool, not, List, [], ◌∷◌, codes, map, Option, Some, None, if◌then◌else◌}
 use Rattle.std.specs.List.{fold, filter, flat_map}
-use Rattle.std.specs.Option.{unwrap_or}
 use Rattle.std.specs.Ordering.{nat_cmp}
 use Rattle.serde_json.specs.Data.{Data, null, number, unsigned, string, array, object, Members, no_members, member, put}
 use Rattle.serde_json.specs.View.{items_of}
@@ -10,6 +9,7 @@ use Rattle.ac_base.specs.Quantities.{capacity}
 use Rattle.ac_tables.specs.Sorted.{rising}
 use Rattle.ac_tables.specs.World.{Held, Provider, provider_at, id_at, parent_of, root_of}
 use Rattle.ac_query.specs.Asked.{Group, Asked}
+use Rattle.ac_query.specs.InOrder.{group_name}
 use Rattle.ac_search.specs.Placed.{Placed, assigned}
 use Rattle.ac_search.specs.Together.{sum_on, is_empty}
 
@@ -76,10 +76,6 @@ allocations all xs list = object (gathered (map (λ ix. (provider_text all ix, a
 -- the providers of the slots of the group at a place
 abbrev pub hosts : List Placed → ℕ → List ℕ
 hosts xs place = map (λ x. x.provider) (filter (λ x. x.slot.place == place) xs)
-
--- the suffix of a group; the empty text stands for the unsuffixed one
-abbrev pub group_name : Option (List ℕ) × Group → List ℕ
-group_name g = unwrap_or g.0 []
 
 -- a group, and the ids of its slots' providers, rising, each once
 unfoldable pub mapping : List Provider → List Placed → ℕ → Option (List ℕ) × Group → List ℕ × Data

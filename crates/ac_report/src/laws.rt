@@ -1,16 +1,24 @@
 //! What holds of pages: each function's contract is a law, and no program calls it.
 
 ghost use Rattle.std.specs.Prelude.{ℕ, List};
+ghost use Rattle.ac_tables.specs.Laws.{AreProviders};
 ghost use Rattle.ac_tables.specs.World.{Provider};
 ghost use Rattle.ac_query.specs.Asked.{Asked};
-ghost use Rattle.ac_report.specs.Laws.{AreProviders, IsInPieces, RequestsDiffer};
+ghost use Rattle.ac_report.specs.Laws.{IsInPieces, RequestsDiffer, StatedRequestsDiffer};
 
 /// The body of any lists is its pieces, joined.
 pub fn body_pieces()
     ensures { (all : List Provider) (asked : Asked) (lists : List (List ℕ)) → AreProviders all → IsInPieces all asked lists }
 {}
 
-/// Two different assignments have different requests, so each candidate that is printed is printed once.
+/// Two different assignments have different requests, so each candidate that is printed is printed once. What it asks of the providers
+/// and of the query holds of all that tables state and texts ask for, by the laws `ac_tables::laws::providers_in_order` and
+/// `ac_query::laws::query_in_order`.
 pub fn requests_differ()
     ensures { RequestsDiffer }
+{}
+
+/// The same of the providers that any tables state and of what any pairs ask for, so of each cloud and each query that is accepted.
+pub fn stated_requests_differ()
+    ensures { StatedRequestsDiffer }
 {}

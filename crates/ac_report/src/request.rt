@@ -10,8 +10,9 @@ ghost use Rattle.ac_query.specs.QueriesShown.{asked_of};
 ghost use Rattle.ac_search.specs.Placed.{assigned};
 ghost use Rattle.ac_tables.specs.CloudWorld.{providers_of};
 ghost use Rattle.ac_report.specs.Pages.{IsAssignment};
+ghost use Rattle.ac_query.specs.InOrder.{group_name};
 ghost use Rattle.ac_report.specs.Parts.{AreHosts, AreNeeds, need_at, row_shown, with_needs, sum_at, sums_of, allocation_of};
-ghost use Rattle.ac_report.specs.Trees.{provider_text, texts, group_name, allocations, mappings, request};
+ghost use Rattle.ac_report.specs.Trees.{provider_text, texts, allocations, mappings, request};
 ghost use Rattle.ac_report.specs.Texts.{request_text};
 
 use crate::ids::{id_string, id_value};

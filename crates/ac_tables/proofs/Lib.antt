@@ -34,3 +34,6 @@ pub mod StatedWorld
 pub mod LookupFacts
 pub mod AncestorFacts
 pub mod AvailableFacts
+pub mod SortedSets
+pub mod IdsFit
+pub mod ProvidersStated

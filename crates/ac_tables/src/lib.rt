@@ -15,6 +15,7 @@ mod forest;
 mod holding;
 mod ids;
 mod inventories;
+pub mod laws;
 mod listed;
 mod lists;
 mod mark;

@@ -12,7 +12,8 @@ use Rattle.ac_query.specs.QueriesShown.{asked_of}
 use Rattle.ac_search.specs.Placed.{assigned}
 use Rattle.ac_tables.specs.Sorted.{rising}
 use Rattle.ac_tables.specs.CloudWorld.{providers_of}
-use Rattle.ac_report.specs.Trees.{gathered, group_name, hosts, mapping, mappings, mappings_from, provider_text, texts}
+use Rattle.ac_query.specs.InOrder.{group_name}
+use Rattle.ac_report.specs.Trees.{gathered, hosts, mapping, mappings, mappings_from, provider_text, texts}
 use Rattle.ac_report.proofs.Gathering.{put_same}
 use Rattle.ac_report.proofs.Serving.{all_hosts, all_rising, entry_at, mapped_more}
 use Rattle.ac_report.proofs.request.mappings_value.Goals as goal

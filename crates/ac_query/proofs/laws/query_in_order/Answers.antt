@@ -1,0 +1,5 @@
+use Rattle.ac_query.proofs.Ordered.{query_in_order}
+use Rattle.ac_query.proofs.laws.query_in_order.Goals as goal
+
+pub returns : goal.returns
+returns c = query_in_order
