@@ -11,6 +11,8 @@ pub mod page;
 mod pushing;
 pub mod request;
 pub mod summary;
+#[cfg(test)]
+mod tests;
 
 pub use fault::PageFault;
 pub use lines::write_tokens;
