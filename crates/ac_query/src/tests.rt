@@ -1,6 +1,7 @@
 //! What queries and tokens are read as, and which fault is told of those that are refused.
 use crate::{Group, Need, Query, QueryFault, Token, TokenFault, write_ids};
 use ac_base::{Id, Suffix, TraitName};
+use ac_tables::{Cloud, Sources};
 use std::alloc::{AllocError, Global};
 use std::test::Fail;
 
@@ -354,5 +355,50 @@ fn tokens(rt: HostRuntime) -> Result<(), Fail> {
             assert_eq!(rt; told.as_str(), "accepted");
         }
     }
+    Ok(())
+}
+
+/// A provider and its child.
+fn pair(alloc: Global) -> Option<Cloud> {
+    let src = Sources {
+        providers: b"uuid,root_provider_uuid,parent_provider_uuid\n00000000-0000-0000-0000-000000000001,00000000-0000-0000-0000-000000000001,\n00000000-0000-0000-0000-000000000002,00000000-0000-0000-0000-000000000001,00000000-0000-0000-0000-000000000001\n",
+        inventories: b"resource_provider,resource_class,total,reserved,min_unit,max_unit,step_size,allocation_ratio\n",
+        usages: None,
+        traits: None,
+        aggregates: None,
+    };
+    Cloud::read(alloc, &src).ok()
+}
+
+/// The text of a list, the token that is read of it, and where its providers stand.
+#[test]
+fn tokens_of_a_cloud(rt: HostRuntime) -> Result<(), Fail> {
+    let alloc = rt.alloc();
+    let cloud = pair(alloc).ok_or("two providers")?;
+    let Ok(query) = Query::read(
+        alloc,
+        "resources1=VCPU:5&resources2=VCPU:5&group_policy=none",
+    ) else {
+        assert!(rt; false, "the query is accepted");
+        return Ok(());
+    };
+    assert_eq!(rt; cloud.len(), 2);
+    let text = Token::write(alloc, &cloud, &[0, 1])?;
+    assert_eq!(rt;
+        text.as_str(),
+        "00000000-0000-0000-0000-000000000001,00000000-0000-0000-0000-000000000002"
+    );
+    let token = Token::read(alloc, text.as_str(), &query)?;
+    let places = token.locate(alloc, &cloud)?.ok_or("two places")?;
+    assert_eq!(rt; places.as_slice(), [0, 1].as_slice());
+    let other = Token::read(
+        alloc,
+        "00000000-0000-0000-0000-000000000001,00000000-0000-0000-0000-000000000007",
+        &query,
+    )?;
+    assert!(rt;
+        other.locate(alloc, &cloud)?.is_none(),
+        "one is no provider"
+    );
     Ok(())
 }

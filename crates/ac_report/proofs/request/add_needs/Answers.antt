@@ -1,4 +1,4 @@
-use Rattle.std.proofs.Common.{◌≡◌, ◌∙◌, ap, map, rules}
+use Rattle.std.proofs.Common.{◌∙◌, ap, map, rules}
 use Rattle.std.specs.Prelude.{unwrap_or}
 use Rattle.ac_query.specs.GroupsShown.{need_entry}
 use Rattle.ac_report.proofs.Serving.{needs_added}
