@@ -7,6 +7,8 @@ mod Literals
 pub mod Header
 pub mod Progress
 pub mod ListedPlaces
+pub mod SearchFacts
+pub mod OrderedFacts
 pub mod SortedFacts
 pub mod ListedFacts
 pub mod StepsUp

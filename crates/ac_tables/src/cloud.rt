@@ -12,6 +12,7 @@ ghost use Rattle.ac_tables.specs.World.{provider_at, id_at, place_of, parent_of,
 
 use crate::entry::Entry;
 use crate::ids::Ids;
+use crate::ordered::{AggregateList, EntryList, TraitList};
 use ac_base::{ClassName, Id, Inventory, TraitName};
 
 /// How much the tables tell.
@@ -35,9 +36,9 @@ pub struct Cloud {
     pub(crate) ids: Ids,
     pub(crate) parents: Vec<Option<u32>>,
     pub(crate) roots: Vec<u32>,
-    pub(crate) entries: Vec<Vec<Entry>>,
-    pub(crate) traits: Vec<Vec<TraitName>>,
-    pub(crate) aggregates: Vec<Vec<Id>>,
+    pub(crate) entries: Vec<EntryList>,
+    pub(crate) traits: Vec<TraitList>,
+    pub(crate) aggregates: Vec<AggregateList>,
     pub(crate) counts: Counts,
     ghost with_parents: { length parents.items ≡ length ids.ids.items },
     ghost with_roots: { length roots.items ≡ length ids.ids.items },
@@ -109,7 +110,7 @@ impl Cloud {
         requires { ix < length (providers_of self.now) }
         ensures { map entry_pair result.now ≡ (provider_at (providers_of self.now) ix).holdings }
     {
-        self.entries[ix as usize].as_slice()
+        self.entries[ix as usize].entries.as_slice()
     }
 
     /// A provider's traits in byte order, each once.
@@ -117,7 +118,7 @@ impl Cloud {
         requires { ix < length (providers_of self.now) }
         ensures { map trait_bytes result.now ≡ (provider_at (providers_of self.now) ix).traits }
     {
-        self.traits[ix as usize].as_slice()
+        self.traits[ix as usize].names.as_slice()
     }
 
     // Where a class stands among a provider's entries.
@@ -125,8 +126,7 @@ impl Cloud {
         requires { ix < length (providers_of self.now) }
         ensures { option_map entry_held (option_copied result) ≡ held_of (provider_at (providers_of self.now) ix) (class_bytes class.now) }
     {
-        let entries = self.entries(ix);
-        find(entries, class)
+        self.entries[ix as usize].find(class)
     }
 
     /// A provider's inventory of a class, where it has one.
@@ -156,7 +156,7 @@ impl Cloud {
         requires { ix < length (providers_of self.now) }
         ensures { result ≡ has_trait (provider_at (providers_of self.now) ix) (trait_bytes name.now) }
     {
-        holds(self.traits(ix), name.text().as_bytes())
+        self.traits[ix as usize].has(name)
     }
 
     // A provider's aggregates, rising.
@@ -164,7 +164,7 @@ impl Cloud {
         requires { ix < length (providers_of self.now) }
         ensures { result.now ≡ (provider_at (providers_of self.now) ix).aggregates }
     {
-        self.aggregates[ix as usize].as_slice()
+        self.aggregates[ix as usize].ids.as_slice()
     }
 
     /// Whether a provider itself belongs to an aggregate.
@@ -172,7 +172,7 @@ impl Cloud {
         requires { ix < length (providers_of self.now) }
         ensures { result ≡ is_member (provider_at (providers_of self.now) ix) aggregate }
     {
-        self.aggregates(ix).contains(&aggregate)
+        self.aggregates[ix as usize].has(aggregate)
     }
 
     /// Whether provider `a` is above `b`, or is `b`.
@@ -199,7 +199,7 @@ impl Cloud {
         requires { ix < length (providers_of self.now) }
         ensures { result ≡ shares (provider_at (providers_of self.now) ix) }
     {
-        holds(self.traits(ix), b"MISC_SHARES_VIA_AGGREGATE")
+        self.traits[ix as usize].shares
     }
 
     // Whether another provider is of the tree of a root and has an aggregate in common with this one.
@@ -248,25 +248,6 @@ impl Cloud {
         }
         self.is_associated(ix, root)
     }
-}
-
-// The entry of a class.
-fn find<'a>(entries: &'a [Entry], class: &ClassName) -> Option<&'a Entry>
-    ensures { option_map entry_held (option_copied result) ≡ lookup (bytes_eq (class_bytes class.now)) (map entry_pair entries.now) }
-{
-    for entry in entries {
-        if class == entry.class() {
-            return Some(entry);
-        }
-    }
-    None
-}
-
-// Whether one of these names is this text.
-fn holds(names: &[TraitName], text: &[u8]) -> bool
-    ensures { result ≡ list_any (λ name. bytes_eq text.now (trait_bytes name)) names.now }
-{
-    names.iter().any(|name| text == name.text().as_bytes())
 }
 
 // Whether two lists have an id in common.

@@ -20,6 +20,7 @@ mod lists;
 mod mark;
 mod membership;
 mod numbered;
+mod ordered;
 mod providers;
 pub mod read;
 pub mod reading;
