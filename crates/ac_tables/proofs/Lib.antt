@@ -36,3 +36,6 @@ pub mod StatedWorld
 pub mod LookupFacts
 pub mod AncestorFacts
 pub mod AvailableFacts
+pub mod GroupFacts
+pub mod AnchorLists
+pub mod AnchorFacts

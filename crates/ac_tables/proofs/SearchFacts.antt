@@ -25,7 +25,7 @@ eq_back Less = refl
 eq_back Equal = refl
 eq_back Greater = refl
 
-no_any : {X : Type 0} (test : X → Bool) (xs : List X) → ((k : ℕ) (d : X) → k < length xs → test (get_or xs k d) ≡ false) → list_any test xs ≡ false
+pub no_any : {X : Type 0} (test : X → Bool) (xs : List X) → ((k : ℕ) (d : X) → k < length xs → test (get_or xs k d) ≡ false) → list_any test xs ≡ false
 no_any test [] h = refl
 no_any test (x ∷ xs) h = rw (h zero x (omega arith)) (no_any test xs (λ (k : ℕ) d (inside : k < length xs). h (suc k) d (omega arith)))
 

@@ -1,15 +1,18 @@
 //! The cloud that accepted tables state.
 ghost use Rattle.std.specs.Prelude.{◌==◌, ◌&&◌, ◌≡◌, ◌<◌, ◌≤◌, ◌+◌, ℕ, Option, None, Some, List, map, length, get_or, IfOk, IfErr, IfSome, IfNone};
-ghost use Rattle.std.specs.Option.{option_map, option_and_then, option_copied};
+ghost use Rattle.std.specs.Option.{is_some, option_map, option_and_then, option_copied};
 ghost use Rattle.ac_base.specs.Names.{class_bytes, trait_bytes};
 ghost use Rattle.ac_tables.specs.Trees.{top};
 ghost use Rattle.ac_tables.specs.Places.{parent_in, AreWithin};
 ghost use Rattle.std.specs.List.{list_any};
 ghost use Rattle.std.specs.Map.{lookup};
 ghost use Rattle.std.specs.Str.{bytes_eq};
+ghost use Rattle.ac_tables.specs.Anchors.{is_marked, AreJoined};
+ghost use Rattle.ac_tables.specs.Lists.{id_list};
 ghost use Rattle.ac_tables.specs.Entries.{entry_pair, entry_held};
-ghost use Rattle.ac_tables.specs.World.{provider_at, id_at, place_of, parent_of, root_of, is_above, held_of, used_of, has_trait, is_member, shares, have_common_aggregate, is_associated, is_available_at};
+ghost use Rattle.ac_tables.specs.World.{provider_at, id_at, place_of, parent_of, root_of, is_above, held_of, used_of, has_trait, is_member, shares, have_common_aggregate, is_associated, is_available_at, anchors_of};
 
+use crate::anchors::Anchors;
 use crate::entry::Entry;
 use crate::ids::Ids;
 use crate::ordered::{AggregateList, EntryList, TraitList};
@@ -39,6 +42,7 @@ pub struct Cloud {
     pub(crate) entries: Vec<EntryList>,
     pub(crate) traits: Vec<TraitList>,
     pub(crate) aggregates: Vec<AggregateList>,
+    pub(crate) anchors: Anchors,
     pub(crate) counts: Counts,
     ghost with_parents: { length parents.items ≡ length ids.ids.items },
     ghost with_roots: { length roots.items ≡ length ids.ids.items },
@@ -47,6 +51,9 @@ pub struct Cloud {
     ghost with_aggregates: { length aggregates.items ≡ length ids.ids.items },
     ghost within: { AreWithin (length ids.ids.items) parents.items },
     ghost rooted: { (i : ℕ) → i < length ids.ids.items → get_or roots.items i 0 ≡ top (parent_in parents.items) (length ids.ids.items) i },
+    ghost with_anchors: { length anchors.places.items ≡ length ids.ids.items },
+    ghost joined: { AreJoined roots.items (map id_list aggregates.items) anchors.lists.items anchors.places.items },
+    ghost marked: { (j : ℕ) → j < length ids.ids.items → is_some (get_or anchors.places.items j None) ≡ is_marked traits.items (map id_list aggregates.items) j },
     ghost ends: { (i : ℕ) → i < length ids.ids.items → parent_in parents.items (get_or roots.items i 0) ≡ None },
 }
 
@@ -247,6 +254,18 @@ impl Cloud {
             return false;
         }
         self.is_associated(ix, root)
+    }
+
+    /// The roots of all trees in which a provider is available, rising.
+    pub fn anchors(&self, ix: u32) -> &[u32]
+        requires { ix < length (providers_of self.now) }
+        ensures { result.now ≡ anchors_of (providers_of self.now) ix }
+    {
+        let ix = ix as usize;
+        match self.anchors.places[ix] {
+            Some(place) => self.anchors.lists[place as usize].as_slice(),
+            None => &self.roots[ix..=ix],
+        }
     }
 }
 

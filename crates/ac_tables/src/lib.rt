@@ -4,6 +4,7 @@
 #![tactic(auto)]
 
 mod aggregates;
+mod anchors;
 mod build;
 mod climbing;
 pub mod cloud;
@@ -12,9 +13,11 @@ pub mod entry;
 pub mod fault;
 mod fields;
 mod forest;
+mod groups;
 mod holding;
 mod ids;
 mod inventories;
+mod kept;
 mod listed;
 mod lists;
 mod mark;

@@ -280,6 +280,12 @@ fn answers_of_a_small_cloud(rt: HostRuntime) {
         "available"
     );
     assert!(rt;
+        cloud.anchors(4) == [0u32, 2, 4].as_slice()
+            && cloud.anchors(3) == [2u32].as_slice()
+            && cloud.anchors(0) == [0u32].as_slice(),
+        "anchors"
+    );
+    assert!(rt;
         cloud.entries(0).len() == 2 && cloud.traits(4).len() == 2,
         "lists"
     );
