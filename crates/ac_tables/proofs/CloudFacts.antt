@@ -3,14 +3,14 @@ use Rattle.std.proofs.Common.{◌≡◌, ◌<◌, ◌∙◌, ℕ, List, [], map,
 use Rattle.std.specs.Prelude.{IfSome}
 use Rattle.std.specs.Option.{option_map}
 use Rattle.std.proofs.lemmas.List.{get_or-map}
-use Rattle.std.specs.Global.{Vec}
 use Rattle.ac_tables.specs.Places.{parent_in, rank}
 use Rattle.ac_tables.specs.World.{provider_at, id_at, place_of, parent_of, root_of}
 use Rattle.ac_tables.specs.Lists.{held_list, name_list, id_list}
 use Rattle.ac_tables.specs.CloudWorld.{providers_of}
 use Rattle.ac_tables.specs.declared.cloud.Cloud.{Cloud}
-use Rattle.ac_tables.specs.declared.entry.Entry.{Entry}
-use Rattle.ac_base.specs.declared.name.TraitName.{TraitName}
+use Rattle.ac_tables.specs.declared.ordered.EntryList.{EntryList}
+use Rattle.ac_tables.specs.declared.ordered.TraitList.{TraitList}
+use Rattle.ac_tables.specs.declared.ordered.AggregateList.{AggregateList}
 use Rattle.ac_tables.proofs.WorldFacts.{numbered_size, numbered_here, numbered_place, numbered_parent, numbered_root}
 
 module _ (c : Cloud) where
@@ -48,19 +48,19 @@ module _ (c : Cloud) where
       id_here (get_or c.roots.items ix 0) (root_inside ix h)
       ∙ ap (λ (j : ℕ). get_or ids j 0) (c.rooted ix h) ∙ sym r.1 ∙ ap (root_of (providers_of c)) (sym (id_here ix h))
 
-  pub holdings_here : (ix : ℕ) (v : Vec Entry) → ix < length c.ids.ids.items → v ≡ get_or c.entries.items ix v → held_list v ≡ (provider_at (providers_of c) ix).holdings
+  pub holdings_here : (ix : ℕ) (v : EntryList) → ix < length c.ids.ids.items → v ≡ get_or c.entries.items ix v → held_list v ≡ (provider_at (providers_of c) ix).holdings
   holdings_here ix v h e =
       let k : ix < length c.entries.items = omega (arith, h, c.with_entries) in
       ap held_list e ∙ sym (get_or-map held_list c.entries.items ix v [] k)
       ∙ sym (ap (λ p. p.holdings) (numbered_here ids c.parents.items (map held_list c.entries.items) (map name_list c.traits.items) (map id_list c.aggregates.items) ix h))
 
-  pub traits_here : (ix : ℕ) (v : Vec TraitName) → ix < length c.ids.ids.items → v ≡ get_or c.traits.items ix v → name_list v ≡ (provider_at (providers_of c) ix).traits
+  pub traits_here : (ix : ℕ) (v : TraitList) → ix < length c.ids.ids.items → v ≡ get_or c.traits.items ix v → name_list v ≡ (provider_at (providers_of c) ix).traits
   traits_here ix v h e =
       let k : ix < length c.traits.items = omega (arith, h, c.with_traits) in
       ap name_list e ∙ sym (get_or-map name_list c.traits.items ix v [] k)
       ∙ sym (ap (λ p. p.traits) (numbered_here ids c.parents.items (map held_list c.entries.items) (map name_list c.traits.items) (map id_list c.aggregates.items) ix h))
 
-  pub aggregates_here : (ix : ℕ) (v : Vec ℕ) → ix < length c.ids.ids.items → v ≡ get_or c.aggregates.items ix v → id_list v ≡ (provider_at (providers_of c) ix).aggregates
+  pub aggregates_here : (ix : ℕ) (v : AggregateList) → ix < length c.ids.ids.items → v ≡ get_or c.aggregates.items ix v → id_list v ≡ (provider_at (providers_of c) ix).aggregates
   aggregates_here ix v h e =
       let k : ix < length c.aggregates.items = omega (arith, h, c.with_aggregates) in
       ap id_list e ∙ sym (get_or-map id_list c.aggregates.items ix v [] k)

@@ -20,7 +20,7 @@ use Rattle.ac_tables.specs.Entries.{entry_pair}
 use Rattle.ac_tables.specs.declared.entry.Entry.{Entry}
 
 -- looking up by equal tests
-lookup_same : {K X : Type 0} (p q : K → Bool) (same : (k : K) → p k ≡ q k) (es : List (K × X)) → lookup p es ≡ lookup q es
+pub lookup_same : {K X : Type 0} (p q : K → Bool) (same : (k : K) → p k ≡ q k) (es : List (K × X)) → lookup p es ≡ lookup q es
 lookup_same p q same [] = refl
 lookup_same p q same (e ∷ es) = ap₂ (λ b o. if b then Some e.1 else o) (same e.0) (lookup_same p q same es)
 

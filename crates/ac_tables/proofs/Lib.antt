@@ -7,6 +7,8 @@ mod Literals
 pub mod Header
 pub mod Progress
 pub mod ListedPlaces
+pub mod SearchFacts
+pub mod OrderedFacts
 pub mod SortedFacts
 pub mod ListedFacts
 pub mod StepsUp
@@ -37,3 +39,6 @@ pub mod AvailableFacts
 pub mod SortedSets
 pub mod IdsFit
 pub mod ProvidersStated
+pub mod GroupFacts
+pub mod AnchorLists
+pub mod AnchorFacts

@@ -9,6 +9,7 @@ ghost use Rattle.ac_tables.specs.Lists.{zip_used};
 ghost use Rattle.ac_tables.specs.Numbered.{numbered};
 
 use crate::aggregates::Aggregates;
+use crate::anchors::find_anchors;
 use crate::climbing::find_tops;
 use crate::cloud::{Cloud, Counts};
 use crate::forest::find_parents;
@@ -58,6 +59,7 @@ impl Cloud {
         let entries = join_all(alloc, inventories.maps, &usages.maps)?;
         let traits = trait_lists(alloc, traits.sets)?;
         let aggregates = aggregate_lists(alloc, &aggregates.sets)?;
+        let anchors = find_anchors(alloc, &roots, &traits, &aggregates)?;
         Ok(Cloud {
             ids,
             parents,
@@ -65,6 +67,7 @@ impl Cloud {
             entries,
             traits,
             aggregates,
+            anchors,
             counts,
         })
     }

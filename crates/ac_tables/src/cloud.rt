@@ -1,17 +1,21 @@
 //! The cloud that accepted tables state.
 ghost use Rattle.std.specs.Prelude.{◌==◌, ◌&&◌, ◌≡◌, ◌<◌, ◌≤◌, ◌+◌, ℕ, Option, None, Some, List, map, length, get_or, IfOk, IfErr, IfSome, IfNone};
-ghost use Rattle.std.specs.Option.{option_map, option_and_then, option_copied};
+ghost use Rattle.std.specs.Option.{is_some, option_map, option_and_then, option_copied};
 ghost use Rattle.ac_base.specs.Names.{class_bytes, trait_bytes};
 ghost use Rattle.ac_tables.specs.Trees.{top};
 ghost use Rattle.ac_tables.specs.Places.{parent_in, AreWithin};
 ghost use Rattle.std.specs.List.{list_any};
 ghost use Rattle.std.specs.Map.{lookup};
 ghost use Rattle.std.specs.Str.{bytes_eq};
+ghost use Rattle.ac_tables.specs.Anchors.{is_marked, AreJoined};
+ghost use Rattle.ac_tables.specs.Lists.{id_list};
 ghost use Rattle.ac_tables.specs.Entries.{entry_pair, entry_held};
-ghost use Rattle.ac_tables.specs.World.{provider_at, id_at, place_of, parent_of, root_of, is_above, held_of, used_of, has_trait, is_member, shares, have_common_aggregate, is_associated, is_available_at};
+ghost use Rattle.ac_tables.specs.World.{provider_at, id_at, place_of, parent_of, root_of, is_above, held_of, used_of, has_trait, is_member, shares, have_common_aggregate, is_associated, is_available_at, anchors_of};
 
+use crate::anchors::Anchors;
 use crate::entry::Entry;
 use crate::ids::Ids;
+use crate::ordered::{AggregateList, EntryList, TraitList};
 use ac_base::{ClassName, Id, Inventory, TraitName};
 
 /// How much the tables tell.
@@ -35,9 +39,10 @@ pub struct Cloud {
     pub(crate) ids: Ids,
     pub(crate) parents: Vec<Option<u32>>,
     pub(crate) roots: Vec<u32>,
-    pub(crate) entries: Vec<Vec<Entry>>,
-    pub(crate) traits: Vec<Vec<TraitName>>,
-    pub(crate) aggregates: Vec<Vec<Id>>,
+    pub(crate) entries: Vec<EntryList>,
+    pub(crate) traits: Vec<TraitList>,
+    pub(crate) aggregates: Vec<AggregateList>,
+    pub(crate) anchors: Anchors,
     pub(crate) counts: Counts,
     ghost with_parents: { length parents.items ≡ length ids.ids.items },
     ghost with_roots: { length roots.items ≡ length ids.ids.items },
@@ -46,6 +51,9 @@ pub struct Cloud {
     ghost with_aggregates: { length aggregates.items ≡ length ids.ids.items },
     ghost within: { AreWithin (length ids.ids.items) parents.items },
     ghost rooted: { (i : ℕ) → i < length ids.ids.items → get_or roots.items i 0 ≡ top (parent_in parents.items) (length ids.ids.items) i },
+    ghost with_anchors: { length anchors.places.items ≡ length ids.ids.items },
+    ghost joined: { AreJoined roots.items (map id_list aggregates.items) anchors.lists.items anchors.places.items },
+    ghost marked: { (j : ℕ) → j < length ids.ids.items → is_some (get_or anchors.places.items j None) ≡ is_marked traits.items (map id_list aggregates.items) j },
     ghost ends: { (i : ℕ) → i < length ids.ids.items → parent_in parents.items (get_or roots.items i 0) ≡ None },
 }
 
@@ -109,7 +117,7 @@ impl Cloud {
         requires { ix < length (providers_of self.now) }
         ensures { map entry_pair result.now ≡ (provider_at (providers_of self.now) ix).holdings }
     {
-        self.entries[ix as usize].as_slice()
+        self.entries[ix as usize].entries.as_slice()
     }
 
     /// A provider's traits in byte order, each once.
@@ -117,7 +125,7 @@ impl Cloud {
         requires { ix < length (providers_of self.now) }
         ensures { map trait_bytes result.now ≡ (provider_at (providers_of self.now) ix).traits }
     {
-        self.traits[ix as usize].as_slice()
+        self.traits[ix as usize].names.as_slice()
     }
 
     // Where a class stands among a provider's entries.
@@ -125,8 +133,7 @@ impl Cloud {
         requires { ix < length (providers_of self.now) }
         ensures { option_map entry_held (option_copied result) ≡ held_of (provider_at (providers_of self.now) ix) (class_bytes class.now) }
     {
-        let entries = self.entries(ix);
-        find(entries, class)
+        self.entries[ix as usize].find(class)
     }
 
     /// A provider's inventory of a class, where it has one.
@@ -156,7 +163,7 @@ impl Cloud {
         requires { ix < length (providers_of self.now) }
         ensures { result ≡ has_trait (provider_at (providers_of self.now) ix) (trait_bytes name.now) }
     {
-        holds(self.traits(ix), name.text().as_bytes())
+        self.traits[ix as usize].has(name)
     }
 
     // A provider's aggregates, rising.
@@ -164,7 +171,7 @@ impl Cloud {
         requires { ix < length (providers_of self.now) }
         ensures { result.now ≡ (provider_at (providers_of self.now) ix).aggregates }
     {
-        self.aggregates[ix as usize].as_slice()
+        self.aggregates[ix as usize].ids.as_slice()
     }
 
     /// Whether a provider itself belongs to an aggregate.
@@ -172,7 +179,7 @@ impl Cloud {
         requires { ix < length (providers_of self.now) }
         ensures { result ≡ is_member (provider_at (providers_of self.now) ix) aggregate }
     {
-        self.aggregates(ix).contains(&aggregate)
+        self.aggregates[ix as usize].has(aggregate)
     }
 
     /// Whether provider `a` is above `b`, or is `b`.
@@ -199,7 +206,7 @@ impl Cloud {
         requires { ix < length (providers_of self.now) }
         ensures { result ≡ shares (provider_at (providers_of self.now) ix) }
     {
-        holds(self.traits(ix), b"MISC_SHARES_VIA_AGGREGATE")
+        self.traits[ix as usize].shares
     }
 
     // Whether another provider is of the tree of a root and has an aggregate in common with this one.
@@ -248,25 +255,18 @@ impl Cloud {
         }
         self.is_associated(ix, root)
     }
-}
 
-// The entry of a class.
-fn find<'a>(entries: &'a [Entry], class: &ClassName) -> Option<&'a Entry>
-    ensures { option_map entry_held (option_copied result) ≡ lookup (bytes_eq (class_bytes class.now)) (map entry_pair entries.now) }
-{
-    for entry in entries {
-        if class == entry.class() {
-            return Some(entry);
+    /// The roots of all trees in which a provider is available, rising.
+    pub fn anchors(&self, ix: u32) -> &[u32]
+        requires { ix < length (providers_of self.now) }
+        ensures { result.now ≡ anchors_of (providers_of self.now) ix }
+    {
+        let ix = ix as usize;
+        match self.anchors.places[ix] {
+            Some(place) => self.anchors.lists[place as usize].as_slice(),
+            None => &self.roots[ix..=ix],
         }
     }
-    None
-}
-
-// Whether one of these names is this text.
-fn holds(names: &[TraitName], text: &[u8]) -> bool
-    ensures { result ≡ list_any (λ name. bytes_eq text.now (trait_bytes name)) names.now }
-{
-    names.iter().any(|name| text == name.text().as_bytes())
 }
 
 // Whether two lists have an id in common.

@@ -4,6 +4,7 @@
 #![tactic(auto)]
 
 mod aggregates;
+mod anchors;
 mod build;
 mod climbing;
 pub mod cloud;
@@ -12,15 +13,18 @@ pub mod entry;
 pub mod fault;
 mod fields;
 mod forest;
+mod groups;
 mod holding;
 mod ids;
 mod inventories;
+mod kept;
 pub mod laws;
 mod listed;
 mod lists;
 mod mark;
 mod membership;
 mod numbered;
+mod ordered;
 mod providers;
 pub mod read;
 pub mod reading;

@@ -1,6 +1,7 @@
-use crate::{Cloud, ReadFault, Sources, Table, TableFault, TableKind, drain};
+use crate::{Cloud, Counts, ReadFault, Sources, Table, TableFault, TableKind, drain};
 use ac_base::{ClassName, Id, MemFeed, TraitName, Turn};
-use std::alloc::Global;
+use std::alloc::{AllocError, Global};
+use std::test::Fail;
 
 const LIMIT: usize = 67_108_864;
 
@@ -166,6 +167,18 @@ fn tells_each_fault_of_the_other_tables(rt: HostRuntime) {
             Some("resource_provider,name\n00000000-0000-0000-0000-000000000001,hw_x"),
             at(Table::Traits, 2, TableKind::BadTrait),
         ),
+        (
+            "resource_provider,resource_class,total,reserved,min_unit,max_unit,step_size,allocation_ratio\n00000000-0000-0000-0000-000000000001,VCPU,8,0,1,8,1,1.2345",
+            None,
+            None,
+            at(Table::Inventories, 2, TableKind::BadRatio),
+        ),
+        (
+            "resource_provider,resource_class,total,reserved,min_unit,max_unit,step_size,allocation_ratio\n00000000-0000-0000-0000-000000000001,VCPU,8,0,1,8,1,1.500000",
+            None,
+            None,
+            None,
+        ),
         (VCPU, None, None, None),
     ];
     for (inventories, usages, traits, want) in cases {
@@ -267,6 +280,12 @@ fn answers_of_a_small_cloud(rt: HostRuntime) {
         "available"
     );
     assert!(rt;
+        cloud.anchors(4) == [0u32, 2, 4].as_slice()
+            && cloud.anchors(3) == [2u32].as_slice()
+            && cloud.anchors(0) == [0u32].as_slice(),
+        "anchors"
+    );
+    assert!(rt;
         cloud.entries(0).len() == 2 && cloud.traits(4).len() == 2,
         "lists"
     );
@@ -321,4 +340,137 @@ fn bears_a_thousand_interrupted_calls(rt: HostRuntime) {
         matches!(drain(rt.alloc(), &mut feed), Err(ReadFault::Unreadable)),
         "1001 aren't"
     );
+}
+
+#[test]
+fn tells_a_cycle_before_a_fault_of_the_inventories(rt: HostRuntime) {
+    let providers = "uuid,root_provider_uuid,parent_provider_uuid
+00000000-0000-0000-0000-000000000001,00000000-0000-0000-0000-000000000002,00000000-0000-0000-0000-000000000002
+00000000-0000-0000-0000-000000000002,00000000-0000-0000-0000-000000000001,00000000-0000-0000-0000-000000000001
+";
+    let inventories =
+        "resource_provider,resource_class,total,reserved,min_unit,max_unit,step_size,allocation_ratio
+00000000-0000-0000-0000-000000000001,vcpu,8,0,1,8,1,1.0
+";
+    let got = told(rt.alloc(), (providers, inventories, None, None, None));
+    assert!(rt;
+        got == at(Table::Providers, 2, TableKind::ParentCycle),
+        "the cycle"
+    );
+}
+
+#[test]
+fn takes_absent_tables_for_headers(rt: HostRuntime) {
+    let src = Sources {
+        providers: ONE.as_bytes(),
+        inventories: VCPU.as_bytes(),
+        usages: None,
+        traits: None,
+        aggregates: None,
+    };
+    let want = Counts {
+        providers: 1,
+        inventories: 1,
+        usages: 0,
+        traits: 0,
+        aggregates: 0,
+    };
+    match Cloud::read(rt.alloc(), &src) {
+        Ok(cloud) => assert!(rt; cloud.counts() == want, "counts"),
+        Err(_) => assert!(rt; false, "the tables are accepted"),
+    }
+}
+
+// The UUID of a number.
+fn id_text(alloc: Global, number: u32) -> Result<String, AllocError> {
+    format!(in alloc; "00000000-0000-0000-0000-{number:012x}")
+}
+
+// A table of so many providers, each of whom has the parent that this tells of its number.
+fn providers_table(alloc: Global, numbers: &[u32], chained: bool) -> Result<String, AllocError> {
+    let mut text = String::new(alloc);
+    text.push_str("uuid,root_provider_uuid,parent_provider_uuid\n")?;
+    for &number in numbers {
+        let root = if chained { 0 } else { number };
+        text.push_str(id_text(alloc, number)?.as_str())?;
+        text.push_str(",")?;
+        text.push_str(id_text(alloc, root)?.as_str())?;
+        text.push_str(",")?;
+        if chained && number > 0 {
+            text.push_str(id_text(alloc, number - 1)?.as_str())?;
+        }
+        text.push_str("\n")?;
+    }
+    Ok(text)
+}
+
+const NO_STOCKS: &str =
+    "resource_provider,resource_class,total,reserved,min_unit,max_unit,step_size,allocation_ratio";
+
+#[test]
+fn tells_the_65537th_provider(rt: HostRuntime) -> Result<(), Fail> {
+    let numbers: Vec<u32> = (0..65_537u32).collect(rt.alloc())?;
+    let text = providers_table(rt.alloc(), &numbers, false)?;
+    let got = told(rt.alloc(), (text.as_str(), NO_STOCKS, None, None, None));
+    assert!(rt;
+        got == at(Table::Providers, 65_538, TableKind::TooManyProviders),
+        "one too many"
+    );
+    Ok(())
+}
+
+#[test]
+fn reads_a_chain_of_65536_in_any_order(rt: HostRuntime) -> Result<(), Fail> {
+    for step in [65_535u32, 40_503] {
+        let numbers: Vec<u32> = (1..65_537u32)
+            .map(|turn| turn.wrapping_mul(step) % 65_536)
+            .collect(rt.alloc())?;
+        let text = providers_table(rt.alloc(), &numbers, true)?;
+        match read(rt.alloc(), (text.as_str(), NO_STOCKS, None, None, None)) {
+            Ok(cloud) => {
+                assert_eq!(rt; cloud.len(), 65_536, "providers");
+                assert!(rt; cloud.root(65_535) == 0 && cloud.root(0) == 0, "the root");
+                assert!(rt;
+                    cloud.parent(40_000) == Some(39_999) && cloud.parent(0).is_none(),
+                    "parents"
+                );
+                assert!(rt;
+                    cloud.is_ancestor(0, 65_535)
+                        && cloud.is_ancestor(40_000, 40_001)
+                        && !cloud.is_ancestor(40_001, 40_000),
+                    "above"
+                );
+            }
+            Err(_) => assert!(rt; false, "the chain is accepted"),
+        }
+    }
+    Ok(())
+}
+
+#[test]
+fn drains_no_more_than_the_limit(rt: HostRuntime) -> Result<(), Fail> {
+    for (count, fits) in [(LIMIT - 1, true), (LIMIT, true), (LIMIT + 1, false)] {
+        let bytes = vec![in rt.alloc(); b'x'; count]?;
+        let mut feed = MemFeed::new(&bytes, &[]);
+        match drain(rt.alloc(), &mut feed) {
+            Ok(drained) => assert!(rt; fits && drained.len() == count, "all bytes"),
+            Err(fault) => assert!(rt; !fits && fault == ReadFault::TooLarge, "too many"),
+        }
+    }
+    Ok(())
+}
+
+// Run with each growth refused in turn: the answer is whole, or want of memory.
+#[test]
+fn bears_a_refused_growth(rt: HostRuntime) {
+    let tables = (TREES, STOCKS, Some(USED), Some(MARKS), Some(GROUPS));
+    match read(rt.alloc(), tables) {
+        Ok(cloud) => assert!(rt; cloud.len() == 5 && cloud.counts().aggregates == 3, "whole"),
+        Err(fault) => assert!(rt; fault == TableFault::NoMemory, "want of memory"),
+    }
+    let mut feed = MemFeed::new(TREES.as_bytes(), &[]);
+    match drain(rt.alloc(), &mut feed) {
+        Ok(bytes) => assert!(rt; bytes.as_slice() == TREES.as_bytes(), "whole"),
+        Err(fault) => assert!(rt; fault == ReadFault::NoMemory, "want of memory"),
+    }
 }

@@ -1,0 +1,57 @@
+-- The roots of the trees that aggregates join, by places.
+use Rattle.std.specs.Prelude.{◌≡◌, ◌<◌, ℕ, Bool, ◌&&◌, ◌==◌, false, List, [], ◌∷◌, map, length, get_or, Option, Some, None}
+use Rattle.std.specs.Global.{Vec}
+use Rattle.std.specs.List.{list_any, filter, range_with_len}
+use Rattle.std.specs.Ordering.{nat_cmp}
+use Rattle.std.specs.BTreeMap.{BTreeMap, get}
+use Rattle.ac_tables.specs.declared.ordered.TraitList.{TraitList}
+
+-- the roots of an aggregate, where some were gathered
+abbrev pub roots_in : Option (Vec ℕ) → List ℕ
+roots_in None = []
+roots_in (Some roots) = roots.items
+
+-- a root is among those gathered of an aggregate
+abbrev pub is_met : BTreeMap ℕ (Vec ℕ) → ℕ → ℕ → Bool
+is_met groups aggregate root = list_any (λ r. r == root) (roots_in (get nat_cmp groups aggregate))
+
+-- an aggregate is one of these
+abbrev pub is_among : ℕ → List ℕ → Bool
+is_among aggregate ids = list_any (λ a. a == aggregate) ids
+
+-- the provider at a place has this root and belongs to the aggregate
+abbrev pub meets_at : List ℕ → List (List ℕ) → ℕ → ℕ → ℕ → Bool
+meets_at roots aggregates aggregate root place = (get_or roots place 0 == root) && is_among aggregate (get_or aggregates place [])
+
+-- one of the first n providers does
+abbrev pub meets : List ℕ → List (List ℕ) → ℕ → ℕ → ℕ → Bool
+meets roots aggregates n aggregate root = list_any (meets_at roots aggregates aggregate root) (range_with_len 0 n)
+
+-- some of these aggregates has a provider of this root
+abbrev pub is_joined : List ℕ → List (List ℕ) → List ℕ → ℕ → Bool
+is_joined roots aggregates ids root = list_any (λ aggregate. meets roots aggregates (length roots) aggregate root) ids
+
+-- the roots of the providers of these aggregates, rising
+abbrev pub joined : List ℕ → List (List ℕ) → List ℕ → List ℕ
+joined roots aggregates ids = filter (is_joined roots aggregates ids) (range_with_len 0 (length roots))
+
+-- a provider shares through some aggregate
+abbrev pub is_joining : Bool → List ℕ → Bool
+is_joining shares [] = false
+is_joining shares (a ∷ ids) = shares
+
+-- the numbers in a list of roots
+abbrev pub list_items : Vec ℕ → List ℕ
+list_items list = list.items
+
+-- the list of a place
+abbrev pub list_of : List (Vec ℕ) → ℕ → List ℕ
+list_of lists k = get_or (map list_items lists) k []
+
+-- the lists of those providers that have one are those of their aggregates
+abbrev pub AreJoined : List ℕ → List (List ℕ) → List (Vec ℕ) → List (Option ℕ) → Type 0
+AreJoined roots aggregates lists places = (j k : ℕ) → j < length places → get_or places j None ≡ Some k → (k < length lists) × (list_of lists k ≡ joined roots aggregates (get_or aggregates j []))
+
+-- the provider at a place shares through some aggregate
+abbrev pub is_marked : List TraitList → List (List ℕ) → ℕ → Bool
+is_marked traits aggregates j = is_joining (get_or (map (λ t. t.shares) traits) j false) (get_or aggregates j [])
