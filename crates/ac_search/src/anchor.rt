@@ -51,17 +51,29 @@ fn are_available(cloud: &Cloud, list: &[u32], root: u32) -> bool
     true
 }
 
+// Whether the query takes one of these roots, and each provider is available in its tree.
+fn has_anchor_among(cloud: &Cloud, query: &Query, list: &[u32], roots: &[u32]) -> bool
+    requires roots { All (λ r. r < length (providers_of cloud.now)) roots.now }
+    requires providers { All (λ p. p < length (providers_of cloud.now)) list.now }
+    ensures { result ≡ list_any (λ r. takes_root (providers_of cloud.now) (asked_of query.now) r && list_all (λ p. is_available_at (providers_of cloud.now) p r) list.now) roots.now }
+{
+    for root in roots {
+        if takes_root(cloud, query, *root) && are_available(cloud, list, *root) {
+            return true;
+        }
+    }
+    false
+}
+
 /// Anchor: whether each provider is available in the tree of some root that the query takes.
-#[tactic(auto, using(crate::proofs::PlacedLemmas::range_more, crate::proofs::PlacedLemmas::range_end))]
+/// It looks only at the roots where the first provider is available.
 pub(crate) fn has_anchor(cloud: &Cloud, query: &Query, list: &[u32]) -> bool
     requires slots { length list.now ≤ length (slots_of (asked_of query.now)) }
     requires providers { All (λ p. p < length (providers_of cloud.now)) list.now }
     ensures { result ≡ anchor (providers_of cloud.now) (asked_of query.now) (assigned (asked_of query.now) list.now) }
 {
-    for root in 0..cloud.len() {
-        if takes_root(cloud, query, root) && are_available(cloud, list, root) {
-            return true;
-        }
+    match list.first() {
+        Some(ix) => has_anchor_among(cloud, query, list, cloud.anchors(*ix)),
+        None => takes_some_root(cloud, query),
     }
-    false
 }

@@ -5,8 +5,13 @@ use Rattle.ac_tables.specs.CloudWorld.{providers_of}
 use Rattle.ac_report.specs.Pages.{IsAssignment}
 use Rattle.ac_report.proofs.Outcomes.{on_err}
 use Rattle.ac_report.proofs.LinesWritten.{leaves_line, leaves_line_part}
-use Rattle.ac_report.proofs.Paging.{all_tail, behind_step, count_step, gone_step, loses_one, room_step}
+use Rattle.ac_report.proofs.Paging.{all_head, all_tail, behind_step, count_step, gone_step, loses_one, room_step}
 use Rattle.ac_report.proofs.lines.write_tokens.Goals as goal
+
+pub put_line-requires : goal.put_line-requires
+put_line-requires g c =
+    let assigned = all_head (IsAssignment (providers_of c.args.cloud.now) (asked_of c.args.query.now)) (g.S.Source.left c.lists.source) c.in-Some.list.now (sym c.in-Some.ensures.head) c.lists.invariant.assigned in
+    assigned.below
 
 pub returns-in_err-put_line-clause-gone : goal.returns-in_err-put_line-clause-gone
 returns-in_err-put_line-clause-gone g c =
