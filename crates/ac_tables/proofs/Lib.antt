@@ -36,4 +36,5 @@ pub mod AncestorFacts
 pub mod AvailableFacts
 pub mod SortedSets
 pub mod IdsFit
+pub mod ListedIds
 pub mod ProvidersStated
