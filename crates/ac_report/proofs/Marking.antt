@@ -6,10 +6,7 @@ use Rattle.std.proofs.lemmas.Bool.{eq-eqb}
 use Rattle.std.proofs.lemmas.Bool.Decides.{eqb_tells}
 use Rattle.std.proofs.lemmas.Cmp.{ranked}
 use Rattle.std.proofs.lemmas.List.{get_or-set_same, get_or-set_other, take_more}
-use Rattle.ac_tables.specs.CloudWorld.{providers_of}
 use Rattle.ac_tables.specs.World.{Provider, id_at, root_of}
-use Rattle.ac_tables.specs.declared.cloud.Cloud.{Cloud}
-use Rattle.ac_tables.proofs.CloudFacts.{inside, id_here}
 use Rattle.ac_search.specs.Laws.{AreInOrder}
 use Rattle.ac_search.specs.Lists.{head_of, tail_of}
 use Rattle.ac_search.specs.Pages.{cut}
@@ -17,14 +14,6 @@ use Rattle.ac_report.specs.Marks.{has_root}
 use Rattle.ac_report.specs.Texts.{meets_root}
 use Rattle.ac_report.proofs.Paging.{after, counted, IsRoom, cut_step}
 use Rattle.ac_report.proofs.Rows.{not_eq}
-
--- the providers of a cloud stand in the order of their ids
-pub in_order : (cloud : Cloud) → AreInOrder (providers_of cloud)
-in_order cloud p q h k =
-    let low = inside cloud q k in
-    let first = id_here cloud p (omega (arith, h, low)) in
-    let second = id_here cloud q low in
-    omega (arith, first, second, cloud.ids.rising p q h low)
 
 apart_by : (all : List Provider) → AreInOrder all → (o : Ordering) (p q : ℕ) → o ≡ nat_cmp p q → p < length all → q < length all → (p ≡ q → ⊥) → id_at all p ≡ id_at all q → ⊥
 apart_by all order Less p q e k l d s = omega (arith, s, order p q (ranked p q Less e) l)

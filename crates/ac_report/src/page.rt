@@ -1,10 +1,9 @@
-ghost use Rattle.std.specs.Prelude.{◌≡◌, ◌≤◌, ◌<◌, ◌^◌, ◌++◌, ◌||◌, ℕ, List, [], false, IfOk, OnOk, OnErr, Err, length, min, slice_index_or};
+ghost use Rattle.std.specs.Prelude.{◌≡◌, ◌≤◌, ◌<◌, ◌++◌, ◌||◌, ℕ, List, [], false, IfOk, OnOk, OnErr, Err, length, min, slice_index_or};
 ghost use Rattle.std.specs.List.{All};
 ghost use Rattle.std.specs.Io.KnownBytes.{Appends};
 ghost use Rattle.serde_json.specs.Written.{comma_if};
 ghost use Rattle.ac_base.specs.Devices.{Rises, TakesPart};
 ghost use Rattle.ac_tables.specs.CloudWorld.{providers_of};
-ghost use Rattle.ac_tables.specs.Laws.{AreProviders};
 ghost use Rattle.ac_tables.specs.World.{id_at};
 ghost use Rattle.ac_query.specs.QueriesShown.{asked_of};
 ghost use Rattle.ac_search.specs.Pages.{cut};
@@ -35,23 +34,6 @@ fn push_listed<W: Sink>(out: &mut W, later: bool, text: &[u8]) -> Result<(), Wri
     }
     push_all(out, b",")?;
     push_all(out, text)
-}
-
-// An id that is read is a number of 128 bits.
-fn read_id(cloud: &Cloud, ix: u32)
-    requires { ix < length (providers_of cloud.now) }
-    ensures { id_at (providers_of cloud.now) ix < 2 ^ 128 }
-{
-    let _id = cloud.id(ix);
-}
-
-// Reads all ids once: that their written forms rise as they do rests on their size.
-fn read_ids(cloud: &Cloud)
-    ensures { AreProviders (providers_of cloud.now) }
-{
-    for ix in 0..cloud.len() {
-        read_id(cloud, ix);
-    }
 }
 
 // Marks at no root.
@@ -204,7 +186,6 @@ fn write_parts<S: Source, W: Sink>(
     marks: &mut [bool],
 ) -> Result<u32, PageFault>
     requires lists { All (IsAssignment (providers_of cloud.now) (asked_of query.now)) (S.left source.old) }
-    requires providers { AreProviders (providers_of cloud.now) }
     requires marks { IsMarked (providers_of cloud.now) [] marks.old }
     ensures text { OnOk result (Appends (W.taken out.old) (W.taken out.new) (body (providers_of cloud.now) (asked_of query.now) (cut (asked_of query.now).limit (S.left source.old)))) }
     ensures left { OnOk result (S.left source.new ≡ behind (asked_of query.now).limit (S.left source.old)) }
@@ -242,7 +223,6 @@ pub fn write_page<S: Source, W: Sink>(
     ensures failed { result ≡ Err PageFault.WriteFailed → Rises (W.failures out.old) (W.failures out.new) }
     ensures failures { W.failures out.old ≤ W.failures out.new }
 {
-    read_ids(cloud);
     let mut marks = new_marks(alloc, cloud)?;
     write_parts(alloc, cloud, query, source, out, &mut marks)
 }

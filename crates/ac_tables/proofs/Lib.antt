@@ -38,6 +38,7 @@ pub mod AncestorFacts
 pub mod AvailableFacts
 pub mod SortedSets
 pub mod IdsFit
+pub mod ListedIds
 pub mod ProvidersStated
 pub mod GroupFacts
 pub mod AnchorLists

@@ -1,5 +1,6 @@
 //! The ids of all providers, rising: a provider's place in them is its number.
-ghost use Rattle.std.specs.Prelude.{◌≡◌, ◌≤◌, ◌<◌, ◌+◌, ℕ, false, length, map, get_or, IfOk, IfNone, IfSome};
+ghost use Rattle.std.specs.Prelude.{◌≡◌, ◌≤◌, ◌<◌, ◌+◌, ◌^◌, ℕ, false, length, map, get_or, IfOk, IfNone, IfSome};
+ghost use Rattle.std.specs.List.{All};
 ghost use Rattle.std.specs.Ordering.{nat_cmp};
 ghost use Rattle.ac_tables.specs.Sorted.{rising};
 ghost use Rattle.ac_tables.specs.Gathered.{IsRising};
@@ -12,6 +13,7 @@ use ac_base::Id;
 pub(crate) struct Ids {
     pub(crate) ids: Vec<Id>,
     ghost rising: { IsRising ids.items },
+    ghost fit: { All (λ id. id < 2 ^ 128) ids.items },
     ghost few: { length ids.items ≤ 65536 },
 }
 

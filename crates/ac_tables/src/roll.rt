@@ -1,5 +1,6 @@
 //! The providers of a table in the order of its records, and where each stands.
-ghost use Rattle.std.specs.Prelude.{◌≡◌, ◌≤◌, ◌<◌, ◌++◌, ◌∷◌, ◌==◌, not, true, false, None, ℕ, [], length, map, IfOk, IfErr};
+ghost use Rattle.std.specs.Prelude.{◌≡◌, ◌≤◌, ◌<◌, ◌^◌, ◌++◌, ◌∷◌, ◌==◌, not, true, false, None, ℕ, [], length, map, IfOk, IfErr};
+ghost use Rattle.std.specs.List.{All};
 ghost use Rattle.std.specs.BTreeMap.{get, keys, btree_map_len};
 ghost use Rattle.std.specs.Ordering.{nat_cmp};
 ghost use Rattle.csv.specs.Records.{fields_of};
@@ -29,6 +30,7 @@ pub(crate) struct Roll {
     ghost found: { (q : ℕ) → get nat_cmp places q ≡ place_of rows.items q },
     ghost distinct: { AreDistinct rows.items },
     ghost sized: { btree_map_len places ≡ length rows.items },
+    ghost fit: { All (λ p. p.id < 2 ^ 128) rows.items },
     ghost ordered: { keys places ≡ rising nat_cmp (map (λ p. p.id) rows.items) },
 }
 
@@ -132,6 +134,7 @@ impl Roll {
     // These providers and one more.
     #[tactic(auto, unfolding(crate::specs::ProviderTable::place_checks))]
     fn with(self, row: ListedRow) -> Result<Roll, RecordFault>
+        requires { row.id < 2 ^ 128 }
         ensures ok { IfOk result (λ roll. (roll.rows.items ≡ self.rows.items ++ row ∷ []) × (first_failing (place_checks self.rows.items row.id) ≡ None)) }
         ensures fault { IfErr result (λ e. TellsKind (first_failing (place_checks self.rows.items row.id)) e) }
     {

@@ -1,7 +1,8 @@
 use Rattle.ac_tables.specs.CloudWorld.{providers_of}
-use Rattle.ac_report.proofs.Marking.{in_order, mark_step}
+use Rattle.ac_tables.proofs.ProvidersStated.{cloud_in_order}
+use Rattle.ac_report.proofs.Marking.{mark_step}
 use Rattle.ac_report.proofs.page.mark_root.Goals as goal
 
 pub returns-clause-marked : goal.returns-clause-marked
 returns-clause-marked c =
-    λ r low. mark_step (providers_of c.args.cloud.now) (in_order c.args.cloud.now) c.args.marks.now c.root.result c.args.ix r c.requires.long c.root.ensures.inside c.root.ensures.id low
+    λ r low. mark_step (providers_of c.args.cloud.now) (cloud_in_order c.args.cloud.now).order c.args.marks.now c.root.result c.args.ix r c.requires.long c.root.ensures.inside c.root.ensures.id low

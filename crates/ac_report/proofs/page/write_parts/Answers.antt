@@ -3,6 +3,7 @@ use Rattle.std.specs.Io.KnownBytes.{Appends}
 use Rattle.ac_query.specs.QueriesShown.{asked_of}
 use Rattle.ac_search.specs.Pages.{cut}
 use Rattle.ac_tables.specs.CloudWorld.{providers_of}
+use Rattle.ac_tables.proofs.ProvidersStated.{cloud_in_order}
 use Rattle.ac_report.specs.Marks.{requests_text, summaries_text}
 use Rattle.ac_base.specs.Devices.{TakesPart}
 use Rattle.ac_report.specs.Texts.{head_text, middle_text, tail_text, summarized}
@@ -17,7 +18,7 @@ returns-in_err-push_head-clause-part g c =
     let lists = cut (asked_of c.args.query.now).limit (g.S.Source.left c.args.source.now) in
     let P : List ℕ → Type 0 = λ text. TakesPart (g.W.Sink.taken c.args.out.now) (g.W.Sink.taken c.push_head.new.out) text in
     on_err c.from_residual.result _
-    (subst P (sym (body_is (providers_of c.args.cloud.now) c.requires.providers (asked_of c.args.query.now) lists)) (part_1 _ _ head_text _ c.in_err-push_head.ensures.part))
+    (subst P (sym (body_is (providers_of c.args.cloud.now) (cloud_in_order c.args.cloud.now) (asked_of c.args.query.now) lists)) (part_1 _ _ head_text _ c.in_err-push_head.ensures.part))
 
 pub returns-in_err-count-clause-part : goal.returns-in_err-count-clause-part
 returns-in_err-count-clause-part g c =
@@ -26,7 +27,7 @@ returns-in_err-count-clause-part g c =
     let lists = cut asked.limit (g.S.Source.left c.args.source.now) in
     let P : List ℕ → Type 0 = λ text. TakesPart (g.W.Sink.taken c.args.out.now) (g.W.Sink.taken c.write_requests.new.out) text in
     on_err c.from_residual-in_err-count.result _
-    (subst P (sym (body_is all c.requires.providers asked lists)) (part_2 _ _ _ head_text (requests_text all asked false lists) _ c.in_ok-push_head.ensures.ok c.in_err-count.ensures.part))
+    (subst P (sym (body_is all (cloud_in_order c.args.cloud.now) asked lists)) (part_2 _ _ _ head_text (requests_text all asked false lists) _ c.in_ok-push_head.ensures.ok c.in_err-count.ensures.part))
 
 pub returns-in_err-push_middle-clause-part : goal.returns-in_err-push_middle-clause-part
 returns-in_err-push_middle-clause-part g c =
@@ -35,7 +36,7 @@ returns-in_err-push_middle-clause-part g c =
     let lists = cut asked.limit (g.S.Source.left c.args.source.now) in
     let P : List ℕ → Type 0 = λ text. TakesPart (g.W.Sink.taken c.args.out.now) (g.W.Sink.taken c.push_middle.new.out) text in
     on_err c.from_residual-in_err-push_middle.result _
-    (subst P (sym (body_is all c.requires.providers asked lists))
+    (subst P (sym (body_is all (cloud_in_order c.args.cloud.now) asked lists))
     (part_3 _ _ _ _ head_text (requests_text all asked false lists) middle_text _ c.in_ok-push_head.ensures.ok c.in_ok-count.ensures.text c.in_err-push_middle.ensures.part))
 
 pub returns-in_err-push_middle-clause-gone : goal.returns-in_err-push_middle-clause-gone
@@ -57,7 +58,7 @@ returns-in_err-write_summaries-clause-part g c =
     let lists = cut asked.limit (g.S.Source.left c.args.source.now) in
     let P : List ℕ → Type 0 = λ text. TakesPart (g.W.Sink.taken c.args.out.now) (g.W.Sink.taken c.write_summaries.new.out) text in
     on_err c.from_residual-in_err-write_summaries.result _
-    (subst P (sym (body_is all c.requires.providers asked lists))
+    (subst P (sym (body_is all (cloud_in_order c.args.cloud.now) asked lists))
     (part_4 _ _ _ _ _ head_text (requests_text all asked false lists) middle_text (summaries_text all false (summarized all lists)) tail_text
     c.in_ok-push_head.ensures.ok c.in_ok-count.ensures.text c.in_ok-push_middle.ensures.ok (c.in_err-write_summaries.ensures.part lists c.in_ok-count.ensures.marks)))
 
@@ -68,7 +69,7 @@ returns-in_err-push_tail-clause-part g c =
     let lists = cut asked.limit (g.S.Source.left c.args.source.now) in
     let P : List ℕ → Type 0 = λ text. TakesPart (g.W.Sink.taken c.args.out.now) (g.W.Sink.taken c.push_tail.new.out) text in
     on_err c.from_residual-in_err-push_tail.result _
-    (subst P (sym (body_is all c.requires.providers asked lists))
+    (subst P (sym (body_is all (cloud_in_order c.args.cloud.now) asked lists))
     (part_5 _ _ _ _ _ _ head_text (requests_text all asked false lists) middle_text (summaries_text all false (summarized all lists)) tail_text
     c.in_ok-push_head.ensures.ok c.in_ok-count.ensures.text c.in_ok-push_middle.ensures.ok (c.in_ok-write_summaries.ensures.ok lists c.in_ok-count.ensures.marks) c.in_err-push_tail.ensures.part))
 
@@ -78,6 +79,6 @@ returns-clause-text g c =
     let asked = asked_of c.args.query.now in
     let lists = cut asked.limit (g.S.Source.left c.args.source.now) in
     let P : List ℕ → Type 0 = λ text. Appends (g.W.Sink.taken c.args.out.now) (g.W.Sink.taken c.push_tail.new.out) text in
-    subst P (sym (body_is all c.requires.providers asked lists))
+    subst P (sym (body_is all (cloud_in_order c.args.cloud.now) asked lists))
     (five _ _ _ _ _ _ head_text (requests_text all asked false lists) middle_text (summaries_text all false (summarized all lists)) tail_text
     c.in_ok-push_head.ensures.ok c.in_ok-count.ensures.text c.in_ok-push_middle.ensures.ok (c.in_ok-write_summaries.ensures.ok lists c.in_ok-count.ensures.marks) c.in_ok-push_tail.ensures.ok)

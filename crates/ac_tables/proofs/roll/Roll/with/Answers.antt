@@ -1,8 +1,10 @@
-use Rattle.std.proofs.Common.{◌≡◌, ◌∙◌, sym, ℕ, Some, List, subst, ap}
+use Rattle.std.proofs.Common.{◌≡◌, ◌<◌, ◌^◌, ◌∙◌, sym, ℕ, Some, List, subst, ap}
 use Rattle.std.specs.Ordering.{nat_cmp}
 use Rattle.std.specs.BTreeMap.{keys}
+use Rattle.std.proofs.lemmas.List.Elements.{All-push}
 use Rattle.ac_tables.specs.ProviderTable.{Listed}
 use Rattle.ac_tables.specs.DistinctIds.{AreDistinct}
+use Rattle.ac_tables.proofs.ListedIds.{AreFit}
 use Rattle.ac_tables.proofs.ListedPlaces.{found_more_at, distinct_more_at}
 use Rattle.ac_tables.proofs.SortedFacts.{ordered_more}
 use Rattle.ac_tables.specs.Sorted.{rising}
@@ -27,3 +29,6 @@ invariant_of-result-clause-ordered c =
     subst (λ (all : List Listed). keys c.insert.new.self ≡ rising nat_cmp (map (λ p. p.id) all)) (sym c.in_ok-push.ensures.items)
     (ordered_more nat_cmp c.args.self.places.entries c.insert.new.self.entries c.row.inside.id _ (λ (p : Listed). p.id) c.args.self.rows.items c.args.row
     (ap (λ (r : Listed). r.id) c.row.view_is) c.args.self.ordered c.in_ok-insert.ensures.entries)
+
+pub invariant_of-result-clause-fit : goal.invariant_of-result-clause-fit
+invariant_of-result-clause-fit c = subst AreFit (sym c.in_ok-push.ensures.items) (All-push (λ p. p.id < 2 ^ 128) c.args.self.rows.items c.args.row c.args.self.fit c.requires)
