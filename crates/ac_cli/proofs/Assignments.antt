@@ -22,8 +22,8 @@ unfolding rest candidates
 assignments all asked ids =
     let lists = all_lists (length all) (length (slots_of asked)) in
     All-from_recursion (IsAssignment all asked) _
-      (kept (IsAssignment all asked) (λ t. is_after all ids t) (filter (λ t. is_candidate all asked t) lists)
-        (kept (IsAssignment all asked) (λ t. is_candidate all asked t) lists (each_all_lists (length all) (length (slots_of asked)))))
+    (kept (IsAssignment all asked) (λ t. is_after all ids t) (filter (λ t. is_candidate all asked t) lists)
+    (kept (IsAssignment all asked) (λ t. is_candidate all asked t) lists (each_all_lists (length all) (length (slots_of asked)))))
 
 -- as many places as ids, each a provider's
 abbrev AreFound : List Provider → List ℕ → List ℕ → Type 0

@@ -17,13 +17,13 @@ front n = if n == 0 then [] else decimal n
 pub last_digit : (n : ℕ) → n < 2 ^ 64 → decimal n ≡ front (n / 10) ++ (48 + n % 10) ∷ []
 last_digit n fits = elim (cases_Bool (n / 10 == 0)) [
   | inl e ↦
-    let none : n / 10 ≡ 0 = grind (arith, nat_tests) in
-    let low : n < 10 = omega arith in
-    let same : n % 10 ≡ n = omega arith in
-    rw (e, same) (decimal_digit n low)
+      let none : n / 10 ≡ 0 = grind (arith, nat_tests) in
+      let low : n < 10 = omega arith in
+      let same : n % 10 ≡ n = omega arith in
+      rw (e, same) (decimal_digit n low)
   | inr e ↦
-    let high : 10 ≤ n = grind (arith, nat_tests) in
-    rw e (decimal_step n high fits)
+      let high : 10 ≤ n = grind (arith, nat_tests) in
+      rw e (decimal_step n high fits)
 ]
 
 whole_front : (n : ℕ) → 0 < n → front n ≡ decimal n

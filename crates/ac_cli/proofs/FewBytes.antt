@@ -31,7 +31,7 @@ pub are_few : (b : Bytes) (s : Sources) → too_large b ≡ None
 unfolding too_large
 are_few b s h p i u t a =
     let checks : List (Bool × Table) = (is_long b.providers, table.Providers) ∷ (is_long b.inventories, table.Inventories) ∷ (is_long_there b.usages, table.Usages)
-      ∷ (is_long_there b.traits, table.Traits) ∷ (is_long_there b.aggregates, table.Aggregates) ∷ [] in
+    ∷ (is_long_there b.traits, table.Traits) ∷ (is_long_there b.aggregates, table.Aggregates) ∷ [] in
     let each : Each (λ check. check.0 ≡ false) checks = each_passes checks h in
     record {
       providers = few _ (ap is_long p ∙ each.0);

@@ -55,7 +55,6 @@ pub fn read_cloud(alloc: Global, texts: &Texts) -> Result<Cloud, Refusal>
     }
 }
 
-
 // A text that is at hand, with its status.
 fn push_text<W: Sink>(out: &mut W, text: &[u8], status: u8) -> Result<u8, Refusal>
     requires { status ≤ 1 }

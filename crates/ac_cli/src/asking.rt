@@ -37,7 +37,11 @@ fn refusal_of(fault: QueryFault) -> Refusal
 }
 
 /// The token of a text, where there is one.
-pub fn read_token(alloc: Global, text: Option<&str>, query: &Query) -> Result<Option<Token>, Refusal>
+pub fn read_token(
+    alloc: Global,
+    text: Option<&str>,
+    query: &Query,
+) -> Result<Option<Token>, Refusal>
     ensures fine { OnOk result (token_refusal (asked_of query.now) (option_map (λ t. t.now) text.entry) ≡ None) }
     ensures ids { IfOk result (λ token. option_map ids_of token ≡ ids_given (option_map (λ t. t.now) text.entry)) }
     ensures given { IfOk result (λ token. is_some token ≡ is_some (option_map (λ t. t.now) text.entry)) }

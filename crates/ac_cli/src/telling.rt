@@ -14,12 +14,24 @@ use ac_tables::{Table, TableKind};
 
 // The line of a fault of a record.
 #[tactic(auto, unfolding(crate::specs::Lines::record_line))]
-fn push_record_line<E: Sink>(err: &mut E, table: Table, row: u32, kind: TableKind) -> Result<(), WriteFailed>
+fn push_record_line<E: Sink>(
+    err: &mut E,
+    table: Table,
+    row: u32,
+    kind: TableKind,
+) -> Result<(), WriteFailed>
     ensures { Pushes result (E.taken err.old) (E.taken err.new) (E.failures err.old) (E.failures err.new) (record_line table row kind) }
 {
     push_pieces(
         err,
-        &[table_name(table), b": record ", Digits::of(row).as_bytes(), b": ", kind_name(kind), b"\n"],
+        &[
+            table_name(table),
+            b": record ",
+            Digits::of(row).as_bytes(),
+            b": ",
+            kind_name(kind),
+            b"\n",
+        ],
     )
 }
 
@@ -30,7 +42,13 @@ fn push_pair_line<E: Sink>(err: &mut E, number: u32, name: &[u8]) -> Result<(), 
 {
     push_pieces(
         err,
-        &[b"query: pair ", Digits::of(number).as_bytes(), b": ", name, b"\n"],
+        &[
+            b"query: pair ",
+            Digits::of(number).as_bytes(),
+            b": ",
+            name,
+            b"\n",
+        ],
     )
 }
 
@@ -54,7 +72,11 @@ fn push_query_line<E: Sink>(err: &mut E, fault: &QueryFault) -> Result<(), Write
         QueryFault::BadValue(number) => push_pair_line(err, *number, b"BadValue"),
         QueryFault::Conflict(number) => push_pair_line(err, *number, b"Conflict"),
         QueryFault::NoResources => push_whole(err, b"query: NoResources\n"),
-        QueryFault::GroupWithoutResources(None) => push_group_line(err, b"", b"GroupWithoutResources"),
+        QueryFault::GroupWithoutResources(None) => push_group_line(
+            err,
+            b"",
+            b"GroupWithoutResources",
+        ),
         QueryFault::GroupWithoutResources(Some(suffix)) => {
             push_group_line(err, suffix.text().as_bytes(), b"GroupWithoutResources")
         }

@@ -56,7 +56,11 @@ fn check(rt: &(impl Abort + AllocGlobal), cases: &[Case]) -> Result<(), Fail> {
             SOUND,
         )?;
         let output = expanded(alloc, case.output)?;
-        assert_eq!(rt; left.output.as_str(), output.as_str(), "output of case {place}");
+        assert_eq!(rt;
+            left.output.as_str(),
+            output.as_str(),
+            "output of case {place}"
+        );
         assert_eq!(rt; left.line.as_str(), case.line, "line of case {place}");
         assert_eq!(rt; left.status, case.status, "status of case {place}");
     }
@@ -368,8 +372,7 @@ const NODES: Rows = Rows {
     ..EMPTY
 };
 
-const UNDER_A_NODE: &str =
-    "resources_PF=VCPU:1&required_NUMA=HW_NUMA_ROOT&same_subtree=_NUMA,_PF";
+const UNDER_A_NODE: &str = "resources_PF=VCPU:1&required_NUMA=HW_NUMA_ROOT&same_subtree=_NUMA,_PF";
 
 #[test]
 fn subtrees(rt: HostRuntime) -> Result<(), Fail> {

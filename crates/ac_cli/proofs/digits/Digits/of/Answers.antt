@@ -16,7 +16,7 @@ loop-rest-preserved c =
     let at = started c.loop-rest.rest c.loop-rest.start c.loop-rest.invariant.room (omega arith) in
     record {
       digits = digit_more c.args.number c.loop-rest.rest c.loop-rest.start c.loop-rest.room c.loop-rest.invariant.digits (omega arith) (omega arith) at
-        (omega (arith, c.loop-rest.invariant.size));
+          (omega (arith, c.loop-rest.invariant.size));
       room = room_less c.loop-rest.rest c.loop-rest.start c.loop-rest.invariant.room at;
       within = omega arith;
       size = simp length-set c.loop-rest.invariant.size;
