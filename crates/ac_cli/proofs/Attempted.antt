@@ -1,5 +1,5 @@
 -- What is known of the answer after each part of a run.
-use Rattle.std.proofs.Common.{◌≡◌, ◌∙◌, ℕ, ◌≤◌, List, [], Option, Some, None, refl, sym, ap, subst}
+use Rattle.std.proofs.Common.{◌≡◌, ◌∙◌, ℕ, List, Option, Some, None, refl, sym, ap, subst}
 use Rattle.ac_tables.specs.Tables.{tables_fault, world_stated}
 use Rattle.ac_tables.specs.World.{World}
 use Rattle.ac_tables.specs.declared.fault.Table.{Table}
@@ -8,9 +8,9 @@ use Rattle.ac_tables.specs.declared.fault.TableFault.TheVariants as fault
 use Rattle.ac_base.proofs.Leaving.{part_none}
 use Rattle.ac_base.specs.Devices.{TakesPart}
 use Rattle.ac_cli.proofs.WantedSaid.{keeps}
-use Rattle.ac_cli.specs.Answer.{Outcome, Task, answer, answer_in, answer_over, refused, table_refused, tables_in}
+use Rattle.ac_cli.specs.Answer.{Task, answer, answer_in, answer_over, refused, table_refused, tables_in}
 use Rattle.ac_cli.specs.Draining.{ExplainsReading}
-use Rattle.ac_cli.specs.Feeds.{Bytes, FeedRose, TellBytes, too_large}
+use Rattle.ac_cli.specs.Feeds.{Bytes, TellBytes, too_large}
 use Rattle.ac_cli.specs.Lines.{record_line, too_large_line}
 use Rattle.ac_cli.specs.Run.{Explains, ExplainsOutcome, ExplainsTables, IsWritten}
 use Rattle.ac_cli.specs.declared.inputs.Inputs.{Inputs}

@@ -1,5 +1,5 @@
 -- Pieces, one after the other.
-use Rattle.std.proofs.Common.{◌≡◌, ◌∙◌, ℕ, suc, ◌<◌, List, ◌∷◌, ◌++◌, drop, get_or, length, Option, ap, subst, drop-cons}
+use Rattle.std.proofs.Common.{ℕ, suc, ◌<◌, List, drop, get_or, length, Option, ap, subst, drop-cons}
 use Rattle.std.specs.Prelude.{Result, Ok, Err, OnErr}
 use Rattle.std.specs.List.{flat_map}
 use Rattle.ac_base.specs.Devices.{TakesPart}

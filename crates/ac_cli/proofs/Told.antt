@@ -1,5 +1,5 @@
 -- What a refusal that was told says of the answer.
-use Rattle.std.proofs.Common.{◌≡◌, ℕ, ◌<◌, List, [], ◌∷◌, Option, Some, None, refl, sym, ap, subst, arith}
+use Rattle.std.proofs.Common.{◌≡◌, ℕ, List, [], ◌∷◌, Option, Some, None, refl, sym, ap, subst, arith}
 use Rattle.std.specs.Prelude.{Contains}
 use Rattle.ac_tables.specs.declared.fault.Table.{Table}
 use Rattle.ac_cli.specs.Answer.{Task, answer, refused}

@@ -1,10 +1,8 @@
 -- What is said of a query and a token that were read, and of those that were refused.
-use Rattle.std.proofs.Common.{◌≡◌, ◌∙◌, ℕ, ◌==◌, Bool, true, false, List, [], ◌++◌, length, Option, Some, None, if◌then◌else◌, refl, sym, ap, subst, append-nil, arith}
+use Rattle.std.proofs.Common.{◌≡◌, ◌∙◌, ℕ, ◌==◌, Bool, true, false, List, length, Option, Some, None, if◌then◌else◌, refl, sym, ap, subst, arith}
 use Rattle.std.proofs.lemmas.Bool.Decides.{nat_tests}
 use Rattle.std.specs.Io.KnownBytes.{Keeps}
-use Rattle.ac_query.specs.Asked.{Asked}
 use Rattle.ac_query.specs.Tokens.{fault_of}
-use Rattle.ac_query.specs.declared.token.TokenFault.{TokenFault}
 use Rattle.ac_query.specs.declared.token.TokenFault.TheVariants.{WrongLength}
 use Rattle.ac_tables.specs.World.{World}
 use Rattle.ac_base.proofs.Leaving.{part_none}

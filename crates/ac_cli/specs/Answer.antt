@@ -1,5 +1,5 @@
 -- What a run answers: its output, its line on the error sink, and its status.
-use Rattle.std.specs.Prelude.{ℕ, ◌+◌, List, [], ◌∷◌, codes, map, Option, Some, None}
+use Rattle.std.specs.Prelude.{ℕ, List, [], codes, Option, Some, None}
 use Rattle.std.specs.Option.{option_and_then}
 use Rattle.ac_tables.specs.Rows.{records_of}
 use Rattle.ac_tables.specs.AggregateTable.{aggregate_columns}

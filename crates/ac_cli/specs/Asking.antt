@@ -1,10 +1,9 @@
 -- Why what a job asks is refused.
-use Rattle.std.specs.Prelude.{◌≡◌, Option, Some, None, ⊤}
+use Rattle.std.specs.Prelude.{◌≡◌, Option, Some, ⊤}
 use Rattle.ac_query.specs.Faults.{Fault}
 use Rattle.ac_query.specs.FaultsShown.{fault_shown}
 use Rattle.ac_query.specs.declared.fault.QueryFault.{QueryFault}
 use Rattle.ac_query.specs.declared.token.TokenFault.{TokenFault}
-use Rattle.ac_query.specs.declared.token.TokenFault.TheVariants as token
 use Rattle.ac_cli.specs.declared.refusal.Refusal.{Refusal}
 use Rattle.ac_cli.specs.declared.refusal.Refusal.TheVariants as why
 

@@ -1,6 +1,6 @@
 -- What draining the feeds of the tables answers.
 use Rattle.std.specs.Prelude.{◌≡◌, ℕ, ◌≤◌, List, length, Option, Some, None, ⊤}
-use Rattle.std.specs.Option.{option_map, IfSome}
+use Rattle.std.specs.Option.{option_map}
 use Rattle.ac_tables.specs.Drain.{AllBytes, AreTooMany, most_bytes}
 use Rattle.ac_tables.specs.declared.fault.Table.{Table}
 use Rattle.ac_cli.specs.Feeds.{Bytes, TellBytes, FeedRose, too_large}

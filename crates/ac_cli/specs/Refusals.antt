@@ -1,5 +1,5 @@
 -- The line and the status of each refusal.
-use Rattle.std.specs.Prelude.{ℕ, List, codes, Option, Some, None}
+use Rattle.std.specs.Prelude.{ℕ, List, Option, Some, None}
 use Rattle.ac_query.specs.Faults.{Fault}
 use Rattle.ac_query.specs.FaultsShown.{fault_shown}
 use Rattle.ac_cli.specs.Lines.{unreadable_line, too_large_line, record_line, query_line, token_line, memory_line, output_line}

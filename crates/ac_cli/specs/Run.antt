@@ -5,10 +5,10 @@ use Rattle.ac_base.specs.Devices.{TakesPart}
 use Rattle.ac_tables.specs.declared.fault.Table.{Table}
 use Rattle.ac_tables.specs.declared.fault.TableFault.{TableFault}
 use Rattle.ac_tables.specs.declared.fault.TableFault.TheVariants as fault
-use Rattle.ac_cli.specs.Answer.{Outcome, Task, answer, refused, tables_in}
+use Rattle.ac_cli.specs.Answer.{Outcome, Task, answer, refused}
 use Rattle.ac_cli.specs.Feeds.{Bytes, TellBytes, FeedRose}
 use Rattle.ac_cli.specs.Lines.{unreadable_line}
-use Rattle.ac_cli.specs.Refusals.{line_of, status_of}
+use Rattle.ac_cli.specs.Refusals.{line_of}
 use Rattle.ac_cli.specs.Writing.{TakesLine}
 use Rattle.ac_cli.specs.declared.inputs.Inputs.{Inputs}
 use Rattle.ac_cli.specs.declared.refusal.Refusal.{Refusal}

@@ -1,5 +1,5 @@
 -- Places of ids, one after the other.
-use Rattle.std.proofs.Common.{◌≡◌, ◌∙◌, ℕ, List, [], ◌∷◌, ◌++◌, Option, Some, None, refl, sym, ap, append_assoc, append-nil}
+use Rattle.std.proofs.Common.{◌≡◌, ◌∙◌, ℕ, List, [], ◌∷◌, ◌++◌, Option, Some, None, refl, sym, ap, append_assoc}
 use Rattle.std.specs.Option.{option_map, option_and_then}
 use Rattle.ac_tables.specs.World.{Provider, place_of}
 use Rattle.ac_query.specs.Located.{places_of}

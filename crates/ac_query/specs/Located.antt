@@ -1,5 +1,5 @@
 -- Tokens in a cloud: the places of their providers, and the ids of places.
-use Rattle.std.specs.Prelude.{ℕ, List, [], ◌∷◌, map, Option, Some, None}
+use Rattle.std.specs.Prelude.{ℕ, List, [], ◌∷◌, map, Option, Some}
 use Rattle.std.specs.Option.{option_map, option_and_then}
 use Rattle.ac_tables.specs.World.{Provider, id_at, place_of}
 

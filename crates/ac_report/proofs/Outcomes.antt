@@ -1,5 +1,5 @@
 -- What follows from what a result gives.
-use Rattle.std.specs.Prelude.{⊤, OnErr, OnOk, Result, Ok, Err}
+use Rattle.std.specs.Prelude.{OnErr, OnOk, Result, Ok, Err}
 
 -- what an error gives
 pub on_err : {T E : Type 0} (r : Result T E) (P : Type 0) → P → OnErr r P

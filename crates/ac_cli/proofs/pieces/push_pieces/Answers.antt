@@ -1,4 +1,4 @@
-use Rattle.std.proofs.Common.{Bor, ℕ, List, arith, rules}
+use Rattle.std.proofs.Common.{Bor, ℕ, List, arith}
 use Rattle.ac_cli.proofs.PiecesWritten.{piece_part, on_err}
 use Rattle.ac_cli.proofs.pieces.push_pieces.Goals as goal
 

@@ -1,11 +1,11 @@
-use Rattle.std.proofs.Common.{◌≡◌, ◌∙◌, sym, ap, subst, IfErr, IfOk}
+use Rattle.std.proofs.Common.{◌∙◌, sym, ap, subst, IfErr, IfOk}
 use Rattle.std.specs.Option.{option_map}
 use Rattle.ac_base.specs.Devices.{Rises}
 use Rattle.ac_query.specs.QueriesShown.{asked_of}
 use Rattle.ac_query.specs.Tokens.{ids_of}
 use Rattle.ac_tables.specs.CloudWorld.{providers_of, world_of}
-use Rattle.ac_cli.specs.Answer.{answer_in, page_body, page_lines, verdict_line, past_query}
-use Rattle.ac_cli.specs.Jobs.{ExplainsWanted, task_of}
+use Rattle.ac_cli.specs.Answer.{answer_in, page_body, page_lines, verdict_line}
+use Rattle.ac_cli.specs.Jobs.{task_of}
 use Rattle.ac_cli.specs.Run.{ExplainsOutcome, IsWritten}
 use Rattle.ac_cli.proofs.run.answer_over.Goals as goal
 

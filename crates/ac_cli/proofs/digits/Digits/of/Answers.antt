@@ -1,4 +1,4 @@
-use Rattle.std.proofs.Common.{◌<◌, arith, refl, ◌∙◌, ℕ}
+use Rattle.std.proofs.Common.{arith, refl}
 use Rattle.std.proofs.Math.ListN.{length-set}
 use Rattle.ac_cli.proofs.DecimalSteps.{last_digit, digit_more, room_less, started}
 use Rattle.ac_cli.proofs.digits.Digits.of.Goals as goal
