@@ -39,3 +39,5 @@ pub mod AvailableFacts
 pub mod GroupFacts
 pub mod AnchorLists
 pub mod AnchorFacts
+pub mod VisitFacts
+pub mod LawFacts

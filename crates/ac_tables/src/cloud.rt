@@ -1,5 +1,5 @@
 //! The cloud that accepted tables state.
-ghost use Rattle.std.specs.Prelude.{◌==◌, ◌&&◌, ◌≡◌, ◌<◌, ◌≤◌, ◌+◌, ℕ, Option, None, Some, List, map, length, get_or, IfOk, IfErr, IfSome, IfNone};
+ghost use Rattle.std.specs.Prelude.{◌==◌, ◌&&◌, ◌≡◌, ◌<◌, ◌≤◌, ◌+◌, ◌^◌, ℕ, Option, None, Some, List, map, length, get_or, IfOk, IfErr, IfSome, IfNone};
 ghost use Rattle.std.specs.Option.{is_some, option_map, option_and_then, option_copied};
 ghost use Rattle.ac_base.specs.Names.{class_bytes, trait_bytes};
 ghost use Rattle.ac_tables.specs.Trees.{top};
@@ -9,6 +9,8 @@ ghost use Rattle.std.specs.Map.{lookup};
 ghost use Rattle.std.specs.Str.{bytes_eq};
 ghost use Rattle.ac_tables.specs.Anchors.{is_marked, AreJoined};
 ghost use Rattle.ac_tables.specs.Lists.{id_list};
+ghost use Rattle.ac_tables.specs.Visits.{IsWalk};
+ghost use Rattle.std.proofs.Props.{props};
 ghost use Rattle.ac_tables.specs.Entries.{entry_pair, entry_held};
 ghost use Rattle.ac_tables.specs.World.{provider_at, id_at, place_of, parent_of, root_of, is_above, held_of, used_of, has_trait, is_member, shares, have_common_aggregate, is_associated, is_available_at, anchors_of};
 
@@ -16,6 +18,7 @@ use crate::anchors::Anchors;
 use crate::entry::Entry;
 use crate::ids::Ids;
 use crate::ordered::{AggregateList, EntryList, TraitList};
+use crate::visits::Visits;
 use ac_base::{ClassName, Id, Inventory, TraitName};
 
 /// How much the tables tell.
@@ -43,6 +46,7 @@ pub struct Cloud {
     pub(crate) traits: Vec<TraitList>,
     pub(crate) aggregates: Vec<AggregateList>,
     pub(crate) anchors: Anchors,
+    pub(crate) visits: Option<Visits>,
     pub(crate) counts: Counts,
     ghost with_parents: { length parents.items ≡ length ids.ids.items },
     ghost with_roots: { length roots.items ≡ length ids.ids.items },
@@ -54,6 +58,7 @@ pub struct Cloud {
     ghost with_anchors: { length anchors.places.items ≡ length ids.ids.items },
     ghost joined: { AreJoined roots.items (map id_list aggregates.items) anchors.lists.items anchors.places.items },
     ghost marked: { (j : ℕ) → j < length ids.ids.items → is_some (get_or anchors.places.items j None) ≡ is_marked traits.items (map id_list aggregates.items) j },
+    ghost visited: { IfSome visits (λ v. IsWalk parents.items v.entered.items v.left.items) } by { Prim.hlevel props },
     ghost ends: { (i : ℕ) → i < length ids.ids.items → parent_in parents.items (get_or roots.items i 0) ≡ None },
 }
 
@@ -81,6 +86,24 @@ impl Cloud {
         ensures { result ≡ id_at (providers_of self.now) ix }
     {
         self.ids.ids[ix as usize]
+    }
+
+    // A UUID that is read is a number of 128 bits.
+    fn read_id(&self, ix: u32)
+        requires { ix < length (providers_of self.now) }
+        ensures { id_at (providers_of self.now) ix < 2 ^ 128 }
+    {
+        let _id = self.id(ix);
+    }
+
+    /// The UUIDs rise with the places, and are numbers of 128 bits: a law, for which each is read once.
+    pub fn ids_rise(&self)
+        ensures rising { (i j : ℕ) → i < j → j < length (providers_of self.now) → id_at (providers_of self.now) i < id_at (providers_of self.now) j }
+        ensures bits { (i : ℕ) → i < length (providers_of self.now) → id_at (providers_of self.now) i < 2 ^ 128 }
+    {
+        for ix in 0..self.len() {
+            self.read_id(ix);
+        }
     }
 
     /// The place of the provider of a UUID, where it is one.
@@ -182,8 +205,8 @@ impl Cloud {
         self.aggregates[ix as usize].has(aggregate)
     }
 
-    /// Whether provider `a` is above `b`, or is `b`.
-    pub fn is_ancestor(&self, a: u32, b: u32) -> bool
+    // Whether the parents of `b` lead to `a`.
+    fn leads_to(&self, a: u32, b: u32) -> bool
         requires a { a < length (providers_of self.now) }
         requires b { b < length (providers_of self.now) }
         ensures { result ≡ is_above (providers_of self.now) (id_at (providers_of self.now) a) (id_at (providers_of self.now) b) }
@@ -199,6 +222,18 @@ impl Cloud {
             }
         }
         at == a
+    }
+
+    /// Whether provider `a` is above `b`, or is `b`.
+    pub fn is_ancestor(&self, a: u32, b: u32) -> bool
+        requires a { a < length (providers_of self.now) }
+        requires b { b < length (providers_of self.now) }
+        ensures { result ≡ is_above (providers_of self.now) (id_at (providers_of self.now) a) (id_at (providers_of self.now) b) }
+    {
+        match &self.visits {
+            Some(visits) => visits.enclose(a, b),
+            None => self.leads_to(a, b),
+        }
     }
 
     /// Whether a provider shares what it has with the trees with which it has an aggregate in common.
