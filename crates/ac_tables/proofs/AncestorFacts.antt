@@ -1,14 +1,15 @@
 -- Walking up a chain of parents.
-use Rattle.std.proofs.Common.{◌≡◌, ◌≢◌, ◌<◌, ◌∙◌, ℕ, zero, suc, Bool, true, false, length, Option, Some, None, refl, sym, ap, arith, rules, inl, inr}
+use Rattle.std.proofs.Common.{◌≡◌, ◌≢◌, ◌<◌, ◌∙◌, ℕ, zero, suc, Bool, true, false, length, get_or, Option, Some, None, refl, sym, ap, arith, rules, inl, inr}
 use Rattle.std.specs.Prelude.{◌==◌, ◌||◌, IfSome}
 use Rattle.std.specs.Option.{option_map}
-use Rattle.std.proofs.lemmas.Bool.{cases_eq}
+use Rattle.std.proofs.lemmas.Bool.{cases_eq, cases_Bool}
 use Rattle.ac_tables.specs.Trees.{is_in_chain}
-use Rattle.ac_tables.specs.World.{id_at}
+use Rattle.ac_tables.specs.Places.{parent_in}
+use Rattle.ac_tables.specs.World.{id_at, parent_of}
 use Rattle.ac_tables.specs.CloudWorld.{providers_of}
 use Rattle.ac_tables.specs.declared.cloud.Cloud.{Cloud}
 use Rattle.ac_tables.proofs.Rising.{rising_apart}
-use Rattle.ac_tables.proofs.CloudFacts.{id_here}
+use Rattle.ac_tables.proofs.CloudFacts.{id_here, parent_here}
 
 equal : (a b : ℕ) → a ≡ b → (a == b) ≡ true
 equal a b e = search (arith, rules)
@@ -54,3 +55,28 @@ no_name f o q e same = sym same ∙ ap (option_map f) e
 
 pub some_inside : (n : ℕ) (o : Option ℕ) (p : ℕ) → o ≡ Some p → IfSome o (λ j. j < n) → p < n
 some_inside n o p e h = rw e at h
+
+-- chains of places and chains of ids
+pub chain_places : (c : Cloud) (k a b : ℕ) → a < length c.ids.ids.items → b < length c.ids.ids.items
+    → is_in_chain (parent_of (providers_of c)) k (id_at (providers_of c) a) (id_at (providers_of c) b) ≡ is_in_chain (parent_in c.parents.items) k a b
+chain_places c zero a b ha hb =
+    chain_last (parent_of (providers_of c)) (id_at (providers_of c) a) (id_at (providers_of c) b) ∙ same_test c b a hb ha ∙ sym (chain_last (parent_in c.parents.items) a b)
+chain_places c (suc k) a b ha hb = elim (cases_Bool (b == a)) [
+  | inl e ↦
+      chain_here (parent_of (providers_of c)) (suc k) (id_at (providers_of c) a) (id_at (providers_of c) b) (same_test c b a hb ha ∙ e)
+      ∙ sym (chain_here (parent_in c.parents.items) (suc k) a b e)
+  | inr ne ↦ by_parent (parent_in c.parents.items b) refl ne (λ (q : ℕ) (hq : q < length c.ids.ids.items). chain_places c k a q ha hq)
+]
+  where
+    by_parent : (o : Option ℕ) → parent_in c.parents.items b ≡ o → (b == a) ≡ false
+        → ((q : ℕ) → q < length c.ids.ids.items → is_in_chain (parent_of (providers_of c)) k (id_at (providers_of c) a) (id_at (providers_of c) q) ≡ is_in_chain (parent_in c.parents.items) k a q)
+        → is_in_chain (parent_of (providers_of c)) (suc k) (id_at (providers_of c) a) (id_at (providers_of c) b) ≡ is_in_chain (parent_in c.parents.items) (suc k) a b
+    by_parent None e ne rest =
+        chain_ends (parent_of (providers_of c)) (suc k) (id_at (providers_of c) a) (id_at (providers_of c) b) (same_test c b a hb ha ∙ ne) (parent_here c b hb ∙ ap (option_map (λ j. get_or c.ids.ids.items j 0)) e)
+        ∙ sym (chain_ends (parent_in c.parents.items) (suc k) a b ne e)
+    by_parent (Some q) e ne rest =
+        let hq : q < length c.ids.ids.items = c.within b q hb e in
+        let up : parent_of (providers_of c) (id_at (providers_of c) b) ≡ Some (id_at (providers_of c) q) =
+        parent_here c b hb ∙ ap (option_map (λ j. get_or c.ids.ids.items j 0)) e ∙ ap (λ (x : ℕ). Some x) (sym (id_here c q hq)) in
+        chain_goes (parent_of (providers_of c)) k (id_at (providers_of c) a) (id_at (providers_of c) b) (id_at (providers_of c) q) (same_test c b a hb ha ∙ ne) up
+        ∙ rest q hq ∙ sym (chain_goes (parent_in c.parents.items) k a b q ne e)

@@ -43,3 +43,5 @@ pub mod ProvidersStated
 pub mod GroupFacts
 pub mod AnchorLists
 pub mod AnchorFacts
+pub mod VisitFacts
+pub mod LawFacts

@@ -1,9 +1,22 @@
--- What holds of the world that tables state, and of a cloud.
-use Rattle.std.specs.Prelude.{◌<◌, ◌^◌, ℕ, List, length}
+-- What the definitions of trees come to, and what holds of the world that tables state and of a cloud.
+use Rattle.std.specs.Prelude.{◌≡◌, ◌<◌, ◌^◌, ℕ, true, false, List, length, Option}
 use Rattle.ac_tables.specs.CloudWorld.{providers_of}
+use Rattle.ac_tables.specs.Trees.{Above, IsRootOf, top, is_endless, is_in_chain}
 use Rattle.ac_tables.specs.World.{Provider, id_at}
 use Rattle.ac_tables.specs.Tables.{Tables, world_stated}
 use Rattle.ac_tables.specs.declared.cloud.Cloud.{Cloud}
+
+-- the chain of a provider's parents holds just those that are above it
+abbrev pub ChainIsAbove : Type 0
+ChainIsAbove =
+    (parent : ℕ → Option ℕ) (count a b : ℕ) → is_endless parent count b ≡ false
+    → (is_in_chain parent count a b ≡ true → Above parent a b) × (Above parent a b → is_in_chain parent count a b ≡ true)
+
+-- the top of a provider's chain is its root, and it has no other
+abbrev pub TopIsRoot : Type 0
+TopIsRoot =
+    (parent : ℕ → Option ℕ) (count p : ℕ) → is_endless parent count p ≡ false
+    → IsRootOf parent (top parent count p) p × ((r : ℕ) → IsRootOf parent r p → r ≡ top parent count p)
 
 -- providers stand in the order of their ids, which are numbers of 128 bits
 pub record AreProviders (all : List Provider) : Type 0 where

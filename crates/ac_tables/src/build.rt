@@ -19,6 +19,7 @@ use crate::lists::{aggregate_lists, join_all, trait_lists};
 use crate::roll::Roll;
 use crate::traits::Traits;
 use crate::usages::Usages;
+use crate::visits::walk;
 use std::alloc::{AllocError, Global};
 
 // What was read of all tables.
@@ -60,6 +61,7 @@ impl Cloud {
         let traits = trait_lists(alloc, traits.sets)?;
         let aggregates = aggregate_lists(alloc, &aggregates.sets)?;
         let anchors = find_anchors(alloc, &roots, &traits, &aggregates)?;
+        let visits = walk(alloc, &parents)?;
         Ok(Cloud {
             ids,
             parents,
@@ -68,6 +70,7 @@ impl Cloud {
             traits,
             aggregates,
             anchors,
+            visits,
             counts,
         })
     }

@@ -9,6 +9,8 @@ ghost use Rattle.std.specs.Map.{lookup};
 ghost use Rattle.std.specs.Str.{bytes_eq};
 ghost use Rattle.ac_tables.specs.Anchors.{is_marked, AreJoined};
 ghost use Rattle.ac_tables.specs.Lists.{id_list};
+ghost use Rattle.ac_tables.specs.Visits.{IsWalk};
+ghost use Rattle.std.proofs.Props.{props};
 ghost use Rattle.ac_tables.specs.Entries.{entry_pair, entry_held};
 ghost use Rattle.ac_tables.specs.World.{provider_at, id_at, place_of, parent_of, root_of, is_above, held_of, used_of, has_trait, is_member, shares, have_common_aggregate, is_associated, is_available_at, anchors_of};
 
@@ -16,6 +18,7 @@ use crate::anchors::Anchors;
 use crate::entry::Entry;
 use crate::ids::Ids;
 use crate::ordered::{AggregateList, EntryList, TraitList};
+use crate::visits::Visits;
 use ac_base::{ClassName, Id, Inventory, TraitName};
 
 /// How much the tables tell.
@@ -43,6 +46,7 @@ pub struct Cloud {
     pub(crate) traits: Vec<TraitList>,
     pub(crate) aggregates: Vec<AggregateList>,
     pub(crate) anchors: Anchors,
+    pub(crate) visits: Option<Visits>,
     pub(crate) counts: Counts,
     ghost with_parents: { length parents.items ≡ length ids.ids.items },
     ghost with_roots: { length roots.items ≡ length ids.ids.items },
@@ -54,6 +58,7 @@ pub struct Cloud {
     ghost with_anchors: { length anchors.places.items ≡ length ids.ids.items },
     ghost joined: { AreJoined roots.items (map id_list aggregates.items) anchors.lists.items anchors.places.items },
     ghost marked: { (j : ℕ) → j < length ids.ids.items → is_some (get_or anchors.places.items j None) ≡ is_marked traits.items (map id_list aggregates.items) j },
+    ghost visited: { IfSome visits (λ v. IsWalk parents.items v.entered.items v.left.items) } by { Prim.hlevel props },
     ghost ends: { (i : ℕ) → i < length ids.ids.items → parent_in parents.items (get_or roots.items i 0) ≡ None },
 }
 
@@ -182,8 +187,8 @@ impl Cloud {
         self.aggregates[ix as usize].has(aggregate)
     }
 
-    /// Whether provider `a` is above `b`, or is `b`.
-    pub fn is_ancestor(&self, a: u32, b: u32) -> bool
+    // Whether the parents of `b` lead to `a`.
+    fn leads_to(&self, a: u32, b: u32) -> bool
         requires a { a < length (providers_of self.now) }
         requires b { b < length (providers_of self.now) }
         ensures { result ≡ is_above (providers_of self.now) (id_at (providers_of self.now) a) (id_at (providers_of self.now) b) }
@@ -199,6 +204,18 @@ impl Cloud {
             }
         }
         at == a
+    }
+
+    /// Whether provider `a` is above `b`, or is `b`.
+    pub fn is_ancestor(&self, a: u32, b: u32) -> bool
+        requires a { a < length (providers_of self.now) }
+        requires b { b < length (providers_of self.now) }
+        ensures { result ≡ is_above (providers_of self.now) (id_at (providers_of self.now) a) (id_at (providers_of self.now) b) }
+    {
+        match &self.visits {
+            Some(visits) => visits.enclose(a, b),
+            None => self.leads_to(a, b),
+        }
     }
 
     /// Whether a provider shares what it has with the trees with which it has an aggregate in common.

@@ -1,6 +1,5 @@
 //! The tables and what can be wrong with them.
 ghost use Rattle.std.specs.Prelude.{◌≡◌};
-ghost use Rattle.std.specs.Prelude.{◌≡◌};
 
 use ac_base::NoMemory;
 use std::alloc::{AllocError, AllocFailed};

@@ -1,5 +1,15 @@
 //! Laws of the definitions. Each function does nothing: its contract is the law.
-ghost use Rattle.ac_tables.specs.Laws.{CloudInOrder, ProvidersInOrder};
+ghost use Rattle.ac_tables.specs.Laws.{ChainIsAbove, CloudInOrder, ProvidersInOrder, TopIsRoot};
+
+/// Where a chain of parents ends, it holds just the providers that are above: a list of parents leads to them.
+pub fn chain_is_above()
+    ensures { ChainIsAbove }
+{}
+
+/// Where a chain of parents ends, its top is the one root: above the provider, and without a parent.
+pub fn top_is_root()
+    ensures { TopIsRoot }
+{}
 
 /// The providers that tables state stand in the order of their ids, which are numbers of 128 bits.
 pub fn providers_in_order()

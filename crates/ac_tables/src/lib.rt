@@ -9,6 +9,7 @@ mod build;
 mod climbing;
 pub mod cloud;
 mod columns;
+mod draft;
 pub mod entry;
 pub mod fault;
 mod fields;
@@ -33,6 +34,7 @@ mod rows;
 mod traits;
 mod usage;
 mod usages;
+mod visits;
 
 pub use cloud::{Cloud, Counts};
 pub use entry::Entry;

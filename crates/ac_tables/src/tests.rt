@@ -249,6 +249,7 @@ fn answers_of_a_small_cloud(rt: HostRuntime) {
         cloud.root(1) == 0 && cloud.root(3) == 2 && cloud.root(4) == 4,
         "roots"
     );
+    assert!(rt; cloud.visits.is_some(), "the walk agrees");
     assert!(rt;
         cloud.is_ancestor(0, 1)
             && cloud.is_ancestor(1, 1)
@@ -434,6 +435,7 @@ fn reads_a_chain_of_65536_in_any_order(rt: HostRuntime) -> Result<(), Fail> {
                     cloud.parent(40_000) == Some(39_999) && cloud.parent(0).is_none(),
                     "parents"
                 );
+                assert!(rt; cloud.visits.is_some(), "the walk agrees");
                 assert!(rt;
                     cloud.is_ancestor(0, 65_535)
                         && cloud.is_ancestor(40_000, 40_001)

@@ -94,3 +94,10 @@ invariant_of-result-clause-marked c = λ (j : ℕ) h.
     let marked = rw (c.deref-4.ensures.value, c.deref-5.ensures.value, c.deref-6.ensures.value) at c.in_ok-anchors.ensures.marked in
     let sized : length c.in_ok-roots.roots.items ≡ length c.args.parts.ids.ids.items = c.in_ok-roots.ensures.length ∙ ap length c.deref.ensures.value ∙ size in
     marked j (omega (arith, h, sized))
+
+pub walk-requires-clause-known : goal.walk-requires-clause-known
+walk-requires-clause-known c =
+    subst AreParents (sym c.deref-7.ensures.value) (are_parents c.args.parts.ids.ids.items c.args.parts.roll.rows.items c.requires.kin c.in_ok-parents.parents.items c.in_ok-parents.ensures)
+
+pub invariant_of-result-clause-visited : goal.invariant_of-result-clause-visited
+invariant_of-result-clause-visited c = rw c.deref-7.ensures.value at c.in_ok-visits.ensures

@@ -1,52 +1,38 @@
-use Rattle.std.proofs.Common.{◌≡◌, ◌∙◌, ◌<◌, ◌+◌, ◌-◌, ℕ, suc, true, false, length, sym, ap, arith, rules, None}
-use Rattle.std.specs.Prelude.{◌==◌}
-use Rattle.std.proofs.lemmas.List.{get_or_read}
+use Rattle.std.proofs.Common.{◌≡◌, ◌∙◌, ℕ, length, sym, ap, arith}
 use Rattle.ac_tables.specs.Trees.{is_in_chain}
 use Rattle.ac_tables.specs.World.{id_at, parent_of}
 use Rattle.ac_tables.specs.CloudWorld.{providers_of}
-use Rattle.ac_tables.proofs.CloudFacts.{size, inside, parent_is}
-use Rattle.ac_tables.proofs.AncestorFacts.{chain_here, chain_ends, chain_goes, chain_last, same_test, some_name, no_name, some_inside}
+use Rattle.ac_tables.proofs.CloudFacts.{size, inside}
+use Rattle.ac_tables.proofs.AncestorFacts.{chain_places}
 use Rattle.ac_tables.proofs.cloud.Cloud.is_ancestor.Goals as goal
 
-pub index-requires : goal.index-requires
-index-requires c = omega (arith, inside c.args.self.now c.loop-step.at c.loop-step.invariant.0, c.args.self.now.parents.ok.0, c.args.self.now.with_parents)
+pub enclose-requires-clause-entered : goal.enclose-requires-clause-entered
+enclose-requires-clause-entered c =
+    let cloud = c.args.self.now in
+    let visited = rw c.in-Some.is at cloud.visited in
+    omega (arith, inside cloud c.args.a c.requires.a, cloud.with_parents, visited.0)
 
-pub returns-then-at-a : goal.returns-then-at-a
-returns-then-at-a c =
-    let all = providers_of c.args.self.now in
-    let same : (id_at all c.loop-step.at == id_at all c.args.a) ≡ true = search (arith, rules, ap (id_at all) c.if-at-a.true) in
-    sym (chain_here (parent_of all) (length all - c.loop-step._step) (id_at all c.args.a) (id_at all c.loop-step.at) same) ∙ c.loop-step.invariant.1
+pub enclose-requires-clause-left : goal.enclose-requires-clause-left
+enclose-requires-clause-left c =
+    let cloud = c.args.self.now in
+    let visited = rw c.in-Some.is at cloud.visited in
+    omega (arith, inside cloud c.args.a c.requires.a, cloud.with_parents, visited.1)
 
-pub returns-in-None : goal.returns-in-None
-returns-in-None c =
-    let all = providers_of c.args.self.now in
-    let h = inside c.args.self.now c.loop-step.at c.loop-step.invariant.0 in
-    let k : c.loop-step.at < length c.args.self.now.parents.items = omega (arith, h, c.args.self.now.with_parents) in
-    let p = parent_is c.args.self.now c.loop-step.at c.index.result.now h (get_or_read c.args.self.now.parents.items _ _ k c.index.ensures None) in
-    let apart : (c.loop-step.at == c.args.a) ≡ false = search (arith, rules, c.if-at-a.false) in
-    sym (chain_ends (parent_of all) (length all - c.loop-step._step) (id_at all c.args.a) (id_at all c.loop-step.at)
-    (same_test c.args.self.now c.loop-step.at c.args.a h (inside c.args.self.now c.args.a c.requires.a) ∙ apart)
-    (no_name (id_at all) c.index.result.now _ c.in-None.is p.0)) ∙ c.loop-step.invariant.1
+pub enclose-requires-clause-b : goal.enclose-requires-clause-b
+enclose-requires-clause-b c =
+    let cloud = c.args.self.now in
+    let visited = rw c.in-Some.is at cloud.visited in
+    omega (arith, inside cloud c.args.b c.requires.b, cloud.with_parents, visited.0)
 
-pub loop-step-preserved : goal.loop-step-preserved
-loop-step-preserved c =
-    let all = providers_of c.args.self.now in
-    let h = inside c.args.self.now c.loop-step.at c.loop-step.invariant.0 in
-    let k : c.loop-step.at < length c.args.self.now.parents.items = omega (arith, h, c.args.self.now.with_parents) in
-    let p = parent_is c.args.self.now c.loop-step.at c.index.result.now h (get_or_read c.args.self.now.parents.items _ _ k c.index.ensures None) in
-    let apart : (c.loop-step.at == c.args.a) ≡ false = search (arith, rules, c.if-at-a.false) in
-    let left : length all - c.loop-step._step ≡ suc (length all - (c.loop-step._step + 1)) = omega (arith, c.loop-step-test.true, c.len-step-end.ensures.value, size c.args.self.now) in (
-      some_inside (length all) c.index.result.now c.in-Some.parent c.in-Some.is p.1,
-      sym (chain_goes (parent_of all) (length all - (c.loop-step._step + 1)) (id_at all c.args.a) (id_at all c.loop-step.at) (id_at all c.in-Some.parent)
-          (same_test c.args.self.now c.loop-step.at c.args.a h (inside c.args.self.now c.args.a c.requires.a) ∙ apart)
-          (some_name (id_at all) c.index.result.now c.in-Some.parent _ c.in-Some.is p.0))
-          ∙ ap (λ (n : ℕ). is_in_chain (parent_of all) n (id_at all c.args.a) (id_at all c.loop-step.at)) (sym left) ∙ c.loop-step.invariant.1,
-    )
-
-pub returns : goal.returns
-returns c =
-    let all = providers_of c.args.self.now in
-    let none : length all - c.loop-step._step ≡ 0 = omega (arith, c.loop-step-test.false, c.len-step-end.ensures.value, size c.args.self.now) in
-    sym (same_test c.args.self.now c.loop-step.at c.args.a (inside c.args.self.now c.loop-step.at c.loop-step.invariant.0) (inside c.args.self.now c.args.a c.requires.a))
-    ∙ sym (chain_last (parent_of all) (id_at all c.args.a) (id_at all c.loop-step.at))
-    ∙ ap (λ (n : ℕ). is_in_chain (parent_of all) n (id_at all c.args.a) (id_at all c.loop-step.at)) (sym none) ∙ c.loop-step.invariant.1
+pub returns-in-Some : goal.returns-in-Some
+returns-in-Some c =
+    let cloud = c.args.self.now in
+    let all = providers_of cloud in
+    let visited = rw c.in-Some.is at cloud.visited in
+    let ha = inside cloud c.args.a c.requires.a in
+    let hb = inside cloud c.args.b c.requires.b in
+    let sized : length cloud.parents.items ≡ length all = cloud.with_parents ∙ sym (size cloud) in
+    c.enclose.ensures
+    ∙ visited.2 c.args.a c.args.b (omega (arith, ha, cloud.with_parents)) (omega (arith, hb, cloud.with_parents))
+    ∙ sym (chain_places cloud (length cloud.parents.items) c.args.a c.args.b ha hb)
+    ∙ ap (λ (n : ℕ). is_in_chain (parent_of all) n (id_at all c.args.a) (id_at all c.args.b)) sized
