@@ -2,7 +2,6 @@ ghost use Rattle.std.specs.Prelude.{◌≡◌, OnOk, IfOk, Some, None};
 ghost use Rattle.std.specs.Option.{option_map};
 ghost use Rattle.ac_base.specs.Names.{suffix_bytes};
 ghost use Rattle.ac_query.specs.Gathered.{empty_group, nothing, with_part, grown, with_given, with_suffixed};
-ghost use Rattle.ac_query.specs.Values.{in_group};
 ghost use Rattle.ac_query.specs.GivenShown.{part_shown, given_shown};
 ghost use Rattle.ac_query.specs.DraftShown.{group_drafted, entries_shown, draft_shown};
 

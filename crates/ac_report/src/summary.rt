@@ -1,5 +1,4 @@
-ghost use Rattle.std.specs.Prelude.{◌≡◌, ◌<◌, ◌++◌, ◌∷◌, IfOk, map, length, string_bytes};
-ghost use Rattle.serde_json.specs.Data.{string};
+ghost use Rattle.std.specs.Prelude.{◌≡◌, ◌<◌, IfOk, map, length, string_bytes};
 ghost use Rattle.serde_json.specs.View.{view};
 ghost use Rattle.ac_base.specs.Names.{trait_bytes};
 ghost use Rattle.ac_tables.specs.World.{id_at, parent_of};

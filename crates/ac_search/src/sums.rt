@@ -1,6 +1,6 @@
 //! Sums: what all slots ask of each provider together.
 
-ghost use Rattle.std.specs.Prelude.{◌≡◌, ◌<◌, ◌≤◌, ℕ, length, map};
+ghost use Rattle.std.specs.Prelude.{◌≡◌, ◌<◌, ◌≤◌, length, map};
 ghost use Rattle.std.specs.List.{All};
 ghost use Rattle.ac_base.specs.Names.{class_bytes};
 ghost use Rattle.ac_tables.specs.World.{provider_at, used_of};

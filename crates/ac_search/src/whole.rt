@@ -1,13 +1,13 @@
 //! The rules of all slots together, beside Sums.
 
-ghost use Rattle.std.specs.Prelude.{◌≡◌, ◌<◌, ◌≤◌, ◌&&◌, ◌+◌, ℕ, List, length, map, drop, get_or, [], slice_index};
+ghost use Rattle.std.specs.Prelude.{◌≡◌, ◌<◌, ◌≤◌, ◌&&◌, ◌+◌, length, map, drop, get_or, [], slice_index};
 ghost use Rattle.std.specs.List.{All, list_all, list_any};
 ghost use Rattle.ac_base.specs.Names.{trait_bytes};
 ghost use Rattle.ac_tables.specs.CloudWorld.{providers_of};
 ghost use Rattle.ac_query.specs.Asked.{slots_of};
 ghost use Rattle.ac_query.specs.QueriesShown.{asked_of};
 ghost use Rattle.ac_search.specs.Placed.{placed, assigned, placed_at};
-ghost use Rattle.ac_search.specs.Together.{is_brought, collective, are_apart, all_apart, isolate, listed, is_top, subtree, takes_root, hosts_all, anchor};
+ghost use Rattle.ac_search.specs.Together.{is_brought, collective, are_apart, all_apart, isolate, listed, is_top, subtree};
 
 use crate::own::{has_all, has_none};
 use crate::slots::{is_listed, is_set_apart, is_suffixed};

@@ -1,6 +1,6 @@
--- Whether a provider is available in the tree of a root.
+-- A root is told by its place, and is known by having no parent.
 use Rattle.std.proofs.Common.{◌≡◌, ◌<◌, ◌∙◌, ℕ, Bool, true, false, length, Option, Some, None, refl, sym, ap}
-use Rattle.std.specs.Prelude.{◌==◌, ◌&&◌, ◌||◌}
+use Rattle.std.specs.Prelude.{◌==◌, ◌&&◌}
 use Rattle.std.specs.Option.{is_some, is_none, option_map}
 use Rattle.ac_tables.specs.World.{id_at, place_of, parent_of, root_of, is_root}
 use Rattle.ac_tables.specs.CloudWorld.{providers_of}
@@ -27,16 +27,3 @@ root_here c ix o h e none =
   where
     both : (a b : Bool) → a ≡ true → b ≡ true → (a && b) ≡ true
     both a b e f = rw (e, f) refl
-
--- the three answers
-pub of_tree : (root same sharing joined : Bool) → root ≡ true → same ≡ true → true ≡ (root && (same || (sharing && joined)))
-of_tree root same sharing joined e f = rw (e, f) refl
-
-pub not_sharing : (root same sharing joined : Bool) → root ≡ true → same ≡ false → sharing ≡ false → false ≡ (root && (same || (sharing && joined)))
-not_sharing root same sharing joined e f g = rw (e, f, g) refl
-
-pub by_sharing : (root same sharing joined : Bool) → root ≡ true → same ≡ false → sharing ≡ true → joined ≡ (root && (same || (sharing && joined)))
-by_sharing root same sharing joined e f g = rw (e, f, g) refl
-
-pub apart : (test other : Bool) → test ≡ false → false ≡ (test && other)
-apart test other e = rw e refl

@@ -45,3 +45,4 @@ pub mod AnchorLists
 pub mod AnchorFacts
 pub mod VisitFacts
 pub mod LawFacts
+pub mod KeptFacts

@@ -1,18 +1,15 @@
 //! The cloud that accepted tables state.
-ghost use Rattle.std.specs.Prelude.{◌==◌, ◌&&◌, ◌≡◌, ◌<◌, ◌≤◌, ◌+◌, ℕ, Option, None, Some, List, map, length, get_or, IfOk, IfErr, IfSome, IfNone};
-ghost use Rattle.std.specs.Option.{is_some, option_map, option_and_then, option_copied};
+ghost use Rattle.std.specs.Prelude.{◌==◌, ◌≡◌, ◌<◌, ℕ, Option, None, Some, map, length, get_or, IfSome};
+ghost use Rattle.std.specs.Option.{is_some, option_map, option_copied};
 ghost use Rattle.ac_base.specs.Names.{class_bytes, trait_bytes};
 ghost use Rattle.ac_tables.specs.Trees.{top};
 ghost use Rattle.ac_tables.specs.Places.{parent_in, AreWithin};
-ghost use Rattle.std.specs.List.{list_any};
-ghost use Rattle.std.specs.Map.{lookup};
-ghost use Rattle.std.specs.Str.{bytes_eq};
 ghost use Rattle.ac_tables.specs.Anchors.{is_marked, AreJoined};
 ghost use Rattle.ac_tables.specs.Lists.{id_list};
 ghost use Rattle.ac_tables.specs.Visits.{IsWalk};
 ghost use Rattle.std.proofs.Props.{props};
 ghost use Rattle.ac_tables.specs.Entries.{entry_pair, entry_held};
-ghost use Rattle.ac_tables.specs.World.{provider_at, id_at, place_of, parent_of, root_of, is_above, held_of, used_of, has_trait, is_member, shares, have_common_aggregate, is_associated, is_available_at, anchors_of};
+ghost use Rattle.ac_tables.specs.World.{provider_at, id_at, place_of, parent_of, root_of, is_above, held_of, used_of, has_trait, is_member, shares, is_available_at, anchors_of};
 
 use crate::anchors::Anchors;
 use crate::entry::Entry;
@@ -64,7 +61,7 @@ pub struct Cloud {
 
 impl Cloud {
     ghost use Rattle.ac_tables.specs.CloudWorld.{providers_of, world_of, sizes_of};
-    ghost use Rattle.ac_tables.specs.Lists.{held_list, name_list, id_list};
+    ghost use Rattle.ac_tables.specs.Lists.{id_list};
 
     /// How many providers there are.
     pub fn len(&self) -> u32
@@ -226,34 +223,6 @@ impl Cloud {
         self.traits[ix as usize].shares
     }
 
-    // Whether another provider is of the tree of a root and has an aggregate in common with this one.
-    fn joins(&self, ix: u32, other: u32, root: u32) -> bool
-        requires ix { ix < length (providers_of self.now) }
-        requires other { other < length (providers_of self.now) }
-        requires root { root < length (providers_of self.now) }
-        ensures { result ≡ ((root_of (providers_of self.now) (id_at (providers_of self.now) other) == id_at (providers_of self.now) root) && have_common_aggregate (provider_at (providers_of self.now) ix) (provider_at (providers_of self.now) other)) }
-    {
-        if self.root(other) == root {
-            have_common(self.aggregates(ix), self.aggregates(other))
-        } else {
-            false
-        }
-    }
-
-    // Whether some provider of the tree of a root has an aggregate in common with this one.
-    fn is_associated(&self, ix: u32, root: u32) -> bool
-        requires ix { ix < length (providers_of self.now) }
-        requires root { root < length (providers_of self.now) }
-        ensures { result ≡ is_associated (providers_of self.now) (provider_at (providers_of self.now) ix) (id_at (providers_of self.now) root) }
-    {
-        for other in 0..self.len() {
-            if self.joins(ix, other, root) {
-                return true;
-            }
-        }
-        false
-    }
-
     /// Whether a provider is available in the tree of a root: it is of the tree, or shares with one of its providers.
     /// `false` where `root` isn't a root.
     pub fn available(&self, ix: u32, root: u32) -> bool
@@ -261,16 +230,7 @@ impl Cloud {
         requires root { root < length (providers_of self.now) }
         ensures { result ≡ is_available_at (providers_of self.now) ix root }
     {
-        if self.parent(root).is_some() {
-            return false;
-        }
-        if self.root(ix) == root {
-            return true;
-        }
-        if !self.shares(ix) {
-            return false;
-        }
-        self.is_associated(ix, root)
+        self.anchors(ix).binary_search(&root).is_ok()
     }
 
     /// The roots of all trees in which a provider is available, rising.
@@ -284,11 +244,4 @@ impl Cloud {
             None => &self.roots[ix..=ix],
         }
     }
-}
-
-// Whether two lists have an id in common.
-fn have_common(ids: &[Id], others: &[Id]) -> bool
-    ensures { result ≡ list_any (λ id. list_any (λ other. other == id) others.now) ids.now }
-{
-    ids.iter().any(|id| others.contains(id))
 }

@@ -1,5 +1,5 @@
 //! The columns of a table, found by their names in the header.
-ghost use Rattle.std.specs.Prelude.{◌≡◌, ◌≤◌, List, ℕ, None, map, length, IfOk, IfErr, ◌∷◌};
+ghost use Rattle.std.specs.Prelude.{◌≡◌, ◌≤◌, None, length, IfOk, IfErr, ◌∷◌};
 ghost use Rattle.std.specs.List.{list_any};
 ghost use Rattle.std.specs.Option.{unwrap_or};
 ghost use Rattle.csv.specs.Records.{fields_of};

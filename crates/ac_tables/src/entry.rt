@@ -1,5 +1,5 @@
 //! What a provider has of one resource class.
-ghost use Rattle.std.specs.Prelude.{◌≡◌, [], map, IfOk};
+ghost use Rattle.std.specs.Prelude.{◌≡◌, map, IfOk};
 ghost use Rattle.ac_base.specs.Names.{class_bytes};
 ghost use Rattle.ac_tables.specs.Entries.{entry_pair};
 ghost use Rattle.ac_tables.specs.Gathered.{by_class};

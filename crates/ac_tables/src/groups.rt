@@ -1,5 +1,5 @@
 //! The roots of the providers of each aggregate.
-ghost use Rattle.std.specs.Prelude.{◌==◌, ◌||◌, ◌&&◌, ◌≡◌, ◌≤◌, ◌<◌, ℕ, None, false, if◌then◌else◌, map, length, IfOk};
+ghost use Rattle.std.specs.Prelude.{◌==◌, ◌||◌, ◌&&◌, ◌≡◌, ◌<◌, ℕ, None, false, if◌then◌else◌, map, length, IfOk};
 ghost use Rattle.std.specs.List.{list_any};
 ghost use Rattle.std.specs.List.Sorted.{IsStrictlySortedBy};
 ghost use Rattle.std.specs.Ordering.{nat_cmp};

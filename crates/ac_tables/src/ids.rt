@@ -1,7 +1,6 @@
 //! The ids of all providers, rising: a provider's place in them is its number.
-ghost use Rattle.std.specs.Prelude.{◌≡◌, ◌≤◌, ◌<◌, ◌+◌, ◌^◌, ℕ, false, length, map, get_or, IfOk, IfNone, IfSome};
+ghost use Rattle.std.specs.Prelude.{◌≡◌, ◌≤◌, ◌<◌, ◌^◌, false, length, get_or, IfNone, IfSome};
 ghost use Rattle.std.specs.List.{All};
-ghost use Rattle.std.specs.Ordering.{nat_cmp};
 ghost use Rattle.ac_tables.specs.Sorted.{rising};
 ghost use Rattle.ac_tables.specs.Gathered.{IsRising};
 ghost use Rattle.ac_tables.specs.InventoryTable.{is_one_of};

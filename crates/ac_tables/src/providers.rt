@@ -3,9 +3,8 @@ ghost use Rattle.std.specs.Prelude.{◌≡◌, ◌≤◌, ◌<◌, ◌+◌, None
 ghost use Rattle.csv.specs.Records.{fields_of};
 ghost use Rattle.ac_tables.specs.Checks.{Tells, rows_fault};
 ghost use Rattle.ac_tables.specs.Drain.{most_bytes};
-ghost use Rattle.ac_tables.specs.ProviderTable.{listed_in, listed_checks, listed_of, listed_fault, listed_parent, unknown_fault, endless_fault, root_fault, trees_fault, providers_fault};
+ghost use Rattle.ac_tables.specs.ProviderTable.{listed_in, listed_checks, listed_of, listed_fault, unknown_fault, endless_fault, root_fault, trees_fault, providers_fault};
 ghost use Rattle.ac_tables.specs.DistinctIds.{AreTrees, parent_places};
-ghost use Rattle.ac_tables.specs.ColumnPlaces.{listed_places};
 ghost use Rattle.ac_tables.specs.Places.{parent_in};
 ghost use Rattle.ac_tables.specs.Trees.{top};
 ghost use Rattle.ac_tables.specs.Rows.{IsReading, rows_left, records_of};

@@ -1,5 +1,5 @@
 //! The bytes of a table.
-ghost use Rattle.std.specs.Prelude.{◌≡◌, ◌≤◌, ℕ, IfOk, Err, vec_len};
+ghost use Rattle.std.specs.Prelude.{◌≡◌, ◌≤◌, IfOk, Err, vec_len};
 ghost use Rattle.ac_base.specs.Devices.{Rises};
 ghost use Rattle.ac_tables.specs.Drain.{AllBytes, AreTooMany, most_bytes};
 

@@ -8,7 +8,6 @@ ghost use Rattle.ac_tables.specs.Checks.{first_failing, TellsKind};
 ghost use Rattle.ac_tables.specs.Sorted.{rising};
 ghost use Rattle.ac_tables.specs.ProviderTable.{place_of, place_checks, listed_in, listed_checks, listed_at, listed_parent, has_unknown_parent};
 ghost use Rattle.ac_tables.specs.DistinctIds.{AreDistinct, parent_place};
-ghost use Rattle.ac_tables.specs.Gathered.{IsRising};
 ghost use Rattle.ac_tables.specs.ColumnPlaces.{listed_places};
 
 use crate::fault::{RecordFault, TableKind};

@@ -1,5 +1,5 @@
 //! The table of traits.
-ghost use Rattle.std.specs.Prelude.{◌≡◌, ◌≤◌, ◌<◌, ◌+◌, ◌++◌, ◌∷◌, None, ℕ, List, [], map, length, IfOk, IfErr};
+ghost use Rattle.std.specs.Prelude.{◌≡◌, ◌≤◌, ◌<◌, ◌+◌, ◌++◌, ◌∷◌, None, List, [], map, length, IfOk, IfErr};
 ghost use Rattle.std.specs.List.{sum_by};
 ghost use Rattle.csv.specs.Records.{fields_of};
 ghost use Rattle.ac_tables.specs.Checks.{first_failing, TellsKind, Tells, rows_fault};
