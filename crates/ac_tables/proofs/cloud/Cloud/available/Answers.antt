@@ -12,6 +12,6 @@ returns c =
     let list = anchors_of all c.args.ix in
     let test = is_available_at all c.args.ix in
     let place = found (λ (x : ℕ). x) nat_cmp_total list c.args.root c.binary_search.result (rw (map_itself list) (kept_rise (length all) test))
-      (rw c.anchors.ensures at c.binary_search.ensures.bound) (rw c.anchors.ensures at c.binary_search.ensures.position) in
+    (rw c.anchors.ensures at c.binary_search.ensures.bound) (rw c.anchors.ensures at c.binary_search.ensures.position) in
     c.is_ok.ensures.value ∙ found_any (λ (x : ℕ). x) nat_cmp_total list c.args.root c.binary_search.result place
     ∙ kept_has (length all) c.args.root test c.requires.root
