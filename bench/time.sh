@@ -1,6 +1,6 @@
 #!/bin/bash
 # bench/time.sh [PROVIDERS..]: times the proved program on clouds of so many providers (4096, 16384 and 65536, if none is named), with three
-# resource classes each. Beside it, over the same bytes and in the same run: the ported csv alone (bench/csv_alone), wc, Python's csv module,
+# resource classes each. Beside it, over the same bytes and in the same run: the ported csv alone (bench/csv_alone.rattle), wc, Python's csv module,
 # and a plain Rust program that only splits and counts (bench/anchor, where rustc is there). The last two clouds repeat the largest with its rows in order and in reverse.
 # Each figure is the best of three runs: wall time, and the most memory held at once.
 
@@ -17,10 +17,12 @@ if command -v rustc >"$room/rustc" && rustc -O -o "$room/reading" "$bench/anchor
     anchor=$room/reading
 fi
 
-# The ported csv alone, which reads the same bytes into the same records.
+# The ported csv alone, which reads the same bytes into the same records: a crate of its own, made for this run.
 ported=''
-if (cd "$bench/csv_alone/crates/csv_alone" && rt run) >"$room/ported.log" 2>&1 </dev/null; then
-    ported=$bench/csv_alone/crates/csv_alone/out/csv_alone
+alone=$room/alone/crates/csv_alone
+mkdir -p "$alone/src" && cp "$bench/csv_alone.rattle" "$alone/src/main.rt" && echo 'csv_alone: csv' >"$room/alone/crates.txt"
+if (cd "$room/alone" && git init -q && cd "$alone" && rt run) >"$room/ported.log" 2>&1 </dev/null; then
+    ported=$alone/out/csv_alone
 fi
 
 # The interpreter itself: python3 can be a script that looks for it first.
