@@ -1,21 +1,20 @@
 -- What each part of a run says of the answer.
-use Rattle.std.proofs.Common.{◌≡◌, ℕ, suc, zero, ◌+◌, ◌<◌, ◌≤◌, ◌∙◌, Bool, true, false, nat_lt, List, [], ◌∷◌, ◌++◌, length, map, Option, Some, None, refl, sym, ap, ap₂, subst, arith, append-nil, ◌≢◌}
-use Rattle.std.specs.Prelude.{Result, Ok, Err, ⊤, filter}
+use Rattle.std.proofs.Common.{◌≡◌, ℕ, suc, zero, ◌+◌, ◌<◌, ◌≤◌, ◌∙◌, Bool, true, false, nat_lt, List, [], ◌∷◌, length, Option, Some, None, refl, sym, ap, ap₂, arith, append-nil}
+use Rattle.std.specs.Prelude.{Result, Err, filter}
 use Rattle.std.proofs.lemmas.Bool.Decides.{nat_tests}
 use Rattle.std.proofs.lemmas.Bool.{cases_Bool}
 use Rattle.std.proofs.Common.{inl, inr}
-use Rattle.std.specs.List.{AllByRecursion, range_with_len}
-use Rattle.ac_cli.specs.Answer.{OfBoth, Outcome, accepted, answer_to, readable}
+use Rattle.std.specs.List.{AllByRecursion}
+use Rattle.ac_cli.specs.Answer.{OfBoth, accepted, readable}
 use Rattle.ac_cli.specs.Drain.{AllBytes, AreTooMany, most_bytes}
 use Rattle.ac_cli.specs.Lists.{singles}
 use Rattle.ac_cli.specs.Queries.{Need}
 use Rattle.ac_cli.specs.Run.{ExplainsReading, unread}
-use Rattle.ac_cli.specs.Search.{candidates, candidates_from, is_candidate}
+use Rattle.ac_cli.specs.Search.{candidates, is_candidate}
 use Rattle.ac_cli.specs.World.{World, size, stated}
 use Rattle.ac_cli.specs.Writing.{AreWithin, TakesPart}
 use Rattle.ac_cli.specs.declared.reading.ReadFault.{ReadFault}
 use Rattle.ac_cli.specs.declared.reading.ReadFault.TheVariants as fault
-use Rattle.ac_cli.specs.declared.refusal.Refusal.{Refusal}
 use Rattle.ac_cli.specs.declared.refusal.Refusal.TheVariants as why
 use Rattle.ac_cli.specs.declared.table.Table.{Table}
 use Rattle.ac_cli.specs.declared.table.Table.TheVariants as table

@@ -1,5 +1,5 @@
 -- The candidates from one provider on.
-use Rattle.std.proofs.Common.{◌≡◌, ℕ, suc, ◌+◌, ◌-◌, ◌<◌, ◌≤◌, ◌∙◌, Bool, true, false, List, [], ◌∷◌, refl, sym, ap, arith}
+use Rattle.std.proofs.Common.{◌≡◌, ℕ, suc, ◌+◌, ◌-◌, ◌<◌, ◌≤◌, ◌∙◌, true, false, [], ◌∷◌, refl, ap, arith}
 use Rattle.ac_cli.specs.Queries.{Need}
 use Rattle.ac_cli.specs.Search.{candidates_from, is_candidate}
 use Rattle.ac_cli.specs.World.{World}

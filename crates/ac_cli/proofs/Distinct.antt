@@ -1,12 +1,11 @@
 -- What the maps of the tables hold after one more record, and whether no two records were the same.
-use Rattle.std.proofs.Common.{◌≡◌, ℕ, ◌+◌, ◌≤◌, ◌==◌, ◌&&◌, ◌∙◌, Bool, true, false, nat_le, List, [], ◌∷◌, ◌++◌, map, length, Option, Some, None, refl, sym, ap, ap₂, arith}
+use Rattle.std.proofs.Common.{◌≡◌, ℕ, ◌≤◌, ◌==◌, ◌&&◌, ◌∙◌, Bool, true, false, nat_le, List, [], ◌∷◌, ◌++◌, map, length, Option, Some, None, refl, sym, ap, arith}
 use Rattle.std.proofs.lemmas.Bool.Decides.{nat_tests}
 use Rattle.std.proofs.lemmas.Bool.{cases_Bool}
 use Rattle.std.proofs.Common.{inl, inr}
 use Rattle.std.proofs.lemmas.List.Sums.{fold-append}
 use Rattle.std.specs.Ordering.{nat_cmp, ordering_then}
-use Rattle.std.specs.List.{fold}
-use Rattle.std.specs.Option.{option_and_then, option_map}
+use Rattle.std.specs.Option.{option_map}
 use Rattle.std.specs.Map.{lookup}
 use Rattle.std.specs.declared.cmp.Ordering.{Ordering}
 use Rattle.std.specs.BTreeMap.{insert_entry, is_at}
@@ -17,7 +16,7 @@ use Rattle.ac_base.specs.Quantities.{Stock}
 use Rattle.ac_base.proofs.ShownKeys.{insert_shown, lookup_shown}
 use Rattle.ac_cli.specs.declared.tables.inventories.Holding.{Holding}
 use Rattle.ac_cli.specs.Shown.{key_shown, held_shown}
-use Rattle.ac_cli.specs.Tables.{Held, Key, key_cmp, map_of, rising, where_so, stock_of, distinct_providers, distinct_inventories}
+use Rattle.ac_cli.specs.Tables.{Held, key_cmp, map_of, rising, where_so, stock_of, distinct_providers, distinct_inventories}
 
 pub rising_more : (keys more got : List ℕ) (id : ℕ) → keys ≡ rising got → more ≡ insert_key nat_cmp keys id → more ≡ rising (got ++ id ∷ [])
 rising_more keys more got id kept added = added ∙ ap (λ k. insert_key nat_cmp k id) kept ∙ sym (fold-append (insert_key nat_cmp) [] got (id ∷ []))

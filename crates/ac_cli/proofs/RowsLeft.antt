@@ -1,5 +1,5 @@
 -- Reading one record takes the first of the records that are left.
-use Rattle.std.proofs.Common.{◌≡◌, ◌<◌, ◌≤◌, ◌+◌, ◌∙◌, ℕ, zero, suc, Bool, true, false, List, [], ◌∷◌, ◌++◌, length, Option, Some, None, Bor, refl, sym, ap, subst, arith, ◌⊎◌, inl, inr}
+use Rattle.std.proofs.Common.{◌≡◌, ◌<◌, ◌+◌, ◌∙◌, ℕ, zero, suc, Bool, true, false, List, [], ◌∷◌, length, Option, Some, None, Bor, refl, ap, subst, arith, ◌⊎◌, inl, inr}
 use Rattle.csv.specs.Machine.{Read, ends_at_end, next_record}
 use Rattle.std.specs.Prelude.{Result, Ok, Err, IfOk, OnOk}
 use Rattle.std.specs.Option.{ok_or}
@@ -7,7 +7,7 @@ use Rattle.std.specs.Result.{result_ok}
 use Rattle.ac_base.specs.declared.name.NoMemory.{NoMemory}
 use Rattle.csv.specs.declared.error.Error.{Error}
 use Rattle.csv.specs.declared.reader.Trim.TheVariants as trim
-use Rattle.csv.specs.Reading.{Ready, Reached, ReadRecord, default_config, records, records_from, records_next, source_of, strip_bom}
+use Rattle.csv.specs.Reading.{Ready, Reached, ReadRecord, default_config, records_from, source_of, strip_bom}
 use Rattle.csv.specs.declared.parser.State.{State}
 use Rattle.csv.specs.declared.parser.State.TheVariants as st
 use Rattle.csv.specs.declared.reader.Reader.{Reader}

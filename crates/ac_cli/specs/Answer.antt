@@ -1,7 +1,6 @@
 -- What a run answers: its output, its line on the error sink, and its status.
-use Rattle.std.specs.Prelude.{◌≡◌, ℕ, List, [], ◌∷◌, ◌++◌, length, codes, nat_lt, if◌then◌else◌, Option, Some, None, Result, Ok, Err, ⊤}
-use Rattle.std.specs.Option.{option_map, option_and_then, IfSome}
-use Rattle.std.specs.Io.KnownBytes.{Appends, Keeps}
+use Rattle.std.specs.Prelude.{ℕ, List, [], ◌∷◌, ◌++◌, length, codes, nat_lt, if◌then◌else◌, Option, Some, None, Result, Ok, Err, ⊤}
+use Rattle.std.specs.Io.KnownBytes.{Appends}
 use Rattle.ac_base.specs.Devices.{Rises}
 use Rattle.ac_cli.specs.Drain.{most_bytes}
 use Rattle.ac_cli.specs.Queries.{Need, asked}

@@ -1,7 +1,6 @@
 -- What is known after each part of a run.
-use Rattle.std.specs.Prelude.{◌≡◌, ℕ, List, [], Option, Some, None, Result, Ok, Err, ⊤}
+use Rattle.std.specs.Prelude.{◌≡◌, ℕ, List, [], Option, None, Err, ⊤}
 use Rattle.std.specs.Io.KnownBytes.{Appends, Keeps}
-use Rattle.ac_base.specs.Devices.{Rises}
 use Rattle.ac_cli.specs.Answer.{OfBoth, TakesLine, Outcome, answer, answer_to, readable, refused, line_of}
 use Rattle.ac_cli.specs.Queries.{Need}
 use Rattle.ac_cli.specs.World.{World}

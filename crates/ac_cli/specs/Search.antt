@@ -1,5 +1,5 @@
 -- Which lists of providers are candidates.
-use Rattle.std.specs.Prelude.{ℕ, ◌&&◌, ◌-◌, Bool, false, nat_le, List, [], ◌∷◌, filter, Option, Some, None}
+use Rattle.std.specs.Prelude.{ℕ, ◌&&◌, Bool, false, nat_le, List, filter, Option, Some, None}
 use Rattle.std.specs.List.{list_all}
 use Rattle.ac_base.specs.Quantities.{Stock, capacity, units}
 use Rattle.ac_cli.specs.Lists.{singles}

@@ -1,5 +1,5 @@
 -- What the maps of the tables show: names as their bytes.
-use Rattle.std.specs.Prelude.{ℕ, List, map}
+use Rattle.std.specs.Prelude.{List, map}
 use Rattle.std.specs.BTreeMap.{BTreeMap}
 use Rattle.ac_base.specs.Names.{class_bytes}
 use Rattle.ac_base.specs.Quantities.{Stock}

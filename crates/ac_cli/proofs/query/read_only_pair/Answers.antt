@@ -1,6 +1,6 @@
-use Rattle.std.proofs.Common.{◌≡◌, ◌∙◌, ℕ, Bool, true, false, List, [], ◌∷◌, map, Option, None, refl, sym, ap}
+use Rattle.std.proofs.Common.{◌≡◌, ◌∙◌, ℕ, false, List, [], ◌∷◌, map, None, refl, sym, ap}
 use Rattle.form_urlencoded.specs.Form.{raw_pairs}
-use Rattle.ac_cli.specs.Queries.{Need, is_one, only_need, text_of}
+use Rattle.ac_cli.specs.Queries.{is_one, only_need, text_of}
 use Rattle.ac_cli.proofs.query.read_only_pair.Goals.{then-has_one_pair+in_default, else-has_one_pair}
 use Rattle.ac_cli.proofs.query.read_only_pair.Goals as goal
 

@@ -1,11 +1,6 @@
-use Rattle.std.proofs.Common.{◌≡◌, ◌∙◌, ap, sym, subst, length, ℕ, ◌≤◌, List, refl, arith, rules}
+use Rattle.std.proofs.Common.{ap, arith, rules}
 use Rattle.std.specs.Prelude.{Ok, Err}
-use Rattle.ac_base.specs.Devices.{Rises}
 use Rattle.ac_cli.specs.CloudShown.{world_of}
-use Rattle.ac_cli.specs.Drain.{most_bytes}
-use Rattle.ac_cli.specs.Run.{ExplainsReading}
-use Rattle.ac_cli.specs.World.{stated}
-use Rattle.ac_cli.specs.declared.refusal.Refusal.{Refusal}
 use Rattle.ac_cli.proofs.Answering.{providers_unread, inventories_unread, read_both}
 use Rattle.ac_cli.proofs.run.read_cloud.Goals as goal
 

@@ -1,4 +1,4 @@
-use Rattle.std.proofs.Common.{◌≡◌, ℕ, ◌<◌, List, [], ◌∷◌, refl, arith, sym, subst}
+use Rattle.std.proofs.Common.{[], ◌∷◌, refl, arith}
 use Rattle.std.specs.Prelude.{Contains}
 use Rattle.ac_cli.specs.Answer.{status_of}
 use Rattle.ac_cli.specs.declared.refusal.Refusal.{Refusal}

@@ -1,7 +1,5 @@
-use Rattle.std.proofs.Common.{sym, subst, rules}
 use Rattle.ac_cli.specs.CloudShown.{world_of}
 use Rattle.ac_cli.specs.QueryShown.{need_of_query}
-use Rattle.ac_cli.specs.World.{size}
 use Rattle.ac_cli.proofs.Answering.{takes_none, candidates_within}
 use Rattle.ac_cli.proofs.run.write_answer.Goals as goal
 

@@ -1,4 +1,4 @@
-use Rattle.std.proofs.Common.{◌≡◌, ◌∙◌, ◌++◌, ap, arith, sym, rules, refl, get_or}
+use Rattle.std.proofs.Common.{arith, rules, refl, get_or}
 use Rattle.ac_cli.specs.CloudShown.{world_of}
 use Rattle.ac_cli.specs.Writing.{provider_text}
 use Rattle.ac_cli.proofs.LinesWritten.{behind_more}

@@ -1,4 +1,4 @@
-use Rattle.std.proofs.Common.{◌≡◌, ◌++◌, map, take, sym}
+use Rattle.std.proofs.Common.{◌≡◌, ◌++◌, map, take}
 use Rattle.ac_cli.specs.CloudShown.{world_of}
 use Rattle.ac_cli.specs.Writing.{behind_commas, provider_text}
 use Rattle.ac_cli.proofs.report.lines.put_providers.Given as goal

@@ -1,7 +1,5 @@
-use Rattle.std.proofs.Common.{◌≡◌, ◌∙◌, ℕ, List, codes, length, Option, Some, refl, sym}
-use Rattle.csv.specs.Records.{fields_of}
-use Rattle.ac_cli.specs.Tables.{column, inventory_places}
-use Rattle.ac_cli.specs.declared.tables.inventories.InventoryPlaces.{InventoryPlaces}
+use Rattle.std.proofs.Common.{◌∙◌, refl, sym}
+use Rattle.ac_cli.specs.Tables.{inventory_places}
 use Rattle.ac_cli.proofs.tables.inventories.find_places.Goals as goal
 
 pub returns : goal.returns

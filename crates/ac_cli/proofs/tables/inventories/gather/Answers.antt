@@ -1,7 +1,6 @@
-use Rattle.std.proofs.Common.{◌≡◌, ◌∙◌, ◌++◌, ◌∷◌, [], sym, ap, length, arith, Some, length-append}
+use Rattle.std.proofs.Common.{◌∙◌, ◌++◌, ◌∷◌, [], sym, ap, length, arith, length-append}
 use Rattle.std.proofs.lemmas.List.{length-map}
 use Rattle.std.specs.Option.{option_and_then}
-use Rattle.ac_cli.specs.Records.{rows_left}
 use Rattle.ac_cli.specs.Shown.{held_shown}
 use Rattle.ac_cli.specs.Tables.{inventory_in, distinct_inventories}
 use Rattle.ac_cli.proofs.Gathering.{gather_more, gather_ends}

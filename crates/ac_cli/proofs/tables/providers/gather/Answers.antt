@@ -1,6 +1,5 @@
-use Rattle.std.proofs.Common.{◌≡◌, ◌∙◌, ◌++◌, ◌∷◌, [], sym, ap, length, arith, Some, length-append}
+use Rattle.std.proofs.Common.{◌∙◌, ◌++◌, ◌∷◌, [], sym, ap, length, arith, length-append}
 use Rattle.std.specs.Option.{option_and_then}
-use Rattle.ac_cli.specs.Records.{rows_left}
 use Rattle.ac_cli.specs.Tables.{provider_in, distinct_providers}
 use Rattle.ac_cli.proofs.Gathering.{gather_more, gather_ends}
 use Rattle.ac_cli.proofs.Distinct.{rising_more, providers_kept, providers_refused}

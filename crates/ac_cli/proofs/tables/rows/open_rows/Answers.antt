@@ -1,7 +1,3 @@
-use Rattle.std.proofs.Common.{◌≡◌, ◌∙◌, ap, Some, rules}
-use Rattle.csv.specs.Reading.{strip_bom}
-use Rattle.csv.specs.declared.parser.State.TheVariants as st
-use Rattle.ac_cli.specs.Records.{records_of, rows_from, rows_left, IsReading}
 use Rattle.ac_cli.proofs.RowsLeft.{rows_start}
 use Rattle.ac_cli.proofs.tables.rows.open_rows.Goals as goal
 
