@@ -1,47 +1,54 @@
 #!/usr/bin/env python3
-"""tests/program.py [WORD]: runs the built ./ac_cli as a user would, and says which cases went wrong.
+"""tests/program.py [--deep] [WORD]: runs the built ./ac_cli as a user would, and says which cases went wrong.
 
-With a word, only the cases whose names have it. The last line is `N passed, M failed`, and the status is 0 only where M is 0."""
+With a word, only the cases whose names have it. With --deep, also the searches among more lists than can be gone through one after
+another. Where AC_CLI is set, it names the program to run. The last line is `N passed, M failed`, and the status is 0 only where M is 0."""
 from __future__ import annotations
 
 import os
 import re
 import shlex
+import shutil
 import subprocess
 import sys
-from dataclasses import dataclass
+import tempfile
+
+from cases import DEEP, SMALL, SOME, Case, cuts, full, lines, tables
+from export import exports
+from large import LARGE
 
 ROOT = os.path.dirname(os.path.dirname(os.path.abspath(__file__)))
-PROGRAM = os.path.join(ROOT, 'ac_cli')
-PROVIDERS = os.path.join(ROOT, 'examples', 'providers.csv')
-INVENTORIES = os.path.join(ROOT, 'examples', 'inventories.csv')
-NO_FILE = os.path.join(ROOT, 'examples', 'no_such_file.csv')
-FOLDER = os.path.join(ROOT, 'examples')
-SAMPLE = '00000000-0000-0000-0000-000000000001\n'
+PROGRAM = os.environ.get('AC_CLI', os.path.join(ROOT, 'ac_cli'))
+EXAMPLES = os.path.join(ROOT, 'examples')
+PROVIDERS = os.path.join(EXAMPLES, 'providers.csv')
+INVENTORIES = os.path.join(EXAMPLES, 'inventories.csv')
+NO_FILE = os.path.join(EXAMPLES, 'no_such_file.csv')
 ONE_HOST = '2b7d9e54-61c8-4f03-8a9d-c4e1b05f3a27\n'
+COMMANDS = 'check', 'candidates', 'tokens', 'verify'
+STATUSES = {'no: rule': 1, 'unknown provider': 1, 'query': 4, 'token': 5, 'output': 6, 'out of memory': 7,
+            **dict.fromkeys(('providers:', 'inventories:', 'usages:', 'traits:', 'aggregates:'), 3)}
 NOT_BUILT = 70
-SOME = None  # in a case: any text, if there is one
 SECONDS = 60
 
 
-@dataclass
-class Case:
-    name: str
-    words: list
-    out: str | None = ''
-    err: str | None = ''
-    status: int = 0
-    to: str | None = None  # the file that standard output goes to
-    given: bytes = b''
-    folder: str = ROOT
+def over(words, providers=PROVIDERS, inventories=INVENTORIES, *more):
+    return [*words, '--providers', providers, '--inventories', inventories, *more]
 
 
-def tokens(query, providers=PROVIDERS, inventories=INVENTORIES):
-    return ['tokens', query, '--providers', providers, '--inventories', inventories]
+def tokens(query, *tables):
+    return over(['tokens', query], *tables)
+
+
+def check(*tables):
+    return over(['check'], *tables)
 
 
 def refused(name, words):
     return Case(f'refused command line: {name}', words, err=SOME, status=2)
+
+
+def unreadable(name, words, table):
+    return Case(name, words, err=f'{table}: Unreadable\n', status=3)
 
 
 def contents(path):
@@ -49,57 +56,145 @@ def contents(path):
         return file.read()
 
 
-CASES = [
-    Case('without words: the answer on the built-in sample', [], SAMPLE),
-    Case('without words, from another folder', [], SAMPLE, folder='/'),
-    Case('tables named from another folder', tokens('resources=VCPU:12', 'providers.csv', 'inventories.csv'),
-         ONE_HOST, folder=FOLDER),
-    Case('a table through a pipe', tokens('resources=VCPU:12', '/dev/stdin'), ONE_HOST, given=contents(PROVIDERS)),
-    Case('help', ['--help'], SOME),
-    Case('help of a command', ['tokens', '--help'], SOME),
+HELP = [
+    *(Case(f'help: {" ".join(words)}', words, SOME, has=(*COMMANDS, '--help', 'Exit status'))
+      for words in (['--help'], ['-h'], ['help'])),
+    *(Case(f'help: {" ".join(words)}', words, SOME, has=('--providers', '--inventories', '--usages', '--traits', '--aggregates'))
+      for name in COMMANDS for words in ([name, '--help'], ['help', name])),
+    *(Case(f'help of {name} tells --after', [name, '--help'], SOME, has=('--after', 'QUERY')) for name in ('candidates', 'tokens')),
+    Case('help of verify tells both words', ['verify', '--help'], SOME, has=('QUERY', 'TOKEN')),
+]
+
+WORDS = [
     refused('no such command', ['token']),
-    refused('no query', ['tokens', '--providers', PROVIDERS, '--inventories', INVENTORIES]),
+    refused('no command', over([])),
+    refused('options before the command', over([]) + ['check']),
+    refused('no query', over(['tokens'])),
+    refused('no query for candidates', over(['candidates'])),
+    refused('two queries', over(['tokens', 'resources=VCPU:2', 'resources=VCPU:2'])),
+    refused('no token', over(['verify', 'resources=VCPU:2'])),
+    refused('a query for check', over(['check', 'resources=VCPU:2'])),
+    refused('a token for check', check() + ['--after', ONE_HOST.strip()]),
+    refused('--after for verify', over(['verify', 'resources=VCPU:2', ONE_HOST.strip(), '--after', ONE_HOST.strip()])),
+    refused('--after without a token', tokens('resources=VCPU:2') + ['--after']),
     refused('no inventories', ['tokens', 'resources=VCPU:2', '--providers', PROVIDERS]),
+    refused('no providers', ['check', '--inventories', INVENTORIES]),
     refused('no such option', [*tokens('resources=VCPU:2'), '--colour', 'red']),
+    refused('a microversion', [*tokens('resources=VCPU:2'), '--microversion', '1.36']),
+    refused('a version', ['--version']),
     refused('an option twice', [*tokens('resources=VCPU:2'), '--providers', PROVIDERS]),
+    refused('a query that looks like an option', tokens('-resources=VCPU:2')),
     refused('a word that is no UTF-8', tokens(b'resources=\xff')),
-    Case('no file of providers', tokens('resources=VCPU:2', NO_FILE), err='providers: Unreadable\n', status=3),
-    Case('no file of inventories', tokens('resources=VCPU:2', PROVIDERS, NO_FILE), err='inventories: Unreadable\n',
-         status=3),
-    Case('neither file: the first is told', tokens('resources=VCPU:2', NO_FILE, NO_FILE),
-         err='providers: Unreadable\n', status=3),
-    Case('a folder for the providers', tokens('resources=VCPU:2', FOLDER), err='providers: Unreadable\n', status=3),
-    Case('a folder for the inventories', tokens('resources=VCPU:2', PROVIDERS, FOLDER),
-         err='inventories: Unreadable\n', status=3),
-    Case('a table without end', tokens('resources=VCPU:2', '/dev/zero'), err='providers: TooLarge\n', status=3),
-    Case('files are opened before any is read', tokens('resources=VCPU:2', '/dev/zero', NO_FILE),
-         err='inventories: Unreadable\n', status=3),
-    Case('a full device', [], err='output: WriteFailed\n', status=6, to='/dev/full'),
-    Case('a full device, over tables', tokens('resources=VCPU:2'), err='output: WriteFailed\n', status=6,
-         to='/dev/full'),
-    Case('nothing to write to a full device', tokens('resources=DISK_GB:3000'), to='/dev/full'),
+    Case('a query after two hyphens', over(['tokens'])[:1] + over([]) + ['--', 'resources=VCPU:12'], ONE_HOST),
+    Case('options with an equals sign', ['tokens', f'--inventories={INVENTORIES}', f'--providers={PROVIDERS}', 'resources=VCPU:12'],
+         ONE_HOST),
+]
+
+FILES = [
+    Case('without words: the answer on the built-in sample', [], lines('P1')),
+    Case('without words, from another folder', [], lines('P1'), folder='/'),
+    Case('tables named from another folder', tokens('resources=VCPU:12', 'providers.csv', 'inventories.csv'), ONE_HOST, folder=EXAMPLES),
+    Case('a table through a pipe', tokens('resources=VCPU:12', '/dev/stdin'), ONE_HOST, given=contents(PROVIDERS)),
+    unreadable('no file of providers', check(NO_FILE), 'providers'),
+    unreadable('no file of inventories', check(PROVIDERS, NO_FILE), 'inventories'),
+    unreadable('neither file: the first is told', check(NO_FILE, NO_FILE), 'providers'),
+    unreadable('a folder for the providers', check(EXAMPLES), 'providers'),
+    unreadable('a folder for the traits', check() + ['--traits', EXAMPLES], 'traits'),
+    unreadable('no file of aggregates, and a folder for the providers', check(EXAMPLES) + ['--aggregates', NO_FILE], 'aggregates'),
+    unreadable('no file of usages, and a refused table', check(INVENTORIES) + ['--usages', NO_FILE], 'usages'),
+    unreadable('files are opened before any is read', check('/dev/zero', NO_FILE), 'inventories'),
+    unreadable('a folder, and a refused query', tokens('', EXAMPLES), 'providers'),
+    Case('a table without end', check('/dev/zero'), err='providers: TooLarge\n', status=3),
+    Case('a table without end, and a folder after it', check('/dev/zero', EXAMPLES), err='providers: TooLarge\n', status=3),
+    Case('a refused query in two groups of faults', tokens('limit=0&colour=red'), err='query: pair 1: BadValue\n', status=4),
 ]
 
 
+def to_full(name, words):
+    return Case(f'a full device: {name}', words, None, 'output: WriteFailed\n', 6, to='/dev/full')
+
+
+DEVICES = [
+    to_full('without words', []),
+    to_full('check', check()),
+    to_full('tokens', tokens('resources=VCPU:2')),
+    to_full('candidates', over(['candidates', 'resources=VCPU:2'])),
+    to_full('verify', over(['verify', 'resources=VCPU:2', ONE_HOST.strip()])),
+    Case('a full device: nothing to write', tokens('resources=DISK_GB:3000'), to='/dev/full'),
+    Case('a pipe that nobody reads: tokens', tokens('resources=VCPU:2'), err='output: WriteFailed\n', status=6, closed=True),
+    Case('a pipe that nobody reads: candidates', over(['candidates', 'resources=VCPU:2']), err='output: WriteFailed\n', status=6, closed=True),
+    Case('standard error on a full device', tokens(''), err=None, status=4, err_to='/dev/full'),
+    Case('both on a full device', [], None, None, 6, to='/dev/full', err_to='/dev/full'),
+]
+
+
+def status_of(text):
+    """The status that comes with a text: an answer, or a fault line."""
+    return next((status for start, status in STATUSES.items() if text.startswith(start)), 0)
+
+
 def shown(page):
-    """The commands that a page shows: a block `sh` with one call of ./ac_cli, and right after it a block `text` with what it prints."""
+    """The commands that a page shows: a block `sh` with one call of ./ac_cli, and right after it a block `text` or `json` with
+    what it prints; without such a block it prints anything. A block that sets `tables` is for all of them."""
     path = os.path.join(ROOT, page)
-    if not os.path.isfile(path):
-        return
-    with open(path, encoding='utf-8') as file:
-        text = file.read()
-    for block in re.finditer(r'^```sh\n(\./ac_cli\b.*)\n```\n(?:\n*```text\n((?:.*\n)*?)```$)?', text, re.M):
-        words = shlex.split(block[1])[1:]
-        yield Case(f'{page}: {" ".join(words[:2]) or "without words"}', words, block[2])
+    text = contents(path).decode() if os.path.isfile(path) else ''
+    settings = ''.join(re.findall(r'^```sh\n(tables=.*\n)```$', text, re.M))
+    for block in re.finditer(r'^```sh\n(\./ac_cli\b(?:.*\\\n)*.*)\n```\n(?:\n*```(?:text|json)\n((?:.*\n)*?)```$)?', text, re.M):
+        command, says = block[1].replace('\\\n', ' '), block[2]
+        if '| jq' in command and not shutil.which('jq'):
+            continue
+        shell = ['sh', '-c', f'{settings}exec 2>&1; {shlex.quote(PROGRAM)}{command.removeprefix("./ac_cli")}']
+        yield Case(f'{page}: {command}', shell, says, status=status_of(says or ''))
+
+
+def ruled(page):
+    """The examples of a page: a table in the notation of notation.py, and below it lines with a query and what it gives."""
+    text = contents(os.path.join(ROOT, page)).decode()
+    for table in re.finditer(r'^\| provider \|.*\n\|[-|]+\n((?:\|.*\n)+)\n((?:- `.*\n)+)', text, re.M):
+        cloud = '\n'.join(row.strip('|') for row in table[1].splitlines())
+        for line in table[2].splitlines():
+            query, *names = re.findall(r'`([^`]*)`', line)
+            words = {'tokens': [full(query)], 'verify': [full(query), full(names[0])] if names else []}
+            if ', assignment `' in line:
+                yield Case(f'{page}: {line}', ['verify', *words['verify']], names[1] + '\n', status=status_of(names[1]), tables=tables(cloud))
+            else:
+                after = ['--after', full(names.pop(0))] if ' after `' in line else []
+                yield Case(f'{page}: {line}', ['tokens', *words['tokens'], *after], lines(*names), tables=tables(cloud))
+
+
+def files(case, folder):
+    """Writes the tables of a case, and returns the options that name them."""
+    for name, made in case.tables.items():
+        made = made() if callable(made) else made
+        path = os.path.join(folder, name + '.csv')
+        with open(path, 'wb') as file:
+            file.write(made.encode() if isinstance(made, str) else made)
+        yield from (f'--{name}', path)
+
+
+def reader_gone():
+    """The end of a pipe that nobody reads."""
+    read, write = os.pipe()
+    os.close(read)
+    return os.fdopen(write, 'wb')
 
 
 def run(case, seconds=SECONDS):
     """Returns what came on standard output and on standard error, and the status."""
-    words = [PROGRAM, *case.words]
-    with open(case.to or os.devnull, 'wb') as out:
-        ran = subprocess.run(words, cwd=case.folder, input=case.given, stdout=out if case.to else subprocess.PIPE,
-                             stderr=subprocess.PIPE, timeout=seconds)
-    return (ran.stdout or b'').decode(errors='replace'), ran.stderr.decode(errors='replace'), ran.returncode
+    with tempfile.TemporaryDirectory() as folder, open(case.to or os.devnull, 'wb') as to, open(case.err_to or os.devnull, 'wb') as err_to:
+        words = case.words if case.words[:1] == ['sh'] else [PROGRAM, *case.words]
+        gone = reader_gone() if case.closed else None
+        ran = subprocess.run([*words, *files(case, folder)], cwd=case.folder or ROOT, input=case.given, timeout=seconds,
+                             stdout=gone or (to if case.to else subprocess.PIPE), stderr=err_to if case.err_to else subprocess.PIPE)
+        if gone:
+            gone.close()
+    return (ran.stdout or b'').decode(errors='replace'), (ran.stderr or b'').decode(errors='replace'), ran.returncode
+
+
+def differs(what, has, wanted):
+    if wanted is SOME:
+        return None if has else f'there is no {what}'
+    return None if has == wanted else f'{what} is {has[:300]!r}, and not {wanted[:300]!r}'
 
 
 def wrong(case):
@@ -108,19 +203,27 @@ def wrong(case):
         out, err, status = run(case)
     except subprocess.TimeoutExpired:
         return f'it had not ended after {SECONDS} seconds'
-    for what, has, wanted in ('output', out, case.out), ('standard error', err, case.err):
-        if has != wanted and not (wanted is SOME and has):
-            return f'{what} is {has[:300]!r}, and not {"some text" if wanted is SOME else repr(wanted)}'
+    wanted = case.out() if callable(case.out) else case.out
+    for what, has, wants, gone in ('output', out, wanted, case.to), ('standard error', err, case.err, case.err_to):
+        why = None if gone else differs(what, has, wants)
+        if why:
+            return why
+    missing = [text for text in case.has if text not in out]
+    if missing:
+        return f'the output has no {missing[0]!r}'
     return None if status == case.status else f'status is {status}, and not {case.status}'
 
 
-def main(word=''):
+def main(*given):
+    deep, word = '--deep' in given, ''.join(text for text in given if text != '--deep')
     _, said, status = run(Case('build', ['--help']), seconds=None)
     if status == NOT_BUILT:
         print(f'FAILED to build the program:\n{said}\n0 passed, 1 failed')
         return 1
-    examples = [*shown('README.md'), *shown('examples/README.md')]
-    cases = [case for case in [*CASES, *examples] if word in case.name]
+    pages = [case for page in ('README.md', 'docs/README-parts.md', 'examples/README.md', 'docs/RULES.md', 'docs/FORMATS.md', 'docs/EXPORT.md')
+             for case in shown(page)]
+    cases = [*HELP, *WORDS, *FILES, *DEVICES, *SMALL, *pages, *ruled('docs/RULES.md'), *exports(), *LARGE, *cuts(), *(DEEP if deep else ())]
+    cases = [case for case in cases if word in case.name]
     failed = 0
     for case in cases:
         why = wrong(case)

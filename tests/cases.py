@@ -1,0 +1,370 @@
+"""What the program answers over small clouds: tables, a command line, and what comes of it. The clouds are in the notation of notation.py."""
+from __future__ import annotations
+
+from dataclasses import dataclass, field
+
+from notation import HEADERS, full, provider, tables
+
+SOME = None  # any text, if there is one
+
+
+@dataclass
+class Case:
+    name: str
+    words: list
+    out: str | None = ''
+    err: str | None = ''
+    status: int = 0
+    tables: dict = field(default_factory=dict)  # contents, or what makes them: written to files, and named by options
+    has: tuple = ()  # texts that are in the output
+    to: str | None = None  # the file that standard output goes to
+    err_to: str | None = None
+    given: bytes = b''
+    folder: str | None = None
+    closed: bool = False  # whether standard output is a pipe that nobody reads
+
+
+ONE = 'P1 | | VCPU total 8'
+CHILD = 'P1 | | VCPU total 8\nP2 | P1 | VCPU total 8'
+APART = 'P1 | | VCPU total 8\nP3 | | VCPU total 8'
+MEMORY = 'P1 | | VCPU total 8; MEMORY_MB total 4096\nP2 | P1 | VCPU total 8'
+DEVICES = 'P1\nP2 | P1 | VCPU total 8 | CUSTOM_A\nP3 | P1 | PGPU total 1 | CUSTOM_B'
+SHARED = '''P1 | | VCPU total 8
+P2 | P1 | | | A1
+P3 | | VCPU total 8
+P4 | P3 | | | A1
+P9 | | DISK_GB total 100 | MISC_SHARES_VIA_AGGREGATE | A1'''
+SHARED_SSD = SHARED.replace('AGGREGATE |', 'AGGREGATE, CUSTOM_SSD |')
+SHARED_X = SHARED.replace('P3 | | VCPU total 8', 'P3 | | VCPU total 8 | CUSTOM_X')
+MEMBER = 'P1 | | | | A1\nP2 | P1 | VCPU total 8'
+NUMA = '''P1
+P2 | P1 | | HW_NUMA_ROOT
+P3 | P1 | | HW_NUMA_ROOT
+P4 | P2 | VCPU total 4'''
+OLD = 'P1 | | | CUSTOM_OLD\nP2 | P1 | VCPU total 8\nP3 | | VCPU total 8'
+OLD_PARENT = 'P1 | | VCPU total 8 | CUSTOM_OLD\nP2 | P1 | VCPU total 8'
+STEPS = 'P1 | | VCPU total 8, min_unit 2, step_size 2'
+GREATEST = 2147483647
+FIVE_AND_FIVE = 'resources1=VCPU:5&resources2=VCPU:5&group_policy=none'
+THREE_AND_THREE = 'resources1=VCPU:3&resources2=VCPU:3&group_policy=none'
+ISOLATED = 'resources=MEMORY_MB:512&resources1=VCPU:1&resources2=VCPU:1&group_policy=isolate'
+UNDER_NUMA = 'resources_PF=VCPU:1&required_NUMA=HW_NUMA_ROOT&same_subtree=_NUMA,_PF'
+BOTH = 'resources=VCPU:1,PGPU:1&required='
+
+
+def lines(*answers):
+    return ''.join(full(answer) + '\n' for answer in answers)
+
+
+def found(name, cloud, query, *answers, after=None):
+    """`tokens` gives these assignments."""
+    words = ['tokens', full(query), *([] if after is None else ['--after', full(after)])]
+    return Case(f'tokens: {name}', words, lines(*answers), tables=tables(cloud))
+
+
+def judged(name, cloud, query, token, line):
+    """`verify` says so of one assignment."""
+    words = ['verify', full(query), full(token)]
+    return Case(f'verify: {name}', words, line + '\n', status=0 if line == 'candidate' else 1, tables=tables(cloud))
+
+
+def page(name, cloud, query, body, after=None):
+    words = ['candidates', full(query), *([] if after is None else ['--after', full(after)])]
+    return Case(f'candidates: {name}', words, full(body) + '\n', tables=tables(cloud))
+
+
+def counted(name, counts, **changed):
+    out = ''.join(f'{table} {count}\n' for table, count in zip(HEADERS, counts))
+    return Case(f'check: {name}', ['check'], out, tables={**tables(ONE), **changed})
+
+
+def bad_table(line, *, command=('check',), why='', **changed):
+    """The tables of one host with a change are refused by this line."""
+    return Case(f'{command[0]}: {line}{why and ", " + why}', list(command), err=line + '\n', status=3,
+                tables={**tables(ONE), **changed})
+
+
+def bad_query(line, query, cloud=ONE, shown=None):
+    return Case(f'query: {line}: {shown or query}', ['tokens', full(query)], err=f'query: {line}\n', status=4, tables=tables(cloud))
+
+
+def bad_token(line, query, token, command='tokens', cloud=CHILD):
+    words = [command, query, full(token)] if command == 'verify' else [command, query, f'--after={full(token)}']
+    return Case(f'{command}: token: {line}: {token[:12]!r}', words, err=f'token: {line}\n', status=5, tables=tables(cloud))
+
+
+def one_inventory(*, kind='VCPU', of='P1', **numbers):
+    row = {'total': 8, 'reserved': 0, 'min_unit': 1, 'max_unit': 8, 'step_size': 1, 'allocation_ratio': '1.0', **numbers}
+    return HEADERS['inventories'] + full(','.join([of, kind, *map(str, row.values())])) + '\n'
+
+
+def rows(table, *records, header=None):
+    return (header or HEADERS[table]) + ''.join(full(record) + '\n' for record in records)
+
+
+
+QUANTITIES = [
+    found('one host', ONE, 'resources=VCPU:2', 'P1'),
+    Case('tokens: no provider at all', ['tokens', 'resources=VCPU:2'],
+         tables={name: HEADERS[name] for name in ('providers', 'inventories')}),
+    found('what is reserved is taken off before the ratio', 'P1 | | VCPU total 3, reserved 1, max_unit 10, allocation_ratio 1.5',
+          'resources=VCPU:3', 'P1'),
+    found('one over the capacity', 'P1 | | VCPU total 3, reserved 1, max_unit 10, allocation_ratio 1.5', 'resources=VCPU:4'),
+    found('the greatest amount', f'P1 | | VCPU total {GREATEST}, allocation_ratio 1', f'resources=VCPU:{GREATEST}', 'P1'),
+    found('a ratio is rounded down at the end', 'P1 | | VCPU total 1, max_unit 2, allocation_ratio 1.999', 'resources=VCPU:2'),
+    found('zeros at the end of a ratio', 'P1 | | VCPU total 8, allocation_ratio 1.500000', 'resources=VCPU:2', 'P1'),
+    found('a whole number of steps', STEPS, 'resources=VCPU:4', 'P1'),
+    found('under the least amount', STEPS, 'resources=VCPU:1'),
+    found('between two steps', STEPS, 'resources=VCPU:3'),
+    found('what is left beside the usage', 'P1 | | VCPU total 8, used 7', 'resources=VCPU:1', 'P1'),
+    found('one more than is left', 'P1 | | VCPU total 8, used 7', 'resources=VCPU:2'),
+    found('usage over the capacity', 'P1 | | VCPU total 8, used 9', 'resources=VCPU:1'),
+    found('usage far over the capacity', 'P1 | | VCPU total 8, used 9', 'resources=VCPU:2'),
+    found('a sum over the greatest amount at once', 'P1 | | VCPU total 100, max_unit 4', THREE_AND_THREE),
+    found('two groups on one tree', CHILD, FIVE_AND_FIVE, 'P1,P2', 'P2,P1'),
+    found('two classes, one of them on one host alone', 'P1 | | VCPU total 8; MEMORY_MB total 4096\nP3 | | VCPU total 8',
+          'resources=VCPU:1,MEMORY_MB:512', 'P1,P1'),
+    found('a child as well as its parent', CHILD, 'resources=VCPU:1', 'P1', 'P2'),
+]
+
+RULES = [
+    found('required traits held by two providers together', DEVICES, BOTH + 'CUSTOM_A,CUSTOM_B', 'P3,P2'),
+    found('a sharing provider that three trees anchor, once', SHARED, 'resources=DISK_GB:10', 'P9'),
+    found('a sharing provider with either host', SHARED, 'resources=DISK_GB:10,VCPU:1', 'P9,P1', 'P9,P3'),
+    found('a sharing provider without aggregates', 'P9 | | DISK_GB total 100 | MISC_SHARES_VIA_AGGREGATE',
+          'resources=DISK_GB:10', 'P9'),
+    found('a required trait of the sharing provider', SHARED_SSD, 'resources=DISK_GB:10,VCPU:1&required=CUSTOM_SSD', 'P9,P1', 'P9,P3'),
+    found('an anchor that hosts nothing', SHARED_X, 'resources=DISK_GB:10&root_required=CUSTOM_X', 'P9'),
+    found('the anchor with the trait alone', SHARED_X, 'resources=DISK_GB:10,VCPU:1&root_required=CUSTOM_X', 'P9,P3'),
+    found('no anchor for the disk', SHARED_X, 'resources=DISK_GB:10&root_required=CUSTOM_Y'),
+    found('no anchor for disk and host', SHARED_X, 'resources=DISK_GB:10,VCPU:1&root_required=CUSTOM_Y'),
+    found("an aggregate of the root counts in the group without suffix", MEMBER, 'resources=VCPU:1&member_of=A1', 'P2'),
+    found('an aggregate of the root counts in no group with a suffix', MEMBER, 'resources1=VCPU:1&member_of1=A1'),
+    found('an aggregate of the root counts against it too', MEMBER, 'resources=VCPU:1&member_of=!A1'),
+    found('isolated groups beside the group without suffix', MEMORY, ISOLATED, 'P1,P1,P2', 'P1,P2,P1'),
+    found('a subtree under a NUMA node', NUMA, UNDER_NUMA, 'P2,P4'),
+    found('a group without resources is outside the policy', NUMA,
+          'resources_PF=VCPU:1&required_NUMA=!CUSTOM_X&same_subtree=_NUMA,_PF&group_policy=isolate', 'P1,P4', 'P2,P4', 'P4,P4'),
+    found('two trees that nothing joins', APART, FIVE_AND_FIVE),
+    found('a forbidden trait of the root', OLD, 'resources=VCPU:1&root_required=!CUSTOM_OLD', 'P3'),
+    found('in one tree', OLD, 'resources=VCPU:1&in_tree=P1', 'P2'),
+    found('in a tree of no table', OLD, 'resources=VCPU:1&in_tree=P8'),
+    found('a forbidden trait is of the provider itself', OLD, 'resources=VCPU:1&required=!CUSTOM_OLD', 'P2', 'P3'),
+    judged('a sum over the capacity', CHILD, FIVE_AND_FIVE, 'P1,P1', 'no: rule 6 Sums'),
+    judged('a candidate', CHILD, FIVE_AND_FIVE, 'P1,P2', 'candidate'),
+    judged('an unknown provider', CHILD, FIVE_AND_FIVE, 'P1,P7', 'unknown provider'),
+    judged('an aggregate of the root alone', MEMBER, 'resources1=VCPU:1&member_of1=A1', 'P2', 'no: rule 3 Aggregates'),
+    judged('no one above in the listed groups', NUMA, UNDER_NUMA, 'P3,P4', 'no: rule 8 Subtree'),
+    judged('no tree for both', APART, FIVE_AND_FIVE, 'P1,P3', 'no: rule 9 Anchor'),
+    judged('under the least amount', STEPS, 'resources=VCPU:1', 'P1', 'no: rule 1 Units'),
+    judged('between two steps', STEPS, 'resources=VCPU:3', 'P1', 'no: rule 1 Units'),
+    judged('a forbidden trait', OLD_PARENT, 'resources1=VCPU:1&required1=!CUSTOM_OLD', 'P1', 'no: rule 2 SlotTraits'),
+    judged('the lowest number, and not the first slot', OLD_PARENT,
+           'resources1=VCPU:1&required1=!CUSTOM_OLD&resources2=VCPU:9&group_policy=none', 'P1,P2', 'no: rule 1 Units'),
+    judged('a tree of no table', OLD, 'resources=VCPU:1&in_tree=P8', 'P2', 'no: rule 4 Tree'),
+    judged('a required trait that nobody brings', DEVICES, BOTH + 'CUSTOM_A,CUSTOM_X', 'P3,P2', 'no: rule 5 Collective'),
+    judged('isolated groups on one provider', MEMORY, ISOLATED, 'P1,P1,P1', 'no: rule 7 Isolate'),
+    judged('no inventory of the class', DEVICES, 'resources=PGPU:1', 'P2', 'no: rule 1 Units'),
+    judged('within the units and over the capacity', 'P1 | | VCPU total 8, max_unit 9', 'resources=VCPU:9', 'P1', 'no: rule 6 Sums'),
+    judged('the limit is not asked', CHILD, FIVE_AND_FIVE + '&limit=1', 'P2,P1', 'candidate'),
+]
+
+TWO_HALVES = '''{"allocation_requests":[\
+{"allocations":{"P1":{"resources":{"VCPU":5}},"P2":{"resources":{"VCPU":5}}},"mappings":{"1":["P1"],"2":["P2"]}},\
+{"allocations":{"P1":{"resources":{"VCPU":5}},"P2":{"resources":{"VCPU":5}}},"mappings":{"1":["P2"],"2":["P1"]}}],"provider_summaries":{\
+"P1":{"parent_provider_uuid":null,"resources":{"VCPU":{"capacity":8,"used":0}},"root_provider_uuid":"P1","traits":[]},\
+"P2":{"parent_provider_uuid":"P1","resources":{"VCPU":{"capacity":8,"used":0}},"root_provider_uuid":"P1","traits":[]}}}'''
+ONE_SUMMARY = '''"P1":{"parent_provider_uuid":null,"resources":{"VCPU":{"capacity":8,"used":0}},"root_provider_uuid":"P1","traits":[]}'''
+DISK_SUMMARY = '''"P9":{"parent_provider_uuid":null,"resources":{"DISK_GB":{"capacity":100,"used":0}},\
+"root_provider_uuid":"P9","traits":["MISC_SHARES_VIA_AGGREGATE"]}'''
+ONE_BODY = ('{"allocation_requests":[{"allocations":{"P1":{"resources":{"VCPU":2}}},"mappings":{"":["P1"]}}],"provider_summaries":{'
+            + ONE_SUMMARY + '}}')
+
+
+def shared_body(host, child):
+    return ('{"allocation_requests":[{"allocations":{"%s":{"resources":{"VCPU":1}},"P9":{"resources":{"DISK_GB":10}}},"mappings":{"":["%s","P9"]}}],'
+            '"provider_summaries":{%s,"%s":{"parent_provider_uuid":"%s","resources":{},"root_provider_uuid":"%s","traits":[]},%s}}'
+            % (host, host, ONE_SUMMARY.replace('P1', host), child, host, host, DISK_SUMMARY))
+
+
+PAGES = [
+    page('one host', ONE, 'resources=VCPU:2', ONE_BODY),
+    Case('candidates: none', ['candidates', 'resources=VCPU:2'], '{"allocation_requests":[],"provider_summaries":{}}\n',
+         tables={name: HEADERS[name] for name in ('providers', 'inventories')}),
+    page('the greatest capacity', f'P1 | | VCPU total {GREATEST}, allocation_ratio 1000000', 'resources=VCPU:2',
+         ONE_BODY.replace('"capacity":8', '"capacity":2147483647000000')),
+    page('the summaries are of the page alone', SHARED, 'resources=DISK_GB:10,VCPU:1&limit=1', shared_body('P1', 'P2')),
+    page('the summaries of the page after a token', SHARED, 'resources=DISK_GB:10,VCPU:1&limit=1', shared_body('P3', 'P4'), after='P9,P1'),
+    page('equal allocations and different mappings', CHILD, FIVE_AND_FIVE, TWO_HALVES),
+    page('amounts are added', ONE, 'resources1=VCPU:2&resources2=VCPU:3&group_policy=none',
+         '{"allocation_requests":[{"allocations":{"P1":{"resources":{"VCPU":5}}},"mappings":{"1":["P1"],"2":["P1"]}}],'
+         '"provider_summaries":{' + ONE_SUMMARY + '}}'),
+    page('a provider of a group without resources is in the mappings alone', NUMA, UNDER_NUMA,
+         '{"allocation_requests":[{"allocations":{"P4":{"resources":{"VCPU":1}}},"mappings":{"_NUMA":["P2"],"_PF":["P4"]}}],'
+         '"provider_summaries":{'
+         '"P1":{"parent_provider_uuid":null,"resources":{},"root_provider_uuid":"P1","traits":[]},'
+         '"P2":{"parent_provider_uuid":"P1","resources":{},"root_provider_uuid":"P1","traits":["HW_NUMA_ROOT"]},'
+         '"P3":{"parent_provider_uuid":"P1","resources":{},"root_provider_uuid":"P1","traits":["HW_NUMA_ROOT"]},'
+         '"P4":{"parent_provider_uuid":"P2","resources":{"VCPU":{"capacity":4,"used":0}},"root_provider_uuid":"P1","traits":[]}}}'),
+    page('what is used is told, also over the capacity', 'P1 | | VCPU total 8, used 9; PGPU total 1', 'resources=PGPU:1',
+         '{"allocation_requests":[{"allocations":{"P1":{"resources":{"PGPU":1}}},"mappings":{"":["P1"]}}],"provider_summaries":{'
+         '"P1":{"parent_provider_uuid":null,"resources":{"PGPU":{"capacity":1,"used":0},"VCPU":{"capacity":8,"used":9}},'
+         '"root_provider_uuid":"P1","traits":[]}}}'),
+    found('after the first', SHARED, 'resources=DISK_GB:10,VCPU:1', 'P9,P3', after='P9,P1'),
+    found('after the first, with a limit', SHARED, 'resources=DISK_GB:10,VCPU:1&limit=1', 'P9,P3', after='P9,P1'),
+    found('after a token with a provider of no table', CHILD, FIVE_AND_FIVE, 'P2,P1', after='P1,P7'),
+    found('after the last', CHILD, FIVE_AND_FIVE, after='P2,P1'),
+    found('after every list', CHILD, FIVE_AND_FIVE, after='P7,P7'),
+    found('limit of one', CHILD, FIVE_AND_FIVE + '&limit=1', 'P1,P2'),
+    found('limit of one, after the first', CHILD, FIVE_AND_FIVE + '&limit=1', 'P2,P1', after='P1,P2'),
+    found('limit beyond the last', CHILD, FIVE_AND_FIVE + '&limit=5', 'P1,P2', 'P2,P1'),
+    found('limit and one candidate', ONE, 'resources=VCPU:2&limit=1', 'P1'),
+]
+
+TOKENS = [
+    bad_token('WrongLength', FIVE_AND_FIVE, 'P1'),
+    bad_token('BadToken', FIVE_AND_FIVE, 'P1,zz'),
+    bad_token('BadToken', FIVE_AND_FIVE, ''),
+    bad_token('BadToken', FIVE_AND_FIVE, 'zz'),
+    bad_token('BadToken', FIVE_AND_FIVE, 'P1, P2'),
+    bad_token('BadToken', FIVE_AND_FIVE, '-x'),
+    bad_token('WrongLength', FIVE_AND_FIVE, 'P1', 'candidates'),
+    bad_token('WrongLength', FIVE_AND_FIVE, 'P1', 'verify'),
+    bad_token('BadToken', FIVE_AND_FIVE, 'P7,zz', 'verify'),
+    bad_token('WrongLength', FIVE_AND_FIVE, 'P7', 'verify'),
+    bad_token('WrongLength', 'resources=VCPU:2', ','.join(['P1'] * 65), cloud=ONE),
+    bad_token('WrongLength', 'resources=VCPU:2', ','.join(['P1'] * 65), 'verify', cloud=ONE),
+]
+
+CYCLE = rows('providers', 'P1,P2,P2', 'P2,P1,P1')
+QUOTED = '"name","parent_provider_uuid","uuid","root_provider_uuid"\n' + full('"cn1","None","P1","P1"\n')
+COLUMNS = {name: header.strip().split(',') for name, header in HEADERS.items()}
+
+TABLES = [
+    counted('one host', (1, 1, 0, 0, 0)),
+    counted('quoted texts, other columns, None for no parent', (1, 1, 0, 0, 0), providers=QUOTED),
+    Case('tokens: quoted texts', ['tokens', 'resources=VCPU:2'], lines('P1'), tables={**tables(ONE), 'providers': QUOTED}),
+    Case('candidates: quoted texts', ['candidates', 'resources=VCPU:2'], full(ONE_BODY) + '\n',
+         tables={**tables(ONE), 'providers': QUOTED}),
+    counted('zeros at the end of a ratio', (1, 1, 0, 0, 0), inventories=one_inventory(allocation_ratio='1.500000')),
+    counted('a repeated trait and a repeated aggregate count once', (1, 1, 0, 1, 1), traits=rows('traits', 'P1,CUSTOM_A', 'P1,CUSTOM_A'),
+            aggregates=rows('aggregates', 'P1,A1', 'P1,{A1}', 'P1,urn:uuid:A1')),
+    counted('tables of a header alone', (1, 1, 0, 0, 0), usages=HEADERS['usages'], traits=HEADERS['traits'], aggregates=HEADERS['aggregates']),
+    counted('a usage of nothing', (1, 1, 1, 0, 0), usages=rows('usages', 'P1,VCPU,0')),
+    bad_table('inventories: record 1: NoHeader', inventories=''),
+    bad_table('traits: record 1: NoHeader', traits='\n\n', why='newlines alone'),
+    bad_table('providers: record 1: MissingColumn', providers=rows('providers', 'P1,P1', header='uuid,root_provider_uuid\n')),
+    bad_table('providers: record 1: DoubleColumn', providers=rows('providers', 'P1,P1,P1,', header='uuid,' + HEADERS['providers'])),
+    bad_table('providers: record 1: MissingColumn', why='before a double one', providers='uuid,uuid,root_provider_uuid\n'),
+    bad_table('providers: record 2: Width', providers=rows('providers', 'P1,P1')),
+    bad_table('providers: record 2: BadUuid', providers=rows('providers', 'xyz,P1,')),
+    bad_table('providers: record 2: BadUuid', why='no root', providers=rows('providers', 'P1,None,')),
+    bad_table('inventories: record 2: BadClass', inventories=one_inventory(kind='vcpu')),
+    bad_table('traits: record 2: BadTrait', traits=rows('traits', 'P1,hw_x')),
+    bad_table('inventories: record 2: BadNumber', inventories=one_inventory(total='8.0')),
+    bad_table('inventories: record 2: BadRatio', inventories=one_inventory(allocation_ratio='1e-05')),
+    bad_table('inventories: record 2: BadRatio', why='four decimals', inventories=one_inventory(allocation_ratio='1.2345')),
+    bad_table('inventories: record 2: BadRatio', why='four decimals, by tokens', command=('tokens', 'resources=VCPU:2'),
+              inventories=one_inventory(allocation_ratio='1.2345')),
+    bad_table('inventories: record 2: BadRatio', why='over the greatest', inventories=one_inventory(allocation_ratio='1000000.001')),
+    bad_table('inventories: record 2: BadRatio', why='seven decimals', inventories=one_inventory(allocation_ratio='1.2345678')),
+    bad_table('inventories: record 2: BadRatio', why='over the greatest by the sixth decimal',
+              inventories=one_inventory(allocation_ratio='1000000.000001')),
+    bad_table('inventories: record 2: BadRatio', why='before ZeroStep', inventories=one_inventory(step_size=0, allocation_ratio='.5')),
+    bad_table('inventories: record 2: ZeroStep', inventories=one_inventory(step_size=0)),
+    bad_table('inventories: record 2: ZeroStep', why='before ReservedOverTotal', inventories=one_inventory(step_size=0, reserved=9)),
+    bad_table('inventories: record 2: ReservedOverTotal', inventories=one_inventory(reserved=9)),
+    bad_table('providers: record 3: Duplicate', providers=rows('providers', 'P1,P1,', 'P1,P1,')),
+    bad_table('providers: record 3: Duplicate', why='in another form', providers=rows('providers', 'P1,P1,', '{P1},P1,')),
+    bad_table('inventories: record 3: Duplicate', inventories=one_inventory() + full('P1,VCPU,9,0,1,9,1,1.0\n')),
+    bad_table('inventories: record 2: UnknownProvider', inventories=one_inventory(of='P2')),
+    bad_table('usages: record 2: NoInventory', usages=rows('usages', 'P1,MEMORY_MB,1')),
+    bad_table('providers: record 2: UnknownParent', providers=rows('providers', 'P1,P1,P2')),
+    bad_table('providers: record 3: UnknownParent', why='before a cycle in an earlier record',
+              providers=rows('providers', 'P1,P1,P1', 'P2,P2,P7')),
+    bad_table('providers: record 2: ParentCycle', why='before a fault of the inventories', providers=CYCLE,
+              inventories=one_inventory(kind='vcpu')),
+    bad_table('providers: record 2: ParentCycle', providers=CYCLE),
+    bad_table('providers: record 2: ParentCycle', why='by tokens', command=('tokens', 'resources=VCPU:2'), providers=CYCLE),
+    bad_table('providers: record 3: WrongRoot', providers=rows('providers', 'P1,P1,', 'P2,P2,P1')),
+    bad_table('providers: record 3: WrongRoot', why='by tokens', command=('tokens', 'resources=VCPU:2'),
+              providers=rows('providers', 'P1,P1,', 'P2,P2,P1')),
+    bad_table('providers: record 2: BadUuid', why='a fault of the query is not looked for', command=('tokens', ''),
+              providers=rows('providers', 'xyz,P1,')),
+    Case('tokens: the byte 255 in a column that is passed over', ['tokens', 'resources=VCPU:2'], lines('P1'),
+         tables={**tables(ONE), 'providers': rows('providers', 'P1,P1,,\xff', header=HEADERS['providers'].strip() + ',note\n')
+                 .encode('latin-1')}),
+    Case('tokens: a byte order mark, CR LF', ['tokens', 'resources=VCPU:2'], lines('P1'),
+         tables={**tables(ONE), 'providers': '\ufeff' + tables(ONE)['providers'].replace('\n', '\r\n')}),
+    *(bad_table(f'{table}: record 1: MissingColumn', why=column,
+                **{table: HEADERS[table].replace(column, column + '_', 1) if column != 'uuid' else 'id' + HEADERS[table].replace('uuid', 'id')})
+      for table in HEADERS for column in COLUMNS[table][:1]),
+]
+
+QUERIES = [
+    bad_query('QueryTooLong', 'a' * 65537, shown='65537 letters'),
+    bad_query('pair 2: UnknownParameter', 'resources=VCPU:1&colour=red'),
+    bad_query('pair 2: Repeated', 'limit=1&limit=1&resources=VCPU:1'),
+    bad_query('pair 1: BadValue', 'resources=VCPU:0'),
+    bad_query('pair 1: BadValue', 'resources=VCPU:2147483648'),
+    bad_query('pair 1: BadValue', 'resources=VCPU:1,VCPU:1'),
+    bad_query('pair 1: BadValue', 'resources'),
+    bad_query('pair 2: BadValue', 'resources=VCPU:1&member_of=A1,A1'),
+    bad_query('pair 2: BadValue', 'resources=VCPU:1&required=A,!A,a'),
+    bad_query('pair 2: BadValue', 'resources=VCPU:2&limit=0'),
+    bad_query('pair 2: BadValue', BOTH + 'in:CUSTOM_A,CUSTOM_X&required=CUSTOM_B', DEVICES),
+    bad_query('pair 3: Repeated', 'resources=VCPU:1&required=CUSTOM_A&required=CUSTOM_A', DEVICES),
+    bad_query('pair 2: Repeated', 'limit=1&%6Cimit=x'),
+    bad_query('pair 2: Conflict', 'resources=VCPU:1&required=A,!A'),
+    bad_query('pair 2: Conflict', 'resources=VCPU:1&root_required=!A,A'),
+    bad_query('NoResources', ''),
+    bad_query('NoResources', 'required=A'),
+    bad_query('group "": GroupWithoutResources', 'resources1=VCPU:1&required=A'),
+    bad_query('group "_NUMA": GroupWithoutResources', 'resources_PF=VCPU:1&required_NUMA=HW_NUMA_ROOT', NUMA),
+    bad_query('group "2": UnknownSuffix', 'resources1=VCPU:1&same_subtree=1,2'),
+    bad_query('PolicyMissing', 'resources1=VCPU:1&resources2=VCPU:1'),
+    bad_query('TooManySlots', '&'.join(f'resources{n}=VCPU:1' for n in range(1, 66)) + '&group_policy=none', shown='65 groups'),
+    bad_query('TooManySlots', 'resources1=' + ','.join(f'C{n}:1' for n in range(1, 258)), shown='257 classes'),
+    bad_query('pair 1: UnknownParameter', 'colour=red&resources=VCPU:0'),
+    bad_query('pair 1: UnknownParameter', 'resources%3DVCPU:1'),
+    bad_query('pair 1: UnknownParameter', 'resources' + 'a' * 65 + '=VCPU:1', shown='a suffix of 65 letters'),
+    bad_query('pair 1: UnknownParameter', 'limit1=1&resources=VCPU:1'),
+    found('a query in another form', ONE, '&resources=VCPU%3A2&', 'P1'),
+    found('256 classes in one group', ONE, 'resources1=' + ','.join(f'C{n}:1' for n in range(1, 257))),
+]
+
+SIXTY_FOUR = '&'.join(f'resources{n}=VCPU:1' for n in range(1, 65)) + '&group_policy=none'
+EIGHT = '\n'.join(f'P{n} | {"P1" if n > 1 else ""} | VCPU total 8' for n in range(1, 9))
+EIGHT_EACH = ','.join(f'P{n}' for n in range(1, 9) for _ in range(8))
+FULL = '\n'.join(f'P{n} | | VCPU total 8, used 8' for n in range(1, 21))
+
+# 64 groups on 20 and on 8 providers: more lists than can be gone through one after another.
+DEEP = [
+    found('64 groups, and no room on any of 20 hosts', FULL, SIXTY_FOUR),
+    found('64 groups fill 8 providers: the first', EIGHT, SIXTY_FOUR + '&limit=1', EIGHT_EACH),
+    found('64 groups fill 8 providers: after the last', EIGHT, SIXTY_FOUR, after=','.join(reversed(EIGHT_EACH.split(',')))),
+]
+
+SMALL = [*QUANTITIES, *RULES, *PAGES, *TOKENS, *TABLES, *QUERIES]
+
+
+def cuts():
+    """The tables of one host, cut off at each byte, and what `tokens` says of them."""
+    whole = tables(ONE)
+    wide, last = len(HEADERS['inventories']), len(whole['inventories'])
+    expected = {
+        'providers': [(0, 'providers: record 1: NoHeader'), (1, 'providers: record 1: MissingColumn'),
+                      (44, 'inventories: record 2: UnknownProvider'), (46, 'providers: record 2: Width'), (119, 'P1')],
+        'inventories': [(0, 'inventories: record 1: NoHeader'), (1, 'inventories: record 1: MissingColumn'), (wide - 1, ''),
+                        (wide + 1, 'inventories: record 2: Width'), (last - 4, 'inventories: record 2: BadRatio'), (last - 3, 'P1'),
+                        (last - 2, 'inventories: record 2: BadRatio'), (last - 1, 'P1')],
+    }
+    for table, steps in expected.items():
+        for length in range(len(whole[table]) + 1):
+            says = [text for start, text in steps if start <= length][-1]
+            name = f'tokens: {table} cut off after {length} bytes'
+            cut = {**whole, table: whole[table][:length]}
+            if ':' in says:
+                yield Case(name, ['tokens', 'resources=VCPU:2'], err=says + '\n', status=3, tables=cut)
+            else:
+                yield Case(name, ['tokens', 'resources=VCPU:2'], lines(says) if says else '', tables=cut)

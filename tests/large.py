@@ -1,0 +1,107 @@
+"""Tables and queries at the limits."""
+from __future__ import annotations
+
+import random
+
+from cases import Case, lines, tables
+from notation import HEADERS, provider
+
+ONE = tables('P1 | | VCPU total 8')
+MOST_BYTES = 67108864
+MOST_PROVIDERS = 65536
+QUERY_BYTES = 65536
+
+
+def ids(number):
+    return [provider(n) for n in range(1, number + 1)]
+
+
+def roots(number, *more):
+    return HEADERS['providers'] + ''.join(f'{id},{id},\n' for id in ids(number)) + ''.join(more)
+
+
+def chain(number, *, top='', order=list):
+    """One tree, in which each provider is the child of the one before it."""
+    names = ids(number)
+    records = [f'{id},{names[0]},{above}\n' for id, above in zip(names, [top, *names])]
+    return HEADERS['providers'] + ''.join(order(records))
+
+
+def shuffled(records):
+    return random.Random(7).sample(records, len(records))
+
+
+def star(number):
+    names = ids(number)
+    return HEADERS['providers'] + ''.join(f'{id},{names[0]},{names[0] if id != names[0] else ""}\n' for id in names)
+
+
+def vcpu(number):
+    return HEADERS['inventories'] + ''.join(f'{id},VCPU,8,0,1,8,1,1.0\n' for id in ids(number))
+
+
+def filled(record, size):
+    """Traits of so many bytes: one record over and over, with a last column that fills up the last of them."""
+    head = HEADERS['traits'].strip() + ',note\n'
+    times, rest = divmod(size - len(head), len(record))
+    return head + record * (times - 1) + record[:-1] + 'x' * rest + '\n'
+
+
+def check(name, made, counts=None, line=None):
+    out = ''.join(f'{table} {count}\n' for table, count in zip(HEADERS, counts or ()))
+    return Case(f'check: {name}', ['check'], out, line + '\n' if line else '', 3 if line else 0,
+                {**ONE, 'inventories': HEADERS['inventories'], **made})
+
+
+def pairs(start, pair, size):
+    """A query of exactly so many bytes, of one pair over and over."""
+    times = (size - len(start)) // len(pair)
+    return (start + pair * times).ljust(size, '&')
+
+
+def query(name, text, out='', line=''):
+    return Case(f'tokens: {name}', ['tokens', text], out, line and line + '\n', 4 if line else 0, ONE)
+
+
+TRAIT = f'{provider(1)},CUSTOM_A,\n'
+STAR = {'providers': lambda: star(40), 'inventories': lambda: vcpu(40)}
+THREE = 'resources1=VCPU:1&resources2=VCPU:1&resources3=VCPU:1&group_policy=none'
+EACH = [f'resources{n}=' + ','.join(f'C{k}:1' for k in range(4)) for n in range(64)]
+
+LARGE = [
+    check('65536 roots', {'providers': lambda: roots(MOST_PROVIDERS)}, (MOST_PROVIDERS, 0, 0, 0, 0)),
+    check('65537 roots', {'providers': lambda: roots(MOST_PROVIDERS + 1)}, line='providers: record 65538: TooManyProviders'),
+    check('a double record after 65536 roots', {'providers': lambda: roots(MOST_PROVIDERS, f'{provider(1)},{provider(1)},\n')},
+          line='providers: record 65538: Duplicate'),
+    check('65537 providers, the first with an unknown parent',
+          {'providers': lambda: chain(MOST_PROVIDERS + 1, top=provider(0xfffff))}, line='providers: record 65538: TooManyProviders'),
+    check('a chain of 65536', {'providers': lambda: chain(MOST_PROVIDERS)}, (MOST_PROVIDERS, 0, 0, 0, 0)),
+    check('a chain of 65536, falling', {'providers': lambda: chain(MOST_PROVIDERS, order=lambda r: r[::-1])},
+          (MOST_PROVIDERS, 0, 0, 0, 0)),
+    check('a chain of 65536, shuffled', {'providers': lambda: chain(MOST_PROVIDERS, order=shuffled)}, (MOST_PROVIDERS, 0, 0, 0, 0)),
+    check('a ring of 65536', {'providers': lambda: chain(MOST_PROVIDERS, top=provider(MOST_PROVIDERS))},
+          line='providers: record 2: ParentCycle'),
+    *(check(f'{name} of newlines', {'usages': lambda size=size: HEADERS['usages'].ljust(size, '\n')},
+            (1, 0, 0, 0, 0) if size <= MOST_BYTES else None, None if size <= MOST_BYTES else 'usages: TooLarge')
+      for name, size in (('64 MiB less a byte', MOST_BYTES - 1), ('64 MiB', MOST_BYTES), ('64 MiB and a byte', MOST_BYTES + 1))),
+    *(check(f'{name} of rows', {'traits': lambda size=size: filled(TRAIT, size)},
+            (1, 0, 0, 1, 0) if size <= MOST_BYTES else None, None if size <= MOST_BYTES else 'traits: TooLarge')
+      for name, size in (('64 MiB', MOST_BYTES), ('64 MiB and a byte', MOST_BYTES + 1))),
+    check('a large table is told before the fault of an earlier one',
+          {'providers': 'x', 'usages': lambda: '\n' * (MOST_BYTES + 1)}, line='usages: TooLarge'),
+    query('4366 lists of one subtree, 65536 bytes', pairs('resources1=VCPU:2&', 'same_subtree=1&', QUERY_BYTES), lines('P1')),
+    query('the same with a byte more', pairs('resources1=VCPU:2&', 'same_subtree=1&', QUERY_BYTES) + '&', line='query: QueryTooLong'),
+    query('thousands of groups', '&'.join(f'resources{n:04}=C:1' for n in range(3600)) + '&group_policy=none', line='query: TooManySlots'),
+    query('thousands of groups without resources', '&'.join(['resources=VCPU:2', *(f'required{n:04}=A' for n in range(3600, 0, -1))]),
+          line='query: group "0001": GroupWithoutResources'),
+    query('thousands of groups without a policy', '&'.join(f'resources{n:04}=C:1' for n in range(3600)), line='query: PolicyMissing'),
+    query('thousands of pairs, the last repeated', '&'.join([*(f'required{n:04}=A' for n in range(3600)), 'required0000=A']),
+          line='query: pair 3601: Repeated'),
+    query('a list of thousands of aggregates', 'resources=VCPU:2&member_of=in:' + ','.join(ids(1700)), ''),
+    query('64 groups of four classes, which nobody has', '&'.join([*EACH, 'group_policy=none'])),
+    query('64 groups of four classes, and one class more', '&'.join([*EACH[1:], 'resources=A:1,B:1,C:1,D:1,E:1', 'group_policy=none']),
+          line='query: TooManySlots'),
+    Case('tokens: 64000 assignments of 40 providers to three groups', ['tokens', THREE],
+         lambda: ''.join(f'{a},{b},{c}\n' for a in ids(40) for b in ids(40) for c in ids(40)), tables=STAR),
+    Case('tokens: after the last of 64000', ['tokens', THREE, '--after', ','.join([provider(40)] * 3)], tables=STAR),
+]

@@ -1,0 +1,79 @@
+#!/bin/sh
+# tools/export-tables.sh OUTDIR: writes the five tables of a cloud, as ac_cli reads them, into OUTDIR: providers.csv, inventories.csv,
+# usages.csv, traits.csv and aggregates.csv. It asks the openstack client, which finds the cloud by OS_* variables (docs/EXPORT.md).
+# One process of the client makes all lists of a table, by commands on its standard input. Where the client fails, or a provider vanishes
+# in between, nothing is left in OUTDIR and the status is 1: the tables get their names when all of them are whole.
+
+set -eu
+export LC_ALL=C
+export OS_PLACEMENT_API_VERSION=1.29
+
+stop() {
+    echo "export-tables: $1" >&2
+    if test -s "$room/said"; then
+        echo 'The client said:' >&2
+        tail -n 5 "$room/said" >&2
+    fi
+    exit 1
+}
+
+# ask FILE: runs the commands on standard input in one process of the client. Its answer goes to that file.
+ask() {
+    openstack >"$room/$1" 2>"$room/said" || stop "the client failed while it listed ${1%.*}"
+}
+
+# join TABLE FIRST: the lists of all providers as one table, with a column for the provider in front. Each list begins with the header,
+# also a list without rows, so that the n-th header belongs to the n-th provider. FIRST is the first column of the list.
+join() {
+    awk -v ids="$room/ids" -v first="\"$2\"" '
+        BEGIN { while ((getline id < ids) > 0) of[++wanted] = id }
+        { sub(/^(\(openstack\) )+/, "") }
+        $0 == "" { next }
+        lists == 0 && index($0 ",", first ",") == 1 { header = $0; print "\"resource_provider\"," header }
+        $0 == header { lists++; next }
+        lists == 0 || !/^"/ { exit odd = 3 }
+        { print "\"" of[lists] "\"," $0 }
+        END { exit odd ? odd : lists == wanted ? 0 : 4 }' "$room/$1.lists" >"$room/$1.csv" || {
+        case $? in
+        3) stop "the client printed a line that is no row of a list, among the lists of $1" ;;
+        *) stop "there isn't one list of $1 for each provider: the client failed, or a provider vanished in between" ;;
+        esac
+    }
+}
+
+# table TABLE FIRST COMMAND: one command for each provider, whose UUID follows the command
+table() {
+    sed "s/.*/$3 & -f csv/" "$room/ids" | ask "$1.lists"
+    join "$1" "$2"
+}
+
+if test $# != 1 || test "${1#-}" != "$1"; then
+    echo 'usage: tools/export-tables.sh OUTDIR' >&2
+    exit 2
+fi
+mkdir -p -- "$1"
+room=$1/.export.$$
+mkdir -- "$room"
+trap 'rm -rf -- "$room"' EXIT
+trap 'exit 1' HUP INT TERM
+command -v openstack >"$room/found" || stop 'there is no openstack client on the PATH'
+
+echo 'resource provider list -f csv' | ask providers.csv
+case $(head -n 1 "$room/providers.csv") in
+*'"root_provider_uuid","parent_provider_uuid"'*) ;;
+*) stop 'the list of providers has no columns root_provider_uuid and parent_provider_uuid' ;;
+esac
+awk -F '"' 'NR > 1 && length($2) == 36 && $2 ~ /^[0-9a-f-]+$/ { print $2 }' "$room/providers.csv" >"$room/ids"
+test -s "$room/ids" || stop 'the cloud has no providers'
+
+table inventories resource_class 'resource provider inventory list'
+table usages resource_class 'resource provider usage show'
+table traits name 'resource provider trait list'
+table aggregates uuid 'resource provider aggregate list'
+
+echo 'resource provider list -f csv' | ask providers.again
+cmp -s "$room/providers.csv" "$room/providers.again" ||
+    echo 'export-tables: the cloud changed while it was listed (a provider, or its generation): the tables are not of one moment' >&2
+for name in providers inventories usages traits aggregates; do
+    mv -f -- "$room/$name.csv" "$1/$name.csv"
+done
