@@ -1,9 +1,13 @@
 #!/usr/bin/env python3
-"""make_tables.py FOLDER [--providers N] [--classes K] [--order sorted|shuffled|reversed] [--seed S] [--quoted]
+"""make_tables.py FOLDER [--shape flat|chain|numa|disk] [--providers N] [--classes K] [--traits T] [--aggregates A]
+               [--order sorted|shuffled|reversed] [--seed S] [--quoted]
 
-Writes FOLDER/providers.csv and FOLDER/inventories.csv: a cloud of N hosts without parents, each with K resource classes. The same words make the
-same bytes. The order is that of the rows of both tables, by UUID; shuffled is each table by itself. With --quoted, texts stand in quotes,
-as the client prints them. 65536 hosts with 3 classes are 5 MB and 13 MB."""
+Writes the five tables of a cloud of N providers into FOLDER. The same words make the same bytes. Shapes:
+flat: hosts without parents; chain: one tree, each provider the child of another; numa: hosts of nine providers, with two NUMA nodes and
+three network functions under each; disk: hosts, and one disk that all of them share.
+Providers that have amounts have K classes, in numa the classes of their kind, and a usage of each; each provider has T traits and is in A
+aggregates. The order is that of the rows of all tables, by UUID; shuffled is each table by itself. With --quoted, texts stand in quotes, as
+the client prints them. 65536 flat providers with 3 classes, 8 traits and 2 aggregates are about 70 MB."""
 import argparse
 import csv
 import os
@@ -11,22 +15,80 @@ import random
 import uuid
 
 CLASSES = 'VCPU', 'MEMORY_MB', 'DISK_GB'
-PROVIDERS = 'uuid', 'root_provider_uuid', 'parent_provider_uuid'
-INVENTORIES = ('resource_provider', 'resource_class', 'total', 'reserved', 'min_unit', 'max_unit', 'step_size',
-               'allocation_ratio')
+HEADERS = {
+    'providers': ('uuid', 'root_provider_uuid', 'parent_provider_uuid'),
+    'inventories': ('resource_provider', 'resource_class', 'total', 'reserved', 'min_unit', 'max_unit', 'step_size', 'allocation_ratio'),
+    'usages': ('resource_provider', 'resource_class', 'usage'),
+    'traits': ('resource_provider', 'name'),
+    'aggregates': ('resource_provider', 'uuid'),
+}
+SHARES = 'MISC_SHARES_VIA_AGGREGATE'
 
 
 def class_name(k):
     return CLASSES[k] if k < len(CLASSES) else f'CUSTOM_CLASS_{k}'
 
 
-def inventory(chance, k):
-    """The numbers of one row. The first class is made so that an amount of 2 fits nearly everywhere."""
-    if k == 0:
-        total = chance.choice((2, 8, 16, 32, 64, 128))
+def new_ids(chance, number):
+    return [str(uuid.UUID(int=chance.getrandbits(128), version=4)) for _ in range(number)]
+
+
+def inventory(chance, name):
+    """The numbers of one row, so that a processor or two fit nearly everywhere."""
+    if name == 'VCPU':
+        total = chance.choice((4, 8, 16, 32, 64, 128))
         return total, chance.randrange(3), 1, total, 1, chance.choice((1.0, 1.5, 4.0, 16.0))
+    if name == 'SRIOV_NET_VF':
+        return 8, 0, 1, 8, 1, 1.0
     total = 512 * chance.randrange(2, 4096)
     return total, 512, 1, total, chance.choice((1, 1, 1, 512)), chance.choice((1.0, 1.0, 1.5))
+
+
+class Cloud:
+    def __init__(self, chance, words):
+        self.chance = chance
+        self.words = words
+        self.rows = {name: [] for name in HEADERS}
+        self.traits = [f'CUSTOM_TRAIT_{n}' for n in range(60)]
+        self.aggregates = new_ids(chance, max(words.providers // 16, words.aggregates))
+
+    def add(self, id, root, parent, classes, traits=(), aggregates=()):
+        """One provider, with its further traits and aggregates."""
+        self.rows['providers'].append((id, root, parent))
+        for name in classes:
+            numbers = inventory(self.chance, name)
+            self.rows['inventories'].append((id, name, *numbers))
+            self.rows['usages'].append((id, name, self.chance.randrange(numbers[0] // 2)))
+        self.rows['traits'] += [(id, name) for name in (*traits, *self.chance.sample(self.traits, self.words.traits))]
+        self.rows['aggregates'] += [(id, name) for name in (*aggregates, *self.chance.sample(self.aggregates, self.words.aggregates))]
+
+
+def flat(cloud, ids, classes):
+    for id in ids:
+        cloud.add(id, id, '', classes)
+
+
+def chain(cloud, ids, classes):
+    for id, above in zip(ids, ['', *ids]):
+        cloud.add(id, ids[0], above, classes)
+
+
+def numa(cloud, ids, _classes):
+    for start in range(0, len(ids) - 8, 9):
+        host, *rest = ids[start:start + 9]
+        cloud.add(host, host, '', ('DISK_GB',))
+        for node, *functions in rest[:4], rest[4:]:
+            cloud.add(node, host, host, ('VCPU', 'MEMORY_MB'), ('HW_NUMA_ROOT',))
+            for function in functions:
+                cloud.add(function, host, node, ('SRIOV_NET_VF',))
+
+
+def disk(cloud, ids, classes):
+    shared, *hosts = ids
+    common = new_ids(cloud.chance, 1)
+    cloud.add(shared, shared, '', ('DISK_GB',), (SHARES,), common)
+    for id in hosts:
+        cloud.add(id, id, '', [name for name in classes if name != 'DISK_GB'], (), common)
 
 
 def write(path, header, rows, quoting):
@@ -37,28 +99,29 @@ def write(path, header, rows, quoting):
 
 
 def main():
-    words = argparse.ArgumentParser(description=__doc__.split('\n\n')[1])
+    shapes = {shape.__name__: shape for shape in (flat, chain, numa, disk)}
+    words = argparse.ArgumentParser(description=__doc__.split('\n\n')[1], formatter_class=argparse.RawDescriptionHelpFormatter)
     words.add_argument('folder')
+    words.add_argument('--shape', choices=shapes, default='flat')
     words.add_argument('--providers', type=int, default=65536)
     words.add_argument('--classes', type=int, default=3)
+    words.add_argument('--traits', type=int, default=8)
+    words.add_argument('--aggregates', type=int, default=2)
     words.add_argument('--order', choices=('sorted', 'shuffled', 'reversed'), default='shuffled')
     words.add_argument('--seed', type=int, default=1)
     words.add_argument('--quoted', action='store_true')
-    args = words.parse_args()
+    words = words.parse_args()
 
-    chance = random.Random(args.seed)
-    ids = sorted(str(uuid.UUID(int=chance.getrandbits(128), version=4)) for _ in range(args.providers))
-    providers = [(p, p, '') for p in ids]
-    inventories = [(p, class_name(k), *inventory(chance, k)) for p in ids for k in range(args.classes)]
-    for rows in providers, inventories:
-        if args.order == 'shuffled':
+    chance = random.Random(words.seed)
+    cloud = Cloud(chance, words)
+    shapes[words.shape](cloud, new_ids(chance, words.providers), [class_name(k) for k in range(words.classes)])
+    quoting = csv.QUOTE_NONNUMERIC if words.quoted else csv.QUOTE_MINIMAL
+    os.makedirs(words.folder, exist_ok=True)
+    for name, rows in cloud.rows.items():
+        rows.sort(reverse=words.order == 'reversed')
+        if words.order == 'shuffled':
             chance.shuffle(rows)
-        elif args.order == 'reversed':
-            rows.reverse()
-    quoting = csv.QUOTE_NONNUMERIC if args.quoted else csv.QUOTE_MINIMAL
-    os.makedirs(args.folder, exist_ok=True)
-    write(os.path.join(args.folder, 'providers.csv'), PROVIDERS, providers, quoting)
-    write(os.path.join(args.folder, 'inventories.csv'), INVENTORIES, inventories, quoting)
+        write(os.path.join(words.folder, name + '.csv'), HEADERS[name], rows, quoting)
 
 
 if __name__ == '__main__':

@@ -1,7 +1,9 @@
 #!/bin/bash
-# bench/time.sh [PROVIDERS..]: times the proved program on clouds of so many providers (4096, 16384 and 65536, if none is named), with three
-# resource classes each. Beside it, over the same bytes and in the same run: the ported csv alone (bench/csv_alone.rattle), wc, Python's csv module,
-# and a plain Rust program that only splits and counts (bench/anchor, where rustc is there). The last two clouds repeat the largest with its rows in order and in reverse.
+# bench/time.sh [--deep] [PROVIDERS..]: times the proved program on clouds of so many providers (4096, 16384 and 65536, if none is named): five
+# tables with three resource classes, eight traits and two aggregates each (bench/make_tables.py tells the shapes). Beside `check`, over the same bytes
+# and in the same run: the ported csv alone (bench/csv_alone.rattle), wc, Python's csv module, and a plain Rust program that only splits and counts
+# (bench/anchor, where rustc is there). Then `tokens` and `candidates`, whole, with a limit, and after a token from the middle. For the largest
+# number also the rows in order and in reverse, and one chain. With --deep, also searches with several slots, which a search that goes through all lists doesn't end.
 # Each figure is the best of three runs: wall time, and the most memory held at once.
 
 set -eu
@@ -9,6 +11,11 @@ export LC_ALL=C
 bench=$(dirname "$(readlink -f "$0")")
 room=$(mktemp -d)
 trap 'rm -rf "$room"' EXIT
+deep=''
+if [[ ${1-} == --deep ]]; then
+    deep=yes
+    shift
+fi
 
 "$bench/../ac_cli" --help >"$room/help"
 program=$(dirname "$bench")/out/ac_cli
@@ -48,29 +55,52 @@ best() {
         [[ -n $least && $took -ge $least ]] || least=$took
         [[ -n $lowest && $peak -ge $lowest ]] || lowest=$peak
     done
-    printf '  %-22s %8d.%d ms %8d MiB %9d lines\n' "$name" $((least / 1000)) $((least / 100 % 10)) $((lowest / 1024)) "$(wc -l <"$room/out")"
+    printf '  %-34s %8d.%d ms %6d MiB %9d lines %10d bytes\n' "$name" $((least / 1000)) $((least / 100 % 10)) $((lowest / 1024)) \
+        "$(wc -l <"$room/out")" "$(wc -c <"$room/out")"
 }
 
-# cloud PROVIDERS ORDER: makes the tables and names them
+# cloud PROVIDERS ORDER SHAPE: makes the tables, names them, and times their reading
 cloud() {
-    "$python" "$bench/make_tables.py" "$room" --providers "$1" --order "$2"
-    printf '%d providers, rows %s: %d bytes\n' "$1" "$2" "$(cat "$room/providers.csv" "$room/inventories.csv" | wc -c)"
+    rm -f "$room"/*.csv
+    "$python" "$bench/make_tables.py" "$room" --providers "$1" --order "$2" --shape "$3"
+    files=("$room"/{providers,inventories,usages,traits,aggregates}.csv)
+    tables=(--providers "${files[0]}" --inventories "${files[1]}" --usages "${files[2]}" --traits "${files[3]}" --aggregates "${files[4]}")
+    printf '%s, %d providers, rows %s: %d rows, %d bytes\n' "$3" "$1" "$2" "$(cat "${files[@]}" | wc -l)" "$(cat "${files[@]}" | wc -c)"
+    best 'ac_cli check' "$program" check "${tables[@]}"
 }
 
-tokens() {
-    best 'ac_cli tokens' "$program" tokens 'resources=VCPU:2' --providers "$room/providers.csv" --inventories "$room/inventories.csv"
+# search QUERY: times both writers, whole, with a limit, and after the line in the middle
+search() {
+    local middle
+    echo "  $1"
+    best 'tokens' "$program" tokens "$1" "${tables[@]}"
+    middle=$(sed -n "$((($(wc -l <"$room/out") + 1) / 2))p" "$room/out")
+    best 'tokens, limit 1000' "$program" tokens "$1&limit=1000" "${tables[@]}"
+    best 'candidates' "$program" candidates "$1" "${tables[@]}"
+    best 'candidates, limit 1000' "$program" candidates "$1&limit=1000" "${tables[@]}"
+    if [[ -n $middle ]]; then
+        best 'candidates, limit 1000, after' "$program" candidates "$1&limit=1000" --after "$middle" "${tables[@]}"
+        best 'verify, of the middle' "$program" verify "$1" "$middle" "${tables[@]}"
+    fi
 }
 
 [[ $# -gt 0 ]] || set -- 4096 16384 65536
 for providers; do
-    cloud "$providers" shuffled
-    tokens
-    [[ -z $ported ]] || best 'ported csv alone' "$ported" "$room/providers.csv" "$room/inventories.csv"
-    [[ -z $anchor ]] || best 'splitting, plain Rust' "$anchor" "$room/providers.csv" "$room/inventories.csv"
-    best 'wc -l' wc -l "$room/providers.csv" "$room/inventories.csv"
-    best "Python's csv, started" "$python" -c "$read_by_python" "$room/providers.csv" "$room/inventories.csv"
+    cloud "$providers" shuffled flat
+    [[ -z $ported ]] || best 'ported csv alone' "$ported" "${files[@]}"
+    [[ -z $anchor ]] || best 'splitting, plain Rust' "$anchor" "${files[@]}"
+    best 'wc -l' wc -l "${files[@]}"
+    best "Python's csv, started" "$python" -c "$read_by_python" "${files[@]}"
+    search 'resources=VCPU:2'
+    search 'resources1=VCPU:2,MEMORY_MB:512&required1=!CUSTOM_TRAIT_7'
+    [[ -z $deep ]] || search 'resources=VCPU:2,MEMORY_MB:512,DISK_GB:512'
 done
-for order in sorted reversed; do
-    cloud "$providers" "$order"
-    tokens
-done
+cloud "$providers" sorted flat
+cloud "$providers" reversed flat
+cloud "$providers" shuffled chain
+search 'resources=VCPU:2'
+[[ -n $deep ]] || exit 0
+cloud "$providers" shuffled numa
+search 'resources_A=VCPU:1,MEMORY_MB:512&resources_B=VCPU:1,MEMORY_MB:512&resources_C=SRIOV_NET_VF:1&resources_D=SRIOV_NET_VF:1&same_subtree=_A,_C&same_subtree=_B,_D&group_policy=isolate'
+cloud "$((providers < 20000 ? providers : 20000))" shuffled disk
+search 'resources=VCPU:2,DISK_GB:512'
