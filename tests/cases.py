@@ -329,6 +329,8 @@ QUERIES = [
     bad_query('pair 1: UnknownParameter', 'resources%3DVCPU:1'),
     bad_query('pair 1: UnknownParameter', 'resources' + 'a' * 65 + '=VCPU:1', shown='a suffix of 65 letters'),
     bad_query('pair 1: UnknownParameter', 'limit1=1&resources=VCPU:1'),
+    bad_query('pair 1: BadValue', f'resources={"A" * 256}:1', shown='a class of 256 letters'),
+    found('a class of 255 letters, which nobody has', ONE, f'resources={"A" * 255}:1'),
     found('a query in another form', ONE, '&resources=VCPU%3A2&', 'P1'),
     found('256 classes in one group', ONE, 'resources1=' + ','.join(f'C{n}:1' for n in range(1, 257))),
 ]

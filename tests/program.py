@@ -16,6 +16,7 @@ import tempfile
 from cases import DEEP, SMALL, SOME, Case, cuts, full, lines, tables
 from export import exports
 from large import LARGE
+from model import drawn
 
 ROOT = os.path.dirname(os.path.dirname(os.path.abspath(__file__)))
 PROGRAM = os.environ.get('AC_CLI', os.path.join(ROOT, 'ac_cli'))
@@ -222,7 +223,7 @@ def main(*given):
         return 1
     pages = [case for page in ('README.md', 'docs/README-parts.md', 'examples/README.md', 'docs/RULES.md', 'docs/FORMATS.md', 'docs/EXPORT.md')
              for case in shown(page)]
-    cases = [*HELP, *WORDS, *FILES, *DEVICES, *SMALL, *pages, *ruled('docs/RULES.md'), *exports(), *LARGE, *cuts(), *(DEEP if deep else ())]
+    cases = [*HELP, *WORDS, *FILES, *DEVICES, *SMALL, *pages, *ruled('docs/RULES.md'), *exports(), *drawn(150), *LARGE, *cuts(), *(DEEP if deep else ())]
     cases = [case for case in cases if word in case.name]
     failed = 0
     for case in cases:

@@ -1,0 +1,255 @@
+"""The rules as docs/RULES.md tells them, over small clouds and queries drawn by chance: every list of providers is tried, and nothing is
+taken from the program. A ratio is held in thousandths."""
+from __future__ import annotations
+
+import itertools
+import json
+import random
+from dataclasses import dataclass, field
+
+from cases import Case, full, lines, tables
+
+RULES = 'Units', 'SlotTraits', 'Aggregates', 'Tree', 'Collective', 'Sums', 'Isolate', 'Subtree', 'Anchor'
+CLASSES = 'DISK_GB', 'MEMORY_MB', 'VCPU'
+TRAITS = 'CUSTOM_A', 'CUSTOM_B'
+AGGREGATES = 'A1', 'A2'
+SHARES = 'MISC_SHARES_VIA_AGGREGATE'
+SUFFIXES = '1', '10', '2', '_NET', 'a'
+
+
+@dataclass
+class Inventory:
+    total: int
+    reserved: int
+    min_unit: int
+    max_unit: int
+    step_size: int
+    ratio: int
+    used: int
+
+    def capacity(self):
+        return (self.total - self.reserved) * self.ratio // 1000
+
+    def text(self, name):
+        return (f'{name} total {self.total}, reserved {self.reserved}, min_unit {self.min_unit}, max_unit {self.max_unit}, step_size {self.step_size}, '
+                f'allocation_ratio {self.ratio // 1000}.{self.ratio % 1000:03}, used {self.used}')
+
+
+@dataclass
+class Provider:
+    name: str
+    parent: Provider | None
+    has: dict
+    traits: set
+    aggregates: set
+
+    def above(self):
+        """The provider itself, its parent, and so on up to its root."""
+        return [self, *(self.parent.above() if self.parent else ())]
+
+    def root(self):
+        return self.above()[-1]
+
+    def text(self):
+        cells = [self.name, self.parent.name if self.parent else '', '; '.join(inventory.text(name) for name, inventory in self.has.items()),
+                 ', '.join(self.traits), ', '.join(self.aggregates)]
+        return ' | '.join(cells)
+
+
+@dataclass
+class Group:
+    needs: dict
+    required: set
+    forbidden: set
+    rules: list  # whether it forbids, and the aggregates
+    tree: str | None
+
+    def pairs(self, suffix):
+        if self.needs:
+            yield f'resources{suffix}', ','.join(f'{name}:{amount}' for name, amount in self.needs.items())
+        if self.required or self.forbidden:
+            yield f'required{suffix}', traits_text(self.required, self.forbidden)
+        for forbids, aggregates in self.rules:
+            yield f'member_of{suffix}', '!' * forbids + 'in:' + ','.join(aggregates)
+        if self.tree:
+            yield f'in_tree{suffix}', self.tree
+
+
+@dataclass
+class Query:
+    groups: dict  # the suffix, or the empty text, and the group
+    isolate: bool = False
+    subtrees: list = field(default_factory=list)
+    root_required: set = field(default_factory=set)
+    root_forbidden: set = field(default_factory=set)
+
+    def slots(self):
+        for suffix in sorted(self.groups):
+            needs = self.groups[suffix].needs
+            yield from [(suffix, {name: needs[name]}) for name in sorted(needs)] if suffix == '' else [(suffix, needs)]
+
+    def text(self, chance):
+        pairs = [pair for suffix, group in self.groups.items() for pair in group.pairs(suffix)]
+        pairs += [('same_subtree', ','.join(listed)) for listed in self.subtrees]
+        if self.root_required or self.root_forbidden:
+            pairs.append(('root_required', traits_text(self.root_required, self.root_forbidden)))
+        pairs.append(('group_policy', 'isolate' if self.isolate else 'none'))
+        return '&'.join(f'{name}={value}' for name, value in chance.sample(pairs, len(pairs)))
+
+
+def traits_text(required, forbidden):
+    return ','.join([*sorted(required), *('!' + name for name in sorted(forbidden))])
+
+
+def available(provider, root, cloud):
+    return provider.root() is root or SHARES in provider.traits and any(
+        other.root() is root and other.aggregates & provider.aggregates for other in cloud)
+
+
+def broken_by_one(provider, suffix, needs, query, cloud):
+    """The rules of one slot that its provider breaks."""
+    group = query.groups[suffix]
+    for name, amount in needs.items():
+        has = provider.has.get(name)
+        if not has or not has.min_unit <= amount <= has.max_unit or amount % has.step_size:
+            yield 'Units'
+    if group.forbidden & provider.traits or suffix and not group.required <= provider.traits:
+        yield 'SlotTraits'
+    member = provider.aggregates | (set() if suffix else provider.root().aggregates)
+    if any(bool(member & set(aggregates)) == forbids for forbids, aggregates in group.rules):
+        yield 'Aggregates'
+    if group.tree and not any(other.name == group.tree and other.root() is provider.root() for other in cloud):
+        yield 'Tree'
+
+
+def broken_by_all(placed, query, cloud):
+    """The rules that an assignment breaks as a whole. It is a list of providers, suffixes and amounts."""
+    together = set().union(*(provider.traits for provider, suffix, _ in placed if not suffix))
+    if '' in query.groups and not query.groups[''].required <= together:
+        yield 'Collective'
+    for name in CLASSES:
+        for provider in cloud:
+            taken = sum(needs.get(name, 0) for other, _, needs in placed if other is provider)
+            has = provider.has.get(name)
+            if taken and not (has and taken <= has.max_unit and has.used + taken <= has.capacity()):
+                yield 'Sums'
+    apart = [provider.name for provider, suffix, needs in placed if suffix and needs]
+    if query.isolate and len(set(apart)) < len(apart):
+        yield 'Isolate'
+    for listed in query.subtrees:
+        near = [provider for provider, suffix, _ in placed if suffix in listed]
+        if not any(all(any(top is step for step in other.above()) for other in near) for top in near):
+            yield 'Subtree'
+    if not any(root.root() is root and query.root_required <= root.traits and not query.root_forbidden & root.traits
+               and all(available(provider, root, cloud) for provider, _, _ in placed) for root in cloud):
+        yield 'Anchor'
+
+
+def judgement(assignment, query, cloud):
+    """The least number of a rule that is broken, or 0."""
+    placed = [(provider, suffix, needs) for provider, (suffix, needs) in zip(assignment, query.slots())]
+    broken = [*(rule for one in placed for rule in broken_by_one(*one, query, cloud)), *broken_by_all(placed, query, cloud)]
+    return min((RULES.index(rule) + 1 for rule in broken), default=0)
+
+
+def request(assignment, query):
+    taken, mappings = {}, {}
+    for provider, (suffix, needs) in zip(assignment, query.slots()):
+        mappings.setdefault(suffix, set()).add(provider.name)
+        for name, amount in needs.items():
+            resources = taken.setdefault(provider.name, {'resources': {}})['resources']
+            resources[name] = resources.get(name, 0) + amount
+    return {'allocations': taken, 'mappings': {suffix: sorted(names) for suffix, names in mappings.items()}}
+
+
+def summary(provider):
+    return {'parent_provider_uuid': provider.parent.name if provider.parent else None,
+            'resources': {name: {'capacity': has.capacity(), 'used': has.used} for name, has in provider.has.items()},
+            'root_provider_uuid': provider.root().name, 'traits': sorted(provider.traits)}
+
+
+def body(found, query, cloud):
+    roots = {provider.root().name for assignment in found for provider in assignment}
+    whole = {'allocation_requests': [request(assignment, query) for assignment in found],
+             'provider_summaries': {provider.name: summary(provider) for provider in cloud if provider.root().name in roots}}
+    return json.dumps(whole, sort_keys=True, separators=(',', ':')) + '\n'
+
+
+def some(chance, values, most):
+    return chance.sample(values, chance.randint(0, most))
+
+
+def draw_inventory(chance):
+    total = chance.choice((2, 4, 8))
+    return Inventory(total, chance.choice((0, 0, 1)), chance.choice((1, 1, 1, 1, 2)), chance.choice((total, total, 3)),
+                     chance.choice((1, 1, 1, 1, 2)), chance.choice((1000, 1500, 999, 2000)), chance.choice((0, 0, 1, 2)))
+
+
+def draw_cloud(chance):
+    cloud = []
+    for number in range(1, chance.randint(3, 5) + 1):
+        parent = chance.choice([None, *cloud, *cloud])
+        traits = set(some(chance, TRAITS, 1)) | ({SHARES} if chance.random() < 0.25 else set())
+        cloud.append(Provider(f'P{number}', parent, {name: draw_inventory(chance) for name in sorted(chance.sample(CLASSES, chance.choice((0, 2, 3, 3))))}, traits,
+                              set(some(chance, AGGREGATES, 1))))
+    return cloud
+
+
+def draw_group(chance, needs):
+    required = set(some(chance, TRAITS, 2)) if chance.random() < 0.2 else set()
+    forbidden = set(some(chance, TRAITS, 1)) - required if chance.random() < 0.3 else set()
+    rules = [(chance.random() < 0.5, some(chance, AGGREGATES, 1) or ['A2'])] if chance.random() < 0.15 else []
+    return Group(needs, required, forbidden, rules, chance.choice(('P1', 'P2', 'P7')) if chance.random() < 0.1 else None)
+
+
+def draw_needs(chance, most):
+    return {name: chance.choice((1, 1, 2)) for name in chance.sample(CLASSES, chance.randint(1, most))}
+
+
+def draw_query(chance):
+    groups = {'': draw_group(chance, draw_needs(chance, 2))} if chance.random() < 0.6 else {}
+    suffixes = chance.sample(SUFFIXES, chance.randint(0 if groups else 1, 2))
+    groups.update({suffix: draw_group(chance, draw_needs(chance, 2)) for suffix in suffixes})
+    subtrees = []
+    if suffixes and chance.random() < 0.4:
+        group = draw_group(chance, {})
+        if group.required or group.forbidden:
+            groups['_NUMA'] = group
+            subtrees.append([*suffixes, '_NUMA'])
+        else:
+            subtrees.append(suffixes)
+    root = set(some(chance, TRAITS, 1)) if chance.random() < 0.2 else set()
+    return Query(groups, chance.random() < 0.4, subtrees, root, set(some(chance, TRAITS, 1)) - root if chance.random() < 0.2 else set())
+
+
+def names(assignment):
+    return ','.join(provider.name for provider in assignment)
+
+
+def drawn(number, seed=1):
+    """So many clouds, each with a query, and what the four commands say of it. Every third may be without a candidate."""
+    chance = random.Random(seed)
+    n = 0
+    while n < number:
+        cloud, query = draw_cloud(chance), draw_query(chance)
+        every = list(itertools.product(cloud, repeat=len(list(query.slots()))))
+        judged = [judgement(assignment, query, cloud) for assignment in every]
+        if n % 3 == 0 or 0 in judged:
+            yield from asked(f'drawn {n}', chance, cloud, query, every, judged)
+            n += 1
+
+
+def asked(name, chance, cloud, query, every, judged):
+    """Every assignment has its judgement. One of them is verified, by preference none that breaks the first rule."""
+    found = [assignment for assignment, rule in zip(every, judged) if not rule]
+    at = chance.randrange(len(every))
+    later = [assignment for assignment, rule in zip(every[at + 1:], judged[at + 1:]) if not rule][:2]
+    rule = chance.choice(sorted(set(judged) - {1}) or [1])
+    one = chance.choice([place for place, other in enumerate(judged) if other == rule])
+    line = f'no: rule {rule} {RULES[rule - 1]}\n' if rule else 'candidate\n'
+    text, made = full(query.text(chance)), tables('\n'.join(provider.text() for provider in cloud))
+    after = ['--after', full(names(every[at]))]
+    yield Case(f'{name}: tokens', ['tokens', text], lines(*map(names, found)), tables=made)
+    yield Case(f'{name}: candidates', ['candidates', text], full(body(found, query, cloud)), tables=made)
+    yield Case(f'{name}: candidates after a token', ['candidates', text + '&limit=2', *after], full(body(later, query, cloud)), tables=made)
+    yield Case(f'{name}: verify', ['verify', text, full(names(every[one]))], line, status=1 if rule else 0, tables=made)
