@@ -189,9 +189,9 @@ def draw_cloud(chance):
     cloud = []
     for number in range(1, chance.randint(3, 5) + 1):
         parent = chance.choice([None, *cloud, *cloud])
+        has = {name: draw_inventory(chance) for name in sorted(chance.sample(CLASSES, chance.choice((0, 2, 3, 3))))}
         traits = set(some(chance, TRAITS, 1)) | ({SHARES} if chance.random() < 0.25 else set())
-        cloud.append(Provider(f'P{number}', parent, {name: draw_inventory(chance) for name in sorted(chance.sample(CLASSES, chance.choice((0, 2, 3, 3))))}, traits,
-                              set(some(chance, AGGREGATES, 1))))
+        cloud.append(Provider(f'P{number}', parent, has, traits, set(some(chance, AGGREGATES, 1))))
     return cloud
 
 

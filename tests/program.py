@@ -12,6 +12,7 @@ import shutil
 import subprocess
 import sys
 import tempfile
+from concurrent.futures import ThreadPoolExecutor
 
 from cases import DEEP, SMALL, SOME, Case, cuts, full, lines, tables
 from export import exports
@@ -226,10 +227,10 @@ def main(*given):
     cases = [*HELP, *WORDS, *FILES, *DEVICES, *SMALL, *pages, *ruled('docs/RULES.md'), *exports(), *drawn(150), *LARGE, *cuts(), *(DEEP if deep else ())]
     cases = [case for case in cases if word in case.name]
     failed = 0
-    for case in cases:
-        why = wrong(case)
-        failed += why is not None
-        print(f'ok     {case.name}' if why is None else f'FAILED {case.name}: {why}', flush=True)
+    with ThreadPoolExecutor(max_workers=2) as pool:
+        for case, why in zip(cases, pool.map(wrong, cases)):
+            failed += why is not None
+            print(f'ok     {case.name}' if why is None else f'FAILED {case.name}: {why}', flush=True)
     print(f'{len(cases) - failed} passed, {failed} failed')
     return 1 if failed else 0
 
