@@ -16,7 +16,7 @@ class Case:
     err: str | None = ''
     status: int = 0
     tables: dict = field(default_factory=dict)  # contents, or what makes them: written to files, and named by options
-    has: tuple = ()  # texts that are in the output
+    has: tuple = ()  # texts that are in the output or on standard error
     to: str | None = None  # the file that standard output goes to
     err_to: str | None = None
     given: bytes = b''

@@ -45,8 +45,8 @@ def check(*tables):
     return over(['check'], *tables)
 
 
-def refused(name, words):
-    return Case(f'refused command line: {name}', words, err=SOME, status=2)
+def refused(name, words, *says):
+    return Case(f'refused command line: {name}', words, err=SOME, status=2, has=says)
 
 
 def unreadable(name, words, table):
@@ -68,7 +68,7 @@ HELP = [
 ]
 
 WORDS = [
-    refused('no such command', ['token']),
+    refused('no such command', ['token'], "unrecognized subcommand 'token'", 'Usage: ac_cli'),
     refused('no command', over([])),
     refused('options before the command', over([]) + ['check']),
     refused('no query', over(['tokens'])),
@@ -79,12 +79,12 @@ WORDS = [
     refused('a token for check', check() + ['--after', ONE_HOST.strip()]),
     refused('--after for verify', over(['verify', 'resources=VCPU:2', ONE_HOST.strip(), '--after', ONE_HOST.strip()])),
     refused('--after without a token', tokens('resources=VCPU:2') + ['--after']),
-    refused('no inventories', ['tokens', 'resources=VCPU:2', '--providers', PROVIDERS]),
+    refused('no inventories', ['tokens', 'resources=VCPU:2', '--providers', PROVIDERS], '--inventories <FILE>', 'Usage: ac_cli tokens'),
     refused('no providers', ['check', '--inventories', INVENTORIES]),
-    refused('no such option', [*tokens('resources=VCPU:2'), '--colour', 'red']),
+    refused('no such option', [*tokens('resources=VCPU:2'), '--colour', 'red'], '--colour', 'Usage: ac_cli tokens'),
     refused('a microversion', [*tokens('resources=VCPU:2'), '--microversion', '1.36']),
     refused('a version', ['--version']),
-    refused('an option twice', [*tokens('resources=VCPU:2'), '--providers', PROVIDERS]),
+    refused('an option twice', [*tokens('resources=VCPU:2'), '--providers', PROVIDERS], '--providers'),
     refused('a query that looks like an option', tokens('-resources=VCPU:2')),
     refused('a word that is no UTF-8', tokens(b'resources=\xff')),
     Case('a query after two hyphens', over(['tokens'])[:1] + over([]) + ['--', 'resources=VCPU:12'], ONE_HOST),
@@ -210,9 +210,9 @@ def wrong(case):
         why = None if gone else differs(what, has, wants)
         if why:
             return why
-    missing = [text for text in case.has if text not in out]
+    missing = [text for text in case.has if text not in out + err]
     if missing:
-        return f'the output has no {missing[0]!r}'
+        return f'{missing[0]!r} is not said'
     return None if status == case.status else f'status is {status}, and not {case.status}'
 
 
