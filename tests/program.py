@@ -222,9 +222,13 @@ def main(*given):
     if status == NOT_BUILT:
         print(f'FAILED to build the program:\n{said}\n0 passed, 1 failed')
         return 1
+    rules = list(ruled('docs/RULES.md'))
+    if len({case.out for case in rules if case.out.startswith('no: rule')}) < 9:
+        print('FAILED to find an example of each rule in docs/RULES.md\n0 passed, 1 failed')
+        return 1
     pages = [case for page in ('README.md', 'docs/README-parts.md', 'examples/README.md', 'docs/RULES.md', 'docs/FORMATS.md', 'docs/EXPORT.md')
              for case in shown(page)]
-    cases = [*HELP, *WORDS, *FILES, *DEVICES, *SMALL, *pages, *ruled('docs/RULES.md'), *exports(), *drawn(150), *LARGE, *cuts(), *(DEEP if deep else ())]
+    cases = [*HELP, *WORDS, *FILES, *DEVICES, *SMALL, *pages, *rules, *exports(), *drawn(150), *LARGE, *cuts(), *(DEEP if deep else ())]
     cases = [case for case in cases if word in case.name]
     failed = 0
     with ThreadPoolExecutor(max_workers=2) as pool:
