@@ -1,0 +1,114 @@
+//! The words of a command line, read by `clap`.
+ghost use Rattle.std.specs.Prelude.{◌≡◌, IfErr, IfOk, IsTrue, OnOk, Some, [], map, option_map, string_bytes};
+ghost use Rattle.ac_cli.specs.Words.{Line, Says, Tells, faults, is_taken, named, path_of};
+ghost use Rattle.clap.specs.Words.{HasKind, Kinds};
+ghost use Rattle.ac_cli.specs.declared.words.WordFault.TheVariants.{NoMemory};
+
+mod entries;
+mod grammar;
+
+use crate::Table;
+use clap::error::ErrorKind;
+use std::alloc::{AllocError, Global};
+use std::marker::Model;
+
+/// What the program is to do.
+#[derive(Clone, Copy, Debug, PartialEq, Eq)]
+pub enum Command {
+    /// Writes each candidate as a token, one a line.
+    Tokens,
+}
+
+/// What the program is to do, and for which query.
+#[derive(Clone, Copy, Debug, PartialEq, Eq)]
+pub struct Job<'a> {
+    pub command: Command,
+    pub query: &'a str,
+}
+
+/// The words of a command line that was accepted.
+#[derive(Drop)]
+pub struct Words {
+    command: Command,
+    query: String,
+    providers: String,
+    inventories: String,
+}
+
+impl Model for Words {
+    ghost Value = { Line };
+
+    ghost view = { λ w. record {
+      command = w.command;
+      query = string_bytes w.query;
+      providers = string_bytes w.providers;
+      inventories = string_bytes w.inventories;
+    } };
+}
+
+impl Words {
+    /// What the words ask for.
+    pub fn job(&self) -> Job<'_>
+        ensures command { result.command ≡ self.now.command }
+        ensures query { result.query.now ≡ self.now.query }
+    {
+        Job {
+            command: self.command,
+            query: self.query.as_str(),
+        }
+    }
+
+    /// The path of a table's file, where one was given.
+    pub fn path(&self, table: Table) -> Option<&str>
+        ensures { option_map (λ path. path.now) result ≡ path_of self.now table }
+    {
+        match table {
+            Table::Providers => Some(self.providers.as_str()),
+            Table::Inventories => Some(self.inventories.as_str()),
+        }
+    }
+}
+
+/// Why words were not accepted.
+#[derive(Drop)]
+pub enum WordFault {
+    /// They are refused: `clap`'s text on what is wrong with them.
+    Refused(String),
+    /// They ask for help: `clap`'s text of it.
+    Help(String),
+    /// A growth was refused.
+    NoMemory,
+}
+
+impl From<AllocError> for WordFault {
+    ghost from_gives = { λ _ fault. fault ≡ NoMemory };
+
+    fn from(_error: AllocError) -> WordFault {
+        WordFault::NoMemory
+    }
+}
+
+// What the user is told of an error of `clap`.
+fn fault_of(alloc: Global, error: &clap::Error) -> Result<WordFault, AllocError>
+    ensures { (kinds : Kinds) → HasKind kinds error.now → IfOk result (Tells kinds) }
+{
+    match error.kind() {
+        ErrorKind::OutOfMemory => Ok(WordFault::NoMemory),
+        ErrorKind::DisplayHelp => Ok(WordFault::Help(error.to_string(alloc)?)),
+        _ => Ok(WordFault::Refused(error.to_string(alloc)?)),
+    }
+}
+
+/// Reads the words of a command line, of which the first is the program's own name.
+pub fn read_words(alloc: Global, words: &[String]) -> Result<Words, WordFault>
+    ensures entries { IfOk result (Says (named (map string_bytes words.now))) }
+    ensures faultless { OnOk result (faults (map string_bytes words.now) ≡ []) }
+    ensures fault { IfErr result (Tells (faults (map string_bytes words.now))) }
+    ensures taken { IsTrue (is_taken (map string_bytes words.now)) → IfErr result (λ fault. fault ≡ NoMemory) }
+{
+    let grammar = grammar::program(alloc)?;
+    match grammar.try_get_matches_from(words) {
+        Ok(matches) => Ok(entries::words_of(alloc, &matches)?),
+        Err(error) => Err(fault_of(alloc, &error)?),
+    }
+}
