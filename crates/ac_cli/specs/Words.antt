@@ -3,8 +3,8 @@ use Rattle.std.specs.Prelude.{◌≡◌, ◌≢◌, List, Bool, Option, Some, No
 use Rattle.clap.specs.Words.{App, IsAmong, Kinds, Row, Rule, Text, fault_of, first_of, new_app, new_rule, subcommand_of, takes, with_rule, with_subcommand}
 use Rattle.clap.specs.declared.error.kind.ErrorKind.{ErrorKind}
 use Rattle.clap.specs.declared.error.kind.ErrorKind.TheVariants.{DisplayHelp}
-use Rattle.ac_cli.specs.declared.Table.{Table}
-use Rattle.ac_cli.specs.declared.Table.TheVariants.{Providers, Inventories}
+use Rattle.ac_cli.specs.declared.table.Table.{Table}
+use Rattle.ac_cli.specs.declared.table.Table.TheVariants.{Providers, Inventories}
 use Rattle.ac_cli.specs.declared.words.Command.{Command}
 use Rattle.ac_cli.specs.declared.words.Command.TheVariants.{Tokens}
 use Rattle.ac_cli.specs.declared.words.WordFault.{WordFault}

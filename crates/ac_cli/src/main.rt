@@ -1,17 +1,7 @@
-//! The candidate search as a command over exported tables.
+//! Which providers of exported Placement tables could host a workload.
 #![tactic(auto)]
 
+mod table;
 mod words;
 
-use std::process::ExitCode;
-
-/// A table that the program reads.
-#[derive(Clone, Copy, Debug, PartialEq, Eq)]
-pub enum Table {
-    Providers,
-    Inventories,
-}
-
-fn main(_rt: HostRuntime) -> ExitCode {
-    ExitCode::from(0)
-}
+fn main() {}

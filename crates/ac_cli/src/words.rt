@@ -7,7 +7,7 @@ ghost use Rattle.ac_cli.specs.declared.words.WordFault.TheVariants.{NoMemory};
 mod entries;
 mod grammar;
 
-use crate::Table;
+use crate::table::Table;
 use clap::error::ErrorKind;
 use std::alloc::{AllocError, Global};
 use std::marker::Model;
@@ -112,3 +112,6 @@ pub fn read_words(alloc: Global, words: &[String]) -> Result<Words, WordFault>
         Err(error) => Err(fault_of(alloc, &error)?),
     }
 }
+
+#[cfg(test)]
+mod tests;

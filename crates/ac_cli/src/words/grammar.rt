@@ -18,7 +18,7 @@ Exit status:
   7  out of memory
 
 Example:
-  ac_cli tokens 'resources=VCPU:2' --providers providers.csv --inventories inventories.csv";
+  ac_cli tokens 'resources=VCPU:2' --providers examples/providers.csv --inventories examples/inventories.csv";
 
 // A word that has to be given.
 fn word<'a>(alloc: Global, name: &'a str, shown: &'a str, help: &'a str) -> Arg<'a>
@@ -58,13 +58,13 @@ fn tokens<'a>(alloc: Global) -> Result<Command<'a>, AllocError>
     ensures local { IfOk result (λ c. (fields_of c).has_globals ≡ false) }
 {
     let command = Command::new(alloc, "tokens")
-        .about("Writes each candidate for the query as a token, one a line")
+        .about("Writes the candidates for a query, one a line: the UUIDs of their providers")
         .after_help(AFTER_HELP);
     let query = word(
         alloc,
         "query",
         "QUERY",
-        "The query, as in \"resources=VCPU:2\"",
+        "What is asked for, as in 'resources=VCPU:2'",
     );
     let command = command.arg(query)?;
     add_tables(alloc, command)
@@ -76,7 +76,7 @@ pub fn program<'a>(alloc: Global) -> Result<Command<'a>, AllocError>
 {
     let command = Command::new(alloc, "ac_cli")
         .about(
-            "Searches exported tables for allocation candidates; without words, a built-in sample",
+            "Finds the allocation candidates of exported Placement tables; without words, those of a built-in sample",
         )
         .after_help(AFTER_HELP)
         .subcommand_required(true);
