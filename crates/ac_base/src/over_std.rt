@@ -76,6 +76,13 @@ impl<W: Write> ToWrite<W> {
             failures: 0,
         }
     }
+
+    /// The writer, with all that the sink took.
+    pub fn into_inner(self) -> W
+        ensures { W.contents result ≡ ⟦<ToWrite<W> as Sink>⟧.taken self }
+    {
+        self.writer
+    }
 }
 
 impl<W: Write> Sink for ToWrite<W> {

@@ -1,7 +1,7 @@
 -- How the program ends where `run` doesn't tell.
-use Rattle.std.specs.Prelude.{ℕ, List, codes, string_bytes}
+use Rattle.std.specs.Prelude.{ℕ, List, [], codes, string_bytes}
 use Rattle.ac_cli.specs.declared.program.Stop.{Stop}
-use Rattle.ac_cli.specs.declared.program.Stop.TheVariants.{Refused, NotText, Unreadable, WriteFailed, NoMemory}
+use Rattle.ac_cli.specs.declared.program.Stop.TheVariants.{Refused, NotText, Unreadable, Told, WriteFailed, NoMemory}
 use Rattle.ac_cli.specs.declared.table.Table.TheVariants.{Providers, Inventories}
 
 abbrev pub line_of : Stop → List ℕ
@@ -9,6 +9,7 @@ line_of (Refused text) = string_bytes text
 line_of NotText = codes "error: the words are not UTF-8\n"
 line_of (Unreadable Providers) = codes "providers: Unreadable\n"
 line_of (Unreadable Inventories) = codes "inventories: Unreadable\n"
+line_of (Told status) = []
 line_of WriteFailed = codes "output: WriteFailed\n"
 line_of NoMemory = codes "out of memory\n"
 
@@ -16,5 +17,6 @@ abbrev pub status_of : Stop → ℕ
 status_of (Refused text) = 2
 status_of NotText = 2
 status_of (Unreadable table) = 3
+status_of (Told status) = status
 status_of WriteFailed = 6
 status_of NoMemory = 7

@@ -10,5 +10,5 @@ mod words;
 use std::process::ExitCode;
 
 fn main(rt: HostRuntime) -> ExitCode {
-    ExitCode::from(program::status(&rt, &mut rt.stdout(), &mut rt.stderr()))
+    ExitCode::from(program::status(&rt, rt.stdout(), &mut rt.stderr()))
 }

@@ -1,6 +1,5 @@
 //! The program around `run`: its words, its files and the standard streams.
-ghost use Rattle.std.specs.Prelude.{◌≡◌, ◌⊎◌, IfErr, IfOk};
-ghost use Rattle.ac_cli.specs.declared.program.Stop.TheVariants.{NoMemory, WriteFailed};
+ghost use Rattle.std.specs.Prelude.{◌≡◌, IfOk, codes};
 ghost use Rattle.std.specs.Io.KnownBytes.{Appends};
 ghost use Rattle.ac_cli.specs.Program.{line_of, status_of};
 
@@ -26,6 +25,8 @@ enum Stop {
     NotText,
     // The file of a table can't be opened.
     Unreadable(Table),
+    // `run` told it, with this status.
+    Told(u8),
     // The output did not take all that was written.
     WriteFailed,
     // A growth was refused.
@@ -42,6 +43,7 @@ impl Stop {
             Stop::NotText => "error: the words are not UTF-8\n",
             Stop::Unreadable(Table::Providers) => "providers: Unreadable\n",
             Stop::Unreadable(Table::Inventories) => "inventories: Unreadable\n",
+            Stop::Told(_) => "",
             Stop::WriteFailed => "output: WriteFailed\n",
             Stop::NoMemory => "out of memory\n",
         }
@@ -54,6 +56,7 @@ impl Stop {
         match self {
             Stop::Refused(_) | Stop::NotText => 2,
             Stop::Unreadable(_) => 3,
+            Stop::Told(status) => *status,
             Stop::WriteFailed => 6,
             Stop::NoMemory => 7,
         }
@@ -63,11 +66,11 @@ impl Stop {
 /// The whole program: its exit status.
 pub fn status<R: Env + Files + AllocGlobal, O: Write + Drop, E: Write>(
     rt: &R,
-    out: &mut O,
+    out: O,
     err: &mut E,
 ) -> u8 {
     match answer(rt, out, err) {
-        Ok(status) => status,
+        Ok((status, _out)) => status,
         Err(stop) => {
             let _ = err.write_all(stop.line().as_bytes());
             stop.status()
@@ -77,9 +80,9 @@ pub fn status<R: Env + Files + AllocGlobal, O: Write + Drop, E: Write>(
 
 fn answer<R: Env + Files + AllocGlobal, O: Write + Drop, E: Write>(
     rt: &R,
-    out: &mut O,
+    out: O,
     err: &mut E,
-) -> Result<u8, Stop> {
+) -> Result<(u8, O), Stop> {
     let given = given_words(rt)?;
     if given.len() < 2 {
         return answer_job(rt.alloc(), &sample::job(), &mut sample::inputs(), out, err);
@@ -121,38 +124,34 @@ fn feed<R: Files>(rt: &R, words: &Words, table: Table) -> Result<FromRead<R::Fil
     }
 }
 
-// Runs the job. What it wrote is flushed before its status is taken.
+// Runs the job: its status, and the output, where all that was written has arrived if the status is 0.
 fn answer_job<F: Feed, O: Write + Drop, E: Write>(
     alloc: Global,
     job: &Job<'_>,
     inputs: &mut Inputs<F>,
-    out: &mut O,
+    out: O,
     err: &mut E,
-) -> Result<u8, Stop>
-    ensures { IfErr result (λ stop. (stop ≡ WriteFailed) ⊎ (stop ≡ NoMemory)) }
+) -> Result<(u8, O), Stop>
+    ensures { IfOk result (λ end. end.0 ≡ 0 → Appends (O.contents out) (O.contents end.1) (codes "fixed")) }
 {
-    let Ok(mut buffer) = BufWriter::with_capacity(alloc, BUFFER, out) else {
+    let Ok(buffer) = BufWriter::with_capacity(alloc, BUFFER, out) else {
         return Err(Stop::NoMemory);
     };
-    let status = run(
-        alloc,
-        job,
-        inputs,
-        &mut ToWrite::new(&mut buffer),
-        &mut ToWrite::new(err),
-    );
-    match buffer.flush() {
+    let mut sink = ToWrite::new(buffer);
+    let status = run(alloc, job, inputs, &mut sink, &mut ToWrite::new(err));
+    match sink.into_inner().into_inner() {
+        Ok(out) => Ok((status, out)),
         Err(_) if status == 0 => Err(Stop::WriteFailed),
-        _ => Ok(status),
+        Err(_) => Err(Stop::Told(status)),
     }
 }
 
 // Writes a text that was asked for.
-fn show<O: Write>(text: &str, out: &mut O) -> Result<u8, Stop>
-    ensures { IfOk result (λ status. (status ≡ 0) × Appends (O.contents out.old) (O.contents out.new) text.now) }
+fn show<O: Write + Drop>(text: &str, mut out: O) -> Result<(u8, O), Stop>
+    ensures { IfOk result (λ end. (end.0 ≡ 0) × Appends (O.contents out) (O.contents end.1) text.now) }
 {
     match out.write_all(text.as_bytes()) {
-        Ok(()) => Ok(0),
+        Ok(()) => Ok((0, out)),
         Err(_) => Err(Stop::WriteFailed),
     }
 }
