@@ -44,7 +44,8 @@ short-step : (all : List Rule) (waiting : Waiting) (word : Text) (o : Option Tex
 short-step all waiting word None h = plain-step all waiting word h
 short-step all waiting word (Some flags) h = flag-step all waiting word (bundle all flags h).0 (bundle all flags h).1
 
-long-step : (all : List Rule) (waiting : Waiting) (word : Text) (o : Option (Text × Option Text)) (h : Held) → NoHelpStep (long_or_other all waiting word o h).1
+long-step : (all : List Rule) (waiting : Waiting) (word : Text) (o : Option (Text × Option Text)) (h : Held)
+    → NoHelpStep (long_or_other all waiting word o h).1
 long-step all waiting word None h = short-step all waiting word (short_of word) h
 long-step all waiting word (Some p) h =
     let m = long_met all (arg_by_long all p.0) p.1 h in
@@ -63,7 +64,8 @@ module _ (s : Shape) (helps : s.disable_help_subcommand ≡ false) where
     | inr t ↦ rw t (long-step s.rules waiting word (long_of word) h)
   ]
 
-  word-step : (names : Names) (is_trailing : Bool) (waiting : Waiting) (position : ℕ) (word : Text) (h : Held) → word_fault s names is_trailing waiting word h ≡ []
+  word-step : (names : Names) (is_trailing : Bool) (waiting : Waiting) (position : ℕ) (word : Text) (h : Held)
+      → word_fault s names is_trailing waiting word h ≡ []
       → NoHelpStep (word_met s.rules names is_trailing waiting position word h).1
   word-step names true waiting position word h e = tt
   word-step names false waiting position word h e = other-step (subcommand_met names waiting word) waiting position word h e
@@ -72,7 +74,8 @@ module _ (s : Shape) (helps : s.disable_help_subcommand ≡ false) where
   positional-stop None word w h n = n
   positional-stop (Some a) word w h n = tt
 
-  step-stop : (word : Text) (w : Walk) (h : Held) (step : Step) → NoHelpStep step → NotHelp w.stopped → NotHelp (after_step s.rules word w h step).stopped
+  step-stop : (word : Text) (w : Walk) (h : Held) (step : Step) → NoHelpStep step → NotHelp w.stopped
+      → NotHelp (after_step s.rules word w h step).stopped
   step-stop word w h (next waiting) k n = n
   step-stop word w h (trailing position) k n = n
   step-stop word w h (subcommand name) k n = k
@@ -80,7 +83,8 @@ module _ (s : Shape) (helps : s.disable_help_subcommand ≡ false) where
 
   turn-stop : (names : Names) (w : Walk) (word : Text) (o : Option (Text × List Text)) → NotHelp o → NotHelp w.stopped
       → (if is_some o then [] else or_else (word_fault s names w.is_trailing w.waiting word w.held)
-      (step_fault s w.position (word_met s.rules names w.is_trailing w.waiting w.position word w.held).0 (word_met s.rules names w.is_trailing w.waiting w.position word w.held).1)) ≡ []
+      (step_fault s w.position (word_met s.rules names w.is_trailing w.waiting w.position word w.held).0
+      (word_met s.rules names w.is_trailing w.waiting w.position word w.held).1)) ≡ []
       → NotHelp (walked_from s.rules names o w word).stopped
   turn-stop names w word (Some p) m n e = m
   turn-stop names w word None m n e =
@@ -89,7 +93,8 @@ module _ (s : Shape) (helps : s.disable_help_subcommand ≡ false) where
       let steps = step_fault s w.position met.0 met.1 in
       step-stop word w met.0 met.1 (word-step names w.is_trailing w.waiting w.position word w.held (first_free words steps e)) n
 
-  walk-stop : (names : Names) (w : Walk) (words : List Text) → NotHelp w.stopped → walk_fault s names w words ≡ [] → NotHelp (fold (walked s.rules names) w words).stopped
+  walk-stop : (names : Names) (w : Walk) (words : List Text) → NotHelp w.stopped → walk_fault s names w words ≡ []
+      → NotHelp (fold (walked s.rules names) w words).stopped
   unfolding walk_fault walked
   walk-stop names w [] n e = n
   walk-stop names w (word ∷ words) n e =
@@ -99,7 +104,8 @@ module _ (s : Shape) (helps : s.disable_help_subcommand ≡ false) where
 
 -- ---- the last checks
 
-command_given : (s : Shape) (rows : List Row) (has_command : Bool) → s.subcommand_required ≡ true → check_fault s rows has_command ≡ [] → has_command ≡ true
+command_given : (s : Shape) (rows : List Row) (has_command : Bool) → s.subcommand_required ≡ true → check_fault s rows has_command ≡ []
+    → has_command ≡ true
 command_given s rows true wanted e = refl
 command_given s rows false wanted e = grind arith
 
@@ -140,7 +146,8 @@ given-first name rows f e = go (find (λ row. bytes_eq row.id name) rows) (here 
     first [] h = absurd (omega arith)
     first (v ∷ vs) h = refl
 
-    go : (o : Option Row) → FilledOption o → option_map_or (λ row. explicit_source row.source) o false ≡ true → is_some (option_and_then (λ row. slice_get row.values 0) o) ≡ true
+    go : (o : Option Row) → FilledOption o → option_map_or (λ row. explicit_source row.source) o false ≡ true
+        → is_some (option_and_then (λ row. slice_get row.values 0) o) ≡ true
     go None f e = cc
     go (Some row) f e = first row.values f
 
@@ -177,7 +184,8 @@ abbrev ServedOption : Option Shape → Type 0
 ServedOption None = ⊤
 ServedOption (Some s) = is_served s ≡ true
 
-level-complete : (s : Shape) (words : List Text) → is_served s ≡ true → level_fault s [] nothing_held words false [] ≡ [] → IsComplete (Some (rows_at s words))
+level-complete : (s : Shape) (words : List Text) → is_served s ≡ true → level_fault s [] nothing_held words false [] ≡ []
+    → IsComplete (Some (rows_at s words))
 level-complete s words k e =
     let name : bytes_eq s.name (codes "tokens") ≡ true = grind arith in
     let kept : list_all asks_or_takes s.rules ≡ true = grind arith in
@@ -219,7 +227,8 @@ shape-complete : (words : List Text) (o : Option Shape) → ServedOption o → i
 shape-complete words None k some e = cc
 shape-complete words (Some s) k some e = level-complete s words k e
 
-entered-complete : (a : App) (stop : Option (Text × List Text)) → list_all (λ s. is_help s || is_served s) a.subs ≡ true → NotHelp stop → is_some (entered a stop) ≡ true
+entered-complete : (a : App) (stop : Option (Text × List Text)) → list_all (λ s. is_help s || is_served s) a.subs ≡ true → NotHelp stop
+    → is_some (entered a stop) ≡ true
     → entered_fault a stop ≡ [] → IsComplete (entered a stop)
 entered-complete a None k n some e = cc
 entered-complete a (Some p) k n some e = shape-complete p.1 (find (λ s. answers_to p.0 (label_of s)) a.subs) (served-find p.0 a.subs n k) some e

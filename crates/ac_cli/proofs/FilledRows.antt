@@ -36,7 +36,8 @@ filled-append : (xs ys : List Row) → Filled xs → Filled ys → Filled (xs ++
 filled-append [] ys f g = g
 filled-append (x ∷ xs) ys f g = (f.0, filled-append xs ys f.1 g)
 
-filled-at_row : (id : Text) (change : Row → List Row) (missing rows : List Row) → ((row : Row) → HasValue row → Filled (change row)) → Filled missing → Filled rows → Filled (at_row id change missing rows)
+filled-at_row : (id : Text) (change : Row → List Row) (missing rows : List Row) → ((row : Row) → HasValue row → Filled (change row))
+    → Filled missing → Filled rows → Filled (at_row id change missing rows)
 filled-at_row id change missing [] changed added f = added
 filled-at_row id change missing (row ∷ rows) changed added f = elim (cases_Bool (bytes_eq row.id id)) [
   | inl t ↦ rw t (filled-append (change row) rows (changed row f.0) f.1)
@@ -46,7 +47,8 @@ filled-at_row id change missing (row ∷ rows) changed added f = elim (cases_Boo
 filled-without : (id : Text) (rows : List Row) → Filled rows → Filled (without id rows)
 filled-without id rows f = filled-at_row id (λ _. []) [] rows (λ row h. tt) tt f
 
-pub filled-with_values : (id : Text) (how : Reading) (source : ValueSource) (values : List Text) (rows : List Row) → 0 < length values → Filled rows → Filled (with_values id how source values rows)
+pub filled-with_values : (id : Text) (how : Reading) (source : ValueSource) (values : List Text) (rows : List Row) → 0 < length values
+    → Filled rows → Filled (with_values id how source values rows)
 filled-with_values id how source values rows some f =
     filled-at_row id (more_values source values) _ rows (λ row h. (omega (arith, length-append row.values values), tt)) (some, tt) f
 
@@ -67,7 +69,8 @@ kept-find q (a ∷ all) k =
     let there : list_all asks_or_takes all ≡ true = grind arith in
     elim (cases_Bool (q a)) [ inl t ↦ rw t here | inr t ↦ rw t (kept-find q all there) ]
 
-filled-used_as : (x : ArgAction) (id : Text) (how : Reading) (v : Text) (vs : List Text) (rows : List Row) → Filled rows → Filled (used_as x id how (v ∷ vs) rows)
+filled-used_as : (x : ArgAction) (id : Text) (how : Reading) (v : Text) (vs : List Text) (rows : List Row) → Filled rows
+    → Filled (used_as x id how (v ∷ vs) rows)
 filled-used_as Append id how v vs rows f = filled-with_values id how _ (v ∷ vs) rows (omega arith) f
 filled-used_as Set id how v vs rows f = filled-with_values id how _ (v ∷ vs) (without id rows) (omega arith) (filled-without id rows f)
 filled-used_as SetTrue id how v vs rows f = filled-with_values id how _ (v ∷ vs) (without id rows) (omega arith) (filled-without id rows f)
@@ -75,7 +78,8 @@ filled-used_as SetFalse id how v vs rows f = filled-with_values id how _ (v ∷ 
 filled-used_as Count id how v vs rows f = filled-with_values id how _ (v ∷ vs) (without id rows) (omega arith) (filled-without id rows f)
 filled-used_as _ id how v vs rows f = f
 
-request-fault : (x : ArgAction) (again : Bool) (a : Rule) (values : List Text) (rows : List Row) → is_request x ≡ true → action_fault x again a values rows ≡ [] → ⊥
+request-fault : (x : ArgAction) (again : Bool) (a : Rule) (values : List Text) (rows : List Row) → is_request x ≡ true
+    → action_fault x again a values rows ≡ [] → ⊥
 request-fault Help again a values rows q e = cc
 request-fault HelpShort again a values rows q e = cc
 request-fault HelpLong again a values rows q e = cc
@@ -88,7 +92,8 @@ none_given (suc least) most some e =
     let wanted : nat_lt 0 (suc least) ≡ true = search (arith, rules) in
     cc (rw wanted at e)
 
-pub filled-used : (again : Bool) (a : Rule) (values : List Text) (rows : List Row) → asks_or_takes a ≡ true → use_fault again a values rows ≡ [] → Filled rows → Filled (used a values rows)
+pub filled-used : (again : Bool) (a : Rule) (values : List Text) (rows : List Row) → asks_or_takes a ≡ true
+    → use_fault again a values rows ≡ [] → Filled rows → Filled (used a values rows)
 filled-used again a (v ∷ vs) rows k e f = filled-used_as (action_of a) a.id (reading_by a) v vs rows f
 filled-used again a [] rows k e f =
     let range = range_kinds (unwrap_or_range a.range).start_inclusive (most_values a) 0 in

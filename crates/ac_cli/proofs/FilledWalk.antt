@@ -27,7 +27,8 @@ module _ (s : Shape) (kept : list_all asks_or_takes s.rules ≡ true) where
   keeps-used (Some a) values rows k f e = filled-used s.args_override_self a values rows k e f
 
   keeps-pending : (pending : Option (Text × List Text)) (rows : List Row) → Filled rows
-      → option_map_or (λ (p : Text × List Text). option_map_or (λ a. use_fault s.args_override_self a p.1 rows) (arg_by_id s.rules p.0) []) pending [] ≡ []
+      → option_map_or (λ (p : Text × List Text). option_map_or (λ a. use_fault s.args_override_self a p.1 rows)
+      (arg_by_id s.rules p.0) []) pending [] ≡ []
       → Filled (settled_rows s.rules pending rows)
   keeps-pending None rows f e = f
   keeps-pending (Some p) rows f e = keeps-used (arg_by_id s.rules p.0) p.1 rows (kept-find (λ a. bytes_eq a.id p.0) s.rules kept) f e
@@ -63,7 +64,8 @@ module _ (s : Shape) (kept : list_all asks_or_takes s.rules ≡ true) where
   ]
 
   keeps-short : (o : Option Rule) (rest : Text) (h : Held) (fault : Held → Kinds) (more : Held → Held × Outcome) → KeptOption o → Filled h.rows
-      → ((g : Held) → Filled g.rows → Keeps (fault g) (more g).0) → Keeps (short_fault s.rules s.args_override_self o rest h fault) (short_met s.rules o rest h more).0
+      → ((g : Held) → Filled g.rows → Keeps (fault g) (more g).0)
+      → Keeps (short_fault s.rules s.args_override_self o rest h fault) (short_met s.rules o rest h more).0
   keeps-short None rest h fault more k f onward e = f
   keeps-short (Some a) rest h fault more k f onward e = elim (cases_Bool (takes_values a)) [
     | inl t ↦ rw t (keeps-option a (attached_value rest) h k f (rw t at e))
@@ -74,13 +76,16 @@ module _ (s : Shape) (kept : list_all asks_or_takes s.rules ≡ true) where
         rw t (onward (reacted s.rules a [] h) (keeps-reacted a [] h k f (first_free reacts goes both)) (then_free reacts goes both))
   ]
 
-  keeps-bundle_step : (o : Option ℕ) (flags : Text) (skip : ℕ) (so_far : Outcome) (h : Held) (fault : Text → ℕ → Held → Kinds) (more : Text → ℕ → Outcome → Held → Held × Outcome) → Filled h.rows
+  keeps-bundle_step : (o : Option ℕ) (flags : Text) (skip : ℕ) (so_far : Outcome) (h : Held) (fault : Text → ℕ → Held → Kinds)
+      (more : Text → ℕ → Outcome → Held → Held × Outcome)
+      → Filled h.rows
       → ((rest : Text) (n : ℕ) (u : Outcome) (g : Held) → Filled g.rows → Keeps (fault rest n g) (more rest n u g).0)
       → Keeps (bundle_step_fault s.rules s.args_override_self o flags skip h fault) (bundle_step s.rules o flags skip so_far h more).0
   keeps-bundle_step None flags skip so_far h fault more f onward e = f
   keeps-bundle_step (Some x) flags zero so_far h fault more f onward e =
       let rest = drop (length (encode_utf8 x)) flags in
-      keeps-short (arg_by_short s.rules x) rest h (fault rest 0) (more rest 0 done) (kept-find (λ a. not (is_some a.index) && has_short a x) s.rules kept) f (onward rest 0 done) e
+      keeps-short (arg_by_short s.rules x) rest h (fault rest 0) (more rest 0 done) (kept-find
+      (λ a. not (is_some a.index) && has_short a x) s.rules kept) f (onward rest 0 done) e
   keeps-bundle_step (Some x) flags (suc skip) so_far h fault more f onward e = onward (drop (length (encode_utf8 x)) flags) skip so_far h f e
 
   keeps-flags : (n : ℕ) (flags : Text) (skip : ℕ) (so_far : Outcome) (h : Held) → Filled h.rows
@@ -88,7 +93,8 @@ module _ (s : Shape) (kept : list_all asks_or_takes s.rules ≡ true) where
   unfolding bundle_met flags_fault
   keeps-flags zero flags skip so_far h f e = f
   keeps-flags (suc n) flags skip so_far h f e =
-      keeps-bundle_step (slice_get (chars flags) 0) flags skip so_far h (flags_fault s.rules s.args_override_self n) (bundle_met s.rules n) f (λ rest m u g j. keeps-flags n rest m u g j) e
+      keeps-bundle_step (slice_get (chars flags) 0) flags skip so_far h (flags_fault s.rules s.args_override_self n) (bundle_met
+      s.rules n) f (λ rest m u g j. keeps-flags n rest m u g j) e
 
   -- ---- words
 
@@ -101,7 +107,8 @@ module _ (s : Shape) (kept : list_all asks_or_takes s.rules ≡ true) where
   keeps-plain (option id) word h f = keeps-option_word (arg_by_id s.rules id) id word h f
   keeps-plain positional word h f = f
 
-  keeps-after_flag : (waiting : Waiting) (word : Text) (h : Held) (outcome : Outcome) → Filled h.rows → Filled (after_flag s.rules waiting word h outcome).0.rows
+  keeps-after_flag : (waiting : Waiting) (word : Text) (h : Held) (outcome : Outcome) → Filled h.rows
+      → Filled (after_flag s.rules waiting word h outcome).0.rows
   keeps-after_flag waiting word h done f = f
   keeps-after_flag waiting word h (waits id) f = f
   keeps-after_flag waiting word h plain f = keeps-plain waiting word h f
@@ -119,7 +126,8 @@ module _ (s : Shape) (kept : list_all asks_or_takes s.rules ≡ true) where
   keeps-flag_word waiting word None h f e = keeps-bundle waiting word (short_of word) h f e
   keeps-flag_word waiting word (Some p) h f e =
       let m = long_met s.rules (arg_by_long s.rules p.0) p.1 h in
-      keeps-after_flag waiting word m.0 m.1 (keeps-long (arg_by_long s.rules p.0) p.1 h (kept-find (λ a. not (is_some a.index) && has_long a p.0) s.rules kept) f e)
+      keeps-after_flag waiting word m.0 m.1 (keeps-long (arg_by_long s.rules p.0) p.1 h
+      (kept-find (λ a. not (is_some a.index) && has_long a p.0) s.rules kept) f e)
 
   keeps-other : (o : Option Text) (waiting : Waiting) (position : ℕ) (word : Text) (h : Held) → Filled h.rows
       → Keeps (other_fault s o word h) (subcommand_or_other s.rules o waiting position word h).0
@@ -136,7 +144,8 @@ module _ (s : Shape) (kept : list_all asks_or_takes s.rules ≡ true) where
 
   -- ---- steps
 
-  keeps-unless : (b : Bool) (h : Held) → Filled h.rows → Keeps (if b then [] else settle_fault s.rules s.args_override_self h) (if b then h else settled s.rules h)
+  keeps-unless : (b : Bool) (h : Held) → Filled h.rows
+      → Keeps (if b then [] else settle_fault s.rules s.args_override_self h) (if b then h else settled s.rules h)
   keeps-unless true h f e = f
   keeps-unless false h f e = keeps-settled h f e
 
@@ -154,14 +163,16 @@ module _ (s : Shape) (kept : list_all asks_or_takes s.rules ≡ true) where
 
   keeps-turn : (names : Names) (w : Walk) (word : Text) (o : Option (Text × List Text)) → Filled w.held.rows
       → Keeps (if is_some o then [] else or_else (word_fault s names w.is_trailing w.waiting word w.held)
-      (step_fault s w.position (word_met s.rules names w.is_trailing w.waiting w.position word w.held).0 (word_met s.rules names w.is_trailing w.waiting w.position word w.held).1))
+      (step_fault s w.position (word_met s.rules names w.is_trailing w.waiting w.position word w.held).0
+      (word_met s.rules names w.is_trailing w.waiting w.position word w.held).1))
       (walked_from s.rules names o w word).held
   keeps-turn names w word (Some p) f e = f
   keeps-turn names w word None f e =
       let met = word_met s.rules names w.is_trailing w.waiting w.position word w.held in
       let words = word_fault s names w.is_trailing w.waiting word w.held in
       let steps = step_fault s w.position met.0 met.1 in
-      keeps-step word w met.0 met.1 (keeps-word names w.is_trailing w.waiting w.position word w.held f (first_free words steps e)) (then_free words steps e)
+      keeps-step word w met.0 met.1 (keeps-word names w.is_trailing w.waiting w.position word w.held f (first_free words steps e))
+      (then_free words steps e)
 
   pub keeps-walk : (names : Names) (w : Walk) (words : List Text) → Filled w.held.rows
       → Keeps (walk_fault s names w words) (fold (walked s.rules names) w words).held

@@ -27,7 +27,7 @@ pub struct Job<'a> {
 }
 
 /// The words of a command line that was accepted.
-#[derive(Drop)]
+#[derive(Debug, Drop)]
 pub struct Words {
     command: Command,
     query: String,
@@ -70,7 +70,7 @@ impl Words {
 }
 
 /// Why words were not accepted.
-#[derive(Drop)]
+#[derive(Debug, Drop)]
 pub enum WordFault {
     /// They are refused: `clap`'s text on what is wrong with them.
     Refused(String),

@@ -17,8 +17,9 @@ Exit status:
   6  a write failed
   7  out of memory
 
-Example:
-  ac_cli tokens 'resources=VCPU:2' --providers examples/providers.csv --inventories examples/inventories.csv";
+Example, at the top of the repository:
+  ./ac_cli tokens 'resources=VCPU:2' \\
+      --providers examples/providers.csv --inventories examples/inventories.csv";
 
 // A word that has to be given.
 fn word<'a>(alloc: Global, name: &'a str, shown: &'a str, help: &'a str) -> Arg<'a>
@@ -76,7 +77,7 @@ pub fn program<'a>(alloc: Global) -> Result<Command<'a>, AllocError>
 {
     let command = Command::new(alloc, "ac_cli")
         .about(
-            "Finds the allocation candidates of exported Placement tables; without words, those of a built-in sample",
+            "Finds allocation candidates in exported Placement tables; without words, in a sample",
         )
         .after_help(AFTER_HELP)
         .subcommand_required(true);

@@ -97,7 +97,10 @@ fn help_is_answered(rt: HostRuntime) -> Result<(), Fail> {
                     "{line}"
                 );
                 assert!(rt; has_line(text.as_str(), "  7  out of memory"), "{line}");
-                assert!(rt; has_line(text.as_str(), "Example:"), "{line}");
+                assert!(rt;
+                    has_line(text.as_str(), "  ./ac_cli tokens 'resources=VCPU:2' \\"),
+                    "{line}"
+                );
             }
             None => assert!(rt; false, "{line}"),
         }
