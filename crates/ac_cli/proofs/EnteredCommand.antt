@@ -15,7 +15,9 @@ use Rattle.clap.specs.Takes.{is_given}
 use Rattle.clap.specs.Walk.{Held, Names, Outcome, Row, Rule, Step, Text, Waiting, Walk, after_flag, after_step, answers_to, arg_by_index, arg_by_long, bundle, done, finished, idle, is_empty, long_met, long_or_other, next, nothing_held, option, plain, plain_word, positional, refused, rows_after, settled, short_or_plain, subcommand, subcommand_met, subcommand_or_other, to_positional, trailing, value, waits, walk, walk_from, walked, walked_from, word_met}
 use Rattle.clap.proofs.SimpleLemmas.{is_nil}
 use Rattle.clap.proofs.OnLiterals.{clap_on_literals}
-use Rattle.ac_cli.specs.Words.{HasEntry, IsComplete, faults, named, program}
+use Rattle.ac_cli.specs.Words.{HasEntry, HasToken, IsComplete, faults, name_of, named, program, query_of, token_of}
+use Rattle.ac_cli.specs.declared.words.Command.{Command}
+use Rattle.ac_cli.specs.declared.words.Command.TheVariants.{Check, Candidates, Tokens, Verify}
 use Rattle.ac_cli.proofs.FilledRows.{Filled, HasValue, asks_or_takes, first_free, then_free}
 use Rattle.ac_cli.proofs.FilledWalk.{keeps-defaults, keeps-settled, keeps-walk}
 
@@ -175,28 +177,66 @@ level-entry s words name kept n e =
 abbrev is_help : Shape → Bool
 is_help s = bytes_eq s.name (codes "help") && is_empty s.aliases
 
--- a command of the program, which needs each entry that is read
+-- it needs the words of a command
+abbrev needs_words : Command → Shape → Bool
+needs_words Check s = true
+needs_words Verify s = needs (codes "query") s && needs (codes "token") s
+needs_words _ s = needs (codes "query") s
+
+-- it is a command of the program, which needs each entry that the command has to have
+abbrev serves : Command → Shape → Bool
+serves command s = bytes_eq s.name (name_of command) && (needs_words command s && (list_all asks_or_takes s.rules
+    && (needs (codes "providers") s && needs (codes "inventories") s)))
+
 abbrev is_served : Shape → Bool
-is_served s = bytes_eq s.name (codes "tokens") && (list_all asks_or_takes s.rules
-    && (needs (codes "query") s && (needs (codes "providers") s && needs (codes "inventories") s)))
+is_served s = serves Check s || (serves Candidates s || (serves Tokens s || serves Verify s))
 
 abbrev ServedOption : Option Shape → Type 0
 ServedOption None = ⊤
 ServedOption (Some s) = is_served s ≡ true
 
+words-given : (command : Command) (s : Shape) (words : List Text) → list_all asks_or_takes s.rules ≡ true → needs_words command s ≡ true
+    → level_fault s [] nothing_held words false [] ≡ []
+    → (is_some (query_of command (rows_after s.rules [] words)) ≡ true) × HasToken command (token_of command (rows_after s.rules [] words))
+words-given Check s words kept n e = (refl, tt)
+words-given Candidates s words kept n e = (level-entry s words (codes "query") kept n e, tt)
+words-given Tokens s words kept n e = (level-entry s words (codes "query") kept n e, tt)
+words-given Verify s words kept n e =
+    let query : needs (codes "query") s ≡ true = grind arith in
+    let token : needs (codes "token") s ≡ true = grind arith in
+    (level-entry s words (codes "query") kept query e, level-entry s words (codes "token") kept token e)
+
+command-complete : (command : Command) (s : Shape) (words : List Text) → serves command s ≡ true
+    → level_fault s [] nothing_held words false [] ≡ [] → IsComplete (Some (rows_at s words))
+command-complete command s words k e =
+    let name : bytes_eq s.name (name_of command) ≡ true = grind arith in
+    let kept : list_all asks_or_takes s.rules ≡ true = grind arith in
+    let given : needs_words command s ≡ true = grind arith in
+    let providers : needs (codes "providers") s ≡ true = grind arith in
+    let inventories : needs (codes "inventories") s ≡ true = grind arith in
+    let own = words-given command s words kept given e in (
+      command,
+      (bytes_eq-Decides s.name (name_of command)).0 name,
+      (
+        own.0,
+        own.1,
+        level-entry s words (codes "providers") kept providers e,
+        level-entry s words (codes "inventories") kept inventories e,
+      ),
+    )
+
 level-complete : (s : Shape) (words : List Text) → is_served s ≡ true → level_fault s [] nothing_held words false [] ≡ []
     → IsComplete (Some (rows_at s words))
-level-complete s words k e =
-    let name : bytes_eq s.name (codes "tokens") ≡ true = grind arith in
-    let kept : list_all asks_or_takes s.rules ≡ true = grind arith in
-    let query : needs (codes "query") s ≡ true = grind arith in
-    let providers : needs (codes "providers") s ≡ true = grind arith in
-    let inventories : needs (codes "inventories") s ≡ true = grind arith in (
-      (bytes_eq-Decides s.name (codes "tokens")).0 name,
-      level-entry s words (codes "query") kept query e,
-      level-entry s words (codes "providers") kept providers e,
-      level-entry s words (codes "inventories") kept inventories e,
-    )
+level-complete s words k e = elim (cases_Bool (serves Check s)) [
+  | inl t ↦ command-complete Check s words t e
+  | inr no_check ↦ elim (cases_Bool (serves Candidates s)) [
+    | inl t ↦ command-complete Candidates s words t e
+    | inr no_candidates ↦ elim (cases_Bool (serves Tokens s)) [
+      | inl t ↦ command-complete Tokens s words t e
+      | inr no_tokens ↦ command-complete Verify s words (rw (no_check, no_candidates, no_tokens) at k) e
+    ]
+  ]
+]
 
 no-answer : (s : Shape) (word : Text) → is_help s ≡ true → bytes_eq word (codes "help") ≡ false → answers_to word (label_of s) ≡ true → ⊥
 no-answer s word k n e =

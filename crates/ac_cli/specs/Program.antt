@@ -1,14 +1,17 @@
 -- How the program ends where `run` doesn't tell.
-use Rattle.std.specs.Prelude.{ℕ, List, [], codes, string_bytes}
+use Rattle.std.specs.Prelude.{◌≤◌, ℕ, List, [], codes, string_bytes}
 use Rattle.ac_cli.specs.declared.program.Stop.{Stop}
 use Rattle.ac_cli.specs.declared.program.Stop.TheVariants.{Refused, NotText, Unreadable, Told, WriteFailed, NoMemory}
-use Rattle.ac_cli.specs.declared.table.Table.TheVariants.{Providers, Inventories}
+use Rattle.ac_cli.specs.declared.table.Table.TheVariants.{Providers, Inventories, Usages, Traits, Aggregates}
 
 abbrev pub line_of : Stop → List ℕ
 line_of (Refused text) = string_bytes text
 line_of NotText = codes "error: the words are not UTF-8\n"
 line_of (Unreadable Providers) = codes "providers: Unreadable\n"
 line_of (Unreadable Inventories) = codes "inventories: Unreadable\n"
+line_of (Unreadable Usages) = codes "usages: Unreadable\n"
+line_of (Unreadable Traits) = codes "traits: Unreadable\n"
+line_of (Unreadable Aggregates) = codes "aggregates: Unreadable\n"
 line_of (Told status) = []
 line_of WriteFailed = codes "output: WriteFailed\n"
 line_of NoMemory = codes "out of memory\n"
@@ -20,3 +23,7 @@ status_of (Unreadable table) = 3
 status_of (Told status) = status
 status_of WriteFailed = 6
 status_of NoMemory = 7
+
+-- the output was written: what was asked for, or that a token was refused
+abbrev pub IsWritten : ℕ → Type 0
+IsWritten status = status ≤ 1

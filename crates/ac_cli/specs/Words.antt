@@ -1,12 +1,12 @@
 -- The command line: what `clap` is told of it, and what it states of the words.
-use Rattle.std.specs.Prelude.{◌≡◌, ◌≢◌, List, Bool, Option, Some, None, true, codes, is_some, option_map, option_and_then}
+use Rattle.std.specs.Prelude.{◌≡◌, ◌≢◌, ⊤, List, [], Bool, Option, Some, None, true, codes, is_some}
 use Rattle.clap.specs.Words.{App, IsAmong, Kinds, Row, Rule, Text, fault_of, first_of, new_app, new_rule, subcommand_of, takes, with_rule, with_subcommand}
 use Rattle.clap.specs.declared.error.kind.ErrorKind.{ErrorKind}
 use Rattle.clap.specs.declared.error.kind.ErrorKind.TheVariants.{DisplayHelp}
 use Rattle.ac_cli.specs.declared.table.Table.{Table}
-use Rattle.ac_cli.specs.declared.table.Table.TheVariants.{Providers, Inventories}
+use Rattle.ac_cli.specs.declared.table.Table.TheVariants.{Providers, Inventories, Usages, Traits, Aggregates}
 use Rattle.ac_cli.specs.declared.words.Command.{Command}
-use Rattle.ac_cli.specs.declared.words.Command.TheVariants.{Tokens}
+use Rattle.ac_cli.specs.declared.words.Command.TheVariants.{Check, Candidates, Tokens, Verify}
 use Rattle.ac_cli.specs.declared.words.WordFault.{WordFault}
 use Rattle.ac_cli.specs.declared.words.WordFault.TheVariants.{Refused, Help, NoMemory}
 
@@ -16,25 +16,41 @@ use Rattle.ac_cli.specs.declared.words.WordFault.TheVariants.{Refused, Help, NoM
 abbrev pub word_rule : Text → Rule
 word_rule name = record (new_rule name) { required = true; value_names = 1 }
 
--- an option `--NAME FILE` that has to be given
-abbrev pub file_rule : Text → Rule
-file_rule name = record (new_rule name) { long = Some name; required = true; value_names = 1 }
+-- an option `--NAME VALUE`
+abbrev pub option_rule : Text → Rule
+option_rule name = record (new_rule name) { long = Some name; value_names = 1 }
+
+-- an option that has to be given
+abbrev pub needed_rule : Text → Rule
+needed_rule name = record (option_rule name) { required = true }
 
 -- the options of the tables
 abbrev pub with_tables : App → App
-with_tables app = with_rule (with_rule app (file_rule (codes "providers"))) (file_rule (codes "inventories"))
+with_tables app =
+    with_rule (with_rule (with_rule (with_rule (with_rule app
+    (needed_rule (codes "providers"))) (needed_rule (codes "inventories")))
+    (option_rule (codes "usages"))) (option_rule (codes "traits"))) (option_rule (codes "aggregates"))
 
-abbrev pub name_of : Command → Text
-name_of Tokens = codes "tokens"
+abbrev pub query_app : Text → App
+query_app name = with_rule (new_app name) (word_rule (codes "query"))
 
-abbrev pub tokens_app : App
-tokens_app = with_tables (with_rule (new_app (name_of Tokens)) (word_rule (codes "query")))
+abbrev pub check_app : App
+check_app = with_tables (new_app (codes "check"))
+
+-- a command that writes candidates
+abbrev pub search_app : Text → App
+search_app name = with_rule (with_tables (query_app name)) (option_rule (codes "after"))
+
+abbrev pub verify_app : App
+verify_app = with_tables (with_rule (query_app (codes "verify")) (word_rule (codes "token")))
 
 abbrev pub needs_command : App → App
 needs_command app = record app { top = record app.top { subcommand_required = true } }
 
 abbrev pub program : App
-program = with_subcommand (needs_command (new_app (codes "ac_cli"))) tokens_app.top
+program =
+    with_subcommand (with_subcommand (with_subcommand (with_subcommand (needs_command (new_app (codes "ac_cli")))
+    check_app.top) (search_app (codes "candidates")).top) (search_app (codes "tokens")).top) verify_app.top
 
 -- ---- what it states of the words
 
@@ -56,30 +72,71 @@ faults words = fault_of program words
 pub record Line : Type 0 where
   pub command : Command
   pub query : Text
+  pub token : Option Text
   pub providers : Text
   pub inventories : Text
+  pub usages : Option Text
+  pub traits : Option Text
+  pub aggregates : Option Text
 
-abbrev pub entry_of : Text → Option (Text × List Row) → Option Text
-entry_of name found = option_and_then (λ p. first_of name p.1) found
+abbrev pub name_of : Command → Text
+name_of Check = codes "check"
+name_of Candidates = codes "candidates"
+name_of Tokens = codes "tokens"
+name_of Verify = codes "verify"
+
+-- the query of a command: a check has the empty one
+abbrev pub query_of : Command → List Row → Option Text
+query_of Check rows = Some []
+query_of _ rows = first_of (codes "query") rows
+
+-- the token of a command: to be judged, or to begin after
+abbrev pub token_of : Command → List Row → Option Text
+token_of Check rows = None
+token_of Verify rows = first_of (codes "token") rows
+token_of _ rows = first_of (codes "after") rows
+
+-- a token is there to be judged
+abbrev pub HasToken : Command → Option Text → Type 0
+HasToken Verify token = is_some token ≡ true
+HasToken _ token = ⊤
+
+-- the line has these entries
+pub record IsMadeOf (rows : List Row) (line : Line) : Type 0 where
+  pub query : query_of line.command rows ≡ Some line.query
+  pub token : token_of line.command rows ≡ line.token
+  pub judged : HasToken line.command line.token
+  pub providers : first_of (codes "providers") rows ≡ Some line.providers
+  pub inventories : first_of (codes "inventories") rows ≡ Some line.inventories
+  pub usages : first_of (codes "usages") rows ≡ line.usages
+  pub traits : first_of (codes "traits") rows ≡ line.traits
+  pub aggregates : first_of (codes "aggregates") rows ≡ line.aggregates
+
+-- the line is the command that `clap` found, with its entries
+abbrev pub Says : Option (Text × List Row) → Line → Type 0
+Says None line = ⊥
+Says (Some p) line = (p.0 ≡ name_of line.command) × IsMadeOf p.1 line
 
 abbrev pub HasEntry : Text → List Row → Type 0
 HasEntry name rows = is_some (first_of name rows) ≡ true
 
--- the line is the command that `clap` found, with its entries
-pub record Says (found : Option (Text × List Row)) (line : Line) : Type 0 where
-  pub command : option_map (λ p. p.0) found ≡ Some (name_of line.command)
-  pub query : entry_of (codes "query") found ≡ Some line.query
-  pub providers : entry_of (codes "providers") found ≡ Some line.providers
-  pub inventories : entry_of (codes "inventories") found ≡ Some line.inventories
+-- the entries that a command needs
+abbrev pub HasNeeded : Command → List Row → Type 0
+HasNeeded command rows =
+    is_some (query_of command rows) ≡ true × HasToken command (token_of command rows) × HasEntry (codes "providers") rows
+    × HasEntry (codes "inventories") rows
 
 -- `clap` found a command of the program with all the entries that it needs
 abbrev pub IsComplete : Option (Text × List Row) → Type 0
 IsComplete None = ⊥
-IsComplete (Some p) = (p.0 ≡ codes "tokens") × HasEntry (codes "query") p.1 × HasEntry (codes "providers") p.1 × HasEntry (codes "inventories") p.1
+IsComplete (Some p) = (command : Command) × (p.0 ≡ name_of command) × HasNeeded command p.1
 
 abbrev pub path_of : Line → Table → Option Text
 path_of line Providers = Some line.providers
 path_of line Inventories = Some line.inventories
+path_of line Usages = line.usages
+path_of line Traits = line.traits
+path_of line Aggregates = line.aggregates
 
 -- the answer for words with these kinds of fault: help where it is among them
 abbrev pub Tells : Kinds → WordFault → Type 0

@@ -1,7 +1,8 @@
 //! The program around `run`: its words, its files and the standard streams.
-ghost use Rattle.std.specs.Prelude.{◌≡◌, IfOk, codes};
+ghost use Rattle.std.specs.Prelude.{◌≡◌, IfOk, codes, is_some, option_map, true};
 ghost use Rattle.std.specs.Io.KnownBytes.{Appends};
-ghost use Rattle.ac_cli.specs.Program.{line_of, status_of};
+ghost use Rattle.ac_cli.specs.Program.{IsWritten, line_of, status_of};
+ghost use Rattle.ac_cli.specs.Words.{HasToken, path_of};
 
 use crate::run::{Inputs, run};
 use crate::sample;
@@ -43,6 +44,9 @@ impl Stop {
             Stop::NotText => "error: the words are not UTF-8\n",
             Stop::Unreadable(Table::Providers) => "providers: Unreadable\n",
             Stop::Unreadable(Table::Inventories) => "inventories: Unreadable\n",
+            Stop::Unreadable(Table::Usages) => "usages: Unreadable\n",
+            Stop::Unreadable(Table::Traits) => "traits: Unreadable\n",
+            Stop::Unreadable(Table::Aggregates) => "aggregates: Unreadable\n",
             Stop::Told(_) => "",
             Stop::WriteFailed => "output: WriteFailed\n",
             Stop::NoMemory => "out of memory\n",
@@ -90,8 +94,11 @@ fn answer<R: Env + Files + AllocGlobal, O: Write + Drop, E: Write>(
     match read_words(rt.alloc(), given.as_slice()) {
         Ok(words) => {
             let mut inputs = Inputs {
-                providers: feed(rt, &words, Table::Providers)?,
-                inventories: feed(rt, &words, Table::Inventories)?,
+                providers: needed_feed(rt, &words, Table::Providers)?,
+                inventories: needed_feed(rt, &words, Table::Inventories)?,
+                usages: feed(rt, &words, Table::Usages)?,
+                traits: feed(rt, &words, Table::Traits)?,
+                aggregates: feed(rt, &words, Table::Aggregates)?,
             };
             answer_job(rt.alloc(), &words.job(), &mut inputs, out, err)
         }
@@ -113,18 +120,33 @@ fn given_words<R: Env + AllocGlobal>(rt: &R) -> Result<Vec<String>, Stop> {
     }
 }
 
-// Opens the file of a table that has to be given.
-fn feed<R: Files>(rt: &R, words: &Words, table: Table) -> Result<FromRead<R::File>, Stop> {
-    let Some(path) = words.path(table) else {
-        unreachable!()
-    };
+// Opens the file of a table.
+fn opened<R: Files>(rt: &R, path: &str, table: Table) -> Result<FromRead<R::File>, Stop> {
     match fs::open(rt, path) {
         Ok(file) => Ok(FromRead::new(file)),
         Err(_) => Err(Stop::Unreadable(table)),
     }
 }
 
-// Runs the job: its status, and the output, where all that was written has arrived if the status is 0.
+// The file of a table that has to be given.
+fn needed_feed<R: Files>(rt: &R, words: &Words, table: Table) -> Result<FromRead<R::File>, Stop>
+    requires { is_some (path_of words.now table) ≡ true }
+{
+    match words.path(table) {
+        Some(path) => opened(rt, path, table),
+        None => unreachable!(),
+    }
+}
+
+// The file of a table, where one was given.
+fn feed<R: Files>(rt: &R, words: &Words, table: Table) -> Result<Option<FromRead<R::File>>, Stop> {
+    match words.path(table) {
+        Some(path) => Ok(Some(opened(rt, path, table)?)),
+        None => Ok(None),
+    }
+}
+
+// Runs the job: its status, and the output, where all of the answer has arrived if it was written.
 fn answer_job<F: Feed, O: Write + Drop, E: Write>(
     alloc: Global,
     job: &Job<'_>,
@@ -132,7 +154,8 @@ fn answer_job<F: Feed, O: Write + Drop, E: Write>(
     out: O,
     err: &mut E,
 ) -> Result<(u8, O), Stop>
-    ensures { IfOk result (λ end. end.0 ≡ 0 → Appends (O.contents out) (O.contents end.1) (codes "fixed")) }
+    requires { HasToken job.now.command (option_map (λ token. token.now) job.now.token) }
+    ensures { IfOk result (λ end. IsWritten end.0 → Appends (O.contents out) (O.contents end.1) (codes "fixed")) }
 {
     let Ok(buffer) = BufWriter::with_capacity(alloc, BUFFER, out) else {
         return Err(Stop::NoMemory);
@@ -141,7 +164,7 @@ fn answer_job<F: Feed, O: Write + Drop, E: Write>(
     let status = run(alloc, job, inputs, &mut sink, &mut ToWrite::new(err));
     match sink.into_inner().into_inner() {
         Ok(out) => Ok((status, out)),
-        Err(_) if status == 0 => Err(Stop::WriteFailed),
+        Err(_) if status <= 1 => Err(Stop::WriteFailed),
         Err(_) => Err(Stop::Told(status)),
     }
 }

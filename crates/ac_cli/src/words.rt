@@ -15,15 +15,24 @@ use std::marker::Model;
 /// What the program is to do.
 #[derive(Clone, Copy, Debug, PartialEq, Eq)]
 pub enum Command {
+    /// Checks the tables, and writes the size of each.
+    Check,
+    /// Writes the candidates as JSON, with summaries of their providers.
+    Candidates,
     /// Writes each candidate as a token, one a line.
     Tokens,
+    /// Writes whether a token is a candidate.
+    Verify,
 }
 
-/// What the program is to do, and for which query.
+/// What the program is to do, and for which query and token.
 #[derive(Clone, Copy, Debug, PartialEq, Eq)]
 pub struct Job<'a> {
     pub command: Command,
+    /// What is asked for; empty for `Check`.
     pub query: &'a str,
+    /// For `Verify` the token to judge, which is there; for `Candidates` and `Tokens` the one to begin after; none for `Check`.
+    pub token: Option<&'a str>,
 }
 
 /// The words of a command line that was accepted.
@@ -31,8 +40,12 @@ pub struct Job<'a> {
 pub struct Words {
     command: Command,
     query: String,
+    token: Option<String>,
     providers: String,
     inventories: String,
+    usages: Option<String>,
+    traits: Option<String>,
+    aggregates: Option<String>,
 }
 
 impl Model for Words {
@@ -41,8 +54,12 @@ impl Model for Words {
     ghost view = { λ w. record {
       command = w.command;
       query = string_bytes w.query;
+      token = option_map string_bytes w.token;
       providers = string_bytes w.providers;
       inventories = string_bytes w.inventories;
+      usages = option_map string_bytes w.usages;
+      traits = option_map string_bytes w.traits;
+      aggregates = option_map string_bytes w.aggregates;
     } };
 }
 
@@ -51,10 +68,12 @@ impl Words {
     pub fn job(&self) -> Job<'_>
         ensures command { result.command ≡ self.now.command }
         ensures query { result.query.now ≡ self.now.query }
+        ensures token { option_map (λ token. token.now) result.token ≡ self.now.token }
     {
         Job {
             command: self.command,
             query: self.query.as_str(),
+            token: self.token.as_deref(),
         }
     }
 
@@ -65,6 +84,9 @@ impl Words {
         match table {
             Table::Providers => Some(self.providers.as_str()),
             Table::Inventories => Some(self.inventories.as_str()),
+            Table::Usages => self.usages.as_deref(),
+            Table::Traits => self.traits.as_deref(),
+            Table::Aggregates => self.aggregates.as_deref(),
         }
     }
 }

@@ -2,7 +2,7 @@
 ghost use Rattle.std.specs.Prelude.{◌≡◌, IfOk, false};
 ghost use Rattle.clap.specs.Words.{app_of, rule_of};
 ghost use Rattle.clap.specs.declared.builder.command.Command.TheViews.{out-Command as fields_of};
-ghost use Rattle.ac_cli.specs.Words.{file_rule, program, tokens_app, with_tables, word_rule};
+ghost use Rattle.ac_cli.specs.Words.{check_app, needed_rule, option_rule, program, query_app, search_app, verify_app, with_tables, word_rule};
 
 use clap::{Arg, Command};
 use std::alloc::{AllocError, Global};
@@ -11,9 +11,11 @@ use std::alloc::{AllocError, Global};
 const AFTER_HELP: &str = "\
 Exit status:
   0  written
+  1  `verify` says no
   2  the command line was refused
   3  a table was refused, or could not be read
   4  the query was refused
+  5  the token was refused
   6  a write failed
   7  out of memory
 
@@ -32,9 +34,28 @@ fn word<'a>(alloc: Global, name: &'a str, shown: &'a str, help: &'a str) -> Arg<
         .help(help)
 }
 
-// An option that has to be given, with the path of a file.
-fn file<'a>(alloc: Global, name: &'a str, help: &'a str) -> Arg<'a>
-    ensures rule { rule_of result ≡ file_rule name.entry.now }
+// An option with a value.
+fn option<'a>(alloc: Global, name: &'a str, shown: &'a str, help: &'a str) -> Arg<'a>
+    ensures rule { rule_of result ≡ option_rule name.entry.now }
+    ensures local { result.global ≡ false }
+{
+    Arg::new(alloc, name)
+        .long(name)
+        .value_name(shown)
+        .help(help)
+}
+
+// The option of a table.
+fn table<'a>(alloc: Global, name: &'a str, help: &'a str) -> Arg<'a>
+    ensures rule { rule_of result ≡ option_rule name.entry.now }
+    ensures local { result.global ≡ false }
+{
+    option(alloc, name, "FILE", help)
+}
+
+// The option of a table that has to be given.
+fn needed_table<'a>(alloc: Global, name: &'a str, help: &'a str) -> Arg<'a>
+    ensures rule { rule_of result ≡ needed_rule name.entry.now }
     ensures local { result.global ≡ false }
 {
     Arg::new(alloc, name)
@@ -49,25 +70,89 @@ fn add_tables<'a>(alloc: Global, command: Command<'a>) -> Result<Command<'a>, Al
     ensures app { IfOk result (λ c. app_of c ≡ with_tables (app_of command.entry)) }
     ensures local { (fields_of command.entry).has_globals ≡ false → IfOk result (λ c. (fields_of c).has_globals ≡ false) }
 {
-    let command = command.arg(file(alloc, "providers", "The table of resource providers (CSV)"))?;
-    let command = command.arg(file(alloc, "inventories", "The table of their inventories (CSV)"))?;
+    let command = command.arg(needed_table(
+        alloc,
+        "providers",
+        "The resource providers and their trees (CSV)",
+    ))?;
+    let command = command.arg(needed_table(
+        alloc,
+        "inventories",
+        "What each provider has of each resource class (CSV)",
+    ))?;
+    let command = command.arg(table(
+        alloc,
+        "usages",
+        "How much of it is used (CSV); without it nothing is",
+    ))?;
+    let command = command.arg(table(
+        alloc,
+        "traits",
+        "The traits of each provider (CSV); without it none has any",
+    ))?;
+    let command = command.arg(table(
+        alloc,
+        "aggregates",
+        "The aggregates of each provider (CSV); without it none is in any",
+    ))?;
     Ok(command)
 }
 
-fn tokens<'a>(alloc: Global) -> Result<Command<'a>, AllocError>
-    ensures app { IfOk result (λ c. app_of c ≡ tokens_app) }
+// A command with a query.
+fn with_query<'a>(alloc: Global, name: &'a str, about: &'a str) -> Result<Command<'a>, AllocError>
+    ensures app { IfOk result (λ c. app_of c ≡ query_app name.entry.now) }
     ensures local { IfOk result (λ c. (fields_of c).has_globals ≡ false) }
 {
-    let command = Command::new(alloc, "tokens")
-        .about("Writes the candidates for a query, one a line: the UUIDs of their providers")
+    let command = Command::new(alloc, name)
+        .about(about)
         .after_help(AFTER_HELP);
-    let query = word(
+    command.arg(word(
         alloc,
         "query",
         "QUERY",
         "What is asked for, as in 'resources=VCPU:2'",
-    );
-    let command = command.arg(query)?;
+    ))
+}
+
+fn check<'a>(alloc: Global) -> Result<Command<'a>, AllocError>
+    ensures app { IfOk result (λ c. app_of c ≡ check_app) }
+    ensures local { IfOk result (λ c. (fields_of c).has_globals ≡ false) }
+{
+    let command = Command::new(alloc, "check")
+        .about("Checks the tables, and writes the size of each")
+        .after_help(AFTER_HELP);
+    add_tables(alloc, command)
+}
+
+// A command that writes candidates.
+fn search<'a>(alloc: Global, name: &'a str, about: &'a str) -> Result<Command<'a>, AllocError>
+    ensures app { IfOk result (λ c. app_of c ≡ search_app name.entry.now) }
+    ensures local { IfOk result (λ c. (fields_of c).has_globals ≡ false) }
+{
+    let command = add_tables(alloc, with_query(alloc, name, about)?)?;
+    command.arg(option(
+        alloc,
+        "after",
+        "TOKEN",
+        "Begins after this candidate, written as `tokens` writes it",
+    ))
+}
+
+fn verify<'a>(alloc: Global) -> Result<Command<'a>, AllocError>
+    ensures app { IfOk result (λ c. app_of c ≡ verify_app) }
+    ensures local { IfOk result (λ c. (fields_of c).has_globals ≡ false) }
+{
+    let command = with_query(
+        alloc,
+        "verify",
+        "Writes whether a token is a candidate for a query, or which rule refuses it",
+    )?;
+    let command = command.arg(word(
+        alloc,
+        "token",
+        "TOKEN",
+        "The UUIDs of providers, as `tokens` writes them",
+    ))?;
     add_tables(alloc, command)
 }
 
@@ -81,6 +166,17 @@ pub fn program<'a>(alloc: Global) -> Result<Command<'a>, AllocError>
         )
         .after_help(AFTER_HELP)
         .subcommand_required(true);
-    let command = command.subcommand(tokens(alloc)?)?;
+    let command = command.subcommand(check(alloc)?)?;
+    let command = command.subcommand(search(
+        alloc,
+        "candidates",
+        "Writes the candidates for a query as JSON, with summaries of their providers",
+    )?)?;
+    let command = command.subcommand(search(
+        alloc,
+        "tokens",
+        "Writes the candidates for a query, one a line: the UUIDs of their providers",
+    )?)?;
+    let command = command.subcommand(verify(alloc)?)?;
     Ok(command)
 }

@@ -1,6 +1,6 @@
 //! What the words of a command line answer, and the texts that come with it.
 use crate::table::Table;
-use crate::words::{Command, WordFault, read_words};
+use crate::words::{Command, Job, WordFault, read_words};
 use std::alloc::{AllocError, Global};
 use std::test::Fail;
 
@@ -42,35 +42,141 @@ fn has_line(text: &str, line: &str) -> bool {
     text.lines().any(|other| other == line)
 }
 
+// Whether the words are accepted, with this job.
+fn asks(
+    alloc: Global,
+    line: &str,
+    command: Command,
+    query: &str,
+    token: Option<&str>,
+) -> Result<bool, AllocError> {
+    let words = words_of(alloc, line)?;
+    let job = Job {
+        command,
+        query,
+        token,
+    };
+    Ok(match read_words(alloc, words.as_slice()) {
+        Ok(words) => words.job() == job,
+        Err(_fault) => false,
+    })
+}
+
+#[test]
+fn check(rt: HostRuntime) -> Result<(), Fail> {
+    let lines = [
+        "ac_cli check --providers a --inventories b",
+        "any/name check --inventories=b --traits c --providers=a",
+    ];
+    for line in lines.as_slice() {
+        assert!(rt; asks(rt.alloc(), line, Command::Check, "", None)?, "{line}");
+    }
+    Ok(())
+}
+
+#[test]
+fn candidates(rt: HostRuntime) -> Result<(), Fail> {
+    let plain = "ac_cli candidates q --providers a --inventories b";
+    assert!(rt; asks(rt.alloc(), plain, Command::Candidates, "q", None)?);
+    let lines = [
+        "ac_cli candidates q --providers a --inventories b --after t",
+        "ac_cli candidates --after=t --usages c --inventories b --providers a q",
+    ];
+    for line in lines.as_slice() {
+        assert!(rt;
+            asks(rt.alloc(), line, Command::Candidates, "q", Some("t"))?,
+            "{line}"
+        );
+    }
+    Ok(())
+}
+
 #[test]
 fn tokens(rt: HostRuntime) -> Result<(), Fail> {
     let lines = [
         "ac_cli tokens resources=VCPU:2 --providers a --inventories b",
         "ac_cli tokens --inventories=b --providers=a resources=VCPU:2",
-        "any/name tokens --providers a --inventories b -- resources=VCPU:2",
+        "ac_cli tokens --providers a --inventories b -- resources=VCPU:2",
     ];
     for line in lines.as_slice() {
-        let given = words_of(rt.alloc(), line)?;
-        match read_words(rt.alloc(), given.as_slice()) {
-            Ok(words) => {
-                assert_eq!(rt; words.job().command, Command::Tokens);
-                assert_eq!(rt; words.job().query, "resources=VCPU:2");
-                assert_eq!(rt; words.path(Table::Providers), Some("a"));
-                assert_eq!(rt; words.path(Table::Inventories), Some("b"));
-            }
-            Err(_fault) => assert!(rt; false, "{line}"),
-        }
+        assert!(rt;
+            asks(rt.alloc(), line, Command::Tokens, "resources=VCPU:2", None)?,
+            "{line}"
+        );
+    }
+    let after = "ac_cli tokens --after t q --providers a --inventories b";
+    assert!(rt; asks(rt.alloc(), after, Command::Tokens, "q", Some("t"))?);
+    Ok(())
+}
+
+#[test]
+fn verify(rt: HostRuntime) -> Result<(), Fail> {
+    let lines = [
+        "ac_cli verify q t --providers a --inventories b",
+        "ac_cli verify --inventories b q --providers a t",
+        "ac_cli verify --aggregates=c --providers a --inventories b q -- t",
+    ];
+    for line in lines.as_slice() {
+        assert!(rt;
+            asks(rt.alloc(), line, Command::Verify, "q", Some("t"))?,
+            "{line}"
+        );
     }
     Ok(())
 }
 
-// Between the two blanks stands an empty word.
+// Between two blanks stands an empty word.
 #[test]
-fn empty_query(rt: HostRuntime) -> Result<(), Fail> {
-    let given = words_of(rt.alloc(), "ac_cli tokens  --providers a --inventories b")?;
+fn empty_words(rt: HostRuntime) -> Result<(), Fail> {
+    let query = "ac_cli tokens  --providers a --inventories b";
+    assert!(rt; asks(rt.alloc(), query, Command::Tokens, "", None)?);
+    let after = "ac_cli candidates q --after  --providers a --inventories b";
+    assert!(rt; asks(rt.alloc(), after, Command::Candidates, "q", Some(""))?);
+    let joined = "ac_cli tokens q --after= --providers a --inventories b";
+    assert!(rt; asks(rt.alloc(), joined, Command::Tokens, "q", Some(""))?);
+    let both = "ac_cli verify   --providers a --inventories b";
+    assert!(rt; asks(rt.alloc(), both, Command::Verify, "", Some(""))?);
+    Ok(())
+}
+
+// A word that begins with `-` is no option after `--`, nor after `=`.
+#[test]
+fn words_with_a_hyphen(rt: HostRuntime) -> Result<(), Fail> {
+    let query = "ac_cli tokens --providers a --inventories b -- -q";
+    assert!(rt; asks(rt.alloc(), query, Command::Tokens, "-q", None)?);
+    let after = "ac_cli tokens --after=-t --providers a --inventories b q";
+    assert!(rt; asks(rt.alloc(), after, Command::Tokens, "q", Some("-t"))?);
+    let both = "ac_cli verify --providers a --inventories b -- -q -t";
+    assert!(rt; asks(rt.alloc(), both, Command::Verify, "-q", Some("-t"))?);
+    Ok(())
+}
+
+#[test]
+fn paths(rt: HostRuntime) -> Result<(), Fail> {
+    let some = "ac_cli check --providers a --inventories b";
+    let all =
+        "ac_cli verify --aggregates e --traits d --usages c --inventories b --providers a q t";
+    let given = words_of(rt.alloc(), some)?;
     match read_words(rt.alloc(), given.as_slice()) {
-        Ok(words) => assert_eq!(rt; words.job().query, ""),
-        Err(_fault) => assert!(rt; false),
+        Ok(words) => {
+            assert_eq!(rt; words.path(Table::Providers), Some("a"));
+            assert_eq!(rt; words.path(Table::Inventories), Some("b"));
+            assert_eq!(rt; words.path(Table::Usages), None);
+            assert_eq!(rt; words.path(Table::Traits), None);
+            assert_eq!(rt; words.path(Table::Aggregates), None);
+        }
+        Err(_fault) => assert!(rt; false, "{some}"),
+    }
+    let given = words_of(rt.alloc(), all)?;
+    match read_words(rt.alloc(), given.as_slice()) {
+        Ok(words) => {
+            assert_eq!(rt; words.path(Table::Providers), Some("a"));
+            assert_eq!(rt; words.path(Table::Inventories), Some("b"));
+            assert_eq!(rt; words.path(Table::Usages), Some("c"));
+            assert_eq!(rt; words.path(Table::Traits), Some("d"));
+            assert_eq!(rt; words.path(Table::Aggregates), Some("e"));
+        }
+        Err(_fault) => assert!(rt; false, "{all}"),
     }
     Ok(())
 }
@@ -81,26 +187,34 @@ fn help_is_answered(rt: HostRuntime) -> Result<(), Fail> {
         "ac_cli --help",
         "ac_cli -h",
         "ac_cli help",
+        "ac_cli help check",
+        "ac_cli check --help",
+        "ac_cli help candidates",
+        "ac_cli candidates --help",
         "ac_cli help tokens",
-        "ac_cli tokens --help",
         "ac_cli tokens -h",
+        "ac_cli help verify",
+        "ac_cli verify q --help",
+    ];
+    let told = [
+        "Exit status:",
+        "  0  written",
+        "  1  `verify` says no",
+        "  2  the command line was refused",
+        "  3  a table was refused, or could not be read",
+        "  4  the query was refused",
+        "  5  the token was refused",
+        "  6  a write failed",
+        "  7  out of memory",
+        "  ./ac_cli tokens 'resources=VCPU:2' \\",
+        "      --providers examples/providers.csv --inventories examples/inventories.csv",
     ];
     for line in lines.as_slice() {
         match help(rt.alloc(), line)? {
             Some(text) => {
-                assert!(rt; has_line(text.as_str(), "Exit status:"), "{line}");
-                assert!(rt;
-                    has_line(
-                        text.as_str(),
-                        "  3  a table was refused, or could not be read"
-                    ),
-                    "{line}"
-                );
-                assert!(rt; has_line(text.as_str(), "  7  out of memory"), "{line}");
-                assert!(rt;
-                    has_line(text.as_str(), "  ./ac_cli tokens 'resources=VCPU:2' \\"),
-                    "{line}"
-                );
+                for other in told.as_slice() {
+                    assert!(rt; has_line(text.as_str(), other), "{line}: {other}");
+                }
             }
             None => assert!(rt; false, "{line}"),
         }
@@ -108,33 +222,69 @@ fn help_is_answered(rt: HostRuntime) -> Result<(), Fail> {
     Ok(())
 }
 
+// Whether the help of `line` has each of these lines.
+fn tells(alloc: Global, line: &str, told: &[&str]) -> Result<bool, AllocError> {
+    Ok(match help(alloc, line)? {
+        Some(text) => told.iter().all(|other| has_line(text.as_str(), other)),
+        None => false,
+    })
+}
+
+#[test]
+fn help_tells_the_commands(rt: HostRuntime) -> Result<(), Fail> {
+    let told = [
+        "Usage: ac_cli <COMMAND>",
+        "  check       Checks the tables, and writes the size of each",
+        "  candidates  Writes the candidates for a query as JSON, with summaries of their providers",
+        "  tokens      Writes the candidates for a query, one a line: the UUIDs of their providers",
+        "  verify      Writes whether a token is a candidate for a query, or which rule refuses it",
+    ];
+    assert!(rt; tells(rt.alloc(), "ac_cli --help", told.as_slice())?);
+    Ok(())
+}
+
 #[test]
 fn help_tells_the_options(rt: HostRuntime) -> Result<(), Fail> {
-    match help(rt.alloc(), "ac_cli help tokens")? {
-        Some(text) => {
-            let usage = "Usage: ac_cli tokens --providers <FILE> --inventories <FILE> <QUERY>";
-            assert!(rt; has_line(text.as_str(), usage));
-            assert!(rt;
-                has_line(
-                    text.as_str(),
-                    "  <QUERY>  What is asked for, as in 'resources=VCPU:2'"
-                )
-            );
-            assert!(rt;
-                has_line(
-                    text.as_str(),
-                    "      --providers <FILE>    The table of resource providers (CSV)"
-                )
-            );
-            assert!(rt;
-                has_line(
-                    text.as_str(),
-                    "      --inventories <FILE>  The table of their inventories (CSV)"
-                )
-            );
-        }
-        None => assert!(rt; false),
+    let tables = [
+        "      --providers <FILE>    The resource providers and their trees (CSV)",
+        "      --inventories <FILE>  What each provider has of each resource class (CSV)",
+        "      --usages <FILE>       How much of it is used (CSV); without it nothing is",
+        "      --traits <FILE>       The traits of each provider (CSV); without it none has any",
+        "      --aggregates <FILE>   The aggregates of each provider (CSV); without it none is in any",
+    ];
+    let searches = [
+        "  <QUERY>  What is asked for, as in 'resources=VCPU:2'",
+        "      --after <TOKEN>       Begins after this candidate, written as `tokens` writes it",
+    ];
+    let verifies = [
+        "  <QUERY>  What is asked for, as in 'resources=VCPU:2'",
+        "  <TOKEN>  The UUIDs of providers, as `tokens` writes them",
+    ];
+    let commands = [
+        "ac_cli help check",
+        "ac_cli help candidates",
+        "ac_cli help tokens",
+        "ac_cli help verify",
+    ];
+    for line in commands.as_slice() {
+        assert!(rt; tells(rt.alloc(), line, tables.as_slice())?, "{line}");
     }
+    assert!(rt; tells(rt.alloc(), "ac_cli help candidates", searches.as_slice())?);
+    assert!(rt; tells(rt.alloc(), "ac_cli help tokens", searches.as_slice())?);
+    assert!(rt; tells(rt.alloc(), "ac_cli help verify", verifies.as_slice())?);
+    Ok(())
+}
+
+#[test]
+fn help_tells_the_usage(rt: HostRuntime) -> Result<(), Fail> {
+    let check = ["Usage: ac_cli check [OPTIONS] --providers <FILE> --inventories <FILE>"];
+    let tokens = ["Usage: ac_cli tokens [OPTIONS] --providers <FILE> --inventories <FILE> <QUERY>"];
+    let verify = [
+        "Usage: ac_cli verify [OPTIONS] --providers <FILE> --inventories <FILE> <QUERY> <TOKEN>",
+    ];
+    assert!(rt; tells(rt.alloc(), "ac_cli help check", check.as_slice())?);
+    assert!(rt; tells(rt.alloc(), "ac_cli help tokens", tokens.as_slice())?);
+    assert!(rt; tells(rt.alloc(), "ac_cli help verify", verify.as_slice())?);
     Ok(())
 }
 
@@ -142,18 +292,29 @@ fn help_tells_the_options(rt: HostRuntime) -> Result<(), Fail> {
 fn other_words_are_refused(rt: HostRuntime) -> Result<(), Fail> {
     let lines = [
         "ac_cli",
-        "ac_cli check",
-        "ac_cli help check",
+        "ac_cli other",
+        "ac_cli help other",
         "ac_cli --version",
-        "ac_cli tokens",
+        "ac_cli --providers a tokens q --inventories b",
+        "ac_cli check",
+        "ac_cli check --providers a",
+        "ac_cli check --providers a --inventories b --after t",
+        "ac_cli check q --providers a --inventories b",
         "ac_cli tokens --providers a --inventories b",
         "ac_cli tokens q q --providers a --inventories b",
         "ac_cli tokens -q --providers a --inventories b",
         "ac_cli tokens q --inventories b",
         "ac_cli tokens q --providers a --inventories",
-        "ac_cli tokens q --providers a --providers a --inventories b",
-        "ac_cli tokens q --providers a --inventories b --traits c",
-        "ac_cli --providers a tokens q --inventories b",
+        "ac_cli tokens q --providers a --inventories b --usages",
+        "ac_cli tokens q --providers a --inventories b --after -t",
+        "ac_cli candidates q --providers a --providers a --inventories b",
+        "ac_cli candidates q --providers a --inventories b --traits c --traits c",
+        "ac_cli candidates q --providers a --inventories b --after t --after t",
+        "ac_cli candidates q --providers a --inventories b --microversion 1.36",
+        "ac_cli verify q --providers a --inventories b",
+        "ac_cli verify q -t --providers a --inventories b",
+        "ac_cli verify q t t --providers a --inventories b",
+        "ac_cli verify q t --providers a --inventories b --after t",
     ];
     for line in lines.as_slice() {
         assert!(rt; refusal(rt.alloc(), line)?.is_some(), "{line}");

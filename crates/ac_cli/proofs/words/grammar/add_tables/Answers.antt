@@ -4,5 +4,9 @@ use Rattle.ac_cli.proofs.words.grammar.add_tables.Goals as goal
 
 pub returns-clause-app : goal.returns-clause-app
 returns-clause-app c =
-    c.in_ok-command-2.ensures.shape c.file-2.ensures.local ∙ ap₂ with_rule (
-    c.in_ok-command.ensures.shape c.file.ensures.local ∙ ap₂ with_rule refl c.file.ensures.rule) c.file-2.ensures.rule
+    c.in_ok-command-5.ensures.shape c.table-3.ensures.local ∙ ap₂ with_rule (
+    c.in_ok-command-4.ensures.shape c.table-2.ensures.local ∙ ap₂ with_rule (
+    c.in_ok-command-3.ensures.shape c.table.ensures.local ∙ ap₂ with_rule (
+    c.in_ok-command-2.ensures.shape c.needed_table-2.ensures.local ∙ ap₂ with_rule (
+    c.in_ok-command.ensures.shape c.needed_table.ensures.local ∙ ap₂ with_rule refl c.needed_table.ensures.rule)
+    c.needed_table-2.ensures.rule) c.table.ensures.rule) c.table-2.ensures.rule) c.table-3.ensures.rule
