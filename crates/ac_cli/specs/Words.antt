@@ -123,7 +123,7 @@ HasEntry name rows = is_some (first_of name rows) ≡ true
 -- the entries that a command needs
 abbrev pub HasNeeded : Command → List Row → Type 0
 HasNeeded command rows =
-    is_some (query_of command rows) ≡ true × HasToken command (token_of command rows) × HasEntry (codes "providers") rows
+    (is_some (query_of command rows) ≡ true) × HasToken command (token_of command rows) × HasEntry (codes "providers") rows
     × HasEntry (codes "inventories") rows
 
 -- `clap` found a command of the program with all the entries that it needs
@@ -142,4 +142,4 @@ path_of line Aggregates = line.aggregates
 abbrev pub Tells : Kinds → WordFault → Type 0
 Tells kinds (Help text) = IsAmong DisplayHelp kinds
 Tells kinds (Refused text) = (kind : ErrorKind) × (kind ≢ DisplayHelp) × IsAmong kind kinds
-Tells kinds NoMemory = Unit {0}
+Tells kinds NoMemory = ⊤

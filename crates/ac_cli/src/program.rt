@@ -1,5 +1,5 @@
 //! The program around `run`: its words, its files and the standard streams.
-ghost use Rattle.std.specs.Prelude.{◌≡◌, IfOk, codes, is_some, option_map, true};
+ghost use Rattle.std.specs.Prelude.{◌≡◌, ◌<◌, IfErr, IfOk, codes, is_some, option_map, true};
 ghost use Rattle.std.specs.Io.KnownBytes.{Appends};
 ghost use Rattle.ac_cli.specs.Program.{IsWritten, line_of, status_of};
 ghost use Rattle.ac_cli.specs.Words.{HasToken, path_of};
@@ -155,7 +155,8 @@ fn answer_job<F: Feed, O: Write + Drop, E: Write>(
     err: &mut E,
 ) -> Result<(u8, O), Stop>
     requires { HasToken job.now.command (option_map (λ token. token.now) job.now.token) }
-    ensures { IfOk result (λ end. IsWritten end.0 → Appends (O.contents out) (O.contents end.1) (codes "fixed")) }
+    ensures written { IfOk result (λ end. IsWritten end.0 → Appends (O.contents out) (O.contents end.1) (codes "fixed")) }
+    ensures unwritten { IfErr result (λ stop. 1 < status_of stop) }
 {
     let Ok(buffer) = BufWriter::with_capacity(alloc, BUFFER, out) else {
         return Err(Stop::NoMemory);

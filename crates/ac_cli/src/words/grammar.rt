@@ -58,11 +58,7 @@ fn needed_table<'a>(alloc: Global, name: &'a str, help: &'a str) -> Arg<'a>
     ensures rule { rule_of result ≡ needed_rule name.entry.now }
     ensures local { result.global ≡ false }
 {
-    Arg::new(alloc, name)
-        .long(name)
-        .value_name("FILE")
-        .required(true)
-        .help(help)
+    table(alloc, name, help).required(true)
 }
 
 // Adds the options of the tables.
