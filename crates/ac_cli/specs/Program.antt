@@ -1,17 +1,13 @@
 -- How the program ends where `run` doesn't tell.
-use Rattle.std.specs.Prelude.{◌≤◌, ℕ, List, [], codes, string_bytes}
+use Rattle.std.specs.Prelude.{◌≤◌, ◌++◌, ℕ, List, [], codes, string_bytes}
 use Rattle.ac_cli.specs.declared.program.Stop.{Stop}
 use Rattle.ac_cli.specs.declared.program.Stop.TheVariants.{Refused, NotText, Unreadable, Told, WriteFailed, NoMemory}
-use Rattle.ac_cli.specs.declared.table.Table.TheVariants.{Providers, Inventories, Usages, Traits, Aggregates}
+use Rattle.ac_cli.specs.Words.{table_name}
 
 abbrev pub line_of : Stop → List ℕ
 line_of (Refused text) = string_bytes text
 line_of NotText = codes "error: the words are not UTF-8\n"
-line_of (Unreadable Providers) = codes "providers: Unreadable\n"
-line_of (Unreadable Inventories) = codes "inventories: Unreadable\n"
-line_of (Unreadable Usages) = codes "usages: Unreadable\n"
-line_of (Unreadable Traits) = codes "traits: Unreadable\n"
-line_of (Unreadable Aggregates) = codes "aggregates: Unreadable\n"
+line_of (Unreadable table) = table_name table ++ codes ": Unreadable\n"
 line_of (Told status) = []
 line_of WriteFailed = codes "output: WriteFailed\n"
 line_of NoMemory = codes "out of memory\n"

@@ -131,6 +131,13 @@ abbrev pub IsComplete : Option (Text × List Row) → Type 0
 IsComplete None = ⊥
 IsComplete (Some p) = (command : Command) × (p.0 ≡ name_of command) × HasNeeded command p.1
 
+abbrev pub table_name : Table → Text
+table_name Providers = codes "providers"
+table_name Inventories = codes "inventories"
+table_name Usages = codes "usages"
+table_name Traits = codes "traits"
+table_name Aggregates = codes "aggregates"
+
 abbrev pub path_of : Line → Table → Option Text
 path_of line Providers = Some line.providers
 path_of line Inventories = Some line.inventories

@@ -6,8 +6,7 @@ ghost use Rattle.ac_cli.specs.Words.{HasToken, path_of};
 
 use crate::run::{Inputs, run};
 use crate::sample;
-use crate::table::Table;
-use crate::words::{Job, WordFault, Words, read_words};
+use crate::words::{Job, Table, WordFault, Words, read_words};
 use ac_base::{Feed, FromRead, ToWrite};
 use std::alloc::Global;
 use std::io::{BufWriter, ErrorKind, Write};

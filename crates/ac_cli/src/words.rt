@@ -7,7 +7,7 @@ ghost use Rattle.ac_cli.specs.declared.words.WordFault.TheVariants.{NoMemory};
 mod entries;
 mod grammar;
 
-use crate::table::Table;
+pub use crate::table::Table;
 use clap::error::ErrorKind;
 use std::alloc::{AllocError, Global};
 use std::marker::Model;

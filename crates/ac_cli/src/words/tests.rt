@@ -1,6 +1,5 @@
 //! What the words of a command line answer, and the texts that come with it.
-use crate::table::Table;
-use crate::words::{Command, Job, WordFault, read_words};
+use crate::words::{Command, Job, Table, WordFault, read_words};
 use std::alloc::{AllocError, Global};
 use std::test::Fail;
 
