@@ -19,10 +19,9 @@ pub(crate) struct Anchors {
     pub(crate) places: Vec<Option<u32>>,
 }
 
-// The place of the list of an earlier provider that shares through the same aggregates, if it is the last one whose first is
-// the same.
+// The place of the list of an earlier provider that shares through the same aggregates.
 fn find_alike(
-    last: &BTreeMap<Id, u32>,
+    known: &BTreeMap<&[Id], u32>,
     aggregates: &[AggregateList],
     places: &[Option<u32>],
     ids: &[Id],
@@ -30,8 +29,7 @@ fn find_alike(
     requires { length places.now ≤ length aggregates.now }
     ensures { IfSome result (λ k. (j : ℕ) × (j < length places.now) × (get_or places.now j None ≡ Some k) × (get_or (map id_list aggregates.now) j [] ≡ ids.now)) }
 {
-    let first = ids.first()?;
-    let other = *last.get(first)? as usize;
+    let other = *known.get(ids)? as usize;
     if other < places.len() && aggregates[other].ids.as_slice() == ids {
         places[other]
     } else {
@@ -97,7 +95,7 @@ impl<'a> Members<'a> {
         &self,
         alloc: Global,
         kept: Kept,
-        last: &BTreeMap<Id, u32>,
+        known: &BTreeMap<&[Id], u32>,
         places: &[Option<u32>],
         traits: &TraitList,
     ) -> Result<(Kept, Option<u32>), AllocError>
@@ -111,21 +109,13 @@ impl<'a> Members<'a> {
         let aggregates = &self.aggregates[places.len()];
         if joins(traits, aggregates) {
             let ids = aggregates.ids.as_slice();
-            let alike = find_alike(last, self.aggregates, places, ids);
+            let alike = find_alike(known, self.aggregates, places, ids);
             let (kept, place) = self.find_list(alloc, kept, alike, ids)?;
             Ok((kept, Some(place)))
         } else {
             Ok((kept, None))
         }
     }
-}
-
-// Tells the last provider of each first aggregate.
-fn tell(last: &mut BTreeMap<Id, u32>, ids: &[Id], place: u32) -> Result<(), AllocError> {
-    if let Some(first) = ids.first() {
-        last.insert(*first, place)?;
-    }
-    Ok(())
 }
 
 // The lists of all providers.
@@ -151,12 +141,14 @@ pub(crate) fn find_anchors(
     };
     let mut kept = Kept::new(alloc);
     let mut places = Vec::new(alloc);
-    let mut last = BTreeMap::new(alloc);
+    let mut known = BTreeMap::new(alloc);
     for i in 0..roots.len() {
-        let (more, place) = members.find_next(alloc, kept, &last, &places, &traits[i])?;
+        let (more, place) = members.find_next(alloc, kept, &known, &places, &traits[i])?;
         kept = more;
         places.push(place)?;
-        tell(&mut last, &aggregates[i].ids, i as u32)?;
+        if place.is_some() {
+            known.insert(aggregates[i].ids.as_slice(), i as u32)?;
+        }
     }
     Ok(Anchors {
         lists: kept.lists,
