@@ -22,7 +22,7 @@ pub use inventory::Inventory;
 pub use mem_feed::MemFeed;
 pub use mem_sink::MemSink;
 pub use memory::Turn;
-pub use name::{ClassName, NoMemory, Suffix, TraitName};
+pub use name::{ClassName, Names, NoMemory, Suffix, TraitName};
 pub use number::{Ratio, read_count};
 pub use pushing::{WriteFailed, push_all};
 pub use to_write::ToWrite;

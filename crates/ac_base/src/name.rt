@@ -1,14 +1,19 @@
 ghost use Rattle.std.specs.Prelude.{IsTrue};
 ghost use Rattle.ac_base.specs.Texts.{is_name, is_suffix};
+ghost use Rattle.std.specs.Rc.{rc_str_bytes};
 ghost use Rattle.std.specs.String.{string_bytes};
 
 use std::alloc::{AllocError, AllocFailed};
+use std::rc::RcStr;
 use thiserror::Error;
 
 mod class_text;
+mod shared;
 mod suffix_text;
 mod texts;
 mod trait_text;
+
+pub use shared::Names;
 
 /// A growth was refused.
 #[derive(Clone, Copy, Debug, PartialEq, Eq, Error)]
@@ -30,15 +35,15 @@ impl<T: Drop> From<AllocFailed<T>> for NoMemory {
 /// The name of a resource class, as `VCPU`. Names compare and sort by their bytes.
 #[derive(Debug, Drop, PartialEq, Eq, PartialOrd, Ord)]
 pub struct ClassName {
-    text: String,
-    ghost named: { IsTrue (is_name (string_bytes text)) },
+    text: RcStr,
+    ghost named: { IsTrue (is_name (rc_str_bytes text)) },
 }
 
 /// The name of a trait, as `HW_NUMA_ROOT`. Names compare and sort by their bytes.
 #[derive(Debug, Drop, PartialEq, Eq, PartialOrd, Ord)]
 pub struct TraitName {
-    text: String,
-    ghost named: { IsTrue (is_name (string_bytes text)) },
+    text: RcStr,
+    ghost named: { IsTrue (is_name (rc_str_bytes text)) },
 }
 
 /// The suffix of a request group, as `_NUMA` in `resources_NUMA`. Suffixes compare and sort by their bytes.

@@ -9,9 +9,8 @@ ghost use Rattle.ac_tables.specs.InventoryTable.{provider_name, class_name, owne
 
 use crate::fault::{RecordFault, TableKind};
 use crate::rows::text_at;
-use ac_base::{ClassName, Id};
+use ac_base::{ClassName, Id, Names};
 use csv::ByteRecord;
-use std::alloc::Global;
 
 // The provider to which a record belongs.
 #[tactic(auto, unfolding(crate::specs::InventoryTable::owner_checks))]
@@ -35,7 +34,7 @@ pub(crate) fn read_owner(
 // The class of a record.
 #[tactic(auto, unfolding(crate::specs::InventoryTable::class_checks), using(crate::proofs::NameFacts::named))]
 pub(crate) fn read_class(
-    alloc: Global,
+    names: &mut Names,
     header: &ByteRecord,
     place: usize,
     row: &ByteRecord,
@@ -45,7 +44,7 @@ pub(crate) fn read_class(
     ensures class { IfOk result (λ class. class_bytes class ≡ text_in (fields_of header.now) class_name (fields_of row.now)) }
     ensures fault { IfErr result (λ e. TellsKind (first_failing (class_checks (fields_of header.now) (fields_of row.now))) e) }
 {
-    match ClassName::read(alloc, text_at(row, place))? {
+    match names.class(text_at(row, place))? {
         Some(class) => Ok(class),
         None => Err(RecordFault::Kind(TableKind::BadClass)),
     }

@@ -10,9 +10,8 @@ use crate::columns::column_at;
 use crate::fault::{RecordFault, TableKind};
 use crate::fields::{read_class, read_owner};
 use crate::rows::text_at;
-use ac_base::{ClassName, Id, Inventory, Ratio, read_count};
+use ac_base::{ClassName, Id, Inventory, Names, Ratio, read_count};
 use csv::ByteRecord;
-use std::alloc::Global;
 
 // Where the columns stand.
 #[derive(Clone, Copy, Debug, PartialEq, Eq)]
@@ -101,7 +100,7 @@ impl HoldingRow {
     // What a record says, or the first fault of its fields.
     #[tactic(auto, unfolding(crate::specs::ColumnPlaces::holding_places))]
     pub(crate) fn read(
-        alloc: Global,
+        names: &mut Names,
         header: &ByteRecord,
         columns: HoldingColumns,
         row: &ByteRecord,
@@ -117,7 +116,7 @@ impl HoldingRow {
             Ok(provider) => provider,
             Err(kind) => return Err(RecordFault::Kind(kind)),
         };
-        let class = match read_class(alloc, header, columns.class, row) {
+        let class = match read_class(names, header, columns.class, row) {
             Ok(class) => class,
             Err(fault) => return Err(fault),
         };

@@ -16,7 +16,7 @@ use crate::holding::{HoldingColumns, HoldingRow};
 use crate::ids::Ids;
 use crate::numbered::fault_at;
 use crate::rows::next_row;
-use ac_base::{ClassName, Inventory};
+use ac_base::{ClassName, Inventory, Names};
 use csv::{ByteRecord, Reader};
 use std::alloc::{AllocError, Global};
 use std::collections::BTreeMap;
@@ -69,7 +69,7 @@ impl Inventories {
     // These and that of a record.
     fn with_record(
         self,
-        alloc: Global,
+        names: &mut Names,
         ids: &Ids,
         header: &ByteRecord,
         columns: HoldingColumns,
@@ -82,7 +82,7 @@ impl Inventories {
         ensures ok { IfOk result (λ _. (said : List Holding) → AreStocks ids.now.ids.items said self.maps.items → first_failing (holding_checks ids.now.ids.items (fields_of header.now) said (fields_of row.now)) ≡ None) }
         ensures fault { IfErr result (λ e. (said : List Holding) → AreStocks ids.now.ids.items said self.maps.items → TellsKind (first_failing (holding_checks ids.now.ids.items (fields_of header.now) said (fields_of row.now))) e) }
     {
-        match HoldingRow::read(alloc, header, columns, row) {
+        match HoldingRow::read(names, header, columns, row) {
             Ok(holding) => self.with(ids, holding),
             Err(fault) => Err(fault),
         }
@@ -106,10 +106,11 @@ fn read_rows(
 {
     let columns = HoldingColumns::of(header);
     let mut row = ByteRecord::new(alloc);
+    let mut names = Names::new(alloc);
     let mut inventories = Inventories::new(alloc, ids)?;
     let mut number = 2u32;
     while next_row(reader, &mut row)? {
-        inventories = match inventories.with_record(alloc, ids, header, columns, &row) {
+        inventories = match inventories.with_record(&mut names, ids, header, columns, &row) {
             Ok(inventories) => inventories,
             Err(fault) => return Err(fault_at(Table::Inventories, number, fault)),
         };

@@ -12,9 +12,8 @@ use crate::columns::column_at;
 use crate::fault::{RecordFault, TableKind};
 use crate::fields::read_owner;
 use crate::rows::text_at;
-use ac_base::{Id, TraitName};
+use ac_base::{Id, Names, TraitName};
 use csv::ByteRecord;
-use std::alloc::Global;
 
 // Where the columns stand.
 #[derive(Clone, Copy, Debug, PartialEq, Eq)]
@@ -47,7 +46,7 @@ pub(crate) struct MarkRow {
 // The trait of a record.
 #[tactic(auto, unfolding(crate::specs::TraitTable::name_checks), using(crate::proofs::NameFacts::named))]
 fn read_name(
-    alloc: Global,
+    names: &mut Names,
     header: &ByteRecord,
     place: usize,
     row: &ByteRecord,
@@ -57,7 +56,7 @@ fn read_name(
     ensures name { IfOk result (λ name. trait_bytes name ≡ text_in (fields_of header.now) name_name (fields_of row.now)) }
     ensures fault { IfErr result (λ e. TellsKind (first_failing (name_checks (fields_of header.now) (fields_of row.now))) e) }
 {
-    match TraitName::read(alloc, text_at(row, place))? {
+    match names.trait_name(text_at(row, place))? {
         Some(name) => Ok(name),
         None => Err(RecordFault::Kind(TableKind::BadTrait)),
     }
@@ -69,7 +68,7 @@ impl MarkRow {
     // What a record says, or the first fault of its fields.
     #[tactic(auto, unfolding(crate::specs::ColumnPlaces::mark_places))]
     pub(crate) fn read(
-        alloc: Global,
+        names: &mut Names,
         header: &ByteRecord,
         columns: MarkColumns,
         row: &ByteRecord,
@@ -84,7 +83,7 @@ impl MarkRow {
             Ok(provider) => provider,
             Err(kind) => return Err(RecordFault::Kind(kind)),
         };
-        match read_name(alloc, header, columns.name, row) {
+        match read_name(names, header, columns.name, row) {
             Ok(name) => Ok(MarkRow { provider, name }),
             Err(fault) => Err(fault),
         }

@@ -16,7 +16,7 @@ use crate::ids::Ids;
 use crate::mark::{MarkColumns, MarkRow};
 use crate::numbered::fault_at;
 use crate::rows::next_row;
-use ac_base::TraitName;
+use ac_base::{Names, TraitName};
 use csv::{ByteRecord, Reader};
 use std::alloc::{AllocError, Global};
 use std::collections::BTreeSet;
@@ -68,7 +68,7 @@ impl Traits {
     // These and that of a record.
     fn with_record(
         self,
-        alloc: Global,
+        names: &mut Names,
         ids: &Ids,
         header: &ByteRecord,
         columns: MarkColumns,
@@ -83,7 +83,7 @@ impl Traits {
         ensures ok { IfOk result (λ _. (said : List Mark) → first_failing (mark_checks ids.now.ids.items (fields_of header.now) said (fields_of row.now)) ≡ None) }
         ensures fault { IfErr result (λ e. (said : List Mark) → TellsKind (first_failing (mark_checks ids.now.ids.items (fields_of header.now) said (fields_of row.now))) e) }
     {
-        match MarkRow::read(alloc, header, columns, row) {
+        match MarkRow::read(names, header, columns, row) {
             Ok(mark) => self.with(ids, mark),
             Err(fault) => Err(fault),
         }
@@ -106,10 +106,11 @@ fn read_rows(
 {
     let columns = MarkColumns::of(header);
     let mut row = ByteRecord::new(alloc);
+    let mut names = Names::new(alloc);
     let mut traits = Traits::new(alloc, ids)?;
     let mut number = 2u32;
     while next_row(reader, &mut row)? {
-        traits = match traits.with_record(alloc, ids, header, columns, &row) {
+        traits = match traits.with_record(&mut names, ids, header, columns, &row) {
             Ok(traits) => traits,
             Err(fault) => return Err(fault_at(Table::Traits, number, fault)),
         };

@@ -17,7 +17,7 @@ use crate::inventories::Inventories;
 use crate::numbered::fault_at;
 use crate::rows::next_row;
 use crate::usage::{UsageColumns, UsageRow};
-use ac_base::ClassName;
+use ac_base::{ClassName, Names};
 use csv::{ByteRecord, Reader};
 use std::alloc::{AllocError, Global};
 use std::collections::BTreeMap;
@@ -71,7 +71,7 @@ impl Usages {
     // These and that of a record.
     fn with_record(
         self,
-        alloc: Global,
+        names: &mut Names,
         ids: &Ids,
         inventories: &Inventories,
         header: &ByteRecord,
@@ -86,7 +86,7 @@ impl Usages {
         ensures ok { IfOk result (λ _. (holdings : List Holding) (said : List Usage) → AreStocks ids.now.ids.items holdings inventories.now.maps.items → AreAmounts ids.now.ids.items said self.maps.items → first_failing (usage_row_checks ids.now.ids.items holdings (fields_of header.now) said (fields_of row.now)) ≡ None) }
         ensures fault { IfErr result (λ e. (holdings : List Holding) (said : List Usage) → AreStocks ids.now.ids.items holdings inventories.now.maps.items → AreAmounts ids.now.ids.items said self.maps.items → TellsKind (first_failing (usage_row_checks ids.now.ids.items holdings (fields_of header.now) said (fields_of row.now))) e) }
     {
-        match UsageRow::read(alloc, header, columns, row) {
+        match UsageRow::read(names, header, columns, row) {
             Ok(usage) => self.with(ids, inventories, usage),
             Err(fault) => Err(fault),
         }
@@ -112,10 +112,11 @@ fn read_rows(
 {
     let columns = UsageColumns::of(header);
     let mut row = ByteRecord::new(alloc);
+    let mut names = Names::new(alloc);
     let mut usages = Usages::new(alloc, ids)?;
     let mut number = 2u32;
     while next_row(reader, &mut row)? {
-        usages = match usages.with_record(alloc, ids, inventories, header, columns, &row) {
+        usages = match usages.with_record(&mut names, ids, inventories, header, columns, &row) {
             Ok(usages) => usages,
             Err(fault) => return Err(fault_at(Table::Usages, number, fault)),
         };

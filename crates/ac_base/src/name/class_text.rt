@@ -3,21 +3,16 @@ ghost use Rattle.std.specs.Option.{option_map};
 ghost use Rattle.ac_base.specs.Texts.{name_value};
 ghost use Rattle.ac_base.specs.Names.{class_bytes};
 
-use super::texts::{is_name, owned};
-use super::{ClassName, NoMemory};
+use super::texts::is_name;
+use super::{ClassName, Names, NoMemory};
 use std::alloc::Global;
 
 impl ClassName {
     /// Reads 1 to 255 characters of `A-Z 0-9 _`; every other text is no name.
-    #[tactic(auto, using(crate::proofs::NameFacts::text_name))]
     pub fn read(alloc: Global, text: &[u8]) -> Result<Option<ClassName>, NoMemory>
         ensures { IfOk result (λ name. option_map class_bytes name ≡ name_value text.now) }
     {
-        if !is_name(text) {
-            return Ok(None);
-        }
-        let text = owned(alloc, text)?;
-        Ok(Some(ClassName { text }))
+        Names::new(alloc).class(text)
     }
 
     /// The name as it was read.
@@ -25,5 +20,19 @@ impl ClassName {
         ensures { result.now ≡ class_bytes self.now }
     {
         self.text.as_str()
+    }
+}
+
+impl Names {
+    /// Reads the name of a resource class as `ClassName::read` does.
+    #[tactic(auto, using(crate::proofs::NameFacts::text_name))]
+    pub fn class(&mut self, text: &[u8]) -> Result<Option<ClassName>, NoMemory>
+        ensures { IfOk result (λ name. option_map class_bytes name ≡ name_value text.now) }
+    {
+        if !is_name(text) {
+            return Ok(None);
+        }
+        let text = self.share(text)?;
+        Ok(Some(ClassName { text }))
     }
 }

@@ -3,21 +3,16 @@ ghost use Rattle.std.specs.Option.{option_map};
 ghost use Rattle.ac_base.specs.Texts.{name_value};
 ghost use Rattle.ac_base.specs.Names.{trait_bytes};
 
-use super::texts::{is_name, owned};
-use super::{NoMemory, TraitName};
+use super::texts::is_name;
+use super::{Names, NoMemory, TraitName};
 use std::alloc::Global;
 
 impl TraitName {
     /// Reads 1 to 255 characters of `A-Z 0-9 _`; every other text is no name.
-    #[tactic(auto, using(crate::proofs::NameFacts::text_name))]
     pub fn read(alloc: Global, text: &[u8]) -> Result<Option<TraitName>, NoMemory>
         ensures { IfOk result (λ name. option_map trait_bytes name ≡ name_value text.now) }
     {
-        if !is_name(text) {
-            return Ok(None);
-        }
-        let text = owned(alloc, text)?;
-        Ok(Some(TraitName { text }))
+        Names::new(alloc).trait_name(text)
     }
 
     /// The name as it was read.
@@ -25,5 +20,19 @@ impl TraitName {
         ensures { result.now ≡ trait_bytes self.now }
     {
         self.text.as_str()
+    }
+}
+
+impl Names {
+    /// Reads the name of a trait as `TraitName::read` does.
+    #[tactic(auto, using(crate::proofs::NameFacts::text_name))]
+    pub fn trait_name(&mut self, text: &[u8]) -> Result<Option<TraitName>, NoMemory>
+        ensures { IfOk result (λ name. option_map trait_bytes name ≡ name_value text.now) }
+    {
+        if !is_name(text) {
+            return Ok(None);
+        }
+        let text = self.share(text)?;
+        Ok(Some(TraitName { text }))
     }
 }
