@@ -136,6 +136,32 @@ DEVICES = [
 ]
 
 
+def growing(name, words, cloud=''):
+    """Each growth of this run refused in turn, by tests/growths.py: for that there has to be a C compiler."""
+    return Case(f'each growth refused: {name}', ['sh', '-c', 'exec python3 -B tests/growths.py "$@"', 'growths', PROGRAM, *map(full, words)],
+                SOME, tables=tables(cloud) if cloud else {})
+
+
+OTHERS = [f'--{name}={os.path.join(EXAMPLES, name)}.csv' for name in ('usages', 'traits', 'aggregates')]
+SHARED = 'P1 | | VCPU total 8 | | A1\nP2 | P1 | VCPU total 8, used 3 | CUSTOM_A\nP9 | | DISK_GB total 100 | MISC_SHARES_VIA_AGGREGATE | A1, A2'
+QUERY = 'resources=VCPU:1,DISK_GB:10'
+GROWTHS = [
+    growing('without words', []),
+    growing('help', ['--help']),
+    growing('refused words', ['tokens']),
+    growing('check', check() + OTHERS),
+    growing('check of a table with a fault', check(PROVIDERS, PROVIDERS)),
+    growing('tokens', tokens('resources=VCPU:2') + OTHERS),
+    growing('tokens after one', ['tokens', QUERY, '--after', 'P1,P9'], SHARED),
+    growing('a refused query', tokens('resources=VCPU:0')),
+    growing('candidates', ['candidates', QUERY], SHARED),
+    growing('candidates after one', ['candidates', QUERY + '&limit=1', '--after', 'P1,P9'], SHARED),
+    growing('verify', ['verify', QUERY, 'P1,P9'], SHARED),
+    growing('verify, an unknown provider', ['verify', QUERY, 'P1,P7'], SHARED),
+    growing('a refused token', ['verify', QUERY, 'P1'], SHARED),
+] if shutil.which('cc') else []
+
+
 def status_of(text):
     """The status that comes with a text: an answer, or a fault line."""
     return next((status for start, status in STATUSES.items() if text.startswith(start)), 0)
@@ -238,7 +264,7 @@ def main(*given):
     pages = [case for page in ('README.md', 'examples/README.md', 'docs/RULES.md', 'docs/FORMATS.md', 'docs/EXPORT.md')
              for case in shown(page)]
     chance = [*drawn(150), *drawn_tables(200), *drawn_queries(200)]
-    cases = [PAGES, *HELP, *WORDS, *FILES, *DEVICES, *SMALL, *pages, *rules, *exports(), *chance, *LARGE, *cuts()]
+    cases = [PAGES, *HELP, *WORDS, *FILES, *DEVICES, *GROWTHS, *SMALL, *pages, *rules, *exports(), *chance, *LARGE, *cuts()]
     cases += DEEP if '--deep' in given else []
     cases = [case for case in cases if all(word in case.name for word in words)]
     failed = 0

@@ -1,0 +1,56 @@
+#!/usr/bin/env python3
+"""tests/growths.py PROGRAM WORDS..: runs the program with these words again and again. Each run is refused one growth of its memory, the first,
+the second and so on, until a run needs no more. Each may answer as the program does with ample memory, or say `out of memory` with status 7 and
+write nothing but a first part of that answer; the first run does the latter. Says what else happened, or how many growths there were."""
+from __future__ import annotations
+
+import os
+import subprocess
+import sys
+import tempfile
+
+REFUSER = os.path.join(os.path.dirname(os.path.abspath(__file__)), 'refuse.c')
+MEMORY = b'out of memory\n', 7
+MOST = 100000
+
+
+def run(words, library, number):
+    """What came on both streams, the status, and whether the growth of this number was refused."""
+    read, write = os.pipe()
+    ran = subprocess.run(words, capture_output=True, pass_fds=(write,),
+                         env={**os.environ, 'LD_PRELOAD': library, 'REFUSE': str(number), 'REFUSED': str(write)})
+    os.close(write)
+    refused = os.read(read, 1) != b''
+    os.close(read)
+    return ran.stdout, ran.stderr, ran.returncode, refused
+
+
+def wrong(number, whole, ran):
+    """How a run that was refused this growth differs from what it may do, or None."""
+    out, err, status, _ = ran
+    if (err, status) == MEMORY and whole[0].startswith(out):
+        return None
+    if number > 1 and (out, err, status) == whole[:3]:
+        return None
+    return f'growth {number} was refused: status {status}, {err[:200]!r}, {out[:200]!r}'
+
+
+def main(*words):
+    with tempfile.TemporaryDirectory() as folder:
+        library = os.path.join(folder, 'refuse.so')
+        subprocess.run(['cc', '-shared', '-fPIC', '-O', '-o', library, REFUSER], check=True)
+        whole = run(words, library, 0)
+        for number in range(1, MOST):
+            ran = run(words, library, number)
+            if not ran[3]:
+                break
+            why = wrong(number, whole, ran)
+            if why:
+                print(why)
+                return 1
+    print(f'{number - 1} growths, each refused once')
+    return 0 if number > 1 and ran == whole else 1
+
+
+if __name__ == '__main__':
+    sys.exit(main(*sys.argv[1:]))
