@@ -3,8 +3,9 @@
 # tables with three resource classes, eight traits and two aggregates each (bench/make_tables.py tells the shapes). Beside `check`, over the
 # same bytes and in the same run: the ported csv alone (bench/csv_alone.rattle), wc, Python's csv module, and a plain Rust program that only
 # splits and counts (bench/anchor, where rustc is there). Then `tokens` and `candidates`, whole and with a limit, from the start and after a
-# token, and `verify`. For the largest number also the rows in order and in reverse, and one chain. With --deep, also searches with several
-# slots, which a search that goes through all lists doesn't end. Where AC_CLI is set, it names the program.
+# token, and `verify`. For the largest number also the rows in order and in reverse, one chain, and hosts that all share in two groups; and fewer
+# hosts, of which each shares in a group of its own too. With --deep, also searches with several slots, which a search that goes through all
+# lists doesn't end. Where AC_CLI is set, it names the program.
 # Each figure is the best of three runs, or that of one which took more than ten seconds: wall time, and the most memory held at once.
 
 set -eu
@@ -64,13 +65,13 @@ best() {
         "$(wc -l <"$room/out")" "$(wc -c <"$room/out")"
 }
 
-# cloud PROVIDERS ORDER SHAPE: makes the tables, names them, and times their reading
+# cloud PROVIDERS ORDER SHAPE [WORDS..]: makes the tables, with further words for that, names them, and times their reading
 cloud() {
     rm -f "$room"/*.csv
-    "$python" "$bench/make_tables.py" "$room" --providers "$1" --order "$2" --shape "$3"
+    "$python" "$bench/make_tables.py" "$room" --providers "$1" --order "$2" --shape "${@:3}"
     files=("$room"/{providers,inventories,usages,traits,aggregates}.csv)
     tables=(--providers "${files[0]}" --inventories "${files[1]}" --usages "${files[2]}" --traits "${files[3]}" --aggregates "${files[4]}")
-    printf '%s, %d providers, rows %s: %d rows, %d bytes\n' "$3" "$1" "$2" "$(cat "${files[@]}" | wc -l)" "$(cat "${files[@]}" | wc -c)"
+    printf '%s, %d providers, rows %s: %d rows, %d bytes\n' "${*:3}" "$1" "$2" "$(cat "${files[@]}" | wc -l)" "$(cat "${files[@]}" | wc -c)"
     best 'ac_cli check' "$program" check "${tables[@]}"
 }
 
@@ -107,6 +108,11 @@ cloud "$providers" sorted flat
 cloud "$providers" reversed flat
 cloud "$providers" shuffled chain
 search 'resources=VCPU:2'
+few='--classes 1 --traits 0 --aggregates 0'
+cloud "$providers" shuffled sharing $few
+for number in 2000 4000 8000; do
+    cloud "$number" shuffled sharing $few --groups "$number"
+done
 [[ -n $deep ]] || exit 0
 cloud "$providers" shuffled numa
 search 'resources_A=VCPU:1,MEMORY_MB:512&resources_B=VCPU:1,MEMORY_MB:512&resources_C=SRIOV_NET_VF:1&resources_D=SRIOV_NET_VF:1&same_subtree=_A,_C&same_subtree=_B,_D&group_policy=isolate'
