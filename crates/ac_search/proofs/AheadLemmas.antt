@@ -1,17 +1,17 @@
 -- What a walk through all lists gives next, and what it leaves.
-use Rattle.std.proofs.Common.{◌≡◌, ℕ, ◌<◌, zero, suc, true, false, List, [], ◌∷◌, length, replicate, ◌⊎◌, inl, inr, None, Some, refl, sym, ap, ◌∙◌, subst, arith}
-use Rattle.std.specs.List.{filter, All, AllByRecursion as Each}
+use Rattle.std.proofs.Common.{◌≡◌, ℕ, ◌<◌, zero, suc, true, false, List, [], ◌∷◌, length, replicate, inl, inr, None, Some, refl, sym, ap, ◌∙◌, subst, arith}
+use Rattle.std.specs.List.{filter, All}
 use Rattle.std.proofs.lemmas.List.Elements.{All-from_recursion, recursion_from_All}
 use Rattle.std.proofs.lemmas.List.{length-replicate}
-use Rattle.std.proofs.lemmas.Bool.{cases_eq, cases_lt, not_from_false, false≢true, lt-ltb, le-ltb, eq-eqb, ne_eqb}
+use Rattle.std.proofs.lemmas.Bool.{cases_eq, cases_lt, not_from_false, lt-ltb, le-ltb, eq-eqb, ne_eqb}
 use Rattle.ac_search.specs.Order.{lex_lt}
 use Rattle.ac_search.specs.Lists.{all_lists, IsListBelow, IsRising}
-use Rattle.ac_search.specs.Odometer.{successor, is_ahead, ahead, has_ended, start}
+use Rattle.ac_search.specs.Odometer.{successor, is_ahead, ahead, start}
 use Rattle.ac_search.specs.declared.odometer.Stage.TheVariants.{Fresh, Given, Ended}
 use Rattle.ac_search.proofs.Elements.{Among, filter_agree, filter_all, filter_none, each_weaker, each_all, each_among}
 use Rattle.ac_search.proofs.OrderLemmas.{lex_irrefl, lex_asym}
 use Rattle.ac_search.proofs.ListLemmas.{rising_all_lists, each_all_lists, among_all_lists}
-use Rattle.ac_search.proofs.OdometerLemmas.{Follows, IsLast, IsSuccessor, successor_is, zeros_least, each_zeros}
+use Rattle.ac_search.proofs.OdometerLemmas.{Follows, IsLast, IsSuccessor, successor_is, zeros_least}
 
 -- the list at the bound is the head, and those after it are the tail
 head_from : (ls : List (List ℕ)) (y : List ℕ) → IsRising ls → Among ls y → filter (λ t. is_ahead Fresh y t) ls ≡ y ∷ filter (λ t. is_ahead Given y t) ls
@@ -85,20 +85,3 @@ start_ahead n k y is = elim (cases_eq n 0) [
     | inr g ↦ rw (eq-eqb n 0 none, le-ltb 0 k g) (all_ahead n k y is)
   ]
 ]
-
-zeros_below : (n k : ℕ) → (0 < n) ⊎ (k ≡ 0) → Each (λ p. p < n) (replicate k 0)
-zeros_below n k (inl some) = each_zeros n k some
-zeros_below n zero (inr none) = tt
-zeros_below n (suc k) (inr none) = absurd (omega arith)
-
-pub start_below : (n k : ℕ) (y : List ℕ) → y ≡ replicate k 0 → has_ended (start n k) ≡ false → All (λ p. p < n) y
-start_below n k y is e = All-from_recursion (λ p. p < n) y (rw is (zeros_below n k some))
-  where
-    some : (0 < n) ⊎ (k ≡ 0)
-    some = elim (cases_eq n 0) [
-      | inr more ↦ inl (omega arith)
-      | inl none ↦ elim (cases_lt 0 k) [
-        | inl l ↦ absurd (false≢true (sym (rw (eq-eqb n 0 none, lt-ltb 0 k l) at e)))
-        | inr g ↦ inr (omega arith)
-      ]
-    ]

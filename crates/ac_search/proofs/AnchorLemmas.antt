@@ -1,5 +1,5 @@
 -- Roots, and the anchors of one provider of a list.
-use Rattle.std.proofs.Common.{◌≡◌, ◌&&◌, ◌-◌, ℕ, ◌+◌, ◌<◌, ◌≤◌, zero, suc, Bool, true, false, List, [], ◌∷◌, length, inl, inr, Option, None, Some, refl, sym, ap, ◌∙◌, arith, slice_get}
+use Rattle.std.proofs.Common.{◌≡◌, ◌&&◌, ℕ, ◌+◌, ◌<◌, ◌≤◌, zero, suc, Bool, true, false, List, [], ◌∷◌, length, inl, inr, Option, None, Some, refl, sym, ap, ◌∙◌, arith, slice_get}
 use Rattle.std.specs.List.{list_all, list_any, filter, range_with_len, All, AllByRecursion as Each}
 use Rattle.std.specs.Option.{is_some, is_none}
 use Rattle.std.proofs.lemmas.Bool.{cases_Bool, and_parts, eq-eqb, false≢true}
@@ -102,10 +102,3 @@ pub anchors_within : (all : List Provider) (p : ℕ) → All (λ r. r < length a
 anchors_within all p = All-from_recursion (λ r. r < length all) (anchors_of all p)
     (each_weaker _ (λ r. r < length all) (anchors_of all p) (λ r h. h.1)
     (each_filter (λ r. r < length all) (is_available_at all p) (range_with_len 0 (length all)) (each_range 0 (length all) (length all) (omega arith))))
-
--- all roots are looked at
-pub anchor_among_all : (all : List Provider) (asked : Asked) (ss : List Slot) (t : List ℕ) → length t ≤ length ss
-    → list_any (λ r. anchors_list all asked t r) (range_with_len 0 (length all - 0)) ≡ anchor all asked (placed ss t)
-anchor_among_all all asked ss t h =
-    let same : length all - 0 ≡ length all = omega arith in
-    ap (λ n. list_any (λ r. anchors_list all asked t r) (range_with_len 0 n)) same ∙ sym (anchor_list all asked ss t h)

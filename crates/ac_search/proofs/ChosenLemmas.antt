@@ -5,7 +5,8 @@ use Rattle.ac_query.specs.Asked.{Asked, slots_of}
 use Rattle.ac_tables.specs.World.{Provider}
 use Rattle.ac_search.specs.Lists.{all_lists}
 use Rattle.ac_search.specs.Judge.{is_candidate}
-use Rattle.ac_search.specs.Pages.{candidates, is_after, rest, chosen}
+use Rattle.ac_search.specs.Pages.{candidates, is_after, rest}
+use Rattle.ac_search.specs.PlainShown.{chosen}
 
 -- a list that is a candidate and comes after the ids
 pub chosen_here : (all : List Provider) (asked : Asked) (x : Option (List ℕ)) (t : List ℕ) (ts : List (List ℕ))

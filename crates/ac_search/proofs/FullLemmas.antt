@@ -3,11 +3,11 @@ use Rattle.std.proofs.Common.{inl, inr, ◌≡◌, ℕ, ◌<◌, ◌≤◌, Bool
 use Rattle.std.specs.List.{list_all, AllByRecursion}
 use Rattle.std.specs.Str.{bytes_eq}
 use Rattle.std.proofs.lemmas.Bool.{cases_Bool, cases_eq, cases_lt, and_parts, and_from, eq-eqb, ne_eqb}
+use Rattle.std.proofs.lemmas.Slice.Eq.{bytes_eq-Decides}
 use Rattle.ac_tables.specs.World.{Provider, provider_at}
 use Rattle.ac_search.specs.Placed.{Placed}
 use Rattle.ac_search.specs.Together.{amount_of, sum_on, holds, holds_sums, sums}
 use Rattle.ac_search.specs.Laws.{AskAmounts, IsFull, SumsSayFull}
-use Rattle.std.proofs.lemmas.Slice.Eq.{bytes_eq-Decides}
 
 -- a test of each class that needs name holds of a class of which they ask
 at_class : (f : List ℕ → Bool) (needs : List (List ℕ × ℕ)) (c : List ℕ) → list_all (λ need. f need.0) needs ≡ true → 0 < amount_of needs c → f c ≡ true

@@ -4,7 +4,6 @@ pub mod ListLemmas
 pub mod PlacedLemmas
 pub mod SlotLemmas
 pub mod PlaceLemmas
-pub mod CloudOrder
 pub mod TogetherLemmas
 pub mod AnchorLemmas
 pub mod FrontLemmas

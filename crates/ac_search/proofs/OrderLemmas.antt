@@ -1,9 +1,9 @@
 -- The order of lists is strict and total.
-use Rattle.std.proofs.lemmas.List.{drop_all}
 use Rattle.std.proofs.Common.{drop, length, nat_lt, length-drop, ◌≤◌, ◌≡◌, ℕ, ◌<◌, true, false, List, [], ◌∷◌, map, refl, sym, ap, ◌∙◌, arith, inl, inr}
 use Rattle.std.specs.List.{AllByRecursion as Each}
 use Rattle.std.proofs.lemmas.Bool.{cases_order, false_from_ne_true, false≢true}
 use Rattle.std.proofs.lemmas.Bool.Decides.{nat_tests}
+use Rattle.std.proofs.lemmas.List.{drop_all}
 use Rattle.ac_search.specs.Order.{lex_lt}
 
 pub lex_irrefl : (xs : List ℕ) → lex_lt xs xs ≡ false
@@ -18,19 +18,9 @@ lex_trans (x ∷ xs) [] zs h k = cc
 lex_trans (x ∷ xs) (y ∷ ys) [] h k = cc
 lex_trans (x ∷ xs) (y ∷ ys) (z ∷ zs) h k = grind (arith, nat_tests, lex_trans xs ys zs)
 
-pub lex_total : (xs ys : List ℕ) → lex_lt xs ys ≡ false → lex_lt ys xs ≡ false → xs ≡ ys
-lex_total [] [] h k = refl
-lex_total [] (y ∷ ys) h k = cc
-lex_total (x ∷ xs) [] h k = cc
-lex_total (x ∷ xs) (y ∷ ys) h k = grind (arith, nat_tests, lex_total xs ys)
-
 -- not both ways
 pub lex_asym : (xs ys : List ℕ) → lex_lt xs ys ≡ true → lex_lt ys xs ≡ false
 lex_asym xs ys h = false_from_ne_true _ (λ k. false≢true (sym (lex_irrefl xs) ∙ lex_trans xs ys xs h k))
-
-pub lex_nil : (xs : List ℕ) → lex_lt xs [] ≡ false
-lex_nil [] = refl
-lex_nil (x ∷ xs) = refl
 
 -- where f rises on the items, the lists of its values are ordered alike
 pub lex_map : (f : ℕ → ℕ) (n : ℕ) → ((p q : ℕ) → p < q → q < n → f p < f q) → (xs ys : List ℕ) → Each (λ p. p < n) xs → Each (λ p. p < n) ys

@@ -19,18 +19,18 @@ pub same_order : (all : List Provider) → AreInOrder all → (k : ℕ) (t u : L
 same_order all order k t u h j = lex_map (λ ix. id_at all ix) (length all) order t u
     (recursion_from_All (λ p. p < length all) t h.below) (recursion_from_All (λ p. p < length all) u j.below)
 
+last_in : (before : List (List ℕ)) (z : List ℕ) (ms : List (List ℕ)) → Among (before ++ z ∷ ms) z
+last_in [] z ms = inl refl
+last_in (a ∷ before) z ms = inr (last_in before z ms)
+
 -- what is after z in a rising list is what stands behind it
 after_place : (ls before : List (List ℕ)) (z : List ℕ) (ms : List (List ℕ)) → IsRising ls → ls ≡ before ++ z ∷ ms → filter (λ t. lex_lt z t) ls ≡ ms
 after_place ls before z ms h e = ap (filter (λ t. lex_lt z t)) e ∙ go before (subst IsRising e h)
   where
-    there : (f : List (List ℕ)) → Among (f ++ z ∷ ms) z
-    there [] = inl refl
-    there (a ∷ f) = inr (there f)
-
     go : (front : List (List ℕ)) → IsRising (front ++ z ∷ ms) → filter (λ t. lex_lt z t) (front ++ z ∷ ms) ≡ ms
     go [] r = rw (lex_irrefl z) (filter_all (λ t. lex_lt z t) ms r.0)
     go (x ∷ front) r =
-        let up = each_among (λ y. lex_lt x y ≡ true) (front ++ z ∷ ms) z r.0 (there front) in
+        let up = each_among (λ y. lex_lt x y ≡ true) (front ++ z ∷ ms) z r.0 (last_in front z ms) in
         rw (lex_asym x z up) (go front r.1)
 
 -- what a cut leaves
@@ -53,10 +53,6 @@ unfolding behind_cut
 cut_twice None m ls = rw (cut_nil m) (append-nil ls)
 cut_twice (Some n) None ls = take-append-drop n ls
 cut_twice (Some n) (Some m) ls = sym (take-add n m ls)
-
-last_in : (before : List (List ℕ)) (z : List ℕ) (ms : List (List ℕ)) → Among (before ++ z ∷ ms) z
-last_in [] z ms = inl refl
-last_in (a ∷ before) z ms = inr (last_in before z ms)
 
 -- after a list that is left come those behind it
 rest_after : (all : List Provider) → AreInOrder all → (asked : Asked) (x : Option (List ℕ)) (z : List ℕ) (before ms : List (List ℕ))

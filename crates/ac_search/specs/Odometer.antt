@@ -6,7 +6,7 @@ use Rattle.ac_search.specs.Lists.{all_lists}
 use Rattle.ac_search.specs.declared.odometer.Stage.{Stage}
 use Rattle.ac_search.specs.declared.odometer.Stage.TheVariants.{Fresh, Given, Ended}
 
--- the next list of k more numbers below n, where those behind the first may have one
+-- what comes after a first number and k more: the same number before what comes after those, or the next number, below n, before zeros
 abbrev pub successor_by : ℕ → ℕ → ℕ → Option (List ℕ) → Option (List ℕ)
 successor_by n first k (Some more) = Some (first ∷ more)
 successor_by n first k None = if nat_lt (first + 1) n then Some ((first + 1) ∷ replicate k 0) else None

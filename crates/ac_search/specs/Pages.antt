@@ -32,7 +32,3 @@ cut (Some n) ts = take n ts
 -- a page: the first n candidates after a list of ids
 abbrev pub page : List Provider → Asked → Option (List ℕ) → Option ℕ → List (List ℕ)
 page all asked x n = cut n (rest all asked x)
-
--- of some lists, the candidates after a list of ids
-unfoldable pub chosen : List Provider → Asked → Option (List ℕ) → List (List ℕ) → List (List ℕ)
-chosen all asked x ts = filter (λ t. is_after all x t) (filter (λ t. is_candidate all asked t) ts)

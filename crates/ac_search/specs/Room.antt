@@ -1,16 +1,11 @@
 -- What a provider may still give of a class.
-use Rattle.std.specs.Prelude.{ℕ, ◌-◌, Bool, false, min, nat_le, Option, None, Some, if◌then◌else◌}
+use Rattle.std.specs.Prelude.{ℕ, ◌-◌, min, nat_le, Option, None, Some, if◌then◌else◌}
 use Rattle.ac_base.specs.Quantities.{Stock, capacity}
 
 -- the most that one assignment may take of an inventory of which so much is used; none where more is used than there is
 abbrev pub room_in : Option Stock → ℕ → Option ℕ
 room_in None used = None
 room_in (Some stock) used = if nat_le used (capacity stock) then Some (min stock.max_unit (capacity stock - used)) else None
-
--- a sum is within a room
-abbrev pub is_within : Option ℕ → ℕ → Bool
-is_within None sum = false
-is_within (Some room) sum = nat_le sum room
 
 -- what is left of a room when an amount is taken, where it suffices
 abbrev pub less : ℕ → ℕ → Option ℕ

@@ -13,9 +13,9 @@ use crate::own::{has_all, has_none};
 use ac_query::Query;
 use ac_tables::Cloud;
 
-/// Whether a provider is a root that has what the query asks of the root.
+// Whether a provider is a root that has what the query asks of the root.
 #[tactic(auto, using(crate::proofs::AnchorLemmas::available_itself), unfolding(crate::specs::Together::takes_root))]
-pub(crate) fn takes_root(cloud: &Cloud, query: &Query, root: u32) -> bool
+fn takes_root(cloud: &Cloud, query: &Query, root: u32) -> bool
     requires { root < length (providers_of cloud.now) }
     ensures { result ≡ takes_root (providers_of cloud.now) (asked_of query.now) root }
 {
@@ -24,9 +24,9 @@ pub(crate) fn takes_root(cloud: &Cloud, query: &Query, root: u32) -> bool
         && has_none(cloud, root, query.root_forbidden())
 }
 
-/// Whether the query takes some root of the cloud, which may host nothing.
+// Whether the query takes some root of the cloud, which may host nothing.
 #[tactic(auto, using(crate::proofs::PlacedLemmas::range_more, crate::proofs::PlacedLemmas::range_end))]
-pub(crate) fn takes_some_root(cloud: &Cloud, query: &Query) -> bool
+fn takes_some_root(cloud: &Cloud, query: &Query) -> bool
     ensures { result ≡ list_any (λ r. takes_root (providers_of cloud.now) (asked_of query.now) r) (range_with_len 0 (length (providers_of cloud.now))) }
 {
     for root in 0..cloud.len() {

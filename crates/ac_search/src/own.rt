@@ -1,13 +1,13 @@
 //! The four rules of a single slot and its provider.
 
 ghost use Rattle.std.specs.Prelude.{◌≡◌, ◌<◌, length, map};
+ghost use Rattle.std.specs.List.{list_any};
 ghost use Rattle.ac_base.specs.Names.{trait_bytes};
 ghost use Rattle.ac_tables.specs.World.{provider_at};
 ghost use Rattle.ac_tables.specs.CloudWorld.{providers_of};
 ghost use Rattle.ac_query.specs.Asked.{slots_of};
 ghost use Rattle.ac_query.specs.GroupsShown.{need_entry, rule_shown};
 ghost use Rattle.ac_query.specs.QueriesShown.{asked_of};
-ghost use Rattle.std.specs.List.{list_any};
 ghost use Rattle.ac_search.specs.Placed.{placed_at};
 ghost use Rattle.ac_search.specs.Own.{stock_of, admits, units_fit, has_all, has_none, traits_fit, counts_in, meets_rule, aggregates_fit, tree_fits};
 
@@ -80,7 +80,7 @@ pub(crate) fn has_slot_traits(cloud: &Cloud, query: &Query, s: usize, ix: u32) -
         && (group.suffix().is_none() || has_all(cloud, ix, group.required()))
 }
 
-// Whether an aggregate is the provider's, or in the unsuffixed group its root's.
+// Whether an aggregate counts as the provider's: it is its own, or in the unsuffixed group its root's.
 fn counts_in(cloud: &Cloud, query: &Query, s: usize, ix: u32, aggregate: Id) -> bool
     requires slot { s < length (slots_of (asked_of query.now)) }
     requires provider { ix < length (providers_of cloud.now) }
@@ -90,7 +90,7 @@ fn counts_in(cloud: &Cloud, query: &Query, s: usize, ix: u32, aggregate: Id) -> 
         || (!is_suffixed(query, s) && cloud.in_aggregate(cloud.root(ix), aggregate))
 }
 
-// Whether one of the aggregates is the provider's.
+// Whether one of the aggregates counts as the provider's.
 fn counts_in_any(cloud: &Cloud, query: &Query, s: usize, ix: u32, ids: &[Id]) -> bool
     requires slot { s < length (slots_of (asked_of query.now)) }
     requires provider { ix < length (providers_of cloud.now) }

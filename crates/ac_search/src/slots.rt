@@ -17,7 +17,7 @@ pub(crate) fn count_slots(query: &Query) -> usize
     query.slots().len()
 }
 
-/// The place of a slot's group among the groups.
+// The place of a slot's group among the groups.
 fn place_at(query: &Query, s: usize) -> usize
     requires { s < length (slots_of (asked_of query.now)) }
     ensures place { result ≡ (slot_at (asked_of query.now) s).place }

@@ -18,9 +18,9 @@ use ac_base::ClassName;
 use ac_query::{Need, Query};
 use ac_tables::Cloud;
 
-/// The most of a class that one assignment may take of a provider: `max_unit`, or what is left of the capacity.
-/// `None` where it has none of the class, or more is used than there is.
-pub(crate) fn room_at(cloud: &Cloud, ix: u32, class: &ClassName) -> Option<u64>
+// The most of a class that one assignment may take of a provider: `max_unit`, or what is left of the capacity.
+// `None` where it has none of the class, or more is used than there is.
+fn room_at(cloud: &Cloud, ix: u32, class: &ClassName) -> Option<u64>
     requires { ix < length (providers_of cloud.now) }
     ensures { result ≡ room_in (stock_of (provider_at (providers_of cloud.now) ix) (class_bytes class.now)) (used_of (provider_at (providers_of cloud.now) ix) (class_bytes class.now)) }
 {
@@ -31,7 +31,7 @@ pub(crate) fn room_at(cloud: &Cloud, ix: u32, class: &ClassName) -> Option<u64>
     Some(unused.min(u64::from(inventory.max_unit())))
 }
 
-/// What is left of a room after what the needs ask of a class; `None` where it doesn't suffice.
+// What is left of a room after what the needs ask of a class; `None` where it doesn't suffice.
 fn take_needs(needs: &[Need], class: &ClassName, room: u64) -> Option<u64>
     ensures { result ≡ less room (amount_of (map need_entry needs.now) (class_bytes class.now)) }
 {

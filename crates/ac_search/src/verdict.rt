@@ -5,7 +5,7 @@ pub enum Rule {
     Units,
     /// No provider has a forbidden trait of its group; in a suffixed group it has all required ones.
     SlotTraits,
-    /// Each provider is in the aggregates that its group asks for, and in none that it forbids.
+    /// Of the aggregates of each rule of its group, each provider is in one, or in none where the rule forbids them.
     Aggregates,
     /// Each provider is in the tree that its group names.
     Tree,

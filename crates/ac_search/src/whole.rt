@@ -9,7 +9,6 @@ ghost use Rattle.ac_query.specs.QueriesShown.{asked_of};
 ghost use Rattle.ac_search.specs.Placed.{placed, assigned, placed_at};
 ghost use Rattle.ac_search.specs.Together.{is_brought, collective, are_apart, all_apart, isolate, listed, is_top, subtree};
 
-use crate::own::{has_all, has_none};
 use crate::slots::{is_listed, is_set_apart, is_suffixed};
 use ac_base::TraitName;
 use ac_query::Query;

@@ -2,7 +2,7 @@ use Rattle.std.proofs.Common.{ap, sym, ◌∙◌}
 use Rattle.ac_query.specs.QueriesShown.{asked_of}
 use Rattle.ac_tables.specs.World.{id_at, root_of}
 use Rattle.ac_tables.specs.CloudWorld.{providers_of}
-use Rattle.ac_search.proofs.CloudOrder.{in_order}
+use Rattle.ac_tables.proofs.ProvidersStated.{cloud_in_order}
 use Rattle.ac_search.specs.Placed.{placed_at}
 use Rattle.ac_search.proofs.PlaceLemmas.{found_within, place_in_order, tree_at}
 use Rattle.ac_search.proofs.own.is_in_tree.Goals as goal
@@ -14,7 +14,7 @@ root-requires-in-Some-index_of c =
 pub returns-in-Some-index_of : goal.returns-in-Some-index_of
 returns-in-Some-index_of c =
     let all = providers_of c.args.cloud.now in
-    let order = in_order c.args.cloud.now in
+    let order = (cloud_in_order c.args.cloud.now).order in
     let ix = c.args.ix in
     let place = c.in-Some-index_of.place in
     tree_at all (placed_at (asked_of c.args.query.now) c.args.s ix) c.in-Some.id place

@@ -1,13 +1,12 @@
-use Rattle.std.proofs.Common.{◌≡◌, ℕ, List, map, drop}
+use Rattle.std.proofs.Common.{◌≡◌, ◌||◌, ℕ, List, Option, map, drop}
 use Rattle.std.specs.List.{list_all}
+use Rattle.std.specs.Option.{is_some}
 use Rattle.ac_query.specs.Asked.{Group}
 use Rattle.ac_query.specs.GroupsShown.{group_entry}
 use Rattle.ac_query.specs.QueriesShown.{asked_of}
 use Rattle.ac_tables.specs.CloudWorld.{providers_of}
 use Rattle.ac_search.specs.Placed.{assigned}
 use Rattle.ac_search.specs.Together.{is_brought}
-use Rattle.std.specs.Option.{is_some}
-use Rattle.std.specs.Prelude.{Option, ◌||◌}
 use Rattle.ac_search.proofs.whole.are_collective.Given as goal
 
 abbrev pub invariant-loop-group : goal.invariant-loop-group

@@ -2,7 +2,8 @@ use Rattle.std.proofs.Common.{ap, ◌∙◌}
 use Rattle.std.specs.Option.{option_map}
 use Rattle.ac_query.specs.QueriesShown.{asked_of}
 use Rattle.ac_tables.specs.CloudWorld.{providers_of}
-use Rattle.ac_search.specs.Pages.{rest, chosen}
+use Rattle.ac_search.specs.Pages.{rest}
+use Rattle.ac_search.specs.PlainShown.{chosen}
 use Rattle.ac_search.proofs.ChosenLemmas.{chosen_all}
 use Rattle.ac_search.proofs.plain.Plain.new.Goals as goal
 

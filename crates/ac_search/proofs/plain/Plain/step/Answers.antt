@@ -2,9 +2,9 @@ use Rattle.std.proofs.Common.{◌≡◌, ◌&&◌, ℕ, List, [], ◌∷◌, Boo
 use Rattle.ac_query.specs.QueriesShown.{asked_of}
 use Rattle.ac_tables.specs.CloudWorld.{providers_of}
 use Rattle.ac_search.specs.Judge.{is_candidate}
-use Rattle.ac_search.specs.Pages.{is_after, chosen}
+use Rattle.ac_search.specs.Pages.{is_after}
 use Rattle.ac_search.specs.ListsShown.{list_of, lists_left}
-use Rattle.ac_search.specs.PlainShown.{after_of, left_of}
+use Rattle.ac_search.specs.PlainShown.{after_of, chosen, left_of}
 use Rattle.ac_search.specs.declared.plain.Plain.{Plain}
 use Rattle.ac_search.proofs.ChosenLemmas.{chosen_here, chosen_later, chosen_none}
 use Rattle.ac_search.proofs.plain.Plain.step.Goals as goal
