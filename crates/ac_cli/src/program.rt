@@ -5,20 +5,20 @@ ghost use Rattle.ac_cli.specs.Answer.{answer};
 ghost use Rattle.ac_cli.specs.Feeds.{Bytes, TellBytes};
 ghost use Rattle.ac_cli.specs.Jobs.{task_of};
 ghost use Rattle.ac_cli.specs.Program.{status_of};
-ghost use Rattle.ac_cli.specs.Words.{HasToken, path_of};
+ghost use Rattle.ac_cli.specs.Words.{HasToken};
 
 use crate::inputs::Inputs;
+use crate::opening::opened_inputs;
 use crate::refusal::Refusal;
 use crate::run::run;
 use crate::sample;
 use crate::telling::tell;
 use crate::words::{Job, WordFault, Words, read_words};
-use ac_base::{Feed, FromRead, ToWrite};
-use ac_tables::Table;
+use ac_base::{Feed, ToWrite};
 use std::alloc::Global;
+use std::env;
 use std::io::{BufWriter, ErrorKind, Write};
 use std::rt::{Env, Files};
-use std::{env, fs};
 
 // How many bytes of output are gathered before they are written.
 const BUFFER: usize = 65536;
@@ -77,12 +77,9 @@ fn answer<R: Env + Files + AllocGlobal, O: Write + Drop, E: Write>(
     }
     match read_words(rt.alloc(), given.as_slice()) {
         Ok(words) => {
-            let mut inputs = Inputs {
-                providers: needed_feed(rt, &words, Table::Providers)?,
-                inventories: needed_feed(rt, &words, Table::Inventories)?,
-                usages: feed(rt, &words, Table::Usages)?,
-                traits: feed(rt, &words, Table::Traits)?,
-                aggregates: feed(rt, &words, Table::Aggregates)?,
+            let mut inputs = match opened_inputs(rt, &words) {
+                Ok(inputs) => inputs,
+                Err(refusal) => return Err(Stop::Refused(refusal)),
             };
             answer_job(rt.alloc(), &words.job(), &mut inputs, out, err)
         }
@@ -103,32 +100,6 @@ fn given_words<R: Env + AllocGlobal>(rt: &R) -> Result<Vec<String>, Stop> {
             Err(Stop::Refused(Refusal::NoMemory))
         }
         Err(_) => Err(Stop::NotText),
-    }
-}
-
-// Opens the file of a table.
-fn opened<R: Files>(rt: &R, path: &str, table: Table) -> Result<FromRead<R::File>, Stop> {
-    match fs::open(rt, path) {
-        Ok(file) => Ok(FromRead::new(file)),
-        Err(_) => Err(Stop::Refused(Refusal::Unreadable(table))),
-    }
-}
-
-// The file of a table that has to be given.
-fn needed_feed<R: Files>(rt: &R, words: &Words, table: Table) -> Result<FromRead<R::File>, Stop>
-    requires { is_some (path_of words.now table) ≡ true }
-{
-    match words.path(table) {
-        Some(path) => opened(rt, path, table),
-        None => unreachable!(),
-    }
-}
-
-// The file of a table, where one was given.
-fn feed<R: Files>(rt: &R, words: &Words, table: Table) -> Result<Option<FromRead<R::File>>, Stop> {
-    match words.path(table) {
-        Some(path) => Ok(Some(opened(rt, path, table)?)),
-        None => Ok(None),
     }
 }
 
