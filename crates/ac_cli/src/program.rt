@@ -1,14 +1,14 @@
 //! The program around `run`: its words, its files and the standard streams.
-ghost use Rattle.std.specs.Prelude.{◌≡◌, ◌≤◌, ◌<◌, IfErr, IfOk, is_some, option_map, true};
+ghost use Rattle.std.specs.Prelude.{◌≡◌, ◌≤◌, ◌<◌, ◌⊎◌, [], IfErr, IfOk, map, option_map, string_bytes};
 ghost use Rattle.std.specs.Io.KnownBytes.{Appends};
 ghost use Rattle.ac_cli.specs.Answer.{answer};
 ghost use Rattle.ac_cli.specs.Feeds.{Bytes, TellBytes};
 ghost use Rattle.ac_cli.specs.Jobs.{task_of};
-ghost use Rattle.ac_cli.specs.Program.{status_of};
-ghost use Rattle.ac_cli.specs.Words.{HasToken};
+ghost use Rattle.ac_cli.specs.Program.{Answers, Arrives, IsStopOf, Shows, status_of};
+ghost use Rattle.ac_cli.specs.Words.{HasToken, faults, named};
 
 use crate::inputs::Inputs;
-use crate::opening::opened_inputs;
+use crate::opening::{Opener, opened_inputs};
 use crate::refusal::Refusal;
 use crate::run::run;
 use crate::sample;
@@ -75,7 +75,20 @@ fn answer<R: Env + Files + AllocGlobal, O: Write + Drop, E: Write>(
     if given.len() < 2 {
         return answer_job(rt.alloc(), &sample::job(), &mut sample::inputs(), out, err);
     }
-    match read_words(rt.alloc(), given.as_slice()) {
+    answer_words(rt, given.as_slice(), out, err)
+}
+
+// Does what the words ask for.
+fn answer_words<R: Opener + AllocGlobal, O: Write + Drop, E: Write>(
+    rt: &R,
+    given: &[String],
+    out: O,
+    err: &mut E,
+) -> Result<(u8, O), Stop>
+    ensures done { let texts = map string_bytes given.now in IfOk result (λ end. end.0 ≤ 1 → Shows (faults texts) end.0 ⊎ Answers (R.opens rt.now) R.File.remaining (named texts) (O.contents out) (O.contents end.1) end.0) }
+    ensures stop { IfErr result (IsStopOf (faults (map string_bytes given.now))) }
+{
+    match read_words(rt.alloc(), given) {
         Ok(words) => {
             let mut inputs = match opened_inputs(rt, &words) {
                 Ok(inputs) => inputs,
@@ -112,8 +125,9 @@ fn answer_job<F: Feed, O: Write + Drop, E: Write>(
     err: &mut E,
 ) -> Result<(u8, O), Stop>
     requires { HasToken job.now.command (option_map (λ token. token.now) job.now.token) }
-    ensures written { IfOk result (λ end. end.0 ≤ 1 → (b : Bytes) → TellBytes F.remaining inputs.old b → Appends (O.contents out) (O.contents end.1) (answer (task_of job.now) b).output) }
+    ensures written { IfOk result (λ end. end.0 ≤ 1 → (b : Bytes) → TellBytes F.remaining inputs.old b → Arrives (answer (task_of job.now) b) (O.contents out) (O.contents end.1) end.0) }
     ensures unwritten { IfErr result (λ stop. 1 < status_of stop) }
+    ensures stop { IfErr result (IsStopOf []) }
 {
     let Ok(buffer) = BufWriter::with_capacity(alloc, BUFFER, out) else {
         return Err(Stop::Refused(Refusal::NoMemory));
@@ -129,7 +143,8 @@ fn answer_job<F: Feed, O: Write + Drop, E: Write>(
 
 // Writes a text that was asked for.
 fn show<O: Write + Drop>(text: &str, mut out: O) -> Result<(u8, O), Stop>
-    ensures { IfOk result (λ end. (end.0 ≡ 0) × Appends (O.contents out) (O.contents end.1) text.now) }
+    ensures written { IfOk result (λ end. (end.0 ≡ 0) × Appends (O.contents out) (O.contents end.1) text.now) }
+    ensures stop { IfErr result (λ stop. stop ≡ Stop.Refused Refusal.Output) }
 {
     match out.write_all(text.as_bytes()) {
         Ok(()) => Ok((0, out)),
