@@ -2,6 +2,7 @@
 use Rattle.std.proofs.Common.{◌≡◌, ◌∙◌, ℕ, ◌==◌, Bool, true, false, List, length, Option, Some, None, if◌then◌else◌, refl, sym, ap, subst, arith}
 use Rattle.std.proofs.lemmas.Bool.Decides.{nat_tests}
 use Rattle.std.specs.Io.KnownBytes.{Keeps}
+use Rattle.ac_query.specs.Asked.{Asked}
 use Rattle.ac_query.specs.Tokens.{fault_of}
 use Rattle.ac_query.specs.declared.token.TokenFault.TheVariants.{WrongLength}
 use Rattle.ac_tables.specs.World.{World}
@@ -54,3 +55,15 @@ module _ (given : Command) (task : Task) (world : World) (s : Option (List ℕ))
 
   pub explains_verify : given ≡ command.Verify → ExplainsWanted task refusal → ExplainsOutcome (answer_in given task world) s s rose refusal
   explains_verify is h = explains command.Verify (verdict_line world.providers) is refl h
+
+-- ---- what is said of a query and a token that were read is the answer of their command
+
+module _ (given : Command) (task : Task) (world : World) (asked : Asked) (ids : Option (List ℕ)) (said : (say : Says) → past_query say task ≡ say asked ids) where
+  pub said_candidates : given ≡ command.Candidates → page_body world.providers asked ids ≡ answer_in given task world
+  said_candidates is = sym (ap (λ k. answer_in k task world) is ∙ said (page_body world.providers))
+
+  pub said_tokens : given ≡ command.Tokens → page_lines world.providers asked ids ≡ answer_in given task world
+  said_tokens is = sym (ap (λ k. answer_in k task world) is ∙ said (page_lines world.providers))
+
+  pub said_verdict : {list : List ℕ} → ids ≡ Some list → given ≡ command.Verify → verdict_line world.providers asked (Some list) ≡ answer_in given task world
+  said_verdict e is = sym (ap (λ k. answer_in k task world) is ∙ said (verdict_line world.providers) ∙ ap (verdict_line world.providers asked) e)

@@ -11,4 +11,5 @@ pub mod Answer
 pub mod Run
 pub mod Words
 pub mod Jobs
+pub mod Opening
 pub mod Program

@@ -6,6 +6,7 @@ mod asking;
 mod digits;
 mod draining;
 mod inputs;
+mod opening;
 mod outputs;
 mod pieces;
 mod program;

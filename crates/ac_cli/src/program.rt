@@ -1,24 +1,24 @@
 //! The program around `run`: its words, its files and the standard streams.
-ghost use Rattle.std.specs.Prelude.{◌≡◌, ◌≤◌, ◌<◌, IfErr, IfOk, is_some, option_map, true};
+ghost use Rattle.std.specs.Prelude.{◌≡◌, ◌≤◌, ◌<◌, ◌⊎◌, [], IfErr, IfOk, map, option_map, string_bytes};
 ghost use Rattle.std.specs.Io.KnownBytes.{Appends};
 ghost use Rattle.ac_cli.specs.Answer.{answer};
 ghost use Rattle.ac_cli.specs.Feeds.{Bytes, TellBytes};
 ghost use Rattle.ac_cli.specs.Jobs.{task_of};
-ghost use Rattle.ac_cli.specs.Program.{status_of};
-ghost use Rattle.ac_cli.specs.Words.{HasToken, path_of};
+ghost use Rattle.ac_cli.specs.Program.{Answers, Arrives, IsStopOf, Shows, status_of};
+ghost use Rattle.ac_cli.specs.Words.{HasToken, faults, named};
 
 use crate::inputs::Inputs;
+use crate::opening::{Opener, opened_inputs};
 use crate::refusal::Refusal;
 use crate::run::run;
 use crate::sample;
 use crate::telling::tell;
 use crate::words::{Job, WordFault, Words, read_words};
-use ac_base::{Feed, FromRead, ToWrite};
-use ac_tables::Table;
+use ac_base::{Feed, ToWrite};
 use std::alloc::Global;
+use std::env;
 use std::io::{BufWriter, ErrorKind, Write};
 use std::rt::{Env, Files};
-use std::{env, fs};
 
 // How many bytes of output are gathered before they are written.
 const BUFFER: usize = 65536;
@@ -75,14 +75,24 @@ fn answer<R: Env + Files + AllocGlobal, O: Write + Drop, E: Write>(
     if given.len() < 2 {
         return answer_job(rt.alloc(), &sample::job(), &mut sample::inputs(), out, err);
     }
-    match read_words(rt.alloc(), given.as_slice()) {
+    answer_words(rt, given.as_slice(), out, err)
+}
+
+// Does what the words ask for.
+fn answer_words<R: Opener + AllocGlobal, O: Write + Drop, E: Write>(
+    rt: &R,
+    given: &[String],
+    out: O,
+    err: &mut E,
+) -> Result<(u8, O), Stop>
+    ensures done { let texts = map string_bytes given.now in IfOk result (λ end. end.0 ≤ 1 → Shows (faults texts) end.0 ⊎ Answers (R.opens rt.now) R.File.remaining (named texts) (O.contents out) (O.contents end.1) end.0) }
+    ensures stop { IfErr result (IsStopOf (faults (map string_bytes given.now))) }
+{
+    match read_words(rt.alloc(), given) {
         Ok(words) => {
-            let mut inputs = Inputs {
-                providers: needed_feed(rt, &words, Table::Providers)?,
-                inventories: needed_feed(rt, &words, Table::Inventories)?,
-                usages: feed(rt, &words, Table::Usages)?,
-                traits: feed(rt, &words, Table::Traits)?,
-                aggregates: feed(rt, &words, Table::Aggregates)?,
+            let mut inputs = match opened_inputs(rt, &words) {
+                Ok(inputs) => inputs,
+                Err(refusal) => return Err(Stop::Refused(refusal)),
             };
             answer_job(rt.alloc(), &words.job(), &mut inputs, out, err)
         }
@@ -106,32 +116,6 @@ fn given_words<R: Env + AllocGlobal>(rt: &R) -> Result<Vec<String>, Stop> {
     }
 }
 
-// Opens the file of a table.
-fn opened<R: Files>(rt: &R, path: &str, table: Table) -> Result<FromRead<R::File>, Stop> {
-    match fs::open(rt, path) {
-        Ok(file) => Ok(FromRead::new(file)),
-        Err(_) => Err(Stop::Refused(Refusal::Unreadable(table))),
-    }
-}
-
-// The file of a table that has to be given.
-fn needed_feed<R: Files>(rt: &R, words: &Words, table: Table) -> Result<FromRead<R::File>, Stop>
-    requires { is_some (path_of words.now table) ≡ true }
-{
-    match words.path(table) {
-        Some(path) => opened(rt, path, table),
-        None => unreachable!(),
-    }
-}
-
-// The file of a table, where one was given.
-fn feed<R: Files>(rt: &R, words: &Words, table: Table) -> Result<Option<FromRead<R::File>>, Stop> {
-    match words.path(table) {
-        Some(path) => Ok(Some(opened(rt, path, table)?)),
-        None => Ok(None),
-    }
-}
-
 // Runs the job: its status, and the output, where all of the answer has arrived if it was written.
 fn answer_job<F: Feed, O: Write + Drop, E: Write>(
     alloc: Global,
@@ -141,8 +125,9 @@ fn answer_job<F: Feed, O: Write + Drop, E: Write>(
     err: &mut E,
 ) -> Result<(u8, O), Stop>
     requires { HasToken job.now.command (option_map (λ token. token.now) job.now.token) }
-    ensures written { IfOk result (λ end. end.0 ≤ 1 → (b : Bytes) → TellBytes F.remaining inputs.old b → Appends (O.contents out) (O.contents end.1) (answer (task_of job.now) b).output) }
+    ensures written { IfOk result (λ end. end.0 ≤ 1 → (b : Bytes) → TellBytes F.remaining inputs.old b → Arrives (answer (task_of job.now) b) (O.contents out) (O.contents end.1) end.0) }
     ensures unwritten { IfErr result (λ stop. 1 < status_of stop) }
+    ensures stop { IfErr result (IsStopOf []) }
 {
     let Ok(buffer) = BufWriter::with_capacity(alloc, BUFFER, out) else {
         return Err(Stop::Refused(Refusal::NoMemory));
@@ -158,7 +143,8 @@ fn answer_job<F: Feed, O: Write + Drop, E: Write>(
 
 // Writes a text that was asked for.
 fn show<O: Write + Drop>(text: &str, mut out: O) -> Result<(u8, O), Stop>
-    ensures { IfOk result (λ end. (end.0 ≡ 0) × Appends (O.contents out) (O.contents end.1) text.now) }
+    ensures written { IfOk result (λ end. (end.0 ≡ 0) × Appends (O.contents out) (O.contents end.1) text.now) }
+    ensures stop { IfErr result (λ stop. stop ≡ Stop.Refused Refusal.Output) }
 {
     match out.write_all(text.as_bytes()) {
         Ok(()) => Ok((0, out)),
