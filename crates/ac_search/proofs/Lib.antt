@@ -16,4 +16,7 @@ pub mod AheadLemmas
 pub mod ChosenLemmas
 pub mod FullLemmas
 pub mod ApartLemmas
+pub mod FrontOrder
+pub mod ShorterLemmas
+pub mod BoundLemmas
 mod Literals

@@ -6,6 +6,7 @@ pub mod Together
 pub mod Room
 pub mod Judge
 pub mod Pages
+pub mod Search
 pub mod Odometer
 pub mod ListsShown
 pub mod PlainShown
