@@ -19,4 +19,13 @@ pub mod ApartLemmas
 pub mod FrontOrder
 pub mod ShorterLemmas
 pub mod BoundLemmas
+pub mod SoughtLemmas
+pub mod EntryLemmas
+pub mod BetweenLemmas
+pub mod MoveLemmas
+pub mod BeginLemmas
+pub mod TryLemmas
+pub mod SeekLemmas
+pub mod OpenLemmas
+pub mod LeastLemmas
 mod Literals

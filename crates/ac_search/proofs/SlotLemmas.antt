@@ -36,7 +36,7 @@ of_groups [] i = tt
 of_groups (g ∷ gs) i = each_append (IsOf (g ∷ gs) i) (group_slots i g) (slots_from (i + 1) gs) (of_group gs i g)
     (each_weaker (IsOf gs (i + 1)) (IsOf (g ∷ gs) i) (slots_from (i + 1) gs) (further gs i g) (of_groups gs (i + 1)))
 
-each_at : {X : Type 0} (P : X → Type 0) (xs : List X) (i : ℕ) (d : X) → Each P xs → i < length xs → P (slice_index_or xs i d)
+pub each_at : {X : Type 0} (P : X → Type 0) (xs : List X) (i : ℕ) (d : X) → Each P xs → i < length xs → P (slice_index_or xs i d)
 each_at P [] i d h k = absurd (omega arith)
 each_at P (x ∷ xs) zero d h k = h.0
 each_at P (x ∷ xs) (suc i) d h k = each_at P xs i d h.1 (omega arith)

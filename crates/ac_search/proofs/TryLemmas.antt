@@ -1,0 +1,69 @@
+-- What a try of the next choice comes to.
+use Rattle.std.proofs.Common.{◌≡◌, ℕ, ◌+◌, ◌-◌, ◌*◌, ◌<◌, ◌≤◌, zero, suc, Bool, true, false, List, [], ◌∷◌, ◌++◌, length, take, set, Option, None, Some, refl, sym, ap, ◌∙◌, subst, nat_lt, arith, length-append, length-take-le, take_all, length-set}
+use Rattle.std.specs.List.{filter, slice_index, AllByRecursion as Each}
+use Rattle.std.proofs.lemmas.Bool.{false≢true}
+use Rattle.std.proofs.lemmas.Bool.Decides.{nat_tests}
+use Rattle.std.proofs.lemmas.List.{get_or_past}
+use Rattle.std.proofs.Math.Nat.{mul-le-mul_left}
+use Rattle.ac_search.specs.Order.{lex_lt}
+use Rattle.ac_search.specs.Search.{Search, sought, between, choices_at, next_at, next_front, from, left_from, met, behind, IsSound}
+use Rattle.ac_search.proofs.Elements.{each_weaker, each_append, filter_none}
+use Rattle.ac_search.proofs.FrontOrder.{lex_one}
+use Rattle.ac_search.proofs.SoughtLemmas.{IsSearch, IsSought, each_sought, choice_in, low_at}
+use Rattle.ac_search.proofs.MoveLemmas.{left_next, left_given, front_place, path_low}
+use Rattle.ac_search.proofs.BetweenLemmas.{met_all, met_given}
+
+-- no candidate goes on by a choice at which the path does not stay open
+pub left_closed : (m : Search) → IsSearch m → (x path places : List ℕ) (d : ℕ) (seeking : Bool) (probes p : ℕ) → IsSound m x path places d seeking probes → slice_index places d < length (choices_at m d) → p ≡ next_at m d (slice_index places d)
+    → m.is_open (take d path ++ p ∷ []) ≡ false → left_from m x (next_front m path (set places d (slice_index places d + 1)) d) ≡ left_from m x (next_front m path places d)
+left_closed m laws x path places d seeking probes p s l is closed = sym (left_next m laws x path places d s.path_len s.places_len s.within l
+  (each_weaker (IsSought m x) (λ t. (u : List ℕ) → t ≡ take d path ++ next_at m d (slice_index places d) ∷ u → ⊥) (sought m x)
+    (λ t h u e. false≢true (sym closed ∙ subst (λ (r : ℕ). m.is_open (take d path ++ r ∷ []) ≡ true) (sym is) (choice_in m laws x t (take d path) u (next_at m d (slice_index places d)) h e).opens)) (each_sought m x)))
+
+-- the whole list that the last choice makes
+pub whole_path : (m : Search) (x path places : List ℕ) (d : ℕ) (seeking : Bool) (probes p : ℕ) → IsSound m x path places d seeking probes → suc d ≡ m.width → set path d p ≡ take d path ++ p ∷ []
+whole_path m x path places d seeking probes p s last =
+    sym (take_all (suc d) (set path d p) (omega (arith, length-set path d p, s.path_len))) ∙ front_place path d p (omega (arith, s.path_len))
+
+-- no candidate is a whole list that lacks what is asked of it
+pub left_lacking : (m : Search) → IsSearch m → (x path places : List ℕ) (d : ℕ) (seeking : Bool) (probes p : ℕ) → IsSound m x path places d seeking probes → slice_index places d < length (choices_at m d) → p ≡ next_at m d (slice_index places d) → suc d ≡ m.width
+    → m.is_wanted (set path d p) ≡ false → left_from m x (next_front m path (set places d (slice_index places d + 1)) d) ≡ left_from m x (next_front m path places d)
+left_lacking m laws x path places d seeking probes p s l is last lacks =
+    let whole : m.is_wanted (take d path ++ p ∷ []) ≡ false = subst (λ (u : List ℕ). m.is_wanted u ≡ false) (whole_path m x path places d seeking probes p s last) lacks in
+    let size : length (take d path) ≡ d = length-take-le d path (omega (arith, s.path_len)) in
+    sym (left_next m laws x path places d s.path_len s.places_len s.within l
+      (each_weaker (IsSought m x) (λ t. (u : List ℕ) → t ≡ take d path ++ next_at m d (slice_index places d) ∷ u → ⊥) (sought m x)
+        (λ t h u e. none size whole t h u (e ∙ ap (λ (r : ℕ). take d path ++ r ∷ u) (sym is))) (each_sought m x)))
+  where
+    none : length (take d path) ≡ d → m.is_wanted (take d path ++ p ∷ []) ≡ false → (t : List ℕ) → IsSought m x t → (u : List ℕ) → t ≡ take d path ++ p ∷ u → ⊥
+    none size whole t h [] e = false≢true (sym whole ∙ subst (λ (v : List ℕ). m.is_wanted v ≡ true) e h.wanted)
+    none size whole t h (r ∷ u) e = omega (arith, h.long, ap length e, length-append (take d path) (p ∷ r ∷ u))
+
+-- the whole list that has it all is the head
+pub left_whole : (m : Search) → IsSearch m → (x path places : List ℕ) (d : ℕ) (seeking : Bool) (probes p : ℕ) → IsSound m x path places d seeking probes → slice_index places d < length (choices_at m d) → p ≡ next_at m d (slice_index places d) → suc d ≡ m.width
+    → m.is_wanted (set path d p) ≡ true → left_from m x (next_front m path places d) ≡ set path d p ∷ left_from m x (next_front m path (set places d (slice_index places d + 1)) d)
+left_whole m laws x path places d seeking probes p s l is last has =
+    let same : next_front m path places d ≡ set path d p = ap (λ (r : ℕ). take d path ++ r ∷ []) (sym is) ∙ sym (whole_path m x path places d seeking probes p s last) in
+    let wanted : m.is_wanted (next_front m path places d) ≡ true = subst (λ (u : List ℕ). m.is_wanted u ≡ true) (sym same) has in
+    let low = each_append (λ r. r < m.count) (take d path) (next_at m d (slice_index places d) ∷ []) (path_low m laws x path places d seeking probes s) (low_at m laws d (slice_index places d) s.within l, tt) in
+    left_given m laws x path places d s.path_len s.places_len last l low wanted (rw (take_all (suc d) x (omega (arith, s.least_len))) at s.reached l) ∙ ap (λ (y : List ℕ). y ∷ left_from m x (next_front m path (set places d (slice_index places d + 1)) d)) same
+
+-- at the end of the first list nothing is left
+pub left_ended : (m : Search) → IsSearch m → (x path places : List ℕ) → 0 < m.width → length (choices_at m 0) ≤ slice_index places 0 → left_from m x (next_front m path places 0) ≡ []
+unfolding left_from
+left_ended m laws x path places some end = rw (get_or_past (choices_at m 0) (slice_index places 0) m.count end) (filter_none (from (m.count ∷ [])) (sought m x)
+  (each_weaker (IsSought m x) (λ t. from (m.count ∷ []) t ≡ false) (sought m x) below (each_sought m x)))
+  where
+    below : (t : List ℕ) → IsSought m x t → from (m.count ∷ []) t ≡ false
+    below [] h = let long = h.long in absurd (omega arith)
+    below (r ∷ s) h = let low : r < m.count = h.low.0 in rw lex_one (grind (arith, nat_tests))
+
+-- the tries are bounded
+pub counted_end : (m : Search) → IsSearch m → (x path places : List ℕ) (d : ℕ) (seeking : Bool) (probes : ℕ) → IsSound m x path places d seeking probes → probes ≤ m.count * length (between m x None)
+counted_end m laws x path places d seeking probes s = let cost = mul-le-mul_left m.count (met_all m laws x (next_front m path places d)) in let was = s.paid in omega arith
+
+pub counted_given : (m : Search) → IsSearch m → (x path places : List ℕ) (d : ℕ) (seeking : Bool) (probes p : ℕ) → IsSound m x path places d seeking probes → suc d ≡ m.width
+    → probes ≤ m.count * length (between m x (Some (take d path ++ p ∷ [])))
+counted_given m laws x path places d seeking probes p s last =
+    let cost = mul-le-mul_left m.count (met_given m laws x (take d path) p (next_at m d (slice_index places d)) (omega (arith, length-take-le d path (omega (arith, s.path_len))))) in
+    let was = s.paid in omega arith
