@@ -1,22 +1,25 @@
 -- The search of a query is one that a walk goes through.
-use Rattle.std.proofs.Common.{◌≡◌, ℕ, ◌+◌, ◌<◌, ◌≤◌, zero, suc, Bool, true, false, ◌&&◌, List, [], ◌∷◌, ◌++◌, inl, inr, length, map, get_or, drop, refl, sym, ap, ◌∙◌, subst, arith, slice_index_or, append-nil}
+use Rattle.std.proofs.Common.{◌≡◌, ℕ, ◌+◌, ◌<◌, ◌≤◌, zero, suc, Bool, true, false, ◌&&◌, List, [], ◌∷◌, ◌++◌, inl, inr, length, map, get_or, drop, refl, sym, ap, ◌∙◌, subst, arith, slice_index_or, slice_index, append-nil}
 use Rattle.std.specs.List.{filter, list_all, range_with_len, AllPairs, AllByRecursion as Each}
 use Rattle.std.proofs.lemmas.Bool.{cases_Bool, and_parts, and_from, false≢true}
 use Rattle.std.proofs.lemmas.List.{get_or-map, length-map, drop_more}
 use Rattle.std.proofs.lemmas.List.Kept.{AllPairs-filter}
 use Rattle.std.proofs.lemmas.List.Folds.{list_all-append}
 use Rattle.std.proofs.lemmas.List.FromFn.{length-range_with_len, get_or-range_with_len}
+use Rattle.std.proofs.lemmas.List.Elements.{filter-append}
+use Rattle.std.proofs.Common.{cond, add-one}
 use Rattle.ac_query.specs.Asked.{Asked, Slot, slots_of}
 use Rattle.ac_tables.specs.World.{Provider}
 use Rattle.ac_search.specs.Placed.{Placed, placed, placed_at, slot_at, no_slot, assigned}
 use Rattle.ac_search.specs.Own.{units_fit, traits_fit, aggregates_fit, tree_fits}
-use Rattle.ac_search.specs.Judge.{is_candidate, is_open, is_open_at}
+use Rattle.ac_search.specs.Together.{sums, isolate, anchor}
+use Rattle.ac_search.specs.Judge.{tests, is_candidate, is_open, is_open_at}
 use Rattle.ac_search.specs.Search.{choices_at}
-use Rattle.ac_search.specs.Tries.{fits, choice_of, choices_of, search_of}
+use Rattle.ac_search.specs.Tries.{fits, choice_of, choices_of, completes, search_of}
 use Rattle.ac_search.proofs.Elements.{Among, each_filter, each_weaker, each_all, among_filter, filter_none}
 use Rattle.ac_search.proofs.ListLemmas.{among_range}
-use Rattle.ac_search.proofs.PlacedLemmas.{placed_append}
-use Rattle.ac_search.proofs.FrontLemmas.{Opens, open_parts, opens, open_front, prefix_open}
+use Rattle.ac_search.proofs.PlacedLemmas.{placed_append, placed_none}
+use Rattle.ac_search.proofs.FrontLemmas.{all_weaker, Opens, open_parts, opens, open_front, prefix_open}
 use Rattle.ac_search.proofs.SoughtLemmas.{IsSearch}
 
 -- a slot at a depth, and its choices
@@ -79,11 +82,7 @@ pub placed_next : (asked : Asked) (q : List ℕ) (p : ℕ) → length q < length
 placed_next asked q p h =
     placed_append (slots_of asked) q (p ∷ [])
     ∙ ap (λ ss. assigned asked q ++ placed ss (p ∷ [])) (drop_more (slots_of asked) (length q) no_slot h)
-    ∙ ap (λ xs. assigned asked q ++ placed_at asked (length q) p ∷ xs) (none (drop (length q + 1) (slots_of asked)))
-  where
-    none : (ss : List Slot) → placed ss [] ≡ []
-    none [] = refl
-    none (s ∷ ss) = refl
+    ∙ ap (λ xs. assigned asked q ++ placed_at asked (length q) p ∷ xs) (placed_none (drop (length q + 1) (slots_of asked)))
 
 all_last : {X : Type 0} (f : X → Bool) (xs : List X) (x : X) → list_all f (xs ++ x ∷ []) ≡ true → f x ≡ true
 all_last f xs x h = (and_parts (f x) (list_all f []) (and_parts (list_all f xs) (list_all f (x ∷ [])) (sym (list_all-append f xs (x ∷ [])) ∙ h)).1).0
@@ -100,6 +99,19 @@ open_fits all asked q p h o =
     let aggregates : aggregates_fit all x ≡ true = all_last (λ y. aggregates_fit all y) xs x parts.aggregates in
     let tree : tree_fits all x ≡ true = all_last (λ y. tree_fits all y) xs x parts.tree in
     rw (units, traits, aggregates, tree) refl
+
+range_with_len_more : (a n : ℕ) → range_with_len a (n + 1) ≡ range_with_len a n ++ (a + n) ∷ []
+range_with_len_more a zero = ap (λ (i : ℕ). i ∷ []) (omega arith)
+range_with_len_more a (suc n) = rw add-one (ap (λ (l : List ℕ). a ∷ l) (ap (range_with_len (a + 1)) (sym (add-one n)) ∙ (range_with_len_more (a + 1) n ∙ ap (λ (i : ℕ). range_with_len (a + 1) n ++ i ∷ []) (omega arith))))
+
+-- one more provider of which it is asked
+pub choice_more : (f : ℕ → Bool) (i : ℕ) → filter f (range_with_len 0 (i + 1)) ≡ filter f (range_with_len 0 i) ++ cond (f i) (i ∷ []) []
+choice_more f i = rw (range_with_len_more 0 i, filter-append f (range_with_len 0 i) ((0 + i) ∷ [])) (ap (λ (p : ℕ). filter f (range_with_len 0 i) ++ cond (f p) (p ∷ []) []) (omega arith))
+
+pub choice_all : (all : List Provider) (asked : Asked) (slot : Slot) (o : Bool) (n : ℕ) → o ≡ is_open all asked [] → n ≡ length all
+    → filter (λ p. o && fits all (record { slot = slot; provider = p })) (range_with_len 0 n) ≡ choice_of all asked slot
+unfolding choice_of
+choice_all all asked slot o n e h = rw (e, h) refl
 
 begins : (all : List Provider) (asked : Asked) → 0 < length (choices_at (search_of all asked) 0) → is_open all asked [] ≡ true
 unfolding choices_at
@@ -125,3 +137,32 @@ is_search all asked = record {
   wanted = λ t h. prefix_open all asked t [] (subst (λ (u : List ℕ). is_candidate all asked u ≡ true) (sym (append-nil t)) h);
   begins = begins all asked;
 }
+
+-- where each provider fits its slot, a list is open exactly where the rules of all slots together hold
+pub open_together : (all : List Provider) (asked : Asked) (list : List ℕ) → list_all (λ x. fits all x) (assigned asked list) ≡ true
+    → is_open all asked list ≡ (sums all (assigned asked list) && (isolate asked (assigned asked list) && anchor all asked (assigned asked list)))
+unfolding is_open is_open_at fits
+open_together all asked list h =
+    let xs = assigned asked list in
+    let one = λ (f : Placed → Bool) (w : (x : Placed) → (units_fit all x && traits_fit all x && aggregates_fit all x && tree_fits all x) ≡ true → f x ≡ true). all_weaker _ f w xs h in
+    let units = one (λ x. units_fit all x) (λ x e. grind arith) in
+    let traits = one (λ x. traits_fit all x) (λ x e. grind arith) in
+    let aggregates = one (λ x. aggregates_fit all x) (λ x e. grind arith) in
+    let tree = one (λ x. tree_fits all x) (λ x e. grind arith) in
+    rw (units, traits, aggregates, tree) (grind arith)
+
+-- a candidate is an open list that is complete
+pub candidate_completes : (all : List Provider) (asked : Asked) (list : List ℕ) → is_candidate all asked list ≡ is_open all asked list && completes all asked list
+unfolding is_candidate is_open is_open_at tests
+candidate_completes all asked list = grind arith
+
+fits_placed : (all : List Provider) (ss : List Slot) (list : List ℕ) → length list ≤ length ss
+    → ((i : ℕ) (d : Slot) → i < length list → fits all (record { slot = slice_index_or ss i d; provider = slice_index list i }) ≡ true)
+    → list_all (λ x. fits all x) (placed ss list) ≡ true
+fits_placed all [] list h f = refl
+fits_placed all (s ∷ ss) [] h f = refl
+fits_placed all (s ∷ ss) (p ∷ list) h f = and_from _ _ (f 0 s (omega arith)) (fits_placed all ss list (omega arith) (λ i d l. f (suc i) d (omega arith)))
+
+-- nothing is asked of an empty list's slots
+pub fits_none : (all : List Provider) (asked : Asked) (list : List ℕ) → list ≡ [] → list_all (λ x. fits all x) (assigned asked list) ≡ true
+fits_none all asked list e = rw (e, placed_none (slots_of asked)) refl

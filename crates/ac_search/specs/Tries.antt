@@ -1,11 +1,11 @@
 -- The search of a query, and the least list of places that a token stands for.
 use Rattle.std.specs.Prelude.{ℕ, ◌+◌, ◌&&◌, ◌==◌, zero, suc, Bool, nat_lt, cond, List, [], ◌∷◌, map, length, Option, Some, None}
-use Rattle.std.specs.List.{filter, range_with_len, position_from}
-use Rattle.std.specs.Option.{unwrap_or}
+use Rattle.std.specs.List.{filter, range_with_len}
 use Rattle.ac_query.specs.Asked.{Asked, Slot, slots_of}
 use Rattle.ac_tables.specs.World.{Provider, id_at}
-use Rattle.ac_search.specs.Placed.{Placed, placed_at}
+use Rattle.ac_search.specs.Placed.{Placed, assigned}
 use Rattle.ac_search.specs.Own.{units_fit, traits_fit, aggregates_fit, tree_fits}
+use Rattle.ac_search.specs.Together.{collective, subtree}
 use Rattle.ac_search.specs.Judge.{is_candidate, is_open}
 use Rattle.ac_search.specs.Search.{Search}
 
@@ -19,6 +19,10 @@ choice_of all asked slot = filter (λ p. is_open all asked [] && fits all (recor
 
 abbrev pub choices_of : List Provider → Asked → List (List ℕ)
 choices_of all asked = map (λ slot. choice_of all asked slot) (slots_of asked)
+
+-- what a candidate must meet, and its fronts needn't
+abbrev pub completes : List Provider → Asked → List ℕ → Bool
+completes all asked list = collective all asked (assigned asked list) && subtree all asked (assigned asked list)
 
 -- what a query looks for
 abbrev pub search_of : List Provider → Asked → Search

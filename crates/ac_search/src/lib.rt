@@ -5,11 +5,14 @@
 
 mod after;
 mod anchor;
+mod choices;
 mod each;
 mod judging;
 pub mod laws;
+mod least;
 mod lists;
 mod odometer;
+mod open;
 mod own;
 pub mod plain;
 mod slots;
