@@ -1,8 +1,8 @@
 -- The providers of a cloud stand in the order of their ids.
-use Rattle.std.proofs.Common.{◌<◌, length, arith}
+use Rattle.std.proofs.Common.{◌<◌, ◌≤◌, length, arith}
 use Rattle.ac_tables.specs.CloudWorld.{providers_of}
 use Rattle.ac_tables.specs.declared.cloud.Cloud.{Cloud}
-use Rattle.ac_tables.proofs.CloudFacts.{inside, id_here}
+use Rattle.ac_tables.proofs.CloudFacts.{size, inside, id_here}
 use Rattle.ac_search.specs.Laws.{AreInOrder}
 
 pub in_order : (cloud : Cloud) → AreInOrder (providers_of cloud)
@@ -13,3 +13,7 @@ in_order cloud p q less here =
     let second = id_here cloud q q_in in
     let rise = cloud.ids.rising p q less q_in in
     omega arith
+
+-- and there are few
+pub few_providers : (cloud : Cloud) → length (providers_of cloud) ≤ 65536
+few_providers cloud = omega (arith, size cloud, cloud.ids.few)

@@ -28,4 +28,7 @@ pub mod TryLemmas
 pub mod SeekLemmas
 pub mod OpenLemmas
 pub mod LeastLemmas
+pub mod KeptLemmas
+pub mod StepLemmas
+pub mod EndLemmas
 mod Literals

@@ -3,7 +3,7 @@ use Rattle.std.proofs.Common.{◌≡◌, ℕ, ◌+◌, ◌-◌, ◌*◌, ◌<◌
 use Rattle.std.specs.List.{filter, slice_index, AllByRecursion as Each}
 use Rattle.std.proofs.lemmas.Bool.{cases_eq, cases_Bool, and_parts, and_from, false≢true}
 use Rattle.std.proofs.lemmas.Bool.Decides.{nat_tests}
-use Rattle.std.proofs.lemmas.List.{take-set, take_more, take_more_set, get_or_past}
+use Rattle.std.proofs.lemmas.List.{take-set, take_more, get_or_past}
 use Rattle.std.proofs.Math.Nat.{mul-le-mul_left}
 use Rattle.ac_search.specs.Order.{lex_lt}
 use Rattle.ac_search.specs.Search.{Search, all_shorter, sought, choices_at, next_at, next_front, left_from, is_met, met, behind, IsSound, Enters}
@@ -97,6 +97,24 @@ sound_next m laws x path path' places d seeking probes probes' s l len same more
         let front = ap (λ (u : List ℕ). behind m.choices u) (take-set places d (slice_index places d + 1)) in let here = get_or-set_same places d (slice_index places d + 1) 0 in_at in omega arith;
     }
 
+-- what stands behind the path doesn't matter
+pub sound_put : (m : Search) (x path places : List ℕ) (d p : ℕ) (seeking : Bool) (probes : ℕ) → IsSound m x path places d seeking probes → IsSound m x (set path d p) places d seeking probes
+sound_put m x path places d p seeking probes s =
+    let front : take d (set path d p) ≡ take d path = take-set path d p in
+    record {
+      path_len = length-set path d p ∙ s.path_len;
+      places_len = s.places_len;
+      least_len = s.least_len;
+      within = s.within;
+      placed = λ i b. rw (get_or-set_other path d i p 0 (omega arith)) (s.placed i b);
+      place = s.place;
+      opens = λ b. rw front (s.opens b);
+      reached = λ b. rw front (s.reached b);
+      seeks = λ b. rw front (s.seeks b);
+      passed = λ b. rw front (s.passed b);
+      paid = rw front s.paid;
+    }
+
 -- the choice at place j of depth d does not lead to a candidate: the next place leaves the same
 pub left_next : (m : Search) → IsSearch m → (x path places : List ℕ) (d : ℕ) → length path ≡ m.width → length places ≡ m.width → d < m.width → slice_index places d < length (choices_at m d)
     → Each (λ t. (s : List ℕ) → t ≡ take d path ++ next_at m d (slice_index places d) ∷ s → ⊥) (sought m x)
@@ -138,40 +156,38 @@ left_given m laws x path places d lp la k l low passes after =
           grind (arith, nat_tests)))
         (each_sought m x))))
 
--- the front of the path after p is put at depth d
-pub front_place : (path : List ℕ) (d p : ℕ) → d < length path → take (suc d) (set path d p) ≡ take d path ++ p ∷ []
-front_place path d p h = let e : suc d ≡ d + 1 = omega arith in ap (λ (i : ℕ). take i (set path d p)) e ∙ take_more_set path d p h
-
+-- the front of the path, one deeper
 pub front_back : (path : List ℕ) (e : ℕ) → e < length path → take (suc e) path ≡ take e path ++ slice_index path e ∷ []
 front_back path e h = let w : suc e ≡ e + 1 = omega arith in ap (λ (i : ℕ). take i path) w ∙ take_more path e 0 h
 
-pub bound_place : (m : Search) (path places : List ℕ) (d p j : ℕ) → d < length path → suc d < length places → next_front m (set path d p) (set places (suc d) j) (suc d) ≡ (take d path ++ p ∷ []) ++ next_at m (suc d) j ∷ []
-bound_place m path places d p j h k = rw (front_place path d p h, get_or-set_same places (suc d) j 0 k)
+pub bound_place : (m : Search) (path places : List ℕ) (d j : ℕ) → d < length path → suc d < length places → next_front m path (set places (suc d) j) (suc d) ≡ (take d path ++ slice_index path d ∷ []) ++ next_at m (suc d) j ∷ []
+bound_place m path places d j h k = rw (front_back path d h, get_or-set_same places (suc d) j 0 k)
 
-pub sound_place : (m : Search) → IsSearch m → (x path places : List ℕ) (d : ℕ) (seeking seeking' : Bool) (probes probes' : ℕ) (p j : ℕ)
-    → IsSound m x path places d seeking probes → suc d < m.width → slice_index places d < length (choices_at m d) → p ≡ next_at m d (slice_index places d)
-    → m.is_open (take d path ++ p ∷ []) ≡ true
-    → j ≤ length (choices_at m (suc d)) → Enters m x (take d path ++ p ∷ []) (suc d) j seeking' → (seeking' ≡ true → take d path ++ p ∷ [] ≡ take (suc d) x) → probes' ≤ probes + 1
-    → IsSound m x (set path d p) (set places (suc d) j) (suc d) seeking' probes'
-sound_place m laws x path places d seeking seeking' probes probes' p j s short l is opens fits enters seeks more =
+pub sound_place : (m : Search) → IsSearch m → (x path places : List ℕ) (d : ℕ) (seeking seeking' : Bool) (probes probes' : ℕ) (j : ℕ)
+    → IsSound m x path places d seeking probes → suc d < m.width → slice_index places d < length (choices_at m d) → slice_index path d ≡ next_at m d (slice_index places d)
+    → m.is_open (take d path ++ slice_index path d ∷ []) ≡ true
+    → j ≤ length (choices_at m (suc d)) → Enters m x (take d path ++ slice_index path d ∷ []) (suc d) j seeking' → (seeking' ≡ true → take d path ++ slice_index path d ∷ [] ≡ take (suc d) x) → probes' ≤ probes + 1
+    → IsSound m x path (set places (suc d) j) (suc d) seeking' probes'
+sound_place m laws x path places d seeking seeking' probes probes' j s short l is opens fits enters seeks more =
     let n = m.count in
+    let p = slice_index path d in
     let in_path : d < length path = omega (arith, s.path_len) in
     let in_at : suc d < length places = omega (arith, s.places_len) in
     let low : p < n = rw is (low_at m laws d (slice_index places d) s.within l) in
     let q : List ℕ = take d path in
     let size : length q ≡ d = length-take-le d path (omega arith) in
-    let front : take (suc d) (set path d p) ≡ q ++ p ∷ [] = front_place path d p in_path in
+    let front : take (suc d) path ≡ q ++ p ∷ [] = front_back path d in_path in
     let c : next_front m path places d ≡ q ++ p ∷ [] = ap (λ (z : ℕ). q ++ z ∷ []) (sym is) in
-    let c' : next_front m (set path d p) (set places (suc d) j) (suc d) ≡ (q ++ p ∷ []) ++ next_at m (suc d) j ∷ [] = bound_place m path places d p j in_path in_at in
+    let c' : next_front m path (set places (suc d) j) (suc d) ≡ (q ++ p ∷ []) ++ next_at m (suc d) j ∷ [] = bound_place m path places d j in_path in_at in
     let long : length (q ++ p ∷ []) ≡ suc d = length-append q (p ∷ []) ∙ omega arith in
     let there : get_or (set places (suc d) j) (suc d) 0 ≡ j = get_or-set_same places (suc d) j 0 in_at in
     record {
-      path_len = length-set path d p ∙ s.path_len;
+      path_len = s.path_len;
       places_len = length-set places (suc d) j ∙ s.places_len;
       within = short;
       placed = λ i b. elim (cases_eq i d) [
-          inl e ↦ rw (get_or-set_other places (suc d) i j 0 (omega arith), e) (l, sym is ∙ sym (get_or-set_same path d p 0 in_path))
-        | inr f ↦ let was = s.placed i (omega arith) in rw (get_or-set_other places (suc d) i j 0 (omega arith)) (was.0, was.1 ∙ sym (get_or-set_other path d i p 0 f))
+          inl e ↦ rw (get_or-set_other places (suc d) i j 0 (omega arith), e) (l, sym is)
+        | inr f ↦ let was = s.placed i (omega arith) in rw (get_or-set_other places (suc d) i j 0 (omega arith)) was
         ];
       place = rw there fits;
       opens = λ _. rw front opens;
@@ -188,20 +204,21 @@ sound_place m laws x path places d seeking seeking' probes probes' p j s short l
         rw (c', there) (omega arith);
     }
 
-pub left_place : (m : Search) → IsSearch m → (x path places : List ℕ) (d p j : ℕ) (seeking : Bool) → length path ≡ m.width → length places ≡ m.width → suc d < m.width → p ≡ next_at m d (slice_index places d)
-    → Enters m x (take d path ++ p ∷ []) (suc d) j seeking
-    → left_from m x (next_front m path places d) ≡ left_from m x (next_front m (set path d p) (set places (suc d) j) (suc d))
+pub left_place : (m : Search) → IsSearch m → (x path places : List ℕ) (d j : ℕ) (seeking : Bool) → length path ≡ m.width → length places ≡ m.width → suc d < m.width → slice_index path d ≡ next_at m d (slice_index places d)
+    → Enters m x (take d path ++ slice_index path d ∷ []) (suc d) j seeking
+    → left_from m x (next_front m path places d) ≡ left_from m x (next_front m path (set places (suc d) j) (suc d))
 unfolding left_from
-left_place m laws x path places d p j seeking lp la short is enters =
+left_place m laws x path places d j seeking lp la short is enters =
     let q : List ℕ = take d path in
+    let p = slice_index path d in
     let size : length q ≡ d = length-take-le d path (omega arith) in
-    rw (bound_place m path places d p j (omega arith) (omega arith), append_assoc, ← is) (push_left (sought m x) q p (next_at m (suc d) j)
+    rw (bound_place m path places d j (omega arith) (omega arith), append_assoc, ← is) (push_left (sought m x) q p (next_at m (suc d) j)
       (each_weaker _ (λ t. (length q + 1 < length t) × ((r : ℕ) (s : List ℕ) → t ≡ q ++ p ∷ r ∷ s → next_at m (suc d) j ≤ r)) (sought m x)
         (λ t h. let long = h.0.long in (omega arith, λ r s e. h.1 r s (e ∙ sym (append_assoc q (p ∷ []) (r ∷ s)))))
         (each_both (IsSought m x) (λ t. (r : ℕ) (s : List ℕ) → t ≡ (q ++ p ∷ []) ++ r ∷ s → next_at m (suc d) j ≤ r) (sought m x) (each_sought m x) enters.least)))
 
-pub forward_place : (m : Search) (path places : List ℕ) (d p j : ℕ) → d < length path → suc d < length places → p ≡ next_at m d (slice_index places d) → lex_lt (next_front m path places d) (next_front m (set path d p) (set places (suc d) j) (suc d)) ≡ true
-forward_place m path places d p j h k is = rw (bound_place m path places d p j h k, ← is) (lex_longer (take d path ++ p ∷ []) (next_at m (suc d) j) [])
+pub forward_place : (m : Search) (path places : List ℕ) (d j : ℕ) → d < length path → suc d < length places → slice_index path d ≡ next_at m d (slice_index places d) → lex_lt (next_front m path places d) (next_front m path (set places (suc d) j) (suc d)) ≡ true
+forward_place m path places d j h k is = rw (bound_place m path places d j h k, ← is) (lex_longer (take d path ++ slice_index path d ∷ []) (next_at m (suc d) j) [])
 
 pub bound_back : (m : Search) (path places : List ℕ) (e : ℕ) → suc e < length path → next_front m path places (suc e) ≡ take e path ++ slice_index path e ∷ next_at m (suc e) (slice_index places (suc e)) ∷ []
 bound_back m path places e h = ap (λ (u : List ℕ). u ++ next_at m (suc e) (slice_index places (suc e)) ∷ []) (front_back path e (omega arith)) ∙ append_assoc (take e path) (slice_index path e ∷ []) (next_at m (suc e) (slice_index places (suc e)) ∷ [])

@@ -1,5 +1,5 @@
 -- What a try of the next choice comes to.
-use Rattle.std.proofs.Common.{◌≡◌, ℕ, ◌+◌, ◌-◌, ◌*◌, ◌<◌, ◌≤◌, zero, suc, Bool, true, false, List, [], ◌∷◌, ◌++◌, length, take, set, Option, None, Some, refl, sym, ap, ◌∙◌, subst, nat_lt, arith, length-append, length-take-le, take_all, length-set}
+use Rattle.std.proofs.Common.{◌≡◌, ℕ, ◌+◌, ◌-◌, ◌*◌, ◌<◌, ◌≤◌, zero, suc, Bool, true, false, List, [], ◌∷◌, ◌++◌, length, take, set, Option, None, Some, refl, sym, ap, ◌∙◌, subst, nat_lt, arith, length-append, length-take-le, take_all}
 use Rattle.std.specs.List.{filter, slice_index, AllByRecursion as Each}
 use Rattle.std.proofs.lemmas.Bool.{false≢true}
 use Rattle.std.proofs.lemmas.Bool.Decides.{nat_tests}
@@ -10,43 +10,44 @@ use Rattle.ac_search.specs.Search.{Search, sought, between, choices_at, next_at,
 use Rattle.ac_search.proofs.Elements.{each_weaker, each_append, filter_none}
 use Rattle.ac_search.proofs.FrontOrder.{lex_one}
 use Rattle.ac_search.proofs.SoughtLemmas.{IsSearch, IsSought, each_sought, choice_in, low_at}
-use Rattle.ac_search.proofs.MoveLemmas.{left_next, left_given, front_place, path_low}
+use Rattle.ac_search.proofs.MoveLemmas.{left_next, left_given, front_back, path_low}
 use Rattle.ac_search.proofs.BetweenLemmas.{met_all, met_given}
 
--- no candidate goes on by a choice at which the path does not stay open
-pub left_closed : (m : Search) → IsSearch m → (x path places : List ℕ) (d : ℕ) (seeking : Bool) (probes p : ℕ) → IsSound m x path places d seeking probes → slice_index places d < length (choices_at m d) → p ≡ next_at m d (slice_index places d)
-    → m.is_open (take d path ++ p ∷ []) ≡ false → left_from m x (next_front m path (set places d (slice_index places d + 1)) d) ≡ left_from m x (next_front m path places d)
-left_closed m laws x path places d seeking probes p s l is closed = sym (left_next m laws x path places d s.path_len s.places_len s.within l
-  (each_weaker (IsSought m x) (λ t. (u : List ℕ) → t ≡ take d path ++ next_at m d (slice_index places d) ∷ u → ⊥) (sought m x)
-    (λ t h u e. false≢true (sym closed ∙ subst (λ (r : ℕ). m.is_open (take d path ++ r ∷ []) ≡ true) (sym is) (choice_in m laws x t (take d path) u (next_at m d (slice_index places d)) h e).opens)) (each_sought m x)))
+-- the front that is tried is the path with the number that is put behind it
+pub put_front : (m : Search) (x path places : List ℕ) (d : ℕ) (seeking : Bool) (probes : ℕ) → IsSound m x path places d seeking probes → slice_index path d ≡ next_at m d (slice_index places d)
+    → take (suc d) path ≡ next_front m path places d
+put_front m x path places d seeking probes s is = front_back path d (omega (arith, s.path_len, s.within)) ∙ ap (λ (r : ℕ). take d path ++ r ∷ []) is
 
--- the whole list that the last choice makes
-pub whole_path : (m : Search) (x path places : List ℕ) (d : ℕ) (seeking : Bool) (probes p : ℕ) → IsSound m x path places d seeking probes → suc d ≡ m.width → set path d p ≡ take d path ++ p ∷ []
-whole_path m x path places d seeking probes p s last =
-    sym (take_all (suc d) (set path d p) (omega (arith, length-set path d p, s.path_len))) ∙ front_place path d p (omega (arith, s.path_len))
+-- at the last depth it is the whole path
+pub whole_front : (m : Search) (x path places : List ℕ) (d : ℕ) (seeking : Bool) (probes : ℕ) → IsSound m x path places d seeking probes → slice_index path d ≡ next_at m d (slice_index places d) → suc d ≡ m.width
+    → path ≡ next_front m path places d
+whole_front m x path places d seeking probes s is last = sym (take_all (suc d) path (omega (arith, s.path_len))) ∙ put_front m x path places d seeking probes s is
 
--- no candidate is a whole list that lacks what is asked of it
-pub left_lacking : (m : Search) → IsSearch m → (x path places : List ℕ) (d : ℕ) (seeking : Bool) (probes p : ℕ) → IsSound m x path places d seeking probes → slice_index places d < length (choices_at m d) → p ≡ next_at m d (slice_index places d) → suc d ≡ m.width
-    → m.is_wanted (set path d p) ≡ false → left_from m x (next_front m path (set places d (slice_index places d + 1)) d) ≡ left_from m x (next_front m path places d)
-left_lacking m laws x path places d seeking probes p s l is last lacks =
-    let whole : m.is_wanted (take d path ++ p ∷ []) ≡ false = subst (λ (u : List ℕ). m.is_wanted u ≡ false) (whole_path m x path places d seeking probes p s last) lacks in
-    let size : length (take d path) ≡ d = length-take-le d path (omega (arith, s.path_len)) in
-    sym (left_next m laws x path places d s.path_len s.places_len s.within l
-      (each_weaker (IsSought m x) (λ t. (u : List ℕ) → t ≡ take d path ++ next_at m d (slice_index places d) ∷ u → ⊥) (sought m x)
-        (λ t h u e. none size whole t h u (e ∙ ap (λ (r : ℕ). take d path ++ r ∷ u) (sym is))) (each_sought m x)))
+-- nothing that is wanted goes on by a number at which the path doesn't stay open
+pub left_closed : (m : Search) → IsSearch m → (x path places : List ℕ) (d : ℕ) (seeking : Bool) (probes : ℕ) → IsSound m x path places d seeking probes → slice_index places d < length (choices_at m d)
+    → m.is_open (next_front m path places d) ≡ false → left_from m x (next_front m path (set places d (slice_index places d + 1)) d) ≡ left_from m x (next_front m path places d)
+left_closed m laws x path places d seeking probes s l closed = sym (left_next m laws x path places d s.path_len s.places_len s.within l
+    (each_weaker (IsSought m x) (λ t. (u : List ℕ) → t ≡ take d path ++ next_at m d (slice_index places d) ∷ u → ⊥) (sought m x)
+    (λ t h u e. false≢true (sym closed ∙ (choice_in m laws x t (take d path) u (next_at m d (slice_index places d)) h e).opens)) (each_sought m x)))
+
+-- a whole path that isn't wanted is nothing that is sought
+pub left_lacking : (m : Search) → IsSearch m → (x path places : List ℕ) (d : ℕ) (seeking : Bool) (probes : ℕ) → IsSound m x path places d seeking probes → slice_index places d < length (choices_at m d) → suc d ≡ m.width
+    → m.is_wanted (next_front m path places d) ≡ false → left_from m x (next_front m path (set places d (slice_index places d + 1)) d) ≡ left_from m x (next_front m path places d)
+left_lacking m laws x path places d seeking probes s l last lacks = sym (left_next m laws x path places d s.path_len s.places_len s.within l
+    (each_weaker (IsSought m x) (λ t. (u : List ℕ) → t ≡ take d path ++ next_at m d (slice_index places d) ∷ u → ⊥) (sought m x)
+    (none (length-take-le d path (omega (arith, s.path_len))) (next_at m d (slice_index places d)) lacks) (each_sought m x)))
   where
-    none : length (take d path) ≡ d → m.is_wanted (take d path ++ p ∷ []) ≡ false → (t : List ℕ) → IsSought m x t → (u : List ℕ) → t ≡ take d path ++ p ∷ u → ⊥
-    none size whole t h [] e = false≢true (sym whole ∙ subst (λ (v : List ℕ). m.is_wanted v ≡ true) e h.wanted)
-    none size whole t h (r ∷ u) e = omega (arith, h.long, ap length e, length-append (take d path) (p ∷ r ∷ u))
+    none : length (take d path) ≡ d → (p : ℕ) → m.is_wanted (take d path ++ p ∷ []) ≡ false → (t : List ℕ) → IsSought m x t → (u : List ℕ) → t ≡ take d path ++ p ∷ u → ⊥
+    none size p f t h [] e = false≢true (sym f ∙ subst (λ (v : List ℕ). m.is_wanted v ≡ true) e h.wanted)
+    none size p f t h (r ∷ u) e = omega (arith, h.long, ap length e, length-append (take d path) (p ∷ r ∷ u))
 
--- the whole list that has it all is the head
-pub left_whole : (m : Search) → IsSearch m → (x path places : List ℕ) (d : ℕ) (seeking : Bool) (probes p : ℕ) → IsSound m x path places d seeking probes → slice_index places d < length (choices_at m d) → p ≡ next_at m d (slice_index places d) → suc d ≡ m.width
-    → m.is_wanted (set path d p) ≡ true → left_from m x (next_front m path places d) ≡ set path d p ∷ left_from m x (next_front m path (set places d (slice_index places d + 1)) d)
-left_whole m laws x path places d seeking probes p s l is last has =
-    let same : next_front m path places d ≡ set path d p = ap (λ (r : ℕ). take d path ++ r ∷ []) (sym is) ∙ sym (whole_path m x path places d seeking probes p s last) in
-    let wanted : m.is_wanted (next_front m path places d) ≡ true = subst (λ (u : List ℕ). m.is_wanted u ≡ true) (sym same) has in
+-- a whole path that is wanted is the first of what is left
+pub left_whole : (m : Search) → IsSearch m → (x path places : List ℕ) (d : ℕ) (seeking : Bool) (probes : ℕ) → IsSound m x path places d seeking probes → slice_index places d < length (choices_at m d) → suc d ≡ m.width
+    → m.is_wanted (next_front m path places d) ≡ true
+    → left_from m x (next_front m path places d) ≡ next_front m path places d ∷ left_from m x (next_front m path (set places d (slice_index places d + 1)) d)
+left_whole m laws x path places d seeking probes s l last wanted =
     let low = each_append (λ r. r < m.count) (take d path) (next_at m d (slice_index places d) ∷ []) (path_low m laws x path places d seeking probes s) (low_at m laws d (slice_index places d) s.within l, tt) in
-    left_given m laws x path places d s.path_len s.places_len last l low wanted (rw (take_all (suc d) x (omega (arith, s.least_len))) at s.reached l) ∙ ap (λ (y : List ℕ). y ∷ left_from m x (next_front m path (set places d (slice_index places d + 1)) d)) same
+    left_given m laws x path places d s.path_len s.places_len last l low wanted (rw (take_all (suc d) x (omega (arith, s.least_len))) at s.reached l)
 
 -- at the end of the first list nothing is left
 pub left_ended : (m : Search) → IsSearch m → (x path places : List ℕ) → 0 < m.width → length (choices_at m 0) ≤ slice_index places 0 → left_from m x (next_front m path places 0) ≡ []

@@ -11,4 +11,6 @@ pub mod Tries
 pub mod Odometer
 pub mod ListsShown
 pub mod PlainShown
+pub mod WalkShown
+pub mod Steps
 pub mod Laws

@@ -21,9 +21,11 @@ mod sums;
 #[cfg(test)]
 mod tests;
 pub mod verdict;
+pub mod walk;
 mod whole;
 
 pub use judging::verify;
 pub use plain::Plain;
 pub use source::Source;
 pub use verdict::{Rule, Verdict};
+pub use walk::Walk;
