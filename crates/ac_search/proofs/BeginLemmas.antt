@@ -1,6 +1,6 @@
 -- A new walk is sound, and everything from its least list on is left.
-use Rattle.std.proofs.Common.{◌≡◌, ℕ, ◌+◌, ◌-◌, ◌*◌, ◌<◌, ◌≤◌, zero, suc, Bool, true, false, List, [], ◌∷◌, ◌++◌, inl, inr, length, take, set, get_or, refl, sym, ap, ◌∙◌, subst, nat_lt, arith, length-set, get_or-set_same}
-use Rattle.std.specs.List.{filter, slice_index, AllByRecursion as Each}
+use Rattle.std.proofs.Common.{◌≡◌, ℕ, ◌+◌, ◌<◌, ◌≤◌, true, false, List, [], ◌∷◌, inl, inr, length, set, get_or, refl, sym, ◌∙◌, arith, length-set, get_or-set_same}
+use Rattle.std.specs.List.{filter}
 use Rattle.std.proofs.lemmas.Bool.{cases_lt, false≢true}
 use Rattle.std.proofs.lemmas.Bool.Decides.{nat_tests}
 use Rattle.std.proofs.Math.Nat.{mul-le-mul_left}
@@ -16,9 +16,9 @@ met_some : (m : Search) (x : List ℕ) (b : ℕ) → 0 < m.width → m.is_open [
 unfolding met
 met_some m x b some opens =
     let more : length (filter (λ _. false) (all_shorter m.count m.width)) + 1 ≤ length (filter (λ w. is_met m x (b ∷ []) w) (all_shorter m.count m.width)) =
-        count_more (λ _. false) (λ w. is_met m x (b ∷ []) w) (all_shorter m.count m.width) []
-          (each_all (λ w. false ≡ true → is_met m x (b ∷ []) w ≡ true) (all_shorter m.count m.width) (λ w e. absurd (false≢true e)))
-          (among_all_shorter m.count m.width [] some tt) refl (rw opens refl) in
+    count_more (λ _. false) (λ w. is_met m x (b ∷ []) w) (all_shorter m.count m.width) []
+    (each_all (λ w. false ≡ true → is_met m x (b ∷ []) w ≡ true) (all_shorter m.count m.width) (λ w e. absurd (false≢true e)))
+    (among_all_shorter m.count m.width [] some tt) refl (rw opens refl) in
     omega arith
 
 -- the first depth is entered
@@ -42,9 +42,9 @@ sound_new m laws x path places j short lp la some start =
       seeks = λ _. refl;
       passed = λ e. absurd (false≢true (sym e));
       paid = elim (cases_lt 0 (length (choices_at m 0))) [
-          inl l ↦ let one = mul-le-mul_left m.count (met_some m x (next_at m 0 j) some (laws.begins l)) in let few = laws.few 0 some in rw (there, behind_none m.choices) (omega arith)
+        | inl l ↦ let one = mul-le-mul_left m.count (met_some m x (next_at m 0 j) some (laws.begins l)) in let few = laws.few 0 some in rw (there, behind_none m.choices) (omega arith)
         | inr none ↦ rw (there, behind_none m.choices) (omega arith)
-        ];
+      ];
     }
 
 pub left_new : (m : Search) → IsSearch m → (x path places : List ℕ) (j : ℕ) → length places ≡ m.width → 0 < m.width → IsStart (choices_at m 0) (least_at x 0) j → left_from m x (next_front m path (set places 0 j) 0) ≡ sought m x
@@ -52,7 +52,7 @@ unfolding left_from
 left_new m laws x path places j la some start =
     let there : get_or (set places 0 j) 0 0 ≡ j = get_or-set_same places 0 j 0 (omega arith) in
     rw there (filter_all (from (next_at m 0 j ∷ [])) (sought m x) (each_weaker _ (λ t. from (next_at m 0 j ∷ []) t ≡ true) (sought m x) above
-      (each_both (IsSought m x) (λ t. (r : ℕ) (s : List ℕ) → t ≡ r ∷ s → next_at m 0 j ≤ r) (sought m x) (each_sought m x) (enters_new m laws x j some start).least)))
+    (each_both (IsSought m x) (λ t. (r : ℕ) (s : List ℕ) → t ≡ r ∷ s → next_at m 0 j ≤ r) (sought m x) (each_sought m x) (enters_new m laws x j some start).least)))
   where
     above : (t : List ℕ) → IsSought m x t × ((r : ℕ) (s : List ℕ) → t ≡ r ∷ s → next_at m 0 j ≤ r) → from (next_at m 0 j ∷ []) t ≡ true
     above [] h = let long = h.0.long in absurd (omega arith)

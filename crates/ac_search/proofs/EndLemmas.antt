@@ -1,11 +1,11 @@
 -- A walk ends: each step raises the front that it tries next, and there are finitely many fronts.
-use Rattle.std.proofs.Common.{◌≡◌, ℕ, ◌+◌, ◌-◌, ◌*◌, ◌<◌, ◌≤◌, ◌^◌, suc, Bool, true, false, not, List, [], ◌∷◌, ◌++◌, length, take, Option, None, Some, inl, inr, refl, sym, ap, ◌∙◌, subst, arith, length-append, length-take-le}
+use Rattle.std.proofs.Common.{◌≡◌, ℕ, ◌+◌, ◌-◌, ◌<◌, ◌≤◌, ◌^◌, suc, true, List, [], ◌∷◌, length, take, None, Some, inl, inr, sym, ◌∙◌, subst, arith, length-append, length-take-le}
 use Rattle.std.specs.List.{filter, slice_index, AllByRecursion as Each}
 use Rattle.std.proofs.lemmas.Bool.{cases_lt, not_from_false, not_from_true, not-true, false_from_ne_true, false≢true}
 use Rattle.std.proofs.lemmas.List.{get_or_past}
 use Rattle.ac_search.specs.Order.{lex_lt}
 use Rattle.ac_search.specs.Search.{Search, all_shorter, choices_at, next_at, from}
-use Rattle.ac_search.specs.WalkShown.{search_in, front_in, left_of, IsSame, IsBounded}
+use Rattle.ac_search.specs.WalkShown.{search_in, front_in, left_of, IsSame}
 use Rattle.ac_search.specs.Steps.{Goes, Gives, Ends}
 use Rattle.ac_search.specs.declared.walk.Walk.{Walk}
 use Rattle.ac_search.proofs.Elements.{each_append, each_weaker, each_all, count_more}

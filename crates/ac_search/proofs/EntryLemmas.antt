@@ -1,7 +1,7 @@
 -- Where a walk begins in the list of a slot, so that it leaves out nothing after x and tries nothing before x.
-use Rattle.std.proofs.Common.{◌≡◌, ℕ, ◌+◌, ◌<◌, ◌≤◌, zero, suc, Bool, true, false, List, [], ◌∷◌, ◌++◌, ◌⊎◌, inl, inr, length, take, drop, get_or, refl, sym, ap, ◌∙◌, subst, nat_lt, arith, append_assoc, length-append, take_all, take-append-drop, drop-cons, append-nil}
+use Rattle.std.proofs.Common.{◌≡◌, ℕ, ◌<◌, ◌≤◌, suc, true, false, List, [], ◌∷◌, ◌++◌, inl, inr, length, take, drop, get_or, sym, ap, ◌∙◌, subst, arith, append_assoc, length-append, take_all, take-append-drop, drop-cons}
 use Rattle.std.specs.List.{AllByRecursion as Each}
-use Rattle.std.proofs.lemmas.Bool.{cases_lt, cases_eq, lt-ltb, le-ltb, eq-eqb, ne_eqb, false≢true}
+use Rattle.std.proofs.lemmas.Bool.{cases_lt, lt-ltb, le-ltb, false≢true}
 use Rattle.std.proofs.lemmas.Bool.Decides.{nat_tests}
 use Rattle.std.proofs.lemmas.List.{get_or_default, take_at}
 use Rattle.ac_search.specs.Order.{lex_lt}
@@ -16,8 +16,8 @@ least_of : (m : Search) → IsSearch m → (x q : List ℕ) (j v : ℕ) → leng
 least_of m laws x q j v short start above = each_weaker (IsSought m x) _ (sought m x) (λ t h r s e.
     let choice = choice_in m laws x t q s r h e in
     least_from (choices_at m (length q)) j v m.count r (laws.rising (length q) short)
-      (λ i b l. rw (get_or_default (choices_at m (length q)) i m.count 0 l) (start.before i b))
-      choice.low choice.among (above t s r h e)) (each_sought m x)
+    (λ i b l. rw (get_or_default (choices_at m (length q)) i m.count 0 l) (start.before i b))
+    choice.low choice.among (above t s r h e)) (each_sought m x)
 
 -- after x there is nothing to seek
 pub enter_passed : (m : Search) → IsSearch m → (x q : List ℕ) (j : ℕ) → length q < m.width → IsStart (choices_at m (length q)) 0 j → lex_lt x q ≡ true → Enters m x q (length q) j false
@@ -51,9 +51,9 @@ along m laws x q y a j short is start =
 -- while the path is a front of x, the choices begin at the item of x
 pub enter_seeking : (m : Search) → IsSearch m → (x q : List ℕ) (j : ℕ) → length q < m.width → q ≡ take (length q) x → IsStart (choices_at m (length q)) (least_at x (length q)) j → Enters m x q (length q) j true
 enter_seeking m laws x q j short is start = elim (cases_lt (length q) (length x)) [
-    inl l ↦ within l
+  | inl l ↦ within l
   | inr g ↦ beyond g
-  ]
+]
   where
     within : length q < length x → Enters m x q (length q) j true
     within l =

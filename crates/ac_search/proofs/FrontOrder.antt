@@ -1,5 +1,5 @@
 -- The order of lists that have a common front, or that are cut.
-use Rattle.std.proofs.Common.{◌≡◌, ℕ, ◌+◌, ◌<◌, ◌≤◌, Bool, true, false, List, [], ◌∷◌, ◌++◌, ◌⊎◌, inl, inr, length, take, refl, sym, ap, ◌∙◌, subst, nat_lt, arith}
+use Rattle.std.proofs.Common.{◌≡◌, ℕ, ◌≤◌, true, false, List, [], ◌∷◌, ◌++◌, ◌⊎◌, inl, inr, length, take, refl, sym, ◌∙◌, subst, nat_lt, arith}
 use Rattle.std.proofs.lemmas.Bool.{cases_eq, cases_Bool, true_from_ne_false, false≢true}
 use Rattle.std.proofs.lemmas.Bool.Decides.{nat_tests}
 use Rattle.ac_search.specs.Order.{lex_lt}
@@ -26,8 +26,8 @@ branch [] t h = inl (t, refl)
 branch (x ∷ q) [] h = absurd (omega arith)
 branch (x ∷ q) (y ∷ t) h =
     elim (cases_eq x y) [
-      inl e ↦ elim (branch q t (omega arith)) [ inl p ↦ inl (p.0, cc) | inr l ↦ inr (leaves_more x y q t (λ _. l)) ]
-    | inr ne ↦ inr (leaves_more x y q t (λ e. absurd (ne e)))
+      | inl e ↦ elim (branch q t (omega arith)) [ inl p ↦ inl (p.0, cc) | inr l ↦ inr (leaves_more x y q t (λ _. l)) ]
+      | inr ne ↦ inr (leaves_more x y q t (λ e. absurd (ne e)))
     ]
 
 -- one item against another decides, where the bound ends there

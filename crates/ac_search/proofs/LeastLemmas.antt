@@ -1,19 +1,19 @@
 -- A token, as the least list of places: the first places whose ids come after it.
-use Rattle.std.proofs.Common.{◌≡◌, ℕ, ◌+◌, ◌<◌, ◌≤◌, ◌==◌, zero, suc, Bool, true, false, not, cond, ◌&&◌, List, [], ◌∷◌, ◌++◌, ◌⊎◌, inl, inr, length, map, take, refl, sym, ap, ◌∙◌, subst, nat_lt, arith}
+use Rattle.std.proofs.Common.{◌≡◌, ℕ, ◌<◌, ◌≤◌, ◌==◌, zero, suc, true, false, not, List, [], ◌∷◌, ◌⊎◌, inl, inr, length, take, refl, sym, ap, ◌∙◌, nat_lt, arith}
 use Rattle.std.specs.List.{AllByRecursion as Each}
-use Rattle.std.proofs.lemmas.Bool.{cases_lt, cases_eq, cases_order, cases_Bool, lt-ltb, le-ltb, ltb-true, eq-eqb, ne_eqb}
+use Rattle.std.proofs.lemmas.Bool.{cases_lt, cases_eq, cases_order, cases_Bool, lt-ltb, le-ltb, eq-eqb, ne_eqb}
 use Rattle.std.proofs.lemmas.Bool.Decides.{nat_tests}
 use Rattle.ac_tables.specs.World.{Provider, id_at}
 use Rattle.ac_search.specs.Order.{lex_lt}
 use Rattle.ac_search.specs.Pages.{ids_of}
 use Rattle.ac_search.specs.Laws.{AreInOrder}
-use Rattle.ac_search.specs.Tries.{rank_of, is_known, least_after}
+use Rattle.ac_search.specs.QuerySearch.{rank_of, is_known, least_after}
 use Rattle.ac_search.proofs.OrderLemmas.{lex_nil}
 use Rattle.ac_search.proofs.Elements.{filter_agree, each_weaker}
 use Rattle.ac_search.proofs.RestLemmas.{IsChosen, each_candidate}
 use Rattle.ac_search.specs.Search.{sought}
 use Rattle.ac_search.specs.Pages.{is_after, candidates, rest}
-use Rattle.ac_search.specs.Tries.{least_of, search_of}
+use Rattle.ac_search.specs.QuerySearch.{least_of, search_of}
 use Rattle.ac_query.specs.Asked.{Asked, slots_of}
 use Rattle.std.proofs.lemmas.List.Elements.{recursion_from_All}
 use Rattle.std.proofs.Common.{Option, Some, None}
@@ -59,33 +59,33 @@ known : (all : List Provider) → AreInOrder all → (v r : ℕ) → r < length 
 known all order v r low l e =
     let is : is_known all v ≡ true = rw (lt-ltb (rank_of all v) (length all) l, eq-eqb (id_at all (rank_of all v)) v e) refl in
     elim (cases_order r (rank_of all v)) [
-      inl w ↦ let same : id_at all r ≡ v = ap (λ i. id_at all i) w ∙ e in record { is = is; after = grind (arith, nat_tests); same = grind (arith, nat_tests); before = grind (arith, nat_tests); same' = grind (arith, nat_tests) }
-    | inr o ↦ elim o [
-          inl w ↦ let less = rank_above all v r w in record { is = is; after = grind (arith, nat_tests); same = grind (arith, nat_tests); before = grind (arith, nat_tests); same' = grind (arith, nat_tests) }
+      | inl w ↦ let same : id_at all r ≡ v = ap (λ i. id_at all i) w ∙ e in record { is = is; after = grind (arith, nat_tests); same = grind (arith, nat_tests); before = grind (arith, nat_tests); same' = grind (arith, nat_tests) }
+      | inr o ↦ elim o [
+        | inl w ↦ let less = rank_above all v r w in record { is = is; after = grind (arith, nat_tests); same = grind (arith, nat_tests); before = grind (arith, nat_tests); same' = grind (arith, nat_tests) }
         | inr w ↦ let more = order (rank_of all v) r w low in record { is = is; after = grind (arith, nat_tests); same = grind (arith, nat_tests); before = grind (arith, nat_tests); same' = grind (arith, nat_tests) }
-        ]
+      ]
     ]
 
 unknown : (all : List Provider) → AreInOrder all → (v r : ℕ) → r < length all → is_known all v ≡ false → (rank_of all v < length all → id_at all (rank_of all v) ≡ v → ⊥) → Unknown all v r
 unknown all order v r low is f = elim (cases_lt r (rank_of all v)) [
-    inl w ↦ let less = rank_above all v r w in record { is = is; after = grind (arith, nat_tests); same = grind (arith, nat_tests); before = grind (arith, nat_tests); same' = grind (arith, nat_tests) }
+  | inl w ↦ let less = rank_above all v r w in record { is = is; after = grind (arith, nat_tests); same = grind (arith, nat_tests); before = grind (arith, nat_tests); same' = grind (arith, nat_tests) }
   | inr w ↦ let more = above w in record { is = is; after = grind (arith, nat_tests); same = grind (arith, nat_tests); before = grind (arith, nat_tests); same' = grind (arith, nat_tests) }
-  ]
+]
   where
     above : rank_of all v ≤ r → v < id_at all r
     above w = let here = rank_here all v (omega arith) in elim (cases_eq (rank_of all v) r) [
-        inl e ↦ let other : id_at all (rank_of all v) ≡ v → ⊥ = f (omega arith) in let same : id_at all (rank_of all v) ≡ id_at all r = ap (λ i. id_at all i) e in omega arith
+      | inl e ↦ let other : id_at all (rank_of all v) ≡ v → ⊥ = f (omega arith) in let same : id_at all (rank_of all v) ≡ id_at all r = ap (λ i. id_at all i) e in omega arith
       | inr g ↦ let more = order (rank_of all v) r (omega arith) low in omega arith
-      ]
+    ]
 
 item : (all : List Provider) → AreInOrder all → (v r : ℕ) → r < length all → Known all v r ⊎ Unknown all v r
 item all order v r low = elim (cases_lt (rank_of all v) (length all)) [
-    inr g ↦ inr (unknown all order v r low (rw (le-ltb (rank_of all v) (length all) g) refl) (λ l _. omega arith))
+  | inr g ↦ inr (unknown all order v r low (rw (le-ltb (rank_of all v) (length all) g) refl) (λ l _. omega arith))
   | inl l ↦ elim (cases_eq (id_at all (rank_of all v)) v) [
-        inl e ↦ inl (known all order v r low l e)
-      | inr f ↦ inr (unknown all order v r low (rw (lt-ltb (rank_of all v) (length all) l, ne_eqb (id_at all (rank_of all v)) v f) refl) (λ _. f))
-      ]
+    | inl e ↦ inl (known all order v r low l e)
+    | inr f ↦ inr (unknown all order v r low (rw (lt-ltb (rank_of all v) (length all) l, ne_eqb (id_at all (rank_of all v)) v f) refl) (λ _. f))
   ]
+]
 
 take_nil : (i : ℕ) → take {A = ℕ} i [] ≡ []
 take_nil zero = refl

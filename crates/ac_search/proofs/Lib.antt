@@ -31,4 +31,5 @@ pub mod LeastLemmas
 pub mod KeptLemmas
 pub mod StepLemmas
 pub mod EndLemmas
+pub mod PathLemmas
 mod Literals

@@ -1,6 +1,6 @@
 -- The moves of a walk: each keeps what is sound, leaves the same lists, and goes up in the order.
-use Rattle.std.proofs.Common.{◌≡◌, ℕ, ◌+◌, ◌-◌, ◌*◌, ◌<◌, ◌≤◌, zero, suc, Bool, true, false, not, List, [], ◌∷◌, ◌++◌, ◌⊎◌, inl, inr, length, take, get_or, set, refl, sym, ap, ◌∙◌, subst, nat_lt, arith, append_assoc, length-append, length-set, length-take-le, get_or-set_same, get_or-set_other, get_or-take, add-one}
-use Rattle.std.specs.List.{filter, slice_index, AllByRecursion as Each}
+use Rattle.std.proofs.Common.{◌≡◌, ℕ, ◌+◌, ◌-◌, ◌*◌, ◌<◌, ◌≤◌, zero, suc, Bool, true, false, not, List, [], ◌∷◌, ◌++◌, inl, inr, length, take, get_or, set, refl, sym, ap, ◌∙◌, subst, nat_lt, arith, append_assoc, length-append, length-set, length-take-le, get_or-set_same, get_or-set_other, get_or-take, add-one}
+use Rattle.std.specs.List.{slice_index, AllByRecursion as Each}
 use Rattle.std.proofs.lemmas.Bool.{cases_eq, cases_Bool, and_parts, and_from, false≢true}
 use Rattle.std.proofs.lemmas.Bool.Decides.{nat_tests}
 use Rattle.std.proofs.lemmas.List.{take-set, take_more, get_or_past}
@@ -18,7 +18,7 @@ use Rattle.ac_search.proofs.SoughtLemmas.{IsSearch, IsSought, each_sought, risin
 pub met_up : (m : Search) (x c d : List ℕ) → lex_lt c d ≡ true → met m x c ≤ met m x d
 unfolding met
 met_up m x c d h = count_less (λ w. is_met m x c w) (λ w. is_met m x d w) (all_shorter m.count m.width)
-  (each_all (λ w. is_met m x c w ≡ true → is_met m x d w ≡ true) (all_shorter m.count m.width) (λ w e.
+    (each_all (λ w. is_met m x c w ≡ true → is_met m x d w ≡ true) (all_shorter m.count m.width) (λ w e.
     let one = and_parts (m.is_open w) _ e in
     let two = and_parts _ (lex_lt w c) one.1 in
     and_from _ _ one.0 (and_from _ _ two.0 (lex_trans w c d two.1 h))))
@@ -27,13 +27,13 @@ met_up m x c d h = count_less (λ w. is_met m x c w) (λ w. is_met m x d w) (all
 pub met_more : (m : Search) (x c : List ℕ) (b : ℕ) → length c < m.width → Each (λ p. p < m.count) c → m.is_open c ≡ true → lex_lt c (take (length c) x) ≡ false → met m x c + 1 ≤ met m x (c ++ b ∷ [])
 unfolding met
 met_more m x c b short low opens reached = count_more (λ w. is_met m x c w) (λ w. is_met m x (c ++ b ∷ []) w) (all_shorter m.count m.width) c
-  (each_all (λ w. is_met m x c w ≡ true → is_met m x (c ++ b ∷ []) w ≡ true) (all_shorter m.count m.width) (λ w e.
+    (each_all (λ w. is_met m x c w ≡ true → is_met m x (c ++ b ∷ []) w ≡ true) (all_shorter m.count m.width) (λ w e.
     let one = and_parts (m.is_open w) _ e in
     let two = and_parts _ (lex_lt w c) one.1 in
     and_from _ _ one.0 (and_from _ _ two.0 (lex_trans w c (c ++ b ∷ []) two.1 (lex_longer c b [])))))
-  (among_all_shorter m.count m.width c short low)
-  (rw (opens, reached) (lex_irrefl c))
-  (rw (opens, reached) (lex_longer c b []))
+    (among_all_shorter m.count m.width c short low)
+    (rw (opens, reached) (lex_irrefl c))
+    (rw (opens, reached) (lex_longer c b []))
 
 pub behind_none : (cs : List (List ℕ)) → behind cs [] ≡ 0
 behind_none [] = refl
@@ -50,7 +50,8 @@ pub behind_push : (m : Search) → IsSearch m → (xs : List ℕ) (a d : ℕ) �
 unfolding choices_at
 behind_push m laws xs a d e h = behind_more m.choices xs a (omega (arith, laws.slots)) ∙ ap (λ (i : ℕ). behind m.choices xs + (length (get_or m.choices i []) - suc a)) e
 
-each_take : (P : ℕ → Type 0) (xs : List ℕ) (d : ℕ) → d ≤ length xs → ((i : ℕ) → i < d → P (get_or xs i 0)) → Each P (take d xs)
+-- each of the first ones
+pub each_take : (P : ℕ → Type 0) (xs : List ℕ) (d : ℕ) → d ≤ length xs → ((i : ℕ) → i < d → P (get_or xs i 0)) → Each P (take d xs)
 each_take P xs zero h f = tt
 each_take P [] (suc d) h f = absurd (omega arith)
 each_take P (x ∷ xs) (suc d) h f = (f 0 (omega arith), each_take P xs d (omega arith) (λ i b. f (suc i) (omega arith)))
@@ -94,7 +95,7 @@ sound_next m laws x path path' places d seeking probes probes' s l len same more
       seeks = λ e. absurd (false≢true e);
       passed = λ _. past;
       paid = let cost = mul-le-mul_left m.count (met_up m x c c' up) in let few = laws.few d s.within in let was = s.paid in
-        let front = ap (λ (u : List ℕ). behind m.choices u) (take-set places d (slice_index places d + 1)) in let here = get_or-set_same places d (slice_index places d + 1) 0 in_at in omega arith;
+          let front = ap (λ (u : List ℕ). behind m.choices u) (take-set places d (slice_index places d + 1)) in let here = get_or-set_same places d (slice_index places d + 1) 0 in_at in omega arith;
     }
 
 -- what stands behind the path doesn't matter
@@ -126,13 +127,16 @@ left_next m laws x path places d lp la k l none =
     let size : length q ≡ d = length-take-le d path (omega arith) in
     let up = next_above m laws d (slice_index places d) k l in
     rw (bound_next m path places d (slice_index places d + 1) (omega arith), add-one) (skip_left (sought m x) q p (next_at m d (suc (slice_index places d)))
-      (each_weaker _ (λ t. (length q < length t) × ((r : ℕ) (s : List ℕ) → t ≡ q ++ r ∷ s → nat_lt r p ≡ nat_lt r (next_at m d (suc (slice_index places d))))) (sought m x)
-        (λ t h. let long = h.0.long in (omega arith, λ r s e.
+    (each_weaker _ (λ t. (length q < length t) × ((r : ℕ) (s : List ℕ) → t ≡ q ++ r ∷ s → nat_lt r p ≡ nat_lt r (next_at m d (suc (slice_index places d))))) (sought m x)
+    (λ t h. let long = h.0.long in (
+      omega arith,
+      λ r s e.
           let choice = choice_in m laws x t q s r h.0 e in
           let other : r ≡ p → ⊥ = λ w. h.1 s (e ∙ ap (λ (z : ℕ). q ++ z ∷ s) w) in
           let least = next_least m laws d (slice_index places d) r k l (subst (λ (i : ℕ). Among (choices_at m i) r) size choice.among) choice.low in
-          grind (arith, nat_tests)))
-        (each_both (IsSought m x) (λ t. (s : List ℕ) → t ≡ q ++ p ∷ s → ⊥) (sought m x) (each_sought m x) none)))
+          grind (arith, nat_tests),
+    ))
+    (each_both (IsSought m x) (λ t. (s : List ℕ) → t ≡ q ++ p ∷ s → ⊥) (sought m x) (each_sought m x) none)))
 
 -- the choice at place j of the last depth makes a candidate: it is the head of what was left
 pub left_given : (m : Search) → IsSearch m → (x path places : List ℕ) (d : ℕ) → length path ≡ m.width → length places ≡ m.width → suc d ≡ m.width → slice_index places d < length (choices_at m d)
@@ -149,12 +153,15 @@ left_given m laws x path places d lp la k l low passes after =
     let up = next_above m laws d (slice_index places d) short l in
     head_from (sought m x) y (rising_sought m x) (among_sought m x y whole low passes after)
     ∙ ap (λ (ts : List (List ℕ)). y ∷ ts) (rw (bound_next m path places d (slice_index places d + 1) (omega arith), add-one) (after_left (sought m x) q p (next_at m d (suc (slice_index places d)))
-      (each_weaker (IsSought m x) (λ t. (length t ≡ length q + 1) × ((r : ℕ) → t ≡ q ++ r ∷ [] → nat_lt p r ≡ not (nat_lt r (next_at m d (suc (slice_index places d)))))) (sought m x)
-        (λ t h. let long = h.long in (omega arith, λ r e.
+    (each_weaker (IsSought m x) (λ t. (length t ≡ length q + 1) × ((r : ℕ) → t ≡ q ++ r ∷ [] → nat_lt p r ≡ not (nat_lt r (next_at m d (suc (slice_index places d)))))) (sought m x)
+    (λ t h. let long = h.long in (
+      omega arith,
+      λ r e.
           let choice = choice_in m laws x t q [] r h e in
           let least = next_least m laws d (slice_index places d) r short l (subst (λ (i : ℕ). Among (choices_at m i) r) size choice.among) choice.low in
-          grind (arith, nat_tests)))
-        (each_sought m x))))
+          grind (arith, nat_tests),
+    ))
+    (each_sought m x))))
 
 -- the front of the path, one deeper
 pub front_back : (path : List ℕ) (e : ℕ) → e < length path → take (suc e) path ≡ take e path ++ slice_index path e ∷ []
@@ -186,9 +193,9 @@ sound_place m laws x path places d seeking seeking' probes probes' j s short l i
       places_len = length-set places (suc d) j ∙ s.places_len;
       within = short;
       placed = λ i b. elim (cases_eq i d) [
-          inl e ↦ rw (get_or-set_other places (suc d) i j 0 (omega arith), e) (l, sym is)
+        | inl e ↦ rw (get_or-set_other places (suc d) i j 0 (omega arith), e) (l, sym is)
         | inr f ↦ let was = s.placed i (omega arith) in rw (get_or-set_other places (suc d) i j 0 (omega arith)) was
-        ];
+      ];
       place = rw there fits;
       opens = λ _. rw front opens;
       reached = λ h. rw c' (enters.reached (subst (λ (i : ℕ). i < length (choices_at m (suc d))) there h));
@@ -196,12 +203,12 @@ sound_place m laws x path places d seeking seeking' probes probes' j s short l i
       seeks = λ e. front ∙ seeks e;
       passed = λ e. rw c' (enters.passed e);
       paid =
-        let entered : met m x (q ++ p ∷ []) + 1 ≤ met m x ((q ++ p ∷ []) ++ next_at m (suc d) j ∷ []) = met_more m x (q ++ p ∷ []) (next_at m (suc d) j) (omega arith) (each_append (λ r. r < m.count) q (p ∷ []) (path_low m laws x path places d seeking probes s) (low, tt)) opens (rw long (subst (λ (u : List ℕ). lex_lt u (take (suc d) x) ≡ false) c (s.reached l))) in
-        let cost = mul-le-mul_left n entered in
-        let few = laws.few (suc d) short in
-        let was : probes + (behind m.choices (take d places) + (length (choices_at m d) - slice_index places d)) ≤ n * met m x (q ++ p ∷ []) = subst (λ (u : List ℕ). probes + (behind m.choices (take d places) + (length (choices_at m d) - slice_index places d)) ≤ n * met m x u) c s.paid in
-        let spent : behind m.choices (take (suc d) (set places (suc d) j)) ≡ behind m.choices (take d places) + (length (choices_at m d) - suc (slice_index places d)) = ap (λ (u : List ℕ). behind m.choices u) (take-set places (suc d) j ∙ front_back places d (omega arith)) ∙ behind_push m laws (take d places) (slice_index places d) d (length-take-le d places (omega arith)) s.within in
-        rw (c', there) (omega arith);
+          let entered : met m x (q ++ p ∷ []) + 1 ≤ met m x ((q ++ p ∷ []) ++ next_at m (suc d) j ∷ []) = met_more m x (q ++ p ∷ []) (next_at m (suc d) j) (omega arith) (each_append (λ r. r < m.count) q (p ∷ []) (path_low m laws x path places d seeking probes s) (low, tt)) opens (rw long (subst (λ (u : List ℕ). lex_lt u (take (suc d) x) ≡ false) c (s.reached l))) in
+          let cost = mul-le-mul_left n entered in
+          let few = laws.few (suc d) short in
+          let was : probes + (behind m.choices (take d places) + (length (choices_at m d) - slice_index places d)) ≤ n * met m x (q ++ p ∷ []) = subst (λ (u : List ℕ). probes + (behind m.choices (take d places) + (length (choices_at m d) - slice_index places d)) ≤ n * met m x u) c s.paid in
+          let spent : behind m.choices (take (suc d) (set places (suc d) j)) ≡ behind m.choices (take d places) + (length (choices_at m d) - suc (slice_index places d)) = ap (λ (u : List ℕ). behind m.choices u) (take-set places (suc d) j ∙ front_back places d (omega arith)) ∙ behind_push m laws (take d places) (slice_index places d) d (length-take-le d places (omega arith)) s.within in
+          rw (c', there) (omega arith);
     }
 
 pub left_place : (m : Search) → IsSearch m → (x path places : List ℕ) (d j : ℕ) (seeking : Bool) → length path ≡ m.width → length places ≡ m.width → suc d < m.width → slice_index path d ≡ next_at m d (slice_index places d)
@@ -213,9 +220,9 @@ left_place m laws x path places d j seeking lp la short is enters =
     let p = slice_index path d in
     let size : length q ≡ d = length-take-le d path (omega arith) in
     rw (bound_place m path places d j (omega arith) (omega arith), append_assoc, ← is) (push_left (sought m x) q p (next_at m (suc d) j)
-      (each_weaker _ (λ t. (length q + 1 < length t) × ((r : ℕ) (s : List ℕ) → t ≡ q ++ p ∷ r ∷ s → next_at m (suc d) j ≤ r)) (sought m x)
-        (λ t h. let long = h.0.long in (omega arith, λ r s e. h.1 r s (e ∙ sym (append_assoc q (p ∷ []) (r ∷ s)))))
-        (each_both (IsSought m x) (λ t. (r : ℕ) (s : List ℕ) → t ≡ (q ++ p ∷ []) ++ r ∷ s → next_at m (suc d) j ≤ r) (sought m x) (each_sought m x) enters.least)))
+    (each_weaker _ (λ t. (length q + 1 < length t) × ((r : ℕ) (s : List ℕ) → t ≡ q ++ p ∷ r ∷ s → next_at m (suc d) j ≤ r)) (sought m x)
+    (λ t h. let long = h.0.long in (omega arith, λ r s e. h.1 r s (e ∙ sym (append_assoc q (p ∷ []) (r ∷ s)))))
+    (each_both (IsSought m x) (λ t. (r : ℕ) (s : List ℕ) → t ≡ (q ++ p ∷ []) ++ r ∷ s → next_at m (suc d) j ≤ r) (sought m x) (each_sought m x) enters.least)))
 
 pub forward_place : (m : Search) (path places : List ℕ) (d j : ℕ) → d < length path → suc d < length places → slice_index path d ≡ next_at m d (slice_index places d) → lex_lt (next_front m path places d) (next_front m path (set places (suc d) j) (suc d)) ≡ true
 forward_place m path places d j h k is = rw (bound_place m path places d j h k, ← is) (lex_longer (take d path ++ slice_index path d ∷ []) (next_at m (suc d) j) [])
@@ -252,9 +259,9 @@ sound_back m laws x path places e seeking probes s =
     let over : lex_lt (q ++ p ∷ []) c' ≡ true = rw (is, lex_append, lex_one) (grind (arith, nat_tests)) in
     let long : length c' ≡ suc e = length-append q (next_at m e (slice_index (set places e (slice_index places e + 1)) e) ∷ []) ∙ omega arith in
     let past : lex_lt x c' ≡ true = elim (cases_Bool seeking) [
-        inl b ↦ lex_uncut x c' (rw long (subst (λ (u : List ℕ). lex_lt u c' ≡ true) (sym front ∙ s.seeks b) over))
+      | inl b ↦ lex_uncut x c' (rw long (subst (λ (u : List ℕ). lex_lt u c' ≡ true) (sym front ∙ s.seeks b) over))
       | inr b ↦ lex_trans x c c' (s.passed b) up
-      ] in
+    ] in
     let there : get_or (set places e (get_or places e 0 + 1)) e 0 ≡ get_or places e 0 + 1 = get_or-set_same places e (slice_index places e + 1) 0 in_at in
     record {
       path_len = s.path_len;
@@ -268,11 +275,11 @@ sound_back m laws x path places e seeking probes s =
       seeks = λ b. absurd (false≢true b);
       passed = λ _. past;
       paid =
-        let cost = mul-le-mul_left n (met_up m x c c' up) in
-        let was = s.paid in
-        let spent : behind m.choices (take (suc e) places) ≡ behind m.choices (take e places) + (length (choices_at m e) - suc (slice_index places e)) = ap (λ (u : List ℕ). behind m.choices u) (front_back places e in_at) ∙ behind_push m laws (take e places) (slice_index places e) e (length-take-le e places (omega arith)) within in
-        let now : behind m.choices (take e (set places e (slice_index places e + 1))) ≡ behind m.choices (take e places) = ap (λ (u : List ℕ). behind m.choices u) (take-set places e (slice_index places e + 1)) in
-        omega arith;
+          let cost = mul-le-mul_left n (met_up m x c c' up) in
+          let was = s.paid in
+          let spent : behind m.choices (take (suc e) places) ≡ behind m.choices (take e places) + (length (choices_at m e) - suc (slice_index places e)) = ap (λ (u : List ℕ). behind m.choices u) (front_back places e in_at) ∙ behind_push m laws (take e places) (slice_index places e) e (length-take-le e places (omega arith)) within in
+          let now : behind m.choices (take e (set places e (slice_index places e + 1))) ≡ behind m.choices (take e places) = ap (λ (u : List ℕ). behind m.choices u) (take-set places e (slice_index places e + 1)) in
+          omega arith;
     }
 
 -- the list of the depth is at its end
@@ -288,8 +295,10 @@ left_back m laws path places x e lp la short l is end =
     let none : next_at m (suc e) (slice_index places (suc e)) ≡ m.count = get_or_past (choices_at m (suc e)) (slice_index places (suc e)) m.count end in
     let above : p < next_at m e (suc (slice_index places e)) = subst (λ (r : ℕ). r < next_at m e (suc (slice_index places e))) is (next_above m laws e (slice_index places e) within l) in
     rw (bound_back m path places e (omega arith), bound_next m path places e (slice_index places e + 1) (omega arith), add-one, none) (pop_left (sought m x) q p m.count (next_at m e (suc (slice_index places e))) above
-      (each_weaker (IsSought m x) (λ t. (length q + 1 < length t) × ((r : ℕ) (s : List ℕ) → t ≡ q ++ p ∷ r ∷ s → r < m.count) × ((r : ℕ) (s : List ℕ) → t ≡ q ++ r ∷ s → p < r → next_at m e (suc (slice_index places e)) ≤ r)) (sought m x)
-        (λ t h. let long = h.long in (omega arith,
-          λ r s w. (choice_in m laws x t (q ++ p ∷ []) s r h (w ∙ sym (append_assoc q (p ∷ []) (r ∷ s)))).low,
-          λ r s w g. let choice = choice_in m laws x t q s r h w in next_least m laws e (slice_index places e) r within l (subst (λ (i : ℕ). Among (choices_at m i) r) size choice.among) choice.low (rw is g)))
-        (each_sought m x)))
+    (each_weaker (IsSought m x) (λ t. (length q + 1 < length t) × ((r : ℕ) (s : List ℕ) → t ≡ q ++ p ∷ r ∷ s → r < m.count) × ((r : ℕ) (s : List ℕ) → t ≡ q ++ r ∷ s → p < r → next_at m e (suc (slice_index places e)) ≤ r)) (sought m x)
+    (λ t h. let long = h.long in (
+      omega arith,
+      λ r s w. (choice_in m laws x t (q ++ p ∷ []) s r h (w ∙ sym (append_assoc q (p ∷ []) (r ∷ s)))).low,
+      λ r s w g. let choice = choice_in m laws x t q s r h w in next_least m laws e (slice_index places e) r within l (subst (λ (i : ℕ). Among (choices_at m i) r) size choice.among) choice.low (rw is g),
+    ))
+    (each_sought m x)))

@@ -1,7 +1,7 @@
 -- The search of a query is one that a walk goes through.
 use Rattle.std.proofs.Common.{◌≡◌, ℕ, ◌+◌, ◌<◌, ◌≤◌, zero, suc, Bool, true, false, ◌&&◌, List, [], ◌∷◌, ◌++◌, inl, inr, length, map, get_or, drop, refl, sym, ap, ◌∙◌, subst, arith, slice_index_or, slice_index, append-nil}
 use Rattle.std.specs.List.{filter, list_all, range_with_len, AllPairs, AllByRecursion as Each}
-use Rattle.std.proofs.lemmas.Bool.{cases_Bool, and_parts, and_from, false≢true}
+use Rattle.std.proofs.lemmas.Bool.{cases_Bool, and_parts, and_from}
 use Rattle.std.proofs.lemmas.List.{get_or-map, length-map, drop_more}
 use Rattle.std.proofs.lemmas.List.Kept.{AllPairs-filter}
 use Rattle.std.proofs.lemmas.List.Folds.{list_all-append}
@@ -15,7 +15,7 @@ use Rattle.ac_search.specs.Own.{units_fit, traits_fit, aggregates_fit, tree_fits
 use Rattle.ac_search.specs.Together.{sums, isolate, anchor}
 use Rattle.ac_search.specs.Judge.{tests, is_candidate, is_open, is_open_at}
 use Rattle.ac_search.specs.Search.{choices_at}
-use Rattle.ac_search.specs.Tries.{fits, choice_of, choices_of, completes, search_of}
+use Rattle.ac_search.specs.QuerySearch.{fits, choice_of, completes, search_of}
 use Rattle.ac_search.proofs.Elements.{Among, each_filter, each_weaker, each_all, among_filter, filter_none}
 use Rattle.ac_search.proofs.ListLemmas.{among_range}
 use Rattle.ac_search.proofs.PlacedLemmas.{placed_append, placed_none}
@@ -156,12 +156,13 @@ pub candidate_completes : (all : List Provider) (asked : Asked) (list : List ℕ
 unfolding is_candidate is_open is_open_at tests
 candidate_completes all asked list = grind arith
 
-fits_placed : (all : List Provider) (ss : List Slot) (list : List ℕ) → length list ≤ length ss
-    → ((i : ℕ) (d : Slot) → i < length list → fits all (record { slot = slice_index_or ss i d; provider = slice_index list i }) ≡ true)
+-- each provider fits its slot
+pub fits_placed : (all : List Provider) (ss : List Slot) (list : List ℕ) → length list ≤ length ss
+    → ((i : ℕ) → i < length list → fits all (record { slot = slice_index_or ss i no_slot; provider = slice_index list i }) ≡ true)
     → list_all (λ x. fits all x) (placed ss list) ≡ true
 fits_placed all [] list h f = refl
 fits_placed all (s ∷ ss) [] h f = refl
-fits_placed all (s ∷ ss) (p ∷ list) h f = and_from _ _ (f 0 s (omega arith)) (fits_placed all ss list (omega arith) (λ i d l. f (suc i) d (omega arith)))
+fits_placed all (s ∷ ss) (p ∷ list) h f = and_from _ _ (f 0 (omega arith)) (fits_placed all ss list (omega arith) (λ i l. f (suc i) (omega arith)))
 
 -- nothing is asked of an empty list's slots
 pub fits_none : (all : List Provider) (asked : Asked) (list : List ℕ) → list ≡ [] → list_all (λ x. fits all x) (assigned asked list) ≡ true

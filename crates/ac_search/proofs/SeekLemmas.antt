@@ -1,5 +1,5 @@
 -- How a path stands to the least list after one more number.
-use Rattle.std.proofs.Common.{◌≡◌, ℕ, ◌+◌, ◌<◌, ◌≤◌, suc, Bool, true, false, List, [], ◌∷◌, ◌++◌, inl, inr, length, take, refl, sym, ap, ◌∙◌, subst, arith, length-append, length-take-le, take_all, get_or-take}
+use Rattle.std.proofs.Common.{◌≡◌, ℕ, ◌+◌, ◌<◌, suc, Bool, true, false, List, [], ◌∷◌, ◌++◌, inl, inr, length, take, sym, ap, ◌∙◌, subst, arith, length-append, length-take-le, take_all, get_or-take}
 use Rattle.std.specs.List.{slice_index}
 use Rattle.std.proofs.lemmas.Bool.{cases_Bool, cases_lt}
 use Rattle.std.proofs.lemmas.List.{take_more, get_or_push}
@@ -18,13 +18,13 @@ passed_by m x path places d seeking probes p s l is other =
     let size : length q ≡ d = length-take-le d path (omega (arith, s.path_len, s.within)) in
     let long : length c ≡ suc d = length-append q (p ∷ []) ∙ omega arith in
     elim (cases_Bool seeking) [
-      inl b ↦
-        let low : lex_lt c (take (suc d) x) ≡ false = subst (λ (u : List ℕ). lex_lt u (take (suc d) x) ≡ false) same (s.reached l) in
-        elim (cases_Bool (lex_lt (take (suc d) x) c)) [
-          inl e ↦ lex_uncut x c (rw long e)
-        | inr e ↦ absurd (other b (at_end size long (lex_total c (take (suc d) x) low e)))
-        ]
-    | inr b ↦ subst (λ (u : List ℕ). lex_lt x u ≡ true) same (s.passed b)
+      | inl b ↦
+          let low : lex_lt c (take (suc d) x) ≡ false = subst (λ (u : List ℕ). lex_lt u (take (suc d) x) ≡ false) same (s.reached l) in
+          elim (cases_Bool (lex_lt (take (suc d) x) c)) [
+            | inl e ↦ lex_uncut x c (rw long e)
+            | inr e ↦ absurd (other b (at_end size long (lex_total c (take (suc d) x) low e)))
+          ]
+      | inr b ↦ subst (λ (u : List ℕ). lex_lt x u ≡ true) same (s.passed b)
     ]
   where
     at_end : length (take d path) ≡ d → length (take d path ++ p ∷ []) ≡ suc d → take d path ++ p ∷ [] ≡ take (suc d) x → HasAt x d p

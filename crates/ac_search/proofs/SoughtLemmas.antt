@@ -1,5 +1,5 @@
 -- What a search looks for: in order, each once; and where the choices of a slot lead.
-use Rattle.std.proofs.Common.{◌≡◌, ℕ, ◌+◌, ◌<◌, ◌≤◌, zero, suc, Bool, true, false, not, List, [], ◌∷◌, ◌++◌, inl, inr, length, get_or, refl, sym, ap, ◌∙◌, subst, arith, append_assoc, length-append}
+use Rattle.std.proofs.Common.{◌≡◌, ℕ, ◌<◌, ◌≤◌, suc, true, false, not, List, [], ◌∷◌, ◌++◌, inl, inr, length, get_or, sym, ap, ◌∙◌, subst, arith, append_assoc, length-append}
 use Rattle.std.specs.List.{filter, AllPairs, AllByRecursion as Each}
 use Rattle.std.proofs.lemmas.Bool.{cases_lt, cases_eq, not-true, not_from_false}
 use Rattle.std.proofs.lemmas.List.{get_or_past}
@@ -7,7 +7,7 @@ use Rattle.std.proofs.lemmas.List.Elements.{All-from_recursion, recursion_from_A
 use Rattle.ac_search.specs.Order.{lex_lt}
 use Rattle.ac_search.specs.Lists.{all_lists, IsListBelow, IsRising}
 use Rattle.ac_search.specs.Search.{Search, sought, choices_at, next_at}
-use Rattle.ac_search.proofs.Elements.{Among, each_filter, each_weaker, each_append, among_filter}
+use Rattle.ac_search.proofs.Elements.{Among, each_filter, each_weaker, among_filter}
 use Rattle.ac_search.proofs.SlotLemmas.{each_at}
 use Rattle.ac_search.proofs.ListLemmas.{rising_all_lists, rising_filter, each_all_lists, among_all_lists}
 

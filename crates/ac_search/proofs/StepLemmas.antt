@@ -1,14 +1,11 @@
 -- What a walk does as a step: it puts a number behind its path, and skips a choice.
-use Rattle.std.proofs.Common.{◌≡◌, ℕ, ◌+◌, ◌-◌, ◌*◌, ◌<◌, ◌≤◌, ◌^◌, suc, Bool, true, false, List, [], ◌∷◌, ◌++◌, length, take, set, Option, None, Some, Bor, refl, sym, ap, ◌∙◌, subst, arith}
+use Rattle.std.proofs.Common.{◌≡◌, ℕ, ◌+◌, ◌*◌, ◌<◌, ◌≤◌, suc, true, List, [], ◌∷◌, ◌++◌, length, take, set, Option, Some, refl, sym, ap, ◌∙◌, subst, arith}
 use Rattle.std.specs.List.{slice_index}
 use Rattle.std.proofs.lemmas.List.{take-set}
 use Rattle.ac_query.specs.QueriesShown.{asked_of}
-use Rattle.ac_query.specs.declared.query.Query.{Query}
 use Rattle.ac_tables.specs.CloudWorld.{providers_of}
-use Rattle.ac_tables.specs.declared.cloud.Cloud.{Cloud}
 use Rattle.ac_search.specs.Order.{lex_lt}
 use Rattle.ac_search.specs.Search.{Search, choices_at, next_at, next_front, left_from, between}
-use Rattle.ac_search.specs.Tries.{search_of}
 use Rattle.ac_search.specs.WalkShown.{search_in, front_in, left_of, IsSame, IsBounded}
 use Rattle.ac_search.specs.Steps.{Goes, Gives}
 use Rattle.ac_search.specs.declared.walk.Walk.{Walk}

@@ -1,12 +1,11 @@
 -- What a try of the next choice comes to.
-use Rattle.std.proofs.Common.{◌≡◌, ℕ, ◌+◌, ◌-◌, ◌*◌, ◌<◌, ◌≤◌, zero, suc, Bool, true, false, List, [], ◌∷◌, ◌++◌, length, take, set, Option, None, Some, refl, sym, ap, ◌∙◌, subst, nat_lt, arith, length-append, length-take-le, take_all}
-use Rattle.std.specs.List.{filter, slice_index, AllByRecursion as Each}
+use Rattle.std.proofs.Common.{◌≡◌, ℕ, ◌+◌, ◌*◌, ◌<◌, ◌≤◌, suc, Bool, true, false, List, [], ◌∷◌, ◌++◌, length, take, set, None, Some, sym, ap, ◌∙◌, subst, arith, length-append, length-take-le, take_all}
+use Rattle.std.specs.List.{slice_index}
 use Rattle.std.proofs.lemmas.Bool.{false≢true}
 use Rattle.std.proofs.lemmas.Bool.Decides.{nat_tests}
 use Rattle.std.proofs.lemmas.List.{get_or_past}
 use Rattle.std.proofs.Math.Nat.{mul-le-mul_left}
-use Rattle.ac_search.specs.Order.{lex_lt}
-use Rattle.ac_search.specs.Search.{Search, sought, between, choices_at, next_at, next_front, from, left_from, met, behind, IsSound}
+use Rattle.ac_search.specs.Search.{Search, sought, between, choices_at, next_at, next_front, from, left_from, IsSound}
 use Rattle.ac_search.proofs.Elements.{each_weaker, each_append, filter_none}
 use Rattle.ac_search.proofs.FrontOrder.{lex_one}
 use Rattle.ac_search.proofs.SoughtLemmas.{IsSearch, IsSought, each_sought, choice_in, low_at}
@@ -53,7 +52,7 @@ left_whole m laws x path places d seeking probes s l last wanted =
 pub left_ended : (m : Search) → IsSearch m → (x path places : List ℕ) → 0 < m.width → length (choices_at m 0) ≤ slice_index places 0 → left_from m x (next_front m path places 0) ≡ []
 unfolding left_from
 left_ended m laws x path places some end = rw (get_or_past (choices_at m 0) (slice_index places 0) m.count end) (filter_none (from (m.count ∷ [])) (sought m x)
-  (each_weaker (IsSought m x) (λ t. from (m.count ∷ []) t ≡ false) (sought m x) below (each_sought m x)))
+    (each_weaker (IsSought m x) (λ t. from (m.count ∷ []) t ≡ false) (sought m x) below (each_sought m x)))
   where
     below : (t : List ℕ) → IsSought m x t → from (m.count ∷ []) t ≡ false
     below [] h = let long = h.long in absurd (omega arith)

@@ -7,7 +7,7 @@ pub mod Room
 pub mod Judge
 pub mod Pages
 pub mod Search
-pub mod Tries
+pub mod QuerySearch
 pub mod Odometer
 pub mod ListsShown
 pub mod PlainShown

@@ -1,5 +1,5 @@
 -- What one step of a walk does.
-use Rattle.std.specs.Prelude.{◌≡◌, ◌-◌, ◌^◌, ◌<◌, ◌≤◌, true, List, [], ◌∷◌, None, Some}
+use Rattle.std.specs.Prelude.{◌≡◌, ◌-◌, ◌^◌, ◌<◌, ◌≤◌, true, [], ◌∷◌, None, Some}
 use Rattle.ac_search.specs.Order.{lex_lt}
 use Rattle.ac_search.specs.WalkShown.{front_in, left_of, IsSame, IsBounded}
 use Rattle.ac_search.specs.declared.walk.Walk.{Walk}

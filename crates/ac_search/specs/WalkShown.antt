@@ -3,7 +3,7 @@ use Rattle.std.specs.Prelude.{◌≡◌, ℕ, ◌*◌, ◌-◌, ◌^◌, ◌<◌
 use Rattle.ac_query.specs.QueriesShown.{asked_of}
 use Rattle.ac_tables.specs.CloudWorld.{providers_of}
 use Rattle.ac_search.specs.Search.{Search, next_front, left_from, between}
-use Rattle.ac_search.specs.Tries.{search_of}
+use Rattle.ac_search.specs.QuerySearch.{search_of}
 use Rattle.ac_search.specs.declared.walk.Walk.{Walk}
 
 -- the search of its query
@@ -35,7 +35,7 @@ pub record IsSame (old new : Walk) : Type 0 where
 -- at most as many tries as there are providers, for each list between its least one and the one that it gave
 pub record IsBounded (old : Walk) (given : Option (List ℕ)) (new : Walk) : Type 0 where
   pub same : IsSame old new
-  pub bounded : new.probes ≤ length (providers_of old.cloud.now) * length (between (search_in old) (least_in old) given)
+  pub bounded : new.probes ≤ (search_in old).count * length (between (search_in old) (least_in old) given)
 
 -- What a call of `next` does besides: its tries are bounded, and it has made one for a list that it gave, unless their count stands at its end.
 pub record Tries (old : Walk) (given : Option (List ℕ)) (new : Walk) : Type 0 where

@@ -6,7 +6,7 @@ ghost use Rattle.ac_query.specs.Asked.{slots_of};
 ghost use Rattle.ac_query.specs.QueriesShown.{asked_of};
 ghost use Rattle.ac_search.specs.Placed.{slot_at, placed_at};
 ghost use Rattle.ac_search.specs.Judge.{is_open};
-ghost use Rattle.ac_search.specs.Tries.{fits, choice_of, choices_of};
+ghost use Rattle.ac_search.specs.QuerySearch.{fits, choice_of, choices_of};
 
 use crate::open::{fits_slot, is_open};
 use crate::slots::count_slots;

@@ -4,7 +4,7 @@ ghost use Rattle.std.specs.Prelude.{◌≡◌, ◌<◌, ◌≤◌, IfOk, length,
 ghost use Rattle.std.specs.Option.{option_map};
 ghost use Rattle.ac_tables.specs.CloudWorld.{providers_of};
 ghost use Rattle.ac_query.specs.Tokens as tokens;
-ghost use Rattle.ac_search.specs.Tries.{rank_of, least_after, least_of};
+ghost use Rattle.ac_search.specs.QuerySearch.{rank_of, least_after, least_of};
 
 use ac_base::{Id, NoMemory};
 use ac_query::Token;
@@ -24,12 +24,7 @@ fn rank(cloud: &Cloud, id: Id) -> u32
 }
 
 // The least list of at most so many places from which on the ids of lists come after these.
-fn least_after(
-    alloc: Global,
-    cloud: &Cloud,
-    ids: &[Id],
-    width: usize,
-) -> Result<Vec<u32>, NoMemory>
+fn least_after(alloc: Global, cloud: &Cloud, ids: &[Id], width: usize) -> Result<Vec<u32>, NoMemory>
     ensures { IfOk result (λ list. list.items ≡ least_after (providers_of cloud.now) width ids.now) }
 {
     let mut list = Vec::new(alloc);

@@ -7,7 +7,7 @@ ghost use Rattle.ac_query.specs.Asked.{slots_of};
 ghost use Rattle.ac_query.specs.QueriesShown.{asked_of};
 ghost use Rattle.ac_search.specs.Placed.{placed_at, assigned};
 ghost use Rattle.ac_search.specs.Judge.{is_open};
-ghost use Rattle.ac_search.specs.Tries.{fits, completes};
+ghost use Rattle.ac_search.specs.QuerySearch.{fits, completes};
 
 use crate::anchor::has_anchor;
 use crate::own::{has_aggregates, has_slot_traits, has_units, is_in_tree};
@@ -17,7 +17,7 @@ use ac_query::Query;
 use ac_tables::Cloud;
 
 /// Whether a provider meets the rules of a slot alone.
-#[tactic(auto, unfolding(crate::specs::Tries::fits))]
+#[tactic(auto, unfolding(crate::specs::QuerySearch::fits))]
 pub(crate) fn fits_slot(cloud: &Cloud, query: &Query, s: usize, ix: u32) -> bool
     requires slot { s < length (slots_of (asked_of query.now)) }
     requires provider { ix < length (providers_of cloud.now) }
@@ -37,9 +37,7 @@ pub(crate) fn is_open(cloud: &Cloud, query: &Query, front: &[u32]) -> bool
     requires own { list_all (λ x. fits (providers_of cloud.now) x) (assigned (asked_of query.now) front.now) ≡ true }
     ensures { result ≡ is_open (providers_of cloud.now) (asked_of query.now) front.now }
 {
-    have_room(cloud, query, front)
-        && are_isolated(query, front)
-        && has_anchor(cloud, query, front)
+    have_room(cloud, query, front) && are_isolated(query, front) && has_anchor(cloud, query, front)
 }
 
 /// Whether a list meets what isn't asked of its fronts.

@@ -1,4 +1,3 @@
-// open: the bodies of Walk
 ghost use Rattle.std.specs.Prelude.{◌≡◌, ◌+◌, ◌-◌, ◌<◌, ◌≤◌, ◌^◌, ◌++◌, ◌∷◌, [], length, map, take, true, suc, MatchOption, IsTrue, IfOk, ◌↔◌, slice_index, slice_set};
 ghost use Rattle.std.specs.Bool.{MatchBool};
 ghost use Rattle.std.specs.Option.{option_map};
@@ -9,7 +8,7 @@ ghost use Rattle.ac_query.specs.Tokens as tokens;
 ghost use Rattle.ac_search.specs.Judge.{is_open};
 ghost use Rattle.ac_search.specs.Pages.{rest};
 ghost use Rattle.ac_search.specs.Search.{IsSound, IsStart, Enters, HasAt, least_at, choices_at, next_at};
-ghost use Rattle.ac_search.specs.Tries.{choices_of, search_of, completes, least_of};
+ghost use Rattle.ac_search.specs.QuerySearch.{choices_of, search_of, completes, least_of};
 
 use crate::choices::all_choices;
 use crate::least::least_of;
@@ -65,7 +64,7 @@ impl<'a> Walk<'a> {
         after: Option<&Token>,
     ) -> Result<Walk<'a>, NoMemory>
         ensures left { IfOk result (λ walk. ⟦<Walk<'a> as Source>⟧.left walk ≡ rest (providers_of cloud.now) (asked_of query.now) (option_map (λ t. tokens.ids_of t.now) after.entry)) }
-        ensures cloud { IfOk result (λ walk. (search_in walk).count ≡ length (providers_of cloud.now)) }
+        ensures search { IfOk result (λ walk. search_in walk ≡ search_of (providers_of cloud.now) (asked_of query.now)) }
         ensures least { IfOk result (λ walk. least_in walk ≡ least_of (providers_of cloud.now) (length (slots_of (asked_of query.now))) (option_map (λ t. tokens.ids_of t.now) after.entry)) }
         ensures probes { IfOk result (λ walk. probes_in walk ≡ 0) }
     {

@@ -41,8 +41,8 @@ pub returns-then-has_at-clause-enters : goal.returns-then-has_at-clause-enters
 returns-then-has_at-clause-enters c =
     let w = c.args.self.now in
     enter_seeking_at (search_in w) (laws_in w) w.least.items (take w.depth w.path.items ++ c.args.provider ∷ []) (suc w.depth) c.start_of-start.result (long w c.args.provider) c.requires.short
-      (sought_by w.least.items w.path.items w.depth c.args.provider (w.sound.seeks c.if-self.true) (rw c.deref.ensures.value at (c.has_at.ensures.0 c.if-has_at.true)))
-      (sought w c.index.result.now c.deref-then-has_at.result.now c.deref-then-has_at-2.result.now c.start_of-start.result c.requires.short c.index.ensures c.deref-then-has_at.ensures.value c.deref-then-has_at-2.ensures.value c.start_of-start.ensures)
+    (sought_by w.least.items w.path.items w.depth c.args.provider (w.sound.seeks c.if-self.true) (rw c.deref.ensures.value at (c.has_at.ensures.0 c.if-has_at.true)))
+    (sought w c.index.result.now c.deref-then-has_at.result.now c.deref-then-has_at-2.result.now c.start_of-start.result c.requires.short c.index.ensures c.deref-then-has_at.ensures.value c.deref-then-has_at-2.ensures.value c.start_of-start.ensures)
 
 pub returns-else-has_at-clause-enters : goal.returns-else-has_at-clause-enters
 returns-else-has_at-clause-enters c =
