@@ -6,7 +6,11 @@ pub mod Together
 pub mod Room
 pub mod Judge
 pub mod Pages
+pub mod Search
+pub mod QuerySearch
 pub mod Odometer
 pub mod ListsShown
 pub mod PlainShown
+pub mod WalkShown
+pub mod Steps
 pub mod Laws

@@ -5,11 +5,14 @@
 
 mod after;
 mod anchor;
+mod choices;
 mod each;
 mod judging;
 pub mod laws;
+mod least;
 mod lists;
 mod odometer;
+mod open;
 mod own;
 pub mod plain;
 mod slots;
@@ -18,9 +21,11 @@ mod sums;
 #[cfg(test)]
 mod tests;
 pub mod verdict;
+pub mod walk;
 mod whole;
 
 pub use judging::verify;
 pub use plain::Plain;
 pub use source::Source;
 pub use verdict::{Rule, Verdict};
+pub use walk::Walk;
