@@ -1,10 +1,9 @@
 -- Maps and sets whose keys are shown as something else, in the same order: what a look-up or a change does to what is shown.
-use Rattle.std.proofs.Common.{◌≡◌, Bool, true, false, ◌||◌, List, [], ◌∷◌, map, Option, Some, None, refl, sym, ap, ap₂, ◌∙◌, if◌then◌else◌, is_some}
+use Rattle.std.proofs.Common.{◌≡◌, Bool, true, false, List, [], ◌∷◌, map, Option, Some, None, refl, sym, ap, ◌∙◌, if◌then◌else◌, is_some}
 use Rattle.std.specs.declared.cmp.Ordering.{Ordering}
 use Rattle.std.specs.declared.cmp.Ordering.TheVariants.{Less, Equal, Greater}
 use Rattle.std.specs.Ordering.{match_ordering, is_eq}
-use Rattle.std.specs.List.{list_any}
-use Rattle.std.specs.Map.{lookup, remove_entry}
+use Rattle.std.specs.Map.{lookup}
 use Rattle.std.specs.Option.{option_map}
 use Rattle.std.specs.BTreeMap.{insert_entry, is_at}
 use Rattle.std.specs.BTreeSet.{insert_key}
@@ -37,17 +36,6 @@ module _ {K L X Y : Type 0} (f : K → L) (g : X → Y) (cmp : K → K → Order
       map_if true x o = refl
       map_if false x o = refl
 
-  pub remove_shown : (es : List (K × X)) (k : K) → map show (remove_entry (is_at (cmp k)) es) ≡ remove_entry (is_at (shown_cmp (f k))) (map show es)
-  remove_shown [] k = refl
-  remove_shown (e ∷ es) k =
-      map_cond (is_at (cmp k) e.0)
-      ∙ ap (λ o. if is_eq o then map show es else show e ∷ map show (remove_entry (is_at (cmp k)) es)) (same k e.0)
-      ∙ ap (λ l. if is_at (shown_cmp (f k)) (f e.0) then map show es else show e ∷ l) (remove_shown es k)
-    where
-      map_cond : (b : Bool) → map show (if b then es else e ∷ remove_entry (is_at (cmp k)) es) ≡ (if b then map show es else show e ∷ map show (remove_entry (is_at (cmp k)) es))
-      map_cond true = refl
-      map_cond false = refl
-
   pub is_some_shown : (es : List (K × X)) (k : K) → is_some (lookup (is_at (shown_cmp (f k))) (map show es)) ≡ is_some (lookup (is_at (cmp k)) es)
   is_some_shown es k = ap is_some (lookup_shown es k) ∙ is_some_map (lookup (is_at (cmp k)) es)
     where
@@ -63,8 +51,3 @@ module _ {K L : Type 0} (f : K → L) (cmp : K → K → Ordering) (shown_cmp : 
       map_match f (cmp k x) _ _ _
       ∙ ap (λ o. match_ordering o (f k ∷ f x ∷ map f xs) (f x ∷ map f xs) (f x ∷ map f (insert_key cmp xs k))) (same k x)
       ∙ ap (λ l. match_ordering (shown_cmp (f k) (f x)) (f k ∷ f x ∷ map f xs) (f x ∷ map f xs) (f x ∷ l)) (insert_key_shown xs k)
-
-  -- whether a set has a key
-  pub contains_shown : (ks : List K) (k : K) → list_any (is_at (cmp k)) ks ≡ list_any (is_at (shown_cmp (f k))) (map f ks)
-  contains_shown [] k = refl
-  contains_shown (x ∷ xs) k = ap₂ (λ a b. a || b) (ap is_eq (same k x)) (contains_shown xs k)

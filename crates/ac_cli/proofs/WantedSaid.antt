@@ -1,10 +1,7 @@
 -- What is said of a query and a token that were read, and of those that were refused.
-use Rattle.std.proofs.Common.{◌≡◌, ◌∙◌, ℕ, ◌==◌, Bool, true, false, List, length, Option, Some, None, if◌then◌else◌, refl, sym, ap, subst, arith}
-use Rattle.std.proofs.lemmas.Bool.Decides.{nat_tests}
+use Rattle.std.proofs.Common.{◌≡◌, ◌∙◌, ℕ, List, Option, Some, None, refl, sym, ap, subst}
 use Rattle.std.specs.Io.KnownBytes.{Keeps}
 use Rattle.ac_query.specs.Asked.{Asked}
-use Rattle.ac_query.specs.Tokens.{fault_of}
-use Rattle.ac_query.specs.declared.token.TokenFault.TheVariants.{WrongLength}
 use Rattle.ac_tables.specs.World.{World}
 use Rattle.ac_base.proofs.Leaving.{part_none}
 use Rattle.ac_cli.specs.Answer.{Says, Task, answer_in, page_body, page_lines, past_query, verdict_line}
@@ -14,15 +11,6 @@ use Rattle.ac_cli.specs.declared.refusal.Refusal.{Refusal}
 use Rattle.ac_cli.specs.declared.refusal.Refusal.TheVariants as why
 use Rattle.ac_cli.specs.declared.words.Command.{Command}
 use Rattle.ac_cli.specs.declared.words.Command.TheVariants as command
-
--- an accepted token has an id for each slot
-pub has_slots : (slots : ℕ) (ids : Option (List ℕ)) (list : List ℕ) → fault_of slots ids ≡ None → ids ≡ Some list → length list ≡ slots
-has_slots slots None list h e = absurd (cc)
-has_slots slots (Some ids) list h e = let same : ids ≡ list = cc in subst (λ l. length l ≡ slots) same (by_test (length ids == slots) refl h)
-  where
-    by_test : (test : Bool) → (length ids == slots) ≡ test → (if test then None else Some WrongLength) ≡ None → length ids ≡ slots
-    by_test true e h = grind (arith, nat_tests)
-    by_test false e h = absurd (cc)
 
 pub keeps : (s : Option (List ℕ)) → Keeps s s
 keeps None = tt

@@ -38,22 +38,13 @@ const ONE: Rows = Rows {
 };
 
 fn expanded(alloc: Global, text: &str) -> Result<String, AllocError> {
-    let mut whole = String::new(alloc);
-    for (place, piece) in text.split('@').enumerate() {
-        if place > 0 {
-            whole.push_str("00000000-0000-0000-0000-00000000000")?;
-        }
-        whole.push_str(piece)?;
-    }
-    Ok(whole)
+    text.replace(alloc, "@", "00000000-0000-0000-0000-00000000000")
 }
 
 // The rows of a table under its header.
 fn table(alloc: Global, header: &str, rows: &str) -> Result<String, AllocError> {
-    let mut whole = String::from_str(alloc, header)?;
-    whole.push_str("\n")?;
-    whole.push_str(expanded(alloc, rows)?.as_str())?;
-    Ok(whole)
+    let rows = expanded(alloc, rows)?;
+    format!(in alloc; "{header}\n{rows}")
 }
 
 // How the devices of a run go.

@@ -6,14 +6,13 @@ use Rattle.std.specs.Map.{lookup}
 use Rattle.std.specs.BTreeMap.{is_at}
 use Rattle.std.specs.Cmp.Lexicographic.{texts_ties}
 use Rattle.std.proofs.lemmas.Bool.Decides.{nat_tests}
-use Rattle.std.proofs.lemmas.List.{map-append}
 use Rattle.std.proofs.lemmas.List.Sums.{sum_by-cons, sum_by-append}
 use Rattle.ac_base.specs.declared.name.Suffix.{Suffix}
 use Rattle.ac_base.specs.Names.{suffix_bytes}
 use Rattle.ac_query.specs.declared.draft.GroupDraft.{GroupDraft}
 use Rattle.ac_query.specs.Asked.{Group, Asked}
-use Rattle.ac_query.specs.Gathered.{plain_groups, of_suffix}
-use Rattle.ac_query.specs.Faults.{Fault, no_resources, policy_missing, too_many_slots, first_fault, has_resources, listed_suffixes, group_condition, suffix_condition, is_of, needs_policy, slot_count, entry_count, is_too_large, asked_conditions}
+use Rattle.ac_query.specs.Gathered.{of_suffix}
+use Rattle.ac_query.specs.Faults.{Fault, policy_missing, too_many_slots, first_fault, has_resources, listed_suffixes, group_condition, suffix_condition, is_of, needs_policy, slot_count, entry_count, is_too_large, asked_conditions}
 use Rattle.ac_query.specs.DraftShown.{entry_shown}
 use Rattle.ac_query.proofs.Drafts.{key_cmp}
 use Rattle.ac_query.proofs.PairSteps.{first_fault-append, first_fault-found}
@@ -28,29 +27,6 @@ group_there (e ∷ es) k =
     found : (b : Bool) (o : Option GroupDraft) → is_some (if b then Some e.1 else o) ≡ b || is_some o
     found true o = refl
     found false o = refl
-
--- the unsuffixed group has no suffix and needs no policy
-pub conditions_of_plain : (plain : Option Group) (gs : List (Option (List ℕ) × Group)) (names : List (List ℕ))
-    → map (suffix_condition gs) names ≡ map (suffix_condition (plain_groups plain ++ gs)) names
-conditions_of_plain None gs names = refl
-conditions_of_plain (Some g) gs names = refl
-
-pub policy_of_plain : (plain : Option Group) (gs : List (Option (List ℕ) × Group)) → filter needs_policy gs ≡ filter needs_policy (plain_groups plain ++ gs)
-policy_of_plain None gs = refl
-policy_of_plain (Some g) gs = refl
-
--- the unsuffixed group comes first
-module _ (listed : List (List ℕ)) (plain : List (Option (List ℕ) × Group)) (gs : List (Option (List ℕ) × Group)) (bare : Bool) (f : Fault)
-    (told : first_fault (map (group_condition listed) plain) ≡ (if bare then Some f else None)) where
-  pub plain_is_bare : bare ≡ true → first_fault (map (group_condition listed) (plain ++ gs)) ≡ Some f
-  plain_is_bare is =
-      ap first_fault (map-append (group_condition listed) plain gs)
-      ∙ first_fault-found (map (group_condition listed) plain) _ f (told ∙ ap (λ b. if b then Some f else None) is)
-
-  pub plain_is_fine : bare ≡ false → first_fault (map (group_condition listed) (plain ++ gs)) ≡ first_fault (map (group_condition listed) gs)
-  plain_is_fine is =
-      ap first_fault (map-append (group_condition listed) plain gs)
-      ∙ first_fault-append (map (group_condition listed) plain) _ (told ∙ ap (λ b. if b then Some f else None) is)
 
 -- a suffixed group has one slot
 slots_of_suffixed : (es : List (List ℕ × Group)) → sum_by slot_count (map of_suffix es) ≡ length es
@@ -73,9 +49,6 @@ module _ (plain : List (Option (List ℕ) × Group)) (es : List (List ℕ × Gro
 
 -- ---- in order
 module _ (a : Asked) where
-  pub at_no_resources : list_any has_resources a.groups ≡ false → first_fault (asked_conditions a) ≡ Some no_resources
-  at_no_resources none = rw none refl
-
   module _ (some : list_any has_resources a.groups ≡ true) (listed : List (List ℕ)) (is : listed ≡ listed_suffixes a) where
     abbrev of_groups : List (Bool × Fault)
     of_groups = map (group_condition listed) a.groups

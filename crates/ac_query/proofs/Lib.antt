@@ -19,9 +19,7 @@ pub mod Gathering
 pub mod Asking
 pub mod WrittenIds
 pub mod SlotCounts
-pub mod Amounts
 pub mod SlotPlaces
-pub mod Locating
 pub mod Choosing
 pub mod PositiveNeeds
 pub mod LongSuffixes

@@ -5,7 +5,7 @@ use Rattle.std.specs.Result.{IsErrAnd}
 use Rattle.ac_query.specs.Texts.{has_text}
 use Rattle.ac_query.specs.Parameters.{Parameter, parameter, may_repeat}
 use Rattle.ac_query.specs.Values.{Given, given_of, is_conflict}
-use Rattle.ac_query.specs.Pairs.{read_pair, pairs_of}
+use Rattle.ac_query.specs.Pairs.{pairs_of}
 use Rattle.ac_query.specs.Faults.{Fault, too_long, repeated, bad_value, conflict, first_fault, is_repeat, pair_conditions, pairs_conditions, text_conditions}
 
 not-not : (b : Bool) → not (not b) ≡ b
@@ -33,9 +33,6 @@ module _ (n : ℕ) (earlier : List (List ℕ)) (p : List ℕ × List ℕ) (q : P
 
       pub at_fine : is_conflict v ≡ false → first_fault (pair_conditions n earlier p) ≡ None
       at_fine clash = rw (known, once, good, clash) refl
-
-      pub pair_is : read_pair p ≡ Some v
-      pair_is = rw (known, good) refl
 
 -- an error that a `?` handed on as it was
 pub err_is : {T E : Type 0} (r : Result T E) (P : E → Type 0) (x : E) → IsErrAnd r (λ e. e ≡ x) → P x → IfErr r P

@@ -42,7 +42,3 @@ next_part s t x comma step =
     let cut = step.1.1.1 in
     ap (λ b. if b then items_of (split_text s) else []) (sym step.0)
     ∙ cut_items (split_text s) x.now (split_text t) (split_has_more t) cut.0 (subst (λ d. FindsChar d (split_text s) cut.0) comma cut.1) cut.2
-
--- where the text ends, none is left
-pub no_part : (s t : Split ℕ) → Steps s None t → parts_left s ≡ []
-no_part s t step = ap (λ b. if b then items_of (split_text s) else []) (sym step.0)

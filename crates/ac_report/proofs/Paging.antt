@@ -31,17 +31,6 @@ IsCounted gone count = count ≡ min gone 4294967295
 abbrev pub Gone : ℕ → Lists → Lists → Type 0
 Gone count old new = (gone : Lists) × (old ≡ gone ++ new) × IsCounted (length gone) count
 
-pub gone_start : (old : Lists) → Gone 0 old old
-gone_start old = ([], refl, omega arith)
-
-pub after_none : (limit : Option ℕ) → after limit 0 ≡ limit
-after_none None = refl
-after_none (Some n) = let e : n - 0 ≡ n = omega arith in ap (λ k. Some k) e
-
-pub room_start : (limit : Option ℕ) → (Fits : (n : ℕ) → limit ≡ Some n → n ≤ 4294967295) → IsRoom limit 0
-room_start None fits = tt
-room_start (Some n) fits = (omega arith, fits n refl)
-
 pub room_step : (limit : Option ℕ) (count : ℕ) → (limit ≡ Some count → ⊥) → IsRoom limit count → IsRoom limit (counted count)
 room_step None count more h = tt
 room_step (Some n) count more h =
@@ -67,20 +56,6 @@ behind_step (Some n) count (y ∷ ls) x more h e =
     let m : n - count ≡ suc (n - counted count) = omega (arith, h.0, h.1, apart) in
     ap (λ k. drop k (y ∷ ls)) m
 
--- no list is left, or none is wanted
-pub cut_end : (room : Option ℕ) (ls : Lists) → head_of ls ≡ None → (cut room ls ≡ []) × (behind room ls ≡ []) × (tail_of ls ≡ [])
-cut_end None [] e = (refl, refl, refl)
-cut_end (Some zero) [] e = (refl, refl, refl)
-cut_end (Some (suc n)) [] e = (refl, refl, refl)
-cut_end room (x ∷ ls) e = absurd (cc)
-
-pub cut_full : (limit : Option ℕ) (count : ℕ) (ls : Lists) → limit ≡ Some count → (cut (after limit count) ls ≡ []) × (behind (after limit count) ls ≡ ls)
-cut_full None count ls e = absurd (cc)
-cut_full (Some n) count ls e =
-    let same : n ≡ count = cc in
-    let m : n - count ≡ 0 = omega (arith, same) in
-    (ap (λ k. take k ls) m, ap (λ k. drop k ls) m)
-
 -- one more list is gone
 pub gone_step : (count : ℕ) (old ls : Lists) (x : List ℕ) → head_of ls ≡ Some x → Gone count old ls → Gone (counted count) old (tail_of ls)
 gone_step count old [] x e h = absurd (cc)
@@ -101,10 +76,6 @@ loses_one limit count old (y ∷ ls) x e more room h =
     let P : ℕ → Type 0 = λ n. IsWithin n limit in
     (h.0 ++ y ∷ [], h.1 ∙ sym (append_assoc h.0 (y ∷ []) ls), subst P (sym (length-append h.0 (y ∷ []))) (within limit count (length h.0) room h.2 more))
 
-pub loses_none : (limit : Option ℕ) (old : Lists) → LosesSome limit old old
-loses_none None old = ([], refl, tt)
-loses_none (Some n) old = ([], refl, omega arith)
-
 take_short : (n : ℕ) (xs : Lists) → length (take n xs) ≤ n
 take_short zero [] = omega arith
 take_short (suc n) [] = omega arith
@@ -121,9 +92,6 @@ pub count_step : (limit : Option ℕ) (ls : Lists) (x : List ℕ) (count all : �
 count_step limit ls x count all more room e h =
     let longer : length (cut (after limit count) ls) ≡ suc (length (cut (after limit (counted count)) (tail_of ls))) = ap length (cut_step limit count ls x more room e) in
     omega (arith, h, longer)
-
-pub count_end : (last count all : ℕ) → last ≡ 0 → count ≤ 4294967295 → min (count + last) 4294967295 ≡ min all 4294967295 → count ≡ min all 4294967295
-count_end last count all e small h = omega arith
 
 -- what holds of all lists holds of the first, and of those behind it
 pub all_head : (P : List ℕ → Type 0) (ls : Lists) (x : List ℕ) → head_of ls ≡ Some x → All P ls → P x

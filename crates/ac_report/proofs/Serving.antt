@@ -124,10 +124,6 @@ pub hosts_step : (xs : List Placed) (sets : List (BTreeSet ℕ)) (i g : ℕ) (d 
     → (get_or (set sets x.slot.place new) g d).keys ≡ rising nat_cmp (hosts (take (i + 1) xs) g)
 hosts_step xs sets i g d new old x k is low was added inv below = hosts_at xs sets i g d new old x k is low was added inv below (eqb_tells g x.slot.place)
 
--- at first there is none
-pub hosts_start : (xs : List Placed) (sets : List (BTreeSet ℕ)) → All (λ s. s.keys ≡ []) sets → AreHosts (take 0 xs) sets
-hosts_start xs sets empty = λ g d below. empty g d below
-
 -- ---- what is needed of providers
 
 needs_push : (xs : List Placed) (x : Placed) (ix : ℕ) → needs_on (xs ++ x ∷ []) ix ≡ needs_on xs ix ++ (if nat_eq x.provider ix then x.slot.needs else [])
@@ -312,9 +308,6 @@ gathered_onto done ms = fold (λ done m. put m.0 m.1 done) done ms
 
 pub kept_step : (f : ℕ → Named) (t : ℕ → Bool) (p : ℕ) (ps : List ℕ) (done : Members) → t p ≡ true → gathered_onto done (map f (filter t (p ∷ ps))) ≡ gathered_onto (put (f p).0 (f p).1 done) (map f (filter t ps))
 kept_step f t p ps done h = ap (λ b. gathered_onto done (map f (if b then p ∷ filter t ps else filter t ps))) h
-
-pub left_step : (f : ℕ → Named) (t : ℕ → Bool) (p : ℕ) (ps : List ℕ) (done : Members) → t p ≡ false → gathered_onto done (map f (filter t (p ∷ ps))) ≡ gathered_onto done (map f (filter t ps))
-left_step f t p ps done h = ap (λ b. gathered_onto done (map f (if b then p ∷ filter t ps else filter t ps))) h
 
 -- who has needs gives
 pub gives_is : (xs : List Placed) (ix : ℕ) (needs : List (Bor Need)) → map need_at needs ≡ needs_on xs ix → nat_eq (length needs) 0 ≡ false → gives xs ix ≡ true

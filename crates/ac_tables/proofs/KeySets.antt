@@ -1,11 +1,8 @@
 -- Sets, one for each provider.
-use Rattle.std.proofs.Common.{◌≡◌, ◌<◌, ◌+◌, ◌∙◌, ◌++◌, ℕ, Bool, true, List, [], ◌∷◌, map, length, get_or, refl, sym, ap, ap₂, subst, arith, Ordering}
-use Rattle.std.specs.Prelude.{if◌then◌else◌}
-use Rattle.std.specs.List.{sum_by}
+use Rattle.std.proofs.Common.{◌≡◌, ◌<◌, ◌∙◌, ◌++◌, ℕ, true, List, [], ◌∷◌, map, length, get_or, refl, sym, ap, ap₂, subst, arith, Ordering}
 use Rattle.std.specs.BTreeSet.{BTreeSet, insert_key}
 use Rattle.std.proofs.Math.ListN.{set}
 use Rattle.std.proofs.lemmas.List.{get_or-map, map-set}
-use Rattle.std.proofs.lemmas.List.Sums.{sum_by-set}
 use Rattle.ac_base.proofs.ShownKeys.{insert_key_shown}
 use Rattle.ac_tables.specs.Gathered.{IsRising, IsGathered, ids_in}
 use Rattle.std.specs.Ordering.{nat_cmp}
@@ -41,15 +38,6 @@ module _ {V K L : Type 0} (provider : V → ℕ) (item : V → L) (show : K → 
 pub no_key_said : {V L : Type 0} (provider : V → ℕ) (item : V → L) (shown_cmp : L → L → Ordering) (ids : List ℕ) (all : List (List L)) → all ≡ map (λ _. []) ids
     → IsGathered ids provider (λ said id. taken provider item (insert_key shown_cmp) [] said id) [] all
 no_key_said provider item shown_cmp ids all e = record { each = e; known = refl }
-
--- how many keys there are after one of the sets changed
-pub keys_after : {K : Type 0} (sets : List (BTreeSet K)) (i : ℕ) (m new : BTreeSet K) (added : Bool) (count more : ℕ) → i < length sets → m ≡ get_or sets i m
-    → length new.keys ≡ length m.keys + (if added then 1 else 0) → count ≡ sum_by (λ s. length s.keys) sets → more ≡ count + (if added then 1 else 0)
-    → more ≡ sum_by (λ s. length s.keys) (set sets i new)
-keys_after sets i m new added count more inside here len counted grown =
-    let e = sum_by-set (λ s. length s.keys) sets i new m inside in
-    let f : length (get_or sets i m).keys ≡ length m.keys = ap (λ s. length s.keys) (sym here) in
-    omega (arith, e, f, len, counted, grown)
 
 same_ids : (sets : List (BTreeSet ℕ)) → map (λ s. map (λ (a : ℕ). a) s.keys) sets ≡ map ids_in sets
 same_ids [] = refl

@@ -103,6 +103,3 @@ are_parents all i h =
     let count : length (parent_places all) ≡ length all = length-map all (parent_place all) in
     let here : i < length all = omega (arith, h, count) in
     subst (λ (o : Option ℕ). IfSome o (λ j. j < length (parent_places all))) (sym (place_at all i here)) (inside all (listed_at all i).parent (length (parent_places all)) count)
-
-pub places_count : (all : List Listed) → length (parent_places all) ≡ length all
-places_count all = length-map all (parent_place all)

@@ -1,9 +1,8 @@
--- All records of a text: the list that `records` computes is the one that a loop over a reader reaches.
-use Rattle.std.proofs.Common.{◌≡◌, ◌<◌, ◌≤◌, ◌+◌, ◌==◌, ℕ, zero, suc, Bool, true, false, List, [], ◌∷◌, length, Option, Some, None, refl, sym, subst, arith, inl, inr}
+-- The records of a text, one read after the other: what a read takes, and what it leaves.
+use Rattle.std.proofs.Common.{◌≡◌, ◌<◌, ◌≤◌, ◌==◌, ℕ, Bool, true, false, List, [], ◌∷◌, length, Option, Some, refl, subst, arith, inl, inr}
 use Rattle.std.specs.Prelude.{if◌then◌else◌, ◌&&◌}
 use Rattle.std.proofs.lemmas.Bool.{cases_Bool}
 use Rattle.csv.specs.Machine.{Read, after_end, ends_at_end, ends_with, field_after, fields_after, in_field, is_byte, is_end, next_record, start_field, start_record, step}
-use Rattle.csv.specs.Reading.{AreRecords, Reached, records, records_from}
 use Rattle.csv.specs.declared.parser.Config.{Config}
 use Rattle.csv.specs.declared.parser.Terminator.{Terminator}
 use Rattle.csv.specs.declared.parser.Terminator.TheVariants as term
@@ -74,29 +73,3 @@ next-takes cfg s (c ∷ rest) p b e = elim (cases_Bool (is_end (step cfg s c).1)
   | inl t ↦ the-read _ p (λ p. length p.2 < length (c ∷ rest)) (rw t at e) (omega arith)
   | inr t ↦ let (state, less) = next-leaves cfg (step cfg s c).0 (fields_after (step cfg s c).1 [] []) (field_after (step cfg s c).1 c []) rest p (rw t at e) in omega arith
 ]
-
--- a text has no more records than bytes
-reached-length : (cfg : Config) (s s2 : State) (xs ys : List ℕ) (rows : List (List (List ℕ))) → ends_at_end s ≡ false → Reached cfg s xs rows s2 ys → length rows ≤ length xs
-unfolding Reached
-reached-length cfg s s2 xs ys [] b h = omega arith
-reached-length cfg s s2 xs ys (r ∷ rows) b h =
-    let (p, e, same, later) = h in
-    let less = next-takes cfg s xs p b e in
-    let rest = reached-length cfg p.1 s2 p.2 ys rows (next-leaves cfg s [] [] xs p e).0 later in
-    omega arith
-
-records-from : (cfg : Config) (n : ℕ) (s s2 : State) (xs ys : List ℕ) (rows : List (List (List ℕ))) → Reached cfg s xs rows s2 ys → next_record cfg s2 [] [] ys ≡ None
-    → length rows < n → records_from cfg n s xs ≡ rows
-unfolding Reached records_from
-records-from cfg zero s s2 xs ys rows h e less = absurd (omega arith)
-records-from cfg (suc n) s s2 xs ys [] h e less = rw (h.0, h.1, e) refl
-records-from cfg (suc n) s s2 xs ys (r ∷ rows) h e less =
-    let (p, next, same, later) = h in
-    let rest = records-from cfg n p.1 s2 p.2 ys rows later e (omega arith) in
-    rw (next, same, rest) refl
-
--- all the records of a text are those that `records` computes
-pub records-whole : (cfg : Config) (xs : List ℕ) (rows : List (List (List ℕ))) → AreRecords cfg st.StartRecord xs rows → rows ≡ records cfg xs
-records-whole cfg xs rows (s2, ys, reached, none) =
-    let less = reached-length cfg st.StartRecord s2 xs ys rows refl reached in
-    sym (records-from cfg (length xs + 1) st.StartRecord s2 xs ys rows reached none (omega arith))
