@@ -14,6 +14,9 @@ pub mod OdometerLemmas
 pub mod AheadLemmas
 pub mod ChosenLemmas
 pub mod FullLemmas
+pub mod LeftLemmas
+pub mod RowLemmas
+pub mod MarkLemmas
 pub mod ApartLemmas
 pub mod FrontOrder
 pub mod ShorterLemmas

@@ -2,7 +2,7 @@
 use Rattle.std.proofs.Common.{◌≡◌, ℕ, ◌+◌, ◌<◌, ◌≤◌, zero, suc, Bool, true, false, ◌&&◌, List, [], ◌∷◌, ◌++◌, inl, inr, length, map, get_or, drop, refl, sym, ap, ◌∙◌, subst, arith, slice_index_or, slice_index, append-nil}
 use Rattle.std.specs.List.{filter, list_all, range_with_len, AllPairs, AllByRecursion as Each}
 use Rattle.std.proofs.lemmas.Bool.{cases_Bool, and_parts, and_from}
-use Rattle.std.proofs.lemmas.List.{get_or-map, length-map, drop_more}
+use Rattle.std.proofs.lemmas.List.{get_or-map, length-map, map-append, drop_more}
 use Rattle.std.proofs.lemmas.List.Kept.{AllPairs-filter}
 use Rattle.std.proofs.lemmas.List.Folds.{list_all-append}
 use Rattle.std.proofs.lemmas.List.FromFn.{length-range_with_len, get_or-range_with_len}
@@ -103,6 +103,11 @@ open_fits all asked q p h o =
 range_with_len_more : (a n : ℕ) → range_with_len a (n + 1) ≡ range_with_len a n ++ (a + n) ∷ []
 range_with_len_more a zero = ap (λ (i : ℕ). i ∷ []) (omega arith)
 range_with_len_more a (suc n) = rw add-one (ap (λ (l : List ℕ). a ∷ l) (ap (range_with_len (a + 1)) (sym (add-one n)) ∙ (range_with_len_more (a + 1) n ∙ ap (λ (i : ℕ). range_with_len (a + 1) n ++ i ∷ []) (omega arith))))
+
+pub map_range_more : {X : Type 0} (f : ℕ → X) (i : ℕ) → map f (range_with_len 0 (i + 1)) ≡ map f (range_with_len 0 i) ++ f i ∷ []
+map_range_more f i =
+    let here : 0 + i ≡ i = omega arith in
+    ap (map f) (range_with_len_more 0 i) ∙ (map-append f (range_with_len 0 i) ((0 + i) ∷ []) ∙ ap (λ (r : ℕ). map f (range_with_len 0 i) ++ f r ∷ []) here)
 
 -- one more provider of which it is asked
 pub choice_more : (f : ℕ → Bool) (i : ℕ) → filter f (range_with_len 0 (i + 1)) ≡ filter f (range_with_len 0 i) ++ cond (f i) (i ∷ []) []

@@ -4,6 +4,8 @@ pub mod Placed
 pub mod Own
 pub mod Together
 pub mod Room
+pub mod Left
+pub mod Marks
 pub mod Judge
 pub mod Pages
 pub mod Search

@@ -736,7 +736,8 @@ fn tries_each_full_root_once(rt: HostRuntime) -> Result<(), Fail> {
         providers: providers.as_str(),
         inventories: inventories.as_str(),
         usages: usages.as_str(),
-        ..NONE
+        traits: "",
+        aggregates: "",
     };
     let mut query = repeated(alloc, 1, 64, "resources#=VCPU:1&")?;
     query.push_str("group_policy=none")?;
@@ -754,7 +755,9 @@ fn goes_to_the_last_of_many_lists(rt: HostRuntime) -> Result<(), Fail> {
     let rows = Rows {
         providers: providers.as_str(),
         inventories: inventories.as_str(),
-        ..NONE
+        usages: "",
+        traits: "",
+        aggregates: "",
     };
     let query = "resources1=VCPU:1&resources2=VCPU:1&resources3=VCPU:1&group_policy=none";
     let all = probes(alloc, rows, query, None, 70_000)?;
@@ -773,7 +776,9 @@ fn fills_one_provider_after_another(rt: HostRuntime) -> Result<(), Fail> {
     let rows = Rows {
         providers: providers.as_str(),
         inventories: inventories.as_str(),
-        ..NONE
+        usages: "",
+        traits: "",
+        aggregates: "",
     };
     let mut query = repeated(alloc, 1, 64, "resources#=VCPU:1&")?;
     query.push_str("group_policy=none")?;
