@@ -7,7 +7,7 @@ use Rattle.std.specs.Str.{bytes_eq}
 use Rattle.std.specs.Global.{Vec}
 use Rattle.std.proofs.lemmas.Bool.{cases_Bool, cases_eq, cases_lt, and_parts, and_from, eq-eqb, ne_eqb, false≢true}
 use Rattle.std.proofs.lemmas.Bool.Decides.{nat_tests}
-use Rattle.std.proofs.lemmas.List.{map-append}
+use Rattle.std.proofs.lemmas.List.{map-append, get_or-map, length-map}
 use Rattle.std.proofs.lemmas.Slice.Eq.{bytes_eq-Decides}
 use Rattle.ac_base.specs.Quantities.{Stock, capacity}
 use Rattle.ac_tables.specs.World.{Provider, provider_at, used_of}
@@ -18,9 +18,10 @@ use Rattle.ac_search.specs.Together.{amount_of, sum_on, has_room, holds, sums}
 use Rattle.ac_search.specs.Laws.{AskAmounts, IsFull}
 use Rattle.ac_search.specs.Left.{place_of, IsKnown, numbered, wanted, suffices, room_on, row_of, Takes, AreLeft}
 use Rattle.ac_search.proofs.FullLemmas.{sums_say_full}
+use Rattle.ac_search.proofs.SlotLemmas.{each_at}
 
 -- a class that is known stands at its place
-known_at : (classes : List (List ℕ)) (c : List ℕ) → IsKnown classes c → slice_index_or classes (place_of classes c) [] ≡ c
+pub known_at : (classes : List (List ℕ)) (c : List ℕ) → IsKnown classes c → slice_index_or classes (place_of classes c) [] ≡ c
 known_at [] c h = absurd (omega arith)
 known_at (d ∷ classes) c h = elim (cases_Bool (bytes_eq d c)) [
   | inl e ↦ rw e ((bytes_eq-Decides d c).0 e)
@@ -90,12 +91,12 @@ less_holds all p c m some h = enough_room (stock_of (provider_at all p) c) (used
 
 -- ---- One more slot
 
-pub sum_more : (xs : List Placed) (x : Placed) (p : ℕ) (c : List ℕ) → sum_on (xs ++ x ∷ []) p c ≡ sum_on xs p c + (if x.provider == p then amount_of x.slot.needs c else 0)
+sum_more : (xs : List Placed) (x : Placed) (p : ℕ) (c : List ℕ) → sum_on (xs ++ x ∷ []) p c ≡ sum_on xs p c + (if x.provider == p then amount_of x.slot.needs c else 0)
 sum_more [] x p c = omega arith
 sum_more (y ∷ xs) x p c = let more = sum_more xs x p c in omega arith
 
 -- it asks of its own provider
-sum_here : (xs : List Placed) (x : Placed) (p : ℕ) (c : List ℕ) → x.provider ≡ p → sum_on (xs ++ x ∷ []) p c ≡ sum_on xs p c + amount_of x.slot.needs c
+pub sum_here : (xs : List Placed) (x : Placed) (p : ℕ) (c : List ℕ) → x.provider ≡ p → sum_on (xs ++ x ∷ []) p c ≡ sum_on xs p c + amount_of x.slot.needs c
 sum_here xs x p c e = let same = eq-eqb x.provider p e in rw same at (sum_more xs x p c)
 
 sum_other : (xs : List Placed) (x : Placed) (p : ℕ) (c : List ℕ) → x.provider ≢ p → sum_on (xs ++ x ∷ []) p c ≡ sum_on xs p c
@@ -203,3 +204,36 @@ left_less all classes rows new xs x known takes left p c h k = elim (cases_eq x.
       let same = ap (λ (row : List ℕ). slice_index row (place_of classes c)) (takes.others p (λ s. e (sym s))) in
       omega (arith, same, sum_other xs x p c e, left p c h k)
 ]
+
+-- ---- What asks want of a row
+
+wanted_at : (row : List ℕ) (asks ns : List (ℕ × ℕ)) (k : ℕ) → list_all (λ a. nat_le (wanted asks a.0) (slice_index row a.0)) ns ≡ true → 0 < wanted ns k → wanted asks k ≤ slice_index row k
+wanted_at row asks [] k h some = absurd (omega arith)
+wanted_at row asks (a ∷ ns) k h some =
+    let both = and_parts _ _ h in
+    elim (cases_eq a.0 k) [
+      | inl e ↦
+          let test : nat_le (wanted asks a.0) (slice_index row a.0) ≡ true = both.0 in
+          let less : wanted asks a.0 ≤ slice_index row a.0 = grind (arith, nat_tests) in
+          subst (λ (j : ℕ). wanted asks j ≤ slice_index row j) e less
+      | inr e ↦ let other = ne_eqb a.0 k e in let more = rw other at some in wanted_at row asks ns k both.1 (omega (arith, more))
+    ]
+
+pub wanted_fits : (row : List ℕ) (asks : List (ℕ × ℕ)) (k : ℕ) → suffices row asks ≡ true → wanted asks k ≤ slice_index row k
+wanted_fits row asks k h = elim (cases_lt 0 (wanted asks k)) [ inl l ↦ wanted_at row asks asks k h l | inr l ↦ omega (arith, l) ]
+
+-- what is wanted of a number is wanted of a class that has it
+pub wanted_class : (classes : List (List ℕ)) (needs : List (List ℕ × ℕ)) (k : ℕ) → Each (λ need. IsKnown classes need.0) needs → 0 < wanted (map (numbered classes) needs) k
+    → (c : List ℕ) × (IsKnown classes c × (place_of classes c ≡ k))
+wanted_class classes [] k known some = absurd (omega arith)
+wanted_class classes (n ∷ needs) k known some = elim (cases_eq (place_of classes n.0) k) [
+  | inl e ↦ (n.0, (known.0, e))
+  | inr e ↦ let other = ne_eqb (place_of classes n.0) k e in let more = rw other at some in wanted_class classes needs k known.1 (omega (arith, more))
+]
+
+-- a room that is known is as small as its row says
+pub small_room : (all : List Provider) (p : ℕ) (classes : List (List ℕ)) (c : List ℕ) (n : ℕ) → Each (λ r. r < n) (map (room_on all p) classes) → IsKnown classes c → room_on all p c < n
+small_room all p classes c n small known =
+    let at = each_at (λ r. r < n) (map (room_on all p) classes) (place_of classes c) 0 small (omega (arith, known, length-map classes (room_on all p))) in
+    let is : slice_index_or (map (room_on all p) classes) (place_of classes c) 0 ≡ room_on all p c = get_or-map (room_on all p) classes (place_of classes c) [] 0 known ∙ ap (room_on all p) (known_at classes c known) in
+    omega (arith, at, is)

@@ -29,6 +29,7 @@ pub mod BeginLemmas
 pub mod TryLemmas
 pub mod SeekLemmas
 pub mod OpenLemmas
+pub mod LedgerLemmas
 pub mod LeastLemmas
 pub mod KeptLemmas
 pub mod StepLemmas

@@ -19,6 +19,10 @@ pub marks_more : (asked : Asked) (xs : List Placed) (x : Placed) (p : ℕ) → m
 marks_more asked [] x p = omega arith
 marks_more asked (y ∷ xs) x p = let more = marks_more asked xs x p in omega arith
 
+pub marks_most : (asked : Asked) (xs : List Placed) (p : ℕ) → marks_at asked xs p ≤ length xs
+marks_most asked [] p = omega arith
+marks_most asked (x ∷ xs) p = let more = marks_most asked xs p in elim (cases_Bool (needs_own asked x.slot && (x.provider == p))) [ inl e ↦ rw e (omega arith) | inr e ↦ rw e (omega arith) ]
+
 -- a slot behind others stands apart from each
 apart_next : (xs : List Placed) (x : Placed) → all_apart (xs ++ x ∷ []) ≡ all_apart xs && list_all (λ y. are_apart y x) xs
 apart_next [] x = refl

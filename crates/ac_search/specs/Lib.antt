@@ -6,6 +6,7 @@ pub mod Together
 pub mod Room
 pub mod Left
 pub mod Marks
+pub mod Accounts
 pub mod Judge
 pub mod Pages
 pub mod Search

@@ -10,6 +10,7 @@ mod each;
 mod judging;
 pub mod laws;
 mod least;
+mod ledger;
 mod lists;
 mod marks;
 mod odometer;

@@ -1,7 +1,7 @@
 //! Marks in plain numbers: which providers are taken by slots that stand apart, and the roots at which a whole path is
 //! available.
 
-ghost use Rattle.std.specs.Prelude.{◌≡◌, ◌+◌, ◌<◌, ◌≤◌, ◌^◌, ◌&&◌, ◌==◌, ℕ, length, map, slice_index, slice_index_or, false, IfOk};
+ghost use Rattle.std.specs.Prelude.{◌≡◌, ◌+◌, ◌-◌, ◌<◌, ◌≤◌, ◌^◌, ◌&&◌, ◌==◌, ℕ, length, map, slice_index, slice_index_or, true, false, if◌then◌else◌, IfOk};
 ghost use Rattle.std.specs.List.{All, list_any, range_with_len};
 ghost use Rattle.ac_tables.specs.CloudWorld.{providers_of};
 ghost use Rattle.ac_query.specs.Asked.{slots_of};
@@ -45,6 +45,28 @@ pub(crate) fn taken_roots(alloc: Global, cloud: &Cloud, query: &Query) -> Result
         taken.push(takes_root(cloud, query, root))?;
     }
     Ok(taken)
+}
+
+/// Counts one more at a provider, where it is for a slot that needs one for itself.
+pub(crate) fn mark(marks: &mut [u32], lone: bool, at: usize)
+    requires within { at < length marks.old }
+    requires room { slice_index marks.old at < 2 ^ 32 - 1 }
+    ensures { (p : ℕ) → slice_index marks.new p ≡ slice_index marks.old p + (if lone && (at == p) then 1 else 0) }
+{
+    if lone {
+        marks[at] += 1;
+    }
+}
+
+/// Counts one less there.
+pub(crate) fn unmark(marks: &mut [u32], lone: bool, at: usize)
+    requires within { at < length marks.old }
+    requires there { lone ≡ true → 0 < slice_index marks.old at }
+    ensures { (p : ℕ) → slice_index marks.new p + (if lone && (at == p) then 1 else 0) ≡ slice_index marks.old p }
+{
+    if lone {
+        marks[at] -= 1;
+    }
 }
 
 /// Counts one more at each root of a list.

@@ -88,7 +88,8 @@ fn asks_of(alloc: Global, classes: &[&ClassName], needs: &[Need]) -> Result<Vec<
 // The rooms of a provider, class by class.
 fn rooms_of(alloc: Global, cloud: &Cloud, ix: u32, classes: &[&ClassName]) -> Result<Vec<u64>, NoMemory>
     requires { ix < length (providers_of cloud.now) }
-    ensures { IfOk result (λ rooms. rooms.items ≡ map (room_on (providers_of cloud.now) ix) (map (λ c. class_bytes c.now) classes.now)) }
+    ensures rooms { IfOk result (λ rooms. rooms.items ≡ map (room_on (providers_of cloud.now) ix) (map (λ c. class_bytes c.now) classes.now)) }
+    ensures small { IfOk result (λ rooms. AllByRecursion (λ room. room < 2 ^ 64) rooms.items) }
 {
     let mut rooms = Vec::new(alloc);
     for class in classes {
@@ -110,7 +111,8 @@ pub(crate) fn all_asks(alloc: Global, query: &Query, classes: &[&ClassName]) -> 
 
 /// The rooms of each provider.
 pub(crate) fn all_rooms(alloc: Global, cloud: &Cloud, classes: &[&ClassName]) -> Result<Vec<Vec<u64>>, NoMemory>
-    ensures { IfOk result (λ all. map (λ rooms. rooms.items) all.items ≡ map (λ p. map (room_on (providers_of cloud.now) p) (map (λ c. class_bytes c.now) classes.now)) (range_with_len 0 (length (providers_of cloud.now)))) }
+    ensures rooms { IfOk result (λ all. map (λ rooms. rooms.items) all.items ≡ map (λ p. map (room_on (providers_of cloud.now) p) (map (λ c. class_bytes c.now) classes.now)) (range_with_len 0 (length (providers_of cloud.now)))) }
+    ensures small { IfOk result (λ all. AllByRecursion (λ row. AllByRecursion (λ room. room < 2 ^ 64) row) (map (λ rooms. rooms.items) all.items)) }
 {
     let mut all = Vec::new(alloc);
     for ix in 0..cloud.len() {
