@@ -21,7 +21,7 @@ pub few_providers : (cloud : Cloud) → length (providers_of cloud) ≤ 65536
 few_providers cloud = omega (arith, size cloud, cloud.ids.few)
 
 pub laws_in : (w : Walk) → IsSearch (search_in w)
-laws_in w = is_search (providers_of w.cloud.now) (asked_of w.query.now)
+laws_in w = is_search (providers_of w.ledger.cloud.now) (asked_of w.ledger.query.now)
 
 pub search_same : (w v : Walk) → IsSame w v → search_in v ≡ search_in w
 search_same w v s = rw (s.cloud, s.query) refl

@@ -8,7 +8,7 @@ use Rattle.ac_search.specs.declared.walk.Walk.{Walk}
 
 -- the search of its query
 abbrev pub search_in : Walk → Search
-search_in w = search_of (providers_of w.cloud.now) (asked_of w.query.now)
+search_in w = search_of (providers_of w.ledger.cloud.now) (asked_of w.ledger.query.now)
 
 -- the least list that it gives, if that is a candidate
 abbrev pub least_in : Walk → List ℕ
@@ -28,8 +28,8 @@ left_of w = left_from (search_in w) w.least.items (front_in w)
 
 -- it is of the same cloud, query and token
 pub record IsSame (old new : Walk) : Type 0 where
-  pub cloud : new.cloud ≡ old.cloud
-  pub query : new.query ≡ old.query
+  pub cloud : new.ledger.cloud ≡ old.ledger.cloud
+  pub query : new.ledger.query ≡ old.ledger.query
   pub least : new.least.items ≡ old.least.items
 
 -- at most as many tries as there are providers, for each list between its least one and the one that it gave

@@ -5,6 +5,7 @@ ghost use Rattle.ac_tables.specs.CloudWorld.{providers_of};
 ghost use Rattle.ac_query.specs.Asked.{slots_of};
 ghost use Rattle.ac_query.specs.QueriesShown.{asked_of};
 ghost use Rattle.ac_query.specs.Tokens as tokens;
+ghost use Rattle.ac_search.specs.Accounts.{providers_in, asked_in, Accounts};
 ghost use Rattle.ac_search.specs.Judge.{is_open};
 ghost use Rattle.ac_search.specs.Pages.{rest};
 ghost use Rattle.ac_search.specs.Search.{IsSound, IsStart, Enters, HasAt, least_at, choices_at, next_at};
@@ -12,7 +13,8 @@ ghost use Rattle.ac_search.specs.QuerySearch.{choices_of, search_of, completes, 
 
 use crate::choices::all_choices;
 use crate::least::least_of;
-use crate::open::{completes, is_open};
+use crate::ledger::Ledger;
+use crate::open::completes;
 use crate::slots::count_slots;
 use crate::source::Source;
 use ac_base::NoMemory;
@@ -34,8 +36,8 @@ enum Step {
 /// Goes through the candidates over one path of providers, slot by slot, and leaves a path as soon as it isn't open.
 #[derive(Drop)]
 pub struct Walk<'a> {
-    cloud: &'a Cloud,
-    query: &'a Query,
+    // What the providers of the path take of the cloud.
+    ledger: Ledger<'a>,
     // The least list of places that comes after the token.
     least: Vec<u32>,
     // The providers that each slot may have by its own rules.
@@ -47,8 +49,9 @@ pub struct Walk<'a> {
     // Whether the path is a front of the least list.
     seeking: bool,
     probes: u64,
-    ghost listed: { map (λ v. v.items) choices.items ≡ choices_of (providers_of cloud.now) (asked_of query.now) },
-    ghost sound: { IsSound (search_of (providers_of cloud.now) (asked_of query.now)) least.items path.items places.items depth seeking probes },
+    ghost listed: { map (λ v. v.items) choices.items ≡ choices_of (providers_in ledger) (asked_in ledger) },
+    ghost sound: { IsSound (search_of (providers_in ledger) (asked_in ledger)) least.items path.items places.items depth seeking probes },
+    ghost accounted: { Accounts ledger (take depth path.items) },
 }
 
 impl<'a> Walk<'a> {
@@ -71,12 +74,12 @@ impl<'a> Walk<'a> {
         let width = count_slots(query);
         let least = least_of(alloc, cloud, after, width)?;
         let choices = all_choices(alloc, cloud, query)?;
+        let ledger = Ledger::new(alloc, cloud, query)?;
         let path = vec![in alloc; 0u32; width]?;
         let mut places = vec![in alloc; 0usize; width]?;
         places[0] = start_of(&choices[0], &least, 0);
         Ok(Walk {
-            cloud,
-            query,
+            ledger,
             least,
             choices,
             path,
@@ -122,9 +125,10 @@ impl<'a> Walk<'a> {
     fn stays_open(&self) -> bool
         requires among { slice_index self.now.places.items self.now.depth < length (choices_at (search_in self.now) self.now.depth) }
         requires put { slice_index self.now.path.items self.now.depth ≡ next_at (search_in self.now) self.now.depth (slice_index self.now.places.items self.now.depth) }
-        ensures { result ≡ is_open (providers_of self.now.cloud.now) (asked_of self.now.query.now) (take (suc self.now.depth) self.now.path.items) }
+        ensures { result ≡ is_open (providers_in self.now.ledger) (asked_in self.now.ledger) (take (suc self.now.depth) self.now.path.items) }
     {
-        is_open(self.cloud, self.query, &self.path[..self.depth + 1])
+        self.ledger
+            .admits(&self.path[..self.depth], self.path[self.depth])
     }
 
     // Whether the whole path meets what isn't asked of its fronts.
@@ -132,9 +136,9 @@ impl<'a> Walk<'a> {
         requires among { slice_index self.now.places.items self.now.depth < length (choices_at (search_in self.now) self.now.depth) }
         requires put { slice_index self.now.path.items self.now.depth ≡ next_at (search_in self.now) self.now.depth (slice_index self.now.places.items self.now.depth) }
         requires last { suc self.now.depth ≡ (search_in self.now).width }
-        ensures { result ≡ completes (providers_of self.now.cloud.now) (asked_of self.now.query.now) self.now.path.items }
+        ensures { result ≡ completes (providers_in self.now.ledger) (asked_in self.now.ledger) self.now.path.items }
     {
-        completes(self.cloud, self.query, self.path.as_slice())
+        completes(self.ledger.cloud, self.ledger.query, self.path.as_slice())
     }
 
     // Goes on to the next choice of the slot.
@@ -147,7 +151,7 @@ impl<'a> Walk<'a> {
         ensures kept { self.old.probes ≤ self.new.probes }
         ensures rises { self.old.probes < 2 ^ 64 - 1 → self.old.probes < self.new.probes }
     {
-        self.probes = self.probes.saturating_add(1);
+        self.probes = one_more(self.probes);
         self.places[self.depth] += 1;
         self.seeking = false;
     }
@@ -175,16 +179,18 @@ impl<'a> Walk<'a> {
     fn place(&mut self)
         requires among { slice_index self.old.places.items self.old.depth < length (choices_at (search_in self.old) self.old.depth) }
         requires put { slice_index self.old.path.items self.old.depth ≡ next_at (search_in self.old) self.old.depth (slice_index self.old.places.items self.old.depth) }
-        requires opens { is_open (providers_of self.old.cloud.now) (asked_of self.old.query.now) (take (suc self.old.depth) self.old.path.items) ≡ true }
+        requires opens { is_open (providers_in self.old.ledger) (asked_in self.old.ledger) (take (suc self.old.depth) self.old.path.items) ≡ true }
         requires short { suc self.old.depth < (search_in self.old).width }
         ensures { Goes self.old self.new }
     {
         let depth = self.depth;
-        let (start, seeking) = self.entry(self.path[depth]);
+        let provider = self.path[depth];
+        let (start, seeking) = self.entry(provider);
+        self.ledger.take(&self.path[..depth], provider);
         self.places[depth + 1] = start;
         self.depth = depth + 1;
         self.seeking = seeking;
-        self.probes = self.probes.saturating_add(1);
+        self.probes = one_more(self.probes);
     }
 
     // Takes the last provider of the path back, and goes on to the next choice there.
@@ -194,6 +200,7 @@ impl<'a> Walk<'a> {
         ensures { Goes self.old self.new }
     {
         let depth = self.depth - 1;
+        self.ledger.give_back(&self.path[..depth], self.path[depth]);
         self.places[depth] += 1;
         self.depth = depth;
         self.seeking = false;
@@ -268,6 +275,15 @@ impl<'a> Source for Walk<'a> {
             None
         }
     }
+}
+
+// A count and one more; it stays where it can't rise.
+fn one_more(count: u64) -> u64
+    ensures most { result ≤ count + 1 }
+    ensures kept { count ≤ result }
+    ensures rises { count < 2 ^ 64 - 1 → count < result }
+{
+    count.saturating_add(1)
 }
 
 // Whether a list has a number at a place.

@@ -9,4 +9,4 @@ completes-requires-clause-providers c =
     let w = c.args.self.now in
     let put : IsPut w = record { among = c.requires.among; put = c.requires.put } in
     let whole : take (suc w.depth) w.path.items ≡ c.as_slice.result.now = take_all (suc w.depth) w.path.items (omega (arith, w.sound.path_len, c.requires.last)) ∙ sym c.as_slice.ensures.value in
-    subst (All (λ p. p < length (providers_of w.cloud.now))) whole (front_low w put)
+    subst (All (λ p. p < length (providers_of w.ledger.cloud.now))) whole (front_low w put)

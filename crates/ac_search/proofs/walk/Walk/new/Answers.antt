@@ -31,11 +31,12 @@ invariant_of-result c =
     let short = least_len all c.count_slots-width.result x in
     let start = start_is m laws c.in_ok-choices.choices.items c.index.result.now c.deref.result.now c.deref-2.result.now c.in_ok-least.least.items c.start_of.result c.in_ok-choices.ensures (omega (arith, c.count_slots-width.ensures.some)) c.index.ensures c.deref.ensures.value c.deref-2.ensures.value c.start_of.ensures in
     record {
-      listed = c.in_ok-choices.ensures;
-      sound = sound_new m laws c.in_ok-least.least.items c.in_ok-path.path.items c.in_ok-places.places.items c.start_of.result
+      listed = rw (c.in_ok-ledger.ensures.cloud, c.in_ok-ledger.ensures.query) c.in_ok-choices.ensures;
+      accounted = c.in_ok-ledger.ensures.accounts;
+      sound = rw (c.in_ok-ledger.ensures.cloud, c.in_ok-ledger.ensures.query) (sound_new m laws c.in_ok-least.least.items c.in_ok-path.path.items c.in_ok-places.places.items c.start_of.result
           (omega (arith, ap length c.in_ok-least.ensures))
           (omega (arith, c.in_ok-path.path.ok, c.in_ok-path.ensures.len)) (omega (arith, c.in_ok-places.places.ok, c.in_ok-places.ensures.len))
-          (omega (arith, c.count_slots-width.ensures.some)) start;
+          (omega (arith, c.count_slots-width.ensures.some)) start);
     }
 
 pub returns-clause-left : goal.returns-clause-left
@@ -49,5 +50,5 @@ returns-clause-left c =
     let some : 0 < m.width = omega (arith, c.count_slots-width.ensures.some) in
     let start = start_is m laws c.in_ok-choices.choices.items c.index.result.now c.deref.result.now c.deref-2.result.now c.in_ok-least.least.items c.start_of.result c.in_ok-choices.ensures some c.index.ensures c.deref.ensures.value c.deref-2.ensures.value c.start_of.ensures in
     let least : c.in_ok-least.least.items ≡ least_of all (length (slots_of asked)) x = c.in_ok-least.ensures ∙ ap (λ (k : ℕ). least_of all k x) width in
-    left_new m laws c.in_ok-least.least.items c.in_ok-path.path.items c.in_ok-places.places.items c.start_of.result (omega (arith, c.in_ok-places.places.ok, c.in_ok-places.ensures.len)) some start
-    ∙ (ap (λ (y : List ℕ). sought m y) least ∙ rest_sought all (cloud_in_order c.args.cloud.now).order asked some x)
+    rw (c.in_ok-ledger.ensures.cloud, c.in_ok-ledger.ensures.query) (left_new m laws c.in_ok-least.least.items c.in_ok-path.path.items c.in_ok-places.places.items c.start_of.result (omega (arith, c.in_ok-places.places.ok, c.in_ok-places.ensures.len)) some start
+    ∙ (ap (λ (y : List ℕ). sought m y) least ∙ rest_sought all (cloud_in_order c.args.cloud.now).order asked some x))

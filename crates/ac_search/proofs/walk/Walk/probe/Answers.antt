@@ -41,10 +41,10 @@ whole u h last = whole_front (search_in u) u.least.items u.path.items u.places.i
 
 -- whether the whole path is a candidate
 wanted : (u : Walk) (complete : Bool) → IsPut u → suc u.depth ≡ (search_in u).width → (search_in u).is_open (take (suc u.depth) u.path.items) ≡ true
-    → complete ≡ completes (providers_of u.cloud.now) (asked_of u.query.now) u.path.items → (search_in u).is_wanted (front_in u) ≡ complete
+    → complete ≡ completes (providers_of u.ledger.cloud.now) (asked_of u.ledger.query.now) u.path.items → (search_in u).is_wanted (front_in u) ≡ complete
 wanted u complete h last opens is =
-    let all = providers_of u.cloud.now in
-    let asked = asked_of u.query.now in
+    let all = providers_of u.ledger.cloud.now in
+    let asked = asked_of u.ledger.query.now in
     let open' : is_open all asked (front_in u) ≡ true = subst (λ (t : List ℕ). is_open all asked t ≡ true) (tried u h) opens in
     candidate_completes all asked (front_in u) ∙ rw open' (ap (completes all asked) (sym (whole u h last)) ∙ sym is)
 

@@ -10,14 +10,15 @@ overflow_add-index_mut c =
     let w = c.args.self.now in
     let few = (laws_in w).few w.depth w.sound.within in
     let place : c.index_mut.result.now ≡ slice_index w.places.items w.depth = c.index_mut.ensures.value ∙ get_or_default w.places.items w.depth c.index_mut.result.now 0 (omega (arith, w.sound.places_len, w.sound.within)) in
-    omega (arith, few_providers w.cloud.now)
+    omega (arith, few_providers w.ledger.cloud.now)
 
 pub invariant_of-self : goal.invariant_of-self
 invariant_of-self c =
     let w = c.args.self.now in
     let place : c.index_mut.result.now ≡ slice_index w.places.items w.depth = c.index_mut.ensures.value ∙ get_or_default w.places.items w.depth c.index_mut.result.now 0 (omega (arith, w.sound.places_len, w.sound.within)) in
-    let more : c.saturating_add-self.result ≤ w.probes + 1 = omega (arith, c.saturating_add-self.ensures) in
+    let more : c.one_more-self.result ≤ w.probes + 1 = omega (arith, c.one_more-self.ensures.most) in
     record {
       listed = w.listed;
-      sound = rw place (sound_next (search_in w) (laws_in w) w.least.items w.path.items w.path.items w.places.items w.depth w.seeking w.probes c.saturating_add-self.result w.sound c.requires refl refl more);
+      accounted = w.accounted;
+      sound = rw place (sound_next (search_in w) (laws_in w) w.least.items w.path.items w.path.items w.places.items w.depth w.seeking w.probes c.one_more-self.result w.sound c.requires refl refl more);
     }
