@@ -51,7 +51,11 @@ impl<'a> Ledger<'a> {
     ghost use Rattle.ac_search.specs.Accounts.{providers_in, asked_in, texts_in, Accounts, IsSameLedger};
 
     /// Of an empty path. It takes all its memory here.
-    pub(crate) fn new(alloc: Global, cloud: &'a Cloud, query: &'a Query) -> Result<Ledger<'a>, NoMemory>
+    pub(crate) fn new(
+        alloc: Global,
+        cloud: &'a Cloud,
+        query: &'a Query,
+    ) -> Result<Ledger<'a>, NoMemory>
         ensures cloud { IfOk result (λ ledger. ledger.cloud ≡ cloud.entry) }
         ensures query { IfOk result (λ ledger. ledger.query ≡ query.entry) }
         ensures accounts { IfOk result (λ ledger. Accounts ledger []) }

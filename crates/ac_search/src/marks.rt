@@ -37,7 +37,11 @@ pub(crate) fn lone_slots(alloc: Global, query: &Query) -> Result<Vec<bool>, NoMe
 }
 
 /// Which roots the query takes.
-pub(crate) fn taken_roots(alloc: Global, cloud: &Cloud, query: &Query) -> Result<Vec<bool>, NoMemory>
+pub(crate) fn taken_roots(
+    alloc: Global,
+    cloud: &Cloud,
+    query: &Query,
+) -> Result<Vec<bool>, NoMemory>
     ensures { IfOk result (λ taken. taken.items ≡ map (takes_root (providers_of cloud.now) (asked_of query.now)) (range_with_len 0 (length (providers_of cloud.now)))) }
 {
     let mut taken = Vec::new(alloc);

@@ -38,7 +38,10 @@ fn number_of(classes: &[&ClassName], class: &ClassName) -> usize
 }
 
 // These classes and one more, unless it is one of them.
-fn with_class<'a>(classes: Vec<&'a ClassName>, class: &'a ClassName) -> Result<Vec<&'a ClassName>, NoMemory>
+fn with_class<'a>(
+    classes: Vec<&'a ClassName>,
+    class: &'a ClassName,
+) -> Result<Vec<&'a ClassName>, NoMemory>
     ensures here { IfOk result (λ all. IsKnown (map (λ c. class_bytes c.now) all.items) (class_bytes class.now)) }
     ensures stay { IfOk result (λ all. (c : List ℕ) → IsKnown (map (λ c. class_bytes c.now) classes.entry.items) c → IsKnown (map (λ c. class_bytes c.now) all.items) c) }
 {
@@ -51,7 +54,10 @@ fn with_class<'a>(classes: Vec<&'a ClassName>, class: &'a ClassName) -> Result<V
 }
 
 // These classes and those of some needs, each once.
-fn with_classes<'a>(classes: Vec<&'a ClassName>, needs: &'a [Need]) -> Result<Vec<&'a ClassName>, NoMemory>
+fn with_classes<'a>(
+    classes: Vec<&'a ClassName>,
+    needs: &'a [Need],
+) -> Result<Vec<&'a ClassName>, NoMemory>
     ensures here { IfOk result (λ all. AllByRecursion (λ need. IsKnown (map (λ c. class_bytes c.now) all.items) need.0) (map need_entry needs.now)) }
     ensures stay { IfOk result (λ all. (c : List ℕ) → IsKnown (map (λ c. class_bytes c.now) classes.entry.items) c → IsKnown (map (λ c. class_bytes c.now) all.items) c) }
 {
@@ -80,13 +86,21 @@ fn asks_of(alloc: Global, classes: &[&ClassName], needs: &[Need]) -> Result<Vec<
     let mut asks = Vec::new(alloc);
     for need in needs {
         let class = number_of(classes, need.class());
-        asks.push(Ask { class, amount: need.amount() })?;
+        asks.push(Ask {
+            class,
+            amount: need.amount(),
+        })?;
     }
     Ok(asks)
 }
 
 // The rooms of a provider, class by class.
-fn rooms_of(alloc: Global, cloud: &Cloud, ix: u32, classes: &[&ClassName]) -> Result<Vec<u64>, NoMemory>
+fn rooms_of(
+    alloc: Global,
+    cloud: &Cloud,
+    ix: u32,
+    classes: &[&ClassName],
+) -> Result<Vec<u64>, NoMemory>
     requires { ix < length (providers_of cloud.now) }
     ensures rooms { IfOk result (λ rooms. rooms.items ≡ map (room_on (providers_of cloud.now) ix) (map (λ c. class_bytes c.now) classes.now)) }
     ensures small { IfOk result (λ rooms. AllByRecursion (λ room. room < 2 ^ 64) rooms.items) }
@@ -99,7 +113,11 @@ fn rooms_of(alloc: Global, cloud: &Cloud, ix: u32, classes: &[&ClassName]) -> Re
 }
 
 /// What each slot asks.
-pub(crate) fn all_asks(alloc: Global, query: &Query, classes: &[&ClassName]) -> Result<Vec<Vec<Ask>>, NoMemory>
+pub(crate) fn all_asks(
+    alloc: Global,
+    query: &Query,
+    classes: &[&ClassName],
+) -> Result<Vec<Vec<Ask>>, NoMemory>
     ensures { IfOk result (λ all. map (λ asks. map ask_pair asks.items) all.items ≡ map (λ slot. map (numbered (map (λ c. class_bytes c.now) classes.now)) slot.needs) (slots_of (asked_of query.now))) }
 {
     let mut all = Vec::new(alloc);
@@ -110,7 +128,11 @@ pub(crate) fn all_asks(alloc: Global, query: &Query, classes: &[&ClassName]) -> 
 }
 
 /// The rooms of each provider.
-pub(crate) fn all_rooms(alloc: Global, cloud: &Cloud, classes: &[&ClassName]) -> Result<Vec<Vec<u64>>, NoMemory>
+pub(crate) fn all_rooms(
+    alloc: Global,
+    cloud: &Cloud,
+    classes: &[&ClassName],
+) -> Result<Vec<Vec<u64>>, NoMemory>
     ensures rooms { IfOk result (λ all. map (λ rooms. rooms.items) all.items ≡ map (λ p. map (room_on (providers_of cloud.now) p) (map (λ c. class_bytes c.now) classes.now)) (range_with_len 0 (length (providers_of cloud.now)))) }
     ensures small { IfOk result (λ all. AllByRecursion (λ row. AllByRecursion (λ room. room < 2 ^ 64) row) (map (λ rooms. rooms.items) all.items)) }
 {
