@@ -16,8 +16,8 @@ use Rattle.ac_query.specs.declared.group.Need.{Need}
 use Rattle.ac_query.specs.declared.group.Group as rust
 use Rattle.ac_query.specs.declared.query.Query.{Query}
 use Rattle.ac_tables.specs.World.{Provider, is_available_at, anchors_of}
-use Rattle.ac_search.specs.Placed.{Placed, placed, placed_at, slot_at, no_slot, assigned}
-use Rattle.ac_search.specs.Together.{sum_on, sums, isolate, anchor, takes_root}
+use Rattle.ac_search.specs.Placed.{placed, placed_at, slot_at, no_slot, assigned}
+use Rattle.ac_search.specs.Together.{sum_on, sums, isolate, takes_root}
 use Rattle.ac_search.specs.Judge.{is_open}
 use Rattle.ac_search.specs.QuerySearch.{fits}
 use Rattle.ac_search.specs.Laws.{AskAmounts}

@@ -1,5 +1,5 @@
 -- One row of a table, taken out, changed and put back.
-use Rattle.std.proofs.Common.{◌≡◌, ◌≢◌, ◌∙◌, ℕ, ◌+◌, ◌<◌, List, [], length, map, set, slice_index, slice_index_or, refl, sym, ap, arith, inl, inr, Global, get_or-set_same, get_or-set_other}
+use Rattle.std.proofs.Common.{◌≡◌, ◌≢◌, ◌∙◌, ℕ, ◌+◌, ◌<◌, List, [], length, map, set, slice_index, slice_index_or, sym, ap, arith, inl, inr, get_or-set_same, get_or-set_other}
 use Rattle.std.specs.Global.{Vec}
 use Rattle.std.specs.Vec.{with_items}
 use Rattle.std.proofs.lemmas.Bool.{cases_eq}

@@ -1,15 +1,13 @@
 -- What a ledger keeps is what the front of a path takes.
-use Rattle.std.specs.Prelude.{◌≡◌, ℕ, ◌<◌, List, map, length}
-use Rattle.std.specs.Global.{Vec}
+use Rattle.std.specs.Prelude.{◌≡◌, ℕ, List, map}
 use Rattle.ac_base.specs.Names.{class_bytes}
 use Rattle.ac_query.specs.Asked.{Asked}
 use Rattle.ac_query.specs.QueriesShown.{asked_of}
 use Rattle.ac_tables.specs.World.{Provider}
 use Rattle.ac_tables.specs.CloudWorld.{providers_of}
 use Rattle.ac_search.specs.Placed.{assigned}
-use Rattle.ac_search.specs.Left.{ask_pair, AreLeft}
+use Rattle.ac_search.specs.Left.{AreLeft}
 use Rattle.ac_search.specs.Marks.{AreMarks, AreHits}
-use Rattle.ac_search.specs.declared.rooms.Ask.{Ask}
 use Rattle.ac_search.specs.declared.ledger.Ledger.{Ledger}
 
 abbrev pub providers_in : Ledger → List Provider

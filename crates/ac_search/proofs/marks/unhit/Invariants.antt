@@ -1,4 +1,4 @@
-use Rattle.std.proofs.Common.{◌≡◌, ℕ, ◌+◌, drop, slice_index, length}
+use Rattle.std.proofs.Common.{◌≡◌, ℕ, ◌+◌, drop, slice_index}
 use Rattle.ac_search.specs.Marks.{times}
 use Rattle.ac_search.proofs.marks.unhit.Given as goal
 

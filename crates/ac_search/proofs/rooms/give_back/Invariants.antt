@@ -1,4 +1,4 @@
-use Rattle.std.proofs.Common.{◌≡◌, ◌+◌, ℕ, map, drop, length, slice_index}
+use Rattle.std.proofs.Common.{◌≡◌, ◌+◌, ℕ, map, drop, slice_index}
 use Rattle.ac_search.specs.Left.{ask_pair, wanted}
 use Rattle.ac_search.proofs.rooms.give_back.Given as goal
 

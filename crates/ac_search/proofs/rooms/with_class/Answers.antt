@@ -1,4 +1,3 @@
-use Rattle.std.proofs.Common.{map}
 use Rattle.ac_base.specs.Names.{class_bytes}
 use Rattle.ac_search.proofs.LeftLemmas.{known_pushed, known_kept}
 use Rattle.ac_search.proofs.rooms.with_class.Goals as goal

@@ -1,10 +1,9 @@
-use Rattle.std.proofs.Common.{◌≡◌, ◌<◌, ◌∙◌, ◌++◌, ◌∷◌, [], List, ℕ, Bool, true, map, length, ap, sym, subst, arith, slice_index, slice_index_or}
-use Rattle.std.specs.Global.{Vec}
+use Rattle.std.proofs.Common.{◌≡◌, ◌<◌, ◌∙◌, List, ℕ, map, length, ap, sym, subst, arith}
 use Rattle.std.specs.List.{All}
 use Rattle.std.proofs.lemmas.List.{with_items_is}
-use Rattle.ac_search.specs.Placed.{Placed, placed_at, assigned, slot_at}
-use Rattle.ac_search.specs.Left.{ask_pair, numbered, row_of, wanted, Takes, AreLeft}
-use Rattle.ac_search.specs.Marks.{AreMarks, AreHits, times}
+use Rattle.ac_search.specs.Placed.{placed_at, assigned, slot_at}
+use Rattle.ac_search.specs.Left.{ask_pair, numbered, row_of, Takes, AreLeft}
+use Rattle.ac_search.specs.Marks.{AreMarks, AreHits}
 use Rattle.ac_search.specs.Accounts.{providers_in, asked_in, texts_in}
 use Rattle.ac_search.specs.declared.rooms.Ask.{Ask}
 use Rattle.ac_search.proofs.AnchorLemmas.{anchors_within}

@@ -1,12 +1,11 @@
-use Rattle.std.proofs.Common.{◌≡◌, ◌<◌, ◌∙◌, List, ℕ, map, length, ap, sym, arith, replicate}
-use Rattle.std.specs.List.{range_with_len}
+use Rattle.std.proofs.Common.{◌∙◌, ℕ, map, length, ap, arith, replicate}
 use Rattle.std.proofs.lemmas.List.{length-map}
 use Rattle.std.proofs.lemmas.List.Elements.{All-from_recursion}
 use Rattle.ac_base.specs.Names.{class_bytes}
 use Rattle.ac_query.specs.QueriesShown.{asked_of}
 use Rattle.ac_tables.specs.CloudWorld.{providers_of}
 use Rattle.ac_search.specs.Placed.{slot_at}
-use Rattle.ac_search.specs.Left.{IsKnown, row_of, room_on}
+use Rattle.ac_search.specs.Left.{IsKnown, room_on}
 use Rattle.ac_search.proofs.LedgerLemmas.{row_rooms, as_many_rows, small_row, left_none, marks_empty, hits_empty}
 use Rattle.ac_search.proofs.ledger.Ledger.new.Goals as goal
 

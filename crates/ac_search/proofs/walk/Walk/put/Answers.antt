@@ -1,4 +1,4 @@
-use Rattle.std.proofs.Common.{sym, subst, take}
+use Rattle.std.proofs.Common.{sym, subst}
 use Rattle.std.proofs.lemmas.List.{take-set}
 use Rattle.ac_search.specs.Accounts.{Accounts}
 use Rattle.ac_search.specs.WalkShown.{search_in}

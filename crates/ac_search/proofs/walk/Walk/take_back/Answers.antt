@@ -2,7 +2,6 @@ use Rattle.std.proofs.Common.{◌≡◌, ℕ, ◌+◌, ◌-◌, ◌<◌, suc, tr
 use Rattle.std.proofs.lemmas.List.{get_or_default}
 use Rattle.ac_search.specs.Order.{lex_lt}
 use Rattle.ac_search.specs.Search.{IsSound, next_front, left_from}
-use Rattle.ac_search.specs.Accounts.{Accounts}
 use Rattle.ac_search.specs.WalkShown.{search_in}
 use Rattle.ac_search.specs.declared.walk.Walk.{Walk}
 use Rattle.ac_search.proofs.MoveLemmas.{sound_back, left_back, forward_back}
