@@ -14,5 +14,25 @@ pub mod OdometerLemmas
 pub mod AheadLemmas
 pub mod ChosenLemmas
 pub mod FullLemmas
+pub mod LeftLemmas
+pub mod RowLemmas
+pub mod MarkLemmas
 pub mod ApartLemmas
+pub mod FrontOrder
+pub mod ShorterLemmas
+pub mod BoundLemmas
+pub mod SoughtLemmas
+pub mod EntryLemmas
+pub mod BetweenLemmas
+pub mod MoveLemmas
+pub mod BeginLemmas
+pub mod TryLemmas
+pub mod SeekLemmas
+pub mod OpenLemmas
+pub mod LedgerLemmas
+pub mod LeastLemmas
+pub mod KeptLemmas
+pub mod StepLemmas
+pub mod EndLemmas
+pub mod PathLemmas
 mod Literals

@@ -4,9 +4,16 @@ pub mod Placed
 pub mod Own
 pub mod Together
 pub mod Room
+pub mod Left
+pub mod Marks
+pub mod Accounts
 pub mod Judge
 pub mod Pages
+pub mod Search
+pub mod QuerySearch
 pub mod Odometer
 pub mod ListsShown
 pub mod PlainShown
+pub mod WalkShown
+pub mod Steps
 pub mod Laws
