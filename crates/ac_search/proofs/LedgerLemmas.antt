@@ -2,16 +2,15 @@
 use Rattle.std.proofs.Common.{◌≡◌, ◌∙◌, ℕ, ◌+◌, ◌<◌, ◌≤◌, ◌^◌, Bool, true, false, inl, inr, not, ◌&&◌, List, [], ◌∷◌, ◌++◌, map, length, Option, Some, None, refl, sym, ap, ap₂, subst, arith, length-append, nat_lt, replicate, slice_index, slice_index_or}
 use Rattle.std.specs.Prelude.{◌==◌, if◌then◌else◌}
 use Rattle.std.specs.Global.{Vec}
-use Rattle.std.specs.List.{All, list_all, list_any, range_with_len, AllByRecursion as Each}
+use Rattle.std.specs.List.{list_all, list_any, range_with_len, AllByRecursion as Each}
 use Rattle.std.proofs.lemmas.Bool.{cases_Bool, eq-eqb}
 use Rattle.std.proofs.lemmas.List.{get_or-map, get_or-replicate, length-map}
 use Rattle.std.proofs.lemmas.List.FromFn.{length-range_with_len, get_or-range_with_len}
-use Rattle.std.proofs.lemmas.List.Elements.{All-from_recursion, recursion_from_All}
+use Rattle.std.proofs.lemmas.List.Elements.{recursion_from_All}
 use Rattle.ac_query.specs.Asked.{Asked, Slot, Group, slots_of, slots_from, group_slots, class_slot}
 use Rattle.ac_query.specs.GroupsShown.{need_entry, suffix_of, group_asked, group_entry}
 use Rattle.ac_query.specs.QueriesShown.{asked_of}
 use Rattle.ac_query.specs.SlotsShown.{slot_shown}
-use Rattle.ac_base.specs.Names.{class_bytes}
 use Rattle.ac_query.specs.declared.group.Need.{Need}
 use Rattle.ac_query.specs.declared.group.Group as rust
 use Rattle.ac_query.specs.declared.query.Query.{Query}
@@ -21,17 +20,19 @@ use Rattle.ac_search.specs.Together.{sum_on, sums, isolate, takes_root}
 use Rattle.ac_search.specs.Judge.{is_open}
 use Rattle.ac_search.specs.QuerySearch.{fits}
 use Rattle.ac_search.specs.Laws.{AskAmounts}
-use Rattle.ac_search.specs.Left.{place_of, IsKnown, AreLeft, ask_pair, numbered, wanted, suffices, room_on, row_of}
+use Rattle.ac_search.specs.Left.{place_of, IsKnown, IsThere, AreRows, AreLeft, ask_pair, numbered, wanted, left_in, suffices, room_on, row_of}
 use Rattle.ac_search.specs.Marks.{needs_own, marks_at, times, AreMarks, AreHits}
 use Rattle.ac_search.specs.Accounts.{providers_in, asked_in, texts_in, Accounts}
 use Rattle.ac_search.specs.declared.rooms.Ask.{Ask}
+use Rattle.ac_search.specs.declared.rooms.Room.{Room}
 use Rattle.ac_search.specs.declared.ledger.Ledger.{Ledger}
 use Rattle.ac_search.proofs.Elements.{each_append, each_map, each_weaker}
 use Rattle.ac_search.proofs.SlotLemmas.{each_at}
 use Rattle.ac_search.proofs.PlacedLemmas.{placed_none}
 use Rattle.ac_search.proofs.FrontLemmas.{Opens, open_parts}
 use Rattle.ac_search.proofs.OpenLemmas.{placed_next, open_together, front_open}
-use Rattle.ac_search.proofs.LeftLemmas.{known_at, sums_next, sum_here, wanted_is, wanted_fits, wanted_class, small_room}
+use Rattle.ac_search.proofs.RoomLemmas.{there_left}
+use Rattle.ac_search.proofs.LeftLemmas.{sums_next, sum_here, wanted_is, wanted_fits, wanted_class}
 use Rattle.ac_search.proofs.MarkLemmas.{isolate_next, anchor_next, marks_more, marks_most, hits_more, hits_most, times_anchors}
 
 -- ---- Queries ask for amounts
@@ -77,22 +78,6 @@ asks_at l s v h e =
     let g = λ (slot : Slot). map (numbered (texts_in l)) slot.needs in
     let many : s < length l.asks.items = omega (arith, h, ap length l.asked, length-map l.asks.items f, length-map (slots_of (asked_in l)) g) in
     ap f e ∙ (sym (get_or-map f l.asks.items s v [] many) ∙ (ap (λ (ls : List (List (ℕ × ℕ))). slice_index_or ls s []) l.asked ∙ get_or-map g (slots_of (asked_in l)) s no_slot [] h))
-
-within : (classes : List (List ℕ)) (asks : List Ask) (needs : List (List ℕ × ℕ)) → map ask_pair asks ≡ map (numbered classes) needs → Each (λ need. IsKnown classes need.0) needs
-    → Each (λ a. a.class < length classes) asks
-within classes [] needs e h = tt
-within classes (a ∷ asks) [] e h = absurd (cc)
-within classes (a ∷ asks) (n ∷ needs) e h =
-    let head : a.class ≡ (numbered classes n).0 = cc in
-    let rest : map ask_pair asks ≡ map (numbered classes) needs = cc in
-    (omega (arith, head, h.0), within classes asks needs rest h.1)
-
-pub asks_within : (l : Ledger) (s ix : ℕ) (v : Vec Ask) → s < length (slots_of (asked_in l)) → ix < length (providers_in l) → v ≡ slice_index_or l.asks.items s v
-    → All (λ a. a.class < length (row_of l.rows.items ix)) v.items
-asks_within l s ix v h k e =
-    let wide : length (row_of l.rows.items ix) ≡ length (texts_in l) = l.as_wide ix k ∙ sym (length-map l.classes.items (λ c. class_bytes c.now)) in
-    All-from_recursion (λ a. a.class < length (row_of l.rows.items ix)) v.items
-    (subst (λ (n : ℕ). Each (λ a. a.class < n) v.items) (sym wide) (within (texts_in l) v.items (slot_at (asked_in l) s).needs (asks_at l s v h e) (known_in l s h)))
 
 pub lone_at : (l : Ledger) (s : ℕ) (b : Bool) → s < length (slots_of (asked_in l)) → b ≡ slice_index_or l.lone.items s b → b ≡ needs_own (asked_in l) (slot_at (asked_in l) s)
 lone_at l s b h e =
@@ -141,7 +126,7 @@ placed_few (s ∷ ss) (p ∷ q) = let more = placed_few ss q in omega arith
 
 -- an open front has room for what its last provider takes
 pub room_for : (l : Ledger) (q : List ℕ) (p k : ℕ) → length q < length (slots_of (asked_in l)) → p < length (providers_in l) → Accounts l q → is_open (providers_in l) (asked_in l) (q ++ p ∷ []) ≡ true
-    → wanted (map (numbered (texts_in l)) (slot_at (asked_in l) (length q)).needs) k ≤ slice_index (row_of l.rows.items p) k
+    → wanted (map (numbered (texts_in l)) (slot_at (asked_in l) (length q)).needs) k ≤ left_in (row_of l.rows.items p) k
 unfolding is_open
 room_for l q p k h within accounts opens =
     let all = providers_in l in
@@ -170,10 +155,10 @@ room_to_hit l q p r h within accounts =
       | inr e ↦ let none = rw e at once in omega (arith, none, accounts.hits r within, hits_most (providers_in l) q r, h, few_slots l.query.now)
     ]
 
--- what is given back was taken of a small room
+-- what is given back was taken of a small room, which is there
 pub room_back : (l : Ledger) (q : List ℕ) (p k : ℕ) → length q < length (slots_of (asked_in l)) → p < length (providers_in l) → Accounts l (q ++ p ∷ [])
     → 0 < wanted (map (numbered (texts_in l)) (slot_at (asked_in l) (length q)).needs) k
-    → slice_index (row_of l.rows.items p) k + wanted (map (numbered (texts_in l)) (slot_at (asked_in l) (length q)).needs) k < 2 ^ 64
+    → IsThere (row_of l.rows.items p) k × (left_in (row_of l.rows.items p) k + wanted (map (numbered (texts_in l)) (slot_at (asked_in l) (length q)).needs) k < 2 ^ 64)
 room_back l q p k h within accounts some =
     let all = providers_in l in
     let asked = asked_in l in
@@ -185,8 +170,11 @@ room_back l q p k h within accounts some =
     let same = ap (λ xs. sum_on xs p c) (placed_next asked q p h) in
     let left = accounts.left p c within at.1.0 in
     let is = wanted_is (texts_in l) needs c known in
-    let small = small_room all p (texts_in l) c (2 ^ 64) (recursion_from_All (λ r. r < 2 ^ 64) (map (room_on all p) (texts_in l)) (l.small p within)) at.1.0 in
-    subst (λ (j : ℕ). slice_index (row_of l.rows.items p) j + wanted (map (numbered (texts_in l)) needs) j < 2 ^ 64) at.1.1 (omega (arith, sum, same, left, is, small))
+    let asks : 0 < wanted (map (numbered (texts_in l)) needs) (place_of (texts_in l) c) = subst (λ (j : ℕ). 0 < wanted (map (numbered (texts_in l)) needs) j) (sym at.1.1) some in
+    let there = l.there p c within at.1.0 (omega (arith, sum, same, left, is, asks)) in
+    let small = l.small p c within at.1.0 in
+    subst (λ (j : ℕ). IsThere (row_of l.rows.items p) j × (left_in (row_of l.rows.items p) j + wanted (map (numbered (texts_in l)) needs) j < 2 ^ 64)) at.1.1
+    (there, omega (arith, sum, same, left, is, small))
 
 pub mark_there : (l : Ledger) (q : List ℕ) (p : ℕ) → length q < length (slots_of (asked_in l)) → p < length (providers_in l) → Accounts l (q ++ p ∷ [])
     → needs_own (asked_in l) (slot_at (asked_in l) (length q)) ≡ true → 0 < slice_index l.marks.items p
@@ -224,38 +212,12 @@ hits_back all q p old new change old_hits r within = omega (arith, change r, old
 
 -- ---- The accounts of nothing
 
--- the row of a provider as it was made
-pub row_rooms : (all : List Provider) (texts : List (List ℕ)) (rows : List (Vec ℕ)) (p : ℕ)
-    → map (λ (v : Vec ℕ). v.items) rows ≡ map (λ (q : ℕ). map (room_on all q) texts) (range_with_len 0 (length all)) → p < length all → row_of rows p ≡ map (room_on all p) texts
-row_rooms all texts rows p made h =
-    let n = length all in
-    let size : p < length (range_with_len 0 n) = omega (arith, h, length-range_with_len 0 n) in
-    let here : slice_index_or (range_with_len 0 n) p 0 ≡ p = get_or-range_with_len 0 n p 0 h ∙ omega arith in
-    ap (λ (ls : List (List ℕ)). slice_index_or ls p []) made
-    ∙ (get_or-map (λ (q : ℕ). map (room_on all q) texts) (range_with_len 0 n) p 0 [] size ∙ ap (λ (q : ℕ). map (room_on all q) texts) here)
+pub left_none : (all : List Provider) (asked : Asked) (texts : List (List ℕ)) (rows : List (Vec Room)) → AreRows all texts rows → AreLeft all texts rows (assigned asked [])
+left_none all asked texts rows made p c h known = omega (arith, (made.each p h).left c known, ap (λ xs. sum_on xs p c) (placed_none (slots_of asked)))
 
-pub as_many_rows : (all : List Provider) (texts : List (List ℕ)) (rows : List (Vec ℕ))
-    → map (λ (v : Vec ℕ). v.items) rows ≡ map (λ (q : ℕ). map (room_on all q) texts) (range_with_len 0 (length all)) → length rows ≡ length all
-as_many_rows all texts rows made =
-    sym (length-map rows (λ (v : Vec ℕ). v.items))
-    ∙ (ap length made ∙ (length-map (range_with_len 0 (length all)) (λ (q : ℕ). map (room_on all q) texts) ∙ length-range_with_len 0 (length all)))
-
-pub small_row : (all : List Provider) (texts : List (List ℕ)) (rows : List (Vec ℕ)) (p : ℕ)
-    → map (λ (v : Vec ℕ). v.items) rows ≡ map (λ (q : ℕ). map (room_on all q) texts) (range_with_len 0 (length all)) → Each (λ row. Each (λ r. r < 2 ^ 64) row) (map (λ (v : Vec ℕ). v.items) rows)
-    → p < length all → All (λ r. r < 2 ^ 64) (map (room_on all p) texts)
-small_row all texts rows p made small h =
-    let many : p < length (map (λ (v : Vec ℕ). v.items) rows) = omega (arith, h, length-map rows (λ (v : Vec ℕ). v.items), as_many_rows all texts rows made) in
-    All-from_recursion (λ r. r < 2 ^ 64) (map (room_on all p) texts)
-    (subst (Each (λ r. r < 2 ^ 64)) (row_rooms all texts rows p made h) (each_at (λ row. Each (λ r. r < 2 ^ 64) row) (map (λ (v : Vec ℕ). v.items) rows) p [] small many))
-
-pub left_none : (all : List Provider) (asked : Asked) (texts : List (List ℕ)) (rows : List (Vec ℕ))
-    → map (λ (v : Vec ℕ). v.items) rows ≡ map (λ (q : ℕ). map (room_on all q) texts) (range_with_len 0 (length all)) → AreLeft all texts rows (assigned asked [])
-left_none all asked texts rows made p c h known =
-    let k = place_of texts c in
-    let row = ap (λ (l : List ℕ). slice_index l k) (row_rooms all texts rows p made h) in
-    let is : slice_index (map (room_on all p) texts) k ≡ room_on all p c = get_or-map (room_on all p) texts k [] 0 known ∙ ap (room_on all p) (known_at texts c known) in
-    let none = ap (λ xs. sum_on xs p c) (placed_none (slots_of asked)) in
-    omega (arith, row, is, none)
+pub there_made : (all : List Provider) (texts : List (List ℕ)) (rows : List (Vec Room)) → AreRows all texts rows
+    → (p : ℕ) (c : List ℕ) → p < length all → IsKnown texts c → 0 < room_on all p c → IsThere (row_of rows p) (place_of texts c)
+there_made all texts rows made p c h known some = there_left (row_of rows p) (place_of texts c) (omega (arith, (made.each p h).left c known, some))
 
 pub marks_empty : (all : List Provider) (asked : Asked) (marks : List ℕ) → marks ≡ replicate (length all) 0 → AreMarks all asked marks (assigned asked [])
 marks_empty all asked marks made p h =

@@ -1,5 +1,5 @@
 -- What is left of rooms, when one more slot takes its part.
-use Rattle.std.proofs.Common.{◌≡◌, ◌≢◌, ◌∙◌, ℕ, ◌+◌, ◌<◌, ◌≤◌, Bool, true, false, List, [], ◌∷◌, ◌++◌, map, inl, inr, Option, None, Some, refl, sym, ap, ap₂, subst, arith, nat_le, slice_index, slice_index_or}
+use Rattle.std.proofs.Common.{◌≡◌, ◌≢◌, ◌∙◌, ℕ, ◌+◌, ◌<◌, ◌≤◌, Bool, true, false, List, [], ◌∷◌, ◌++◌, map, inl, inr, Option, None, Some, refl, sym, ap, ap₂, subst, arith, nat_le, slice_index_or}
 use Rattle.std.specs.Prelude.{◌==◌, if◌then◌else◌}
 use Rattle.std.specs.Option.{unwrap_or}
 use Rattle.std.specs.List.{list_all, AllByRecursion as Each}
@@ -7,7 +7,7 @@ use Rattle.std.specs.Str.{bytes_eq}
 use Rattle.std.specs.Global.{Vec}
 use Rattle.std.proofs.lemmas.Bool.{cases_Bool, cases_eq, cases_lt, and_parts, and_from, eq-eqb, ne_eqb, false≢true}
 use Rattle.std.proofs.lemmas.Bool.Decides.{nat_tests}
-use Rattle.std.proofs.lemmas.List.{map-append, get_or-map, length-map}
+use Rattle.std.proofs.lemmas.List.{map-append}
 use Rattle.std.proofs.lemmas.Slice.Eq.{bytes_eq-Decides}
 use Rattle.ac_base.specs.Quantities.{Stock, capacity}
 use Rattle.ac_tables.specs.World.{Provider, provider_at, used_of}
@@ -16,9 +16,9 @@ use Rattle.ac_search.specs.Room.{room_in}
 use Rattle.ac_search.specs.Placed.{Placed}
 use Rattle.ac_search.specs.Together.{amount_of, sum_on, has_room, holds, sums}
 use Rattle.ac_search.specs.Laws.{AskAmounts, IsFull}
-use Rattle.ac_search.specs.Left.{place_of, IsKnown, numbered, wanted, suffices, room_on, row_of, Takes, AreLeft}
+use Rattle.ac_search.specs.Left.{place_of, IsKnown, numbered, wanted, left_in, suffices, room_on, row_of, Takes, AreLeft}
+use Rattle.ac_search.specs.declared.rooms.Room.{Room}
 use Rattle.ac_search.proofs.FullLemmas.{sums_say_full}
-use Rattle.ac_search.proofs.SlotLemmas.{each_at}
 
 -- a class that is known stands at its place
 pub known_at : (classes : List (List ℕ)) (c : List ℕ) → IsKnown classes c → slice_index_or classes (place_of classes c) [] ≡ c
@@ -103,10 +103,10 @@ sum_other : (xs : List Placed) (x : Placed) (p : ℕ) (c : List ℕ) → x.provi
 sum_other xs x p c e = let other = ne_eqb x.provider p e in let more = rw other at (sum_more xs x p c) in omega arith
 
 -- each class of which something is asked has enough in the row
-suffices_from : (classes : List (List ℕ)) (row : List ℕ) (needs ns : List (List ℕ × ℕ)) → Each (λ need. IsKnown classes need.0) needs
-    → ((c : List ℕ) → IsKnown classes c → 0 < amount_of ns c → amount_of needs c ≤ slice_index row (place_of classes c))
+suffices_from : (classes : List (List ℕ)) (row : List (ℕ × ℕ)) (needs ns : List (List ℕ × ℕ)) → Each (λ need. IsKnown classes need.0) needs
+    → ((c : List ℕ) → IsKnown classes c → 0 < amount_of ns c → amount_of needs c ≤ left_in row (place_of classes c))
     → Each (λ need. IsKnown classes need.0) ns → Each (λ need. 0 < need.1) ns
-    → list_all (λ a. nat_le (wanted (map (numbered classes) needs) a.0) (slice_index row a.0)) (map (numbered classes) ns) ≡ true
+    → list_all (λ a. nat_le (wanted (map (numbered classes) needs) a.0) (left_in row a.0)) (map (numbered classes) ns) ≡ true
 suffices_from classes row needs [] all enough known some = refl
 suffices_from classes row needs (n ∷ ns) all enough known some =
     let itself = (bytes_eq-Decides n.0 n.0).1 refl in
@@ -116,28 +116,28 @@ suffices_from classes row needs (n ∷ ns) all enough known some =
     and_from _ _ (rw is (grind (arith, nat_tests)))
     (suffices_from classes row needs ns all (λ c k more. enough c k (omega (arith, more))) known.1 some.1)
 
-suffices_at : (classes : List (List ℕ)) (row : List ℕ) (needs ns : List (List ℕ × ℕ)) (c : List ℕ) → Each (λ need. IsKnown classes need.0) needs
+suffices_at : (classes : List (List ℕ)) (row : List (ℕ × ℕ)) (needs ns : List (List ℕ × ℕ)) (c : List ℕ) → Each (λ need. IsKnown classes need.0) needs
     → Each (λ need. IsKnown classes need.0) ns
-    → list_all (λ a. nat_le (wanted (map (numbered classes) needs) a.0) (slice_index row a.0)) (map (numbered classes) ns) ≡ true → 0 < amount_of ns c
-    → IsKnown classes c × (amount_of needs c ≤ slice_index row (place_of classes c))
+    → list_all (λ a. nat_le (wanted (map (numbered classes) needs) a.0) (left_in row a.0)) (map (numbered classes) ns) ≡ true → 0 < amount_of ns c
+    → IsKnown classes c × (amount_of needs c ≤ left_in row (place_of classes c))
 suffices_at classes row needs [] c all known h asks = absurd (omega arith)
 suffices_at classes row needs (n ∷ ns) c all known h asks =
     let both = and_parts _ _ h in
     elim (cases_Bool (bytes_eq n.0 c)) [
       | inl e ↦
           let same : n.0 ≡ c = (bytes_eq-Decides n.0 c).0 e in
-          let test : nat_le (wanted (map (numbered classes) needs) (place_of classes n.0)) (slice_index row (place_of classes n.0)) ≡ true = both.0 in
-          let less : wanted (map (numbered classes) needs) (place_of classes n.0) ≤ slice_index row (place_of classes n.0) = grind (arith, nat_tests) in
-          let fits : amount_of needs n.0 ≤ slice_index row (place_of classes n.0) = omega (arith, less, wanted_is classes needs n.0 all) in
-          subst (λ (d : List ℕ). IsKnown classes d × (amount_of needs d ≤ slice_index row (place_of classes d))) same (known.0, fits)
+          let test : nat_le (wanted (map (numbered classes) needs) (place_of classes n.0)) (left_in row (place_of classes n.0)) ≡ true = both.0 in
+          let less : wanted (map (numbered classes) needs) (place_of classes n.0) ≤ left_in row (place_of classes n.0) = grind (arith, nat_tests) in
+          let fits : amount_of needs n.0 ≤ left_in row (place_of classes n.0) = omega (arith, less, wanted_is classes needs n.0 all) in
+          subst (λ (d : List ℕ). IsKnown classes d × (amount_of needs d ≤ left_in row (place_of classes d))) same (known.0, fits)
       | inr e ↦ let less : 0 < amount_of ns c = let more = rw e at asks in omega arith in suffices_at classes row needs ns c all known.1 both.1 less
     ]
 
 -- What a row must have left of its provider's rooms.
-abbrev pub IsLeft : List Provider → List (List ℕ) → List ℕ → List Placed → ℕ → Type 0
-IsLeft all classes row xs p = (c : List ℕ) → IsKnown classes c → slice_index row (place_of classes c) + sum_on xs p c ≡ room_on all p c
+abbrev pub IsLeft : List Provider → List (List ℕ) → List (ℕ × ℕ) → List Placed → ℕ → Type 0
+IsLeft all classes row xs p = (c : List ℕ) → IsKnown classes c → left_in row (place_of classes c) + sum_on xs p c ≡ room_on all p c
 
-full_next : (all : List Provider) (classes : List (List ℕ)) (row : List ℕ) (xs : List Placed) (x : Placed) → IsLeft all classes row xs x.provider
+full_next : (all : List Provider) (classes : List (List ℕ)) (row : List (ℕ × ℕ)) (xs : List Placed) (x : Placed) → IsLeft all classes row xs x.provider
     → Each (λ need. IsKnown classes need.0) x.slot.needs → IsFull all xs → suffices row (map (numbered classes) x.slot.needs) ≡ true → IsFull all (xs ++ x ∷ [])
 full_next all classes row xs x left known full enough p c asked = elim (cases_eq x.provider p) [
   | inl e ↦
@@ -145,7 +145,7 @@ full_next all classes row xs x left known full enough p c asked = elim (cases_eq
       elim (cases_lt 0 (amount_of x.slot.needs c)) [
         | inl l ↦
             let at = suffices_at classes row x.slot.needs x.slot.needs c known known enough l in
-            let room = subst (λ (r : ℕ). slice_index row (place_of classes c) + sum_on xs r c ≡ room_on all r c) e (left c at.0) in
+            let room = subst (λ (r : ℕ). left_in row (place_of classes c) + sum_on xs r c ≡ room_on all r c) e (left c at.0) in
             less_holds all p c (sum_on (xs ++ x ∷ []) p c) asked (omega (arith, sum, room, at.1))
         | inr l ↦
             let same : sum_on (xs ++ x ∷ []) p c ≡ sum_on xs p c = omega (arith, sum, l) in
@@ -155,7 +155,7 @@ full_next all classes row xs x left known full enough p c asked = elim (cases_eq
 ]
 
 -- The next slot's rooms suffice exactly where the row of its provider has enough left.
-pub sums_next : (all : List Provider) (classes : List (List ℕ)) (row : List ℕ) (xs : List Placed) (x : Placed) → IsLeft all classes row xs x.provider
+pub sums_next : (all : List Provider) (classes : List (List ℕ)) (row : List (ℕ × ℕ)) (xs : List Placed) (x : Placed) → IsLeft all classes row xs x.provider
     → Each (λ need. IsKnown classes need.0) x.slot.needs → AskAmounts xs → AskAmounts (xs ++ x ∷ []) → Each (λ need. 0 < need.1) x.slot.needs → sums all xs ≡ true
     → sums all (xs ++ x ∷ []) ≡ suffices row (map (numbered classes) x.slot.needs)
 sums_next all classes row xs x left known some more own fine = same_tests (sums all (xs ++ x ∷ [])) (suffices row (map (numbered classes) x.slot.needs)) down up
@@ -180,46 +180,46 @@ sums_next all classes row xs x left known some more own fine = same_tests (sums 
 -- ---- Rows
 
 -- one more slot takes its part
-pub left_more : (all : List Provider) (classes : List (List ℕ)) (rows new : List (Vec ℕ)) (xs : List Placed) (x : Placed)
+pub left_more : (all : List Provider) (classes : List (List ℕ)) (rows new : List (Vec Room)) (xs : List Placed) (x : Placed)
     → Each (λ need. IsKnown classes need.0) x.slot.needs → Takes rows x.provider (map (numbered classes) x.slot.needs) new
     → AreLeft all classes rows xs → AreLeft all classes new (xs ++ x ∷ [])
 left_more all classes rows new xs x known takes left p c h k = elim (cases_eq x.provider p) [
   | inl e ↦
-      let here = subst (λ (r : ℕ). slice_index (row_of new r) (place_of classes c) + wanted (map (numbered classes) x.slot.needs) (place_of classes c) ≡ slice_index (row_of rows r) (place_of classes c)) e (takes.here (place_of classes c)) in
+      let here = subst (λ (r : ℕ). left_in (row_of new r) (place_of classes c) + wanted (map (numbered classes) x.slot.needs) (place_of classes c) ≡ left_in (row_of rows r) (place_of classes c)) e (takes.here (place_of classes c)) in
       omega (arith, here, wanted_is classes x.slot.needs c known, sum_here xs x p c e, left p c h k)
   | inr e ↦
-      let same = ap (λ (row : List ℕ). slice_index row (place_of classes c)) (takes.others p (λ s. e (sym s))) in
+      let same = ap (λ (row : List (ℕ × ℕ)). left_in row (place_of classes c)) (takes.others p (λ s. e (sym s))) in
       omega (arith, same, sum_other xs x p c e, left p c h k)
 ]
 
 -- and gives it back
-pub left_less : (all : List Provider) (classes : List (List ℕ)) (rows new : List (Vec ℕ)) (xs : List Placed) (x : Placed)
+pub left_less : (all : List Provider) (classes : List (List ℕ)) (rows new : List (Vec Room)) (xs : List Placed) (x : Placed)
     → Each (λ need. IsKnown classes need.0) x.slot.needs → Takes new x.provider (map (numbered classes) x.slot.needs) rows
     → AreLeft all classes rows (xs ++ x ∷ []) → AreLeft all classes new xs
 left_less all classes rows new xs x known takes left p c h k = elim (cases_eq x.provider p) [
   | inl e ↦
-      let here = subst (λ (r : ℕ). slice_index (row_of rows r) (place_of classes c) + wanted (map (numbered classes) x.slot.needs) (place_of classes c) ≡ slice_index (row_of new r) (place_of classes c)) e (takes.here (place_of classes c)) in
+      let here = subst (λ (r : ℕ). left_in (row_of rows r) (place_of classes c) + wanted (map (numbered classes) x.slot.needs) (place_of classes c) ≡ left_in (row_of new r) (place_of classes c)) e (takes.here (place_of classes c)) in
       omega (arith, here, wanted_is classes x.slot.needs c known, sum_here xs x p c e, left p c h k)
   | inr e ↦
-      let same = ap (λ (row : List ℕ). slice_index row (place_of classes c)) (takes.others p (λ s. e (sym s))) in
+      let same = ap (λ (row : List (ℕ × ℕ)). left_in row (place_of classes c)) (takes.others p (λ s. e (sym s))) in
       omega (arith, same, sum_other xs x p c e, left p c h k)
 ]
 
 -- ---- What asks want of a row
 
-wanted_at : (row : List ℕ) (asks ns : List (ℕ × ℕ)) (k : ℕ) → list_all (λ a. nat_le (wanted asks a.0) (slice_index row a.0)) ns ≡ true → 0 < wanted ns k → wanted asks k ≤ slice_index row k
+wanted_at : (row : List (ℕ × ℕ)) (asks ns : List (ℕ × ℕ)) (k : ℕ) → list_all (λ a. nat_le (wanted asks a.0) (left_in row a.0)) ns ≡ true → 0 < wanted ns k → wanted asks k ≤ left_in row k
 wanted_at row asks [] k h some = absurd (omega arith)
 wanted_at row asks (a ∷ ns) k h some =
     let both = and_parts _ _ h in
     elim (cases_eq a.0 k) [
       | inl e ↦
-          let test : nat_le (wanted asks a.0) (slice_index row a.0) ≡ true = both.0 in
-          let less : wanted asks a.0 ≤ slice_index row a.0 = grind (arith, nat_tests) in
-          subst (λ (j : ℕ). wanted asks j ≤ slice_index row j) e less
+          let test : nat_le (wanted asks a.0) (left_in row a.0) ≡ true = both.0 in
+          let less : wanted asks a.0 ≤ left_in row a.0 = grind (arith, nat_tests) in
+          subst (λ (j : ℕ). wanted asks j ≤ left_in row j) e less
       | inr e ↦ let other = ne_eqb a.0 k e in let more = rw other at some in wanted_at row asks ns k both.1 (omega (arith, more))
     ]
 
-pub wanted_fits : (row : List ℕ) (asks : List (ℕ × ℕ)) (k : ℕ) → suffices row asks ≡ true → wanted asks k ≤ slice_index row k
+pub wanted_fits : (row : List (ℕ × ℕ)) (asks : List (ℕ × ℕ)) (k : ℕ) → suffices row asks ≡ true → wanted asks k ≤ left_in row k
 wanted_fits row asks k h = elim (cases_lt 0 (wanted asks k)) [ inl l ↦ wanted_at row asks asks k h l | inr l ↦ omega (arith, l) ]
 
 -- what is wanted of a number is wanted of a class that has it
@@ -230,10 +230,3 @@ wanted_class classes (n ∷ needs) k known some = elim (cases_eq (place_of class
   | inl e ↦ (n.0, (known.0, e))
   | inr e ↦ let other = ne_eqb (place_of classes n.0) k e in let more = rw other at some in wanted_class classes needs k known.1 (omega (arith, more))
 ]
-
--- a room that is known is as small as its row says
-pub small_room : (all : List Provider) (p : ℕ) (classes : List (List ℕ)) (c : List ℕ) (n : ℕ) → Each (λ r. r < n) (map (room_on all p) classes) → IsKnown classes c → room_on all p c < n
-small_room all p classes c n small known =
-    let at = each_at (λ r. r < n) (map (room_on all p) classes) (place_of classes c) 0 small (omega (arith, known, length-map classes (room_on all p))) in
-    let is : slice_index_or (map (room_on all p) classes) (place_of classes c) 0 ≡ room_on all p c = get_or-map (room_on all p) classes (place_of classes c) [] 0 known ∙ ap (room_on all p) (known_at classes c known) in
-    omega (arith, at, is)

@@ -15,6 +15,7 @@ pub mod AheadLemmas
 pub mod ChosenLemmas
 pub mod FullLemmas
 pub mod LeftLemmas
+pub mod RoomLemmas
 pub mod RowLemmas
 pub mod MarkLemmas
 pub mod ApartLemmas

@@ -1,5 +1,5 @@
 -- What is left of rooms, class by class: classes by their numbers, and each room less what a front asks of it.
-use Rattle.std.specs.Prelude.{◌≡◌, ◌≢◌, ℕ, ◌+◌, ◌<◌, suc, Bool, nat_le, if◌then◌else◌, ◌==◌, List, [], ◌∷◌, map, length, slice_index, slice_index_or}
+use Rattle.std.specs.Prelude.{◌≡◌, ◌≢◌, ℕ, ◌+◌, ◌<◌, ◌^◌, suc, Bool, nat_le, if◌then◌else◌, ◌==◌, List, [], ◌∷◌, map, length, slice_index_or}
 use Rattle.std.specs.Option.{unwrap_or}
 use Rattle.std.specs.List.{list_all}
 use Rattle.std.specs.Str.{bytes_eq}
@@ -10,6 +10,7 @@ use Rattle.ac_search.specs.Room.{room_in}
 use Rattle.ac_search.specs.Placed.{Placed}
 use Rattle.ac_search.specs.Together.{sum_on}
 use Rattle.ac_search.specs.declared.rooms.Ask.{Ask}
+use Rattle.ac_search.specs.declared.rooms.Room.{Room}
 
 -- the first place of a class among classes; past the end where it isn't there
 abbrev pub place_of : List (List ℕ) → List ℕ → ℕ
@@ -33,29 +34,58 @@ abbrev pub wanted : List (ℕ × ℕ) → ℕ → ℕ
 wanted [] k = 0
 wanted (a ∷ asks) k = (if a.0 == k then a.1 else 0) + wanted asks k
 
+-- ---- Rows: what a provider has left of classes, by their numbers
+
+abbrev pub room_pair : Room → ℕ × ℕ
+room_pair r = (r.class, r.left)
+
+-- the first place of a class in a row; past the end where the row has nothing of it
+abbrev pub place_in : List (ℕ × ℕ) → ℕ → ℕ
+place_in [] k = 0
+place_in (r ∷ row) k = if r.0 == k then 0 else suc (place_in row k)
+
+-- a row has something of a class
+abbrev pub IsThere : List (ℕ × ℕ) → ℕ → Type 0
+IsThere row k = place_in row k < length row
+
+-- what it has left of it
+abbrev pub left_in : List (ℕ × ℕ) → ℕ → ℕ
+left_in [] k = 0
+left_in (r ∷ row) k = if r.0 == k then r.1 else left_in row k
+
 -- a row has for each ask what all of them want of its class
-abbrev pub suffices : List ℕ → List (ℕ × ℕ) → Bool
-suffices row asks = list_all (λ a. nat_le (wanted asks a.0) (slice_index row a.0)) asks
+abbrev pub suffices : List (ℕ × ℕ) → List (ℕ × ℕ) → Bool
+suffices row asks = list_all (λ a. nat_le (wanted asks a.0) (left_in row a.0)) asks
 
 -- the most of a class that one assignment may take of a provider; 0 where it has none
 abbrev pub room_on : List Provider → ℕ → List ℕ → ℕ
 room_on all p class = unwrap_or (room_in (stock_of (provider_at all p) class) (used_of (provider_at all p) class)) 0
 
+-- The row of a provider has its room for each class.
+pub record IsRow (all : List Provider) (classes : List (List ℕ)) (p : ℕ) (row : List (ℕ × ℕ)) : Type 0 where
+  pub left : (class : List ℕ) → IsKnown classes class → left_in row (place_of classes class) ≡ room_on all p class
+  pub small : (class : List ℕ) → IsKnown classes class → room_on all p class < 2 ^ 64
+
 -- the row of a provider
-abbrev pub row_of : List (Vec ℕ) → ℕ → List ℕ
-row_of rows p = slice_index_or (map (λ (v : Vec ℕ). v.items) rows) p []
+abbrev pub row_of : List (Vec Room) → ℕ → List (ℕ × ℕ)
+row_of rows p = slice_index_or (map (λ (v : Vec Room). map room_pair v.items) rows) p []
+
+-- Each provider has its row.
+pub record AreRows (all : List Provider) (classes : List (List ℕ)) (rows : List (Vec Room)) : Type 0 where
+  pub count : length rows ≡ length all
+  pub each : (p : ℕ) → p < length all → IsRow all classes p (row_of rows p)
 
 -- Of one provider's row something was taken, and of no other.
-pub record Takes (rows : List (Vec ℕ)) (p : ℕ) (asks : List (ℕ × ℕ)) (new : List (Vec ℕ)) : Type 0 where
-  pub here : (k : ℕ) → slice_index (row_of new p) k + wanted asks k ≡ slice_index (row_of rows p) k
+pub record Takes (rows : List (Vec Room)) (p : ℕ) (asks : List (ℕ × ℕ)) (new : List (Vec Room)) : Type 0 where
+  pub here : (k : ℕ) → left_in (row_of new p) k + wanted asks k ≡ left_in (row_of rows p) k
   pub others : (r : ℕ) → r ≢ p → row_of new r ≡ row_of rows r
 
--- the rows are as many and as long
-pub record IsShape (rows new : List (Vec ℕ)) : Type 0 where
+-- the rows are as many, of the same classes
+pub record IsShape (rows new : List (Vec Room)) : Type 0 where
   pub count : length new ≡ length rows
-  pub widths : (p : ℕ) → length (row_of new p) ≡ length (row_of rows p)
+  pub classes : (p : ℕ) → map (λ r. r.0) (row_of new p) ≡ map (λ r. r.0) (row_of rows p)
 
--- Each row has a number for each class: the room less what a front asks of it.
-abbrev pub AreLeft : List Provider → List (List ℕ) → List (Vec ℕ) → List Placed → Type 0
+-- Each row has for each class the room less what a front asks of it.
+abbrev pub AreLeft : List Provider → List (List ℕ) → List (Vec Room) → List Placed → Type 0
 AreLeft all classes rows xs = (p : ℕ) (class : List ℕ) → p < length all → IsKnown classes class
-    → slice_index (row_of rows p) (place_of classes class) + sum_on xs p class ≡ room_on all p class
+    → left_in (row_of rows p) (place_of classes class) + sum_on xs p class ≡ room_on all p class

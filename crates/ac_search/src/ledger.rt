@@ -1,6 +1,6 @@
 //! What the path of a walk takes, in plain numbers, so that a try looks at one provider alone.
 
-ghost use Rattle.std.specs.Prelude.{◌≡◌, ◌<◌, ◌≤◌, ◌^◌, ◌++◌, ◌∷◌, ◌&&◌, ◌==◌, [], ℕ, length, map, true, false, not, nat_lt, slice_index, slice_index_or, IfOk};
+ghost use Rattle.std.specs.Prelude.{◌≡◌, ◌<◌, ◌≤◌, ◌^◌, ◌++◌, ◌∷◌, ◌&&◌, ◌==◌, [], ℕ, List, length, map, true, false, not, nat_lt, slice_index, slice_index_or, IfOk};
 ghost use Rattle.std.specs.List.{All, list_all, list_any, range_with_len};
 ghost use Rattle.ac_base.specs.Names.{class_bytes};
 ghost use Rattle.ac_tables.specs.CloudWorld.{providers_of};
@@ -11,11 +11,11 @@ ghost use Rattle.ac_search.specs.Placed.{slot_at, assigned};
 ghost use Rattle.ac_search.specs.Together.{takes_root};
 ghost use Rattle.ac_search.specs.Judge.{is_open};
 ghost use Rattle.ac_search.specs.QuerySearch.{fits};
-ghost use Rattle.ac_search.specs.Left.{IsKnown, ask_pair, numbered, room_on, row_of, suffices};
+ghost use Rattle.ac_search.specs.Left.{IsKnown, ask_pair, numbered, place_of, room_on, row_of, IsThere, suffices};
 ghost use Rattle.ac_search.specs.Marks.{needs_own};
 
 use crate::marks::{has_full, hit, lone_slots, mark, taken_roots, unhit, unmark};
-use crate::rooms::{Ask, all_asks, all_classes, all_rooms, give_row, suffices, take_row};
+use crate::rooms::{Ask, Room, all_asks, all_classes, all_rooms, give_row, suffices, take_row};
 use ac_base::{ClassName, NoMemory};
 use ac_query::Query;
 use ac_tables::Cloud;
@@ -29,7 +29,7 @@ pub(crate) struct Ledger<'a> {
     // The classes that the slots ask for, what each slot asks of them, and what is left of each provider's rooms.
     classes: Vec<&'a ClassName>,
     asks: Vec<Vec<Ask>>,
-    rows: Vec<Vec<u64>>,
+    rows: Vec<Vec<Room>>,
     // The slots that need a provider for themselves, and how many of them each provider has.
     lone: Vec<bool>,
     marks: Vec<u32>,
@@ -39,8 +39,8 @@ pub(crate) struct Ledger<'a> {
     ghost known: { (s : ℕ) → s < length (slots_of (asked_of query.now)) → All (λ need. IsKnown (map (λ c. class_bytes c.now) classes.items) need.0) (slot_at (asked_of query.now) s).needs },
     ghost asked: { map (λ v. map ask_pair v.items) asks.items ≡ map (λ slot. map (numbered (map (λ c. class_bytes c.now) classes.items)) slot.needs) (slots_of (asked_of query.now)) },
     ghost as_many: { length rows.items ≡ length (providers_of cloud.now) },
-    ghost as_wide: { (p : ℕ) → p < length (providers_of cloud.now) → length (row_of rows.items p) ≡ length classes.items },
-    ghost small: { (p : ℕ) → p < length (providers_of cloud.now) → All (λ r. r < 2 ^ 64) (map (room_on (providers_of cloud.now) p) (map (λ c. class_bytes c.now) classes.items)) },
+    ghost there: { (p : ℕ) (c : List ℕ) → p < length (providers_of cloud.now) → IsKnown (map (λ c. class_bytes c.now) classes.items) c → 0 < room_on (providers_of cloud.now) p c → IsThere (row_of rows.items p) (place_of (map (λ c. class_bytes c.now) classes.items) c) },
+    ghost small: { (p : ℕ) (c : List ℕ) → p < length (providers_of cloud.now) → IsKnown (map (λ c. class_bytes c.now) classes.items) c → room_on (providers_of cloud.now) p c < 2 ^ 64 },
     ghost alone: { lone.items ≡ map (needs_own (asked_of query.now)) (slots_of (asked_of query.now)) },
     ghost marked: { length marks.items ≡ length (providers_of cloud.now) },
     ghost rooted: { taken.items ≡ map (takes_root (providers_of cloud.now) (asked_of query.now)) (range_with_len 0 (length (providers_of cloud.now))) },

@@ -1,14 +1,14 @@
 //! Rooms in plain numbers: what each provider can still give of each class that the slots ask for.
 
-ghost use Rattle.std.specs.Prelude.{◌≡◌, ◌≢◌, ◌+◌, ◌<◌, ◌≤◌, ◌^◌, ℕ, List, nat_le, length, map, [], slice_index, IfOk};
-ghost use Rattle.std.specs.List.{All, AllByRecursion, range_with_len};
+ghost use Rattle.std.specs.Prelude.{◌≡◌, ◌≢◌, ◌+◌, ◌<◌, ◌≤◌, ◌^◌, ◌==◌, ℕ, List, nat_le, length, map, [], if◌then◌else◌, IfOk};
+ghost use Rattle.std.specs.List.{AllByRecursion};
 ghost use Rattle.ac_base.specs.Names.{class_bytes};
 ghost use Rattle.ac_tables.specs.CloudWorld.{providers_of};
 ghost use Rattle.ac_query.specs.Asked.{slots_of};
 ghost use Rattle.ac_query.specs.GroupsShown.{need_entry};
 ghost use Rattle.ac_query.specs.QueriesShown.{asked_of};
 ghost use Rattle.ac_search.specs.Placed.{slot_at};
-ghost use Rattle.ac_search.specs.Left.{place_of, IsKnown, ask_pair, numbered, wanted, suffices, room_on, row_of, Takes, IsShape};
+ghost use Rattle.ac_search.specs.Left.{place_of, IsKnown, ask_pair, room_pair, numbered, wanted, place_in, left_in, IsThere, suffices, IsRow, AreRows, row_of, Takes, IsShape};
 
 use crate::slots::{count_slots, needs_at};
 use crate::sums::room_at;
@@ -22,6 +22,13 @@ use std::alloc::Global;
 pub(crate) struct Ask {
     pub(crate) class: usize,
     pub(crate) amount: u32,
+}
+
+/// What is left of a provider's room for a class, by the class's number.
+#[derive(Clone, Copy)]
+pub(crate) struct Room {
+    pub(crate) class: usize,
+    pub(crate) left: u64,
 }
 
 // The number of a class among classes; past the end where it isn't there.
@@ -94,20 +101,22 @@ fn asks_of(alloc: Global, classes: &[&ClassName], needs: &[Need]) -> Result<Vec<
     Ok(asks)
 }
 
-// The rooms of a provider, class by class.
+// The rooms of a provider, for those of the classes of which it has some left.
 fn rooms_of(
     alloc: Global,
     cloud: &Cloud,
     ix: u32,
     classes: &[&ClassName],
-) -> Result<Vec<u64>, NoMemory>
+) -> Result<Vec<Room>, NoMemory>
     requires { ix < length (providers_of cloud.now) }
-    ensures rooms { IfOk result (λ rooms. rooms.items ≡ map (room_on (providers_of cloud.now) ix) (map (λ c. class_bytes c.now) classes.now)) }
-    ensures small { IfOk result (λ rooms. AllByRecursion (λ room. room < 2 ^ 64) rooms.items) }
+    ensures { IfOk result (λ rooms. IsRow (providers_of cloud.now) (map (λ c. class_bytes c.now) classes.now) ix (map room_pair rooms.items)) }
 {
     let mut rooms = Vec::new(alloc);
-    for class in classes {
-        rooms.push(room_at(cloud, ix, class).unwrap_or(0))?;
+    for (class, name) in classes.iter().enumerate() {
+        let left = room_at(cloud, ix, name).unwrap_or(0);
+        if left > 0 {
+            rooms.push(Room { class, left })?;
+        }
     }
     Ok(rooms)
 }
@@ -132,15 +141,38 @@ pub(crate) fn all_rooms(
     alloc: Global,
     cloud: &Cloud,
     classes: &[&ClassName],
-) -> Result<Vec<Vec<u64>>, NoMemory>
-    ensures rooms { IfOk result (λ all. map (λ rooms. rooms.items) all.items ≡ map (λ p. map (room_on (providers_of cloud.now) p) (map (λ c. class_bytes c.now) classes.now)) (range_with_len 0 (length (providers_of cloud.now)))) }
-    ensures small { IfOk result (λ all. AllByRecursion (λ row. AllByRecursion (λ room. room < 2 ^ 64) row) (map (λ rooms. rooms.items) all.items)) }
+) -> Result<Vec<Vec<Room>>, NoMemory>
+    ensures { IfOk result (λ all. AreRows (providers_of cloud.now) (map (λ c. class_bytes c.now) classes.now) all.items) }
 {
     let mut all = Vec::new(alloc);
     for ix in 0..cloud.len() {
         all.push(rooms_of(alloc, cloud, ix, classes)?)?;
     }
     Ok(all)
+}
+
+// The place of a class in a row; past the end where the row has nothing of it.
+fn place_in(row: &[Room], class: usize) -> usize
+    ensures { result ≡ place_in (map room_pair row.now) class }
+{
+    for (i, room) in row.iter().enumerate() {
+        if room.class == class {
+            return i;
+        }
+    }
+    row.len()
+}
+
+// What a row has left of a class.
+fn left_in(row: &[Room], class: usize) -> u64
+    ensures { result ≡ left_in (map room_pair row.now) class }
+{
+    let place = place_in(row, class);
+    if place < row.len() {
+        row[place].left
+    } else {
+        0
+    }
 }
 
 // Whether a room suffices for what asks want of a class.
@@ -161,45 +193,70 @@ fn has_left(room: u64, asks: &[Ask], class: usize) -> bool
 }
 
 /// Whether a row has for each ask what all of them want of its class.
-pub(crate) fn suffices(row: &[u64], asks: &[Ask]) -> bool
-    requires { All (λ a. a.class < length row.now) asks.now }
-    ensures { result ≡ suffices row.now (map ask_pair asks.now) }
+pub(crate) fn suffices(row: &[Room], asks: &[Ask]) -> bool
+    ensures { result ≡ suffices (map room_pair row.now) (map ask_pair asks.now) }
 {
     for ask in asks {
-        if !has_left(row[ask.class], asks, ask.class) {
+        if !has_left(left_in(row, ask.class), asks, ask.class) {
             return false;
         }
     }
     true
 }
 
+// Takes what an ask wants of a row.
+fn take_ask(row: &mut [Room], ask: Ask)
+    requires { ask.amount ≤ left_in (map room_pair row.old) ask.class }
+    ensures takes { (k : ℕ) → left_in (map room_pair row.new) k + (if ask.class == k then ask.amount else 0) ≡ left_in (map room_pair row.old) k }
+    ensures classes { map (λ r. r.class) row.new ≡ map (λ r. r.class) row.old }
+{
+    let place = place_in(row, ask.class);
+    if place < row.len() {
+        row[place].left -= u64::from(ask.amount);
+    }
+}
+
 // Takes what asks want of a row.
-fn take(row: &mut [u64], asks: &[Ask])
-    requires within { All (λ a. a.class < length row.old) asks.now }
-    requires room { (k : ℕ) → wanted (map ask_pair asks.now) k ≤ slice_index row.old k }
-    ensures { (k : ℕ) → slice_index row.new k + wanted (map ask_pair asks.now) k ≡ slice_index row.old k }
+fn take(row: &mut [Room], asks: &[Ask])
+    requires { (k : ℕ) → wanted (map ask_pair asks.now) k ≤ left_in (map room_pair row.old) k }
+    ensures takes { (k : ℕ) → left_in (map room_pair row.new) k + wanted (map ask_pair asks.now) k ≡ left_in (map room_pair row.old) k }
+    ensures classes { map (λ r. r.class) row.new ≡ map (λ r. r.class) row.old }
 {
     for ask in asks {
-        row[ask.class] -= u64::from(ask.amount);
+        take_ask(row, *ask);
+    }
+}
+
+// Gives back what an ask wanted of a row.
+fn give_ask(row: &mut [Room], ask: Ask)
+    requires there { 0 < ask.amount → IsThere (map room_pair row.old) ask.class }
+    requires room { 0 < ask.amount → left_in (map room_pair row.old) ask.class + ask.amount < 2 ^ 64 }
+    ensures gives { (k : ℕ) → left_in (map room_pair row.new) k ≡ left_in (map room_pair row.old) k + (if ask.class == k then ask.amount else 0) }
+    ensures classes { map (λ r. r.class) row.new ≡ map (λ r. r.class) row.old }
+{
+    let place = place_in(row, ask.class);
+    if place < row.len() {
+        let left = row[place].left;
+        row[place].left = left + u64::from(ask.amount);
     }
 }
 
 // Gives back what asks wanted of a row.
-fn give_back(row: &mut [u64], asks: &[Ask])
-    requires within { All (λ a. a.class < length row.old) asks.now }
-    requires room { (k : ℕ) → 0 < wanted (map ask_pair asks.now) k → slice_index row.old k + wanted (map ask_pair asks.now) k < 2 ^ 64 }
-    ensures { (k : ℕ) → slice_index row.new k ≡ slice_index row.old k + wanted (map ask_pair asks.now) k }
+fn give_back(row: &mut [Room], asks: &[Ask])
+    requires there { (k : ℕ) → 0 < wanted (map ask_pair asks.now) k → IsThere (map room_pair row.old) k }
+    requires room { (k : ℕ) → 0 < wanted (map ask_pair asks.now) k → left_in (map room_pair row.old) k + wanted (map ask_pair asks.now) k < 2 ^ 64 }
+    ensures gives { (k : ℕ) → left_in (map room_pair row.new) k ≡ left_in (map room_pair row.old) k + wanted (map ask_pair asks.now) k }
+    ensures classes { map (λ r. r.class) row.new ≡ map (λ r. r.class) row.old }
 {
     for ask in asks {
-        row[ask.class] += u64::from(ask.amount);
+        give_ask(row, *ask);
     }
 }
 
 /// Takes what asks want of the row of one provider.
-pub(crate) fn take_row(rows: &mut Vec<Vec<u64>>, ix: usize, asks: &[Ask])
+pub(crate) fn take_row(rows: &mut Vec<Vec<Room>>, ix: usize, asks: &[Ask])
     requires provider { ix < length rows.old.items }
-    requires within { All (λ a. a.class < length (row_of rows.old.items ix)) asks.now }
-    requires room { (k : ℕ) → wanted (map ask_pair asks.now) k ≤ slice_index (row_of rows.old.items ix) k }
+    requires room { (k : ℕ) → wanted (map ask_pair asks.now) k ≤ left_in (row_of rows.old.items ix) k }
     ensures takes { Takes rows.old.items ix (map ask_pair asks.now) rows.new.items }
     ensures shape { IsShape rows.old.items rows.new.items }
 {
@@ -208,10 +265,10 @@ pub(crate) fn take_row(rows: &mut Vec<Vec<u64>>, ix: usize, asks: &[Ask])
 }
 
 /// Gives back what asks wanted of the row of one provider.
-pub(crate) fn give_row(rows: &mut Vec<Vec<u64>>, ix: usize, asks: &[Ask])
+pub(crate) fn give_row(rows: &mut Vec<Vec<Room>>, ix: usize, asks: &[Ask])
     requires provider { ix < length rows.old.items }
-    requires within { All (λ a. a.class < length (row_of rows.old.items ix)) asks.now }
-    requires room { (k : ℕ) → 0 < wanted (map ask_pair asks.now) k → slice_index (row_of rows.old.items ix) k + wanted (map ask_pair asks.now) k < 2 ^ 64 }
+    requires there { (k : ℕ) → 0 < wanted (map ask_pair asks.now) k → IsThere (row_of rows.old.items ix) k }
+    requires room { (k : ℕ) → 0 < wanted (map ask_pair asks.now) k → left_in (row_of rows.old.items ix) k + wanted (map ask_pair asks.now) k < 2 ^ 64 }
     ensures takes { Takes rows.new.items ix (map ask_pair asks.now) rows.old.items }
     ensures shape { IsShape rows.old.items rows.new.items }
 {

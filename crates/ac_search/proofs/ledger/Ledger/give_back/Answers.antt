@@ -2,26 +2,28 @@ use Rattle.std.proofs.Common.{◌≡◌, ◌<◌, ◌∙◌, List, ℕ, map, len
 use Rattle.std.specs.List.{All}
 use Rattle.std.proofs.lemmas.List.{with_items_is}
 use Rattle.ac_search.specs.Placed.{placed_at, assigned, slot_at}
-use Rattle.ac_search.specs.Left.{ask_pair, numbered, row_of, Takes, AreLeft}
+use Rattle.ac_search.specs.Left.{ask_pair, numbered, place_of, row_of, Takes, AreLeft}
 use Rattle.ac_search.specs.Marks.{AreMarks, AreHits}
 use Rattle.ac_search.specs.Accounts.{providers_in, asked_in, texts_in}
 use Rattle.ac_search.specs.declared.rooms.Ask.{Ask}
 use Rattle.ac_search.proofs.AnchorLemmas.{anchors_within}
 use Rattle.ac_search.proofs.OpenLemmas.{placed_next}
+use Rattle.ac_search.proofs.RoomLemmas.{there_same}
 use Rattle.ac_search.proofs.LeftLemmas.{left_less}
-use Rattle.ac_search.proofs.LedgerLemmas.{asks_at, asks_within, lone_at, known_in, room_back, mark_there, hit_there, marks_back, hits_back}
+use Rattle.ac_search.proofs.LedgerLemmas.{asks_at, lone_at, known_in, room_back, mark_there, hit_there, marks_back, hits_back}
 use Rattle.ac_search.proofs.ledger.Ledger.give_back.Goals as goal
 
-pub give_row-requires-clause-within : goal.give_row-requires-clause-within
-give_row-requires-clause-within c =
+pub give_row-requires-clause-there : goal.give_row-requires-clause-there
+give_row-requires-clause-there c = λ k some.
     let l = c.args.self.now in
-    subst (All (λ (a : Ask). a.class < length (row_of l.rows.items c.args.ix))) (sym c.deref.ensures.value) (asks_within l (length c.args.front.now) c.args.ix c.index.result.now c.requires.slots c.requires.provider c.index.ensures)
+    let asks = ap (map ask_pair) c.deref.ensures.value ∙ asks_at l (length c.args.front.now) c.index.result.now c.requires.slots c.index.ensures in
+    (room_back l c.args.front.now c.args.ix k c.requires.slots c.requires.provider c.requires.accounts (rw asks at some)).0
 
 pub give_row-requires-clause-room : goal.give_row-requires-clause-room
 give_row-requires-clause-room c = λ k some.
     let l = c.args.self.now in
     let asks = ap (map ask_pair) c.deref.ensures.value ∙ asks_at l (length c.args.front.now) c.index.result.now c.requires.slots c.index.ensures in
-    rw asks (room_back l c.args.front.now c.args.ix k c.requires.slots c.requires.provider c.requires.accounts (rw asks at some))
+    rw asks (room_back l c.args.front.now c.args.ix k c.requires.slots c.requires.provider c.requires.accounts (rw asks at some)).1
 
 pub unmark-requires-clause-there : goal.unmark-requires-clause-there
 unmark-requires-clause-there c = λ lone.
@@ -60,3 +62,23 @@ returns-clause-accounts c =
           (marks_back all asked q p c.index-2.result.now l.marks.items c.unmark.new.marks c.requires.slots (lone_at l (length q) c.index-2.result.now c.requires.slots c.index-2.ensures) (rw c.deref_mut.ensures.value at c.unmark.ensures) c.requires.accounts.marks);
       hits = subst (λ (m : List ℕ). AreHits all m q) (sym hits) (hits_back all q p l.hits.items c.unhit.new.hits (rw (c.deref_mut-2.ensures.value, c.anchors.ensures) at c.unhit.ensures) c.requires.accounts.hits);
     }
+
+pub invariant_of-self-clause-there : goal.invariant_of-self-clause-there
+invariant_of-self-clause-there c = λ p x h known some.
+    let l = c.args.self.now in
+    let new = c.give_row.new.rows.items in
+    there_same (row_of l.rows.items p) (row_of new p) (place_of (texts_in l) x) (sym (c.give_row.ensures.shape.classes p)) (l.there p x h known some)
+
+pub invariant_of-self-clause-marked : goal.invariant_of-self-clause-marked
+invariant_of-self-clause-marked c =
+    let l = c.args.self.now in
+    let were = ap length c.deref_mut.ensures.value in
+    let items = with_items_is l.marks c.unmark.new.marks (c.unmark.auto.marks ∙ omega (arith, were, l.marks.ok)) in
+    omega (arith, ap length items, c.unmark.auto.marks, were, l.marked)
+
+pub invariant_of-self-clause-met : goal.invariant_of-self-clause-met
+invariant_of-self-clause-met c =
+    let l = c.args.self.now in
+    let were = ap length c.deref_mut-2.ensures.value in
+    let items = with_items_is l.hits c.unhit.new.hits (c.unhit.auto.hits ∙ omega (arith, were, l.hits.ok)) in
+    omega (arith, ap length items, c.unhit.auto.hits, were, l.met)

@@ -2,20 +2,16 @@ use Rattle.std.proofs.Common.{◌≡◌, ◌<◌, ◌∙◌, ◌++◌, ◌∷◌
 use Rattle.std.specs.List.{All}
 use Rattle.std.proofs.lemmas.List.{with_items_is}
 use Rattle.ac_search.specs.Placed.{placed_at, assigned, slot_at}
-use Rattle.ac_search.specs.Left.{ask_pair, numbered, row_of, Takes, AreLeft}
+use Rattle.ac_search.specs.Left.{ask_pair, numbered, place_of, row_of, Takes, AreLeft}
 use Rattle.ac_search.specs.Marks.{AreMarks, AreHits}
 use Rattle.ac_search.specs.Accounts.{providers_in, asked_in, texts_in}
 use Rattle.ac_search.specs.declared.rooms.Ask.{Ask}
 use Rattle.ac_search.proofs.AnchorLemmas.{anchors_within}
 use Rattle.ac_search.proofs.OpenLemmas.{placed_next}
+use Rattle.ac_search.proofs.RoomLemmas.{there_same}
 use Rattle.ac_search.proofs.LeftLemmas.{left_more}
-use Rattle.ac_search.proofs.LedgerLemmas.{asks_at, asks_within, lone_at, known_in, room_for, room_to_mark, room_to_hit, marks_next, hits_next}
+use Rattle.ac_search.proofs.LedgerLemmas.{asks_at, lone_at, known_in, room_for, room_to_mark, room_to_hit, marks_next, hits_next}
 use Rattle.ac_search.proofs.ledger.Ledger.take.Goals as goal
-
-pub take_row-requires-clause-within : goal.take_row-requires-clause-within
-take_row-requires-clause-within c =
-    let l = c.args.self.now in
-    subst (All (λ (a : Ask). a.class < length (row_of l.rows.items c.args.ix))) (sym c.deref.ensures.value) (asks_within l (length c.args.front.now) c.args.ix c.index.result.now c.requires.slots c.requires.provider c.index.ensures)
 
 pub take_row-requires-clause-room : goal.take_row-requires-clause-room
 take_row-requires-clause-room c = λ k.
@@ -59,3 +55,23 @@ returns-clause-accounts c =
           (marks_next all asked q p c.index-2.result.now l.marks.items c.mark.new.marks c.requires.slots (lone_at l (length q) c.index-2.result.now c.requires.slots c.index-2.ensures) (rw c.deref_mut.ensures.value at c.mark.ensures) c.requires.accounts.marks);
       hits = subst (λ (m : List ℕ). AreHits all m (q ++ p ∷ [])) (sym hits) (hits_next all q p l.hits.items c.hit.new.hits (rw (c.deref_mut-2.ensures.value, c.anchors.ensures) at c.hit.ensures) c.requires.accounts.hits);
     }
+
+pub invariant_of-self-clause-there : goal.invariant_of-self-clause-there
+invariant_of-self-clause-there c = λ p x h known some.
+    let l = c.args.self.now in
+    let new = c.take_row.new.rows.items in
+    there_same (row_of l.rows.items p) (row_of new p) (place_of (texts_in l) x) (sym (c.take_row.ensures.shape.classes p)) (l.there p x h known some)
+
+pub invariant_of-self-clause-marked : goal.invariant_of-self-clause-marked
+invariant_of-self-clause-marked c =
+    let l = c.args.self.now in
+    let were = ap length c.deref_mut.ensures.value in
+    let items = with_items_is l.marks c.mark.new.marks (c.mark.auto.marks ∙ omega (arith, were, l.marks.ok)) in
+    omega (arith, ap length items, c.mark.auto.marks, were, l.marked)
+
+pub invariant_of-self-clause-met : goal.invariant_of-self-clause-met
+invariant_of-self-clause-met c =
+    let l = c.args.self.now in
+    let were = ap length c.deref_mut-2.ensures.value in
+    let items = with_items_is l.hits c.hit.new.hits (c.hit.auto.hits ∙ omega (arith, were, l.hits.ok)) in
+    omega (arith, ap length items, c.hit.auto.hits, were, l.met)
