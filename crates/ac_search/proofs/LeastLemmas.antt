@@ -91,7 +91,7 @@ take_nil : (i : ℕ) → take {A = ℕ} i [] ≡ []
 take_nil zero = refl
 take_nil (suc i) = refl
 
-cut_nil : (q : List ℕ) (i : ℕ) → lex_lt q (take i []) ≡ false
+pub cut_nil : (q : List ℕ) (i : ℕ) → lex_lt q (take i []) ≡ false
 cut_nil q i = rw (take_nil i) (lex_nil q)
 
 -- a list of a provider for each slot comes after these ids exactly where it isn't before their least list

@@ -32,6 +32,7 @@ pub mod SeekLemmas
 pub mod OpenLemmas
 pub mod LedgerLemmas
 pub mod LeastLemmas
+pub mod IdsLemmas
 pub mod KeptLemmas
 pub mod StepLemmas
 pub mod EndLemmas

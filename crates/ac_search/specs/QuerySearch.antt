@@ -1,5 +1,5 @@
 -- The search of a query, and the least list of places that a token stands for.
-use Rattle.std.specs.Prelude.{ℕ, ◌+◌, ◌&&◌, ◌==◌, zero, suc, Bool, nat_lt, cond, List, [], ◌∷◌, map, length, Option, Some, None}
+use Rattle.std.specs.Prelude.{ℕ, ◌+◌, ◌&&◌, ◌==◌, zero, suc, Bool, true, not, nat_lt, cond, List, [], ◌∷◌, map, length, take, Option, Some, None}
 use Rattle.std.specs.List.{filter, range_with_len}
 use Rattle.ac_query.specs.Asked.{Asked, Slot, slots_of}
 use Rattle.ac_tables.specs.World.{Provider, id_at}
@@ -7,7 +7,9 @@ use Rattle.ac_search.specs.Placed.{Placed, assigned}
 use Rattle.ac_search.specs.Own.{units_fit, traits_fit, aggregates_fit, tree_fits}
 use Rattle.ac_search.specs.Together.{collective, subtree}
 use Rattle.ac_search.specs.Judge.{is_candidate, is_open}
-use Rattle.ac_search.specs.Search.{Search}
+use Rattle.ac_search.specs.Order.{lex_lt}
+use Rattle.ac_search.specs.Pages.{ids_of}
+use Rattle.ac_search.specs.Search.{Search, below, is_up_to}
 
 -- the rules of a slot alone
 unfoldable pub fits : List Provider → Placed → Bool
@@ -56,3 +58,14 @@ least_after all (suc (suc k)) (id ∷ ids) = rank_of all id ∷ cond (is_known a
 abbrev pub least_of : List Provider → ℕ → Option (List ℕ) → List ℕ
 least_of all k None = []
 least_of all k (Some ids) = least_after all k ids
+
+-- ---- Between a token and a list
+
+-- not before some ids cut to its length; without ids, every list
+abbrev pub is_from : List Provider → Option (List ℕ) → List ℕ → Bool
+is_from all None q = true
+is_from all (Some ids) q = not (lex_lt (ids_of all q) (take (length q) ids))
+
+-- the open lists of fewer providers than slots, with all their fronts, that are neither before some ids nor after a list, each cut to their length
+abbrev pub open_between : List Provider → Asked → Option (List ℕ) → Option (List ℕ) → List (List ℕ)
+open_between all asked ids y = below (λ q. is_open all asked q && (is_from all ids q && is_up_to y q)) (length all) (length (slots_of asked)) []
