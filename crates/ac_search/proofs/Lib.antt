@@ -33,6 +33,8 @@ pub mod OpenLemmas
 pub mod LedgerLemmas
 pub mod LeastLemmas
 pub mod IdsLemmas
+pub mod TreeLemmas
+pub mod PassLemmas
 pub mod KeptLemmas
 pub mod StepLemmas
 pub mod EndLemmas

@@ -7,6 +7,8 @@ pub mod Room
 pub mod Left
 pub mod Marks
 pub mod Accounts
+pub mod Groups
+pub mod Trees
 pub mod Judge
 pub mod Pages
 pub mod Search

@@ -1,5 +1,5 @@
 -- What one step of a walk does.
-use Rattle.std.specs.Prelude.{◌≡◌, ◌-◌, ◌^◌, ◌<◌, ◌≤◌, true, [], ◌∷◌, None, Some}
+use Rattle.std.specs.Prelude.{◌≡◌, ◌-◌, ◌^◌, ◌<◌, ◌≤◌, true, false, [], ◌∷◌, None, Some}
 use Rattle.ac_search.specs.Order.{lex_lt}
 use Rattle.ac_search.specs.WalkShown.{front_in, left_of, IsSame, IsBounded}
 use Rattle.ac_search.specs.declared.walk.Walk.{Walk}
@@ -12,6 +12,13 @@ pub record Goes (old new : Walk) : Type 0 where
   pub left : left_of new ≡ left_of old
   pub up : lex_lt (front_in old) (front_in new) ≡ true
   pub kept : old.probes ≤ new.probes
+
+-- it goes on over choices that lead to nothing, without a try
+pub record Passes (old new : Walk) : Type 0 where
+  pub same : IsSame old new
+  pub left : left_of new ≡ left_of old
+  pub up : lex_lt (front_in new) (front_in old) ≡ false
+  pub probes : new.probes ≡ old.probes
 
 -- its path is the first list that was left, and took a try
 pub record Gives (old new : Walk) : Type 0 where

@@ -23,6 +23,7 @@ pub mod source;
 mod sums;
 #[cfg(test)]
 mod tests;
+mod trees;
 pub mod verdict;
 pub mod walk;
 mod whole;

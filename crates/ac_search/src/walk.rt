@@ -10,6 +10,7 @@ ghost use Rattle.ac_search.specs.Judge.{is_open};
 ghost use Rattle.ac_search.specs.Pages.{rest};
 ghost use Rattle.ac_search.specs.Search.{IsSound, IsStart, Enters, HasAt, least_at, choices_at, next_at};
 ghost use Rattle.ac_search.specs.QuerySearch.{choices_of, search_of, completes, least_of};
+ghost use Rattle.ac_search.specs.Trees.{AreByTree};
 
 use crate::choices::all_choices;
 use crate::least::least_of;
@@ -17,6 +18,7 @@ use crate::ledger::Ledger;
 use crate::open::completes;
 use crate::slots::count_slots;
 use crate::source::Source;
+use crate::trees::{ByTree, home_of};
 use ac_base::NoMemory;
 use ac_query::{Query, Token};
 use ac_tables::Cloud;
@@ -42,6 +44,8 @@ pub struct Walk<'a> {
     least: Vec<u32>,
     // The providers that each slot may have by its own rules.
     choices: Vec<Vec<u32>>,
+    // The same by tree.
+    trees: Vec<ByTree>,
     // The providers so far, as many as the depth says, and where each stands among the choices of its slot.
     path: Vec<u32>,
     places: Vec<usize>,
@@ -50,13 +54,14 @@ pub struct Walk<'a> {
     seeking: bool,
     probes: u64,
     ghost listed: { map (λ v. v.items) choices.items ≡ choices_of (providers_in ledger) (asked_in ledger) },
+    ghost by_tree: { AreByTree (providers_in ledger) (choices_of (providers_in ledger) (asked_in ledger)) trees.items },
     ghost sound: { IsSound (search_of (providers_in ledger) (asked_in ledger)) least.items path.items places.items depth seeking probes },
     ghost accounted: { Accounts ledger (take depth path.items) },
 }
 
 impl<'a> Walk<'a> {
     ghost use Rattle.ac_search.specs.WalkShown.{search_in, front_in, left_of, least_in, probes_in, IsSame};
-    ghost use Rattle.ac_search.specs.Steps.{StepGives, Goes, Gives, Ends};
+    ghost use Rattle.ac_search.specs.Steps.{Passes, StepGives, Goes, Gives, Ends};
 
     /// Begins with the first candidate after the ids of a token, or with the first of all. It takes all its memory
     /// here; `next` takes none.
@@ -74,6 +79,7 @@ impl<'a> Walk<'a> {
         let width = count_slots(query);
         let least = least_of(alloc, cloud, after, width)?;
         let choices = all_choices(alloc, cloud, query)?;
+        let trees = ByTree::of_slots(alloc, cloud, &choices)?;
         let ledger = Ledger::new(alloc, cloud, query)?;
         let path = vec![in alloc; 0u32; width]?;
         let mut places = vec![in alloc; 0usize; width]?;
@@ -82,6 +88,7 @@ impl<'a> Walk<'a> {
             ledger,
             least,
             choices,
+            trees,
             path,
             places,
             depth: 0,
@@ -238,9 +245,25 @@ impl<'a> Walk<'a> {
         Step::Went
     }
 
+    // Passes over choices that can't be available in the one tree to which the path is bound.
+    fn pass(&mut self)
+        ensures { Passes self.old self.new }
+    {
+        let depth = self.depth;
+        if let Some(root) = home_of(self.ledger.cloud, &self.path[..depth]) {
+            let place = self.places[depth];
+            let next = self.trees[depth].next(root, place);
+            if next > place {
+                self.places[depth] = next;
+                self.seeking = false;
+            }
+        }
+    }
+
     fn step(&mut self) -> Step
         ensures { StepGives result self.old self.new }
     {
+        self.pass();
         match self.choice() {
             Some(provider) => self.probe(provider),
             None => self.leave(),

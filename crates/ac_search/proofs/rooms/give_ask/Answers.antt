@@ -1,4 +1,4 @@
-use Rattle.std.proofs.Common.{◌≡◌, ◌+◌, ◌<◌, ℕ, map, slice_index_or, inl, inr, ap, arith}
+use Rattle.std.proofs.Common.{◌+◌, ℕ, map, slice_index_or, inl, inr, ap, arith}
 use Rattle.std.proofs.Math.Seq.{map-set_same}
 use Rattle.std.proofs.lemmas.Bool.{cases_eq, cases_lt, eq-eqb, ne_eqb}
 use Rattle.ac_search.specs.Left.{room_pair, left_in}

@@ -1,5 +1,4 @@
 use Rattle.std.proofs.Common.{◌∙◌, length, map, ap, arith}
-use Rattle.std.proofs.lemmas.List.{length-map}
 use Rattle.ac_search.specs.Left.{ask_pair}
 use Rattle.ac_search.proofs.RowLemmas.{gives_row, shape_row}
 use Rattle.ac_search.proofs.rooms.give_row.Goals as goal

@@ -1,4 +1,4 @@
-use Rattle.std.proofs.Common.{◌≡◌, ◌∙◌, List, ℕ, map, ap, ap₂, arith}
+use Rattle.std.proofs.Common.{◌≡◌, ◌∙◌, map, ap, ap₂, arith}
 use Rattle.ac_search.specs.Left.{ask_pair, room_pair, row_of, suffices}
 use Rattle.ac_search.proofs.RowLemmas.{row_is}
 use Rattle.ac_search.proofs.LedgerLemmas.{asks_at}

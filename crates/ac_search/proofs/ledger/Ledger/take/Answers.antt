@@ -5,7 +5,6 @@ use Rattle.ac_search.specs.Placed.{placed_at, assigned, slot_at}
 use Rattle.ac_search.specs.Left.{ask_pair, numbered, place_of, row_of, Takes, AreLeft}
 use Rattle.ac_search.specs.Marks.{AreMarks, AreHits}
 use Rattle.ac_search.specs.Accounts.{providers_in, asked_in, texts_in}
-use Rattle.ac_search.specs.declared.rooms.Ask.{Ask}
 use Rattle.ac_search.proofs.AnchorLemmas.{anchors_within}
 use Rattle.ac_search.proofs.OpenLemmas.{placed_next}
 use Rattle.ac_search.proofs.RoomLemmas.{there_same}

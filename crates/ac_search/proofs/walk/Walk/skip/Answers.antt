@@ -19,6 +19,7 @@ invariant_of-self c =
     let more : c.one_more-self.result ≤ w.probes + 1 = omega (arith, c.one_more-self.ensures.most) in
     record {
       listed = w.listed;
+      by_tree = w.by_tree;
       accounted = w.accounted;
       sound = rw place (sound_next (search_in w) (laws_in w) w.least.items w.path.items w.path.items w.places.items w.depth w.seeking w.probes c.one_more-self.result w.sound c.requires refl refl more);
     }

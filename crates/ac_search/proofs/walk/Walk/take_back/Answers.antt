@@ -34,6 +34,7 @@ invariant_of-self c =
     let place : c.index_mut.result.now ≡ slice_index w.places.items e = c.index_mut.ensures.value ∙ get_or_default w.places.items e c.index_mut.result.now 0 (omega (arith, s.places_len, s.within)) in
     record {
       listed = rw (c.give_back.ensures.same.cloud, c.give_back.ensures.same.query) w.listed;
+      by_tree = rw (c.give_back.ensures.same.cloud, c.give_back.ensures.same.query) w.by_tree;
       accounted = rw c.deref.ensures.value at c.give_back.ensures.accounts;
       sound = rw (c.give_back.ensures.same.cloud, c.give_back.ensures.same.query, place) (sound_back (search_in w) (laws_in w) w.least.items w.path.items w.places.items e w.seeking w.probes s);
     }
