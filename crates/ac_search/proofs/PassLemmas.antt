@@ -4,7 +4,7 @@ use Rattle.std.specs.List.{slice_index}
 use Rattle.std.proofs.lemmas.List.{set-set, get_or_default}
 use Rattle.ac_tables.specs.World.{Provider, is_available_at}
 use Rattle.ac_search.specs.Accounts.{providers_in, asked_in}
-use Rattle.ac_search.specs.Groups.{IsHome}
+use Rattle.ac_search.specs.Keys.{IsHome}
 use Rattle.ac_search.specs.Trees.{IsByTree}
 use Rattle.ac_search.specs.declared.trees.ByTree.{ByTree}
 use Rattle.ac_search.specs.Order.{lex_lt}

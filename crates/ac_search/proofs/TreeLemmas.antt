@@ -11,7 +11,7 @@ use Rattle.ac_search.specs.Placed.{assigned}
 use Rattle.ac_search.specs.Together.{takes_root}
 use Rattle.ac_search.specs.Judge.{is_open}
 use Rattle.ac_search.specs.Laws.{AreInOrder}
-use Rattle.ac_search.specs.Groups.{IsGroup, IsHome, is_there}
+use Rattle.ac_search.specs.Keys.{IsTreeOf, IsHome, is_there}
 use Rattle.ac_search.proofs.Elements.{Among, among_filter}
 use Rattle.ac_search.proofs.ListLemmas.{among_range}
 use Rattle.ac_search.proofs.AnchorLemmas.{anchors_list, anchor_list, each_range}
@@ -75,7 +75,7 @@ there_at (y ∷ ys) x h = elim (cases_eq y x) [
 pub at_there : (xs : List ℕ) (x : ℕ) → Contains xs x → is_there xs x ≡ true
 at_there xs x m = list_any_at (λ y. y == x) xs m.0 x m.1 (eq-eqb (get_or xs m.0 x) x m.2)
 
--- ---- Groups
+-- ---- Trees by their numbers
 
 same_root : (all : List Provider) → AreInOrder all → (a b : ℕ) → a < length all → b < length all → id_at all a ≡ id_at all b → a ≡ b
 same_root all order a b h k e = elim (cases_order a b) [
@@ -83,9 +83,9 @@ same_root all order a b h k e = elim (cases_order a b) [
   | inr o ↦ elim o [ inl l ↦ absurd (omega (arith, e, order a b l k)) | inr g ↦ absurd (omega (arith, e, order b a g h)) ]
 ]
 
--- a provider is in one group
-pub one_group : (all : List Provider) → AreInOrder all → (p a b : ℕ) → IsGroup all p a → IsGroup all p b → a ≡ b
-one_group all order p a b = elim (cases_Bool (shares (provider_at all p))) [
+-- a provider stands in one tree
+pub one_tree : (all : List Provider) → AreInOrder all → (p a b : ℕ) → IsTreeOf all p a → IsTreeOf all p b → a ≡ b
+one_tree all order p a b = elim (cases_Bool (shares (provider_at all p))) [
   | inl e ↦ rw e (λ h k. h ∙ sym k)
   | inr e ↦ rw e (λ h k. same_root all order a b h.0 k.0 (h.1 ∙ sym k.1))
 ]
@@ -94,9 +94,9 @@ alone : (a b : Bool) → a || (false && b) ≡ true → a ≡ true
 alone true b h = refl
 alone false b h = h
 
--- what is available at a root is in its group, or in that of those that share
-pub in_groups : (all : List Provider) (p root : ℕ) → root < length all → is_available_at all p root ≡ true → (IsGroup all p root) ⊎ (IsGroup all p (length all))
-in_groups all p root h here = elim (cases_Bool (shares (provider_at all p))) [
+-- what is available at a root stands in its tree, or among those that share
+pub in_trees : (all : List Provider) (p root : ℕ) → root < length all → is_available_at all p root ≡ true → (IsTreeOf all p root) ⊎ (IsTreeOf all p (length all))
+in_trees all p root h here = elim (cases_Bool (shares (provider_at all p))) [
   | inl e ↦ inr (rw e refl)
   | inr e ↦
       let both = (and_parts (is_root all (id_at all root)) _ here).1 in

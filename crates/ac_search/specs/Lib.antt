@@ -7,7 +7,7 @@ pub mod Room
 pub mod Left
 pub mod Marks
 pub mod Accounts
-pub mod Groups
+pub mod Keys
 pub mod Trees
 pub mod Judge
 pub mod Pages

@@ -747,6 +747,25 @@ fn tries_each_full_root_once(rt: HostRuntime) -> Result<(), Fail> {
 }
 
 #[test]
+fn tries_no_other_tree(rt: HostRuntime) -> Result<(), Fail> {
+    let alloc = rt.alloc();
+    let providers = repeated(alloc, 1, 20, "@#,@#,\n")?;
+    let inventories = repeated(alloc, 1, 20, FULL)?;
+    let rows = Rows {
+        providers: providers.as_str(),
+        inventories: inventories.as_str(),
+        usages: "",
+        traits: "",
+        aggregates: "",
+    };
+    let query = "resources1=VCPU:1&resources2=VCPU:1&group_policy=none";
+    let mut counts = probes(alloc, rows, query, None, 99)?;
+    assert_eq!(rt; counts.len(), 21);
+    assert_eq!(rt; counts.pop().unwrap_or(0), 40);
+    Ok(())
+}
+
+#[test]
 fn goes_to_the_last_of_many_lists(rt: HostRuntime) -> Result<(), Fail> {
     let alloc = rt.alloc();
     let mut providers = expanded(alloc, "@01,@01,\n")?;

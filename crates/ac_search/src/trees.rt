@@ -4,28 +4,28 @@ ghost use Rattle.std.specs.Prelude.{◌≡◌, ◌+◌, ◌*◌, ◌<◌, ◌≤
 ghost use Rattle.std.specs.List.{All};
 ghost use Rattle.ac_tables.specs.CloudWorld.{providers_of};
 ghost use Rattle.ac_tables.specs.World.{Provider, is_available_at};
-ghost use Rattle.ac_search.specs.Groups.{key_of, IsGroup, IsLeastFrom, IsNextIn, IsHome};
+ghost use Rattle.ac_search.specs.Keys.{key_of, IsTreeOf, IsLeastFrom, IsNextIn, IsHome};
 
 use ac_base::NoMemory;
 use ac_tables::Cloud;
 use std::alloc::Global;
 
-/// The places of a slot's choices, by the root of their tree; those of choices that share come last.
+/// The places of a slot's choices by tree. Those that share stand in one tree of their own, past all others.
 #[derive(Drop)]
 pub(crate) struct ByTree {
-    // For each choice its group and its place, as one number; rising.
+    // For each choice its tree and its place as one number; rising.
     keys: Vec<u64>,
-    // The group of those that share, past all roots.
+    // The number of the tree of those that share; each other one has the place of its root.
     sharing: u32,
     ghost rising: { (i j : ℕ) → i ≤ j → j < length keys.items → slice_index keys.items i ≤ slice_index keys.items j },
     ghost few: { length keys.items ≤ 65536 },
     ghost last: { sharing ≤ 65536 },
 }
 
-// The group of a provider.
-fn group_of(cloud: &Cloud, ix: u32) -> u32
+// The number of the tree in which a choice stands.
+fn tree_of(cloud: &Cloud, ix: u32) -> u32
     requires { ix < length (providers_of cloud.now) }
-    ensures { IsGroup (providers_of cloud.now) ix result }
+    ensures { IsTreeOf (providers_of cloud.now) ix result }
 {
     if cloud.shares(ix) {
         cloud.len()
@@ -34,12 +34,12 @@ fn group_of(cloud: &Cloud, ix: u32) -> u32
     }
 }
 
-// A group and a place as one number, by which places are in order in each group.
-fn key(group: u32, place: usize) -> u64
+// A tree and a place as one number, so that places are in order tree by tree.
+fn key(tree: u32, place: usize) -> u64
     requires { place < 2 ^ 32 }
-    ensures { result ≡ key_of group place }
+    ensures { result ≡ key_of tree place }
 {
-    u64::from(group) * 4_294_967_296 + place as u64
+    u64::from(tree) * 4_294_967_296 + place as u64
 }
 
 // The least of some numbers from a bound on; the greatest of all where there is none.
@@ -64,7 +64,7 @@ impl ByTree {
     {
         let mut keys = Vec::new(alloc);
         for (place, ix) in choices.iter().enumerate() {
-            keys.push(key(group_of(cloud, *ix), place))?;
+            keys.push(key(tree_of(cloud, *ix), place))?;
         }
         keys.sort_unstable();
         Ok(ByTree {
@@ -90,12 +90,12 @@ impl ByTree {
         Ok(all)
     }
 
-    // The least place from one on in a group; past the end where there is none.
-    fn next_in(&self, group: u32, from: usize) -> usize
+    // The least place from one on in a tree; past the end where there is none.
+    fn next_in(&self, tree: u32, from: usize) -> usize
         requires { from ≤ length self.now.keys.items }
-        ensures { IsNextIn self.now.keys.items group from result }
+        ensures { IsNextIn self.now.keys.items tree from result }
     {
-        let least = least_from(&self.keys, key(group, from)) - key(group, 0);
+        let least = least_from(&self.keys, key(tree, from)) - key(tree, 0);
         least.min(self.keys.len() as u64) as usize
     }
 

@@ -4,7 +4,7 @@ use Rattle.std.specs.List.{All}
 use Rattle.std.proofs.lemmas.List.{get_or_default}
 use Rattle.std.proofs.lemmas.List.Elements.{All-from_recursion}
 use Rattle.ac_search.specs.Accounts.{providers_in}
-use Rattle.ac_search.specs.Groups.{IsHome}
+use Rattle.ac_search.specs.Keys.{IsHome}
 use Rattle.ac_search.specs.Search.{next_front}
 use Rattle.ac_search.specs.WalkShown.{search_in, front_in}
 use Rattle.ac_search.specs.declared.walk.Walk.{Walk}

@@ -1,16 +1,16 @@
--- Groups of choices: in which group each is, how the next one of a group is found, and the tree to which a front is bound.
+-- In which tree a choice stands, how the next one of a tree is found, and the tree to which a front is bound.
 use Rattle.std.specs.Prelude.{◌≡◌, ℕ, ◌+◌, ◌*◌, ◌<◌, ◌≤◌, ◌^◌, ◌==◌, Bool, true, MatchBool, List, length}
 use Rattle.std.specs.List.{list_all, list_any}
 use Rattle.ac_tables.specs.World.{Provider, provider_at, id_at, shares, root_of, is_available_at}
 
--- a group and a place as one number
+-- a tree and a place as one number
 abbrev pub key_of : ℕ → ℕ → ℕ
-key_of group place = group * 2 ^ 32 + place
+key_of tree place = tree * 2 ^ 32 + place
 
--- the group of a provider: the root of its tree, or past all providers where it shares
-abbrev pub IsGroup : List Provider → ℕ → ℕ → Type 0
-IsGroup all p group =
-    MatchBool (shares (provider_at all p)) (group ≡ length all) ((group < length all) × (id_at all group ≡ root_of all (id_at all p)))
+-- a provider's tree by its number: the place of its root, or one past all providers where it shares
+abbrev pub IsTreeOf : List Provider → ℕ → ℕ → Type 0
+IsTreeOf all p tree =
+    MatchBool (shares (provider_at all p)) (tree ≡ length all) ((tree < length all) × (id_at all tree ≡ root_of all (id_at all p)))
 
 -- a number is one of some numbers
 abbrev pub is_there : List ℕ → ℕ → Bool
@@ -21,11 +21,11 @@ pub record IsLeastFrom (numbers : List ℕ) (bound found : ℕ) : Type 0 where
   pub above : bound ≤ found
   pub least : (x : ℕ) → is_there numbers x ≡ true → bound ≤ x → found ≤ x
 
--- the group has no place from one on before another
-pub record IsNextIn (keys : List ℕ) (group from place : ℕ) : Type 0 where
+-- the tree has no place from one on before another
+pub record IsNextIn (keys : List ℕ) (tree from place : ℕ) : Type 0 where
   pub kept : from ≤ place
   pub within : place ≤ length keys
-  pub passed : (i : ℕ) → from ≤ i → is_there keys (key_of group i) ≡ true → place ≤ i
+  pub passed : (i : ℕ) → from ≤ i → is_there keys (key_of tree i) ≡ true → place ≤ i
 
 -- a front's providers can be available together at one root alone
 pub record IsHome (all : List Provider) (front : List ℕ) (root : ℕ) : Type 0 where
