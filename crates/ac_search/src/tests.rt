@@ -617,27 +617,8 @@ fn tells_the_first_rule_that_is_broken(rt: HostRuntime) -> Result<(), Fail> {
 // ---- How often a walk tries
 
 // How many tries a walk has made after each call, up to the one that gives `None`.
-fn probes(
-    alloc: Global,
-    rows: Rows,
-    query: &str,
-    after: Option<&str>,
-    most: u32,
-) -> Result<Vec<u64>, AllocError> {
+fn counted(alloc: Global, walk: &mut Walk, most: u32) -> Result<Vec<u64>, AllocError> {
     let mut counts = Vec::new(alloc);
-    let Some(cloud) = cloud_of(alloc, rows)? else {
-        return Ok(counts);
-    };
-    let Some(query) = query_of(alloc, query)? else {
-        return Ok(counts);
-    };
-    let token = token_of(alloc, &query, after)?;
-    if after.is_some() && token.is_none() {
-        return Ok(counts);
-    }
-    let Ok(mut walk) = Walk::new(alloc, &cloud, &query, token.as_ref()) else {
-        return Ok(counts);
-    };
     for _ in 0..most {
         let ended = walk.next().is_none();
         counts.push(walk.probes())?;
@@ -648,22 +629,52 @@ fn probes(
     Ok(counts)
 }
 
-// The ends of the first list that a walk gives.
-fn first_list(alloc: Global, rows: Rows, query: &str) -> Result<String, AllocError> {
-    let text = String::new(alloc);
+fn probes(
+    alloc: Global,
+    rows: Rows,
+    query: &str,
+    after: Option<&str>,
+    most: u32,
+) -> Result<Vec<u64>, AllocError> {
+    let none = Vec::new(alloc);
     let Some(cloud) = cloud_of(alloc, rows)? else {
-        return Ok(text);
+        return Ok(none);
     };
     let Some(query) = query_of(alloc, query)? else {
-        return Ok(text);
+        return Ok(none);
+    };
+    let token = token_of(alloc, &query, after)?;
+    if after.is_some() && token.is_none() {
+        return Ok(none);
+    }
+    let Ok(mut walk) = Walk::new(alloc, &cloud, &query, token.as_ref()) else {
+        return Ok(none);
+    };
+    let counts = counted(alloc, &mut walk, most)?;
+    Ok(counts)
+}
+
+// The ends of the first list of a source.
+fn first_of<S: Source>(alloc: Global, cloud: &Cloud, source: &mut S) -> Result<String, AllocError> {
+    match source.next() {
+        Some(list) => ends(alloc, cloud, list),
+        None => Ok(String::new(alloc)),
+    }
+}
+
+fn first_list(alloc: Global, rows: Rows, query: &str) -> Result<String, AllocError> {
+    let none = String::new(alloc);
+    let Some(cloud) = cloud_of(alloc, rows)? else {
+        return Ok(none);
+    };
+    let Some(query) = query_of(alloc, query)? else {
+        return Ok(none);
     };
     let Ok(mut walk) = Walk::new(alloc, &cloud, &query, None) else {
-        return Ok(text);
+        return Ok(none);
     };
-    match walk.next() {
-        Some(list) => ends(alloc, &cloud, list),
-        None => Ok(text),
-    }
+    let list = first_of(alloc, &cloud, &mut walk)?;
+    Ok(list)
 }
 
 // Whether there are as many counts as bounds, each from its least to its most.
