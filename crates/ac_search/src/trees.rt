@@ -1,10 +1,10 @@
 //! The choices of a slot by tree, so that a path that is bound to one tree passes over those of the others.
 
-ghost use Rattle.std.specs.Prelude.{◌≡◌, ◌+◌, ◌*◌, ◌<◌, ◌≤◌, ◌^◌, ℕ, List, [], false, length, map, IfOk, IfSome, slice_index, slice_index_or};
+ghost use Rattle.std.specs.Prelude.{◌≡◌, ◌≢◌, ◌+◌, ◌*◌, ◌<◌, ◌≤◌, ◌^◌, ◌||◌, ℕ, List, [], true, false, length, map, IfOk, MatchOption, slice_index, slice_index_or};
 ghost use Rattle.std.specs.List.{All};
 ghost use Rattle.ac_tables.specs.CloudWorld.{providers_of};
-ghost use Rattle.ac_tables.specs.World.{Provider, is_available_at};
-ghost use Rattle.ac_search.specs.Keys.{key_of, IsTreeOf, IsLeastFrom, IsNextIn, IsHome};
+ghost use Rattle.ac_tables.specs.World.{Provider, is_available_at, anchors_of};
+ghost use Rattle.ac_search.specs.Keys.{key_of, is_there, IsTreeOf, IsLeastFrom, IsNextIn, IsHome};
 
 use ac_base::NoMemory;
 use ac_tables::Cloud;
@@ -104,6 +104,7 @@ impl ByTree {
         requires { from ≤ length self.now.keys.items }
         ensures kept { from ≤ result }
         ensures within { result ≤ length self.now.keys.items }
+        ensures there { result < length self.now.keys.items → (is_there self.now.keys.items (key_of root result) || is_there self.now.keys.items (key_of self.now.sharing result)) ≡ true }
         ensures passed { (all : List Provider) (choices : List ℕ) → IsByTree all choices self.now → root < length all → (i : ℕ) → from ≤ i → i < result → is_available_at all (slice_index choices i) root ≡ false }
     {
         self.next_in(root, from)
@@ -114,7 +115,7 @@ impl ByTree {
 /// The one root at which the providers of a front can be available together, where one of them is available at one root alone.
 pub(crate) fn home_of(cloud: &Cloud, front: &[u32]) -> Option<u32>
     requires { All (λ p. p < length (providers_of cloud.now)) front.now }
-    ensures { IfSome result (λ root. IsHome (providers_of cloud.now) front.now root) }
+    ensures { MatchOption result ((i : ℕ) → i < length front.now → length (anchors_of (providers_of cloud.now) (slice_index front.now i)) ≢ 1) (λ root. IsHome (providers_of cloud.now) front.now root) }
 {
     for ix in front {
         let roots = cloud.anchors(*ix);

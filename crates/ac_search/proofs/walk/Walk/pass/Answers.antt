@@ -1,5 +1,5 @@
 use Rattle.std.proofs.Common.{◌≡◌, ◌∙◌, ◌<◌, ℕ, List, Option, Some, length, take, set, slice_index, slice_index_or, refl, sym, subst, arith}
-use Rattle.std.specs.Prelude.{IfSome}
+use Rattle.std.specs.Prelude.{MatchOption}
 use Rattle.std.specs.List.{All}
 use Rattle.std.proofs.lemmas.List.{get_or_default}
 use Rattle.std.proofs.lemmas.List.Elements.{All-from_recursion}
@@ -30,20 +30,21 @@ next-next-requires c =
     let w = c.args.self.now in
     omega (arith, read w c.index-place.result.now c.index-place.ensures, (tree_at w c.index.result.now c.index.ensures).count, w.sound.place)
 
-home : (w : Walk) (front : List ℕ) (found : Option ℕ) (root : ℕ) → front ≡ w.path.items → found ≡ Some root → IfSome found (λ r. IsHome (providers_in w.ledger) (take w.depth front) r) → IsHome (providers_in w.ledger) (take w.depth w.path.items) root
-home w front found root same is h = rw (is, same) at h
+home : (w : Walk) (front : List ℕ) (found : Option ℕ) (root : ℕ) (none : Type 0) → front ≡ w.path.items → found ≡ Some root
+    → MatchOption found none (λ r. IsHome (providers_in w.ledger) (take w.depth front) r) → IsHome (providers_in w.ledger) (take w.depth w.path.items) root
+home w front found root none same is h = rw (is, same) at h
 
 pub invariant_of-self : goal.invariant_of-self
 invariant_of-self c =
     let w = c.args.self.now in
-    let stands = stands_next w c.in-Some.root c.index-place.result.now c.next-next.result c.index.result.now (home w c.deref.result.now c.home_of.result c.in-Some.root c.deref.ensures.value c.in-Some.is c.home_of.ensures)
+    let stands = stands_next w c.in-Some.root c.index-place.result.now c.next-next.result c.index.result.now (home w c.deref.result.now c.home_of.result c.in-Some.root _ c.deref.ensures.value c.in-Some.is c.home_of.ensures)
     (read w c.index-place.result.now c.index-place.ensures) c.index.ensures c.if-next-place.true c.next-next.ensures.within c.next-next.ensures.passed in
     record { listed = w.listed; by_tree = w.by_tree; sound = stands.sound; accounted = w.accounted }
 
 pub returns-then-next-place : goal.returns-then-next-place
 returns-then-next-place c =
     let w = c.args.self.now in
-    let stands = stands_next w c.in-Some.root c.index-place.result.now c.next-next.result c.index.result.now (home w c.deref.result.now c.home_of.result c.in-Some.root c.deref.ensures.value c.in-Some.is c.home_of.ensures)
+    let stands = stands_next w c.in-Some.root c.index-place.result.now c.next-next.result c.index.result.now (home w c.deref.result.now c.home_of.result c.in-Some.root _ c.deref.ensures.value c.in-Some.is c.home_of.ensures)
     (read w c.index-place.result.now c.index-place.ensures) c.index.ensures c.if-next-place.true c.next-next.ensures.within c.next-next.ensures.passed in
     record {
       same = record { cloud = refl; query = refl; least = refl };
