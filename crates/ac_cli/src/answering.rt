@@ -19,7 +19,7 @@ use crate::refusal::Refusal;
 use ac_base::{NoMemory, Sink, push_all};
 use ac_query::{Query, Token};
 use ac_report::{PageFault, write_page, write_tokens};
-use ac_search::{Plain, verify};
+use ac_search::{Walk, verify};
 use ac_tables::{Cloud, Sources, TableFault};
 use std::alloc::Global;
 
@@ -91,7 +91,7 @@ pub fn write_lines<W: Sink>(
     ensures ok { IfOk result (IsWritten (page_lines (providers_of cloud.now) (asked_of query.now) (option_map ids_of token.now)) (W.taken out.old) (W.taken out.new)) }
     ensures fault { IfErr result (ExplainsOutcome (page_lines (providers_of cloud.now) (asked_of query.now) (option_map ids_of token.now)) (W.taken out.old) (W.taken out.new) (Rises (W.failures out.old) (W.failures out.new))) }
 {
-    let Ok(mut source) = Plain::new(alloc, cloud, query, token.as_ref()) else {
+    let Ok(mut source) = Walk::new(alloc, cloud, query, token.as_ref()) else {
         return Err(Refusal::NoMemory);
     };
     match write_tokens(alloc, cloud, query, &mut source, out) {
@@ -113,7 +113,7 @@ pub fn write_body<W: Sink>(
     ensures ok { IfOk result (IsWritten (page_body (providers_of cloud.now) (asked_of query.now) (option_map ids_of token.now)) (W.taken out.old) (W.taken out.new)) }
     ensures fault { IfErr result (ExplainsOutcome (page_body (providers_of cloud.now) (asked_of query.now) (option_map ids_of token.now)) (W.taken out.old) (W.taken out.new) (Rises (W.failures out.old) (W.failures out.new))) }
 {
-    let Ok(mut source) = Plain::new(alloc, cloud, query, token.as_ref()) else {
+    let Ok(mut source) = Walk::new(alloc, cloud, query, token.as_ref()) else {
         return Err(Refusal::NoMemory);
     };
     match write_page(alloc, cloud, query, &mut source, out) {

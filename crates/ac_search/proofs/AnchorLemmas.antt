@@ -32,14 +32,14 @@ available_itself all r = elim (cases_Bool (is_root all (id_at all r))) [
 ]
 
 -- a test of those that pass another
-any_filter : (f g : ℕ → Bool) (zs : List ℕ) → list_any f (filter g zs) ≡ list_any (λ z. g z && f z) zs
+pub any_filter : (f g : ℕ → Bool) (zs : List ℕ) → list_any f (filter g zs) ≡ list_any (λ z. g z && f z) zs
 any_filter f g [] = refl
 any_filter f g (z ∷ zs) = elim (cases_Bool (g z)) [
   | inl e ↦ rw (e, any_filter f g zs) refl
   | inr e ↦ rw (e, any_filter f g zs) refl
 ]
 
-any_agree : (f g : ℕ → Bool) → ((z : ℕ) → f z ≡ g z) → (zs : List ℕ) → list_any f zs ≡ list_any g zs
+pub any_agree : (f g : ℕ → Bool) → ((z : ℕ) → f z ≡ g z) → (zs : List ℕ) → list_any f zs ≡ list_any g zs
 any_agree f g same [] = refl
 any_agree f g same (z ∷ zs) = rw (same z, any_agree f g same zs) refl
 
@@ -60,7 +60,7 @@ hosts_list all (s ∷ ss) (p ∷ t) r h = ap (λ more. is_available_at all p r &
 abbrev pub anchors_list : List Provider → Asked → List ℕ → ℕ → Bool
 anchors_list all asked t r = takes_root all asked r && list_all (λ p. is_available_at all p r) t
 
-anchor_list : (all : List Provider) (asked : Asked) (ss : List Slot) (t : List ℕ) → length t ≤ length ss
+pub anchor_list : (all : List Provider) (asked : Asked) (ss : List Slot) (t : List ℕ) → length t ≤ length ss
     → anchor all asked (placed ss t) ≡ list_any (λ r. anchors_list all asked t r) (range_with_len 0 (length all))
 unfolding anchor
 anchor_list all asked ss t h =
@@ -93,7 +93,7 @@ anchor_first all asked ss (q ∷ more) p e h =
     (λ r. rw same (once (is_available_at all p r) (takes_root all asked r) (list_all (λ q. is_available_at all q r) more))) (range_with_len 0 (length all))
     ∙ sym (anchor_list all asked ss t h))
 
-each_range : (a n m : ℕ) → a + n ≤ m → Each (λ r. r < m) (range_with_len a n)
+pub each_range : (a n m : ℕ) → a + n ≤ m → Each (λ r. r < m) (range_with_len a n)
 each_range a zero m h = tt
 each_range a (suc n) m h = (omega arith, each_range (a + 1) n m (omega arith))
 

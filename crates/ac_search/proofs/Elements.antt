@@ -1,5 +1,5 @@
 -- What holds of each element of a list, and what is among them, by recursion.
-use Rattle.std.proofs.Common.{◌≡◌, Bool, true, false, List, [], ◌∷◌, ◌++◌, ◌⊎◌, inl, inr, map, refl, sym, ap, ◌∙◌, subst}
+use Rattle.std.proofs.Common.{◌≡◌, ◌+◌, ◌<◌, ◌≤◌, ℕ, zero, suc, Bool, true, false, List, [], ◌∷◌, ◌++◌, ◌⊎◌, inl, inr, length, map, take, slice_index_or, refl, sym, ap, ◌∙◌, subst, arith}
 use Rattle.std.specs.List.{flat_map, filter, AllByRecursion as Each}
 use Rattle.std.proofs.lemmas.Bool.{cases_Bool, false≢true}
 
@@ -23,6 +23,10 @@ pub each_all : {X : Type 0} (P : X → Type 0) (xs : List X) → ((x : X) → P 
 each_all P [] f = tt
 each_all P (x ∷ xs) f = (f x, each_all P xs f)
 
+pub each_both : {X : Type 0} (P Q : X → Type 0) (xs : List X) → Each P xs → Each Q xs → Each (λ x. P x × Q x) xs
+each_both P Q [] h k = tt
+each_both P Q (x ∷ xs) h k = ((h.0, k.0), each_both P Q xs h.1 k.1)
+
 pub each_among : {X : Type 0} (P : X → Type 0) (xs : List X) (y : X) → Each P xs → Among xs y → P y
 each_among P [] y h m = absurd m
 each_among P (x ∷ xs) y h m = elim m [ inl e ↦ subst P e h.0 | inr m ↦ each_among P xs y h.1 m ]
@@ -45,6 +49,13 @@ among_flat_map {X} {Y} f (z ∷ xs) x y m k = elim m [
   | inl e ↦ among_left (f z) (flat_map f xs) y (subst (λ (w : X). Among (f w) y) (sym e) k)
   | inr m ↦ among_right (f z) (flat_map f xs) y (among_flat_map f xs x y m k)
 ]
+
+-- what holds of the first, and of the next one
+pub each_take : {X Y : Type 0} (P : Y → Type 0) (f : X → Y) (xs : List X) (i : ℕ) (x : X) → i < length xs → x ≡ slice_index_or xs i x → Each P (map f (take i xs)) → P (f x)
+    → Each P (map f (take (suc i) xs))
+each_take P f [] i x h is all here = absurd (omega arith)
+each_take P f (y ∷ xs) zero x h is all here = (subst (λ z. P (f z)) is here, tt)
+each_take P f (y ∷ xs) (suc i) x h is all here = (all.0, each_take P f xs i x (omega arith) is all.1 here)
 
 -- a filter keeps what holds of each, and adds that the test passed
 pub each_filter : {X : Type 0} (P : X → Type 0) (test : X → Bool) (xs : List X) → Each P xs → Each (λ x. (test x ≡ true) × P x) (filter test xs)
@@ -82,3 +93,26 @@ filter_all f (x ∷ xs) h = rw (h.0, filter_all f xs h.1)
 pub filter_none : {X : Type 0} (f : X → Bool) (xs : List X) → Each (λ x. f x ≡ false) xs → filter f xs ≡ []
 filter_none f [] h = refl
 filter_none f (x ∷ xs) h = rw (h.0, filter_none f xs h.1)
+
+-- how many pass
+pub count_less : {X : Type 0} (f g : X → Bool) (xs : List X) → Each (λ x. f x ≡ true → g x ≡ true) xs → length (filter f xs) ≤ length (filter g xs)
+count_less f g [] h = omega arith
+count_less f g (x ∷ xs) h = elim (cases_Bool (f x)) [
+  | inl e ↦ rw (e, h.0 e) (let more = count_less f g xs h.1 in omega arith)
+  | inr e ↦ elim (cases_Bool (g x)) [ inl s ↦ rw (e, s) (let more = count_less f g xs h.1 in omega arith) | inr s ↦ rw (e, s) (count_less f g xs h.1) ]
+]
+
+-- one more where some element passes the second test alone
+pub count_more : {X : Type 0} (f g : X → Bool) (xs : List X) (z : X) → Each (λ x. f x ≡ true → g x ≡ true) xs → Among xs z → f z ≡ false → g z ≡ true
+    → length (filter f xs) + 1 ≤ length (filter g xs)
+count_more f g [] z h m fails passes = absurd m
+count_more f g (x ∷ xs) z h m fails passes = elim m [
+  | inl e ↦ rw (ap f e ∙ fails, ap g e ∙ passes) (let less = count_less f g xs h.1 in omega arith)
+  | inr m ↦ elim (cases_Bool (f x)) [
+    | inl e ↦ rw (e, h.0 e) (let more = count_more f g xs z h.1 m fails passes in omega arith)
+    | inr e ↦ elim (cases_Bool (g x)) [
+      | inl s ↦ rw (e, s) (let more = count_more f g xs z h.1 m fails passes in omega arith)
+      | inr s ↦ rw (e, s) (count_more f g xs z h.1 m fails passes)
+    ]
+  ]
+]

@@ -89,6 +89,10 @@ pub record Opens (all : List Provider) (asked : Asked) (xs : List Placed) : Type
   pub isolate : isolate asked xs ≡ true
   pub anchor : anchor all asked xs ≡ true
 
+pub open_parts : (all : List Provider) (asked : Asked) (xs : List Placed) → is_open_at all asked xs ≡ true → Opens all asked xs
+unfolding is_open_at
+open_parts all asked xs h = grind arith
+
 pub opens : (all : List Provider) (asked : Asked) (xs : List Placed) → Opens all asked xs → is_open_at all asked xs ≡ true
 unfolding is_open_at
 opens all asked xs o = rw (o.units, o.traits, o.aggregates, o.tree, o.sums, o.isolate, o.anchor) refl

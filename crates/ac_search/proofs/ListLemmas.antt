@@ -84,7 +84,7 @@ among_all_lists n k t h = among_lists n k t h.long (recursion_from_All (λ p. p 
 abbrev IsBelow : ℕ → ℕ → List ℕ → Type 0
 IsBelow n k t = (length t ≡ k) × Each (λ p. p < n) t
 
-each_under : (P : List ℕ → Type 0) (ls : List (List ℕ)) (a m n : ℕ) → a + m ≤ n → ((p : ℕ) → p < n → Each (λ t. P (p ∷ t)) ls)
+pub each_under : (P : List ℕ → Type 0) (ls : List (List ℕ)) (a m n : ℕ) → a + m ≤ n → ((p : ℕ) → p < n → Each (λ t. P (p ∷ t)) ls)
     → Each P (under ls (range_with_len a m))
 each_under P ls a zero n h f = tt
 each_under P ls a (suc m) n h f = each_append P (map (λ t. a ∷ t) ls) (under ls (range_with_len (a + 1) m))

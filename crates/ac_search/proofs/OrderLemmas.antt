@@ -18,9 +18,19 @@ lex_trans (x ∷ xs) [] zs h k = cc
 lex_trans (x ∷ xs) (y ∷ ys) [] h k = cc
 lex_trans (x ∷ xs) (y ∷ ys) (z ∷ zs) h k = grind (arith, nat_tests, lex_trans xs ys zs)
 
+pub lex_total : (xs ys : List ℕ) → lex_lt xs ys ≡ false → lex_lt ys xs ≡ false → xs ≡ ys
+lex_total [] [] h k = refl
+lex_total [] (y ∷ ys) h k = cc
+lex_total (x ∷ xs) [] h k = cc
+lex_total (x ∷ xs) (y ∷ ys) h k = grind (arith, nat_tests, lex_total xs ys)
+
 -- not both ways
 pub lex_asym : (xs ys : List ℕ) → lex_lt xs ys ≡ true → lex_lt ys xs ≡ false
 lex_asym xs ys h = false_from_ne_true _ (λ k. false≢true (sym (lex_irrefl xs) ∙ lex_trans xs ys xs h k))
+
+pub lex_nil : (xs : List ℕ) → lex_lt xs [] ≡ false
+lex_nil [] = refl
+lex_nil (x ∷ xs) = refl
 
 -- where f rises on the items, the lists of its values are ordered alike
 pub lex_map : (f : ℕ → ℕ) (n : ℕ) → ((p q : ℕ) → p < q → q < n → f p < f q) → (xs ys : List ℕ) → Each (λ p. p < n) xs → Each (λ p. p < n) ys

@@ -17,7 +17,7 @@ placed_append [] (p ∷ q) v = refl
 placed_append (s ∷ ss) [] v = refl
 placed_append (s ∷ ss) (p ∷ q) v = ap (λ xs. record { slot = s; provider = p } ∷ xs) (placed_append ss q v)
 
-placed_none : (ss : List Slot) → placed ss [] ≡ []
+pub placed_none : (ss : List Slot) → placed ss [] ≡ []
 placed_none [] = refl
 placed_none (s ∷ ss) = refl
 

@@ -6,7 +6,7 @@ use Rattle.ac_query.specs.Asked.{in_subtree, lists_suffix, Asked, Group, slots_o
 use Rattle.ac_query.proofs.SlotPlaces.{slots_name_groups}
 use Rattle.ac_search.specs.Placed.{slot_at, no_slot}
 
-each_at : {X : Type 0} (P : X → Type 0) (xs : List X) (i : ℕ) (d : X) → Each P xs → i < length xs → P (slice_index_or xs i d)
+pub each_at : {X : Type 0} (P : X → Type 0) (xs : List X) (i : ℕ) (d : X) → Each P xs → i < length xs → P (slice_index_or xs i d)
 each_at P [] i d h k = absurd (omega arith)
 each_at P (x ∷ xs) zero d h k = h.0
 each_at P (x ∷ xs) (suc i) d h k = each_at P xs i d h.1 (omega arith)

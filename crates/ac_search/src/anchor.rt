@@ -15,7 +15,7 @@ use ac_tables::Cloud;
 
 // Whether a provider is a root that has what the query asks of the root.
 #[tactic(auto, using(crate::proofs::AnchorLemmas::available_itself), unfolding(crate::specs::Together::takes_root))]
-fn takes_root(cloud: &Cloud, query: &Query, root: u32) -> bool
+pub(crate) fn takes_root(cloud: &Cloud, query: &Query, root: u32) -> bool
     requires { root < length (providers_of cloud.now) }
     ensures { result ≡ takes_root (providers_of cloud.now) (asked_of query.now) root }
 {

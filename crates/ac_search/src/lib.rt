@@ -5,22 +5,31 @@
 
 mod after;
 mod anchor;
+mod choices;
 mod each;
 mod judging;
 pub mod laws;
+mod least;
+mod ledger;
 mod lists;
+mod marks;
 mod odometer;
+mod open;
 mod own;
 pub mod plain;
+mod rooms;
 mod slots;
 pub mod source;
 mod sums;
 #[cfg(test)]
 mod tests;
+mod trees;
 pub mod verdict;
+pub mod walk;
 mod whole;
 
 pub use judging::verify;
 pub use plain::Plain;
 pub use source::Source;
 pub use verdict::{Rule, Verdict};
+pub use walk::Walk;

@@ -1,6 +1,6 @@
 //! The slots of a query, by their places.
 
-ghost use Rattle.std.specs.Prelude.{◌≡◌, ◌<◌, length, map, get_or, []};
+ghost use Rattle.std.specs.Prelude.{◌≡◌, ◌<◌, ◌≤◌, length, map, get_or, []};
 ghost use Rattle.std.specs.Option.{is_some};
 ghost use Rattle.ac_query.specs.Asked.{slots_of, lists_suffix};
 ghost use Rattle.ac_query.specs.GroupsShown.{need_entry, group_entry};
@@ -12,7 +12,9 @@ use ac_query::{Group, Need, Query};
 
 /// How many slots there are.
 pub(crate) fn count_slots(query: &Query) -> usize
-    ensures { result ≡ length (slots_of (asked_of query.now)) }
+    ensures count { result ≡ length (slots_of (asked_of query.now)) }
+    ensures some { 0 < result }
+    ensures few { result ≤ 64 }
 {
     query.slots().len()
 }

@@ -20,7 +20,7 @@ use ac_tables::Cloud;
 
 // The most of a class that one assignment may take of a provider: `max_unit`, or what is left of the capacity.
 // `None` where it has none of the class, or more is used than there is.
-fn room_at(cloud: &Cloud, ix: u32, class: &ClassName) -> Option<u64>
+pub(crate) fn room_at(cloud: &Cloud, ix: u32, class: &ClassName) -> Option<u64>
     requires { ix < length (providers_of cloud.now) }
     ensures { result ≡ room_in (stock_of (provider_at (providers_of cloud.now) ix) (class_bytes class.now)) (used_of (provider_at (providers_of cloud.now) ix) (class_bytes class.now)) }
 {

@@ -8,6 +8,7 @@ use crate::slots::count_slots;
 use crate::source::Source;
 use crate::verdict::{Rule, Verdict};
 use crate::verify;
+use crate::walk::Walk;
 use ac_base::Id;
 use ac_query::{Query, Token};
 use ac_tables::{Cloud, Sources};
@@ -141,35 +142,18 @@ fn ends(alloc: Global, cloud: &Cloud, list: &[u32]) -> Result<String, AllocError
     Ok(text)
 }
 
-// All lists that a plain source gives, one after another, and then whether it gives `None` twice.
-fn gives(
+// All lists that a source gives, one after another, and then whether it gives `None` twice.
+fn written<S: Source>(
     alloc: Global,
-    rows: Rows,
-    query: &str,
-    after: Option<&str>,
+    cloud: &Cloud,
+    source: &mut S,
     most: u32,
 ) -> Result<String, AllocError> {
     let mut text = String::new(alloc);
-    let Some(cloud) = cloud_of(alloc, rows)? else {
-        return Ok(text);
-    };
-    let Some(query) = query_of(alloc, query)? else {
-        return Ok(text);
-    };
-    let token = match after {
-        Some(ids) => match Token::read(alloc, expanded(alloc, ids)?.as_str(), &query) {
-            Ok(token) => Some(token),
-            Err(_) => return Ok(text),
-        },
-        None => None,
-    };
-    let Ok(mut source) = Plain::new(alloc, &cloud, &query, token.as_ref()) else {
-        return Ok(text);
-    };
     for _ in 0..most {
         match source.next() {
             Some(list) => {
-                text.push_str(ends(alloc, &cloud, list)?.as_str())?;
+                text.push_str(ends(alloc, cloud, list)?.as_str())?;
                 text.push('/')?;
             }
             None => {
@@ -181,6 +165,47 @@ fn gives(
         }
     }
     Ok(text)
+}
+
+fn token_of(alloc: Global, query: &Query, ids: Option<&str>) -> Result<Option<Token>, AllocError> {
+    let Some(ids) = ids else {
+        return Ok(None);
+    };
+    Ok(Token::read(alloc, expanded(alloc, ids)?.as_str(), query).ok())
+}
+
+// What a plain source gives, and a walk too: nothing where they differ.
+fn gives(
+    alloc: Global,
+    rows: Rows,
+    query: &str,
+    after: Option<&str>,
+    most: u32,
+) -> Result<String, AllocError> {
+    let text = String::new(alloc);
+    let Some(cloud) = cloud_of(alloc, rows)? else {
+        return Ok(text);
+    };
+    let Some(query) = query_of(alloc, query)? else {
+        return Ok(text);
+    };
+    let token = token_of(alloc, &query, after)?;
+    if after.is_some() && token.is_none() {
+        return Ok(text);
+    }
+    let Ok(mut plain) = Plain::new(alloc, &cloud, &query, token.as_ref()) else {
+        return Ok(text);
+    };
+    let Ok(mut walk) = Walk::new(alloc, &cloud, &query, token.as_ref()) else {
+        return Ok(text);
+    };
+    let first = written(alloc, &cloud, &mut plain, most)?;
+    let second = written(alloc, &cloud, &mut walk, most)?;
+    if first.as_str() == second.as_str() {
+        Ok(first)
+    } else {
+        Ok(text)
+    }
 }
 
 const NONE: Rows<'static> = Rows {
@@ -305,7 +330,7 @@ const EVEN: Rows<'static> = Rows {
     ..NONE
 };
 
-// The cases say what a plain source gives: the ends of the ids of each list, and a point where `None` comes twice.
+// The cases say what both sources give: the ends of the ids of each list, and a point where `None` comes twice.
 
 #[test]
 fn sums_over_groups(rt: HostRuntime) -> Result<(), Fail> {
@@ -586,5 +611,217 @@ fn tells_the_first_rule_that_is_broken(rt: HostRuntime) -> Result<(), Fail> {
         let got = verdict_of(rt.alloc(), rows, query, ids)?;
         assert!(rt; got == Some(want), "{query} {ids}");
     }
+    Ok(())
+}
+
+// ---- How often a walk tries
+
+// How many tries a walk has made after each call, up to the one that gives `None`.
+fn counted(alloc: Global, walk: &mut Walk, most: u32) -> Result<Vec<u64>, AllocError> {
+    let mut counts = Vec::new(alloc);
+    for _ in 0..most {
+        let ended = walk.next().is_none();
+        counts.push(walk.probes())?;
+        if ended {
+            return Ok(counts);
+        }
+    }
+    Ok(counts)
+}
+
+fn probes(
+    alloc: Global,
+    rows: Rows,
+    query: &str,
+    after: Option<&str>,
+    most: u32,
+) -> Result<Vec<u64>, AllocError> {
+    let none = Vec::new(alloc);
+    let Some(cloud) = cloud_of(alloc, rows)? else {
+        return Ok(none);
+    };
+    let Some(query) = query_of(alloc, query)? else {
+        return Ok(none);
+    };
+    let token = token_of(alloc, &query, after)?;
+    if after.is_some() && token.is_none() {
+        return Ok(none);
+    }
+    let Ok(mut walk) = Walk::new(alloc, &cloud, &query, token.as_ref()) else {
+        return Ok(none);
+    };
+    let counts = counted(alloc, &mut walk, most)?;
+    Ok(counts)
+}
+
+// The ends of the first list of a source.
+fn first_of<S: Source>(alloc: Global, cloud: &Cloud, source: &mut S) -> Result<String, AllocError> {
+    match source.next() {
+        Some(list) => ends(alloc, cloud, list),
+        None => Ok(String::new(alloc)),
+    }
+}
+
+fn first_list(alloc: Global, rows: Rows, query: &str) -> Result<String, AllocError> {
+    let none = String::new(alloc);
+    let Some(cloud) = cloud_of(alloc, rows)? else {
+        return Ok(none);
+    };
+    let Some(query) = query_of(alloc, query)? else {
+        return Ok(none);
+    };
+    let Ok(mut walk) = Walk::new(alloc, &cloud, &query, None) else {
+        return Ok(none);
+    };
+    let list = first_of(alloc, &cloud, &mut walk)?;
+    Ok(list)
+}
+
+// Whether there are as many counts as bounds, each from its least to its most.
+fn are_within(counts: &[u64], bounds: &[(u64, u64)]) -> bool {
+    if counts.len() != bounds.len() {
+        return false;
+    }
+    for (i, count) in counts.iter().enumerate() {
+        if *count < bounds[i].0 || bounds[i].1 < *count {
+            return false;
+        }
+    }
+    true
+}
+
+fn digit(n: u32) -> char {
+    char::from(b'0' + (n % 10) as u8)
+}
+
+// A piece for each number from one to another, with its two digits in the place of each `#`.
+fn repeated(alloc: Global, first: u32, last: u32, piece: &str) -> Result<String, AllocError> {
+    let mut text = String::new(alloc);
+    for n in first..=last {
+        for (place, part) in piece.split('#').enumerate() {
+            if place > 0 {
+                text.push(digit(n / 10))?;
+                text.push(digit(n))?;
+            }
+            text.push_str(part)?;
+        }
+    }
+    Ok(text)
+}
+
+const FULL: &str = "@#,VCPU,8,0,1,8,1,1.0\n";
+
+#[test]
+fn tries_few_providers(rt: HostRuntime) -> Result<(), Fail> {
+    let query = "resources1=VCPU:5&resources2=VCPU:5&group_policy=none";
+    let all = probes(rt.alloc(), PAIR, query, None, 9)?;
+    assert!(rt;
+        are_within(all.as_slice(), &[(1, 4), (2, 6), (2, 6)]),
+        "all"
+    );
+    let later = probes(rt.alloc(), PAIR, query, Some("@01,@02"), 9)?;
+    assert!(rt; are_within(later.as_slice(), &[(1, 6), (1, 6)]), "later");
+    let unknown = probes(rt.alloc(), PAIR, query, Some("@01,@07"), 9)?;
+    assert!(rt;
+        are_within(unknown.as_slice(), &[(1, 6), (1, 6)]),
+        "unknown"
+    );
+    Ok(())
+}
+
+#[test]
+fn tries_nothing_without_a_root(rt: HostRuntime) -> Result<(), Fail> {
+    let query = "resources1=VCPU:5&resources2=VCPU:5&group_policy=none&root_required=CUSTOM_Y";
+    let counts = probes(rt.alloc(), PAIR, query, None, 9)?;
+    assert!(rt; are_within(counts.as_slice(), &[(0, 0)]));
+    Ok(())
+}
+
+#[test]
+fn tries_each_full_root_once(rt: HostRuntime) -> Result<(), Fail> {
+    let alloc = rt.alloc();
+    let providers = repeated(alloc, 1, 20, "@#,@#,\n")?;
+    let inventories = repeated(alloc, 1, 20, FULL)?;
+    let usages = repeated(alloc, 1, 20, "@#,VCPU,8\n")?;
+    let rows = Rows {
+        providers: providers.as_str(),
+        inventories: inventories.as_str(),
+        usages: usages.as_str(),
+        traits: "",
+        aggregates: "",
+    };
+    let mut query = repeated(alloc, 1, 64, "resources#=VCPU:1&")?;
+    query.push_str("group_policy=none")?;
+    let counts = probes(alloc, rows, query.as_str(), None, 9)?;
+    assert!(rt; are_within(counts.as_slice(), &[(0, 20)]));
+    Ok(())
+}
+
+#[test]
+fn tries_no_other_tree(rt: HostRuntime) -> Result<(), Fail> {
+    let alloc = rt.alloc();
+    let providers = repeated(alloc, 1, 20, "@#,@#,\n")?;
+    let inventories = repeated(alloc, 1, 20, FULL)?;
+    let rows = Rows {
+        providers: providers.as_str(),
+        inventories: inventories.as_str(),
+        usages: "",
+        traits: "",
+        aggregates: "",
+    };
+    let query = "resources1=VCPU:1&resources2=VCPU:1&group_policy=none";
+    let mut counts = probes(alloc, rows, query, None, 99)?;
+    assert_eq!(rt; counts.len(), 21);
+    assert_eq!(rt; counts.pop().unwrap_or(0), 40);
+    Ok(())
+}
+
+#[test]
+fn goes_to_the_last_of_many_lists(rt: HostRuntime) -> Result<(), Fail> {
+    let alloc = rt.alloc();
+    let mut providers = expanded(alloc, "@01,@01,\n")?;
+    providers.push_str(repeated(alloc, 2, 40, "@#,@01,@01\n")?.as_str())?;
+    let inventories = repeated(alloc, 1, 40, FULL)?;
+    let rows = Rows {
+        providers: providers.as_str(),
+        inventories: inventories.as_str(),
+        usages: "",
+        traits: "",
+        aggregates: "",
+    };
+    let query = "resources1=VCPU:1&resources2=VCPU:1&resources3=VCPU:1&group_policy=none";
+    let all = probes(alloc, rows, query, None, 70_000)?;
+    assert_eq!(rt; all.len(), 64_001);
+    let none = probes(alloc, rows, query, Some("@40,@40,@40"), 9)?;
+    assert!(rt; are_within(none.as_slice(), &[(0, 120)]));
+    Ok(())
+}
+
+#[test]
+fn fills_one_provider_after_another(rt: HostRuntime) -> Result<(), Fail> {
+    let alloc = rt.alloc();
+    let mut providers = expanded(alloc, "@01,@01,\n")?;
+    providers.push_str(repeated(alloc, 2, 8, "@#,@01,@01\n")?.as_str())?;
+    let inventories = repeated(alloc, 1, 8, FULL)?;
+    let rows = Rows {
+        providers: providers.as_str(),
+        inventories: inventories.as_str(),
+        usages: "",
+        traits: "",
+        aggregates: "",
+    };
+    let mut query = repeated(alloc, 1, 64, "resources#=VCPU:1&")?;
+    query.push_str("group_policy=none")?;
+    let list = first_list(alloc, rows, query.as_str())?;
+    let want = repeated(alloc, 1, 8, "# # # # # # # # ")?;
+    assert_eq!(rt; list.as_str(), want.as_str());
+    let first = probes(alloc, rows, query.as_str(), None, 1)?;
+    assert!(rt; are_within(first.as_slice(), &[(64, 512)]), "first");
+    let mut last = repeated(alloc, 8, 8, "@#,@#,@#,@#,@#,@#,@#,@#")?;
+    for n in 1..8 {
+        last.push_str(repeated(alloc, 8 - n, 8 - n, ",@#,@#,@#,@#,@#,@#,@#,@#")?.as_str())?;
+    }
+    let none = probes(alloc, rows, query.as_str(), Some(last.as_str()), 9)?;
+    assert!(rt; are_within(none.as_slice(), &[(0, 512)]), "none");
     Ok(())
 }

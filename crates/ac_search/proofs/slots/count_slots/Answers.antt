@@ -5,7 +5,7 @@ use Rattle.ac_query.specs.QueriesShown.{asked_of}
 use Rattle.ac_query.specs.SlotsShown.{slot_group}
 use Rattle.ac_search.proofs.slots.count_slots.Goals as goal
 
-pub returns : goal.returns
-returns c =
+pub returns-clause-count : goal.returns-clause-count
+returns-clause-count c =
     let slots = slots_of (asked_of c.args.query.now) in
     sym (length-map c.slots.result.now slot_group) ∙ (ap length c.slots.ensures.groups ∙ length-map slots (λ s. s.place))

@@ -13,4 +13,4 @@ returns c =
     let asked = asked_of c.args.query.now in
     let x = option_map (λ ids. ids.items) c.in_ok-after.after in
     ap (chosen all asked x) c.in_ok-lists.ensures.left
-    ∙ (chosen_all all asked x c.len.result c.count_slots.result c.len.ensures c.count_slots.ensures ∙ ap (rest all asked) c.in_ok-after.ensures)
+    ∙ (chosen_all all asked x c.len.result c.count_slots.result c.len.ensures c.count_slots.ensures.count ∙ ap (rest all asked) c.in_ok-after.ensures)

@@ -1,0 +1,77 @@
+-- A walk ends: each step raises the front that it tries next, and there are finitely many fronts.
+use Rattle.std.proofs.Common.{◌≡◌, ℕ, ◌+◌, ◌-◌, ◌<◌, ◌≤◌, ◌^◌, suc, true, List, [], ◌∷◌, length, take, None, Some, inl, inr, sym, ◌∙◌, subst, arith, length-append, length-take-le}
+use Rattle.std.specs.List.{filter, slice_index, AllByRecursion as Each}
+use Rattle.std.proofs.lemmas.Bool.{cases_lt, not_from_false, not_from_true, not-true, false_from_ne_true, false≢true}
+use Rattle.std.proofs.lemmas.List.{get_or_past}
+use Rattle.ac_search.specs.Order.{lex_lt}
+use Rattle.ac_search.specs.Search.{Search, all_shorter, choices_at, next_at, from}
+use Rattle.ac_search.specs.WalkShown.{search_in, front_in, left_of, IsSame}
+use Rattle.ac_search.specs.Steps.{Goes, Gives, Ends}
+use Rattle.ac_search.specs.declared.walk.Walk.{Walk}
+use Rattle.ac_search.proofs.Elements.{each_append, each_weaker, each_all, count_more}
+use Rattle.ac_search.proofs.OrderLemmas.{lex_irrefl, lex_trans}
+use Rattle.ac_search.proofs.ShorterLemmas.{among_all_shorter}
+use Rattle.ac_search.proofs.SoughtLemmas.{low_at}
+use Rattle.ac_search.proofs.MoveLemmas.{path_low}
+use Rattle.ac_search.proofs.StepLemmas.{laws_in, search_same, same_then, bounded_then}
+
+-- how many fronts from c on there are
+unfoldable pub fronts_from : Search → List ℕ → ℕ
+fronts_from m c = length (filter (λ t. from c t) (all_shorter (suc m.count) (suc m.width)))
+
+abbrev pub remaining : Walk → ℕ
+remaining w = fronts_from (search_in w) (front_in w)
+
+front_low : (w : Walk) → Each (λ p. p < suc (search_in w).count) (front_in w)
+front_low w =
+    let m = search_in w in
+    let n = m.count in
+    let j = slice_index w.places.items w.depth in
+    let last : next_at m w.depth j < suc n = elim (cases_lt j (length (choices_at m w.depth))) [
+      | inl l ↦ let low = low_at m (laws_in w) w.depth j w.sound.within l in omega arith
+      | inr g ↦ rw (get_or_past (choices_at m w.depth) j n g) (omega arith)
+    ] in
+    each_append (λ p. p < suc n) (take w.depth w.path.items) (next_at m w.depth j ∷ [])
+    (each_weaker (λ p. p < n) (λ p. p < suc n) (take w.depth w.path.items) (λ p l. omega arith)
+    (path_low m (laws_in w) w.least.items w.path.items w.places.items w.depth w.seeking w.probes w.sound))
+    (last, tt)
+
+fronts_fall : (w : Walk) (c : List ℕ) → lex_lt (front_in w) c ≡ true → fronts_from (search_in w) c < remaining w
+unfolding fronts_from
+fronts_fall w c up =
+    let m = search_in w in
+    let nodes = all_shorter (suc m.count) (suc m.width) in
+    let size : length (front_in w) < suc m.width =
+    omega (arith, length-append (take w.depth w.path.items) (next_at m w.depth (slice_index w.places.items w.depth) ∷ []), length-take-le w.depth w.path.items (omega (arith, w.sound.path_len, w.sound.within)), w.sound.within) in
+    let more : length (filter (λ t. from c t) nodes) + 1 ≤ length (filter (λ t. from (front_in w) t) nodes) = count_more (λ t. from c t) (λ t. from (front_in w) t) nodes (front_in w)
+    (each_all (λ u. from c u ≡ true → from (front_in w) u ≡ true) nodes (λ u e. not_from_false _ (false_from_ne_true _ (λ b. false≢true (sym (not-true _ e) ∙ lex_trans u (front_in w) c b up)))))
+    (among_all_shorter (suc m.count) (suc m.width) (front_in w) size (front_low w))
+    (not_from_true _ up) (not_from_false _ (lex_irrefl (front_in w))) in
+    omega arith
+
+-- each step leaves fewer
+pub remaining_falls : (w v : Walk) → Goes w v → remaining v < remaining w
+remaining_falls w v g = subst (λ (m : Search). fronts_from m (front_in v) < remaining w) (sym (search_same w v g.same)) (fronts_fall w (front_in v) g.up)
+
+-- what several steps keep
+pub record Comes (old new : Walk) : Type 0 where
+  pub same : IsSame old new
+  pub left : left_of new ≡ left_of old
+  pub kept : old.probes ≤ new.probes
+
+pub comes_more : (w u v : Walk) → Comes w u → Goes u v → Comes w v
+comes_more w u v a b = record { same = same_then w u v a.same b.same; left = b.left ∙ a.left; kept = omega (arith, a.kept, b.kept) }
+
+pub gives_then : (w u v : Walk) → Comes w u → Gives u v → Gives w v
+gives_then w u v a b = record {
+  head = sym a.left ∙ b.head;
+  bounds = bounded_then w u v (Some v.path.items) a.same b.bounds;
+  kept = omega (arith, a.kept, b.kept);
+  rises = λ h. elim (cases_lt u.probes (2 ^ 64 - 1)) [
+    | inl l ↦ let rise = b.rises l in let come = a.kept in omega arith
+    | inr g ↦ let come = b.kept in omega arith
+  ];
+}
+
+pub ends_then : (w u v : Walk) → Comes w u → Ends u v → Ends w v
+ends_then w u v a b = record { nothing = sym a.left ∙ b.nothing; none = b.none; bounds = bounded_then w u v None a.same b.bounds; kept = omega (arith, a.kept, b.kept) }

@@ -1,0 +1,121 @@
+-- A walk passes over choices that lead to no open list: no try is made, and nothing that is left is lost.
+use Rattle.std.proofs.Common.{◌≡◌, ℕ, ◌+◌, ◌<◌, ◌≤◌, ◌-◌, zero, suc, Bool, true, false, List, [], ◌∷◌, ◌++◌, length, take, set, None, Some, refl, sym, ◌∙◌, subst, arith, get_or-set_same, slice_index_or, length-append, length-take-le}
+use Rattle.std.specs.List.{slice_index}
+use Rattle.std.proofs.lemmas.List.{set-set, get_or_default}
+use Rattle.ac_tables.specs.World.{Provider, is_available_at}
+use Rattle.ac_search.specs.Accounts.{providers_in, asked_in}
+use Rattle.ac_search.specs.Keys.{IsHome}
+use Rattle.ac_search.specs.Trees.{IsByTree}
+use Rattle.ac_search.specs.declared.trees.ByTree.{ByTree}
+use Rattle.ac_search.specs.Order.{lex_lt}
+use Rattle.ac_search.specs.Search.{Search, choices_at, next_at, next_front, left_from, IsSound}
+use Rattle.ac_search.specs.WalkShown.{search_in, front_in}
+use Rattle.ac_search.specs.Steps.{Passes, StepGives, Goes, Gives, Ends}
+use Rattle.ac_search.specs.declared.walk.Walk.{Walk}
+use Rattle.ac_search.specs.declared.walk.Step.{Step}
+use Rattle.ac_search.specs.declared.walk.Step.TheVariants.{Given, Went, Ended}
+use Rattle.ac_search.proofs.OrderLemmas.{lex_trans, lex_irrefl}
+use Rattle.ac_search.proofs.FrontOrder.{lex_le_trans}
+use Rattle.ac_search.proofs.SoughtLemmas.{IsSearch}
+use Rattle.ac_search.proofs.MoveLemmas.{sound_next, forward_next}
+use Rattle.ac_search.proofs.TryLemmas.{left_closed}
+use Rattle.ac_search.proofs.StepLemmas.{laws_in, same_then, bounded_then}
+use Rattle.ac_search.proofs.TreeLemmas.{elsewhere_closed}
+
+-- at place j of depth d it stands as it stood
+pub record StandsAt (m : Search) (x path places : List ℕ) (d j probes : ℕ) : Type 0 where
+  pub sound : IsSound m x path (set places d j) d false probes
+  pub left : left_from m x (next_front m path (set places d j) d) ≡ left_from m x (next_front m path places d)
+  pub up : lex_lt (next_front m path places d) (next_front m path (set places d j) d) ≡ true
+
+-- n choices and one more are passed over
+pub passes_over : (m : Search) → IsSearch m → (x path places : List ℕ) (d : ℕ) (seeking : Bool) (probes n j : ℕ) → IsSound m x path places d seeking probes
+    → j ≡ slice_index places d + suc n → j ≤ length (choices_at m d)
+    → ((i : ℕ) → slice_index places d ≤ i → i < j → m.is_open (take d path ++ next_at m d i ∷ []) ≡ false)
+    → StandsAt m x path places d j probes
+passes_over m laws x path places d seeking probes zero j s is within closed =
+    let here : slice_index places d < length (choices_at m d) = omega (arith, is, within) in
+    let next : j ≡ slice_index places d + 1 = omega (arith, is) in
+    rw next (record {
+      sound = sound_next m laws x path path places d seeking probes probes s here refl refl (omega arith);
+      left = left_closed m laws x path places d seeking probes s here (closed (slice_index places d) (omega arith) (omega (arith, is)));
+      up = forward_next m laws path places d (omega (arith, s.places_len, s.within)) s.within here;
+    })
+passes_over m laws x path places d seeking probes (suc n) j s is within closed =
+    let p = slice_index places d in
+    let here : p < length (choices_at m d) = omega (arith, is, within) in
+    let next = set places d (p + 1) in
+    let there : slice_index next d ≡ p + 1 = get_or-set_same places d (p + 1) 0 (omega (arith, s.places_len, s.within)) in
+    let one = sound_next m laws x path path places d seeking probes probes s here refl refl (omega arith) in
+    let more = passes_over m laws x path next d false probes n j one (omega (arith, is, there)) within (λ i a b. closed i (omega (arith, a, there)) b) in
+    let same : set next d j ≡ set places d j = set-set places d (p + 1) j in
+    let up = forward_next m laws path places d (omega (arith, s.places_len, s.within)) s.within here in
+    record {
+      sound = subst (λ (l : List ℕ). IsSound m x path l d false probes) same more.sound;
+      left = subst (λ (l : List ℕ). left_from m x (next_front m path l d) ≡ left_from m x (next_front m path next d)) same more.left
+          ∙ left_closed m laws x path places d seeking probes s here (closed p (omega arith) (omega (arith, is)));
+      up = lex_trans (next_front m path places d) (next_front m path next d) (next_front m path (set places d j) d) up
+          (subst (λ (l : List ℕ). lex_lt (next_front m path next d) (next_front m path l d) ≡ true) same more.up);
+    }
+
+-- ---- A step after it
+
+goes_passed : (w u v : Walk) → Passes w u → Goes u v → Goes w v
+goes_passed w u v a b = record {
+  same = same_then w u v a.same b.same;
+  left = b.left ∙ a.left;
+  up = lex_le_trans (front_in w) (front_in u) (front_in v) a.up b.up;
+  kept = omega (arith, a.probes, b.kept);
+}
+
+gives_passed : (w u v : Walk) → Passes w u → Gives u v → Gives w v
+gives_passed w u v a b = record {
+  head = sym a.left ∙ b.head;
+  bounds = bounded_then w u v (Some v.path.items) a.same b.bounds;
+  kept = omega (arith, a.probes, b.kept);
+  rises = λ h. let rise : u.probes < v.probes = b.rises (omega (arith, a.probes, h)) in omega (arith, a.probes);
+}
+
+ends_passed : (w u v : Walk) → Passes w u → Ends u v → Ends w v
+ends_passed w u v a b = record { nothing = sym a.left ∙ b.nothing; none = b.none; bounds = bounded_then w u v None a.same b.bounds; kept = omega (arith, a.probes, b.kept) }
+
+pub step_passed : (r : Step) (w u v : Walk) → Passes w u → StepGives r u v → StepGives r w v
+step_passed Given w u v a b = gives_passed w u v a b
+step_passed Went w u v a b = goes_passed w u v a b
+step_passed Ended w u v a b = ends_passed w u v a b
+
+-- where nothing is passed over
+pub passes_none : (w : Walk) → Passes w w
+passes_none w = record { same = record { cloud = refl; query = refl; least = refl }; left = refl; up = lex_irrefl (front_in w); probes = refl }
+
+-- ---- Choices of other trees
+
+-- the choices of the slot at which a walk stands, by tree
+pub tree_at : (w : Walk) (b : ByTree) → b ≡ slice_index_or w.trees.items w.depth b → IsByTree (providers_in w.ledger) (choices_at (search_in w) w.depth) b
+unfolding choices_at
+tree_at w b is =
+    subst (IsByTree (providers_in w.ledger) (slice_index_or (search_in w).choices w.depth [])) (sym is)
+    (w.by_tree.each w.depth b (omega (arith, (laws_in w).slots, w.sound.within)))
+
+-- what isn't available at the root to which its path is bound leads on to no open list
+pub others_closed : (w : Walk) (root i : ℕ) → IsHome (providers_in w.ledger) (take w.depth w.path.items) root → i < length (choices_at (search_in w) w.depth)
+    → is_available_at (providers_in w.ledger) (slice_index (choices_at (search_in w) w.depth) i) root ≡ false
+    → (search_in w).is_open (take w.depth w.path.items ++ next_at (search_in w) w.depth i ∷ []) ≡ false
+others_closed w root i home inside away =
+    let m = search_in w in
+    let q = take w.depth w.path.items in
+    let p = next_at m w.depth i in
+    let same : slice_index (choices_at m w.depth) i ≡ p = get_or_default (choices_at m w.depth) i 0 m.count inside in
+    elsewhere_closed (providers_in w.ledger) (asked_in w.ledger) q p root home (subst (λ (r : ℕ). is_available_at (providers_in w.ledger) r root ≡ false) same away)
+    (omega (arith, length-append q (p ∷ []), length-take-le w.depth w.path.items (omega (arith, w.sound.path_len, w.sound.within)), w.sound.within))
+
+-- it stands at the next place that its tree has
+pub stands_next : (w : Walk) (root place next : ℕ) (b : ByTree) → IsHome (providers_in w.ledger) (take w.depth w.path.items) root → place ≡ slice_index w.places.items w.depth
+    → b ≡ slice_index_or w.trees.items w.depth b → place < next → next ≤ length b.keys.items
+    → ((all : List Provider) (choices : List ℕ) → IsByTree all choices b → root < length all → (i : ℕ) → place ≤ i → i < next → is_available_at all (slice_index choices i) root ≡ false)
+    → StandsAt (search_in w) w.least.items w.path.items w.places.items w.depth next w.probes
+stands_next w root place next b home is of later within passed =
+    let m = search_in w in
+    let tree = tree_at w b of in
+    passes_over m (laws_in w) w.least.items w.path.items w.places.items w.depth w.seeking w.probes (next - suc place) next w.sound (omega (arith, later, is)) (omega (arith, within, tree.count))
+    (λ i from less. others_closed w root i home (omega (arith, less, within, tree.count)) (passed (providers_in w.ledger) (choices_at m w.depth) tree home.provider i (omega (arith, from, is)) less))

@@ -1,0 +1,12 @@
+use Rattle.std.proofs.Common.{◌≡◌, ◌∙◌, map, ap, ap₂, arith}
+use Rattle.ac_search.specs.Left.{ask_pair, room_pair, row_of, suffices}
+use Rattle.ac_search.proofs.RowLemmas.{row_is}
+use Rattle.ac_search.proofs.LedgerLemmas.{asks_at}
+use Rattle.ac_search.proofs.ledger.Ledger.has_enough.Goals as goal
+
+pub returns : goal.returns
+returns c =
+    let l = c.args.self.now in
+    let row : map room_pair c.deref.result.now ≡ row_of l.rows.items c.args.ix =
+    ap (map room_pair) c.deref.ensures.value ∙ row_is l.rows.items c.args.ix c.index.result.now (omega (arith, c.requires.provider, l.as_many)) c.index.ensures in
+    c.suffices.ensures ∙ ap₂ suffices row (ap (map ask_pair) c.deref-2.ensures.value ∙ asks_at l c.args.s c.index-2.result.now c.requires.slot c.index-2.ensures)

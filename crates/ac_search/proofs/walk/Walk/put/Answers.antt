@@ -1,0 +1,16 @@
+use Rattle.std.proofs.Common.{sym, subst}
+use Rattle.std.proofs.lemmas.List.{take-set}
+use Rattle.ac_search.specs.Accounts.{Accounts}
+use Rattle.ac_search.specs.WalkShown.{search_in}
+use Rattle.ac_search.proofs.MoveLemmas.{sound_put}
+use Rattle.ac_search.proofs.walk.Walk.put.Goals as goal
+
+pub invariant_of-self : goal.invariant_of-self
+invariant_of-self c =
+    let w = c.args.self.now in
+    record {
+      listed = w.listed;
+      by_tree = w.by_tree;
+      accounted = subst (Accounts w.ledger) (sym (take-set w.path.items w.depth c.args.provider)) w.accounted;
+      sound = sound_put (search_in w) w.least.items w.path.items w.places.items w.depth c.args.provider w.seeking w.probes w.sound;
+    }

@@ -1,0 +1,28 @@
+use Rattle.std.proofs.Common.{◌≡◌, true, List, ℕ, take, ap, sym, ◌∙◌, subst}
+use Rattle.std.specs.List.{list_all}
+use Rattle.ac_search.specs.Placed.{assigned}
+use Rattle.ac_search.specs.Judge.{is_open}
+use Rattle.ac_search.specs.QuerySearch.{fits}
+use Rattle.ac_search.specs.Accounts.{providers_in, asked_in}
+use Rattle.ac_search.proofs.PathLemmas.{IsPut, put_low, front_put, front_fits, path_opens}
+use Rattle.ac_search.proofs.walk.Walk.stays_open.Goals as goal
+
+pub admits-requires-clause-provider : goal.admits-requires-clause-provider
+admits-requires-clause-provider c = put_low c.args.self.now c.index.result.now (record { among = c.requires.among; put = c.requires.put }) c.index.ensures
+
+pub admits-requires-clause-own : goal.admits-requires-clause-own
+admits-requires-clause-own c =
+    let w = c.args.self.now in
+    let put : IsPut w = record { among = c.requires.among; put = c.requires.put } in
+    subst (λ (u : List ℕ). list_all (λ x. fits (providers_in w.ledger) x) (assigned (asked_in w.ledger) u) ≡ true)
+    (front_put w c.deref.result.now c.index.result.now c.deref.ensures.value c.index.ensures) (front_fits w put)
+
+pub admits-requires-clause-open : goal.admits-requires-clause-open
+admits-requires-clause-open c =
+    let w = c.args.self.now in
+    subst (λ (l : List ℕ). is_open (providers_in w.ledger) (asked_in w.ledger) (take w.depth l) ≡ true) (sym c.deref.ensures.value) (path_opens w c.requires.among)
+
+pub returns : goal.returns
+returns c =
+    let w = c.args.self.now in
+    c.admits.ensures ∙ ap (is_open (providers_in w.ledger) (asked_in w.ledger)) (sym (front_put w c.deref.result.now c.index.result.now c.deref.ensures.value c.index.ensures))

@@ -1,0 +1,31 @@
+-- Which providers are taken by slots that stand apart, and at how many providers of a front a root is available.
+use Rattle.std.specs.Prelude.{◌≡◌, ℕ, ◌+◌, ◌<◌, Bool, ◌&&◌, ◌==◌, if◌then◌else◌, List, [], ◌∷◌, length, slice_index}
+use Rattle.ac_query.specs.Asked.{Asked, Slot, is_isolated}
+use Rattle.ac_tables.specs.World.{Provider, is_available_at}
+use Rattle.ac_search.specs.Placed.{Placed}
+use Rattle.ac_search.specs.Together.{is_set_apart}
+
+-- a slot that needs a provider for itself among its like
+abbrev pub needs_own : Asked → Slot → Bool
+needs_own asked slot = is_isolated asked && is_set_apart slot
+
+-- how many of those have a provider
+abbrev pub marks_at : Asked → List Placed → ℕ → ℕ
+marks_at asked [] p = 0
+marks_at asked (x ∷ xs) p = (if needs_own asked x.slot && (x.provider == p) then 1 else 0) + marks_at asked xs p
+
+abbrev pub AreMarks : List Provider → Asked → List ℕ → List Placed → Type 0
+AreMarks all asked marks xs = (p : ℕ) → p < length all → slice_index marks p ≡ marks_at asked xs p
+
+-- how often a number is in a list
+abbrev pub times : ℕ → List ℕ → ℕ
+times r [] = 0
+times r (x ∷ xs) = (if x == r then 1 else 0) + times r xs
+
+-- how many of some providers are available in the tree of a root
+abbrev pub hits_at : List Provider → List ℕ → ℕ → ℕ
+hits_at all [] r = 0
+hits_at all (p ∷ q) r = (if is_available_at all p r then 1 else 0) + hits_at all q r
+
+abbrev pub AreHits : List Provider → List ℕ → List ℕ → Type 0
+AreHits all hits q = (r : ℕ) → r < length all → slice_index hits r ≡ hits_at all q r

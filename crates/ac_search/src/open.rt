@@ -1,0 +1,50 @@
+//! Open lists: what the front of a candidate must meet already, and what only the whole list is asked.
+
+ghost use Rattle.std.specs.Prelude.{◌≡◌, ◌<◌, ◌≤◌, true, length};
+ghost use Rattle.std.specs.List.{All, list_all};
+ghost use Rattle.ac_tables.specs.CloudWorld.{providers_of};
+ghost use Rattle.ac_query.specs.Asked.{slots_of};
+ghost use Rattle.ac_query.specs.QueriesShown.{asked_of};
+ghost use Rattle.ac_search.specs.Placed.{placed_at, assigned};
+ghost use Rattle.ac_search.specs.Judge.{is_open};
+ghost use Rattle.ac_search.specs.QuerySearch.{fits, completes};
+
+use crate::anchor::has_anchor;
+use crate::own::{has_aggregates, has_slot_traits, has_units, is_in_tree};
+use crate::sums::have_room;
+use crate::whole::{are_collective, are_isolated, have_tops};
+use ac_query::Query;
+use ac_tables::Cloud;
+
+/// Whether a provider meets the rules of a slot alone.
+#[tactic(auto, unfolding(crate::specs::QuerySearch::fits))]
+pub(crate) fn fits_slot(cloud: &Cloud, query: &Query, s: usize, ix: u32) -> bool
+    requires slot { s < length (slots_of (asked_of query.now)) }
+    requires provider { ix < length (providers_of cloud.now) }
+    ensures { result ≡ fits (providers_of cloud.now) (placed_at (asked_of query.now) s ix) }
+{
+    has_units(cloud, query, s, ix)
+        && has_slot_traits(cloud, query, s, ix)
+        && has_aggregates(cloud, query, s, ix)
+        && is_in_tree(cloud, query, s, ix)
+}
+
+/// Whether a list, each of whose providers meets the rules of its slot alone, is open.
+#[tactic(auto, using(crate::proofs::OpenLemmas::open_together))]
+pub(crate) fn is_open(cloud: &Cloud, query: &Query, front: &[u32]) -> bool
+    requires slots { length front.now ≤ length (slots_of (asked_of query.now)) }
+    requires providers { All (λ p. p < length (providers_of cloud.now)) front.now }
+    requires own { list_all (λ x. fits (providers_of cloud.now) x) (assigned (asked_of query.now) front.now) ≡ true }
+    ensures { result ≡ is_open (providers_of cloud.now) (asked_of query.now) front.now }
+{
+    have_room(cloud, query, front) && are_isolated(query, front) && has_anchor(cloud, query, front)
+}
+
+/// Whether a list meets what isn't asked of its fronts.
+pub(crate) fn completes(cloud: &Cloud, query: &Query, list: &[u32]) -> bool
+    requires slots { length list.now ≤ length (slots_of (asked_of query.now)) }
+    requires providers { All (λ p. p < length (providers_of cloud.now)) list.now }
+    ensures { result ≡ completes (providers_of cloud.now) (asked_of query.now) list.now }
+{
+    are_collective(cloud, query, list) && have_tops(cloud, query, list)
+}

@@ -1,0 +1,340 @@
+ghost use Rattle.std.specs.Prelude.{◌≡◌, ◌+◌, ◌-◌, ◌<◌, ◌≤◌, ◌^◌, ◌++◌, ◌∷◌, [], length, map, take, true, suc, MatchOption, IsTrue, IfOk, ◌↔◌, slice_index, slice_set};
+ghost use Rattle.std.specs.Bool.{MatchBool};
+ghost use Rattle.std.specs.Option.{option_map};
+ghost use Rattle.ac_tables.specs.CloudWorld.{providers_of};
+ghost use Rattle.ac_query.specs.Asked.{slots_of};
+ghost use Rattle.ac_query.specs.QueriesShown.{asked_of};
+ghost use Rattle.ac_query.specs.Tokens as tokens;
+ghost use Rattle.ac_search.specs.Accounts.{providers_in, asked_in, Accounts};
+ghost use Rattle.ac_search.specs.Judge.{is_open};
+ghost use Rattle.ac_search.specs.Pages.{rest};
+ghost use Rattle.ac_search.specs.Search.{IsSound, IsStart, Enters, HasAt, least_at, choices_at, next_at};
+ghost use Rattle.ac_search.specs.QuerySearch.{choices_of, search_of, completes, least_of};
+ghost use Rattle.ac_search.specs.Trees.{AreByTree};
+
+use crate::choices::all_choices;
+use crate::least::least_of;
+use crate::ledger::Ledger;
+use crate::open::completes;
+use crate::slots::count_slots;
+use crate::source::Source;
+use crate::trees::{ByTree, home_of};
+use ac_base::NoMemory;
+use ac_query::{Query, Token};
+use ac_tables::Cloud;
+use std::alloc::Global;
+
+/// What one step came to.
+#[derive(Clone, Copy)]
+enum Step {
+    /// The path is the next candidate.
+    Given,
+    /// There is more to try.
+    Went,
+    /// Nothing is left to try.
+    Ended,
+}
+
+/// Goes through the candidates over one path of providers, slot by slot, and leaves a path as soon as it isn't open.
+#[derive(Drop)]
+pub struct Walk<'a> {
+    // What the providers of the path take of the cloud.
+    ledger: Ledger<'a>,
+    // The least list of places that comes after the token.
+    least: Vec<u32>,
+    // The providers that each slot may have by its own rules.
+    choices: Vec<Vec<u32>>,
+    // The same by tree.
+    trees: Vec<ByTree>,
+    // The providers so far, as many as the depth says, and where each stands among the choices of its slot.
+    path: Vec<u32>,
+    places: Vec<usize>,
+    depth: usize,
+    // Whether the path is a front of the least list.
+    seeking: bool,
+    probes: u64,
+    ghost listed: { map (λ v. v.items) choices.items ≡ choices_of (providers_in ledger) (asked_in ledger) },
+    ghost by_tree: { AreByTree (providers_in ledger) (choices_of (providers_in ledger) (asked_in ledger)) trees.items },
+    ghost sound: { IsSound (search_of (providers_in ledger) (asked_in ledger)) least.items path.items places.items depth seeking probes },
+    ghost accounted: { Accounts ledger (take depth path.items) },
+}
+
+impl<'a> Walk<'a> {
+    ghost use Rattle.ac_search.specs.WalkShown.{search_in, front_in, left_of, least_in, probes_in, IsSame};
+    ghost use Rattle.ac_search.specs.Steps.{Passes, StepGives, Goes, Gives, Ends};
+
+    /// Begins with the first candidate after the ids of a token, or with the first of all. It takes all its memory
+    /// here; `next` takes none.
+    pub fn new(
+        alloc: Global,
+        cloud: &'a Cloud,
+        query: &'a Query,
+        after: Option<&Token>,
+    ) -> Result<Walk<'a>, NoMemory>
+        ensures left { IfOk result (λ walk. ⟦<Walk<'a> as Source>⟧.left walk ≡ rest (providers_of cloud.now) (asked_of query.now) (option_map (λ t. tokens.ids_of t.now) after.entry)) }
+        ensures search { IfOk result (λ walk. search_in walk ≡ search_of (providers_of cloud.now) (asked_of query.now)) }
+        ensures least { IfOk result (λ walk. least_in walk ≡ least_of (providers_of cloud.now) (length (slots_of (asked_of query.now))) (option_map (λ t. tokens.ids_of t.now) after.entry)) }
+        ensures probes { IfOk result (λ walk. probes_in walk ≡ 0) }
+    {
+        let width = count_slots(query);
+        let least = least_of(alloc, cloud, after, width)?;
+        let choices = all_choices(alloc, cloud, query)?;
+        let trees = ByTree::of_slots(alloc, cloud, &choices)?;
+        let ledger = Ledger::new(alloc, cloud, query)?;
+        let path = vec![in alloc; 0u32; width]?;
+        let mut places = vec![in alloc; 0usize; width]?;
+        places[0] = start_of(&choices[0], &least, 0);
+        Ok(Walk {
+            ledger,
+            least,
+            choices,
+            trees,
+            path,
+            places,
+            depth: 0,
+            seeking: true,
+            probes: 0,
+        })
+    }
+
+    /// How many providers it has tried behind a path.
+    pub fn probes(&self) -> u64
+        ensures { result ≡ probes_in self.now }
+    {
+        self.probes
+    }
+
+    // The next provider to try, where the slot has one more.
+    fn choice(&self) -> Option<u32>
+        ensures { MatchOption result (length (choices_at (search_in self.now) self.now.depth) ≤ slice_index self.now.places.items self.now.depth) (λ p. (slice_index self.now.places.items self.now.depth < length (choices_at (search_in self.now) self.now.depth)) × (p ≡ next_at (search_in self.now) self.now.depth (slice_index self.now.places.items self.now.depth))) }
+    {
+        let choices = &self.choices[self.depth];
+        let place = self.places[self.depth];
+        if place < choices.len() {
+            Some(choices[place])
+        } else {
+            None
+        }
+    }
+
+    // Writes the provider that is tried behind the path.
+    fn put(&mut self, provider: u32)
+        ensures same { IsSame self.old self.new }
+        ensures path { self.new.path.items ≡ slice_set self.old.path.items self.old.depth provider }
+        ensures places { self.new.places.items ≡ self.old.places.items }
+        ensures depth { self.new.depth ≡ self.old.depth }
+        ensures probes { self.new.probes ≡ self.old.probes }
+    {
+        self.path[self.depth] = provider;
+    }
+
+    // Whether the path is open with the provider that is put behind it.
+    fn stays_open(&self) -> bool
+        requires among { slice_index self.now.places.items self.now.depth < length (choices_at (search_in self.now) self.now.depth) }
+        requires put { slice_index self.now.path.items self.now.depth ≡ next_at (search_in self.now) self.now.depth (slice_index self.now.places.items self.now.depth) }
+        ensures { result ≡ is_open (providers_in self.now.ledger) (asked_in self.now.ledger) (take (suc self.now.depth) self.now.path.items) }
+    {
+        self.ledger
+            .admits(&self.path[..self.depth], self.path[self.depth])
+    }
+
+    // Whether the whole path meets what isn't asked of its fronts.
+    fn is_complete(&self) -> bool
+        requires among { slice_index self.now.places.items self.now.depth < length (choices_at (search_in self.now) self.now.depth) }
+        requires put { slice_index self.now.path.items self.now.depth ≡ next_at (search_in self.now) self.now.depth (slice_index self.now.places.items self.now.depth) }
+        requires last { suc self.now.depth ≡ (search_in self.now).width }
+        ensures { result ≡ completes (providers_in self.now.ledger) (asked_in self.now.ledger) self.now.path.items }
+    {
+        completes(self.ledger.cloud, self.ledger.query, self.path.as_slice())
+    }
+
+    // Goes on to the next choice of the slot.
+    fn skip(&mut self)
+        requires { slice_index self.old.places.items self.old.depth < length (choices_at (search_in self.old) self.old.depth) }
+        ensures same { IsSame self.old self.new }
+        ensures path { self.new.path.items ≡ self.old.path.items }
+        ensures depth { self.new.depth ≡ self.old.depth }
+        ensures places { self.new.places.items ≡ slice_set self.old.places.items self.old.depth (slice_index self.old.places.items self.old.depth + 1) }
+        ensures kept { self.old.probes ≤ self.new.probes }
+        ensures rises { self.old.probes < 2 ^ 64 - 1 → self.old.probes < self.new.probes }
+    {
+        self.probes = one_more(self.probes);
+        self.places[self.depth] += 1;
+        self.seeking = false;
+    }
+
+    // Where the next slot begins behind a provider, and whether the path is a front of the least list there.
+    fn entry(&self, provider: u32) -> (usize, bool)
+        requires among { slice_index self.now.places.items self.now.depth < length (choices_at (search_in self.now) self.now.depth) }
+        requires next { provider ≡ next_at (search_in self.now) self.now.depth (slice_index self.now.places.items self.now.depth) }
+        requires short { suc self.now.depth < (search_in self.now).width }
+        ensures within { result.0 ≤ length (choices_at (search_in self.now) (suc self.now.depth)) }
+        ensures enters { Enters (search_in self.now) self.now.least.items (take self.now.depth self.now.path.items ++ provider ∷ []) (suc self.now.depth) result.0 result.1 }
+        ensures seeks { result.1 ≡ true → take self.now.depth self.now.path.items ++ provider ∷ [] ≡ take (suc self.now.depth) self.now.least.items }
+    {
+        if self.seeking {
+            if has_at(&self.least, self.depth, provider) {
+                let next = self.depth + 1;
+                let start = start_of(&self.choices[next], &self.least, next);
+                return (start, true);
+            }
+        }
+        (0, false)
+    }
+
+    // Goes down behind the provider that is put.
+    fn place(&mut self)
+        requires among { slice_index self.old.places.items self.old.depth < length (choices_at (search_in self.old) self.old.depth) }
+        requires put { slice_index self.old.path.items self.old.depth ≡ next_at (search_in self.old) self.old.depth (slice_index self.old.places.items self.old.depth) }
+        requires opens { is_open (providers_in self.old.ledger) (asked_in self.old.ledger) (take (suc self.old.depth) self.old.path.items) ≡ true }
+        requires short { suc self.old.depth < (search_in self.old).width }
+        ensures { Goes self.old self.new }
+    {
+        let depth = self.depth;
+        let provider = self.path[depth];
+        let (start, seeking) = self.entry(provider);
+        self.ledger.take(&self.path[..depth], provider);
+        self.places[depth + 1] = start;
+        self.depth = depth + 1;
+        self.seeking = seeking;
+        self.probes = one_more(self.probes);
+    }
+
+    // Takes the last provider of the path back, and goes on to the next choice there.
+    fn take_back(&mut self)
+        requires deep { 0 < self.old.depth }
+        requires end { length (choices_at (search_in self.old) self.old.depth) ≤ slice_index self.old.places.items self.old.depth }
+        ensures { Goes self.old self.new }
+    {
+        let depth = self.depth - 1;
+        self.ledger.give_back(&self.path[..depth], self.path[depth]);
+        self.places[depth] += 1;
+        self.depth = depth;
+        self.seeking = false;
+    }
+
+    // Tries a provider behind the path.
+    fn probe(&mut self, provider: u32) -> Step
+        requires among { slice_index self.old.places.items self.old.depth < length (choices_at (search_in self.old) self.old.depth) }
+        requires next { provider ≡ next_at (search_in self.old) self.old.depth (slice_index self.old.places.items self.old.depth) }
+        ensures { StepGives result self.old self.new }
+    {
+        self.put(provider);
+        if !self.stays_open() {
+            self.skip();
+            return Step::Went;
+        }
+        if self.depth + 1 < self.path.len() {
+            self.place();
+            return Step::Went;
+        }
+        let complete = self.is_complete();
+        self.skip();
+        if complete { Step::Given } else { Step::Went }
+    }
+
+    // Leaves a slot whose choices are at their end.
+    fn leave(&mut self) -> Step
+        requires { length (choices_at (search_in self.old) self.old.depth) ≤ slice_index self.old.places.items self.old.depth }
+        ensures { StepGives result self.old self.new }
+    {
+        if self.depth == 0 {
+            return Step::Ended;
+        }
+        self.take_back();
+        Step::Went
+    }
+
+    // Passes over choices that can't be available in the one tree to which the path is bound.
+    fn pass(&mut self)
+        ensures { Passes self.old self.new }
+    {
+        let depth = self.depth;
+        if let Some(root) = home_of(self.ledger.cloud, &self.path[..depth]) {
+            let place = self.places[depth];
+            let next = self.trees[depth].next(root, place);
+            if next > place {
+                self.places[depth] = next;
+                self.seeking = false;
+            }
+        }
+    }
+
+    fn step(&mut self) -> Step
+        ensures { StepGives result self.old self.new }
+    {
+        self.pass();
+        match self.choice() {
+            Some(provider) => self.probe(provider),
+            None => self.leave(),
+        }
+    }
+
+    // Goes on to the next candidate, where there is one.
+    fn advance(&mut self) -> bool
+        ensures { MatchBool result (Gives self.old self.new) (Ends self.old self.new) }
+    {
+        'steps: loop {
+            match self.step() {
+                Step::Given => return true,
+                Step::Ended => return false,
+                Step::Went => {}
+            }
+        }
+    }
+}
+
+impl<'a> Source for Walk<'a> {
+    ghost use Rattle.ac_search.specs.WalkShown.{left_of, Tries};
+
+    ghost left = { left_of };
+
+    ghost moves = { Tries };
+
+    fn next(&mut self) -> Option<&[u32]> {
+        if self.advance() {
+            Some(self.path.as_slice())
+        } else {
+            None
+        }
+    }
+}
+
+// A count and one more; it stays where it can't rise.
+fn one_more(count: u64) -> u64
+    ensures most { result ≤ count + 1 }
+    ensures kept { count ≤ result }
+    ensures rises { count < 2 ^ 64 - 1 → count < result }
+{
+    count.saturating_add(1)
+}
+
+// Whether a list has a number at a place.
+fn has_at(list: &[u32], place: usize, number: u32) -> bool
+    ensures { IsTrue result ↔ HasAt list.now place number }
+{
+    place < list.len() && list[place] == number
+}
+
+// The first place of a list whose number isn't below the least.
+fn first_from(list: &[u32], least: u32) -> usize
+    ensures { IsStart list.now least result }
+{
+    for (i, number) in list.iter().enumerate() {
+        if *number >= least {
+            return i;
+        }
+    }
+    list.len()
+}
+
+// Where the choices at a depth begin, while the path is a front of the least list.
+fn start_of(choices: &[u32], least: &[u32], depth: usize) -> usize
+    ensures { IsStart choices.now (least_at least.now depth) result }
+{
+    if depth < least.len() {
+        first_from(choices, least[depth])
+    } else {
+        0
+    }
+}
