@@ -1,8 +1,10 @@
 -- Sets of names as lists of their bytes.
 use Rattle.std.proofs.Common.{◌≡◌, ℕ, Bool, true, false, ◌||◌, List, [], ◌∷◌, map, refl, sym, ap, ap₂, ◌∙◌}
 use Rattle.std.specs.declared.cmp.Ordering.{Ordering}
+use Rattle.std.specs.declared.cmp.Ordering.TheVariants.{Less}
 use Rattle.std.specs.Ordering.{is_eq}
-use Rattle.std.specs.List.{list_any}
+use Rattle.std.specs.List.{list_any, AllByRecursion}
+use Rattle.std.specs.List.Sorted.{IsStrictlySortedBy}
 use Rattle.std.specs.BTreeMap.{is_at}
 use Rattle.std.specs.Cmp.Lexicographic.{texts_ties}
 use Rattle.ac_base.specs.Texts.{text_cmp}
@@ -10,11 +12,25 @@ use Rattle.std.specs.BTreeSet.{insert_key}
 use Rattle.ac_base.proofs.ShownKeys.{insert_key_shown}
 use Rattle.ac_query.specs.Texts.{has_text, in_order_with}
 
+pub one_rises : (t : List ℕ) → IsStrictlySortedBy text_cmp (t ∷ [])
+unfolding IsStrictlySortedBy
+one_rises t = (tt, tt)
+
 module _ {K : Type 0} (f : K → List ℕ) (cmp : K → K → Ordering) (same : (a b : K) → cmp a b ≡ text_cmp (f a) (f b)) where
   -- whether a set has a name
   pub contains_text : (ks : List K) (k : K) → list_any (is_at (cmp k)) ks ≡ has_text (map f ks) (f k)
   contains_text [] k = refl
   contains_text (x ∷ xs) k = ap₂ (λ a b. a || b) (ap is_eq (same k x) ∙ sym (texts_ties (f k) (f x))) (contains_text xs k)
+
+  -- names in order are texts in order
+  below_shown : (k : K) (ks : List K) → AllByRecursion (λ x. cmp k x ≡ Less) ks → AllByRecursion (λ t. text_cmp (f k) t ≡ Less) (map f ks)
+  below_shown k [] h = tt
+  below_shown k (x ∷ xs) h = (sym (same k x) ∙ h.0, below_shown k xs h.1)
+
+  pub rising_shown : (ks : List K) → IsStrictlySortedBy cmp ks → IsStrictlySortedBy text_cmp (map f ks)
+  unfolding IsStrictlySortedBy
+  rising_shown [] h = tt
+  rising_shown (k ∷ ks) h = (below_shown k ks h.0, rising_shown ks h.1)
 
   -- one more of the names that are added to a set, as a copy
   pub adds_copy : (have new left rest : List K) (x y : K) (whole : List (List ℕ)) → left ≡ x ∷ rest → new ≡ insert_key cmp have y → f y ≡ f x

@@ -150,6 +150,15 @@ module _ (gs : List (Option (List ℕ) × Group)) (have more : List rust.Slot) (
 pub shown_read : {X Y : Type 0} (f : X → Y) (xs : List X) (i : ℕ) (x : X) → i < length (map f xs) → x ≡ get_or xs i x → slice_get (map f xs) i ≡ Some (f x)
 shown_read f xs i x l is = slice_get-map f xs i ∙ ap (option_map f) (slice_get_read xs (length xs) i x refl (omega (arith, length-map xs f)) is)
 
+-- the slot of a whole group needs what the group needs
+pub needs_whole : (i : ℕ) (c : Option ℕ) (e : Option (List ℕ) × Group) (o : Option (Option (List ℕ) × Group)) (s : Option Slot) → c ≡ None → o ≡ Some e → option_and_then (slot_in i c) o ≡ s → IsSome s
+    → Some e.1.needs ≡ option_map (λ s. s.needs) s
+needs_whole i c e o s whole is shown there = by_suffix e (sym (ap₂ (λ d p. option_and_then (slot_in i d) p) whole is) ∙ shown)
+  where
+    by_suffix : (e : Option (List ℕ) × Group) → slot_in i None e ≡ s → Some e.1.needs ≡ option_map (λ s. s.needs) s
+    by_suffix (None, g) k = let none : IsSome (slot_in i None (None, g)) = subst IsSome (sym k) there in absurd (cc)
+    by_suffix (Some t, g) k = ap (option_map (λ s. s.needs)) k
+
 -- a slot that is there
 pub slot_there : (ss : List Slot) (s : ℕ) (o : Option Slot) → s < length ss → o ≡ slice_get ss s → IsSome o
 slot_there ss s o l is = ap is_some is ∙ there ss s l

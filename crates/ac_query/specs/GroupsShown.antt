@@ -8,9 +8,13 @@ use Rattle.ac_query.specs.declared.group.Group as rust
 use Rattle.ac_query.specs.Values.{AggregateRule}
 use Rattle.ac_query.specs.Asked.{Group}
 
+-- the class of a need
+abbrev pub need_class : Need → List ℕ
+need_class n = class_bytes n.class
+
 -- a need as its class and its amount
 abbrev pub need_entry : Need → List ℕ × ℕ
-need_entry n = (class_bytes n.class, n.amount.count)
+need_entry n = (need_class n, n.amount.count)
 
 abbrev pub rule_shown : rule.AggregateRule → AggregateRule
 rule_shown r = record { forbids = r.forbids; ids = r.ids.items }

@@ -1,10 +1,12 @@
 ghost use Rattle.std.specs.Prelude.{◌≡◌, ◌<◌, ◌≤◌, map, length, sum_by, Some, IsSome};
 ghost use Rattle.std.specs.List.{slice_get};
+ghost use Rattle.std.specs.List.Sorted.{IsStrictlySortedBy};
 ghost use Rattle.std.specs.Option.{option_map};
 ghost use Rattle.ac_base.specs.Names.{trait_bytes};
+ghost use Rattle.ac_base.specs.Texts.{text_cmp};
 ghost use Rattle.ac_query.specs.Asked.{slots_of, is_isolated, in_subtree};
 ghost use Rattle.ac_query.specs.Faults.{entry_count};
-ghost use Rattle.ac_query.specs.GroupsShown.{need_entry, group_entry};
+ghost use Rattle.ac_query.specs.GroupsShown.{need_class, need_entry, group_entry};
 ghost use Rattle.ac_query.specs.SlotsShown.{slot_group, slot_shown};
 ghost use Rattle.ac_query.specs.QueriesShown.{asked_of};
 
@@ -41,10 +43,11 @@ impl Query {
         self.slots[s]
     }
 
-    /// What a slot needs: its one class, or all classes of its group.
+    /// What a slot needs: its one class, or all classes of its group, in byte order, each once.
     pub fn slot_needs(&self, s: usize) -> &[Need]
         requires { s < length (slots_of (asked_of self.now)) }
-        ensures { Some (map need_entry result.now) ≡ option_map (λ slot. slot.needs) (slice_get (slots_of (asked_of self.now)) s) }
+        ensures needs { Some (map need_entry result.now) ≡ option_map (λ slot. slot.needs) (slice_get (slots_of (asked_of self.now)) s) }
+        ensures rising { IsStrictlySortedBy text_cmp (map need_class result.now) }
     {
         let slot = self.slot(s);
         let needs = self.groups[slot.group].needs();

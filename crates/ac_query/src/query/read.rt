@@ -1,6 +1,8 @@
 ghost use Rattle.std.specs.Prelude.{◌≡◌, ◌+◌, ◌++◌, IfOk, OnOk, IfErr, IfSome, None, Some, map};
 ghost use Rattle.std.specs.Option.{option_map};
+ghost use Rattle.std.specs.List.Sorted.{IsStrictlySortedBy};
 ghost use Rattle.ac_base.specs.Names.{trait_bytes, suffix_bytes};
+ghost use Rattle.ac_base.specs.Texts.{text_cmp};
 ghost use Rattle.ac_query.specs.Asked.{slots_from};
 ghost use Rattle.ac_query.specs.Asks.{Asks};
 ghost use Rattle.ac_query.specs.Gathered.{asked_by};
@@ -9,7 +11,7 @@ ghost use Rattle.ac_query.specs.Faults.{first_fault, asked_conditions, query_fau
 ghost use Rattle.ac_query.specs.FaultsShown.{fault_shown};
 ghost use Rattle.ac_query.specs.Shown.{needs_shown, names_shown};
 ghost use Rattle.ac_query.specs.DraftShown.{group_drafted, plain_shown, suffixed_shown, draft_asked};
-ghost use Rattle.ac_query.specs.GroupsShown.{need_entry, group_entry};
+ghost use Rattle.ac_query.specs.GroupsShown.{need_class, need_entry, group_entry};
 ghost use Rattle.ac_query.specs.SlotsShown.{slot_shown, slots_at};
 ghost use Rattle.ac_query.specs.QueriesShown.{asked_of};
 
@@ -39,7 +41,8 @@ fn names_in_order(alloc: Global, names: BTreeSet<TraitName>) -> Result<Vec<Trait
 
 /// The needs of a map, classes in byte order.
 fn needs_in_order(alloc: Global, needs: BTreeMap<ClassName, Amount>) -> Result<Vec<Need>, NoMemory>
-    ensures { IfOk result (λ list. map need_entry list.items ≡ needs_shown needs) }
+    ensures needs { IfOk result (λ list. map need_entry list.items ≡ needs_shown needs) }
+    ensures rising { IfOk result (λ list. IsStrictlySortedBy text_cmp (map need_class list.items)) }
 {
     let mut list = Vec::new(alloc);
     for (class, amount) in needs {

@@ -1,0 +1,88 @@
+//! What groups, needs and aggregate rules give.
+ghost use Rattle.std.specs.Prelude.{◌≡◌, ◌<◌, ◌≤◌, map};
+ghost use Rattle.std.specs.List.Sorted.{IsStrictlySortedBy};
+ghost use Rattle.std.specs.Option.{option_map};
+ghost use Rattle.ac_base.specs.Names.{class_bytes, trait_bytes, suffix_bytes};
+ghost use Rattle.ac_base.specs.Texts.{text_cmp};
+ghost use Rattle.ac_query.specs.GroupsShown.{need_class, need_entry, rule_shown, suffix_of, group_asked};
+
+use super::{AggregateRule, Group, Need};
+use ac_base::{ClassName, Id, Suffix, TraitName};
+
+impl Need {
+    pub fn class(&self) -> &ClassName
+        ensures { class_bytes result.now ≡ need_class self.now }
+    {
+        &self.class
+    }
+
+    /// The amount, 1 to 2147483647.
+    pub fn amount(&self) -> u32
+        ensures value { result ≡ (need_entry self.now).1 }
+        ensures positive { 0 < result }
+        ensures small { result ≤ 2147483647 }
+    {
+        self.amount.count
+    }
+}
+
+impl AggregateRule {
+    /// Whether none of the aggregates may be the provider's.
+    pub fn forbids(&self) -> bool
+        ensures { result ≡ (rule_shown self.now).forbids }
+    {
+        self.forbids
+    }
+
+    /// The aggregates, as written.
+    pub fn ids(&self) -> &[Id]
+        ensures { result.now ≡ (rule_shown self.now).ids }
+    {
+        self.ids.as_slice()
+    }
+}
+
+impl Group {
+    /// The suffix; the unsuffixed group has none.
+    pub fn suffix(&self) -> Option<&Suffix>
+        ensures { option_map (λ s. suffix_bytes s.now) result ≡ suffix_of self.now }
+    {
+        self.suffix.as_ref()
+    }
+
+    /// What it needs, classes in byte order, each once.
+    pub fn needs(&self) -> &[Need]
+        ensures needs { map need_entry result.now ≡ (group_asked self.now).needs }
+        ensures rising { IsStrictlySortedBy text_cmp (map need_class result.now) }
+    {
+        self.needs.as_slice()
+    }
+
+    /// The traits that it requires, in byte order, each once.
+    pub fn required(&self) -> &[TraitName]
+        ensures { map trait_bytes result.now ≡ (group_asked self.now).required }
+    {
+        self.required.as_slice()
+    }
+
+    /// The traits that it forbids, in byte order, each once.
+    pub fn forbidden(&self) -> &[TraitName]
+        ensures { map trait_bytes result.now ≡ (group_asked self.now).forbidden }
+    {
+        self.forbidden.as_slice()
+    }
+
+    /// Its aggregate rules, in the order of their pairs.
+    pub fn member_of(&self) -> &[AggregateRule]
+        ensures { map rule_shown result.now ≡ (group_asked self.now).member_of }
+    {
+        self.member_of.as_slice()
+    }
+
+    /// The tree that its providers are to be in, by one of its providers.
+    pub fn in_tree(&self) -> Option<Id>
+        ensures { result ≡ (group_asked self.now).in_tree }
+    {
+        self.in_tree
+    }
+}
