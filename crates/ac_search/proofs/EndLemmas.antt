@@ -1,16 +1,23 @@
 -- A walk ends: each step raises the front that it tries next, and there are finitely many fronts.
-use Rattle.std.proofs.Common.{◌≡◌, ℕ, ◌+◌, ◌-◌, ◌<◌, ◌≤◌, ◌^◌, suc, true, List, [], ◌∷◌, length, take, None, Some, inl, inr, sym, ◌∙◌, subst, arith, length-append, length-take-le}
+use Rattle.std.proofs.Common.{◌≡◌, ℕ, ◌+◌, ◌-◌, ◌*◌, ◌<◌, ◌≤◌, ◌^◌, suc, true, List, [], ◌∷◌, length, take, Option, None, Some, IsSome, inl, inr, sym, ap, ◌∙◌, subst, arith, length-append, length-take-le}
 use Rattle.std.specs.List.{filter, slice_index, AllByRecursion as Each}
 use Rattle.std.proofs.lemmas.Bool.{cases_lt, not_from_false, not_from_true, not-true, false_from_ne_true, false≢true}
 use Rattle.std.proofs.lemmas.List.{get_or_past}
+use Rattle.std.specs.Option.{option_map}
+use Rattle.ac_base.specs.Devices.{Rises}
+use Rattle.ac_query.specs.QueriesShown.{asked_of}
+use Rattle.ac_tables.specs.CloudWorld.{providers_of}
+use Rattle.ac_tables.proofs.ProvidersStated.{cloud_in_order}
 use Rattle.ac_search.specs.Order.{lex_lt}
-use Rattle.ac_search.specs.Search.{Search, all_shorter, choices_at, next_at, from}
-use Rattle.ac_search.specs.WalkShown.{search_in, front_in, left_of, IsSame}
-use Rattle.ac_search.specs.Steps.{Goes, Gives, Ends}
+use Rattle.ac_search.specs.Search.{Search, all_shorter, choices_at, next_at, from, between}
+use Rattle.ac_search.specs.QuerySearch.{open_between}
+use Rattle.ac_search.specs.WalkShown.{cloud_in, query_in, token_in, search_in, front_in, left_of, IsSame, Tries}
+use Rattle.ac_search.specs.Steps.{Goes, Gives, Ends, IsBounded, Advances, Finishes}
 use Rattle.ac_search.specs.declared.walk.Walk.{Walk}
 use Rattle.ac_search.proofs.Elements.{each_append, each_weaker, each_all, count_more}
 use Rattle.ac_search.proofs.OrderLemmas.{lex_irrefl, lex_trans}
 use Rattle.ac_search.proofs.ShorterLemmas.{among_all_shorter}
+use Rattle.ac_search.proofs.IdsLemmas.{between_by_ids}
 use Rattle.ac_search.proofs.SoughtLemmas.{low_at}
 use Rattle.ac_search.proofs.MoveLemmas.{path_low}
 use Rattle.ac_search.proofs.StepLemmas.{laws_in, search_same, same_then, bounded_then}
@@ -62,7 +69,21 @@ pub record Comes (old new : Walk) : Type 0 where
 pub comes_more : (w u v : Walk) → Comes w u → Goes u v → Comes w v
 comes_more w u v a b = record { same = same_then w u v a.same b.same; left = b.left ∙ a.left; kept = omega (arith, a.kept, b.kept) }
 
-pub gives_then : (w u v : Walk) → Comes w u → Gives u v → Gives w v
+-- its tries, told by the ids of its token
+tries_told : (w v : Walk) (y : Option (List ℕ)) → IsBounded w y v → w.probes ≤ v.probes → (IsSome y → Rises w.probes v.probes) → Tries w y v
+tries_told w v y bounds kept rises =
+    let least : between (search_in w) w.least.items y ≡ open_between (cloud_in w) (query_in w) (token_in w) y =
+    ap (λ (x : List ℕ). between (search_in w) x y) w.resumed ∙ between_by_ids (cloud_in w) (cloud_in_order w.ledger.cloud.now).order (query_in w) (token_in w) y in
+    record {
+      cloud = ap (λ c. providers_of c.now) bounds.same.cloud;
+      query = ap (λ q. asked_of q.now) bounds.same.query;
+      token = ap (λ ids. option_map (λ v. v.items) ids) bounds.same.after;
+      bounded = subst (λ (ls : List (List ℕ)). v.probes ≤ length (cloud_in w) * length ls) least bounds.bounded;
+      kept = kept;
+      rises = rises;
+    }
+
+gives_then : (w u v : Walk) → Comes w u → Gives u v → Gives w v
 gives_then w u v a b = record {
   head = sym a.left ∙ b.head;
   bounds = bounded_then w u v (Some v.path.items) a.same b.bounds;
@@ -73,5 +94,16 @@ gives_then w u v a b = record {
   ];
 }
 
-pub ends_then : (w u v : Walk) → Comes w u → Ends u v → Ends w v
+ends_then : (w u v : Walk) → Comes w u → Ends u v → Ends w v
 ends_then w u v a b = record { nothing = sym a.left ∙ b.nothing; none = b.none; bounds = bounded_then w u v None a.same b.bounds; kept = omega (arith, a.kept, b.kept) }
+
+-- what one step gives after those before it
+pub advances : (w u v : Walk) → Comes w u → Gives u v → Advances w v
+advances w u v a b =
+    let g = gives_then w u v a b in
+    record { head = g.head; tries = tries_told w v (Some v.path.items) g.bounds g.kept (λ _. g.rises) }
+
+pub finishes : (w u v : Walk) → Comes w u → Ends u v → Finishes w v
+finishes w u v a b =
+    let e = ends_then w u v a b in
+    record { nothing = e.nothing; none = e.none; tries = tries_told w v None e.bounds e.kept (λ some. absurd (cc)) }

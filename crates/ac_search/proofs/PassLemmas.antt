@@ -86,7 +86,7 @@ step_passed Ended w u v a b = ends_passed w u v a b
 
 -- where nothing is passed over
 pub passes_none : (w : Walk) → Passes w w
-passes_none w = record { same = record { cloud = refl; query = refl; least = refl }; left = refl; up = lex_irrefl (front_in w); probes = refl }
+passes_none w = record { same = record { cloud = refl; query = refl; after = refl; least = refl }; left = refl; up = lex_irrefl (front_in w); probes = refl }
 
 -- ---- Choices of other trees
 

@@ -1,20 +1,33 @@
 -- What a walk does as a step: it puts a number behind its path, and skips a choice.
-use Rattle.std.proofs.Common.{◌≡◌, ℕ, ◌+◌, ◌*◌, ◌<◌, ◌≤◌, suc, true, List, [], ◌∷◌, ◌++◌, length, take, set, Option, Some, refl, sym, ap, ◌∙◌, subst, arith}
+use Rattle.std.proofs.Common.{◌≡◌, ℕ, ◌+◌, ◌*◌, ◌<◌, ◌≤◌, suc, true, List, [], ◌∷◌, ◌++◌, length, take, set, Option, Some, refl, sym, ap, ◌∙◌, subst, arith, nat_lt, inl, inr}
 use Rattle.std.specs.List.{slice_index}
 use Rattle.std.proofs.lemmas.List.{take-set}
+use Rattle.std.proofs.lemmas.Bool.{cases_Bool}
+use Rattle.std.proofs.lemmas.Bool.Decides.{nat_tests}
+use Rattle.ac_base.specs.Devices.{last_count, one_more, Rises}
 use Rattle.ac_query.specs.QueriesShown.{asked_of}
 use Rattle.ac_tables.specs.CloudWorld.{providers_of}
 use Rattle.ac_tables.specs.declared.cloud.Cloud.{Cloud}
 use Rattle.ac_tables.proofs.CloudFacts.{size}
 use Rattle.ac_search.specs.Order.{lex_lt}
 use Rattle.ac_search.specs.Search.{Search, choices_at, next_at, next_front, left_from, between}
-use Rattle.ac_search.specs.WalkShown.{search_in, front_in, left_of, IsSame, IsBounded}
-use Rattle.ac_search.specs.Steps.{Goes, Gives}
+use Rattle.ac_search.specs.WalkShown.{search_in, front_in, left_of, IsSame}
+use Rattle.ac_search.specs.Steps.{Goes, Gives, IsBounded}
 use Rattle.ac_search.specs.declared.walk.Walk.{Walk}
 use Rattle.ac_search.proofs.SoughtLemmas.{IsSearch}
 use Rattle.ac_search.proofs.OpenLemmas.{is_search}
 use Rattle.ac_search.proofs.MoveLemmas.{forward_next}
 use Rattle.ac_search.proofs.TryLemmas.{counted_given, whole_front}
+
+-- one more try: it stays, or rises by one
+pub one_more_kept : (n : ℕ) → n ≤ one_more n
+one_more_kept n = elim (cases_Bool (nat_lt n last_count)) [ inl e ↦ rw e (omega arith) | inr e ↦ rw e (omega arith) ]
+
+pub one_more_most : (n : ℕ) → one_more n ≤ n + 1
+one_more_most n = elim (cases_Bool (nat_lt n last_count)) [ inl e ↦ rw e (omega arith) | inr e ↦ rw e (omega arith) ]
+
+pub one_more_rises : (n : ℕ) → Rises n (one_more n)
+one_more_rises n = λ l. elim (cases_Bool (nat_lt n last_count)) [ inl e ↦ rw e (omega arith) | inr e ↦ grind (arith, nat_tests) ]
 
 -- a cloud has few providers
 pub few_providers : (cloud : Cloud) → length (providers_of cloud) ≤ 65536
@@ -27,7 +40,7 @@ pub search_same : (w v : Walk) → IsSame w v → search_in v ≡ search_in w
 search_same w v s = rw (s.cloud, s.query) refl
 
 pub same_then : (w u v : Walk) → IsSame w u → IsSame u v → IsSame w v
-same_then w u v a b = record { cloud = b.cloud ∙ a.cloud; query = b.query ∙ a.query; least = b.least ∙ a.least }
+same_then w u v a b = record { cloud = b.cloud ∙ a.cloud; query = b.query ∙ a.query; after = b.after ∙ a.after; least = b.least ∙ a.least }
 
 -- a front of the same walk leaves the same
 pub left_same : (w v : Walk) (c : List ℕ) → IsSame w v → front_in v ≡ c → left_of v ≡ left_from (search_in w) w.least.items c

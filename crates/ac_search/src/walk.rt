@@ -1,6 +1,7 @@
-ghost use Rattle.std.specs.Prelude.{◌≡◌, ◌+◌, ◌-◌, ◌<◌, ◌≤◌, ◌^◌, ◌++◌, ◌∷◌, [], length, map, take, true, suc, MatchOption, IsTrue, IfOk, ◌↔◌, slice_index, slice_set};
+ghost use Rattle.std.specs.Prelude.{◌≡◌, ◌+◌, ◌<◌, ◌≤◌, ◌++◌, ◌∷◌, [], length, map, take, true, suc, MatchOption, IsTrue, IfOk, ◌↔◌, slice_index, slice_set};
 ghost use Rattle.std.specs.Bool.{MatchBool};
 ghost use Rattle.std.specs.Option.{option_map};
+ghost use Rattle.ac_base.specs.Devices.{one_more};
 ghost use Rattle.ac_tables.specs.CloudWorld.{providers_of};
 ghost use Rattle.ac_query.specs.Asked.{slots_of};
 ghost use Rattle.ac_query.specs.QueriesShown.{asked_of};
@@ -19,7 +20,7 @@ use crate::open::completes;
 use crate::slots::count_slots;
 use crate::source::Source;
 use crate::trees::{ByTree, home_of};
-use ac_base::NoMemory;
+use ac_base::{Id, NoMemory};
 use ac_query::{Query, Token};
 use ac_tables::Cloud;
 use std::alloc::Global;
@@ -40,7 +41,8 @@ enum Step {
 pub struct Walk<'a> {
     // What the providers of the path take of the cloud.
     ledger: Ledger<'a>,
-    // The least list of places that comes after the token.
+    // The ids of the token, and the least list of places that comes after them.
+    after: Option<Vec<Id>>,
     least: Vec<u32>,
     // The providers that each slot may have by its own rules.
     choices: Vec<Vec<u32>>,
@@ -53,6 +55,7 @@ pub struct Walk<'a> {
     // Whether the path is a front of the least list.
     seeking: bool,
     probes: u64,
+    ghost resumed: { least.items ≡ least_of (providers_in ledger) (length (slots_of (asked_in ledger))) (option_map (λ ids. ids.items) after) },
     ghost listed: { map (λ v. v.items) choices.items ≡ choices_of (providers_in ledger) (asked_in ledger) },
     ghost by_tree: { AreByTree (providers_in ledger) (choices_of (providers_in ledger) (asked_in ledger)) trees.items },
     ghost sound: { IsSound (search_of (providers_in ledger) (asked_in ledger)) least.items path.items places.items depth seeking probes },
@@ -60,8 +63,8 @@ pub struct Walk<'a> {
 }
 
 impl<'a> Walk<'a> {
-    ghost use Rattle.ac_search.specs.WalkShown.{search_in, front_in, left_of, least_in, probes_in, IsSame};
-    ghost use Rattle.ac_search.specs.Steps.{Passes, StepGives, Goes, Gives, Ends};
+    ghost use Rattle.ac_search.specs.WalkShown.{cloud_in, query_in, token_in, probes_in, search_in, IsSame};
+    ghost use Rattle.ac_search.specs.Steps.{Passes, StepGives, Goes, Advances, Finishes};
 
     /// Begins with the first candidate after the ids of a token, or with the first of all. It takes all its memory
     /// here; `next` takes none.
@@ -72,12 +75,14 @@ impl<'a> Walk<'a> {
         after: Option<&Token>,
     ) -> Result<Walk<'a>, NoMemory>
         ensures left { IfOk result (λ walk. ⟦<Walk<'a> as Source>⟧.left walk ≡ rest (providers_of cloud.now) (asked_of query.now) (option_map (λ t. tokens.ids_of t.now) after.entry)) }
-        ensures search { IfOk result (λ walk. search_in walk ≡ search_of (providers_of cloud.now) (asked_of query.now)) }
-        ensures least { IfOk result (λ walk. least_in walk ≡ least_of (providers_of cloud.now) (length (slots_of (asked_of query.now))) (option_map (λ t. tokens.ids_of t.now) after.entry)) }
+        ensures cloud { IfOk result (λ walk. cloud_in walk ≡ providers_of cloud.now) }
+        ensures query { IfOk result (λ walk. query_in walk ≡ asked_of query.now) }
+        ensures token { IfOk result (λ walk. token_in walk ≡ option_map (λ t. tokens.ids_of t.now) after.entry) }
         ensures probes { IfOk result (λ walk. probes_in walk ≡ 0) }
     {
         let width = count_slots(query);
         let least = least_of(alloc, cloud, after, width)?;
+        let after = ids_of(alloc, after)?;
         let choices = all_choices(alloc, cloud, query)?;
         let trees = ByTree::of_slots(alloc, cloud, &choices)?;
         let ledger = Ledger::new(alloc, cloud, query)?;
@@ -86,6 +91,7 @@ impl<'a> Walk<'a> {
         places[0] = start_of(&choices[0], &least, 0);
         Ok(Walk {
             ledger,
+            after,
             least,
             choices,
             trees,
@@ -148,17 +154,17 @@ impl<'a> Walk<'a> {
         completes(self.ledger.cloud, self.ledger.query, self.path.as_slice())
     }
 
-    // Goes on to the next choice of the slot.
-    fn skip(&mut self)
-        requires { slice_index self.old.places.items self.old.depth < length (choices_at (search_in self.old) self.old.depth) }
+    // Goes on to the next choice of the slot, after so many tries.
+    fn skip(&mut self, tries: u64)
+        requires among { slice_index self.old.places.items self.old.depth < length (choices_at (search_in self.old) self.old.depth) }
+        requires tried { tries ≤ self.old.probes + 1 }
         ensures same { IsSame self.old self.new }
         ensures path { self.new.path.items ≡ self.old.path.items }
         ensures depth { self.new.depth ≡ self.old.depth }
         ensures places { self.new.places.items ≡ slice_set self.old.places.items self.old.depth (slice_index self.old.places.items self.old.depth + 1) }
-        ensures kept { self.old.probes ≤ self.new.probes }
-        ensures rises { self.old.probes < 2 ^ 64 - 1 → self.old.probes < self.new.probes }
+        ensures probes { self.new.probes ≡ tries }
     {
-        self.probes = one_more(self.probes);
+        self.probes = tries;
         self.places[self.depth] += 1;
         self.seeking = false;
     }
@@ -182,13 +188,16 @@ impl<'a> Walk<'a> {
         (0, false)
     }
 
-    // Goes down behind the provider that is put.
-    fn place(&mut self)
+    // Goes down behind the provider that is put, after so many tries.
+    fn place(&mut self, tries: u64)
         requires among { slice_index self.old.places.items self.old.depth < length (choices_at (search_in self.old) self.old.depth) }
         requires put { slice_index self.old.path.items self.old.depth ≡ next_at (search_in self.old) self.old.depth (slice_index self.old.places.items self.old.depth) }
         requires opens { is_open (providers_in self.old.ledger) (asked_in self.old.ledger) (take (suc self.old.depth) self.old.path.items) ≡ true }
         requires short { suc self.old.depth < (search_in self.old).width }
-        ensures { Goes self.old self.new }
+        requires tried { tries ≤ self.old.probes + 1 }
+        requires kept { self.old.probes ≤ tries }
+        ensures goes { Goes self.old self.new }
+        ensures probes { self.new.probes ≡ tries }
     {
         let depth = self.depth;
         let provider = self.path[depth];
@@ -197,14 +206,15 @@ impl<'a> Walk<'a> {
         self.places[depth + 1] = start;
         self.depth = depth + 1;
         self.seeking = seeking;
-        self.probes = one_more(self.probes);
+        self.probes = tries;
     }
 
     // Takes the last provider of the path back, and goes on to the next choice there.
     fn take_back(&mut self)
         requires deep { 0 < self.old.depth }
         requires end { length (choices_at (search_in self.old) self.old.depth) ≤ slice_index self.old.places.items self.old.depth }
-        ensures { Goes self.old self.new }
+        ensures goes { Goes self.old self.new }
+        ensures probes { self.new.probes ≡ self.old.probes }
     {
         let depth = self.depth - 1;
         self.ledger.give_back(&self.path[..depth], self.path[depth]);
@@ -213,30 +223,33 @@ impl<'a> Walk<'a> {
         self.seeking = false;
     }
 
-    // Tries a provider behind the path.
+    // Tries a provider behind the path, and counts it. No other call counts a try, nor makes one.
     fn probe(&mut self, provider: u32) -> Step
         requires among { slice_index self.old.places.items self.old.depth < length (choices_at (search_in self.old) self.old.depth) }
         requires next { provider ≡ next_at (search_in self.old) self.old.depth (slice_index self.old.places.items self.old.depth) }
-        ensures { StepGives result self.old self.new }
+        ensures gives { StepGives result self.old self.new }
+        ensures probes { self.new.probes ≡ one_more self.old.probes }
     {
         self.put(provider);
+        let tries = one_more(self.probes);
         if !self.stays_open() {
-            self.skip();
+            self.skip(tries);
             return Step::Went;
         }
         if self.depth + 1 < self.path.len() {
-            self.place();
+            self.place(tries);
             return Step::Went;
         }
         let complete = self.is_complete();
-        self.skip();
+        self.skip(tries);
         if complete { Step::Given } else { Step::Went }
     }
 
     // Leaves a slot whose choices are at their end.
     fn leave(&mut self) -> Step
         requires { length (choices_at (search_in self.old) self.old.depth) ≤ slice_index self.old.places.items self.old.depth }
-        ensures { StepGives result self.old self.new }
+        ensures gives { StepGives result self.old self.new }
+        ensures probes { self.new.probes ≡ self.old.probes }
     {
         if self.depth == 0 {
             return Step::Ended;
@@ -272,7 +285,7 @@ impl<'a> Walk<'a> {
 
     // Goes on to the next candidate, where there is one.
     fn advance(&mut self) -> bool
-        ensures { MatchBool result (Gives self.old self.new) (Ends self.old self.new) }
+        ensures { MatchBool result (Advances self.old self.new) (Finishes self.old self.new) }
     {
         'steps: loop {
             match self.step() {
@@ -300,11 +313,19 @@ impl<'a> Source for Walk<'a> {
     }
 }
 
+// The ids of a token.
+fn ids_of(alloc: Global, token: Option<&Token>) -> Result<Option<Vec<Id>>, NoMemory>
+    ensures { IfOk result (λ ids. option_map (λ v. v.items) ids ≡ option_map (λ t. tokens.ids_of t.now) token.entry) }
+{
+    match token {
+        Some(token) => Ok(Some(token.ids().to_vec(alloc)?)),
+        None => Ok(None),
+    }
+}
+
 // A count and one more; it stays where it can't rise.
 fn one_more(count: u64) -> u64
-    ensures most { result ≤ count + 1 }
-    ensures kept { count ≤ result }
-    ensures rises { count < 2 ^ 64 - 1 → count < result }
+    ensures { result ≡ one_more count }
 {
     count.saturating_add(1)
 }

@@ -1,8 +1,11 @@
-use Rattle.ac_search.proofs.EndLemmas.{remaining_falls, gives_then}
+use Rattle.ac_search.proofs.EndLemmas.{remaining_falls, advances, finishes}
 use Rattle.ac_search.proofs.walk.Walk.advance.Goals as goal
 
 pub returns-in-Given : goal.returns-in-Given
-returns-in-Given c = gives_then c.args.self.now c.steps.self c.step.new.self c.steps.invariant c.in-Given.ensures
+returns-in-Given c = advances c.args.self.now c.steps.self c.step.new.self c.steps.invariant c.in-Given.ensures
+
+pub returns-in-Ended : goal.returns-in-Ended
+returns-in-Ended c = finishes c.args.self.now c.steps.self c.step.new.self c.steps.invariant c.in-Ended.ensures
 
 pub steps-smaller : goal.steps-smaller
 steps-smaller c = remaining_falls c.steps.self c.step.new.self c.in-Went.ensures

@@ -5,8 +5,8 @@ use Rattle.ac_search.proofs.TryLemmas.{left_ended, counted_end}
 use Rattle.ac_search.proofs.StepLemmas.{laws_in}
 use Rattle.ac_search.proofs.walk.Walk.leave.Goals as goal
 
-pub returns-then-self-eq0 : goal.returns-then-self-eq0
-returns-then-self-eq0 c =
+pub returns-then-self-eq0-clause-gives : goal.returns-then-self-eq0-clause-gives
+returns-then-self-eq0-clause-gives c =
     let w = c.args.self.now in
     let m = search_in w in
     let nothing : left_from m w.least.items (front_in w) ≡ [] = rw c.if-self-eq0.true (left_ended m (laws_in w) w.least.items w.path.items w.places.items (omega (arith, w.sound.within)) (rw c.if-self-eq0.true at c.requires)) in
@@ -14,7 +14,7 @@ returns-then-self-eq0 c =
       nothing = nothing;
       none = nothing;
       bounds = record {
-        same = record { cloud = refl; query = refl; least = refl };
+        same = record { cloud = refl; query = refl; after = refl; least = refl };
         bounded = counted_end m (laws_in w) w.least.items w.path.items w.places.items w.depth w.seeking w.probes w.sound;
       };
       kept = omega arith;

@@ -22,26 +22,26 @@ invariant_of-self-2 c =
     let same = read_path w w.depth c.index-provider.result.now (omega arith) c.index-provider.ensures in
     let next : w.depth + 1 ≡ suc w.depth = omega arith in
     let opens = subst (λ (u : List ℕ). m.is_open u ≡ true) (front_back w.path.items w.depth (omega (arith, w.sound.path_len, w.sound.within))) c.requires.opens in
-    let more : c.one_more-self.result ≤ w.probes + 1 = omega (arith, c.one_more-self.ensures.most) in
     record {
+      resumed = rw (c.take.ensures.same.cloud, c.take.ensures.same.query) w.resumed;
       listed = rw (c.take.ensures.same.cloud, c.take.ensures.same.query) w.listed;
       by_tree = rw (c.take.ensures.same.cloud, c.take.ensures.same.query) w.by_tree;
       accounted = rw next (subst (Accounts c.take.new.self) (sym (front_put w c.deref.result.now c.index-provider.result.now c.deref.ensures.value c.index-provider.ensures)) c.take.ensures.accounts);
-      sound = rw (c.take.ensures.same.cloud, c.take.ensures.same.query, next) (sound_place m (laws_in w) w.least.items w.path.items w.places.items w.depth w.seeking c.entry-start.result.1 w.probes c.one_more-self.result c.entry-start.result.0
-          w.sound c.requires.short c.requires.among c.requires.put opens c.entry-start.ensures.within (rw same at c.entry-start.ensures.enters) (rw same at c.entry-start.ensures.seeks) more);
+      sound = rw (c.take.ensures.same.cloud, c.take.ensures.same.query, next) (sound_place m (laws_in w) w.least.items w.path.items w.places.items w.depth w.seeking c.entry-start.result.1 w.probes c.args.tries c.entry-start.result.0
+          w.sound c.requires.short c.requires.among c.requires.put opens c.entry-start.ensures.within (rw same at c.entry-start.ensures.enters) (rw same at c.entry-start.ensures.seeks) c.requires.tried);
     }
 
-pub returns : goal.returns
-returns c =
+pub returns-clause-goes : goal.returns-clause-goes
+returns-clause-goes c =
     let w = c.args.self.now in
     let m = search_in w in
     let same = read_path w w.depth c.index-provider.result.now (omega arith) c.index-provider.ensures in
     let next : w.depth + 1 ≡ suc w.depth = omega arith in
     record {
-      same = record { cloud = c.take.ensures.same.cloud; query = c.take.ensures.same.query; least = refl };
+      same = record { cloud = c.take.ensures.same.cloud; query = c.take.ensures.same.query; after = refl; least = refl };
       left = rw (c.take.ensures.same.cloud, c.take.ensures.same.query, next)
           (sym (left_place m (laws_in w) w.least.items w.path.items w.places.items w.depth c.entry-start.result.0 c.entry-start.result.1 w.sound.path_len w.sound.places_len c.requires.short c.requires.put (rw same at c.entry-start.ensures.enters)));
       up = rw (c.take.ensures.same.cloud, c.take.ensures.same.query, next)
           (forward_place m w.path.items w.places.items w.depth c.entry-start.result.0 (omega (arith, w.sound.path_len, w.sound.within)) (omega (arith, w.sound.places_len, c.requires.short)) c.requires.put);
-      kept = omega (arith, c.one_more-self.ensures.kept);
+      kept = c.requires.kept;
     }

@@ -10,7 +10,7 @@ use Rattle.ac_search.specs.declared.walk.Walk.{Walk}
 use Rattle.ac_search.proofs.OpenLemmas.{candidate_completes}
 use Rattle.ac_search.proofs.PathLemmas.{IsPut}
 use Rattle.ac_search.proofs.TryLemmas.{put_front, whole_front, left_closed, left_lacking, left_whole}
-use Rattle.ac_search.proofs.StepLemmas.{laws_in, search_same, Stays, stays_put, goes_put, gives_put, Skips, goes_skip, left_skip, bounded_skip, front_after}
+use Rattle.ac_search.proofs.StepLemmas.{laws_in, one_more_kept, one_more_rises, search_same, Stays, stays_put, goes_put, gives_put, Skips, goes_skip, left_skip, bounded_skip, front_after}
 use Rattle.ac_search.proofs.walk.Walk.probe.Goals as goal
 
 -- what `put` does
@@ -48,26 +48,26 @@ wanted u complete h last opens is =
     let open' : is_open all asked (front_in u) ≡ true = subst (λ (t : List ℕ). is_open all asked t ≡ true) (tried u h) opens in
     candidate_completes all asked (front_in u) ∙ rw open' (ap (completes all asked) (sym (whole u h last)) ∙ sym is)
 
-pub returns-then-not-stays_open : goal.returns-then-not-stays_open
-returns-then-not-stays_open c =
+pub returns-then-not-stays_open-clause-gives : goal.returns-then-not-stays_open-clause-gives
+returns-then-not-stays_open-clause-gives c =
     let w = c.args.self.now in
     let u = c.put.new.self in
     let v = c.skip.new.self in
     let puts : Puts w u c.args.provider = record { same = c.put.ensures.same; path = c.put.ensures.path; places = c.put.ensures.places; depth = c.put.ensures.depth; probes = c.put.ensures.probes } in
     let put = is_put w u c.args.provider puts c.requires.among c.requires.next in
-    let skips : Skips u v = record { same = c.skip.ensures.same; path = c.skip.ensures.path; depth = c.skip.ensures.depth; places = c.skip.ensures.places; kept = c.skip.ensures.kept; among = put.among } in
+    let skips : Skips u v = record { same = c.skip.ensures.same; path = c.skip.ensures.path; depth = c.skip.ensures.depth; places = c.skip.ensures.places; kept = omega (arith, c.skip.ensures.probes, c.one_more-tries.ensures, one_more_kept u.probes); among = put.among } in
     let closed : (search_in u).is_open (front_in u) ≡ false = ap (λ (t : List ℕ). (search_in u).is_open t) (sym (tried u put)) ∙ (sym c.stays_open.ensures ∙ c.if-not-stays_open.true) in
     goes_put w u v (stays w u c.args.provider puts) (goes_skip u v skips (left_closed (search_in u) (laws_in u) u.least.items u.path.items u.places.items u.depth u.seeking u.probes u.sound put.among closed))
 
-pub returns-then-complete : goal.returns-then-complete
-returns-then-complete c =
+pub returns-then-complete-clause-gives : goal.returns-then-complete-clause-gives
+returns-then-complete-clause-gives c =
     let w = c.args.self.now in
     let u = c.put.new.self in
     let v = c.skip-2.new.self in
     let m = search_in u in
     let puts : Puts w u c.args.provider = record { same = c.put.ensures.same; path = c.put.ensures.path; places = c.put.ensures.places; depth = c.put.ensures.depth; probes = c.put.ensures.probes } in
     let put = is_put w u c.args.provider puts c.requires.among c.requires.next in
-    let skips : Skips u v = record { same = c.skip-2.ensures.same; path = c.skip-2.ensures.path; depth = c.skip-2.ensures.depth; places = c.skip-2.ensures.places; kept = c.skip-2.ensures.kept; among = put.among } in
+    let skips : Skips u v = record { same = c.skip-2.ensures.same; path = c.skip-2.ensures.path; depth = c.skip-2.ensures.depth; places = c.skip-2.ensures.places; kept = omega (arith, c.skip-2.ensures.probes, c.one_more-tries.ensures, one_more_kept u.probes); among = put.among } in
     let last : suc u.depth ≡ m.width = omega (arith, u.sound.path_len, u.sound.within, u.path.ok, c.if-self-len.false, c.len.ensures) in
     let opens = sym c.stays_open.ensures ∙ c.if-not-stays_open.false in
     let wants : m.is_wanted (front_in u) ≡ true = wanted u c.is_complete-complete.result put last opens c.is_complete-complete.ensures ∙ c.if-complete.true in
@@ -77,18 +77,18 @@ returns-then-complete c =
           ∙ (ap (λ (y : List ℕ). y ∷ left_from m u.least.items (front_after u)) path ∙ ap (λ (ls : List (List ℕ)). v.path.items ∷ ls) (sym (left_skip u v skips)));
       bounds = bounded_skip u v skips last put.put;
       kept = skips.kept;
-      rises = c.skip-2.ensures.rises;
+      rises = λ l. let rise = one_more_rises u.probes l in omega (arith, c.skip-2.ensures.probes, c.one_more-tries.ensures);
     })
 
-pub returns-else-complete : goal.returns-else-complete
-returns-else-complete c =
+pub returns-else-complete-clause-gives : goal.returns-else-complete-clause-gives
+returns-else-complete-clause-gives c =
     let w = c.args.self.now in
     let u = c.put.new.self in
     let v = c.skip-2.new.self in
     let m = search_in u in
     let puts : Puts w u c.args.provider = record { same = c.put.ensures.same; path = c.put.ensures.path; places = c.put.ensures.places; depth = c.put.ensures.depth; probes = c.put.ensures.probes } in
     let put = is_put w u c.args.provider puts c.requires.among c.requires.next in
-    let skips : Skips u v = record { same = c.skip-2.ensures.same; path = c.skip-2.ensures.path; depth = c.skip-2.ensures.depth; places = c.skip-2.ensures.places; kept = c.skip-2.ensures.kept; among = put.among } in
+    let skips : Skips u v = record { same = c.skip-2.ensures.same; path = c.skip-2.ensures.path; depth = c.skip-2.ensures.depth; places = c.skip-2.ensures.places; kept = omega (arith, c.skip-2.ensures.probes, c.one_more-tries.ensures, one_more_kept u.probes); among = put.among } in
     let last : suc u.depth ≡ m.width = omega (arith, u.sound.path_len, u.sound.within, u.path.ok, c.if-self-len.false, c.len.ensures) in
     let opens = sym c.stays_open.ensures ∙ c.if-not-stays_open.false in
     let lacks : m.is_wanted (front_in u) ≡ false = wanted u c.is_complete-complete.result put last opens c.is_complete-complete.ensures ∙ c.if-complete.false in

@@ -9,6 +9,7 @@ pub invariant_of-self : goal.invariant_of-self
 invariant_of-self c =
     let w = c.args.self.now in
     record {
+      resumed = w.resumed;
       listed = w.listed;
       by_tree = w.by_tree;
       accounted = subst (Accounts w.ledger) (sym (take-set w.path.items w.depth c.args.provider)) w.accounted;

@@ -16,10 +16,10 @@ pub invariant_of-self : goal.invariant_of-self
 invariant_of-self c =
     let w = c.args.self.now in
     let place : c.index_mut.result.now ≡ slice_index w.places.items w.depth = c.index_mut.ensures.value ∙ get_or_default w.places.items w.depth c.index_mut.result.now 0 (omega (arith, w.sound.places_len, w.sound.within)) in
-    let more : c.one_more-self.result ≤ w.probes + 1 = omega (arith, c.one_more-self.ensures.most) in
     record {
+      resumed = w.resumed;
       listed = w.listed;
       by_tree = w.by_tree;
       accounted = w.accounted;
-      sound = rw place (sound_next (search_in w) (laws_in w) w.least.items w.path.items w.path.items w.places.items w.depth w.seeking w.probes c.one_more-self.result w.sound c.requires refl refl more);
+      sound = rw place (sound_next (search_in w) (laws_in w) w.least.items w.path.items w.path.items w.places.items w.depth w.seeking w.probes c.args.tries w.sound c.requires.among refl refl c.requires.tried);
     }

@@ -33,14 +33,15 @@ invariant_of-self c =
     let e = w.depth - 1 in
     let place : c.index_mut.result.now ≡ slice_index w.places.items e = c.index_mut.ensures.value ∙ get_or_default w.places.items e c.index_mut.result.now 0 (omega (arith, s.places_len, s.within)) in
     record {
+      resumed = rw (c.give_back.ensures.same.cloud, c.give_back.ensures.same.query) w.resumed;
       listed = rw (c.give_back.ensures.same.cloud, c.give_back.ensures.same.query) w.listed;
       by_tree = rw (c.give_back.ensures.same.cloud, c.give_back.ensures.same.query) w.by_tree;
       accounted = rw c.deref.ensures.value at c.give_back.ensures.accounts;
       sound = rw (c.give_back.ensures.same.cloud, c.give_back.ensures.same.query, place) (sound_back (search_in w) (laws_in w) w.least.items w.path.items w.places.items e w.seeking w.probes s);
     }
 
-pub returns : goal.returns
-returns c =
+pub returns-clause-goes : goal.returns-clause-goes
+returns-clause-goes c =
     let w = c.args.self.now in
     let m = search_in w in
     let s = deeper w c.requires.deep in
@@ -50,7 +51,7 @@ returns c =
     let place : c.index_mut.result.now ≡ slice_index w.places.items e = c.index_mut.ensures.value ∙ get_or_default w.places.items e c.index_mut.result.now 0 (omega (arith, s.places_len, s.within)) in
     let after = next_front m w.path.items (set w.places.items e (slice_index w.places.items e + 1)) e in
     record {
-      same = record { cloud = c.give_back.ensures.same.cloud; query = c.give_back.ensures.same.query; least = refl };
+      same = record { cloud = c.give_back.ensures.same.cloud; query = c.give_back.ensures.same.query; after = refl; least = refl };
       left = rw (c.give_back.ensures.same.cloud, c.give_back.ensures.same.query, place) (sym (subst (λ (d : ℕ). left_from m w.least.items (next_front m w.path.items w.places.items d) ≡ left_from m w.least.items after) deep
           (left_back m (laws_in w) w.path.items w.places.items w.least.items e s.path_len s.places_len s.within on.0 on.1 (rw deep c.requires.end))));
       up = rw (c.give_back.ensures.same.cloud, c.give_back.ensures.same.query, place) (subst (λ (d : ℕ). lex_lt (next_front m w.path.items w.places.items d) after ≡ true) deep
