@@ -379,13 +379,13 @@ EIGHT_EACH = ','.join(f'P{n}' for n in range(1, 9) for _ in range(8))
 FULL = '\n'.join(f'P{n} | | VCPU total 8, used 8' for n in range(1, 21))
 
 # 64 groups on 20 and on 8 providers: more lists than can be gone through one after another.
-DEEP = [
+MANY_GROUPS = [
     found('64 groups, and no room on any of 20 hosts', FULL, SIXTY_FOUR),
     found('64 groups fill 8 providers: the first', EIGHT, SIXTY_FOUR + '&limit=1', EIGHT_EACH),
     found('64 groups fill 8 providers: after the last', EIGHT, SIXTY_FOUR, after=','.join(reversed(EIGHT_EACH.split(',')))),
 ]
 
-SMALL = [*QUANTITIES, *RULES, *PAGES, *TOKENS, *TABLES, *QUERIES]
+SMALL = [*QUANTITIES, *RULES, *PAGES, *TOKENS, *TABLES, *QUERIES, *MANY_GROUPS]
 
 
 def cuts():

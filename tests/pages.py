@@ -2,8 +2,8 @@
 """tests/pages.py [--write]: says where the documents and the tree differ, a line each. The status is 0 only where nothing is said.
 
 Links lead to files and headings that are there. docs/MAP.md names every source and every definition, and no other file. Each clause that
-docs/PROMISES.md quotes stands in the sources of its crate, every public function is named there, and so are all edits of the crate and no
-other. With --write the lists of edits there are first made anew."""
+docs/PROMISES.md quotes stands in the sources of its crate, and each part of a definition (`name : statement`) in its specs; every public
+function is named there, and so are all edits of the crate and no other. With --write the lists of edits there are first made anew."""
 from __future__ import annotations
 
 import glob
@@ -78,6 +78,11 @@ def sources(crate):
     return ' '.join(re.sub(r'\s+', ' ', text(f'crates/{crate}/{path}')) for path in code)
 
 
+def definitions(crate):
+    """The definitions, on one line."""
+    return ' '.join(re.sub(r'\s+', ' ', text(f'crates/{crate}/{path}')) for path in sorted(files(crate)) if path.endswith('.antt'))
+
+
 def public(crate):
     """The names of public functions that the crate hands on."""
     root = text(f'crates/{crate}/src/lib.rt') if there(f'crates/{crate}/src/lib.rt') else ''
@@ -121,6 +126,8 @@ def promised():
         for block in re.findall(r'^```\w*\n(.*?)^```', part, re.M | re.S):
             quoted += [line.strip() for line in re.split(r'\n(?=\s*(?:ensures|requires)\b)', block) if re.match(r'\s*(ensures|requires)\b', line)]
         yield from (f'{PROMISES}: {crate} has no clause {clause}' for clause in quoted if not any(one in code for one in expansions(clause)))
+        stated = [span for span in spans(part) if re.match(r'[a-z]+ : ', span)]
+        yield from (f'{PROMISES}: {crate} has no definition {part}' for part in stated if part not in definitions(crate))
         named = set(re.findall(r'\w+', ' '.join(spans(part))))
         yield from (f'{PROMISES}: {crate}: nothing is said of {name}' for name in sorted(set(public(crate)) - named))
         if EDITS.findall(part) != [edits(crate)]:

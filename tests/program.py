@@ -1,9 +1,8 @@
 #!/usr/bin/env python3
-"""tests/program.py [--all] [--deep] [WORD]: runs the built ./ac_cli as a user would, and says which cases went wrong.
+"""tests/program.py [--all] [WORD]: runs the built ./ac_cli as a user would, and says which cases went wrong.
 
-With a word, only the cases whose names have it. With --all it names each case, and not only those that went wrong. With --deep, also the
-searches among more lists than can be gone through one after another. Where AC_CLI is set, it names the program to run. The last line is
-`N passed, M failed`, and the status is 0 only where M is 0."""
+With a word, only the cases whose names have it. With --all it names each case, and not only those that went wrong. Where AC_CLI is set, it
+names the program to run. The last line is `N passed, M failed`, and the status is 0 only where M is 0."""
 from __future__ import annotations
 
 import os
@@ -17,10 +16,10 @@ from concurrent.futures import ThreadPoolExecutor
 
 sys.dont_write_bytecode = True
 
-from cases import DEEP, SMALL, SOME, Case, cuts, full, lines, tables
+from cases import SMALL, SOME, Case, cuts, full, lines, tables
 from export import exports
 from faults import drawn_queries, drawn_tables
-from large import LARGE
+from large import LARGE, MOST_PROVIDERS, roots, vcpu
 from model import drawn
 
 ROOT = os.path.dirname(os.path.dirname(os.path.abspath(__file__)))
@@ -206,6 +205,10 @@ def files(case, folder):
         yield from (f'--{name}', path)
 
 
+# A search over the most providers that there may be takes memory for each, not for each two.
+FEW_BYTES = Case('tokens: the first of 65536 roots, within 512 MiB', ['sh', '-c', 'ulimit -v 524288; exec "$@"', 'limited', PROGRAM, 'tokens', 'resources=VCPU:1&limit=1'],
+                 lines('P1'), tables={'providers': lambda: roots(MOST_PROVIDERS), 'inventories': lambda: vcpu(MOST_PROVIDERS)})
+
 PAGES = Case('the documents name what is there', ['sh', '-c', 'python3 -B tests/pages.py'])
 
 
@@ -252,7 +255,7 @@ def wrong(case):
 
 
 def main(*given):
-    words = [text for text in given if text not in ('--all', '--deep')]
+    words = [text for text in given if text != '--all']
     _, said, status = run(Case('build', ['--help']), seconds=None, program=LAUNCHER)
     if status == NOT_BUILT:
         print(f'FAILED to build the program:\n{said}\n0 passed, 1 failed')
@@ -264,8 +267,7 @@ def main(*given):
     pages = [case for page in ('README.md', 'examples/README.md', 'docs/RULES.md', 'docs/FORMATS.md', 'docs/EXPORT.md')
              for case in shown(page)]
     chance = [*drawn(150), *drawn_tables(200), *drawn_queries(200)]
-    cases = [PAGES, *HELP, *WORDS, *FILES, *DEVICES, *GROWTHS, *SMALL, *pages, *rules, *exports(), *chance, *LARGE, *cuts()]
-    cases += DEEP if '--deep' in given else []
+    cases = [PAGES, *HELP, *WORDS, *FILES, *DEVICES, *GROWTHS, *SMALL, *pages, *rules, *exports(), *chance, *LARGE, FEW_BYTES, *cuts()]
     cases = [case for case in cases if all(word in case.name for word in words)]
     failed = 0
     with ThreadPoolExecutor(max_workers=2) as pool:

@@ -2,12 +2,13 @@
 use Rattle.std.proofs.Common.{◌≡◌, ℕ, ◌+◌, ◌<◌, ◌&&◌, zero, suc, Bool, not, List, [], ◌∷◌, ◌++◌, inl, inr, length, take, Option, None, Some, refl, sym, ap, ap₂, ◌∙◌, arith, length-append}
 use Rattle.std.specs.List.{flat_map, range_with_len, AllByRecursion as Each}
 use Rattle.std.proofs.lemmas.Bool.{cases_Bool}
-use Rattle.ac_query.specs.Asked.{slots_of}
+use Rattle.ac_query.specs.Asked.{Asked, slots_of}
+use Rattle.ac_tables.specs.World.{Provider}
 use Rattle.ac_search.specs.Order.{lex_lt}
 use Rattle.ac_search.specs.Judge.{is_open}
-use Rattle.ac_search.specs.Search.{below, is_up_to, is_between}
-use Rattle.ac_search.specs.QuerySearch.{search_of, least_of, is_from}
-use Rattle.ac_search.specs.Laws.{BetweenByIds}
+use Rattle.ac_search.specs.Laws.{AreInOrder}
+use Rattle.ac_search.specs.Search.{below, is_up_to, is_between, between}
+use Rattle.ac_search.specs.QuerySearch.{search_of, least_of, is_from, open_between}
 use Rattle.ac_search.proofs.Elements.{each_append}
 use Rattle.ac_search.proofs.AnchorLemmas.{each_range}
 use Rattle.ac_search.proofs.LeastLemmas.{before_least, cut_nil}
@@ -29,7 +30,9 @@ below_agree f g n k (suc h) q same size low =
     under more (p ∷ ps) b =
         ap₂ (λ a c. a ++ c) (more (q ++ p ∷ []) (omega (arith, size, length-append q (p ∷ []))) (each_append (λ r. r < n) q (p ∷ []) low (b.0, tt))) (under more ps b.1)
 
-pub between_by_ids : BetweenByIds
+-- what lies between the least list of a token and another is what lies between the token's ids and that one
+pub between_by_ids : (all : List Provider) → AreInOrder all → (asked : Asked) (ids y : Option (List ℕ))
+    → between (search_of all asked) (least_of all (length (slots_of asked)) ids) y ≡ open_between all asked ids y
 between_by_ids all order asked ids y =
     below_agree (λ q. is_between (search_of all asked) (least_of all k ids) y q) (λ q. is_open all asked q && (is_from all ids q && is_up_to y q)) (length all) k k []
     (λ w short low. ap (λ (b : Bool). is_open all asked w && (b && is_up_to y w)) (same ids w short low)) (omega arith) tt

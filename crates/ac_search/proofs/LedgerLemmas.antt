@@ -7,6 +7,10 @@ use Rattle.std.proofs.lemmas.Bool.{cases_Bool, eq-eqb}
 use Rattle.std.proofs.lemmas.List.{get_or-map, get_or-replicate, length-map}
 use Rattle.std.proofs.lemmas.List.FromFn.{length-range_with_len, get_or-range_with_len}
 use Rattle.std.proofs.lemmas.List.Elements.{recursion_from_All}
+use Rattle.std.specs.List.Sorted.{IsStrictlySortedBy}
+use Rattle.ac_base.specs.Texts.{text_cmp}
+use Rattle.ac_query.proofs.NameSets.{one_rises}
+use Rattle.ac_query.proofs.NeedSteps.{classes_kept}
 use Rattle.ac_query.specs.Asked.{Asked, Slot, Group, slots_of, slots_from, group_slots, class_slot}
 use Rattle.ac_query.specs.GroupsShown.{need_entry, suffix_of, group_asked, group_entry}
 use Rattle.ac_query.specs.QueriesShown.{asked_of}
@@ -54,6 +58,27 @@ slots_ask i (g ∷ gs) = each_append Asks (group_slots i (group_entry g)) (slots
 
 query_asks : (query : Query) → Each Asks (slots_of (asked_of query))
 query_asks query = slots_ask 0 query.groups.items
+
+-- ---- Queries ask for each class of a group once
+
+abbrev Rises : Slot → Type 0
+Rises s = IsStrictlySortedBy text_cmp (map (λ need. need.0) s.needs)
+
+group_rises : (i : ℕ) (suffix : Option (List ℕ)) (g : Group) → IsStrictlySortedBy text_cmp (map (λ need. need.0) g.needs) → Each Rises (group_slots i (suffix, g))
+group_rises i None g h = each_map Rises (class_slot i g) g.needs (each_needs g.needs)
+  where
+    each_needs : (needs : List (List ℕ × ℕ)) → Each (λ need. Rises (class_slot i g need)) needs
+    each_needs [] = tt
+    each_needs (n ∷ needs) = (one_rises n.0, each_needs needs)
+group_rises i (Some s) g h = (h, tt)
+
+slots_rise : (i : ℕ) (gs : List rust.Group) → Each Rises (slots_from i (map group_entry gs))
+slots_rise i [] = tt
+slots_rise i (g ∷ gs) = each_append Rises (group_slots i (group_entry g)) (slots_from (i + 1) (map group_entry gs))
+    (group_rises i (suffix_of g) (group_asked g) (subst (IsStrictlySortedBy text_cmp) (sym (classes_kept g.needs.items)) g.rising)) (slots_rise (i + 1) gs)
+
+pub slot_rises : (query : Query) (s : ℕ) → s < length (slots_of (asked_of query)) → Rises (slot_at (asked_of query) s)
+slot_rises query s h = each_at Rises (slots_of (asked_of query)) s no_slot (slots_rise 0 query.groups.items) h
 
 slot_asks : (query : Query) (s : ℕ) → s < length (slots_of (asked_of query)) → Asks (slot_at (asked_of query) s)
 slot_asks query s h = each_at Asks (slots_of (asked_of query)) s no_slot (query_asks query) h

@@ -1,22 +1,26 @@
 -- What is left of rooms, when one more slot takes its part.
-use Rattle.std.proofs.Common.{◌≡◌, ◌≢◌, ◌∙◌, ℕ, ◌+◌, ◌<◌, ◌≤◌, Bool, true, false, List, [], ◌∷◌, ◌++◌, map, inl, inr, Option, None, Some, refl, sym, ap, ap₂, subst, arith, nat_le, slice_index_or}
+use Rattle.std.proofs.Common.{◌≡◌, ◌≢◌, ◌∙◌, ℕ, ◌+◌, ◌<◌, ◌≤◌, Bool, true, false, ◌&&◌, List, [], ◌∷◌, ◌++◌, map, inl, inr, Option, None, Some, refl, sym, ap, ap₂, subst, arith, nat_le, slice_index_or}
 use Rattle.std.specs.Prelude.{◌==◌, if◌then◌else◌}
 use Rattle.std.specs.Option.{unwrap_or}
 use Rattle.std.specs.List.{list_all, AllByRecursion as Each}
 use Rattle.std.specs.Str.{bytes_eq}
 use Rattle.std.specs.Global.{Vec}
-use Rattle.std.proofs.lemmas.Bool.{cases_Bool, cases_eq, cases_lt, and_parts, and_from, eq-eqb, ne_eqb, false≢true}
+use Rattle.std.proofs.lemmas.Bool.{cases_Bool, cases_eq, cases_lt, and_parts, and_from, eq-eqb, ne_eqb, false≢true, false_from_ne_true}
 use Rattle.std.proofs.lemmas.Bool.Decides.{nat_tests}
 use Rattle.std.proofs.lemmas.List.{map-append}
 use Rattle.std.proofs.lemmas.Slice.Eq.{bytes_eq-Decides}
+use Rattle.std.specs.List.Sorted.{IsStrictlySortedBy}
 use Rattle.ac_base.specs.Quantities.{Stock, capacity}
+use Rattle.ac_base.specs.Texts.{text_cmp}
+use Rattle.ac_query.specs.InOrder.{AreApart}
+use Rattle.ac_query.proofs.PositiveNeeds.{apart_from_sorted}
 use Rattle.ac_tables.specs.World.{Provider, provider_at, used_of}
 use Rattle.ac_search.specs.Own.{stock_of}
 use Rattle.ac_search.specs.Room.{room_in}
 use Rattle.ac_search.specs.Placed.{Placed}
 use Rattle.ac_search.specs.Together.{amount_of, sum_on, has_room, holds, sums}
 use Rattle.ac_search.specs.Laws.{AskAmounts, IsFull}
-use Rattle.ac_search.specs.Left.{place_of, IsKnown, numbered, wanted, left_in, suffices, room_on, row_of, Takes, AreLeft}
+use Rattle.ac_search.specs.Left.{place_of, IsKnown, numbered, wanted, left_in, has_each, suffices, room_on, row_of, Takes, AreLeft}
 use Rattle.ac_search.specs.declared.rooms.Room.{Room}
 use Rattle.ac_search.proofs.FullLemmas.{sums_say_full}
 
@@ -132,6 +136,37 @@ suffices_at classes row needs (n ∷ ns) c all known h asks =
           subst (λ (d : List ℕ). IsKnown classes d × (amount_of needs d ≤ left_in row (place_of classes d))) same (known.0, fits)
       | inr e ↦ let less : 0 < amount_of ns c = let more = rw e at asks in omega arith in suffices_at classes row needs ns c all known.1 both.1 less
     ]
+
+-- ---- Classes that stand once
+
+-- what needs ask of their own classes, which differ
+amount_none : (needs : List (List ℕ × ℕ)) (c : List ℕ) → Each (λ d. bytes_eq c d ≡ false) (map (λ need. need.0) needs) → amount_of needs c ≡ 0
+amount_none [] c h = refl
+amount_none (n ∷ needs) c h =
+    let other : bytes_eq n.0 c ≡ false = false_from_ne_true _ (λ e. false≢true (sym h.0 ∙ (bytes_eq-Decides c n.0).1 (sym ((bytes_eq-Decides n.0 c).0 e)))) in
+    let none = amount_none needs c h.1 in
+    rw other (omega (arith, none))
+
+amounts_once : (needs : List (List ℕ × ℕ)) → AreApart (map (λ need. need.0) needs) → Each (λ need. amount_of needs need.0 ≡ need.1) needs
+amounts_once [] h = tt
+amounts_once (n ∷ needs) h =
+    let itself = (bytes_eq-Decides n.0 n.0).1 refl in
+    let alone = amount_none needs n.0 h.0 in
+    (rw itself (omega (arith, alone)), more needs h.0 (amounts_once needs h.1))
+  where
+    more : (ns : List (List ℕ × ℕ)) → Each (λ d. bytes_eq n.0 d ≡ false) (map (λ need. need.0) ns) → Each (λ need. amount_of needs need.0 ≡ need.1) ns → Each (λ need. amount_of (n ∷ needs) need.0 ≡ need.1) ns
+    more [] apart all = tt
+    more (m ∷ ns) apart all = let here = all.0 in let differ = apart.0 in (rw differ (omega (arith, here)), more ns apart.1 all.1)
+
+-- so a row has enough for all where it has each amount
+pub each_suffices : (classes : List (List ℕ)) (row : List (ℕ × ℕ)) (needs : List (List ℕ × ℕ)) → Each (λ need. IsKnown classes need.0) needs → IsStrictlySortedBy text_cmp (map (λ need. need.0) needs)
+    → has_each row (map (numbered classes) needs) ≡ suffices row (map (numbered classes) needs)
+each_suffices classes row needs known rising = along needs (amounts_once needs (apart_from_sorted (map (λ need. need.0) needs) rising))
+  where
+    along : (ns : List (List ℕ × ℕ)) → Each (λ need. amount_of needs need.0 ≡ need.1) ns
+        → list_all (λ a. nat_le a.1 (left_in row a.0)) (map (numbered classes) ns) ≡ list_all (λ a. nat_le (wanted (map (numbered classes) needs) a.0) (left_in row a.0)) (map (numbered classes) ns)
+    along [] once = refl
+    along (n ∷ ns) once = ap₂ (λ (m : ℕ) (b : Bool). nat_le m (left_in row (place_of classes n.0)) && b) (sym (wanted_is classes needs n.0 known ∙ once.0)) (along ns once.1)
 
 -- What a row must have left of its provider's rooms.
 abbrev pub IsLeft : List Provider → List (List ℕ) → List (ℕ × ℕ) → List Placed → ℕ → Type 0

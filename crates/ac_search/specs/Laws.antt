@@ -10,8 +10,6 @@ use Rattle.ac_search.specs.Together.{sum_on, holds, sums, is_set_apart, isolate}
 use Rattle.ac_search.specs.Judge.{judge, is_candidate, is_open}
 use Rattle.ac_search.specs.declared.verdict.Verdict.TheVariants.{Candidate}
 use Rattle.ac_search.specs.Pages.{candidates, ids_of, is_after, rest, page}
-use Rattle.ac_search.specs.Search.{between}
-use Rattle.ac_search.specs.QuerySearch.{search_of, least_of, open_between}
 
 -- the providers stand in the order of their ids
 abbrev pub AreInOrder : List Provider → Type 0
@@ -72,8 +70,3 @@ StandApart xs = (i j : ℕ) (d : Placed) → i < j → j < length xs
 -- Isolate says this, where the query asks for it.
 abbrev pub IsolateSaysApart : Type 0
 IsolateSaysApart = (asked : Asked) (xs : List Placed) → is_isolated asked ≡ true → (isolate asked xs ≡ true) ↔ StandApart xs
-
--- what lies between the least list of a token and another is what lies between the token's ids and that one
-abbrev pub BetweenByIds : Type 0
-BetweenByIds = (all : List Provider) → AreInOrder all → (asked : Asked) (ids y : Option (List ℕ))
-    → between (search_of all asked) (least_of all (length (slots_of asked)) ids) y ≡ open_between all asked ids y

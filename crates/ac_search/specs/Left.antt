@@ -53,6 +53,10 @@ abbrev pub left_in : List (ℕ × ℕ) → ℕ → ℕ
 left_in [] k = 0
 left_in (r ∷ row) k = if r.0 == k then r.1 else left_in row k
 
+-- a row has for each ask its amount
+abbrev pub has_each : List (ℕ × ℕ) → List (ℕ × ℕ) → Bool
+has_each row asks = list_all (λ a. nat_le a.1 (left_in row a.0)) asks
+
 -- a row has for each ask what all of them want of its class
 abbrev pub suffices : List (ℕ × ℕ) → List (ℕ × ℕ) → Bool
 suffices row asks = list_all (λ a. nat_le (wanted asks a.0) (left_in row a.0)) asks

@@ -3,7 +3,7 @@
 ghost use Rattle.std.specs.Prelude.{List};
 ghost use Rattle.ac_query.specs.Asked.{Asked};
 ghost use Rattle.ac_tables.specs.World.{Provider};
-ghost use Rattle.ac_search.specs.Laws.{AreInOrder, PrefixOpen, PagesJoin, RestBegins, JudgesCandidates, SumsSayFull, IsolateSaysApart, BetweenByIds};
+ghost use Rattle.ac_search.specs.Laws.{AreInOrder, PrefixOpen, PagesJoin, RestBegins, JudgesCandidates, SumsSayFull, IsolateSaysApart};
 
 /// Each front of a candidate is open, so a search that leaves what isn't open loses none.
 pub fn prefix_open()
@@ -33,10 +33,4 @@ pub fn sums_say_full()
 /// Isolate, where it is asked for, is kept exactly where every two suffixed slots with classes have different providers.
 pub fn isolate_says_apart()
     ensures { IsolateSaysApart }
-{}
-
-/// What a walk may try for is told by ids: the lists between the least list of its token and another are the open ones between the
-/// token's ids and that list.
-pub fn between_by_ids()
-    ensures { BetweenByIds }
 {}

@@ -15,7 +15,7 @@ ghost use Rattle.ac_search.specs.Left.{IsKnown, ask_pair, numbered, place_of, ro
 ghost use Rattle.ac_search.specs.Marks.{needs_own};
 
 use crate::marks::{has_full, hit, lone_slots, mark, taken_roots, unhit, unmark};
-use crate::rooms::{Ask, Room, all_asks, all_classes, all_rooms, give_row, suffices, take_row};
+use crate::rooms::{Ask, Room, all_asks, all_classes, all_rooms, give_row, has_each, take_row};
 use ac_base::{ClassName, NoMemory};
 use ac_query::Query;
 use ac_tables::Cloud;
@@ -96,7 +96,7 @@ impl<'a> Ledger<'a> {
         requires provider { ix < length (providers_in self.now) }
         ensures { result ≡ suffices (row_of self.now.rows.items ix) (map (numbered (texts_in self.now)) (slot_at (asked_in self.now) s).needs) }
     {
-        suffices(&self.rows[ix as usize], &self.asks[s])
+        has_each(&self.rows[ix as usize], &self.asks[s])
     }
 
     // Whether a whole path of a depth keeps a root with one more provider.

@@ -1,6 +1,6 @@
 //! Rooms in plain numbers: what each provider can still give of each class that the slots ask for.
 
-ghost use Rattle.std.specs.Prelude.{◌≡◌, ◌≢◌, ◌+◌, ◌<◌, ◌≤◌, ◌^◌, ◌==◌, ℕ, List, nat_le, length, map, [], if◌then◌else◌, IfOk};
+ghost use Rattle.std.specs.Prelude.{◌≡◌, ◌+◌, ◌<◌, ◌≤◌, ◌^◌, ◌==◌, ℕ, List, length, map, [], if◌then◌else◌, IfOk};
 ghost use Rattle.std.specs.List.{AllByRecursion};
 ghost use Rattle.ac_base.specs.Names.{class_bytes};
 ghost use Rattle.ac_tables.specs.CloudWorld.{providers_of};
@@ -8,7 +8,7 @@ ghost use Rattle.ac_query.specs.Asked.{slots_of};
 ghost use Rattle.ac_query.specs.GroupsShown.{need_entry};
 ghost use Rattle.ac_query.specs.QueriesShown.{asked_of};
 ghost use Rattle.ac_search.specs.Placed.{slot_at};
-ghost use Rattle.ac_search.specs.Left.{place_of, IsKnown, ask_pair, room_pair, numbered, wanted, place_in, left_in, IsThere, suffices, IsRow, AreRows, row_of, Takes, IsShape};
+ghost use Rattle.ac_search.specs.Left.{place_of, IsKnown, ask_pair, room_pair, numbered, wanted, place_in, left_in, IsThere, has_each, IsRow, AreRows, row_of, Takes, IsShape};
 
 use crate::slots::{count_slots, needs_at};
 use crate::sums::room_at;
@@ -175,29 +175,12 @@ fn left_in(row: &[Room], class: usize) -> u64
     }
 }
 
-// Whether a room suffices for what asks want of a class.
-fn has_left(room: u64, asks: &[Ask], class: usize) -> bool
-    ensures { result ≡ nat_le (wanted (map ask_pair asks.now) class) room }
-{
-    let mut left = room;
-    for ask in asks {
-        if ask.class != class {
-            continue;
-        }
-        match left.checked_sub(u64::from(ask.amount)) {
-            Some(rest) => left = rest,
-            None => return false,
-        }
-    }
-    true
-}
-
-/// Whether a row has for each ask what all of them want of its class.
-pub(crate) fn suffices(row: &[Room], asks: &[Ask]) -> bool
-    ensures { result ≡ suffices (map room_pair row.now) (map ask_pair asks.now) }
+/// Whether a row has for each ask its amount.
+pub(crate) fn has_each(row: &[Room], asks: &[Ask]) -> bool
+    ensures { result ≡ has_each (map room_pair row.now) (map ask_pair asks.now) }
 {
     for ask in asks {
-        if !has_left(left_in(row, ask.class), asks, ask.class) {
+        if left_in(row, ask.class) < u64::from(ask.amount) {
             return false;
         }
     }

@@ -5,17 +5,13 @@ use Rattle.ac_base.specs.Names.{class_bytes}
 use Rattle.ac_base.specs.Texts.{text_cmp}
 use Rattle.ac_base.specs.declared.name.ClassName.{ClassName}
 use Rattle.ac_query.specs.declared.amount.Amount.{Amount}
-use Rattle.ac_query.specs.declared.group.Need.{Need}
 use Rattle.ac_query.specs.GroupsShown.{need_class, need_entry}
 use Rattle.ac_query.specs.Shown.{need_shown, needs_shown}
 use Rattle.ac_query.proofs.NameSets.{rising_shown}
+use Rattle.ac_query.proofs.NeedSteps.{classes_kept}
 use Rattle.ac_query.proofs.query.read.needs_in_order.Goals as goal
 
--- the classes of needs, and those of a map's entries
-classes_kept : (needs : List Need) → map (λ n. n.0) (map need_entry needs) ≡ map need_class needs
-classes_kept [] = refl
-classes_kept (n ∷ needs) = ap (λ l. need_class n ∷ l) (classes_kept needs)
-
+-- the classes of a map's entries
 classes_shown : (es : List (ClassName × Amount)) → map (λ n. n.0) (map need_shown es) ≡ map class_bytes (keys_of es)
 classes_shown [] = refl
 classes_shown (e ∷ es) = ap (λ l. class_bytes e.0 ∷ l) (classes_shown es)

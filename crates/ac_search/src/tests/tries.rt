@@ -1,0 +1,187 @@
+//! How often a walk tries, counted by hand.
+use super::{PAIR, Rows, cloud_of, ends, expanded, query_of, token_of};
+use crate::source::Source;
+use crate::walk::Walk;
+use ac_tables::Cloud;
+use std::alloc::{AllocError, Global};
+use std::test::Fail;
+
+// How many tries a walk has made after each call, up to the one that gives `None`.
+fn counted(alloc: Global, walk: &mut Walk, most: u32) -> Result<Vec<u64>, AllocError> {
+    let mut counts = Vec::new(alloc);
+    for _ in 0..most {
+        let ended = walk.next().is_none();
+        counts.push(walk.probes())?;
+        if ended {
+            return Ok(counts);
+        }
+    }
+    Ok(counts)
+}
+
+fn probes(
+    alloc: Global,
+    rows: Rows,
+    query: &str,
+    after: Option<&str>,
+    most: u32,
+) -> Result<Vec<u64>, AllocError> {
+    let none = Vec::new(alloc);
+    let Some(cloud) = cloud_of(alloc, rows)? else {
+        return Ok(none);
+    };
+    let Some(query) = query_of(alloc, query)? else {
+        return Ok(none);
+    };
+    let token = token_of(alloc, &query, after)?;
+    if after.is_some() && token.is_none() {
+        return Ok(none);
+    }
+    let Ok(mut walk) = Walk::new(alloc, &cloud, &query, token.as_ref()) else {
+        return Ok(none);
+    };
+    let counts = counted(alloc, &mut walk, most)?;
+    Ok(counts)
+}
+
+// The ends of the first list of a source.
+fn first_of<S: Source>(alloc: Global, cloud: &Cloud, source: &mut S) -> Result<String, AllocError> {
+    match source.next() {
+        Some(list) => ends(alloc, cloud, list),
+        None => Ok(String::new(alloc)),
+    }
+}
+
+fn first_list(alloc: Global, rows: Rows, query: &str) -> Result<String, AllocError> {
+    let none = String::new(alloc);
+    let Some(cloud) = cloud_of(alloc, rows)? else {
+        return Ok(none);
+    };
+    let Some(query) = query_of(alloc, query)? else {
+        return Ok(none);
+    };
+    let Ok(mut walk) = Walk::new(alloc, &cloud, &query, None) else {
+        return Ok(none);
+    };
+    let list = first_of(alloc, &cloud, &mut walk)?;
+    Ok(list)
+}
+
+// Providers without traits and aggregates.
+fn hosts<'a>(providers: &'a str, inventories: &'a str, usages: &'a str) -> Rows<'a> {
+    Rows {
+        columns: "uuid,root_provider_uuid,parent_provider_uuid",
+        providers,
+        inventories,
+        usages,
+        traits: "",
+        aggregates: "",
+    }
+}
+
+fn digit(n: u32) -> char {
+    char::from(b'0' + (n % 10) as u8)
+}
+
+// A piece for each number from one to another, with its two digits in the place of each `#`.
+fn repeated(alloc: Global, first: u32, last: u32, piece: &str) -> Result<String, AllocError> {
+    let mut text = String::new(alloc);
+    for n in first..=last {
+        for (place, part) in piece.split('#').enumerate() {
+            if place > 0 {
+                text.push(digit(n / 10))?;
+                text.push(digit(n))?;
+            }
+            text.push_str(part)?;
+        }
+    }
+    Ok(text)
+}
+
+const FULL: &str = "@#,VCPU,8,0,1,8,1,1.0\n";
+
+#[test]
+fn tries_few_providers(rt: HostRuntime) -> Result<(), Fail> {
+    let query = "resources1=VCPU:5&resources2=VCPU:5&group_policy=none";
+    let all = probes(rt.alloc(), PAIR, query, None, 9)?;
+    assert!(rt; all.as_slice() == [3, 5, 6].as_slice(), "all");
+    let later = probes(rt.alloc(), PAIR, query, Some("@01,@02"), 9)?;
+    assert!(rt; later.as_slice() == [3, 4].as_slice(), "later");
+    let unknown = probes(rt.alloc(), PAIR, query, Some("@01,@07"), 9)?;
+    assert!(rt; unknown.as_slice() == [3, 4].as_slice(), "unknown");
+    Ok(())
+}
+
+#[test]
+fn tries_nothing_without_a_root(rt: HostRuntime) -> Result<(), Fail> {
+    let query = "resources1=VCPU:5&resources2=VCPU:5&group_policy=none&root_required=CUSTOM_Y";
+    let counts = probes(rt.alloc(), PAIR, query, None, 9)?;
+    assert!(rt; counts.as_slice() == [0].as_slice());
+    Ok(())
+}
+
+#[test]
+fn tries_each_full_root_once(rt: HostRuntime) -> Result<(), Fail> {
+    let alloc = rt.alloc();
+    let providers = repeated(alloc, 1, 20, "@#,@#,\n")?;
+    let inventories = repeated(alloc, 1, 20, FULL)?;
+    let usages = repeated(alloc, 1, 20, "@#,VCPU,8\n")?;
+    let rows = hosts(providers.as_str(), inventories.as_str(), usages.as_str());
+    let mut query = repeated(alloc, 1, 64, "resources#=VCPU:1&")?;
+    query.push_str("group_policy=none")?;
+    let counts = probes(alloc, rows, query.as_str(), None, 9)?;
+    assert!(rt; counts.as_slice() == [20].as_slice());
+    Ok(())
+}
+
+#[test]
+fn tries_no_other_tree(rt: HostRuntime) -> Result<(), Fail> {
+    let alloc = rt.alloc();
+    let providers = repeated(alloc, 1, 20, "@#,@#,\n")?;
+    let inventories = repeated(alloc, 1, 20, FULL)?;
+    let rows = hosts(providers.as_str(), inventories.as_str(), "");
+    let query = "resources1=VCPU:1&resources2=VCPU:1&resources3=VCPU:1&group_policy=none";
+    let mut counts = probes(alloc, rows, query, None, 99)?;
+    assert_eq!(rt; counts.len(), 21);
+    assert_eq!(rt; counts.pop().unwrap_or(0), 60);
+    Ok(())
+}
+
+#[test]
+fn goes_to_the_last_of_many_lists(rt: HostRuntime) -> Result<(), Fail> {
+    let alloc = rt.alloc();
+    let mut providers = expanded(alloc, "@01,@01,\n")?;
+    providers.push_str(repeated(alloc, 2, 40, "@#,@01,@01\n")?.as_str())?;
+    let inventories = repeated(alloc, 1, 40, FULL)?;
+    let rows = hosts(providers.as_str(), inventories.as_str(), "");
+    let query = "resources1=VCPU:1&resources2=VCPU:1&resources3=VCPU:1&group_policy=none";
+    let mut all = probes(alloc, rows, query, None, 70_000)?;
+    assert_eq!(rt; all.len(), 64_001);
+    assert_eq!(rt; all.pop().unwrap_or(0), 40 + 40 * 40 + 40 * 40 * 40);
+    let none = probes(alloc, rows, query, Some("@40,@40,@40"), 9)?;
+    assert!(rt; none.as_slice() == [2].as_slice());
+    Ok(())
+}
+
+#[test]
+fn fills_one_provider_after_another(rt: HostRuntime) -> Result<(), Fail> {
+    let alloc = rt.alloc();
+    let mut providers = expanded(alloc, "@01,@01,\n")?;
+    providers.push_str(repeated(alloc, 2, 8, "@#,@01,@01\n")?.as_str())?;
+    let inventories = repeated(alloc, 1, 8, FULL)?;
+    let rows = hosts(providers.as_str(), inventories.as_str(), "");
+    let mut query = repeated(alloc, 1, 64, "resources#=VCPU:1&")?;
+    query.push_str("group_policy=none")?;
+    let list = first_list(alloc, rows, query.as_str())?;
+    let want = repeated(alloc, 1, 8, "# # # # # # # # ")?;
+    assert_eq!(rt; list.as_str(), want.as_str());
+    let first = probes(alloc, rows, query.as_str(), None, 1)?;
+    assert!(rt; first.as_slice() == [288].as_slice(), "first");
+    let mut last = repeated(alloc, 8, 8, "@#,@#,@#,@#,@#,@#,@#,@#")?;
+    for n in 1..8 {
+        last.push_str(repeated(alloc, 8 - n, 8 - n, ",@#,@#,@#,@#,@#,@#,@#,@#")?.as_str())?;
+    }
+    let none = probes(alloc, rows, query.as_str(), Some(last.as_str()), 9)?;
+    assert!(rt; none.as_slice() == [287].as_slice(), "none");
+    Ok(())
+}
