@@ -18,7 +18,7 @@ loop-i-preserved c =
     let short : i < length ss = omega (arith, c.requires, c.loop-i-test.true) in
     let long : i < length (placed ss list) = omega (arith, placed_long ss list c.requires, c.loop-i-test.true) in
     let x = placed_in ss list i in
-    let needs = needs_are ss i no_slot (map need_entry c.slot_needs.result.now) short c.slot_needs.ensures in
+    let needs = needs_are ss i no_slot (map need_entry c.slot_needs.result.now) short c.slot_needs.ensures.needs in
     needs_step (placed ss list) list i x (map row_shown c.loop-i.needs.entries) (map row_shown c.add_needs.new.needs.entries) (providers_are ss list c.requires) long (placed_in_is ss list i short c.loop-i-test.true)
     (c.in_ok-add_needs.ensures ∙ ap (with_needs (map row_shown c.loop-i.needs.entries) (get_or list i 0)) needs) c.loop-i.invariant
 
