@@ -1,15 +1,3 @@
-pub mod Writing
-pub mod Lines
-pub mod DigitsShown
-pub mod Refusals
-pub mod Feeds
-pub mod Draining
-pub mod TokenGiven
-pub mod Asking
-pub mod Outputs
-pub mod Answer
-pub mod Run
 pub mod Words
-pub mod Jobs
 pub mod Opening
 pub mod Program

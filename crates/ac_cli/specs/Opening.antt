@@ -3,7 +3,7 @@ use Rattle.std.specs.Prelude.{⊤, List, ℕ, Option, Some, None}
 use Rattle.ac_tables.specs.declared.fault.Table.{Table}
 use Rattle.ac_tables.specs.declared.fault.Table.TheVariants as table
 use Rattle.ac_cli.specs.Words.{Line, path_of}
-use Rattle.ac_cli.specs.declared.inputs.Inputs.{Inputs}
+use Rattle.ac_run.specs.declared.job.Inputs.{Inputs}
 
 abbrev pub feed_of : {R : Type 0} → Inputs R → Table → Option R
 feed_of inputs table.Providers = Some inputs.providers

@@ -3,12 +3,12 @@ use Rattle.std.specs.Prelude.{◌≡◌, ◌<◌, ℕ, List, Option}
 use Rattle.std.specs.Io.KnownBytes.{Appends}
 use Rattle.clap.specs.Words.{IsAmong, Kinds, Row, Text}
 use Rattle.clap.specs.declared.error.kind.ErrorKind.TheVariants.{DisplayHelp}
-use Rattle.ac_cli.specs.Answer.{Outcome, Task, answer}
-use Rattle.ac_cli.specs.Feeds.{Bytes, TellBytes}
+use Rattle.ac_run.specs.Answer.{Outcome, Task, answer}
+use Rattle.ac_run.specs.Feeds.{Bytes, TellBytes}
 use Rattle.ac_cli.specs.Opening.{AreOpened}
-use Rattle.ac_cli.specs.Refusals.{status_of as refusal_status}
+use Rattle.ac_run.specs.Refusals.{status_of as refusal_status}
 use Rattle.ac_cli.specs.Words.{Line, Says, Tells}
-use Rattle.ac_cli.specs.declared.inputs.Inputs.{Inputs}
+use Rattle.ac_run.specs.declared.job.Inputs.{Inputs}
 use Rattle.ac_cli.specs.declared.program.Stop.{Stop}
 use Rattle.ac_cli.specs.declared.program.Stop.TheVariants as stop
 use Rattle.ac_cli.specs.declared.words.WordFault.TheVariants.{Refused}

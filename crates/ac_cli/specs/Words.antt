@@ -5,8 +5,9 @@ use Rattle.clap.specs.declared.error.kind.ErrorKind.{ErrorKind}
 use Rattle.clap.specs.declared.error.kind.ErrorKind.TheVariants.{DisplayHelp}
 use Rattle.ac_tables.specs.declared.fault.Table.{Table}
 use Rattle.ac_tables.specs.declared.fault.Table.TheVariants.{Providers, Inventories, Usages, Traits, Aggregates}
-use Rattle.ac_cli.specs.declared.words.Command.{Command}
-use Rattle.ac_cli.specs.declared.words.Command.TheVariants.{Check, Candidates, Tokens, Verify}
+use Rattle.ac_run.specs.Jobs.{HasToken}
+use Rattle.ac_run.specs.declared.job.Command.{Command}
+use Rattle.ac_run.specs.declared.job.Command.TheVariants.{Check, Candidates, Tokens, Verify}
 use Rattle.ac_cli.specs.declared.words.WordFault.{WordFault}
 use Rattle.ac_cli.specs.declared.words.WordFault.TheVariants.{Refused, Help, NoMemory}
 
@@ -95,11 +96,6 @@ abbrev pub token_of : Command → List Row → Option Text
 token_of Check rows = None
 token_of Verify rows = first_of (codes "token") rows
 token_of _ rows = first_of (codes "after") rows
-
--- a token is there to be judged
-abbrev pub HasToken : Command → Option Text → Type 0
-HasToken Verify token = is_some token ≡ true
-HasToken _ token = ⊤
 
 -- the line has these entries
 pub record IsMadeOf (rows : List Row) (line : Line) : Type 0 where

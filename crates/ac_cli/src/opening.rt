@@ -4,10 +4,9 @@ ghost use Rattle.ac_tables.specs.declared.fault.Table.{Table};
 ghost use Rattle.ac_cli.specs.Opening.{AreOpened, IsOpened};
 ghost use Rattle.ac_cli.specs.Words.{path_of};
 
-use crate::inputs::Inputs;
-use crate::refusal::Refusal;
 use crate::words::Words;
 use ac_base::{Feed, FromRead};
+use ac_run::{Inputs, Refusal};
 use ac_tables::Table;
 use std::fs;
 use std::rt::Files;

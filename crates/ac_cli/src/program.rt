@@ -1,20 +1,17 @@
 //! The program around `run`: its words, its files and the standard streams.
 ghost use Rattle.std.specs.Prelude.{◌≡◌, ◌≤◌, ◌<◌, ◌⊎◌, [], IfErr, IfOk, map, option_map, string_bytes};
 ghost use Rattle.std.specs.Io.KnownBytes.{Appends};
-ghost use Rattle.ac_cli.specs.Answer.{answer};
-ghost use Rattle.ac_cli.specs.Feeds.{Bytes, TellBytes};
-ghost use Rattle.ac_cli.specs.Jobs.{task_of};
+ghost use Rattle.ac_run.specs.Answer.{answer};
+ghost use Rattle.ac_run.specs.Feeds.{Bytes, TellBytes};
+ghost use Rattle.ac_run.specs.Jobs.{HasToken, task_of};
 ghost use Rattle.ac_cli.specs.Program.{Answers, Arrives, IsStopOf, Shows, status_of};
-ghost use Rattle.ac_cli.specs.Words.{HasToken, faults, named};
+ghost use Rattle.ac_cli.specs.Words.{faults, named};
 
-use crate::inputs::Inputs;
 use crate::opening::{Opener, opened_inputs};
-use crate::refusal::Refusal;
-use crate::run::run;
 use crate::sample;
-use crate::telling::tell;
-use crate::words::{Job, WordFault, Words, read_words};
+use crate::words::{WordFault, Words, read_words};
 use ac_base::{Feed, ToWrite};
+use ac_run::{Inputs, Job, Refusal, run, tell};
 use std::alloc::Global;
 use std::env;
 use std::io::{BufWriter, ErrorKind, Write};

@@ -1,9 +1,8 @@
 //! What the program does without words: a job on built-in tables.
 ghost use Rattle.std.specs.Prelude.{◌≡◌};
 
-use crate::inputs::Inputs;
-use crate::words::{Command, Job};
 use ac_base::FromRead;
+use ac_run::{Command, Inputs, Job};
 
 const PROVIDERS: &str = "\
 uuid,root_provider_uuid,parent_provider_uuid

@@ -7,33 +7,11 @@ ghost use Rattle.ac_cli.specs.declared.words.WordFault.TheVariants.{NoMemory};
 mod entries;
 mod grammar;
 
+pub use ac_run::{Command, Job};
 pub use ac_tables::Table;
 use clap::error::ErrorKind;
 use std::alloc::{AllocError, Global};
 use std::marker::Model;
-
-/// What the program is to do.
-#[derive(Clone, Copy, Debug, PartialEq, Eq)]
-pub enum Command {
-    /// Checks the tables, and writes the size of each.
-    Check,
-    /// Writes the candidates as JSON, with summaries of their providers.
-    Candidates,
-    /// Writes each candidate as a token, one a line.
-    Tokens,
-    /// Writes whether a token is a candidate.
-    Verify,
-}
-
-/// What the program is to do, and for which query and token.
-#[derive(Clone, Copy, Debug, PartialEq, Eq)]
-pub struct Job<'a> {
-    pub command: Command,
-    /// What is asked for; empty for `Check`.
-    pub query: &'a str,
-    /// For `Verify` the token to judge, which is there; for `Candidates` and `Tokens` the one to begin after; none for `Check`.
-    pub token: Option<&'a str>,
-}
 
 /// The words of a command line that was accepted.
 #[derive(Debug, Drop)]

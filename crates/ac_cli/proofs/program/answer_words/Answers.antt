@@ -1,8 +1,8 @@
 use Rattle.std.proofs.Common.{◌≡◌, ◌∙◌, List, ℕ, Option, ap, sym, subst, inr, IfErr}
 use Rattle.std.proofs.lemmas.Result.{IfOk-weaker}
-use Rattle.ac_cli.specs.Answer.{Task, answer}
+use Rattle.ac_run.specs.Answer.{Task, answer}
 use Rattle.ac_cli.specs.Program.{Arrives, IsStopOf}
-use Rattle.ac_cli.specs.declared.words.Command.{Command}
+use Rattle.ac_run.specs.declared.job.Command.{Command}
 use Rattle.ac_cli.proofs.program.answer_words.Goals as goal
 
 abbrev task_with : Command → List ℕ → Option (List ℕ) → Task

@@ -1,0 +1,15 @@
+use Rattle.std.proofs.Common.{sym, subst}
+use Rattle.std.specs.List.{All}
+use Rattle.ac_query.specs.QueriesShown.{asked_of}
+use Rattle.ac_report.specs.Pages.{IsAssignment}
+use Rattle.ac_tables.specs.CloudWorld.{providers_of}
+use Rattle.ac_base.proofs.Leaving.{part_none}
+use Rattle.ac_run.proofs.Assignments.{assignments}
+use Rattle.ac_run.proofs.answering.write_lines.Goals as goal
+
+pub write_tokens-requires : goal.write_tokens-requires
+write_tokens-requires g c =
+    subst (All (IsAssignment (providers_of c.args.cloud.now) (asked_of c.args.query.now))) (sym c.in-Ok.ensures.left) (assignments _ _ _)
+
+pub returns-in_default-clause-fault : goal.returns-in_default-clause-fault
+returns-in_default-clause-fault g c = part_none (g.W.Sink.taken c.args.out.now) _

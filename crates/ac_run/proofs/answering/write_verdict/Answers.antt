@@ -1,0 +1,30 @@
+use Rattle.std.proofs.Common.{◌∙◌, ◌<◌, length, sym, ap, subst, IfOk}
+use Rattle.std.specs.List.{All}
+use Rattle.std.specs.Option.{option_map}
+use Rattle.std.proofs.lemmas.List.Elements.{All-from_recursion}
+use Rattle.ac_query.specs.QueriesShown.{asked_of}
+use Rattle.ac_query.specs.Tokens.{ids_of}
+use Rattle.ac_tables.specs.CloudWorld.{providers_of}
+use Rattle.ac_run.specs.Answer.{verdict_on}
+use Rattle.ac_run.specs.Run.{IsWritten}
+use Rattle.ac_run.proofs.Assignments.{located}
+use Rattle.ac_run.proofs.answering.write_verdict.Goals as goal
+
+pub verify-verdict-requires-clause-slots : goal.verify-verdict-requires-clause-slots
+verify-verdict-requires-clause-slots g c =
+    ap length c.deref.ensures.value
+    ∙ ((located (providers_of c.args.cloud.now) (ids_of c.args.token.now) c.in-Ok-Some.list.items (ap (λ found. option_map (λ list. list.items) found) (sym c.in-Ok-Some.field-0-is) ∙ c.in-Ok-Some.ensures)).0
+    ∙ c.requires)
+
+pub verify-verdict-requires-clause-providers : goal.verify-verdict-requires-clause-providers
+verify-verdict-requires-clause-providers g c =
+    let all = providers_of c.args.cloud.now in
+    subst (All (λ p. p < length all)) (sym c.deref.ensures.value)
+    (All-from_recursion (λ p. p < length all) c.in-Ok-Some.list.items (located all (ids_of c.args.token.now) c.in-Ok-Some.list.items (ap (λ found. option_map (λ list. list.items) found) (sym c.in-Ok-Some.field-0-is) ∙ c.in-Ok-Some.ensures)).1)
+
+pub returns-in-Ok-None-clause-ok : goal.returns-in-Ok-None-clause-ok
+returns-in-Ok-None-clause-ok g c =
+    subst
+    (λ places. IfOk c.push_text-in-Ok-None.result
+    (IsWritten (verdict_on (providers_of c.args.cloud.now) (asked_of c.args.query.now) places) (g.W.Sink.taken c.args.out.now) (g.W.Sink.taken c.push_text-in-Ok-None.new.out)))
+    (ap (λ found. option_map (λ list. list.items) found) (sym c.in-Ok-None.field-0-is) ∙ c.in-Ok-None.ensures) c.push_text-in-Ok-None.ensures.ok

@@ -1,0 +1,122 @@
+-- What a run answers: its output, its line on the error sink, and its status.
+use Rattle.std.specs.Prelude.{ℕ, List, [], codes, Option, Some, None}
+use Rattle.std.specs.Option.{option_and_then}
+use Rattle.ac_tables.specs.Rows.{records_of}
+use Rattle.ac_tables.specs.AggregateTable.{aggregate_columns}
+use Rattle.ac_tables.specs.TraitTable.{trait_columns}
+use Rattle.ac_tables.specs.UsageTable.{usage_columns}
+use Rattle.ac_tables.specs.Tables.{Tables, records_or_header, tables_fault, world_stated}
+use Rattle.ac_tables.specs.World.{World, Provider}
+use Rattle.ac_tables.specs.declared.fault.TableFault.{TableFault}
+use Rattle.ac_tables.specs.declared.fault.TableFault.TheVariants as fault
+use Rattle.ac_query.specs.Asked.{Asked}
+use Rattle.ac_query.specs.Faults.{query_fault}
+use Rattle.ac_query.specs.Located.{places_of}
+use Rattle.ac_query.specs.Gathered.{asked_by}
+use Rattle.ac_query.specs.Pairs.{pairs_of}
+use Rattle.ac_query.specs.Tokens.{token_fault}
+use Rattle.ac_query.specs.Values.{ids_value}
+use Rattle.ac_query.specs.declared.token.TokenFault.{TokenFault}
+use Rattle.ac_search.specs.Judge.{judge}
+use Rattle.ac_search.specs.Pages.{page}
+use Rattle.ac_report.specs.Texts.{body, lines}
+use Rattle.ac_run.specs.Outputs.{counts, verdict_status, verdict_text}
+use Rattle.ac_run.specs.Feeds.{Bytes, too_large}
+use Rattle.ac_run.specs.Lines.{too_large_line, record_line, query_line, token_line, memory_line}
+use Rattle.ac_run.specs.declared.job.Command.{Command}
+use Rattle.ac_run.specs.declared.job.Command.TheVariants as command
+
+-- what is asked: the query, and perhaps a token
+pub record Task : Type 0 where
+  pub command : Command
+  pub query : List ℕ
+  pub token : Option (List ℕ)
+
+-- what is answered
+pub record Outcome : Type 0 where
+  pub output : List ℕ
+  pub line : List ℕ
+  pub status : ℕ
+
+-- a refusal: its line and its status, and no output
+abbrev pub refused : List ℕ → ℕ → Outcome
+refused line status = record { output = []; line = line; status = status }
+
+-- an output, with its status
+abbrev pub written : List ℕ → ℕ → Outcome
+written output status = record { output = output; line = []; status = status }
+
+-- what is said of a fault, where there is one, and else this
+abbrev pub told : {X : Type 0} → Option X → (X → Outcome) → Outcome → Outcome
+told None say otherwise = otherwise
+told (Some x) say otherwise = say x
+
+-- ---- the outputs
+
+-- the verdict on a list of ids
+abbrev pub verdict_on : List Provider → Asked → Option (List ℕ) → Outcome
+verdict_on all asked None = written (codes "unknown provider\n") 1
+verdict_on all asked (Some list) = written (verdict_text (judge all asked list)) (verdict_status (judge all asked list))
+
+-- ---- what is given of a token
+
+-- the ids of a token, where there is one that is accepted
+abbrev pub ids_given : Option (List ℕ) → Option (List ℕ)
+ids_given token = option_and_then ids_value token
+
+-- what is wrong with a token, where there is one
+abbrev pub token_refusal : Asked → Option (List ℕ) → Option TokenFault
+token_refusal asked None = None
+token_refusal asked (Some text) = token_fault asked text
+
+-- ---- the answer
+
+-- what is said of an accepted query and the ids of its token
+abbrev pub Says : Type 0
+Says = Asked → Option (List ℕ) → Outcome
+
+abbrev pub page_body : List Provider → Says
+page_body all asked ids = written (body all asked (page all asked ids asked.limit)) 0
+
+abbrev pub page_lines : List Provider → Says
+page_lines all asked ids = written (lines all (page all asked ids asked.limit)) 0
+
+abbrev pub verdict_line : List Provider → Says
+verdict_line all asked ids = verdict_on all asked (option_and_then (places_of all) ids)
+
+-- what is said, unless the token is refused
+abbrev pub past_token : Says → Option (List ℕ) → Asked → Outcome
+past_token say token asked = told (token_refusal asked token) (λ f. refused (token_line f) 5) (say asked (ids_given token))
+
+-- what is said, unless the query or the token is refused
+abbrev pub past_query : Says → Task → Outcome
+past_query say task = told (query_fault task.query) (λ f. refused (query_line f) 4) (past_token say task.token (asked_by (pairs_of task.query)))
+
+-- the answer of a command in a world
+abbrev pub answer_in : Command → Task → World → Outcome
+answer_in command.Check task world = written (counts world.sizes) 0
+answer_in command.Candidates task world = past_query (page_body world.providers) task
+answer_in command.Tokens task world = past_query (page_lines world.providers) task
+answer_in command.Verify task world = past_query (verdict_line world.providers) task
+
+abbrev pub table_refused : TableFault → Outcome
+table_refused (fault.At t row kind) = refused (record_line t row kind) 3
+table_refused fault.NoMemory = refused memory_line 7
+
+-- the answer over the records of five tables
+unfoldable pub answer_over : Task → Tables → Outcome
+answer_over task tables = told (tables_fault tables) table_refused (answer_in task.command task (world_stated tables))
+
+-- the records of five tables; one that isn't there is its header alone
+abbrev pub tables_in : Bytes → Tables
+tables_in b = record {
+  providers = records_of b.providers;
+  inventories = records_of b.inventories;
+  usages = records_or_header usage_columns b.usages;
+  traits = records_or_header trait_columns b.traits;
+  aggregates = records_or_header aggregate_columns b.aggregates;
+}
+
+-- the answer to a task over the bytes of five tables
+unfoldable pub answer : Task → Bytes → Outcome
+answer task b = told (too_large b) (λ t. refused (too_large_line t) 3) (answer_over task (tables_in b))

@@ -1,0 +1,52 @@
+-- What draining the feeds of the tables answers.
+use Rattle.std.specs.Prelude.{◌≡◌, ℕ, ◌≤◌, List, length, Option, Some, None, ⊤}
+use Rattle.std.specs.Option.{option_map}
+use Rattle.ac_tables.specs.Drain.{AllBytes, AreTooMany, most_bytes}
+use Rattle.ac_tables.specs.declared.fault.Table.{Table}
+use Rattle.ac_run.specs.Feeds.{Bytes, TellBytes, FeedRose, too_large}
+use Rattle.ac_run.specs.declared.draining.Texts.{Texts}
+use Rattle.ac_run.specs.declared.job.Inputs.{Inputs}
+use Rattle.ac_run.specs.declared.refusal.Refusal.{Refusal}
+use Rattle.ac_run.specs.declared.refusal.Refusal.TheVariants as why
+
+-- a feed that may not be there gave all its bytes, and they are few enough
+abbrev pub GaveAll : Option (Option (List ℕ)) → Option (List ℕ) → Type 0
+GaveAll None None = ⊤
+GaveAll None (Some bytes) = ⊥
+GaveAll (Some known) None = ⊥
+GaveAll (Some known) (Some bytes) = AllBytes known bytes × (length bytes ≤ most_bytes)
+
+-- a feed that may not be there tells too many bytes
+abbrev pub AreTooManyThere : Option (Option (List ℕ)) → Type 0
+AreTooManyThere None = ⊥
+AreTooManyThere (Some known) = AreTooMany known
+
+-- why a table's feed was not drained: it failed, or it gave too many bytes
+abbrev pub ExplainsDraining : Type 0 → Type 0 → Table → Refusal → Type 0
+ExplainsDraining rose many table (why.Unreadable t) = (t ≡ table) × rose
+ExplainsDraining rose many table (why.TooLarge t) = (t ≡ table) × many
+ExplainsDraining rose many table (why.Record t row k) = ⊥
+ExplainsDraining rose many table (why.Query f) = ⊥
+ExplainsDraining rose many table (why.Token f) = ⊥
+ExplainsDraining rose many table why.Output = ⊥
+ExplainsDraining rose many table why.NoMemory = ⊤
+
+-- the bytes that were read
+abbrev pub texts_shown : Texts → Bytes
+texts_shown t = record {
+  providers = t.providers.items;
+  inventories = t.inventories.items;
+  usages = option_map (λ v. v.items) t.usages;
+  traits = option_map (λ v. v.items) t.traits;
+  aggregates = option_map (λ v. v.items) t.aggregates;
+}
+
+-- why the tables could not be read: a feed's count of failures rose, or a table has too many bytes
+abbrev pub ExplainsReading : {R : Type 0} → (R → Option (List ℕ)) → (R → ℕ) → Inputs R → Inputs R → Refusal → Type 0
+ExplainsReading remaining failures old new (why.Unreadable t) = FeedRose failures old new t
+ExplainsReading remaining failures old new (why.TooLarge t) = (b : Bytes) → TellBytes remaining old b → too_large b ≡ Some t
+ExplainsReading remaining failures old new (why.Record t row k) = ⊥
+ExplainsReading remaining failures old new (why.Query f) = ⊥
+ExplainsReading remaining failures old new (why.Token f) = ⊥
+ExplainsReading remaining failures old new why.Output = ⊥
+ExplainsReading remaining failures old new why.NoMemory = ⊤

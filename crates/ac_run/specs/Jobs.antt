@@ -1,0 +1,28 @@
+-- Jobs as tasks, what they need, and why what they ask is refused.
+use Rattle.std.specs.Prelude.{◌≡◌, ℕ, List, Option, true, is_some, ⊤}
+use Rattle.std.specs.Option.{option_map}
+use Rattle.ac_run.specs.Answer.{Says, Task, past_query, refused}
+use Rattle.ac_run.specs.Refusals.{line_of}
+use Rattle.ac_run.specs.declared.job.Command.{Command}
+use Rattle.ac_run.specs.declared.job.Command.TheVariants.{Verify}
+use Rattle.ac_run.specs.declared.refusal.Refusal.{Refusal}
+use Rattle.ac_run.specs.declared.refusal.Refusal.TheVariants as why
+use Rattle.ac_run.specs.declared.job.Job.{Job}
+
+abbrev pub task_of : Job → Task
+task_of job = record { command = job.command; query = job.query.now; token = option_map (λ token. token.now) job.token }
+
+-- a token is there to be judged
+abbrev pub HasToken : Command → Option (List ℕ) → Type 0
+HasToken Verify token = is_some token ≡ true
+HasToken _ token = ⊤
+
+-- why a task's query or token is refused, whatever would be said of them; or memory gave out
+abbrev pub ExplainsWanted : Task → Refusal → Type 0
+ExplainsWanted task (why.Query f) = (say : Says) → past_query say task ≡ refused (line_of (why.Query f)) 4
+ExplainsWanted task (why.Token f) = (say : Says) → past_query say task ≡ refused (line_of (why.Token f)) 5
+ExplainsWanted task why.NoMemory = ⊤
+ExplainsWanted task (why.Unreadable t) = ⊥
+ExplainsWanted task (why.TooLarge t) = ⊥
+ExplainsWanted task (why.Record t row k) = ⊥
+ExplainsWanted task why.Output = ⊥

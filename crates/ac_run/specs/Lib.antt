@@ -1,0 +1,11 @@
+pub mod Writing
+pub mod Lines
+pub mod DigitsShown
+pub mod Refusals
+pub mod Feeds
+pub mod Draining
+pub mod Asking
+pub mod Outputs
+pub mod Answer
+pub mod Run
+pub mod Jobs

@@ -1,0 +1,73 @@
+-- What is known after each part of a run.
+use Rattle.std.specs.Prelude.{◌≡◌, ℕ, List, [], Option, Some, None, ⊤}
+use Rattle.std.specs.Io.KnownBytes.{Appends, Keeps}
+use Rattle.ac_base.specs.Devices.{TakesPart}
+use Rattle.ac_tables.specs.declared.fault.Table.{Table}
+use Rattle.ac_tables.specs.declared.fault.TableFault.{TableFault}
+use Rattle.ac_tables.specs.declared.fault.TableFault.TheVariants as fault
+use Rattle.ac_run.specs.Answer.{Outcome, Task, answer, refused}
+use Rattle.ac_run.specs.Feeds.{Bytes, TellBytes, FeedRose}
+use Rattle.ac_run.specs.Lines.{unreadable_line}
+use Rattle.ac_run.specs.Refusals.{line_of}
+use Rattle.ac_run.specs.Writing.{TakesLine}
+use Rattle.ac_run.specs.declared.job.Inputs.{Inputs}
+use Rattle.ac_run.specs.declared.refusal.Refusal.{Refusal}
+use Rattle.ac_run.specs.declared.refusal.Refusal.TheVariants as why
+
+-- an outcome without a line was written whole, with its status
+pub record IsWritten (outcome : Outcome) (old new : Option (List ℕ)) (given : ℕ) : Type 0 where
+  pub line : outcome.line ≡ []
+  pub status : given ≡ outcome.status
+  pub output : Appends old new outcome.output
+
+-- Why an outcome was not written: it is this very refusal, and the sink is untouched; or the sink failed, and its count rose; or memory gave out.
+abbrev pub ExplainsOutcome : Outcome → Option (List ℕ) → Option (List ℕ) → Type 0 → Refusal → Type 0
+ExplainsOutcome outcome old new rose (why.Unreadable t) = ⊥
+ExplainsOutcome outcome old new rose (why.TooLarge t) = ⊥
+ExplainsOutcome outcome old new rose (why.Record t row k) = ⊥
+ExplainsOutcome outcome old new rose (why.Query f) = (outcome ≡ refused (line_of (why.Query f)) 4) × Keeps old new
+ExplainsOutcome outcome old new rose (why.Token f) = (outcome ≡ refused (line_of (why.Token f)) 5) × Keeps old new
+ExplainsOutcome outcome old new rose why.Output = rose × TakesPart old new outcome.output
+ExplainsOutcome outcome old new rose why.NoMemory = TakesPart old new outcome.output
+
+-- why there is no cloud: the first fault of the tables
+abbrev pub ExplainsTables : Option TableFault → Refusal → Type 0
+ExplainsTables first (why.Record t row k) = first ≡ Some (fault.At t row k)
+ExplainsTables first (why.Unreadable t) = ⊥
+ExplainsTables first (why.TooLarge t) = ⊥
+ExplainsTables first (why.Query f) = ⊥
+ExplainsTables first (why.Token f) = ⊥
+ExplainsTables first why.Output = ⊥
+ExplainsTables first why.NoMemory = ⊤
+
+-- what a run that ended for this reason leaves
+abbrev pub Explains : {R : Type 0} → (R → Option (List ℕ)) → (R → ℕ) → Task → Inputs R → Inputs R → Option (List ℕ) → Option (List ℕ) → Type 0 → Refusal → Type 0
+Explains remaining failures task from to old new rose (why.Unreadable t) = FeedRose failures from to t × Keeps old new
+Explains remaining failures task from to old new rose (why.TooLarge t) = ((b : Bytes) → TellBytes remaining from b → answer task b ≡ refused (line_of (why.TooLarge t)) 3) × Keeps old new
+Explains remaining failures task from to old new rose (why.Record t row k) = ((b : Bytes) → TellBytes remaining from b → answer task b ≡ refused (line_of (why.Record t row k)) 3) × Keeps old new
+Explains remaining failures task from to old new rose (why.Query f) = ((b : Bytes) → TellBytes remaining from b → answer task b ≡ refused (line_of (why.Query f)) 4) × Keeps old new
+Explains remaining failures task from to old new rose (why.Token f) = ((b : Bytes) → TellBytes remaining from b → answer task b ≡ refused (line_of (why.Token f)) 5) × Keeps old new
+Explains remaining failures task from to old new rose why.Output = rose × ((b : Bytes) → TellBytes remaining from b → TakesPart old new (answer task b).output)
+Explains remaining failures task from to old new rose why.NoMemory = (b : Bytes) → TellBytes remaining from b → TakesPart old new (answer task b).output
+
+-- The answer was given whole: its output, its line and its status.
+pub record IsAnswered (outcome : Outcome) (out_old out_new err_old err_new : Option (List ℕ)) (given : ℕ) : Type 0 where
+  pub output : Appends out_old out_new outcome.output
+  pub line : Appends err_old err_new outcome.line
+  pub status : given ≡ outcome.status
+
+-- A refusal was told: its line as far as the error sink took it, and its status. There is no output.
+pub record IsRefused (outcome : Outcome) (err_old err_new : Option (List ℕ)) (before after given : ℕ) : Type 0 where
+  pub output : outcome.output ≡ []
+  pub line : TakesLine err_old err_new before after outcome.line
+  pub status : given ≡ outcome.status
+
+-- The feed of a table failed, which the line says.
+pub record IsUnread (rose : Type 0) (table : Table) (err_old err_new : Option (List ℕ)) (before after : ℕ) : Type 0 where
+  pub rises : rose
+  pub line : TakesLine err_old err_new before after (unreadable_line table)
+
+-- the feed of a table failed, or, where none is named, the tables have a fault
+abbrev pub FailsOr : (Table → Type 0) → Type 0 → Option Table → Type 0
+FailsOr Failed Faulty (Some table) = Failed table
+FailsOr Failed Faulty None = Faulty

@@ -1,0 +1,34 @@
+//! What a run is given: a job, and the feeds of the tables.
+
+/// What is to be done.
+#[derive(Clone, Copy, Debug, PartialEq, Eq)]
+pub enum Command {
+    /// Checks the tables, and writes the size of each.
+    Check,
+    /// Writes the candidates as JSON, with summaries of their providers.
+    Candidates,
+    /// Writes each candidate as a token, one a line.
+    Tokens,
+    /// Writes whether a token is a candidate.
+    Verify,
+}
+
+/// What is to be done, and for which query and token.
+#[derive(Clone, Copy, Debug, PartialEq, Eq)]
+pub struct Job<'a> {
+    pub command: Command,
+    /// What is asked for; empty for `Check`.
+    pub query: &'a str,
+    /// For `Verify` the token to judge, which is there; for `Candidates` and `Tokens` the one to begin after; none for `Check`.
+    pub token: Option<&'a str>,
+}
+
+/// The feeds of the tables.
+#[derive(Drop)]
+pub struct Inputs<R> {
+    pub providers: R,
+    pub inventories: R,
+    pub usages: Option<R>,
+    pub traits: Option<R>,
+    pub aggregates: Option<R>,
+}

@@ -1,0 +1,23 @@
+//! A run: the answer to a job over the bytes of five tables, with its status.
+//!
+//! It knows feeds and sinks, and nothing of command lines or files.
+#![tactic(auto)]
+
+mod answering;
+mod asking;
+mod digits;
+mod draining;
+pub mod job;
+mod outputs;
+mod pieces;
+pub mod refusal;
+pub mod running;
+pub mod telling;
+
+pub use job::{Command, Inputs, Job};
+pub use refusal::Refusal;
+pub use running::run;
+pub use telling::tell;
+
+#[cfg(test)]
+mod tests;

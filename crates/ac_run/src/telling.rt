@@ -1,0 +1,139 @@
+//! The lines of refusals, pushed piece by piece: they take no memory.
+ghost use Rattle.std.specs.Prelude.{◌≡◌};
+ghost use Rattle.ac_query.specs.FaultsShown.{fault_shown};
+ghost use Rattle.ac_run.specs.Lines.{pair_line, group_line, record_line};
+ghost use Rattle.ac_run.specs.Refusals.{line_of, line_of_query, status_of};
+ghost use Rattle.ac_run.specs.Writing.{Pushes, TakesLine};
+
+use crate::digits::Digits;
+use crate::pieces::push_pieces;
+use crate::refusal::{Refusal, kind_name, table_name};
+use ac_base::{Sink, WriteFailed, push_all};
+use ac_query::{QueryFault, TokenFault};
+use ac_tables::{Table, TableKind};
+
+// The line of a fault of a record.
+#[tactic(auto, unfolding(crate::specs::Lines::record_line))]
+fn push_record_line<E: Sink>(
+    err: &mut E,
+    table: Table,
+    row: u32,
+    kind: TableKind,
+) -> Result<(), WriteFailed>
+    ensures { Pushes result (E.taken err.old) (E.taken err.new) (E.failures err.old) (E.failures err.new) (record_line table row kind) }
+{
+    push_pieces(
+        err,
+        &[
+            table_name(table),
+            b": record ",
+            Digits::of(row).as_bytes(),
+            b": ",
+            kind_name(kind),
+            b"\n",
+        ],
+    )
+}
+
+// The line of what is wrong with a pair.
+#[tactic(auto, unfolding(crate::specs::Lines::pair_line))]
+fn push_pair_line<E: Sink>(err: &mut E, number: u32, name: &[u8]) -> Result<(), WriteFailed>
+    ensures { Pushes result (E.taken err.old) (E.taken err.new) (E.failures err.old) (E.failures err.new) (pair_line number name.now) }
+{
+    push_pieces(
+        err,
+        &[
+            b"query: pair ",
+            Digits::of(number).as_bytes(),
+            b": ",
+            name,
+            b"\n",
+        ],
+    )
+}
+
+// The line of what is wrong with a group.
+#[tactic(auto, unfolding(crate::specs::Lines::group_line))]
+fn push_group_line<E: Sink>(err: &mut E, suffix: &[u8], name: &[u8]) -> Result<(), WriteFailed>
+    ensures { Pushes result (E.taken err.old) (E.taken err.new) (E.failures err.old) (E.failures err.new) (group_line suffix.now name.now) }
+{
+    push_pieces(err, &[b"query: group \"", suffix, b"\": ", name, b"\n"])
+}
+
+// The line of a fault of a query.
+#[tactic(auto, unfolding(crate::specs::Lines::query_line, crate::specs::Lines::memory_line))]
+fn push_query_line<E: Sink>(err: &mut E, fault: &QueryFault) -> Result<(), WriteFailed>
+    ensures { Pushes result (E.taken err.old) (E.taken err.new) (E.failures err.old) (E.failures err.new) (line_of_query (fault_shown fault.now)) }
+{
+    match fault {
+        QueryFault::QueryTooLong => push_whole(err, b"query: QueryTooLong\n"),
+        QueryFault::UnknownParameter(number) => push_pair_line(err, *number, b"UnknownParameter"),
+        QueryFault::Repeated(number) => push_pair_line(err, *number, b"Repeated"),
+        QueryFault::BadValue(number) => push_pair_line(err, *number, b"BadValue"),
+        QueryFault::Conflict(number) => push_pair_line(err, *number, b"Conflict"),
+        QueryFault::NoResources => push_whole(err, b"query: NoResources\n"),
+        QueryFault::GroupWithoutResources(None) => push_group_line(
+            err,
+            b"",
+            b"GroupWithoutResources",
+        ),
+        QueryFault::GroupWithoutResources(Some(suffix)) => {
+            push_group_line(err, suffix.text().as_bytes(), b"GroupWithoutResources")
+        }
+        QueryFault::UnknownSuffix(suffix) => {
+            push_group_line(err, suffix.text().as_bytes(), b"UnknownSuffix")
+        }
+        QueryFault::PolicyMissing => push_whole(err, b"query: PolicyMissing\n"),
+        QueryFault::TooManySlots => push_whole(err, b"query: TooManySlots\n"),
+        QueryFault::NoMemory => push_whole(err, b"out of memory\n"),
+    }
+}
+
+// A text that is at hand.
+fn push_whole<E: Sink>(err: &mut E, text: &[u8]) -> Result<(), WriteFailed>
+    ensures { Pushes result (E.taken err.old) (E.taken err.new) (E.failures err.old) (E.failures err.new) text.now }
+{
+    match push_all(err, text) {
+        Ok(()) => Ok(()),
+        Err(fault) => Err(fault),
+    }
+}
+
+// The line of a refusal.
+#[tactic(auto, unfolding(crate::specs::Lines::unreadable_line, crate::specs::Lines::too_large_line, crate::specs::Lines::token_line, crate::specs::Lines::memory_line, crate::specs::Lines::output_line))]
+fn push_line<E: Sink>(err: &mut E, refusal: &Refusal) -> Result<(), WriteFailed>
+    ensures { Pushes result (E.taken err.old) (E.taken err.new) (E.failures err.old) (E.failures err.new) (line_of refusal.now) }
+{
+    match refusal {
+        Refusal::Unreadable(table) => push_pieces(err, &[table_name(*table), b": Unreadable\n"]),
+        Refusal::TooLarge(table) => push_pieces(err, &[table_name(*table), b": TooLarge\n"]),
+        Refusal::Record { table, row, kind } => push_record_line(err, *table, *row, *kind),
+        Refusal::Query(fault) => push_query_line(err, fault),
+        Refusal::Token(TokenFault::BadToken) => push_whole(err, b"token: BadToken\n"),
+        Refusal::Token(TokenFault::WrongLength) => push_whole(err, b"token: WrongLength\n"),
+        Refusal::Token(TokenFault::NoMemory) => push_whole(err, b"out of memory\n"),
+        Refusal::Output => push_whole(err, b"output: WriteFailed\n"),
+        Refusal::NoMemory => push_whole(err, b"out of memory\n"),
+    }
+}
+
+fn status_of(refusal: &Refusal) -> u8
+    ensures { result ≡ status_of refusal.now }
+{
+    match refusal {
+        Refusal::Unreadable(_) | Refusal::TooLarge(_) | Refusal::Record { .. } => 3,
+        Refusal::Query(_) => 4,
+        Refusal::Token(_) => 5,
+        Refusal::Output => 6,
+        Refusal::NoMemory => 7,
+    }
+}
+
+/// Tells a refusal, and answers its status. What the error sink doesn't take of the line is dropped.
+pub fn tell<E: Sink>(err: &mut E, refusal: &Refusal) -> u8
+    ensures line { TakesLine (E.taken err.old) (E.taken err.new) (E.failures err.old) (E.failures err.new) (line_of refusal.now) }
+    ensures status { result ≡ status_of refusal.now }
+{
+    let _ = push_line(err, refusal);
+    status_of(refusal)
+}
