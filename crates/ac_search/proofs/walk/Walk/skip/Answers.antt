@@ -1,4 +1,4 @@
-use Rattle.std.proofs.Common.{◌≡◌, ◌+◌, ◌≤◌, slice_index, refl, arith, ◌∙◌}
+use Rattle.std.proofs.Common.{◌≡◌, slice_index, refl, arith, ◌∙◌}
 use Rattle.std.proofs.lemmas.List.{get_or_default}
 use Rattle.ac_search.specs.WalkShown.{search_in}
 use Rattle.ac_search.proofs.MoveLemmas.{sound_next}
