@@ -12,6 +12,7 @@ use Rattle.std.proofs.Math.Nat.{pow-suc, one-le-pow, add-mul-mod_self_right, add
 use Rattle.std.specs.Option.{option_map}
 use Rattle.ac_base.specs.Texts.{is_digit, is_zero, with_digit, decimal, in_millionths}
 use Rattle.ac_base.specs.Laws.{SixDecimals}
+use Rattle.ac_base.proofs.Bools.{both}
 
 regroup : (n d p r : ℕ) → (n * 10 + d) * p + r ≡ n * (p * 10) + ((0 * 10 + d) * p + r)
 regroup n d p r = omega arith
@@ -30,7 +31,7 @@ first_digit c cs =
     let alone : decimal (c ∷ cs) ≡ (0 * 10 + (c - 48)) * 10 ^ length cs + decimal cs = digits_after (with_digit 0 c) cs in
     omega arith
 
-pub decimal-append : (xs ys : List ℕ) → decimal (xs ++ ys) ≡ decimal xs * 10 ^ length ys + decimal ys
+decimal-append : (xs ys : List ℕ) → decimal (xs ++ ys) ≡ decimal xs * 10 ^ length ys + decimal ys
 decimal-append xs ys = fold-append with_digit 0 xs ys ∙ digits_after (decimal xs) ys
 
 power_above_zero : (n : ℕ) → 0 < 10 ^ n
@@ -38,10 +39,6 @@ power_above_zero n = omega (arith, one-le-pow n 10 (omega arith))
 
 digit_below : (c : ℕ) → is_digit c ≡ true → c - 48 < 10
 digit_below c h = grind (arith, nat_tests)
-
-pub both : (a b : Bool) → (a && b) ≡ true → (a ≡ true) × (b ≡ true)
-both true b h = (refl, h)
-both false b h = absurd (cc)
 
 decimal-lt : (ds : List ℕ) → list_all is_digit ds ≡ true → decimal ds < 10 ^ length ds
 decimal-lt [] h = omega arith
@@ -98,33 +95,38 @@ spread kept p q rest = omega arith
 gather : (kept p q r : ℕ) → kept * (p * q) + r ≡ kept * p * q + r
 gather kept p q r = omega arith
 
+-- digits in d places: those kept, with the places that they lack, and the rest
 pub in_places : (d : ℕ) (ds : List ℕ)
     → decimal ds * 10 ^ d ≡ decimal (take d ds) * 10 ^ (d - length ds) * 10 ^ length ds + decimal (drop d ds) * 10 ^ d
 in_places d ds =
-    let whole : decimal ds ≡ decimal (take d ds) * 10 ^ length (drop d ds) + decimal (drop d ds) =
-    ap decimal (sym (take-append-drop d ds)) ∙ decimal-append (take d ds) (drop d ds) in
+    let kept : ℕ = decimal (take d ds) in
+    let rest : ℕ = decimal (drop d ds) in
+    let parts : decimal ds ≡ decimal (take d ds ++ drop d ds) = ap decimal (sym (take-append-drop d ds)) in
     let power : 10 ^ length (drop d ds) ≡ 10 ^ (length ds - d) = ap (λ e. 10 ^ e) (length-drop d ds) in
-    ap (λ n. n * 10 ^ d) (whole ∙ ap (λ p. decimal (take d ds) * p + decimal (drop d ds)) power)
-    ∙ spread (decimal (take d ds)) (10 ^ (length ds - d)) (10 ^ d) (decimal (drop d ds))
-    ∙ ap (λ p. decimal (take d ds) * p + decimal (drop d ds) * 10 ^ d) (same_power d (length ds))
-    ∙ gather (decimal (take d ds)) (10 ^ (d - length ds)) (10 ^ length ds) (decimal (drop d ds) * 10 ^ d)
+    ap (λ n. n * 10 ^ d) (parts ∙ decimal-append (take d ds) (drop d ds) ∙ ap (λ p. kept * p + rest) power)
+    ∙ spread kept (10 ^ (length ds - d)) (10 ^ d) rest
+    ∙ ap (λ p. kept * p + rest * 10 ^ d) (same_power d (length ds))
+    ∙ gather kept (10 ^ (d - length ds)) (10 ^ length ds) (rest * 10 ^ d)
+
+-- digits are digits in both parts
+pub digits_parts : (d : ℕ) (ds : List ℕ) → list_all is_digit ds ≡ (list_all is_digit (take d ds) && list_all is_digit (drop d ds))
+digits_parts d ds = ap (list_all is_digit) (sym (take-append-drop d ds)) ∙ list_all-append is_digit (take d ds) (drop d ds)
 
 -- what stands behind d places is less than one of the last of them
-pub behind-lt : (d : ℕ) (ds : List ℕ) → list_all is_digit (drop d ds) ≡ true → decimal (drop d ds) * 10 ^ d < 10 ^ length ds
+behind-lt : (d : ℕ) (ds : List ℕ) → list_all is_digit (drop d ds) ≡ true → decimal (drop d ds) * 10 ^ d < 10 ^ length ds
 behind-lt d ds h =
+    let rest : ℕ = decimal (drop d ds) in
     elim (cases_lt d (length ds)) [
       | inl longer ↦
-          let few : decimal (drop d ds) < 10 ^ (length ds - d) =
-          subst (λ k. decimal (drop d ds) < 10 ^ k) (length-drop d ds) (decimal-lt (drop d ds) h) in
+          let few : rest < 10 ^ (length ds - d) = subst (λ k. rest < 10 ^ k) (length-drop d ds) (decimal-lt (drop d ds) h) in
           let room : d - length ds ≡ 0 = omega arith in
           let no_place : 10 ^ (d - length ds) ≡ 1 = ap (λ e. 10 ^ e) room in
-          let most : (decimal (drop d ds) + 1) * 10 ^ d ≤ 10 ^ (length ds - d) * 10 ^ d =
-          mul-le (decimal (drop d ds) + 1) (10 ^ d) (10 ^ (length ds - d)) (10 ^ d) (omega arith) (omega arith) in
+          let next : rest + 1 ≤ 10 ^ (length ds - d) = omega arith in
+          let most : (rest + 1) * 10 ^ d ≤ 10 ^ (length ds - d) * 10 ^ d = mul-le (rest + 1) (10 ^ d) (10 ^ (length ds - d)) (10 ^ d) next (omega arith) in
           let whole : 10 ^ (length ds - d) * 10 ^ d ≡ 1 * 10 ^ length ds = same_power d (length ds) ∙ ap (λ p. p * 10 ^ length ds) no_place in
           omega (arith, power_above_zero d)
       | inr short ↦
-          let none : decimal (drop d ds) ≡ 0 = ap decimal (drop_of_length-le ds short) in
-          let nothing : decimal (drop d ds) * 10 ^ d ≡ 0 * 10 ^ d = ap (λ n. n * 10 ^ d) none in
+          let nothing : rest * 10 ^ d ≡ 0 * 10 ^ d = ap (λ ds. decimal ds * 10 ^ d) (drop_of_length-le ds short) in
           omega (arith, power_above_zero (length ds))
     ]
 
@@ -133,34 +135,34 @@ behind-lt d ds h =
 pub millionths-whole : (ds : List ℕ) (behind q : ℕ) → decimal ds * 1000000 ≡ q * 10 ^ behind → in_millionths ds behind ≡ Some q
 unfolding in_millionths
 millionths-whole ds behind q h =
-    let split : decimal ds * 1000000 ≡ q * 10 ^ behind + 0 = omega arith in
-    let rest : decimal ds * 1000000 % 10 ^ behind ≡ 0 =
-    ap (λ n. n % 10 ^ behind) split ∙ mod-mul-add q (10 ^ behind) 0 (power_above_zero behind) in
-    let quotient : decimal ds * 1000000 / 10 ^ behind ≡ q =
-    ap (λ n. n / 10 ^ behind) split ∙ div-mul-add q (10 ^ behind) 0 (power_above_zero behind) in
-    ap (λ t. if t then Some (decimal ds * 1000000 / 10 ^ behind) else None) (eq-eqb (decimal ds * 1000000 % 10 ^ behind) 0 rest) ∙ ap Some quotient
+    let n : ℕ = decimal ds * 1000000 in
+    let split : n ≡ q * 10 ^ behind + 0 = omega arith in
+    let rest : n % 10 ^ behind ≡ 0 = ap (λ k. k % 10 ^ behind) split ∙ mod-mul-add q (10 ^ behind) 0 (power_above_zero behind) in
+    let quotient : n / 10 ^ behind ≡ q = ap (λ k. k / 10 ^ behind) split ∙ div-mul-add q (10 ^ behind) 0 (power_above_zero behind) in
+    ap (λ t. if t then Some (n / 10 ^ behind) else None) (eq-eqb (n % 10 ^ behind) 0 rest) ∙ ap Some quotient
 
-pub millionths-part : (ds : List ℕ) (behind q r : ℕ) → decimal ds * 1000000 ≡ q * 10 ^ behind + r → 0 < r → r < 10 ^ behind
+millionths-part : (ds : List ℕ) (behind q r : ℕ) → decimal ds * 1000000 ≡ q * 10 ^ behind + r → 0 < r → r < 10 ^ behind
     → in_millionths ds behind ≡ None
 unfolding in_millionths
 millionths-part ds behind q r h some few =
-    let rest : decimal ds * 1000000 % 10 ^ behind ≡ r = ap (λ n. n % 10 ^ behind) h ∙ mod-mul-add q (10 ^ behind) r few in
-    ap (λ t. if t then Some (decimal ds * 1000000 / 10 ^ behind) else None) (ne_eqb (decimal ds * 1000000 % 10 ^ behind) 0 (λ none. omega arith))
+    let n : ℕ = decimal ds * 1000000 in
+    let rest : n % 10 ^ behind ≡ r = ap (λ k. k % 10 ^ behind) h ∙ mod-mul-add q (10 ^ behind) r few in
+    ap (λ t. if t then Some (n / 10 ^ behind) else None) (ne_eqb (n % 10 ^ behind) 0 (λ none. omega arith))
 
 -- Digits behind a point are whole millionths where all behind the sixth are 0, and then those of the first six.
 pub fraction_millionths : (ds : List ℕ) → list_all is_digit ds ≡ true
     → in_millionths ds (length ds) ≡ (if list_all is_zero (drop 6 ds) then Some (decimal (take 6 ds) * 10 ^ (6 - length ds)) else None)
 fraction_millionths ds h =
-    let all : (list_all is_digit (take 6 ds) && list_all is_digit (drop 6 ds)) ≡ true =
-    sym (list_all-append is_digit (take 6 ds) (drop 6 ds)) ∙ ap (list_all is_digit) (take-append-drop 6 ds) ∙ h in
-    let rest_digits = (both (list_all is_digit (take 6 ds)) (list_all is_digit (drop 6 ds)) all).1 in
-    elim (list_all is_zero (drop 6 ds)) as (λ z. list_all is_zero (drop 6 ds) ≡ z → in_millionths ds (length ds) ≡ (if z then Some (decimal (take 6 ds) * 10 ^ (6 - length ds)) else None)) [
+    let parts = both (list_all is_digit (take 6 ds)) (list_all is_digit (drop 6 ds)) (sym (digits_parts 6 ds) ∙ h) in
+    let kept : ℕ = decimal (take 6 ds) * 10 ^ (6 - length ds) in
+    let rest : ℕ = decimal (drop 6 ds) in
+    elim (list_all is_zero (drop 6 ds)) as (λ z. list_all is_zero (drop 6 ds) ≡ z → in_millionths ds (length ds) ≡ (if z then Some kept else None)) [
       | true ↦ λ zeros.
-          let nothing : decimal (drop 6 ds) * 1000000 ≡ 0 * 1000000 = ap (λ n. n * 1000000) (zeros_decimal (drop 6 ds) zeros) in
-          millionths-whole ds (length ds) (decimal (take 6 ds) * 10 ^ (6 - length ds)) (omega (arith, in_places 6 ds))
+          let nothing : rest * 1000000 ≡ 0 * 1000000 = ap (λ n. n * 1000000) (zeros_decimal (drop 6 ds) zeros) in
+          millionths-whole ds (length ds) kept (omega (arith, in_places 6 ds))
       | false ↦ λ some.
-          millionths-part ds (length ds) (decimal (take 6 ds) * 10 ^ (6 - length ds)) (decimal (drop 6 ds) * 1000000)
-          (in_places 6 ds) (omega (arith, digits_decimal (drop 6 ds) rest_digits some)) (behind-lt 6 ds rest_digits)
+          let left : 0 < rest * 1000000 = omega (arith, digits_decimal (drop 6 ds) parts.1 some) in
+          millionths-part ds (length ds) kept (rest * 1000000) (in_places 6 ds) left (behind-lt 6 ds parts.1)
     ] refl
 
 map_test : (t : Bool) (f : ℕ → ℕ) (x : ℕ) → option_map f (if t then Some x else None) ≡ (if t then Some (f x) else None)
@@ -175,18 +177,17 @@ pub whole_and_fraction : (whole fraction : List ℕ)
     → in_millionths (whole ++ fraction) (length fraction) ≡ option_map (λ f. decimal whole * 1000000 + f) (in_millionths fraction (length fraction))
 unfolding in_millionths
 whole_and_fraction whole fraction =
-    let sum : decimal (whole ++ fraction) * 1000000 ≡ decimal fraction * 1000000 + decimal whole * 1000000 * 10 ^ length fraction =
-    ap (λ n. n * 1000000) (decimal-append whole fraction) ∙ widen (decimal whole) (10 ^ length fraction) (decimal fraction) in
-    let rest : decimal (whole ++ fraction) * 1000000 % 10 ^ length fraction ≡ decimal fraction * 1000000 % 10 ^ length fraction =
-    ap (λ n. n % 10 ^ length fraction) sum
-    ∙ add-mul-mod_self_right (decimal fraction * 1000000) (decimal whole * 1000000) (10 ^ length fraction) in
-    let quotient : decimal (whole ++ fraction) * 1000000 / 10 ^ length fraction ≡ decimal whole * 1000000 + decimal fraction * 1000000 / 10 ^ length fraction =
-    ap (λ n. n / 10 ^ length fraction) sum
-    ∙ add-mul-div_right (decimal fraction * 1000000) (decimal whole * 1000000) (power_above_zero (length fraction))
-    ∙ omega arith in
-    ap (λ r. if r == 0 then Some (decimal (whole ++ fraction) * 1000000 / 10 ^ length fraction) else None) rest
-    ∙ ap (λ q. if decimal fraction * 1000000 % 10 ^ length fraction == 0 then Some q else None) quotient
-    ∙ sym (map_test (decimal fraction * 1000000 % 10 ^ length fraction == 0) (λ f. decimal whole * 1000000 + f) (decimal fraction * 1000000 / 10 ^ length fraction))
+    let w : ℕ = decimal whole * 1000000 in
+    let f : ℕ = decimal fraction * 1000000 in
+    let p : ℕ = 10 ^ length fraction in
+    let all : ℕ = decimal (whole ++ fraction) * 1000000 in
+    let sum : all ≡ f + w * p = ap (λ n. n * 1000000) (decimal-append whole fraction) ∙ widen (decimal whole) p (decimal fraction) in
+    let rest : all % p ≡ f % p = ap (λ n. n % p) sum ∙ add-mul-mod_self_right f w p in
+    let over : (f + w * p) / p ≡ f / p + w = add-mul-div_right f w (power_above_zero (length fraction)) in
+    let quotient : all / p ≡ w + f / p = ap (λ n. n / p) sum ∙ over ∙ omega arith in
+    ap (λ r. if r == 0 then Some (all / p) else None) rest
+    ∙ ap (λ q. if f % p == 0 then Some q else None) quotient
+    ∙ sym (map_test (f % p == 0) (λ x. w + x) (f / p))
 
 is_some_map : (t : Bool) (f : ℕ → ℕ) (x : ℕ) → is_some (option_map f (if t then Some x else None)) ≡ t
 is_some_map true f x = refl

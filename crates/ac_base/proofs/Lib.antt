@@ -1,3 +1,4 @@
+pub mod Bools
 pub mod Options
 pub mod NameFacts
 pub mod Known

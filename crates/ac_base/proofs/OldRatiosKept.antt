@@ -1,16 +1,15 @@
 -- What a text said in thousandths, it says in millionths.
-use Rattle.std.proofs.Common.{◌≡◌, ℕ, ◌+◌, ◌-◌, ◌*◌, ◌/◌, ◌^◌, ◌≤◌, refl, sym, ap, ap₂, ◌∙◌, arith, leb-true, le-leb, ◌&&◌, true, false, nat_lt, nat_le, List, [], ◌∷◌, take, drop, length, if◌then◌else◌, Option, Some, None, unwrap_or}
+use Rattle.std.proofs.Common.{◌≡◌, ℕ, ◌+◌, ◌-◌, ◌*◌, ◌/◌, ◌^◌, ◌≤◌, refl, sym, ap, ap₂, ◌∙◌, arith, leb-true, le-leb, ◌&&◌, Bool, true, false, nat_lt, nat_le, List, [], ◌∷◌, take, drop, length, if◌then◌else◌, Option, Some, None, unwrap_or}
 use Rattle.std.specs.List.{list_all, position, position_or_len}
 use Rattle.std.specs.Option.{option_map, option_and_then}
 use Rattle.std.proofs.lemmas.Bool.Decides.{nat_tests}
-use Rattle.std.proofs.lemmas.List.{take-append-drop}
-use Rattle.std.proofs.lemmas.List.Folds.{list_all-append}
 use Rattle.std.proofs.Math.Seq.{take-length}
 use Rattle.std.proofs.Math.Nat.{mul-div-mul_right}
 use Rattle.ac_base.specs.Texts.{is_digit, is_zero, is_point, are_digits, number, decimal, at_most, greatest_ratio, in_millionths, ratio_value}
 use Rattle.ac_base.specs.OldRatios.{old_fraction, old_parts, OldRatiosKeep}
 use Rattle.ac_base.specs.RatioShown.{fraction_value}
-use Rattle.ac_base.proofs.Decimals.{both, in_places, zeros_decimal, zeros_digits, millionths-whole}
+use Rattle.ac_base.proofs.Bools.{both}
+use Rattle.ac_base.proofs.Decimals.{in_places, digits_parts, zeros_decimal, zeros_digits, millionths-whole}
 use Rattle.ac_base.proofs.Ratios.{any_digits, ratio_parts}
 
 -- the number, where it is within its limit
@@ -37,18 +36,18 @@ old_both (Some w) (Some f) n h =
     let limit = within_limit 1000000000 (w * 1000 + f) n h in
     (w, f, refl, refl, limit.0, omega arith)
 
--- what of old digits behind a point is known
-old_digits : (ds : List ℕ) (n : ℕ) → old_fraction ds ≡ Some n
-    → (list_all is_zero (drop 3 ds) ≡ true) × (are_digits 3 (take 3 ds) ≡ true) × (n ≡ decimal (take 3 ds) * 10 ^ (3 - length ds))
+-- what is known of digits that had thousandths
+abbrev OldDigits : List ℕ → ℕ → Type 0
+OldDigits ds n = (list_all is_zero (drop 3 ds) ≡ true) × (are_digits 3 (take 3 ds) ≡ true) × (n ≡ decimal (take 3 ds) * 10 ^ (3 - length ds))
+
+old_digits : (ds : List ℕ) (n : ℕ) → old_fraction ds ≡ Some n → OldDigits ds n
 unfolding number
 old_digits ds n h =
-    elim (list_all is_zero (drop 3 ds)) as (λ z. list_all is_zero (drop 3 ds) ≡ z
-    → (if z then option_map (λ v. v * 10 ^ (3 - length ds)) (number 3 (take 3 ds)) else None) ≡ Some n
-    → (list_all is_zero (drop 3 ds) ≡ true) × (are_digits 3 (take 3 ds) ≡ true) × (n ≡ decimal (take 3 ds) * 10 ^ (3 - length ds))) [
+    let scaled : Option ℕ → Option ℕ = λ kept. option_map (λ v. v * 10 ^ (3 - length ds)) kept in
+    let kept : Bool → Option ℕ = λ t. if t then Some (decimal (take 3 ds)) else None in
+    elim (list_all is_zero (drop 3 ds)) as (λ z. list_all is_zero (drop 3 ds) ≡ z → (if z then scaled (number 3 (take 3 ds)) else None) ≡ Some n → OldDigits ds n) [
       | true ↦ λ zeros given.
-          (elim (are_digits 3 (take 3 ds)) as (λ t. are_digits 3 (take 3 ds) ≡ t
-          → option_map (λ v. v * 10 ^ (3 - length ds)) (if t then Some (decimal (take 3 ds)) else None) ≡ Some n
-          → (list_all is_zero (drop 3 ds) ≡ true) × (are_digits 3 (take 3 ds) ≡ true) × (n ≡ decimal (take 3 ds) * 10 ^ (3 - length ds))) [
+          (elim (are_digits 3 (take 3 ds)) as (λ t. are_digits 3 (take 3 ds) ≡ t → scaled (kept t) ≡ Some n → OldDigits ds n) [
             | true ↦ λ digits same. (zeros, digits, cc)
             | false ↦ λ digits same. absurd (cc)
           ] refl given)
@@ -63,15 +62,13 @@ unfolding fraction_value
 old_fraction_kept [] n h = absurd (cc ((old_digits [] n h).1))
 old_fraction_kept (c ∷ cs) n h =
     let ds : List ℕ = c ∷ cs in
+    let p : ℕ = 10 ^ length ds in
     let known = old_digits ds n h in
-    let kept : list_all is_digit (take 3 ds) ≡ true = (both (nat_lt 0 (length (take 3 ds)) && nat_le (length (take 3 ds)) 3) (list_all is_digit (take 3 ds)) (cc (known.1))).1 in
-    let digits : are_digits (length ds) ds ≡ true =
-    any_digits c cs ∙ ap (list_all is_digit) (sym (take-append-drop 3 ds)) ∙ list_all-append is_digit (take 3 ds) (drop 3 ds)
-    ∙ ap₂ (λ x y. x && y) kept (zeros_digits (drop 3 ds) known.0) in
-    let value : decimal ds * 1000 ≡ n * 10 ^ length ds + 0 * 1000 =
-    in_places 3 ds ∙ ap₂ (λ k r. k * 10 ^ length ds + r * 1000) (sym known.2) (zeros_decimal (drop 3 ds) known.0) in
-    ap (λ t. if t then in_millionths ds (length ds) else None) digits
-    ∙ millionths-whole ds (length ds) (n * 1000) (times (decimal ds) n (10 ^ length ds) value)
+    let kept = both (nat_lt 0 (length (take 3 ds)) && nat_le (length (take 3 ds)) 3) (list_all is_digit (take 3 ds)) (cc (known.1)) in
+    let parts : (list_all is_digit (take 3 ds) && list_all is_digit (drop 3 ds)) ≡ true = ap₂ (λ x y. x && y) kept.1 (zeros_digits (drop 3 ds) known.0) in
+    let digits : are_digits (length ds) ds ≡ true = any_digits c cs ∙ digits_parts 3 ds ∙ parts in
+    let value : decimal ds * 1000 ≡ n * p + 0 * 1000 = in_places 3 ds ∙ ap₂ (λ k r. k * p + r * 1000) (sym known.2) (zeros_decimal (drop 3 ds) known.0) in
+    ap (λ t. if t then in_millionths ds (length ds) else None) digits ∙ millionths-whole ds (length ds) (n * 1000) (times (decimal ds) n p value)
 
 position_inside : (b : List ℕ) (i : ℕ) → position is_point b ≡ Some i → nat_lt i (length b) ≡ true
 position_inside b i h =
@@ -99,9 +96,9 @@ kept_at b n None place h =
     ∙ within_new_limit known.0 0 n (omega (arith, known.2)) known.3
 kept_at b n (Some i) place h =
     let known = old_both (number 7 (take i b)) (old_fraction (drop (i + 1) b)) n h in
-    let behind : Some (known.1 * 1000) ≡ (if nat_lt i (length b) then fraction_value (drop (i + 1) b) else Some 0) =
-    sym (ap (λ t. if t then fraction_value (drop (i + 1) b) else Some 0) (position_inside b i place) ∙ old_fraction_kept (drop (i + 1) b) known.1 known.3) in
-    sym (ratio_parts b i (Some known.0) (Some (known.1 * 1000)) (sym (ap (λ o. unwrap_or o (length b)) place)) (sym known.2) behind)
+    let next : Bool → Option ℕ = λ t. if t then fraction_value (drop (i + 1) b) else Some 0 in
+    let behind : next (nat_lt i (length b)) ≡ Some (known.1 * 1000) = ap next (position_inside b i place) ∙ old_fraction_kept (drop (i + 1) b) known.1 known.3 in
+    sym (ratio_parts b i (Some known.0) (Some (known.1 * 1000)) (sym (ap (λ o. unwrap_or o (length b)) place)) (sym known.2) (sym behind))
     ∙ within_new_limit known.0 known.1 n known.4 known.5
 
 same_capacity : (free n : ℕ) → free * (n * 1000) / 1000000 ≡ free * n / 1000

@@ -3,13 +3,12 @@ use Rattle.std.proofs.Common.{◌≡◌, ℕ, ◌+◌, ◌-◌, ◌*◌, ◌^◌
 use Rattle.std.specs.List.{list_all, position, position_or_len}
 use Rattle.std.specs.Option.{option_map, option_and_then}
 use Rattle.std.proofs.lemmas.Bool.Decides.{nat_tests}
-use Rattle.std.proofs.lemmas.List.{take-append-drop, length-take}
-use Rattle.std.proofs.lemmas.List.Folds.{list_all-append}
+use Rattle.std.proofs.lemmas.List.{length-take}
 use Rattle.std.proofs.lemmas.List.Sums.{prefix_len-le-length}
 use Rattle.std.proofs.Math.ListN.{drop_of_length-le}
 use Rattle.ac_base.specs.Texts.{is_digit, is_zero, is_point, are_digits, number, decimal, at_most, greatest_ratio, in_millionths, ratio_value}
 use Rattle.ac_base.specs.RatioShown.{fraction_value}
-use Rattle.ac_base.proofs.Decimals.{millionths-whole, fraction_millionths, whole_and_fraction, zeros_digits}
+use Rattle.ac_base.proofs.Decimals.{millionths-whole, fraction_millionths, whole_and_fraction, zeros_digits, digits_parts}
 
 -- digits behind a point, read from the first six and the zeros behind them
 abbrev pub fraction_read : List ℕ → Option ℕ
@@ -44,12 +43,15 @@ unfolding number fraction_value
 fraction_steps [] = refl
 fraction_steps (c ∷ cs) =
     let ds : List ℕ = c ∷ cs in
-    let digits : list_all is_digit ds ≡ (list_all is_digit (take 6 ds) && list_all is_digit (drop 6 ds)) =
-    ap (list_all is_digit) (sym (take-append-drop 6 ds)) ∙ list_all-append is_digit (take 6 ds) (drop 6 ds) in
-    ap (λ t. if list_all is_zero (drop 6 ds) then option_map (λ v. v * 10 ^ (6 - length ds)) (if t then Some (decimal (take 6 ds)) else None) else None) (six_digits c cs)
-    ∙ join_digits (list_all is_zero (drop 6 ds)) (list_all is_digit (take 6 ds)) (list_all is_digit (drop 6 ds)) (in_millionths ds (length ds))
-    (λ v. v * 10 ^ (6 - length ds)) (decimal (take 6 ds)) (λ all. fraction_millionths ds (digits ∙ all)) (zeros_digits (drop 6 ds))
-    ∙ ap (λ t. if t then in_millionths ds (length ds) else None) (sym (any_digits c cs ∙ digits))
+    let zeros : Bool = list_all is_zero (drop 6 ds) in
+    let kept : Bool = list_all is_digit (take 6 ds) in
+    let rest : Bool = list_all is_digit (drop 6 ds) in
+    let scaled : ℕ → ℕ = λ v. v * 10 ^ (6 - length ds) in
+    let value : ℕ = decimal (take 6 ds) in
+    let whole : (kept && rest) ≡ true → in_millionths ds (length ds) ≡ (if zeros then Some (scaled value) else None) = λ all. fraction_millionths ds (digits_parts 6 ds ∙ all) in
+    ap (λ t. if zeros then option_map scaled (if t then Some value else None) else None) (six_digits c cs)
+    ∙ join_digits zeros kept rest (in_millionths ds (length ds)) scaled value whole (zeros_digits (drop 6 ds))
+    ∙ ap (λ t. if t then in_millionths ds (length ds) else None) (sym (any_digits c cs ∙ digits_parts 6 ds))
 
 -- the place of the point, or the end of a text that has none
 point_or_end : (b : List ℕ) → unwrap_or (position is_point b) (length b) ≡ position_or_len is_point b
@@ -74,23 +76,26 @@ join_parts true true true f w g h = refl
 join_parts true true false f w g h = refl
 join_parts true false a f w g h = ap (λ o. option_and_then g (option_map (λ x. w * 1000000 + x) o)) (sym (h refl))
 
--- the ratio of a text with its point at this place
-ratio_at : (b : List ℕ) (i : ℕ) → i ≡ position_or_len is_point b
-    → option_and_then (at_most greatest_ratio) (option_and_then (λ w. option_map (λ f. w * 1000000 + f)
-    (if nat_lt i (length b) then fraction_value (drop (i + 1) b) else Some 0)) (number 7 (take i b)))
-    ≡ ratio_value b
+-- what is read of a text with its point at this place
+abbrev ratio_read : List ℕ → ℕ → Option ℕ
+ratio_read b i =
+    option_and_then (λ w. option_map (λ f. w * 1000000 + f) (if nat_lt i (length b) then fraction_value (drop (i + 1) b) else Some 0)) (number 7 (take i b))
+
+-- the ratio of these digits, where end says that a text ends before the point
+abbrev ratio_of : List ℕ → List ℕ → Bool → Option ℕ → Option ℕ
+ratio_of whole fraction end m =
+    if are_digits 7 whole && (end || are_digits (length fraction) fraction) then option_and_then (at_most greatest_ratio) m else None
+
+ratio_at : (b : List ℕ) (i : ℕ) → i ≡ position_or_len is_point b → option_and_then (at_most greatest_ratio) (ratio_read b i) ≡ ratio_value b
 unfolding ratio_value number fraction_value
 ratio_at b i place =
-    let whole : List ℕ = take i b in
-    let fraction : List ℕ = drop (i + 1) b in
+    let w : List ℕ = take i b in
+    let f : List ℕ = drop (i + 1) b in
     let inside : i ≤ length b = omega (arith, prefix_len-le-length (λ c. not (is_point c)) b) in
-    let value : List ℕ → List ℕ → Bool → Option ℕ → Option ℕ =
-    λ w f end m. if are_digits 7 w && (end || are_digits (length f) f) then option_and_then (at_most greatest_ratio) m else None in
-    join_parts (are_digits 7 whole) (nat_lt i (length b)) (are_digits (length fraction) fraction) (in_millionths fraction (length fraction))
-    (decimal whole) (at_most greatest_ratio) (nothing_behind b i)
-    ∙ ap₂ (value whole fraction) (sym (ends_there b i inside)) (sym (whole_and_fraction whole fraction))
-    ∙ ap (λ k. value (take k b) (drop (k + 1) b) (length (take k b) == length b)
-    (in_millionths (take k b ++ drop (k + 1) b) (length (drop (k + 1) b)))) place
+    let all : ℕ → Option ℕ = λ k. in_millionths (take k b ++ drop (k + 1) b) (length (drop (k + 1) b)) in
+    join_parts (are_digits 7 w) (nat_lt i (length b)) (are_digits (length f) f) (in_millionths f (length f)) (decimal w) (at_most greatest_ratio) (nothing_behind b i)
+    ∙ ap₂ (ratio_of w f) (sym (ends_there b i inside)) (sym (whole_and_fraction w f))
+    ∙ ap (λ k. ratio_of (take k b) (drop (k + 1) b) (length (take k b) == length b) (all k)) place
 
 -- the ratio of what was read before the point and behind it
 pub ratio_parts : (b : List ℕ) (i : ℕ) (whole behind : Option ℕ) → i ≡ unwrap_or (position is_point b) (length b) → whole ≡ number 7 (take i b)

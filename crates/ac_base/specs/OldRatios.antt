@@ -1,4 +1,4 @@
--- Ratios in thousandths, as they were defined before they were held in millionths. Only the law cites them that nothing is lost.
+-- Ratios in thousandths, as they were defined before millionths. Nothing cites them but the law that each ratio keeps its capacities.
 use Rattle.std.specs.Prelude.{◌≡◌, ℕ, ◌+◌, ◌-◌, ◌*◌, ◌/◌, ◌^◌, List, take, drop, length, position, Option, Some, None, if◌then◌else◌}
 use Rattle.std.specs.List.{list_all}
 use Rattle.std.specs.Option.{option_map, option_and_then}

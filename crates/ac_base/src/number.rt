@@ -1,3 +1,5 @@
+//! Counts, and allocation ratios in millionths.
+
 ghost use Rattle.std.specs.Prelude.{◌≡◌, ℕ, ◌+◌, ◌≤◌, ◌<◌, ◌^◌, nat_lt, IfSome, position, length, drop, Some, if◌then◌else◌};
 ghost use Rattle.std.specs.List.{list_all};
 ghost use Rattle.ac_base.specs.Texts.{number, count_value, is_zero, is_point, ratio_value, greatest_ratio};
