@@ -7,6 +7,7 @@ pub mod device;
 pub mod from_read;
 pub mod id;
 pub mod inventory;
+pub mod laws;
 pub mod mem_feed;
 pub mod mem_sink;
 pub mod memory;
