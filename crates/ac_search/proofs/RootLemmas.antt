@@ -180,7 +180,7 @@ slot_hosted l r t s choices rooms asks h accounts hosted are want some =
     let at = place_of_choice choices p there in
     let is : slice_index choices at.0 ≡ p = at.2 0 in
     let row : has_each (row_of l.rows.items p) asks ≡ true = subst (λ (ns : List (ℕ × ℕ)). has_each (row_of l.rows.items p) ns ≡ true) (sym want)
-        (each_suffices (texts_in l) (row_of l.rows.items p) slot.needs (known_in l s h) (slot_rises l.query.now s h) ∙ holds_suffice l p slot.needs slot.needs low accounts (known_in l s h) (known_in l s h) both.1) in
+    (each_suffices (texts_in l) (row_of l.rows.items p) slot.needs (known_in l s h) (slot_rises l.query.now s h) ∙ holds_suffice l p slot.needs slot.needs low accounts (known_in l s h) (known_in l s h) both.1) in
     let here = subst (λ (x : ℕ). 0 < slice_index rooms x) is (some at.0 at.1 (subst (λ (x : ℕ). has_each (row_of l.rows.items x) asks ≡ true) (sym is) row)) in
     let reach = among_load (λ p. slice_index rooms p) (hosts_of all r) p served.host in
     omega (arith, here, reach)
@@ -302,7 +302,3 @@ lone_told l s k a w c b v h number is of less lone much =
     let wants : wanted (map ask_pair v.items) k ≡ amount_of (slot_at (asked_in l) s).needs c = ap₂ (λ (ns : List (ℕ × ℕ)) (j : ℕ). wanted ns j) asks number ∙ wanted_is (texts_in l) (slot_at (asked_in l) s).needs c (known_in l s h) in
     let enough : nat_le a (amount_of (slot_at (asked_in l) s).needs c) ≡ true = let fits : a ≤ amount_of (slot_at (asked_in l) s).needs c = omega (arith, less, much, wants) in grind (arith, nat_tests) in
     rw (own, enough) (omega arith)
-
-pub any_none : (f : ℕ → Bool) (zs : List ℕ) → Each (λ z. f z ≡ true → ⊥) zs → list_any f zs ≡ true → ⊥
-any_none f [] each h = false≢true h
-any_none f (z ∷ zs) each h = elim (cases_Bool (f z)) [ inl e ↦ each.0 e | inr e ↦ any_none f zs each.1 (rw e at h) ]

@@ -19,6 +19,9 @@ use ac_base::{ClassName, NoMemory};
 use ac_tables::Cloud;
 use std::alloc::Global;
 
+// How many pairs of a provider and a root are counted over at the most.
+const MOST_PAIRS: u64 = 1_048_576;
+
 // Adds an amount at each root of a list; a sum stays where it can't rise.
 fn add_at(loads: &mut [u64], roots: &[u32], amount: u64)
     requires { All (λ r. r < length loads.old) roots.now }
@@ -287,10 +290,12 @@ fn limit_amounts(
     requires hosts { AreHosts (providers_in ledger.now) (asked_in ledger.now) may.old }
     ensures { IfOk result (λ _. AreHosts (providers_in ledger.now) (asked_in ledger.now) may.new) }
 {
+    let mut seen = Vec::new(alloc);
     for asks in &ledger.asks {
         let amount = wanted(asks, number);
-        if amount > 0 {
+        if amount > 0 && !seen.contains(&amount) {
             limit_amount(alloc, ledger, class, number, rooms, amount, may)?;
+            seen.push(amount)?;
         }
     }
     Ok(())
@@ -387,7 +392,18 @@ fn limit_slots(
     Ok(())
 }
 
-// Of all slots and all classes.
+// How many pairs of a provider and a root there are, in whose tree it is available. Each count goes over all of them, so
+// where there are too many, as where thousands share with thousands, nothing is counted: that is right too, only slower
+// where no root can host.
+fn count_pairs(cloud: &Cloud) -> u64 {
+    let mut pairs = 0u64;
+    for ix in 0..cloud.len() {
+        pairs = pairs.saturating_add(cloud.anchors(ix).len() as u64);
+    }
+    pairs
+}
+
+// Of all slots and all classes, where there are few enough pairs.
 fn limit_all(
     alloc: Global,
     ledger: &Ledger,
@@ -400,12 +416,16 @@ fn limit_all(
     requires hosts { AreHosts (providers_in ledger.now) (asked_in ledger.now) may.old }
     ensures { IfOk result (λ _. AreHosts (providers_in ledger.now) (asked_in ledger.now) may.new) }
 {
+    if count_pairs(ledger.cloud) > MOST_PAIRS {
+        return Ok(());
+    }
     limit_slots(alloc, ledger, choices, may)?;
     limit_classes(alloc, ledger, may)
 }
 
 /// For each root whether it may host a candidate: the query takes it, some choice of each slot is available there and
-/// has room for the slot, and of each class its providers have as much as all slots ask.
+/// has room for the slot, of each class its providers have as much as all slots ask, and of each amount that a slot asks
+/// they have as many pieces as slots ask so much or more.
 pub(crate) fn host_roots(
     alloc: Global,
     ledger: &Ledger,
