@@ -4,3 +4,4 @@ pub mod Known
 pub mod Powers
 pub mod ShownKeys
 pub mod Leaving
+pub mod Gathers

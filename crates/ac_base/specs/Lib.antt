@@ -4,3 +4,4 @@ pub mod Devices
 pub mod Memory
 pub mod Turns
 pub mod Names
+pub mod Gathered
