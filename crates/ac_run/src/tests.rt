@@ -2,6 +2,7 @@
 ghost use Rattle.std.specs.Option.{option_map};
 ghost use Rattle.ac_run.specs.Jobs.{HasToken};
 
+use crate::gathered::run_gathered;
 use crate::job::{Command, Inputs, Job};
 use crate::running::run;
 use ac_base::{MemFeed, MemSink, Turn};
@@ -94,6 +95,7 @@ struct Turns<'a> {
     inventories: &'a [Turn],
     out: &'a [Turn],
     err: &'a [Turn],
+    is_gathered: bool,
 }
 
 const SOUND: Turns<'static> = Turns {
@@ -101,6 +103,7 @@ const SOUND: Turns<'static> = Turns {
     inventories: &[],
     out: &[],
     err: &[],
+    is_gathered: false,
 };
 
 // What a run leaves.
@@ -131,7 +134,13 @@ fn run_texts(alloc: Global, texts: &Texts, job: &Job<'_>, turns: Turns) -> Resul
     };
     let mut out = MemSink::new(vec![in alloc; 0u8; 2000]?, turns.out);
     let mut err = MemSink::new(vec![in alloc; 0u8; 1000]?, turns.err);
-    let status = run(alloc, job, &mut inputs, &mut out, &mut err);
+    let status = if turns.is_gathered {
+        let (status, gathered) = run_gathered(alloc, job, &mut inputs, out, &mut err);
+        out = gathered;
+        status
+    } else {
+        run(alloc, job, &mut inputs, &mut out, &mut err)
+    };
     Ok(Left {
         output: text_of(alloc, out.taken())?,
         line: text_of(alloc, err.taken())?,

@@ -5,7 +5,7 @@ use Rattle.ac_run.proofs.gathered.run_gathered.Goals as goal
 pub returns-then-status-gt1-clause-answered : goal.returns-then-status-gt1-clause-answered
 returns-then-status-gt1-clause-answered g c = λ apart feeds out err b tell.
     let told = c.run-status.ensures.answered apart feeds
-        (λ rise. out (same_rise _ _ _ _ c.new-gathering.ensures.failures (sym c.into_inner.ensures.failures) rise)) err b tell in
+    (λ rise. out (same_rise _ _ _ _ c.new-gathering.ensures.failures (sym c.into_inner.ensures.failures) rise)) err b tell in
     record { line = told.line; status = told.status }
 
 pub returns-then-status-gt1-clause-untouched : goal.returns-then-status-gt1-clause-untouched
