@@ -102,6 +102,8 @@ LARGE = [
     *(check(f'{name} of rows', {'traits': lambda size=size: filled(TRAIT, size)},
             (1, 0, 0, 1, 0) if size <= MOST_BYTES else None, None if size <= MOST_BYTES else 'traits: TooLarge')
       for name, size in (('64 MiB', MOST_BYTES), ('64 MiB and a byte', MOST_BYTES + 1))),
+    check('a fault past the record 100000', {'traits': lambda: HEADERS['traits'] + f'{provider(1)},CUSTOM_A\n' * 100000 + f'{provider(1)},small\n'},
+          line='traits: record 100002: BadTrait'),
     check('a large table is told before the fault of an earlier one',
           {'providers': 'x', 'usages': lambda: '\n' * (MOST_BYTES + 1)}, line='usages: TooLarge'),
     query('4366 lists of one subtree, 65536 bytes', pairs('resources1=VCPU:2&', 'same_subtree=1&', QUERY_BYTES), lines('P1')),

@@ -98,6 +98,8 @@ WORDS = [
          ONE_HOST),
 ]
 
+EXAMPLE_COUNTS = 'providers 4\ninventories 9\nusages 0\ntraits 0\naggregates 0\n'
+BLANK = 'cd "$(mktemp -d)" && cp "$2" "providers.csv " && "$1" check --providers "providers.csv " --inventories "$3" && rm -r "$PWD"'
 FILES = [
     Case('without words: the answer on the built-in sample', [], lines('P1')),
     Case('without words, from another folder', [], lines('P1'), folder='/'),
@@ -114,16 +116,21 @@ FILES = [
     unreadable('a folder, and a refused query', tokens('', EXAMPLES), 'providers'),
     Case('a table without end', check('/dev/zero'), err='providers: TooLarge\n', status=3),
     Case('a table without end, and a folder after it', check('/dev/zero', EXAMPLES), err='providers: TooLarge\n', status=3),
+    Case('a path of more than 255 bytes', check('./' * 150 + 'providers.csv', 'inventories.csv'), EXAMPLE_COUNTS, folder=EXAMPLES),
+    unreadable('a path that ends in a blank, of a file that ends in none', check(PROVIDERS + ' '), 'providers'),
+    Case('a path that ends in a blank', ['sh', '-c', BLANK, 'blank', PROGRAM, PROVIDERS, INVENTORIES], EXAMPLE_COUNTS),
     Case('a refused query in two groups of faults', tokens('limit=0&colour=red'), err='query: pair 1: BadValue\n', status=4),
 ]
 
 
-def to_full(name, words):
-    return Case(f'a full device: {name}', words, None, 'output: WriteFailed\n', 6, to='/dev/full')
+def to_full(name, words, **made):
+    return Case(f'a full device: {name}', words, None, 'output: WriteFailed\n', 6, made, to='/dev/full')
 
 
 DEVICES = [
     to_full('without words', []),
+    to_full('help', ['--help']),
+    to_full('more than is gathered', ['tokens', 'resources=VCPU:2'], providers=roots(2000), inventories=vcpu(2000)),
     to_full('check', check()),
     to_full('tokens', tokens('resources=VCPU:2')),
     to_full('candidates', over(['candidates', 'resources=VCPU:2'])),

@@ -7,3 +7,4 @@ pub mod Leaving
 pub mod Decimals
 pub mod Ratios
 pub mod OldRatiosKept
+pub mod Gathers

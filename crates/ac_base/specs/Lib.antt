@@ -7,3 +7,4 @@ pub mod Names
 pub mod RatioShown
 pub mod OldRatios
 pub mod Laws
+pub mod Gathered

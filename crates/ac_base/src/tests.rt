@@ -2,6 +2,8 @@
 use crate::{ClassName, Inventory, Ratio, Suffix, TraitName};
 use std::test::Fail;
 
+mod devices;
+
 #[test]
 fn class_names(rt: HostRuntime) -> Result<(), Fail> {
     let alloc = rt.alloc();
