@@ -155,7 +155,7 @@ no_text_line = codes "error: the words are not UTF-8\n"
 abbrev pub EndsGiven : Type 0 → (Line → Type 0) → List Text → Streams → ℕ → Type 0
 EndsGiven Sample Ends words s given = ((length words < 2) × Sample) ⊎ ((2 ≤ length words) × EndsForWords Ends words s given)
 
--- how the program ends: without words that can be had, or as the words that it was given
-abbrev pub EndsProgram : (List Text → Type 0) → Type 0 → (Line → Type 0) → Streams → ℕ → Type 0
-EndsProgram gives Sample Ends s given =
-    IsTold s no_text_line 2 given ⊎ (IsTold s memory_line 7 given ⊎ ((words : List Text) × gives words × EndsGiven Sample Ends words s given))
+-- how the program ends: where the words are no text, or memory gave out, or as the words that it was given
+abbrev pub EndsProgram : (List Text → Type 0) → Type 0 → Type 0 → (Line → Type 0) → Streams → ℕ → Type 0
+EndsProgram gives garbles Sample Ends s given =
+    (garbles × IsTold s no_text_line 2 given) ⊎ (IsTold s memory_line 7 given ⊎ ((words : List Text) × gives words × EndsGiven Sample Ends words s given))

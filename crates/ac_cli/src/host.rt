@@ -1,5 +1,5 @@
 //! What the program is given from outside: its words, and the files at paths.
-ghost use Rattle.std.specs.Prelude.{ℕ, List, ⊤, IfNone, IfOk, IfSome, map, string_bytes};
+ghost use Rattle.std.specs.Prelude.{◌≡◌, ℕ, Err, List, ⊤, IfNone, IfOk, IfSome, map, string_bytes};
 
 use ac_base::{Feed, FromRead};
 use std::io::ErrorKind;
@@ -23,6 +23,9 @@ pub trait Host {
     // These are the words of the command line, with the program's own name.
     ghost gives: { Self → List (List ℕ) → Type 0 };
 
+    // The words are no text.
+    ghost garbles: { Self → Type 0 };
+
     // A file was opened at a path.
     ghost opens: { Self → List ℕ → Self.File → Type 0 };
 
@@ -30,7 +33,8 @@ pub trait Host {
     ghost refuses: { Self → List ℕ → Type 0 };
 
     fn words(&self) -> Result<Vec<String>, Unworded>
-        ensures { IfOk result (λ words. gives self.now (map string_bytes words.items)) };
+        ensures given { IfOk result (λ words. gives self.now (map string_bytes words.items)) }
+        ensures no_text { result ≡ Err Unworded.NotText → garbles self.now };
 
     fn open(&self, path: &str) -> Option<Self::File>
         ensures file { IfSome result (opens self.now path.now) }
@@ -42,6 +46,8 @@ impl<R: Env + Files + AllocGlobal> Host for R {
 
     // The system says nothing of its words and its files.
     ghost gives = { λ _ _. ⊤ };
+
+    ghost garbles = { λ _. ⊤ };
 
     ghost opens = { λ _ _ _. ⊤ };
 

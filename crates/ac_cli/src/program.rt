@@ -96,7 +96,7 @@ pub fn answer<H: Host + AllocGlobal, W: Sink + Drop, E: Sink>(
     out: W,
     err: &mut E,
 ) -> (u8, W)
-    ensures { EndsProgram (H.gives host.now) (RanSample ⟦<FromRead<&'static [u8]> as Feed>⟧.remaining ⟦<FromRead<&'static [u8]> as Feed>⟧.failures (seen W.taken W.failures E.taken E.failures out result.1 err.old err.new) result.0) (λ line. EndsForLine (H.opens host.now) (H.refuses host.now) H.File.remaining H.File.failures line (seen W.taken W.failures E.taken E.failures out result.1 err.old err.new) result.0) (seen W.taken W.failures E.taken E.failures out result.1 err.old err.new) result.0 }
+    ensures { EndsProgram (H.gives host.now) (H.garbles host.now) (RanSample ⟦<FromRead<&'static [u8]> as Feed>⟧.remaining ⟦<FromRead<&'static [u8]> as Feed>⟧.failures (seen W.taken W.failures E.taken E.failures out result.1 err.old err.new) result.0) (λ line. EndsForLine (H.opens host.now) (H.refuses host.now) H.File.remaining H.File.failures line (seen W.taken W.failures E.taken E.failures out result.1 err.old err.new) result.0) (seen W.taken W.failures E.taken E.failures out result.1 err.old err.new) result.0 }
 {
     match host.words() {
         Ok(words) => {
