@@ -486,7 +486,7 @@ fn faults(rt: HostRuntime) -> Result<(), Fail> {
             },
             Case {
                 rows: Rows {
-                    inventories: "@1,VCPU,8,0,1,8,1,1.2345\n",
+                    inventories: "@1,VCPU,8,0,1,8,1,1.2345678\n",
                     ..ONE
                 },
                 line: "inventories: record 2: BadRatio\n",
