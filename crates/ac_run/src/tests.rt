@@ -5,6 +5,7 @@ ghost use Rattle.ac_run.specs.Jobs.{HasToken};
 use crate::job::{Command, Inputs, Job};
 use crate::running::run;
 use ac_base::{MemFeed, MemSink, Turn};
+use ac_query::Version;
 use std::alloc::{AllocError, Global};
 
 mod crowded;
@@ -78,7 +79,7 @@ fn text_of(alloc: Global, bytes: &[u8]) -> Result<String, AllocError> {
     }
 }
 
-// A run over the five tables.
+// A run by 1.36 over the five tables.
 fn run_over<'a>(
     alloc: Global,
     rows: &Rows<'_>,
@@ -88,6 +89,19 @@ fn run_over<'a>(
     turns: Turns,
 ) -> Result<Left, AllocError>
     requires { HasToken command (option_map (λ token. token.now) token) }
+{
+    let job = Job {
+        command,
+        query,
+        version: Version::V136,
+        token,
+    };
+    run_job(alloc, rows, &job, turns)
+}
+
+// A run over the five tables.
+fn run_job(alloc: Global, rows: &Rows<'_>, job: &Job<'_>, turns: Turns) -> Result<Left, AllocError>
+    requires { HasToken job.now.command (option_map (λ token. token.now) job.now.token) }
 {
     let providers = table(
         alloc,
@@ -111,12 +125,7 @@ fn run_over<'a>(
     };
     let mut out = MemSink::new(vec![in alloc; 0u8; 2000]?, turns.out);
     let mut err = MemSink::new(vec![in alloc; 0u8; 1000]?, turns.err);
-    let job = Job {
-        command,
-        query,
-        token,
-    };
-    let status = run(alloc, &job, &mut inputs, &mut out, &mut err);
+    let status = run(alloc, job, &mut inputs, &mut out, &mut err);
     Ok(Left {
         output: text_of(alloc, out.taken())?,
         line: text_of(alloc, err.taken())?,
