@@ -32,7 +32,7 @@ IsStopOf kinds (stop.Told status) = 1 < status
 
 -- the task that a line asks for
 abbrev pub task_asked : Line → Task
-task_asked line = record { command = line.command; query = line.query; token = line.token }
+task_asked line = record { command = line.command; query = line.query; version = line.version; token = line.token }
 
 -- help was written: the words ask for it
 abbrev pub Shows : Kinds → ℕ → Type 0

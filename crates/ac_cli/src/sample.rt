@@ -2,6 +2,7 @@
 ghost use Rattle.std.specs.Prelude.{◌≡◌};
 
 use ac_base::FromRead;
+use ac_query::Version;
 use ac_run::{Command, Inputs, Job};
 
 const PROVIDERS: &str = "\
@@ -21,6 +22,7 @@ pub fn job() -> Job<'static>
     Job {
         command: Command::Tokens,
         query: "resources=VCPU:2",
+        version: Version::V136,
         token: None,
     }
 }
