@@ -27,7 +27,7 @@ def number(text):
 def is_ratio(text):
     parts = re.fullmatch(r'([0-9]{1,7})(?:\.([0-9]+))?', text)
     decimals = (parts[2] or '').rstrip('0') if parts else ''
-    return bool(parts) and len(decimals) <= 3 and int(parts[1] + decimals.ljust(3, '0')) <= 10 ** 9
+    return bool(parts) and len(decimals) <= 6 and int(parts[1] + decimals.ljust(6, '0')) <= 10 ** 12
 
 
 def uuid(text):
@@ -126,7 +126,7 @@ class Tables:
 FIELDS = {
     'BadUuid': ('xyz', '', 'None', ' P1', 'P1', 'P2', '{P3}', 'urn:uuid:P2', 'URN:UUID:P9', 'P9'),
     'BadNumber': ('', '8.0', '-1', '0', '9', '2147483648', '0000000008'),
-    'BadRatio': ('', '.5', '1.', '1e-05', '1.2345', '0.0', '1.500000', '1000000.001'),
+    'BadRatio': ('', '.5', '1.', '1e-05', '1.2345', '1.2345678', '0.0', '1.500000', '1.2345670', '1000000.000001'),
     'BadClass': ('vcpu', '', 'VCPU', 'MEMORY_MB'),
     'BadTrait': ('hw_x', '', 'A'),
 }

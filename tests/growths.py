@@ -5,6 +5,7 @@ write nothing but a first part of that answer; the first run does the latter. Sa
 from __future__ import annotations
 
 import os
+import shutil
 import subprocess
 import sys
 import tempfile
@@ -36,6 +37,9 @@ def wrong(number, whole, ran):
 
 
 def main(*words):
+    if not shutil.which('cc'):
+        print('there is no C compiler, cc, to make tests/refuse.c with')
+        return 1
     with tempfile.TemporaryDirectory() as folder:
         library = os.path.join(folder, 'refuse.so')
         subprocess.run(['cc', '-shared', '-fPIC', '-O', '-o', library, REFUSER], check=True)

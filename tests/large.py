@@ -63,8 +63,23 @@ def query(name, text, out='', line=''):
     return Case(f'tokens: {name}', ['tokens', text], out, line and line + '\n', 4 if line else 0, ONE)
 
 
+def hosts(number, functions):
+    """So many hosts, each with so many children, and one function at each child."""
+    width = functions + 1
+    providers, inventories = [HEADERS['providers']], [HEADERS['inventories']]
+    for host in range(number):
+        top, *children = (provider(host * width + n + 1) for n in range(width))
+        providers.append(f'{top},{top},\n')
+        for child in children:
+            providers.append(f'{child},{top},{top}\n')
+            inventories.append(f'{child},SRIOV_NET_VF,1,0,1,1,1,1.0\n')
+    return ''.join(providers), ''.join(inventories)
+
+
 TRAIT = f'{provider(1)},CUSTOM_A,\n'
 STAR = {'providers': lambda: star(40), 'inventories': lambda: vcpu(40)}
+FUNCTIONS = {'providers': lambda: hosts(1000, 7)[0], 'inventories': lambda: hosts(1000, 7)[1]}
+EIGHT_APART = '&'.join(f'resources{n}=SRIOV_NET_VF:1' for n in range(8)) + '&group_policy=isolate'
 THREE = 'resources1=VCPU:1&resources2=VCPU:1&resources3=VCPU:1&group_policy=none'
 EACH = [f'resources{n}=' + ','.join(f'C{k}:1' for k in range(4)) for n in range(64)]
 
@@ -87,6 +102,8 @@ LARGE = [
     *(check(f'{name} of rows', {'traits': lambda size=size: filled(TRAIT, size)},
             (1, 0, 0, 1, 0) if size <= MOST_BYTES else None, None if size <= MOST_BYTES else 'traits: TooLarge')
       for name, size in (('64 MiB', MOST_BYTES), ('64 MiB and a byte', MOST_BYTES + 1))),
+    check('a fault past the record 100000', {'traits': lambda: HEADERS['traits'] + f'{provider(1)},CUSTOM_A\n' * 100000 + f'{provider(1)},small\n'},
+          line='traits: record 100002: BadTrait'),
     check('a large table is told before the fault of an earlier one',
           {'providers': 'x', 'usages': lambda: '\n' * (MOST_BYTES + 1)}, line='usages: TooLarge'),
     query('4366 lists of one subtree, 65536 bytes', pairs('resources1=VCPU:2&', 'same_subtree=1&', QUERY_BYTES), lines('P1')),
@@ -103,5 +120,6 @@ LARGE = [
           line='query: TooManySlots'),
     Case('tokens: 64000 assignments of 40 providers to three groups', ['tokens', THREE],
          lambda: ''.join(f'{a},{b},{c}\n' for a in ids(40) for b in ids(40) for c in ids(40)), tables=STAR),
+    Case('tokens: eight functions apart on 1000 hosts of seven', ['tokens', EIGHT_APART], tables=FUNCTIONS),
     Case('tokens: after the last of 64000', ['tokens', THREE, '--after', ','.join([provider(40)] * 3)], tables=STAR),
 ]

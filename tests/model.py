@@ -1,5 +1,5 @@
 """The rules as docs/RULES.md tells them, over small clouds and queries drawn by chance: every list of providers is tried, and nothing is
-taken from the program. A ratio is held in thousandths."""
+taken from the program. A ratio is held in millionths."""
 from __future__ import annotations
 
 import itertools
@@ -28,11 +28,11 @@ class Inventory:
     used: int
 
     def capacity(self):
-        return (self.total - self.reserved) * self.ratio // 1000
+        return (self.total - self.reserved) * self.ratio // 1000000
 
     def text(self, name):
         return (f'{name} total {self.total}, reserved {self.reserved}, min_unit {self.min_unit}, max_unit {self.max_unit}, step_size {self.step_size}, '
-                f'allocation_ratio {self.ratio // 1000}.{self.ratio % 1000:03}, used {self.used}')
+                f'allocation_ratio {self.ratio // 1000000}.{self.ratio % 1000000:06}, used {self.used}')
 
 
 @dataclass
@@ -191,7 +191,7 @@ def some(chance, values, most):
 def draw_inventory(chance):
     total = chance.choice((2, 4, 8))
     return Inventory(total, chance.choice((0, 0, 1)), chance.choice((1, 1, 1, 1, 2)), chance.choice((total, total, 3)),
-                     chance.choice((1, 1, 1, 1, 2)), chance.choice((1000, 1500, 999, 2000)), chance.choice((0, 0, 1, 2)))
+                     chance.choice((1, 1, 1, 1, 2)), chance.choice((1000000, 1500000, 999999, 2000000)), chance.choice((0, 0, 1, 2)))
 
 
 def draw_cloud(chance):

@@ -16,11 +16,12 @@ from concurrent.futures import ThreadPoolExecutor
 
 sys.dont_write_bytecode = True
 
-from cases import SMALL, SOME, Case, cuts, full, lines, tables
+from cases import CHILD, ONE, SHARED, SMALL, SOME, Case, cuts, full, lines, tables
 from export import exports
 from faults import drawn_queries, drawn_tables
 from large import LARGE, MOST_PROVIDERS, roots, vcpu
 from model import drawn
+from notation import HEADERS, provider
 
 ROOT = os.path.dirname(os.path.dirname(os.path.abspath(__file__)))
 # ./ac_cli looks at every source before it runs the program, so it is called once, and for the commands that the pages show.
@@ -108,6 +109,8 @@ WORDS = [
          ONE_HOST),
 ]
 
+EXAMPLE_COUNTS = 'providers 4\ninventories 9\nusages 0\ntraits 0\naggregates 0\n'
+BLANK = 'cd "$(mktemp -d)" && cp "$2" "providers.csv " && "$1" check --providers "providers.csv " --inventories "$3" && rm -r "$PWD"'
 FILES = [
     Case('without words: the answer on the built-in sample', [], lines('P1')),
     Case('without words, from another folder', [], lines('P1'), folder='/'),
@@ -124,16 +127,21 @@ FILES = [
     unreadable('a folder, and a refused query', tokens('', EXAMPLES), 'providers'),
     Case('a table without end', check('/dev/zero'), err='providers: TooLarge\n', status=3),
     Case('a table without end, and a folder after it', check('/dev/zero', EXAMPLES), err='providers: TooLarge\n', status=3),
+    Case('a path of more than 255 bytes', check('./' * 150 + 'providers.csv', 'inventories.csv'), EXAMPLE_COUNTS, folder=EXAMPLES),
+    unreadable('a path that ends in a blank, of a file that ends in none', check(PROVIDERS + ' '), 'providers'),
+    Case('a path that ends in a blank', ['sh', '-c', BLANK, 'blank', PROGRAM, PROVIDERS, INVENTORIES], EXAMPLE_COUNTS),
     Case('a refused query in two groups of faults', tokens('limit=0&colour=red'), err='query: pair 1: BadValue\n', status=4),
 ]
 
 
-def to_full(name, words):
-    return Case(f'a full device: {name}', words, None, 'output: WriteFailed\n', 6, to='/dev/full')
+def to_full(name, words, **made):
+    return Case(f'a full device: {name}', words, None, 'output: WriteFailed\n', 6, made, to='/dev/full')
 
 
 DEVICES = [
     to_full('without words', []),
+    to_full('help', ['--help']),
+    to_full('more than is gathered', ['tokens', 'resources=VCPU:2'], providers=roots(2000), inventories=vcpu(2000)),
     to_full('check', check()),
     to_full('tokens', tokens('resources=VCPU:2')),
     to_full('candidates', over(['candidates', 'resources=VCPU:2'])),
@@ -146,30 +154,30 @@ DEVICES = [
 ]
 
 
-def growing(name, words, cloud=''):
-    """Each growth of this run refused in turn, by tests/growths.py: for that there has to be a C compiler."""
+def growing(name, words, cloud='', **more):
+    """Each growth of this run refused in turn, by tests/growths.py."""
     return Case(f'each growth refused: {name}', ['sh', '-c', 'exec python3 -B tests/growths.py "$@"', 'growths', PROGRAM, *map(full, words)],
-                SOME, tables=tables(cloud) if cloud else {})
+                SOME, tables={**(tables(cloud) if cloud else {}), **more})
 
 
 OTHERS = [f'--{name}={os.path.join(EXAMPLES, name)}.csv' for name in ('usages', 'traits', 'aggregates')]
-SHARED = 'P1 | | VCPU total 8 | | A1\nP2 | P1 | VCPU total 8, used 3 | CUSTOM_A\nP9 | | DISK_GB total 100 | MISC_SHARES_VIA_AGGREGATE | A1, A2'
-QUERY = 'resources=VCPU:1,DISK_GB:10'
+TWO, DISK, FIVES = 'resources=VCPU:2', 'resources=DISK_GB:10,VCPU:1', 'resources1=VCPU:5&resources2=VCPU:5&group_policy=none'
 GROWTHS = [
     growing('without words', []),
     growing('help', ['--help']),
     growing('refused words', ['tokens']),
-    growing('check', check() + OTHERS),
-    growing('check of a table with a fault', check(PROVIDERS, PROVIDERS)),
-    growing('tokens', tokens('resources=VCPU:2') + OTHERS),
-    growing('tokens after one', ['tokens', QUERY, '--after', 'P1,P9'], SHARED),
-    growing('a refused query', tokens('resources=VCPU:0')),
-    growing('candidates', ['candidates', QUERY], SHARED),
-    growing('candidates after one', ['candidates', QUERY + '&limit=1', '--after', 'P1,P9'], SHARED),
-    growing('verify', ['verify', QUERY, 'P1,P9'], SHARED),
-    growing('verify, an unknown provider', ['verify', QUERY, 'P1,P7'], SHARED),
-    growing('a refused token', ['verify', QUERY, 'P1'], SHARED),
-] if shutil.which('cc') else []
+    growing('check of five tables', check() + OTHERS),
+    growing('check', ['check'], ONE),
+    growing('tokens', ['tokens', TWO], ONE),
+    growing('candidates', ['candidates', TWO], ONE),
+    growing('candidates, one of a shared disk', ['candidates', DISK + '&limit=1'], SHARED),
+    growing('candidates after one', ['candidates', DISK + '&limit=1', '--after', 'P9,P1'], SHARED),
+    growing('verify', ['verify', FIVES, 'P1,P2'], CHILD),
+    growing('verify, an unknown provider', ['verify', FIVES, 'P1,P7'], CHILD),
+    growing('check of a usage without an inventory', ['check'], ONE, usages=HEADERS['usages'] + f'{provider(1)},MEMORY_MB,1\n'),
+    growing('a refused query', ['tokens', 'resources1=VCPU:1&same_subtree=1,2'], ONE),
+    growing('a refused token', ['tokens', FIVES, '--after', 'P1'], CHILD),
+]
 
 
 def status_of(text):

@@ -1,8 +1,9 @@
 #!/bin/sh
-# tools/export-tables.sh OUTDIR: writes the five tables of a cloud, as ac_cli reads them, into OUTDIR: providers.csv, inventories.csv,
+# tools/export-tables.sh [--round-ratios] OUTDIR: writes the five tables of a cloud, as ac_cli reads them, into OUTDIR: providers.csv, inventories.csv,
 # usages.csv, traits.csv and aggregates.csv. It asks the openstack client, which finds the cloud by OS_* variables (docs/EXPORT.md).
 # One process of the client makes all lists of a table, by commands on its standard input. Where the client fails, or a provider vanishes
 # in between, nothing is left in OUTDIR and the status is 1: the tables get their names when all of them are whole.
+# With --round-ratios, allocation ratios are written without an exponent and cut to six decimals, and each that was changed is told.
 
 set -eu
 export LC_ALL=C
@@ -47,8 +48,39 @@ table() {
     join "$1" "$2"
 }
 
+# round_ratios: the inventories with each ratio written out and cut to six decimals, and a line for each that was changed. A Python float
+# below 0.0001 is written as one digit, perhaps more behind a point, and an exponent.
+round_ratios() {
+    awk -F , -v OFS=, '
+        function digits(ratio,   parts, zeros) {
+            if (split(ratio, parts, "e-") == 1) return ratio
+            sub(/[.]/, "", parts[1])
+            while (length(zeros) < parts[2] - 1) zeros = zeros "0"
+            return "0." zeros parts[1]
+        }
+        NR == 1 { for (at = 1; at <= NF && $at != "\"allocation_ratio\""; at++); }
+        $at ~ /^[0-9]([.][0-9]+)?e-[0-9]+$/ || $at ~ /^[0-9]+[.][0-9][0-9][0-9][0-9][0-9][0-9][0-9]/ {
+            exact = digits($at)
+            kept = substr(exact, 1, index(exact, ".") + 6)
+            how = substr(exact, length(kept) + 1) ~ /^0*$/ ? "written as " : "rounded down to "
+            sub(/0+$/, "", kept)
+            sub(/[.]$/, ".0", kept)
+            told = "provider " $1 ", " $2 ": the ratio " $at " is " how kept
+            gsub(/"/, "", told)
+            print "export-tables: " told | "cat >&2"
+            $at = kept
+        }
+        { print }' "$room/inventories.csv" >"$room/rounded.csv"
+    mv -f -- "$room/rounded.csv" "$room/inventories.csv"
+}
+
+rounds=no
+if test "${1-}" = --round-ratios; then
+    rounds=yes
+    shift
+fi
 if test $# != 1 || test "${1#-}" != "$1"; then
-    echo 'usage: tools/export-tables.sh OUTDIR' >&2
+    echo 'usage: tools/export-tables.sh [--round-ratios] OUTDIR' >&2
     exit 2
 fi
 mkdir -p -- "$1"
@@ -72,6 +104,7 @@ table traits name 'resource provider trait list'
 table aggregates uuid 'resource provider aggregate list'
 
 echo 'resource provider list -f csv' | ask providers.again
+test $rounds = no || round_ratios
 cmp -s "$room/providers.csv" "$room/providers.again" ||
     echo 'export-tables: the cloud changed while it was listed (a provider, or its generation): the tables are not of one moment' >&2
 for name in providers inventories usages traits aggregates; do

@@ -1,6 +1,10 @@
+pub mod Bools
 pub mod Options
 pub mod NameFacts
 pub mod Known
-pub mod Powers
 pub mod ShownKeys
 pub mod Leaving
+pub mod Decimals
+pub mod Ratios
+pub mod OldRatiosKept
+pub mod Gathers

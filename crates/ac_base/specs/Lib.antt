@@ -4,3 +4,7 @@ pub mod Devices
 pub mod Memory
 pub mod Turns
 pub mod Names
+pub mod RatioShown
+pub mod OldRatios
+pub mod Laws
+pub mod Gathered

@@ -1,8 +1,8 @@
 -- Inventories and their quantities.
-use Rattle.std.specs.Prelude.{ℕ, ◌-◌, ◌*◌, ◌/◌, ◌%◌, ◌^◌, ◌<◌, ◌≤◌, Bool, ◌&&◌, ◌==◌, nat_le, Option, Some, None, if◌then◌else◌}
-use Rattle.ac_base.specs.Texts.{greatest, ratio_decimals, greatest_ratio}
+use Rattle.std.specs.Prelude.{ℕ, ◌-◌, ◌*◌, ◌/◌, ◌%◌, ◌<◌, ◌≤◌, Bool, ◌&&◌, ◌==◌, nat_le, Option, Some, None, if◌then◌else◌}
+use Rattle.ac_base.specs.Texts.{greatest, greatest_ratio}
 
--- what an inventory says; the ratio is in parts of one, of which one has 10 ^ ratio_decimals
+-- what an inventory says; the ratio is in millionths
 pub record Stock : Type 0 where
   pub total : ℕ
   pub reserved : ℕ
@@ -13,7 +13,7 @@ pub record Stock : Type 0 where
 
 -- the whole part of (total - reserved) times the ratio
 abbrev pub capacity : Stock → ℕ
-capacity i = (i.total - i.reserved) * i.ratio / 10 ^ ratio_decimals
+capacity i = (i.total - i.reserved) * i.ratio / 1000000
 
 -- min_unit <= amount <= max_unit, and step_size divides the amount
 abbrev pub units : Stock → ℕ → Bool

@@ -1,6 +1,6 @@
 -- The values of texts: numbers, ratios, identifiers and names.
-use Rattle.std.specs.Prelude.{ℕ, ◌+◌, ◌-◌, ◌*◌, Bool, ◌&&◌, ◌||◌, ◌==◌, nat_le, nat_lt, List, take, drop, length, ◌^◌, position, Option, Some, None, if◌then◌else◌}
-use Rattle.std.specs.List.{list_all, fold}
+use Rattle.std.specs.Prelude.{ℕ, ◌+◌, ◌-◌, ◌*◌, ◌/◌, ◌%◌, Bool, ◌&&◌, ◌||◌, ◌==◌, nat_le, nat_lt, List, ◌++◌, length, ◌^◌, Option, Some, None, if◌then◌else◌}
+use Rattle.std.specs.List.{list_all, fold, before_first, after_first}
 use Rattle.std.specs.Option.{option_map, option_and_then}
 use Rattle.std.specs.Int.{w128, from_be_bytes, to_be_bytes}
 use Rattle.std.specs.declared.cmp.Ordering.{Ordering}
@@ -44,36 +44,33 @@ at_most most n = if nat_le n most then Some n else None
 unfoldable pub count_value : List ℕ → Option ℕ
 count_value b = option_and_then (at_most greatest) (number 10 b)
 
--- how many decimals a ratio may have
-abbrev pub ratio_decimals : ℕ
-ratio_decimals = 3
-
--- the greatest ratio, in parts of which one has 10 ^ ratio_decimals
+-- the greatest ratio, 1000000, in millionths
 abbrev pub greatest_ratio : ℕ
-greatest_ratio = 1000000 * 10 ^ ratio_decimals
+greatest_ratio = 1000000000000
 
 -- the decimal point
 abbrev pub is_point : ℕ → Bool
 is_point c = c == 46
 
--- Digits behind the point, in parts of which one has 10 ^ decimals: behind so many digits all are 0.
-unfoldable pub fraction_parts : ℕ → List ℕ → Option ℕ
-fraction_parts decimals ds =
-    if list_all is_zero (drop decimals ds) then option_map (λ v. v * 10 ^ (decimals - length ds)) (number decimals (take decimals ds)) else None
+-- the digits before the point, which are all where a text has none, and those behind it
+abbrev pub whole_part : List ℕ → List ℕ
+whole_part b = before_first is_point b
 
--- the parts of digits with perhaps a point at this place
-unfoldable pub parts_at : ℕ → List ℕ → Option ℕ → Option ℕ
-parts_at decimals b None = option_map (λ w. w * 10 ^ decimals) (number 7 b)
-parts_at decimals b (Some i) =
-    option_and_then (λ w. option_map (λ f. w * 10 ^ decimals + f) (fraction_parts decimals (drop (i + 1) b))) (number 7 (take i b))
+abbrev pub fraction_part : List ℕ → List ℕ
+fraction_part b = after_first is_point b
 
--- A decimal number in parts of which one has 10 ^ decimals: 1 to 7 digits, perhaps a point and digits, a value of at most 1000000.
-unfoldable pub decimal_parts : ℕ → List ℕ → Option ℕ
-decimal_parts decimals b = option_and_then (at_most (1000000 * 10 ^ decimals)) (parts_at decimals b (position is_point b))
+-- 1 to 7 digits, alone or with a point and one or more digits behind it
+abbrev pub is_ratio_text : List ℕ → Bool
+is_ratio_text b = are_digits 7 (whole_part b) && (length (whole_part b) == length b || are_digits (length (fraction_part b)) (fraction_part b))
 
--- the ratio that a text says
-abbrev pub ratio_value : List ℕ → Option ℕ
-ratio_value b = decimal_parts ratio_decimals b
+-- Digits read as one number, of which so many stand behind the point: how many millionths that is, where it is a whole number of them.
+unfoldable pub in_millionths : List ℕ → ℕ → Option ℕ
+in_millionths digits behind = if decimal digits * 1000000 % 10 ^ behind == 0 then Some (decimal digits * 1000000 / 10 ^ behind) else None
+
+-- the ratio that a text says, in millionths: all its digits, read as one number, and at most 1000000
+unfoldable pub ratio_value : List ℕ → Option ℕ
+ratio_value b =
+    if is_ratio_text b then option_and_then (at_most greatest_ratio) (in_millionths (whole_part b ++ fraction_part b) (length (fraction_part b))) else None
 
 -- the UUID that a text spells, as a number of 128 bits
 abbrev pub id_value : List ℕ → Option ℕ

@@ -134,7 +134,8 @@ impl Inventory {
         ensures value { result ≡ capacity self.now }
         ensures bound { result ≤ 2147483647000000 }
     {
-        u64::from(self.total - self.reserved) * self.ratio.parts() / 1000
+        let free = u128::from(self.total - self.reserved);
+        (free * u128::from(self.ratio.millionths()) / 1_000_000) as u64
     }
 
     /// Whether `min_unit`, `max_unit` and `step_size` admit an amount; capacity is no part of it.

@@ -5,8 +5,10 @@
 
 pub mod device;
 pub mod from_read;
+pub mod gathering;
 pub mod id;
 pub mod inventory;
+pub mod laws;
 pub mod mem_feed;
 pub mod mem_sink;
 pub mod memory;
@@ -17,6 +19,7 @@ pub mod to_write;
 
 pub use device::{Feed, Pull, Push, Sink};
 pub use from_read::FromRead;
+pub use gathering::Gathering;
 pub use id::Id;
 pub use inventory::Inventory;
 pub use mem_feed::MemFeed;

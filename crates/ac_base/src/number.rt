@@ -1,11 +1,14 @@
-ghost use Rattle.std.specs.Prelude.{◌≡◌, ℕ, ◌≤◌, ◌<◌, ◌*◌, ◌^◌, IfSome, position, length};
+//! Counts, and allocation ratios in millionths.
+
+ghost use Rattle.std.specs.Prelude.{◌≡◌, ℕ, ◌+◌, ◌≤◌, ◌<◌, ◌^◌, nat_lt, IfSome, position, length, drop, Some, if◌then◌else◌};
 ghost use Rattle.std.specs.List.{list_all};
-ghost use Rattle.ac_base.specs.Texts.{number, count_value, is_zero, fraction_parts, is_point, parts_at, decimal_parts, ratio_value, greatest_ratio};
+ghost use Rattle.ac_base.specs.Texts.{number, count_value, is_zero, is_point, ratio_value, greatest_ratio};
+ghost use Rattle.ac_base.specs.RatioShown.{fraction_value};
 
 use std::marker::Model;
 
-/// How many decimals a ratio may have.
-const DECIMALS: u32 = 3;
+/// The greatest ratio, 1000000, in millionths.
+const GREATEST_RATIO: u64 = 1_000_000_000_000;
 
 // The value of 1 to `most` digits.
 #[tactic(auto, unfolding(crate::specs::Texts::number))]
@@ -41,38 +44,6 @@ pub fn read_count(text: &[u8]) -> Option<u32>
     }
 }
 
-fn all_zeros(text: &[u8]) -> bool
-    ensures { result ≡ list_all is_zero text.now }
-{
-    text.iter().all(|b| *b == b'0')
-}
-
-// A number, in parts of which one has 10 ^ decimals.
-#[tactic(auto, using(crate::proofs::Powers::power_fits, crate::proofs::Powers::scaled_fits))]
-fn scaled(value: u64, decimals: u32) -> u64
-    requires small { value < 10 ^ 7 }
-    requires decimals { decimals ≤ 6 }
-    ensures value { result ≡ value * 10 ^ decimals }
-    ensures bound { result < 10 ^ 13 }
-{
-    value * 10u64.pow(decimals)
-}
-
-// The digits behind a point, in parts of which one has 10 ^ decimals.
-#[tactic(auto, unfolding(crate::specs::Texts::fraction_parts))]
-fn read_fraction(text: &[u8], decimals: u32) -> Option<u64>
-    requires { decimals ≤ 6 }
-    ensures value { result ≡ fraction_parts decimals text.now }
-    ensures bound { IfSome result (λ v. v < 10 ^ 13) }
-{
-    let (kept, rest) = text.split_at(text.len().min(decimals as usize));
-    if !all_zeros(rest) {
-        return None;
-    }
-    let value = read_digits(kept, decimals as usize)?;
-    Some(scaled(value, decimals - kept.len() as u32))
-}
-
 // Where the point stands.
 fn find_point(text: &[u8]) -> Option<usize>
     ensures place { result ≡ position is_point text.now }
@@ -81,72 +52,76 @@ fn find_point(text: &[u8]) -> Option<usize>
     text.iter().position(|b| *b == b'.')
 }
 
-// Digits with perhaps a point, in parts of which one has 10 ^ decimals.
-#[tactic(auto, unfolding(crate::specs::Texts::parts_at))]
-fn read_parts(text: &[u8], decimals: u32) -> Option<u64>
-    requires { decimals ≤ 6 }
-    ensures value { result ≡ parts_at decimals text.now (position is_point text.now) }
-    ensures bound { IfSome result (λ v. v < 10 ^ 14) }
+fn all_zeros(text: &[u8]) -> bool
+    ensures { result ≡ list_all is_zero text.now }
 {
-    match find_point(text) {
-        None => {
-            let whole = read_digits(text, 7)?;
-            Some(scaled(whole, decimals))
-        }
-        Some(i) => {
-            let whole = read_digits(&text[..i], 7)?;
-            let fraction = read_fraction(&text[i + 1..], decimals)?;
-            Some(scaled(whole, decimals) + fraction)
-        }
-    }
+    text.iter().all(|b| *b == b'0')
 }
 
-// A decimal number of at most 1000000, in parts of which one has 10 ^ decimals.
-#[tactic(auto, unfolding(crate::specs::Texts::decimal_parts))]
-fn read_decimal(text: &[u8], decimals: u32) -> Option<u64>
-    requires { decimals ≤ 6 }
-    ensures value { result ≡ decimal_parts decimals text.now }
-    ensures bound { IfSome result (λ v. v ≤ 1000000 * 10 ^ decimals) }
+// The digits behind a point, in millionths: behind the sixth all are 0.
+#[tactic(auto, using(crate::proofs::Ratios::fraction_steps))]
+fn read_fraction(text: &[u8]) -> Option<u64>
+    ensures value { result ≡ fraction_value text.now }
+    ensures bound { IfSome result (λ v. v < 10 ^ 12) }
 {
-    let value = read_parts(text, decimals)?;
-    if value <= scaled(1_000_000, decimals) {
-        Some(value)
+    let (kept, rest) = text.split_at(text.len().min(6));
+    if !all_zeros(rest) {
+        return None;
+    }
+    let value = read_digits(kept, 6)?;
+    Some(value * 10u64.pow(6 - kept.len() as u32))
+}
+
+// What stands behind a point at this place, in millionths; 0 at the end of a text that has none.
+fn read_behind(text: &[u8], point: usize) -> Option<u64>
+    ensures value { result ≡ (if nat_lt point (length text.now)
+        then fraction_value (drop (point + 1) text.now) else Some 0) }
+    ensures bound { IfSome result (λ v. v < 10 ^ 12) }
+{
+    if point < text.len() {
+        read_fraction(&text[point + 1..])
     } else {
-        None
+        Some(0)
     }
 }
 
-/// An allocation ratio, exact in thousandths, from 0 to 1000000.
+/// An allocation ratio, exact in millionths, from 0 to 1000000.
 #[derive(Clone, Copy, Debug, PartialEq, Eq)]
 pub struct Ratio {
-    parts: u64,
+    millionths: u64,
 }
 
 impl Model for Ratio {
     ghost Value = { ℕ };
 
-    ghost view = { λ a. a.parts };
+    ghost view = { λ a. a.millionths };
 
-    ghost invariant = { λ a. a.parts ≤ greatest_ratio };
+    ghost invariant = { λ a. a.millionths ≤ greatest_ratio };
 
-    ghost inverse = { λ n. record { parts = n } };
+    ghost inverse = { λ n. record { millionths = n } };
 }
 
 impl Ratio {
-    /// Reads 1 to 7 digits, perhaps with a point and one or more digits behind it, of which at most three remain
+    /// Reads 1 to 7 digits, perhaps with a point and one or more digits behind it, of which at most six remain
     /// once trailing zeros are removed; the value is at most 1000000. (Own choice: the service takes any float.)
     pub fn read(text: &[u8]) -> Option<Ratio>
         ensures { result ≡ ratio_value text.now }
     {
-        let parts = read_decimal(text, DECIMALS)?;
-        Some(Ratio { parts })
+        let point = find_point(text).unwrap_or(text.len());
+        let whole = read_digits(&text[..point], 7)?;
+        let fraction = read_behind(text, point)?;
+        let millionths = whole * 1_000_000 + fraction;
+        if millionths <= GREATEST_RATIO {
+            Some(Ratio { millionths })
+        } else {
+            None
+        }
     }
 
-    // The ratio in parts of which one has 10 ^ DECIMALS.
-    pub(crate) fn parts(self) -> u64
+    pub(crate) fn millionths(self) -> u64
         ensures value { result ≡ self }
         ensures bound { result ≤ greatest_ratio }
     {
-        self.parts
+        self.millionths
     }
 }

@@ -2,6 +2,8 @@
 use crate::{ClassName, Inventory, Ratio, Suffix, TraitName};
 use std::test::Fail;
 
+mod devices;
+
 #[test]
 fn class_names(rt: HostRuntime) -> Result<(), Fail> {
     let alloc = rt.alloc();
@@ -43,7 +45,13 @@ fn capacities(rt: HostRuntime) {
         (3, 1, b"1.5".as_slice(), 3),
         (1, 0, b"1.999", 1),
         (8, 8, b"16", 0),
+        (8, 0, b"1.2345", 9),
+        (1_000_000, 0, b"1.000001", 1_000_001),
+        (3, 0, b"0.333333", 0),
+        (3, 0, b"0.333334", 1),
         (2_147_483_647, 0, b"1000000", 2_147_483_647_000_000),
+        (2_147_483_647, 0, b"1000000.000000", 2_147_483_647_000_000),
+        (2_147_483_647, 0, b"8589.934597", 18_446_744_075_857),
     ];
     for (total, reserved, ratio, capacity) in cases.as_slice() {
         match Ratio::read(ratio) {
@@ -58,7 +66,17 @@ fn capacities(rt: HostRuntime) {
 
 #[test]
 fn ratios(rt: HostRuntime) {
-    let accepted = [b"1".as_slice(), b"0", b"1.500000", b"0.125", b"1000000.000"];
+    let accepted = [
+        b"1".as_slice(),
+        b"0",
+        b"1.500000",
+        b"0.125",
+        b"1.2345",
+        b"0.000001",
+        b"999999.999999",
+        b"1.2345670000",
+        b"1000000.000",
+    ];
     for text in accepted.as_slice() {
         assert!(rt; Ratio::read(text).is_some());
     }
@@ -68,7 +86,11 @@ fn ratios(rt: HostRuntime) {
         b".5",
         b"+1",
         b"1e-05",
-        b"1.2345",
+        b"1.2345678",
+        b"1.23456700001",
+        b"1.234567 ",
+        b"1.5.0",
+        b"1000000.000001",
         b"1000000.001",
         b"00000001",
     ];

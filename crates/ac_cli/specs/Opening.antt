@@ -1,5 +1,5 @@
 -- The files of the tables: which was opened for which.
-use Rattle.std.specs.Prelude.{⊤, List, ℕ, Option, Some, None}
+use Rattle.std.specs.Prelude.{◌≡◌, ⊤, List, ℕ, Option, Some, None}
 use Rattle.ac_tables.specs.declared.fault.Table.{Table}
 use Rattle.ac_tables.specs.declared.fault.Table.TheVariants as table
 use Rattle.ac_cli.specs.Words.{Line, path_of}
@@ -22,3 +22,7 @@ IsOpened opens (Some path) (Some feed) = opens path feed
 -- each table has what was opened at the path that the line names for it
 abbrev pub AreOpened : {R : Type 0} → (List ℕ → R → Type 0) → Line → Inputs R → Type 0
 AreOpened opens line inputs = (t : Table) → IsOpened opens (path_of line t) (feed_of inputs t)
+
+-- the path that the line names for a table was refused
+abbrev pub IsRefusedPath : (List ℕ → Type 0) → Line → Table → Type 0
+IsRefusedPath refuses line t = (path : List ℕ) × (path_of line t ≡ Some path) × refuses path

@@ -1,47 +1,162 @@
--- How the program ends.
-use Rattle.std.specs.Prelude.{◌≡◌, ◌<◌, ℕ, List, Option}
-use Rattle.std.specs.Io.KnownBytes.{Appends}
+-- How the program ends, and what it leaves on its streams.
+use Rattle.std.specs.Prelude.{◌≡◌, ◌≢◌, ◌<◌, ◌≤◌, ◌⊎◌, ℕ, List, [], ◌∷◌, codes, length, Option, Some, None, Contains}
+use Rattle.std.specs.Io.KnownBytes.{Appends, append_known}
 use Rattle.clap.specs.Words.{IsAmong, Kinds, Row, Text}
+use Rattle.clap.specs.declared.error.kind.ErrorKind.{ErrorKind}
 use Rattle.clap.specs.declared.error.kind.ErrorKind.TheVariants.{DisplayHelp}
-use Rattle.ac_run.specs.Answer.{Outcome, Task, answer}
-use Rattle.ac_run.specs.Feeds.{Bytes, TellBytes}
-use Rattle.ac_cli.specs.Opening.{AreOpened}
-use Rattle.ac_run.specs.Refusals.{status_of as refusal_status}
-use Rattle.ac_cli.specs.Words.{Line, Says, Tells}
+use Rattle.ac_base.specs.Devices.{Rises, TakesPart}
+use Rattle.ac_base.specs.Gathered.{IsFirstPart}
+use Rattle.ac_tables.specs.declared.fault.Table.{Table}
+use Rattle.ac_query.specs.declared.version.Version.TheVariants.{V136}
+use Rattle.ac_run.specs.Answer.{Task, answer}
+use Rattle.ac_run.specs.Feeds.{Bytes, FeedRose, TellBytes}
+use Rattle.ac_run.specs.Lines.{memory_line, output_line, unreadable_line}
+use Rattle.ac_run.specs.Run.{FailsOr, IsAnswered, IsRefused, IsUnread}
+use Rattle.ac_run.specs.Writing.{TakesLine}
+use Rattle.ac_run.specs.declared.job.Command.TheVariants.{Tokens}
 use Rattle.ac_run.specs.declared.job.Inputs.{Inputs}
-use Rattle.ac_cli.specs.declared.program.Stop.{Stop}
-use Rattle.ac_cli.specs.declared.program.Stop.TheVariants as stop
-use Rattle.ac_cli.specs.declared.words.WordFault.TheVariants.{Refused}
+use Rattle.ac_cli.specs.Opening.{AreOpened}
+use Rattle.ac_cli.specs.Words.{Line, Says, faults, named, path_of}
 
-abbrev pub status_of : Stop → ℕ
-status_of (stop.Words text) = 2
-status_of stop.NotText = 2
-status_of (stop.Refused refusal) = refusal_status refusal
-status_of (stop.Told status) = status
+-- ---- the streams
 
--- the output of an outcome arrived, with its status
-abbrev pub Arrives : Outcome → Option (List ℕ) → Option (List ℕ) → ℕ → Type 0
-Arrives outcome old new given = Appends old new outcome.output × (given ≡ outcome.status)
+-- the bytes that are known of the output and of the error stream, before and after, and their counts of failures
+pub record Streams : Type 0 where
+  pub out_old : Option (List ℕ)
+  pub out_new : Option (List ℕ)
+  pub out_before : ℕ
+  pub out_after : ℕ
+  pub err_old : Option (List ℕ)
+  pub err_new : Option (List ℕ)
+  pub err_before : ℕ
+  pub err_after : ℕ
 
--- Why words end without an output: those that are refused have a fault other than a call for help, and the status is none of success.
-abbrev pub IsStopOf : Kinds → Stop → Type 0
-IsStopOf kinds (stop.Words text) = Tells kinds (Refused text)
-IsStopOf kinds stop.NotText = ⊥
-IsStopOf kinds (stop.Refused refusal) = 1 < refusal_status refusal
-IsStopOf kinds (stop.Told status) = 1 < status
+-- the streams of an output and an error sink, before and after
+abbrev pub seen : {W E : Type 0} → (W → Option (List ℕ)) → (W → ℕ) → (E → Option (List ℕ)) → (E → ℕ) → W → W → E → E → Streams
+seen out_taken out_failures err_taken err_failures w x e f = record {
+  out_old = out_taken w;
+  out_new = out_taken x;
+  out_before = out_failures w;
+  out_after = out_failures x;
+  err_old = err_taken e;
+  err_new = err_taken f;
+  err_before = err_failures e;
+  err_after = err_failures f;
+}
+
+-- a text was told: the error stream took it as far as it went
+abbrev pub IsLine : Streams → List ℕ → Type 0
+IsLine s text = TakesLine s.err_old s.err_new s.err_before s.err_after text
+
+-- a text was told with this status, and the output is as it was
+pub record IsTold (s : Streams) (text : List ℕ) (wanted given : ℕ) : Type 0 where
+  pub told : IsLine s text
+  pub status : given ≡ wanted
+  pub output : s.out_new ≡ s.out_old
+
+-- ---- a run
+
+-- What each status of a run says, over feeds that were these before and after.
+pub record Ran {R : Type 0} (remaining : R → Option (List ℕ)) (failures : R → ℕ) (task : Task) (from to : Inputs R) (s : Streams) (given : ℕ) : Type 0 where
+  pub written : given ≤ 1 → (b : Bytes) → TellBytes remaining from b → IsAnswered (answer task b) s.out_old s.out_new s.err_old s.err_new given
+  pub tables : given ≡ 3 → (failed : Option Table) × FailsOr (λ t. IsUnread (FeedRose failures from to t) t s.err_old s.err_new s.err_before s.err_after)
+      ((b : Bytes) → TellBytes remaining from b → IsRefused (answer task b) s.err_old s.err_new s.err_before s.err_after given) failed
+  pub query : given ≡ 4 → (b : Bytes) → TellBytes remaining from b → IsRefused (answer task b) s.err_old s.err_new s.err_before s.err_after given
+  pub token : given ≡ 5 → (b : Bytes) → TellBytes remaining from b → IsRefused (answer task b) s.err_old s.err_new s.err_before s.err_after given
+  pub untouched : 3 ≤ given → given ≤ 5 → IsFirstPart s.out_old s.out_new
+  pub output : given ≡ 6 → Rises s.out_before s.out_after × IsLine s output_line
+  pub memory : given ≡ 7 → IsLine s memory_line
+  pub part : 6 ≤ given → (b : Bytes) → TellBytes remaining from b → IsFirstPart (append_known s.out_old (answer task b).output) s.out_new
+  pub status : Contains (0 ∷ 1 ∷ 3 ∷ 4 ∷ 5 ∷ 6 ∷ 7 ∷ []) given
+
+-- ---- words that were accepted
 
 -- the task that a line asks for
 abbrev pub task_asked : Line → Task
 task_asked line = record { command = line.command; query = line.query; version = line.version; token = line.token }
 
--- help was written: the words ask for it
-abbrev pub Shows : Kinds → ℕ → Type 0
-Shows kinds given = IsAmong DisplayHelp kinds × (given ≡ 0)
+-- The path that is given for a table was refused, which is told.
+pub record IsUnopened (refuses : List ℕ → Type 0) (line : Line) (s : Streams) (given : ℕ) : Type 0 where
+  pub table : Table
+  pub path : Text
+  pub named : path_of line table ≡ Some path
+  pub refused : refuses path
+  pub told : IsTold s (unreadable_line table) 3 given
 
--- The answer was written to what the words ask, over what was opened at their paths.
-pub record Answers {R : Type 0} (opens : List ℕ → R → Type 0) (remaining : R → Option (List ℕ)) (found : Option (Text × List Row)) (old new : Option (List ℕ)) (given : ℕ) : Type 0 where
+-- What a line asks for was run over what was opened at its paths.
+pub record RanOpened {R : Type 0} (opens : List ℕ → R → Type 0) (remaining : R → Option (List ℕ)) (failures : R → ℕ) (line : Line) (s : Streams) (given : ℕ) : Type 0 where
+  pub from : Inputs R
+  pub to : Inputs R
+  pub files : AreOpened opens line from
+  pub ran : Ran remaining failures (task_asked line) from to s given
+
+abbrev pub EndsForLine : {R : Type 0} → (List ℕ → R → Type 0) → (List ℕ → Type 0) → (R → Option (List ℕ)) → (R → ℕ) → Line → Streams → ℕ → Type 0
+EndsForLine opens refuses remaining failures line s given = IsUnopened refuses line s given ⊎ RanOpened opens remaining failures line s given
+
+-- ---- all words
+
+-- a text was written whole and nothing told; or the output failed, which is told
+abbrev pub IsShown : List ℕ → Streams → ℕ → Type 0
+IsShown text s given =
+    ((given ≡ 0) × Appends s.out_old s.out_new text × (s.err_new ≡ s.err_old))
+    ⊎ ((given ≡ 6) × Rises s.out_before s.out_after × TakesPart s.out_old s.out_new text × IsLine s output_line)
+
+-- The words ask for help, and a text was shown.
+pub record IsHelped (kinds : Kinds) (s : Streams) (given : ℕ) : Type 0 where
+  pub asked : IsAmong DisplayHelp kinds
+  pub text : List ℕ
+  pub shown : IsShown text s given
+
+-- The words have a fault that is no call for help, and a text was told.
+pub record IsMisworded (kinds : Kinds) (s : Streams) (given : ℕ) : Type 0 where
+  pub kind : ErrorKind
+  pub apart : kind ≢ DisplayHelp
+  pub among : IsAmong kind kinds
+  pub text : List ℕ
+  pub told : IsTold s text 2 given
+
+-- The words say a line, and this is how it ended.
+pub record IsForLine (Ends : Line → Type 0) (found : Option (Text × List Row)) : Type 0 where
   pub line : Line
   pub says : Says found line
-  pub inputs : Inputs R
-  pub files : AreOpened opens line inputs
-  pub arrives : (b : Bytes) → TellBytes remaining inputs b → Arrives (answer (task_asked line) b) old new given
+  pub ends : Ends line
+
+-- how words end the program: help, a mistake, want of memory, or as the line that they say
+abbrev pub EndsForWords : (Line → Type 0) → List Text → Streams → ℕ → Type 0
+EndsForWords Ends words s given =
+    IsHelped (faults words) s given ⊎ (IsMisworded (faults words) s given ⊎ (IsTold s memory_line 7 given ⊎ IsForLine Ends (named words)))
+
+-- ---- the program
+
+-- the task and the tables of a call without words
+abbrev pub sample_task : Task
+sample_task = record { command = Tokens; query = codes "resources=VCPU:2"; version = V136; token = None }
+
+unfoldable pub sample_bytes : Bytes
+sample_bytes = record {
+  providers = codes "uuid,root_provider_uuid,parent_provider_uuid\n00000000-0000-0000-0000-000000000001,00000000-0000-0000-0000-000000000001,\n";
+  inventories = codes "resource_provider,resource_class,total,reserved,min_unit,max_unit,step_size,allocation_ratio\n00000000-0000-0000-0000-000000000001,VCPU,8,0,1,8,1,1.0\n";
+  usages = None;
+  traits = None;
+  aggregates = None;
+}
+
+-- The task of the sample was run over its tables.
+pub record RanSample {R : Type 0} (remaining : R → Option (List ℕ)) (failures : R → ℕ) (s : Streams) (given : ℕ) : Type 0 where
+  pub from : Inputs R
+  pub to : Inputs R
+  pub tells : TellBytes remaining from sample_bytes
+  pub ran : Ran remaining failures sample_task from to s given
+
+-- what is told where the words are no text
+abbrev pub no_text_line : List ℕ
+no_text_line = codes "error: the words are not UTF-8\n"
+
+-- how the program ends that was given words: fewer than two, its own name among them, are a call for the sample
+abbrev pub EndsGiven : Type 0 → (Line → Type 0) → List Text → Streams → ℕ → Type 0
+EndsGiven Sample Ends words s given = ((length words < 2) × Sample) ⊎ ((2 ≤ length words) × EndsForWords Ends words s given)
+
+-- how the program ends: where the words are no text, or memory gave out, or as the words that it was given
+abbrev pub EndsProgram : (List Text → Type 0) → Type 0 → Type 0 → (Line → Type 0) → Streams → ℕ → Type 0
+EndsProgram gives garbles Sample Ends s given =
+    (garbles × IsTold s no_text_line 2 given) ⊎ (IsTold s memory_line 7 given ⊎ ((words : List Text) × gives words × EndsGiven Sample Ends words s given))

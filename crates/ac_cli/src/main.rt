@@ -1,14 +1,21 @@
 //! Which providers of a cloud could host a workload, asked of exported Placement tables.
 #![tactic(auto)]
 
+mod host;
 mod opening;
 mod program;
 mod sample;
 mod words;
 
+use ac_base::ToWrite;
 pub use ac_run::{Command, Inputs, Job, run};
 use std::process::ExitCode;
 
 fn main(rt: HostRuntime) -> ExitCode {
-    ExitCode::from(program::status(&rt, rt.stdout(), &mut rt.stderr()))
+    let (status, _out) = program::answer(
+        &rt,
+        ToWrite::new(rt.stdout()),
+        &mut ToWrite::new(rt.stderr()),
+    );
+    ExitCode::from(status)
 }

@@ -1,7 +1,10 @@
 //! What the program does without words: a job on built-in tables.
 ghost use Rattle.std.specs.Prelude.{◌≡◌};
+ghost use Rattle.ac_run.specs.Feeds.{TellBytes};
+ghost use Rattle.ac_run.specs.Jobs.{task_of};
+ghost use Rattle.ac_cli.specs.Program.{sample_bytes, sample_task};
 
-use ac_base::FromRead;
+use ac_base::{Feed, FromRead};
 use ac_query::Version;
 use ac_run::{Command, Inputs, Job};
 
@@ -17,7 +20,7 @@ resource_provider,resource_class,total,reserved,min_unit,max_unit,step_size,allo
 
 /// The job.
 pub fn job() -> Job<'static>
-    ensures { result.command ≡ Command.Tokens }
+    ensures { task_of result ≡ sample_task }
 {
     Job {
         command: Command::Tokens,
@@ -28,7 +31,10 @@ pub fn job() -> Job<'static>
 }
 
 /// Its tables.
-pub fn inputs() -> Inputs<FromRead<&'static [u8]>> {
+#[tactic(auto, unfolding(crate::specs::Program::sample_bytes))]
+pub fn inputs() -> Inputs<FromRead<&'static [u8]>>
+    ensures { TellBytes ⟦<FromRead<&'static [u8]> as Feed>⟧.remaining result sample_bytes }
+{
     Inputs {
         providers: FromRead::new(PROVIDERS.as_bytes()),
         inventories: FromRead::new(INVENTORIES.as_bytes()),

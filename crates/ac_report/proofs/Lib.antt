@@ -14,3 +14,4 @@ pub mod Differing
 pub mod Finding
 pub mod FindingSums
 pub mod Assigning
+pub mod Wholes

@@ -1,4 +1,6 @@
 -- What a writer of a page does to its sink and to its source.
+use Rattle.std.specs.List.{flat_map}
+use Rattle.std.specs.Io.KnownBytes.{Appends}
 use Rattle.std.specs.Prelude.{◌≡◌, ℕ, ◌≤◌, List, [], ◌++◌, drop, length, Option, Some, None, ⊤}
 use Rattle.ac_tables.specs.World.{Provider}
 use Rattle.ac_query.specs.Asked.{Asked, slots_of}
@@ -21,3 +23,7 @@ IsWithin count (Some n) = count ≤ n
 -- some of the first lists are gone, no more than the limit
 abbrev pub LosesSome : Option ℕ → List (List ℕ) → List (List ℕ) → Type 0
 LosesSome limit old new = (gone : List (List ℕ)) × (old ≡ gone ++ new) × IsWithin (length gone) limit
+
+-- of the pieces of some things the first ones were taken whole, and nothing of the others
+abbrev pub TakesWhole : {X : Type 0} → (X → List ℕ) → List X → Option (List ℕ) → Option (List ℕ) → Type 0
+TakesWhole {X} piece xs old new = (done rest : List X) × (xs ≡ done ++ rest) × Appends old new (flat_map piece done)

@@ -7,7 +7,7 @@ ghost use Rattle.ac_query.specs.Tokens.{ids_text};
 ghost use Rattle.ac_search.specs.Pages.{cut, ids_of};
 ghost use Rattle.ac_tables.specs.CloudWorld.{providers_of};
 ghost use Rattle.ac_report.specs.Texts.{line, lines};
-ghost use Rattle.ac_report.specs.Pages.{IsAssignment, LosesSome, behind};
+ghost use Rattle.ac_report.specs.Pages.{IsAssignment, LosesSome, TakesWhole, behind};
 
 use crate::fault::PageFault;
 use ac_base::{NoMemory, Sink, push_all};
@@ -67,6 +67,7 @@ pub fn write_tokens<S: Source, W: Sink>(
     ensures part { OnErr result (TakesPart (W.taken out.old) (W.taken out.new) (lines (providers_of cloud.now) (cut (asked_of query.now).limit (S.left source.old)))) }
     ensures gone { OnErr result (LosesSome (asked_of query.now).limit (S.left source.old) (S.left source.new)) }
     ensures failed { result ≡ Err PageFault.WriteFailed → Rises (W.failures out.old) (W.failures out.new) }
+    ensures whole { result ≡ Err PageFault.NoMemory → TakesWhole (line (providers_of cloud.now)) (cut (asked_of query.now).limit (S.left source.old)) (W.taken out.old) (W.taken out.new) }
     ensures failures { W.failures out.old ≤ W.failures out.new }
 {
     let limit = query.limit();

@@ -1,4 +1,4 @@
-ghost use Rattle.std.specs.Prelude.{◌≡◌, ◌≤◌, ◌<◌, ◌++◌, ◌||◌, ℕ, List, [], false, IfOk, OnOk, OnErr, Err, length, min, slice_index_or};
+ghost use Rattle.std.specs.Prelude.{◌≡◌, ◌≤◌, ◌<◌, ◌++◌, ◌||◌, ℕ, List, [], false, IfOk, OnOk, OnErr, Err, length, map, min, slice_index_or};
 ghost use Rattle.std.specs.List.{All};
 ghost use Rattle.std.specs.Io.KnownBytes.{Appends};
 ghost use Rattle.serde_json.specs.Written.{comma_if};
@@ -8,8 +8,8 @@ ghost use Rattle.ac_tables.specs.World.{id_at};
 ghost use Rattle.ac_query.specs.QueriesShown.{asked_of};
 ghost use Rattle.ac_search.specs.Pages.{cut};
 ghost use Rattle.ac_report.specs.Marks.{IsMarked, has_root, requests_text, summaries_text};
-ghost use Rattle.ac_report.specs.Pages.{IsAssignment, LosesSome, behind};
-ghost use Rattle.ac_report.specs.Texts.{body, head_text, middle_text, tail_text, summary_piece, summarized, meets_root};
+ghost use Rattle.ac_report.specs.Pages.{IsAssignment, LosesSome, TakesWhole, behind};
+ghost use Rattle.ac_report.specs.Texts.{body, head_text, meets_root, middle_text, pieces, request_text, summarized, summary_piece, tail_text, with_commas};
 
 use crate::fault::PageFault;
 use crate::lines::is_full;
@@ -83,6 +83,7 @@ fn write_requests<S: Source, W: Sink>(
     ensures part { OnErr result (TakesPart (W.taken out.old) (W.taken out.new) (requests_text (providers_of cloud.now) (asked_of query.now) false (cut (asked_of query.now).limit (S.left source.old)))) }
     ensures gone { OnErr result (LosesSome (asked_of query.now).limit (S.left source.old) (S.left source.new)) }
     ensures failed { result ≡ Err PageFault.WriteFailed → Rises (W.failures out.old) (W.failures out.new) }
+    ensures whole { result ≡ Err PageFault.NoMemory → TakesWhole (λ text. text) (with_commas false (map (request_text (providers_of cloud.now) (asked_of query.now)) (cut (asked_of query.now).limit (S.left source.old)))) (W.taken out.old) (W.taken out.new) }
     ensures failures { W.failures out.old ≤ W.failures out.new }
 {
     let limit = query.limit();
@@ -115,6 +116,7 @@ fn write_summary<W: Sink>(
     ensures ok { OnOk result (Appends (W.taken out.old) (W.taken out.new) (comma_if later ++ summary_piece (providers_of cloud.now) ix)) }
     ensures part { OnErr result (TakesPart (W.taken out.old) (W.taken out.new) (comma_if later ++ summary_piece (providers_of cloud.now) ix)) }
     ensures failed { result ≡ Err PageFault.WriteFailed → Rises (W.failures out.old) (W.failures out.new) }
+    ensures whole { result ≡ Err PageFault.NoMemory → out.new ≡ out.old }
     ensures failures { W.failures out.old ≤ W.failures out.new }
 {
     let piece = summary_piece(alloc, cloud, ix)?;
@@ -133,6 +135,7 @@ fn write_summaries<W: Sink>(
     ensures ok { OnOk result ((lists : List (List ℕ)) → IsMarked (providers_of cloud.now) lists marks.now → Appends (W.taken out.old) (W.taken out.new) (summaries_text (providers_of cloud.now) false (summarized (providers_of cloud.now) lists))) }
     ensures part { OnErr result ((lists : List (List ℕ)) → IsMarked (providers_of cloud.now) lists marks.now → TakesPart (W.taken out.old) (W.taken out.new) (summaries_text (providers_of cloud.now) false (summarized (providers_of cloud.now) lists))) }
     ensures failed { result ≡ Err PageFault.WriteFailed → Rises (W.failures out.old) (W.failures out.new) }
+    ensures whole { result ≡ Err PageFault.NoMemory → (lists : List (List ℕ)) → IsMarked (providers_of cloud.now) lists marks.now → TakesWhole (λ text. text) (with_commas false (map (summary_piece (providers_of cloud.now)) (summarized (providers_of cloud.now) lists))) (W.taken out.old) (W.taken out.new) }
     ensures failures { W.failures out.old ≤ W.failures out.new }
 {
     let mut later = false;
@@ -193,6 +196,7 @@ fn write_parts<S: Source, W: Sink>(
     ensures part { OnErr result (TakesPart (W.taken out.old) (W.taken out.new) (body (providers_of cloud.now) (asked_of query.now) (cut (asked_of query.now).limit (S.left source.old)))) }
     ensures gone { OnErr result (LosesSome (asked_of query.now).limit (S.left source.old) (S.left source.new)) }
     ensures failed { result ≡ Err PageFault.WriteFailed → Rises (W.failures out.old) (W.failures out.new) }
+    ensures whole { result ≡ Err PageFault.NoMemory → TakesWhole (λ text. text) (pieces (providers_of cloud.now) (asked_of query.now) (cut (asked_of query.now).limit (S.left source.old))) (W.taken out.old) (W.taken out.new) }
     ensures failures { W.failures out.old ≤ W.failures out.new }
 {
     push_head(out)?;
@@ -221,6 +225,7 @@ pub fn write_page<S: Source, W: Sink>(
     ensures part { OnErr result (TakesPart (W.taken out.old) (W.taken out.new) (body (providers_of cloud.now) (asked_of query.now) (cut (asked_of query.now).limit (S.left source.old)))) }
     ensures gone { OnErr result (LosesSome (asked_of query.now).limit (S.left source.old) (S.left source.new)) }
     ensures failed { result ≡ Err PageFault.WriteFailed → Rises (W.failures out.old) (W.failures out.new) }
+    ensures whole { result ≡ Err PageFault.NoMemory → TakesWhole (λ text. text) (pieces (providers_of cloud.now) (asked_of query.now) (cut (asked_of query.now).limit (S.left source.old))) (W.taken out.old) (W.taken out.new) }
     ensures failures { W.failures out.old ≤ W.failures out.new }
 {
     let mut marks = new_marks(alloc, cloud)?;

@@ -453,6 +453,41 @@ fn failing_sinks(rt: HostRuntime) -> Result<(), Fail> {
     Ok(())
 }
 
+// A list is asked for only when the text of the one before has been pushed whole.
+#[test]
+fn lists_are_taken_one_at_a_time(rt: HostRuntime) -> Result<(), Fail> {
+    let alloc = rt.alloc();
+    let zero: &[u32] = &[0];
+    let lists = [zero; 1000];
+    for writer in [Writer::Page, Writer::Tokens] {
+        let limited = "resources=VCPU:2&limit=1";
+        let first = run_writer(alloc, writer, ONE, limited, &lists, &[])?;
+        assert!(rt; first.answer == Ok(1) && first.calls == 1);
+    }
+
+    // The sink stops inside the second request.
+    let turns = [
+        Turn::Up(24),
+        Turn::Up(1000),
+        Turn::Up(1),
+        Turn::Up(5),
+        Turn::Failed,
+    ];
+    let page = run_writer(alloc, Writer::Page, ONE, "resources=VCPU:2", &lists, &turns)?;
+    let start = BODY.split("],\"provider_summaries\"").next().unwrap_or("");
+    let mut text = expanded(alloc, start)?;
+    text.push_str(",{\"all")?;
+    assert_eq!(rt;
+        page,
+        Written {
+            answer: Err(PageFault::WriteFailed),
+            text,
+            calls: 2
+        }
+    );
+    Ok(())
+}
+
 // Where a growth is refused, as each in turn by `rt try --test --fail-alloc N`, the sink has taken a first part of the body.
 #[test]
 fn refused_growths(rt: HostRuntime) -> Result<(), Fail> {

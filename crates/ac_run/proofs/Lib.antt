@@ -6,3 +6,4 @@ pub mod Assignments
 pub mod WantedSaid
 pub mod Attempted
 pub mod Told
+pub mod HandedOn

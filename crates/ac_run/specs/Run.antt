@@ -56,6 +56,11 @@ pub record IsAnswered (outcome : Outcome) (out_old out_new err_old err_new : Opt
   pub line : Appends err_old err_new outcome.line
   pub status : given ≡ outcome.status
 
+-- The line of an answer was given whole, and its status.
+pub record IsTold (outcome : Outcome) (err_old err_new : Option (List ℕ)) (given : ℕ) : Type 0 where
+  pub line : Appends err_old err_new outcome.line
+  pub status : given ≡ outcome.status
+
 -- A refusal was told: its line as far as the error sink took it, and its status. There is no output.
 pub record IsRefused (outcome : Outcome) (err_old err_new : Option (List ℕ)) (before after given : ℕ) : Type 0 where
   pub output : outcome.output ≡ []

@@ -60,6 +60,7 @@ fn push_text<W: Sink>(out: &mut W, text: &[u8], status: u8) -> Result<u8, Refusa
     ensures few { IfOk result (λ status. status ≤ 1) }
     ensures ok { IfOk result (IsWritten (written text.now status) (W.taken out.old) (W.taken out.new)) }
     ensures fault { IfErr result (ExplainsOutcome (written text.now status) (W.taken out.old) (W.taken out.new) (Rises (W.failures out.old) (W.failures out.new))) }
+    ensures failures { W.failures out.old ≤ W.failures out.new }
 {
     match push_all(out, text) {
         Ok(()) => Ok(status),
@@ -72,6 +73,7 @@ pub fn write_counts<W: Sink>(cloud: &Cloud, out: &mut W) -> Result<u8, Refusal>
     ensures few { IfOk result (λ status. status ≤ 1) }
     ensures ok { IfOk result (IsWritten (written (counts (world_of cloud.now).sizes) 0) (W.taken out.old) (W.taken out.new)) }
     ensures fault { IfErr result (ExplainsOutcome (written (counts (world_of cloud.now).sizes) 0) (W.taken out.old) (W.taken out.new) (Rises (W.failures out.old) (W.failures out.new))) }
+    ensures failures { W.failures out.old ≤ W.failures out.new }
 {
     match push_counts(out, &cloud.counts()) {
         Ok(()) => Ok(0),
@@ -90,6 +92,7 @@ pub fn write_lines<W: Sink>(
     ensures few { IfOk result (λ status. status ≤ 1) }
     ensures ok { IfOk result (IsWritten (page_lines (providers_of cloud.now) (asked_of query.now) (option_map ids_of token.now)) (W.taken out.old) (W.taken out.new)) }
     ensures fault { IfErr result (ExplainsOutcome (page_lines (providers_of cloud.now) (asked_of query.now) (option_map ids_of token.now)) (W.taken out.old) (W.taken out.new) (Rises (W.failures out.old) (W.failures out.new))) }
+    ensures failures { W.failures out.old ≤ W.failures out.new }
 {
     let Ok(mut source) = Walk::new(alloc, cloud, query, token.as_ref()) else {
         return Err(Refusal::NoMemory);
@@ -112,6 +115,7 @@ pub fn write_body<W: Sink>(
     ensures few { IfOk result (λ status. status ≤ 1) }
     ensures ok { IfOk result (IsWritten (page_body (providers_of cloud.now) (asked_of query.now) (option_map ids_of token.now)) (W.taken out.old) (W.taken out.new)) }
     ensures fault { IfErr result (ExplainsOutcome (page_body (providers_of cloud.now) (asked_of query.now) (option_map ids_of token.now)) (W.taken out.old) (W.taken out.new) (Rises (W.failures out.old) (W.failures out.new))) }
+    ensures failures { W.failures out.old ≤ W.failures out.new }
 {
     let Ok(mut source) = Walk::new(alloc, cloud, query, token.as_ref()) else {
         return Err(Refusal::NoMemory);
@@ -135,6 +139,7 @@ pub fn write_verdict<W: Sink>(
     ensures few { IfOk result (λ status. status ≤ 1) }
     ensures ok { IfOk result (IsWritten (verdict_line (providers_of cloud.now) (asked_of query.now) (Some (ids_of token.now))) (W.taken out.old) (W.taken out.new)) }
     ensures fault { IfErr result (ExplainsOutcome (verdict_line (providers_of cloud.now) (asked_of query.now) (Some (ids_of token.now))) (W.taken out.old) (W.taken out.new) (Rises (W.failures out.old) (W.failures out.new))) }
+    ensures failures { W.failures out.old ≤ W.failures out.new }
 {
     match token.locate(alloc, cloud) {
         Ok(Some(list)) => {

@@ -7,6 +7,7 @@ mod answering;
 mod asking;
 mod digits;
 mod draining;
+pub mod gathered;
 pub mod job;
 mod outputs;
 mod pieces;
@@ -14,6 +15,7 @@ pub mod refusal;
 pub mod running;
 pub mod telling;
 
+pub use gathered::run_gathered;
 pub use job::{Command, Inputs, Job};
 pub use refusal::Refusal;
 pub use running::run;

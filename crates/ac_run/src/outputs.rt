@@ -52,7 +52,8 @@ pub fn verdict_status(verdict: Verdict) -> u8
 /// Pushes how much the tables told, a line for each.
 #[tactic(auto, unfolding(crate::specs::Outputs::counts))]
 pub fn push_counts<W: Sink>(out: &mut W, counted: &Counts) -> Result<(), WriteFailed>
-    ensures { Pushes result (W.taken out.old) (W.taken out.new) (W.failures out.old) (W.failures out.new) (counts (sizes_of counted.now)) }
+    ensures text { Pushes result (W.taken out.old) (W.taken out.new) (W.failures out.old) (W.failures out.new) (counts (sizes_of counted.now)) }
+    ensures failures { W.failures out.old ≤ W.failures out.new }
 {
     push_pieces(
         out,

@@ -52,6 +52,7 @@ fn answer_over<W: Sink>(alloc: Global, cloud: &Cloud, job: &Job, out: &mut W) ->
     ensures few { IfOk result (λ status. status ≤ 1) }
     ensures ok { IfOk result (IsWritten (answer_in job.now.command (task_of job.now) (world_of cloud.now)) (W.taken out.old) (W.taken out.new)) }
     ensures fault { IfErr result (ExplainsOutcome (answer_in job.now.command (task_of job.now) (world_of cloud.now)) (W.taken out.old) (W.taken out.new) (Rises (W.failures out.old) (W.failures out.new))) }
+    ensures failures { W.failures out.old ≤ W.failures out.new }
 {
     match job.command {
         Command::Check => write_counts(cloud, out),
@@ -84,6 +85,7 @@ fn attempt<R: Feed, W: Sink>(
     ensures few { IfOk result (λ status. status ≤ 1) }
     ensures ok { IfOk result (λ status. (b : Bytes) → TellBytes R.remaining inputs.old b → IsWritten (answer (task_of job.now) b) (W.taken out.old) (W.taken out.new) status) }
     ensures fault { IfErr result (Explains R.remaining R.failures (task_of job.now) inputs.old inputs.new (W.taken out.old) (W.taken out.new) (Rises (W.failures out.old) (W.failures out.new))) }
+    ensures failures { W.failures out.old ≤ W.failures out.new }
 {
     let texts = match read_tables(alloc, inputs) {
         Ok(texts) => texts,
@@ -137,6 +139,8 @@ pub fn run<R: Feed, W: Sink, E: Sink>(
     ensures memory { result ≡ 7 → TakesLine (E.taken err.old) (E.taken err.new) (E.failures err.old) (E.failures err.new) memory_line }
     ensures part { 6 ≤ result → (b : Bytes) → TellBytes R.remaining inputs.old b → TakesPart (W.taken out.old) (W.taken out.new) (answer (task_of job.now) b).output }
     ensures status { Contains (0 ∷ 1 ∷ 3 ∷ 4 ∷ 5 ∷ 6 ∷ 7 ∷ []) result }
+    ensures silent { result ≤ 1 → err.new ≡ err.old }
+    ensures failures { W.failures out.old ≤ W.failures out.new }
 {
     match attempt(alloc, job, inputs, out) {
         Ok(status) => status,

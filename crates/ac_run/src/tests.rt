@@ -2,6 +2,7 @@
 ghost use Rattle.std.specs.Option.{option_map};
 ghost use Rattle.ac_run.specs.Jobs.{HasToken};
 
+use crate::gathered::run_gathered;
 use crate::job::{Command, Inputs, Job};
 use crate::running::run;
 use ac_base::{MemFeed, MemSink, Turn};
@@ -14,16 +15,16 @@ mod examples;
 
 // The rows of the tables. `@1` stands for the UUID that ends with 1.
 #[derive(Clone, Copy)]
-struct Rows<'a> {
-    providers: &'a str,
-    inventories: &'a str,
-    usages: &'a str,
-    traits: &'a str,
-    aggregates: &'a str,
+struct Rows {
+    providers: &'static str,
+    inventories: &'static str,
+    usages: &'static str,
+    traits: &'static str,
+    aggregates: &'static str,
 }
 
 // Tables of headers alone.
-const EMPTY: Rows<'static> = Rows {
+const EMPTY: Rows = Rows {
     providers: "",
     inventories: "",
     usages: "",
@@ -32,7 +33,7 @@ const EMPTY: Rows<'static> = Rows {
 };
 
 // One provider with eight units of a class.
-const ONE: Rows<'static> = Rows {
+const ONE: Rows = Rows {
     providers: "@1,@1,\n",
     inventories: "@1,VCPU,8,0,1,8,1,1.0\n",
     ..EMPTY
@@ -42,10 +43,50 @@ fn expanded(alloc: Global, text: &str) -> Result<String, AllocError> {
     text.replace(alloc, "@", "00000000-0000-0000-0000-00000000000")
 }
 
-// The rows of a table under its header.
-fn table(alloc: Global, header: &str, rows: &str) -> Result<String, AllocError> {
-    let rows = expanded(alloc, rows)?;
-    format!(in alloc; "{header}\n{rows}")
+// The texts of the tables.
+#[derive(Drop)]
+struct Texts {
+    providers: String,
+    inventories: String,
+    usages: String,
+    traits: String,
+    aggregates: String,
+}
+
+// Each table's rows under its header.
+fn texts_under_headers(
+    alloc: Global,
+    providers: &str,
+    inventories: &str,
+    usages: &str,
+    traits: &str,
+    aggregates: &str,
+) -> Result<Texts, AllocError> {
+    Ok(Texts {
+        providers: format!(in alloc; "uuid,root_provider_uuid,parent_provider_uuid\n{providers}")?,
+        inventories: format!(in alloc;
+            "resource_provider,resource_class,total,reserved,min_unit,max_unit,step_size,allocation_ratio\n{inventories}"
+        )?,
+        usages: format!(in alloc; "resource_provider,resource_class,usage\n{usages}")?,
+        traits: format!(in alloc; "resource_provider,name\n{traits}")?,
+        aggregates: format!(in alloc; "resource_provider,uuid\n{aggregates}")?,
+    })
+}
+
+fn texts_of(alloc: Global, rows: &Rows) -> Result<Texts, AllocError> {
+    let providers = expanded(alloc, rows.providers)?;
+    let inventories = expanded(alloc, rows.inventories)?;
+    let usages = expanded(alloc, rows.usages)?;
+    let traits = expanded(alloc, rows.traits)?;
+    let aggregates = expanded(alloc, rows.aggregates)?;
+    texts_under_headers(
+        alloc,
+        providers.as_str(),
+        inventories.as_str(),
+        usages.as_str(),
+        traits.as_str(),
+        aggregates.as_str(),
+    )
 }
 
 // How the devices of a run go.
@@ -55,6 +96,7 @@ struct Turns<'a> {
     inventories: &'a [Turn],
     out: &'a [Turn],
     err: &'a [Turn],
+    is_gathered: bool,
 }
 
 const SOUND: Turns<'static> = Turns {
@@ -62,6 +104,7 @@ const SOUND: Turns<'static> = Turns {
     inventories: &[],
     out: &[],
     err: &[],
+    is_gathered: false,
 };
 
 // What a run leaves.
@@ -79,10 +122,37 @@ fn text_of(alloc: Global, bytes: &[u8]) -> Result<String, AllocError> {
     }
 }
 
-// A run by 1.36 over the five tables.
+// A run over the five tables.
+fn run_texts(alloc: Global, texts: &Texts, job: &Job<'_>, turns: Turns) -> Result<Left, AllocError>
+    requires { HasToken job.now.command (option_map (λ token. token.now) job.now.token) }
+{
+    let mut inputs = Inputs {
+        providers: MemFeed::new(texts.providers.as_bytes(), turns.providers),
+        inventories: MemFeed::new(texts.inventories.as_bytes(), turns.inventories),
+        usages: Some(MemFeed::new(texts.usages.as_bytes(), &[])),
+        traits: Some(MemFeed::new(texts.traits.as_bytes(), &[])),
+        aggregates: Some(MemFeed::new(texts.aggregates.as_bytes(), &[])),
+    };
+    let mut out = MemSink::new(vec![in alloc; 0u8; 2000]?, turns.out);
+    let mut err = MemSink::new(vec![in alloc; 0u8; 1000]?, turns.err);
+    let status = if turns.is_gathered {
+        let (status, gathered) = run_gathered(alloc, job, &mut inputs, out, &mut err);
+        out = gathered;
+        status
+    } else {
+        run(alloc, job, &mut inputs, &mut out, &mut err)
+    };
+    Ok(Left {
+        output: text_of(alloc, out.taken())?,
+        line: text_of(alloc, err.taken())?,
+        status,
+    })
+}
+
+// A run by 1.36 over the tables of these rows.
 fn run_over<'a>(
     alloc: Global,
-    rows: &Rows<'_>,
+    rows: &Rows,
     command: Command,
     query: &'a str,
     token: Option<&'a str>,
@@ -99,36 +169,10 @@ fn run_over<'a>(
     run_job(alloc, rows, &job, turns)
 }
 
-// A run over the five tables.
-fn run_job(alloc: Global, rows: &Rows<'_>, job: &Job<'_>, turns: Turns) -> Result<Left, AllocError>
+// A run over the tables of these rows.
+fn run_job(alloc: Global, rows: &Rows, job: &Job<'_>, turns: Turns) -> Result<Left, AllocError>
     requires { HasToken job.now.command (option_map (λ token. token.now) job.now.token) }
 {
-    let providers = table(
-        alloc,
-        "uuid,root_provider_uuid,parent_provider_uuid",
-        rows.providers,
-    )?;
-    let inventories = table(
-        alloc,
-        "resource_provider,resource_class,total,reserved,min_unit,max_unit,step_size,allocation_ratio",
-        rows.inventories,
-    )?;
-    let usages = table(alloc, "resource_provider,resource_class,usage", rows.usages)?;
-    let traits = table(alloc, "resource_provider,name", rows.traits)?;
-    let aggregates = table(alloc, "resource_provider,uuid", rows.aggregates)?;
-    let mut inputs = Inputs {
-        providers: MemFeed::new(providers.as_bytes(), turns.providers),
-        inventories: MemFeed::new(inventories.as_bytes(), turns.inventories),
-        usages: Some(MemFeed::new(usages.as_bytes(), &[])),
-        traits: Some(MemFeed::new(traits.as_bytes(), &[])),
-        aggregates: Some(MemFeed::new(aggregates.as_bytes(), &[])),
-    };
-    let mut out = MemSink::new(vec![in alloc; 0u8; 2000]?, turns.out);
-    let mut err = MemSink::new(vec![in alloc; 0u8; 1000]?, turns.err);
-    let status = run(alloc, job, &mut inputs, &mut out, &mut err);
-    Ok(Left {
-        output: text_of(alloc, out.taken())?,
-        line: text_of(alloc, err.taken())?,
-        status,
-    })
+    let texts = texts_of(alloc, rows)?;
+    run_texts(alloc, &texts, job, turns)
 }

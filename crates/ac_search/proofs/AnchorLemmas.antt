@@ -49,7 +49,7 @@ once false true h = refl
 once true t h = refl
 
 -- each provider of the list is available there
-hosts_list : (all : List Provider) (ss : List Slot) (t : List ℕ) (r : ℕ) → length t ≤ length ss
+pub hosts_list : (all : List Provider) (ss : List Slot) (t : List ℕ) (r : ℕ) → length t ≤ length ss
     → hosts_all all (placed ss t) r ≡ list_all (λ p. is_available_at all p r) t
 unfolding hosts_all
 hosts_list all [] [] r h = refl

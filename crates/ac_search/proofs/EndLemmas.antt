@@ -66,9 +66,6 @@ pub record Comes (old new : Walk) : Type 0 where
   pub left : left_of new ≡ left_of old
   pub kept : old.probes ≤ new.probes
 
-pub comes_more : (w u v : Walk) → Comes w u → Goes u v → Comes w v
-comes_more w u v a b = record { same = same_then w u v a.same b.same; left = b.left ∙ a.left; kept = omega (arith, a.kept, b.kept) }
-
 -- its tries, told by the ids of its token
 tries_told : (w v : Walk) (y : Option (List ℕ)) → IsBounded w y v → w.probes ≤ v.probes → (IsSome y → Rises w.probes v.probes) → Tries w y v
 tries_told w v y bounds kept rises =

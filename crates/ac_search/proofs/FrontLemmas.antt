@@ -66,7 +66,7 @@ isolate_front asked xs ys h = elim (cases_Bool (is_isolated asked)) [
   | inr e ↦ rw e refl
 ]
 
-hosts_front : (all : List Provider) (xs ys : List Placed) (r : ℕ) → hosts_all all (xs ++ ys) r ≡ true → hosts_all all xs r ≡ true
+pub hosts_front : (all : List Provider) (xs ys : List Placed) (r : ℕ) → hosts_all all (xs ++ ys) r ≡ true → hosts_all all xs r ≡ true
 unfolding hosts_all
 hosts_front all xs ys r h = all_front (λ x. is_available_at all x.provider r) xs ys h
 

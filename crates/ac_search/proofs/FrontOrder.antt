@@ -39,10 +39,6 @@ lex_one r a (x ∷ s) = grind (arith, nat_tests)
 pub lex_le_trans : (xs ys zs : List ℕ) → lex_lt ys xs ≡ false → lex_lt ys zs ≡ true → lex_lt xs zs ≡ true
 lex_le_trans xs ys zs h k = true_from_ne_false _ (λ f. elim (cases_Bool (lex_lt xs ys)) [ inl b ↦ false≢true (sym f ∙ lex_trans xs ys zs b k) | inr b ↦ false≢true (sym f ∙ subst (λ (w : List ℕ). lex_lt w zs ≡ true) (sym (lex_total xs ys b h)) k) ])
 
--- below, then at most
-pub lex_lt_le : (xs ys zs : List ℕ) → lex_lt xs ys ≡ true → lex_lt zs ys ≡ false → lex_lt xs zs ≡ true
-lex_lt_le xs ys zs h k = true_from_ne_false _ (λ f. elim (cases_Bool (lex_lt ys zs)) [ inl b ↦ false≢true (sym f ∙ lex_trans xs ys zs h b) | inr b ↦ false≢true (sym f ∙ subst (λ (w : List ℕ). lex_lt xs w ≡ true) (lex_total ys zs b k) h) ])
-
 -- a list that is after x cut to its length is after x
 pub lex_uncut : (x c : List ℕ) → lex_lt (take (length c) x) c ≡ true → lex_lt x c ≡ true
 lex_uncut [] [] h = h

@@ -25,7 +25,7 @@ slot_full : (all : List Provider) (xs : List Placed) (x : Placed) (c : List ℕ)
 unfolding holds_sums
 slot_full all xs x c h k = at_class (λ c. holds (provider_at all x.provider) c (sum_on xs x.provider c)) x.slot.needs c h k
 
-full_from : (all : List Provider) (xs ys : List Placed) → list_all (λ x. holds_sums all xs x) ys ≡ true → (p : ℕ) (c : List ℕ) → 0 < sum_on ys p c
+pub full_from : (all : List Provider) (xs ys : List Placed) → list_all (λ x. holds_sums all xs x) ys ≡ true → (p : ℕ) (c : List ℕ) → 0 < sum_on ys p c
     → holds (provider_at all p) c (sum_on xs p c) ≡ true
 full_from all xs [] h p c k = absurd (omega arith)
 full_from all xs (y ∷ ys) h p c k =

@@ -18,10 +18,6 @@ use Rattle.ac_query.specs.Asked.{Asked, slots_of}
 use Rattle.std.proofs.lemmas.List.Elements.{recursion_from_All}
 use Rattle.std.proofs.Common.{Option, Some, None}
 
-pub rank_within : (all : List Provider) (id : ℕ) → rank_of all id ≤ length all
-rank_within [] id = omega arith
-rank_within (p ∷ all) id = let more = rank_within all id in elim (cases_Bool (nat_lt p.id id)) [ inl e ↦ rw e (omega arith) | inr e ↦ rw e (omega arith) ]
-
 -- each provider before the rank has an id below
 pub rank_above : (all : List Provider) (id p : ℕ) → p < rank_of all id → id_at all p < id
 rank_above [] id p h = absurd (omega arith)

@@ -73,7 +73,7 @@ wanted_is classes (need ∷ needs) c h = ap₂ (λ (b : Bool) (n : ℕ). (if b t
 
 -- ---- Rooms
 
-room_enough : (stock : Option Stock) (used m : ℕ) → has_room stock used m ≡ true → m ≤ unwrap_or (room_in stock used) 0
+pub room_enough : (stock : Option Stock) (used m : ℕ) → has_room stock used m ≡ true → m ≤ unwrap_or (room_in stock used) 0
 room_enough None used m h = absurd (false≢true h)
 room_enough (Some stock) used m h = elim (cases_Bool (nat_le used (capacity stock))) [
   | inl e ↦ rw e (grind (arith, nat_tests))
@@ -103,7 +103,7 @@ sum_more (y ∷ xs) x p c = let more = sum_more xs x p c in omega arith
 pub sum_here : (xs : List Placed) (x : Placed) (p : ℕ) (c : List ℕ) → x.provider ≡ p → sum_on (xs ++ x ∷ []) p c ≡ sum_on xs p c + amount_of x.slot.needs c
 sum_here xs x p c e = let same = eq-eqb x.provider p e in rw same at (sum_more xs x p c)
 
-sum_other : (xs : List Placed) (x : Placed) (p : ℕ) (c : List ℕ) → x.provider ≢ p → sum_on (xs ++ x ∷ []) p c ≡ sum_on xs p c
+pub sum_other : (xs : List Placed) (x : Placed) (p : ℕ) (c : List ℕ) → x.provider ≢ p → sum_on (xs ++ x ∷ []) p c ≡ sum_on xs p c
 sum_other xs x p c e = let other = ne_eqb x.provider p e in let more = rw other at (sum_more xs x p c) in omega arith
 
 -- each class of which something is asked has enough in the row

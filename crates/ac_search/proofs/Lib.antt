@@ -39,4 +39,8 @@ pub mod KeptLemmas
 pub mod StepLemmas
 pub mod EndLemmas
 pub mod PathLemmas
+pub mod CountLemmas
+pub mod BearLemmas
+pub mod HostLemmas
+pub mod RootLemmas
 mod Literals

@@ -18,7 +18,7 @@ disk = codes "DISK_GB"
 
 -- so much of a class, all of it for one request
 held : List ℕ → ℕ → List (List ℕ × Held)
-held class total = (class, record { stock = record { total = total; reserved = 0; min_unit = 1; max_unit = total; step_size = 1; ratio = 1000 }; used = 0 }) ∷ []
+held class total = (class, record { stock = record { total = total; reserved = 0; min_unit = 1; max_unit = total; step_size = 1; ratio = 1000000 }; used = 0 }) ∷ []
 
 provider : ℕ → Option ℕ → List (List ℕ × Held) → List (List ℕ) → List ℕ → Provider
 provider id parent holdings traits aggregates = record { id = id; parent = parent; holdings = holdings; traits = traits; aggregates = aggregates }

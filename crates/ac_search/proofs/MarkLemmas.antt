@@ -79,7 +79,7 @@ hits_most all [] r = omega arith
 hits_most all (p ∷ q) r = let more = hits_most all q r in elim (cases_Bool (is_available_at all p r)) [ inl e ↦ rw e (omega arith) | inr e ↦ rw e (omega arith) ]
 
 -- all are available where each hits
-all_hit : (all : List Provider) (q : List ℕ) (r : ℕ) → list_all (λ p. is_available_at all p r) q ≡ (hits_at all q r == length q)
+pub all_hit : (all : List Provider) (q : List ℕ) (r : ℕ) → list_all (λ p. is_available_at all p r) q ≡ (hits_at all q r == length q)
 all_hit all [] r = refl
 all_hit all (p ∷ q) r =
     let more = all_hit all q r in
@@ -93,7 +93,7 @@ zero_more : (n : ℕ) → 0 + n ≡ n
 zero_more n = omega arith
 
 -- a root stands once among those below n that pass a test
-times_filter : (f : ℕ → Bool) (a n r : ℕ) → r < a + n → times r (filter f (range_with_len a n)) ≡ (if nat_lt r a then 0 else (if f r then 1 else 0))
+pub times_filter : (f : ℕ → Bool) (a n r : ℕ) → r < a + n → times r (filter f (range_with_len a n)) ≡ (if nat_lt r a then 0 else (if f r then 1 else 0))
 times_filter f a zero r h = let low : nat_lt r a ≡ true = grind (arith, nat_tests) in rw low refl
 times_filter f a (suc n) r h = elim (cases_eq a r) [
   | inl e ↦

@@ -59,7 +59,7 @@ few_choices : (all : List Provider) (asked : Asked) (slot : Slot) → length (ch
 unfolding choice_of
 few_choices all asked slot = let size = length-range_with_len 0 (length all) in let less = filter_few (test all asked slot) (range_with_len 0 (length all)) in omega arith
 
-among_choice : (all : List Provider) (asked : Asked) (slot : Slot) (p : ℕ) → p < length all → is_open all asked [] ≡ true → fits all (record { slot = slot; provider = p }) ≡ true
+pub among_choice : (all : List Provider) (asked : Asked) (slot : Slot) (p : ℕ) → p < length all → is_open all asked [] ≡ true → fits all (record { slot = slot; provider = p }) ≡ true
     → Among (choice_of all asked slot) p
 unfolding choice_of
 among_choice all asked slot p h o f = among_filter (test all asked slot) (range_with_len 0 (length all)) p (among_range 0 (length all) p (omega arith) (omega arith)) (and_from _ _ o f)

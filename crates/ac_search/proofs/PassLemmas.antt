@@ -8,7 +8,7 @@ use Rattle.ac_search.specs.Keys.{IsHome}
 use Rattle.ac_search.specs.Trees.{IsByTree}
 use Rattle.ac_search.specs.declared.trees.ByTree.{ByTree}
 use Rattle.ac_search.specs.Order.{lex_lt}
-use Rattle.ac_search.specs.Search.{Search, choices_at, next_at, next_front, left_from, IsSound}
+use Rattle.ac_search.specs.Search.{Search, choices_at, next_at, next_front, left_from, IsDead, IsSound}
 use Rattle.ac_search.specs.WalkShown.{search_in, front_in}
 use Rattle.ac_search.specs.Steps.{Passes, StepGives, Goes, Gives, Ends}
 use Rattle.ac_search.specs.declared.walk.Walk.{Walk}
@@ -18,7 +18,7 @@ use Rattle.ac_search.proofs.OrderLemmas.{lex_trans, lex_irrefl}
 use Rattle.ac_search.proofs.FrontOrder.{lex_le_trans}
 use Rattle.ac_search.proofs.SoughtLemmas.{IsSearch}
 use Rattle.ac_search.proofs.MoveLemmas.{sound_next, forward_next}
-use Rattle.ac_search.proofs.TryLemmas.{left_closed}
+use Rattle.ac_search.proofs.TryLemmas.{left_dead, closed_dead}
 use Rattle.ac_search.proofs.StepLemmas.{laws_in, same_then, bounded_then}
 use Rattle.ac_search.proofs.TreeLemmas.{elsewhere_closed}
 
@@ -31,29 +31,29 @@ pub record StandsAt (m : Search) (x path places : List ℕ) (d j probes : ℕ) :
 -- n choices and one more are passed over
 pub passes_over : (m : Search) → IsSearch m → (x path places : List ℕ) (d : ℕ) (seeking : Bool) (probes n j : ℕ) → IsSound m x path places d seeking probes
     → j ≡ slice_index places d + suc n → j ≤ length (choices_at m d)
-    → ((i : ℕ) → slice_index places d ≤ i → i < j → m.is_open (take d path ++ next_at m d i ∷ []) ≡ false)
+    → ((i : ℕ) → slice_index places d ≤ i → i < j → IsDead m (take d path ++ next_at m d i ∷ []))
     → StandsAt m x path places d j probes
-passes_over m laws x path places d seeking probes zero j s is within closed =
+passes_over m laws x path places d seeking probes zero j s is within dead =
     let here : slice_index places d < length (choices_at m d) = omega (arith, is, within) in
     let next : j ≡ slice_index places d + 1 = omega (arith, is) in
     rw next (record {
       sound = sound_next m laws x path path places d seeking probes probes s here refl refl (omega arith);
-      left = left_closed m laws x path places d seeking probes s here (closed (slice_index places d) (omega arith) (omega (arith, is)));
+      left = left_dead m laws x path places d seeking probes s here (dead (slice_index places d) (omega arith) (omega (arith, is)));
       up = forward_next m laws path places d (omega (arith, s.places_len, s.within)) s.within here;
     })
-passes_over m laws x path places d seeking probes (suc n) j s is within closed =
+passes_over m laws x path places d seeking probes (suc n) j s is within dead =
     let p = slice_index places d in
     let here : p < length (choices_at m d) = omega (arith, is, within) in
     let next = set places d (p + 1) in
     let there : slice_index next d ≡ p + 1 = get_or-set_same places d (p + 1) 0 (omega (arith, s.places_len, s.within)) in
     let one = sound_next m laws x path path places d seeking probes probes s here refl refl (omega arith) in
-    let more = passes_over m laws x path next d false probes n j one (omega (arith, is, there)) within (λ i a b. closed i (omega (arith, a, there)) b) in
+    let more = passes_over m laws x path next d false probes n j one (omega (arith, is, there)) within (λ i a b. dead i (omega (arith, a, there)) b) in
     let same : set next d j ≡ set places d j = set-set places d (p + 1) j in
     let up = forward_next m laws path places d (omega (arith, s.places_len, s.within)) s.within here in
     record {
       sound = subst (λ (l : List ℕ). IsSound m x path l d false probes) same more.sound;
       left = subst (λ (l : List ℕ). left_from m x (next_front m path l d) ≡ left_from m x (next_front m path next d)) same more.left
-          ∙ left_closed m laws x path places d seeking probes s here (closed p (omega arith) (omega (arith, is)));
+          ∙ left_dead m laws x path places d seeking probes s here (dead p (omega arith) (omega (arith, is)));
       up = lex_trans (next_front m path places d) (next_front m path next d) (next_front m path (set places d j) d) up
           (subst (λ (l : List ℕ). lex_lt (next_front m path next d) (next_front m path l d) ≡ true) same more.up);
     }
@@ -118,4 +118,4 @@ stands_next w root place next b home is of later within passed =
     let m = search_in w in
     let tree = tree_at w b of in
     passes_over m (laws_in w) w.least.items w.path.items w.places.items w.depth w.seeking w.probes (next - suc place) next w.sound (omega (arith, later, is)) (omega (arith, within, tree.count))
-    (λ i from less. others_closed w root i home (omega (arith, less, within, tree.count)) (passed (providers_in w.ledger) (choices_at m w.depth) tree home.provider i (omega (arith, from, is)) less))
+    (λ i from less. closed_dead m (laws_in w) (take w.depth w.path.items ++ next_at m w.depth i ∷ []) (others_closed w root i home (omega (arith, less, within, tree.count)) (passed (providers_in w.ledger) (choices_at m w.depth) tree home.provider i (omega (arith, from, is)) less)))

@@ -23,9 +23,6 @@ use Rattle.ac_search.proofs.TryLemmas.{counted_given, whole_front}
 pub one_more_kept : (n : ℕ) → n ≤ one_more n
 one_more_kept n = elim (cases_Bool (nat_lt n last_count)) [ inl e ↦ rw e (omega arith) | inr e ↦ rw e (omega arith) ]
 
-pub one_more_most : (n : ℕ) → one_more n ≤ n + 1
-one_more_most n = elim (cases_Bool (nat_lt n last_count)) [ inl e ↦ rw e (omega arith) | inr e ↦ rw e (omega arith) ]
-
 pub one_more_rises : (n : ℕ) → Rises n (one_more n)
 one_more_rises n = λ l. elim (cases_Bool (nat_lt n last_count)) [ inl e ↦ rw e (omega arith) | inr e ↦ grind (arith, nat_tests) ]
 

@@ -1,14 +1,16 @@
 -- What a try of the next choice comes to.
-use Rattle.std.proofs.Common.{◌≡◌, ℕ, ◌+◌, ◌*◌, ◌<◌, ◌≤◌, suc, Bool, true, false, List, [], ◌∷◌, ◌++◌, length, take, set, None, Some, sym, ap, ◌∙◌, subst, arith, length-append, length-take-le, take_all}
+use Rattle.std.proofs.Common.{◌≡◌, ℕ, ◌+◌, ◌*◌, ◌<◌, ◌≤◌, suc, Bool, true, false, List, [], ◌∷◌, ◌++◌, length, take, set, None, Some, sym, ap, ◌∙◌, subst, arith, append_assoc, length-append, length-take-le, take_all}
 use Rattle.std.specs.List.{slice_index}
-use Rattle.std.proofs.lemmas.Bool.{false≢true}
+use Rattle.std.proofs.lemmas.Bool.{false≢true, false_from_ne_true}
 use Rattle.std.proofs.lemmas.Bool.Decides.{nat_tests}
 use Rattle.std.proofs.lemmas.List.{get_or_past}
+use Rattle.std.proofs.lemmas.List.Elements.{All-from_recursion}
 use Rattle.std.proofs.Math.Nat.{mul-le-mul_left}
-use Rattle.ac_search.specs.Search.{Search, sought, between, choices_at, next_at, next_front, from, left_from, IsSound}
+use Rattle.ac_search.specs.Lists.{IsListBelow}
+use Rattle.ac_search.specs.Search.{Search, IsDead, sought, between, choices_at, next_at, next_front, from, left_from, IsSound}
 use Rattle.ac_search.proofs.Elements.{each_weaker, each_append, filter_none}
 use Rattle.ac_search.proofs.FrontOrder.{lex_one}
-use Rattle.ac_search.proofs.SoughtLemmas.{IsSearch, IsSought, each_sought, choice_in, low_at}
+use Rattle.ac_search.proofs.SoughtLemmas.{IsSearch, IsSought, each_sought, low_at}
 use Rattle.ac_search.proofs.MoveLemmas.{left_next, left_given, front_back, path_low}
 use Rattle.ac_search.proofs.BetweenLemmas.{met_all, met_given}
 
@@ -22,12 +24,22 @@ pub whole_front : (m : Search) (x path places : List ℕ) (d : ℕ) (seeking : B
     → path ≡ next_front m path places d
 whole_front m x path places d seeking probes s is last = sym (take_all (suc d) path (omega (arith, s.path_len))) ∙ put_front m x path places d seeking probes s is
 
--- nothing that is wanted goes on by a number at which the path doesn't stay open
-pub left_closed : (m : Search) → IsSearch m → (x path places : List ℕ) (d : ℕ) (seeking : Bool) (probes : ℕ) → IsSound m x path places d seeking probes → slice_index places d < length (choices_at m d)
-    → m.is_open (next_front m path places d) ≡ false → left_from m x (next_front m path (set places d (slice_index places d + 1)) d) ≡ left_from m x (next_front m path places d)
-left_closed m laws x path places d seeking probes s l closed = sym (left_next m laws x path places d s.path_len s.places_len s.within l
+-- nothing that is left goes on by a number at which the path is dead
+pub left_dead : (m : Search) → IsSearch m → (x path places : List ℕ) (d : ℕ) (seeking : Bool) (probes : ℕ) → IsSound m x path places d seeking probes → slice_index places d < length (choices_at m d)
+    → IsDead m (next_front m path places d) → left_from m x (next_front m path (set places d (slice_index places d + 1)) d) ≡ left_from m x (next_front m path places d)
+left_dead m laws x path places d seeking probes s l dead = sym (left_next m laws x path places d s.path_len s.places_len s.within l
     (each_weaker (IsSought m x) (λ t. (u : List ℕ) → t ≡ take d path ++ next_at m d (slice_index places d) ∷ u → ⊥) (sought m x)
-    (λ t h u e. false≢true (sym closed ∙ (choice_in m laws x t (take d path) u (next_at m d (slice_index places d)) h e).opens)) (each_sought m x)))
+    (λ t h u e. sought_dead m x t (take d path) (next_at m d (slice_index places d)) u h e dead) (each_sought m x)))
+  where
+    sought_dead : (m : Search) (x t q : List ℕ) (p : ℕ) (u : List ℕ) → IsSought m x t → t ≡ q ++ p ∷ u → IsDead m (q ++ p ∷ []) → ⊥
+    sought_dead m x t q p u h e dead =
+        let same : t ≡ (q ++ p ∷ []) ++ u = e ∙ sym (append_assoc q (p ∷ []) u) in
+        let list : IsListBelow m.count m.width ((q ++ p ∷ []) ++ u) = subst (IsListBelow m.count m.width) same (record { long = h.long; below = All-from_recursion (λ r. r < m.count) t h.low }) in
+        false≢true (sym (dead u list) ∙ subst (λ (v : List ℕ). m.is_wanted v ≡ true) same h.wanted)
+
+-- a list that isn't open is dead
+pub closed_dead : (m : Search) → IsSearch m → (q : List ℕ) → m.is_open q ≡ false → IsDead m q
+closed_dead m laws q closed v list = false_from_ne_true _ (λ h. false≢true (sym closed ∙ laws.front q v (laws.wanted (q ++ v) h)))
 
 -- a whole path that isn't wanted is nothing that is sought
 pub left_lacking : (m : Search) → IsSearch m → (x path places : List ℕ) (d : ℕ) (seeking : Bool) (probes : ℕ) → IsSound m x path places d seeking probes → slice_index places d < length (choices_at m d) → suc d ≡ m.width

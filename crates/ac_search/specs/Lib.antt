@@ -19,3 +19,4 @@ pub mod PlainShown
 pub mod WalkShown
 pub mod Steps
 pub mod Laws
+pub mod Ahead

@@ -3,7 +3,7 @@
 use Rattle.std.specs.Prelude.{◌≡◌, ℕ, ◌+◌, ◌-◌, ◌*◌, ◌<◌, ◌≤◌, zero, suc, Bool, true, false, not, ◌&&◌, nat_lt, cond, if◌then◌else◌, List, [], ◌∷◌, ◌++◌, map, length, take, slice_index, slice_index_or, Option, None, Some}
 use Rattle.std.specs.List.{filter, flat_map, range_with_len, AllByRecursion}
 use Rattle.ac_search.specs.Order.{lex_lt}
-use Rattle.ac_search.specs.Lists.{all_lists}
+use Rattle.ac_search.specs.Lists.{all_lists, IsListBelow}
 
 -- The numbers are below `count`, and there are `width` slots. A slot has some of the numbers as its choices. Some lists
 -- are open, and some lists of a number for each slot are wanted.
@@ -17,6 +17,10 @@ pub record Search : Type 0 where
 -- the wanted lists, in order, from x on
 abbrev pub sought : Search → List ℕ → List (List ℕ)
 sought m x = filter (λ t. not (lex_lt t x)) (filter (λ t. m.is_wanted t) (all_lists m.count m.width))
+
+-- no wanted list is q or goes on from it
+abbrev pub IsDead : Search → List ℕ → Type 0
+IsDead m q = (v : List ℕ) → IsListBelow m.count m.width (q ++ v) → m.is_wanted (q ++ v) ≡ false
 
 -- ---- What lies between two lists
 

@@ -27,15 +27,15 @@ pub(crate) struct Ledger<'a> {
     pub(crate) cloud: &'a Cloud,
     pub(crate) query: &'a Query,
     // The classes that the slots ask for, what each slot asks of them, and what is left of each provider's rooms.
-    classes: Vec<&'a ClassName>,
-    asks: Vec<Vec<Ask>>,
-    rows: Vec<Vec<Room>>,
+    pub(crate) classes: Vec<&'a ClassName>,
+    pub(crate) asks: Vec<Vec<Ask>>,
+    pub(crate) rows: Vec<Vec<Room>>,
     // The slots that need a provider for themselves, and how many of them each provider has.
-    lone: Vec<bool>,
+    pub(crate) lone: Vec<bool>,
     marks: Vec<u32>,
     // The roots that the query takes, and at how many providers of the path each is available.
     taken: Vec<bool>,
-    hits: Vec<u32>,
+    pub(crate) hits: Vec<u32>,
     ghost known: { (s : ℕ) → s < length (slots_of (asked_of query.now)) → All (λ need. IsKnown (map (λ c. class_bytes c.now) classes.items) need.0) (slot_at (asked_of query.now) s).needs },
     ghost asked: { map (λ v. map ask_pair v.items) asks.items ≡ map (λ slot. map (numbered (map (λ c. class_bytes c.now) classes.items)) slot.needs) (slots_of (asked_of query.now)) },
     ghost as_many: { length rows.items ≡ length (providers_of cloud.now) },

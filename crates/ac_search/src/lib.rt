@@ -7,6 +7,7 @@ mod after;
 mod anchor;
 mod choices;
 mod each;
+mod hosts;
 mod judging;
 pub mod laws;
 mod least;

@@ -32,7 +32,7 @@ pub(crate) struct Room {
 }
 
 // The number of a class among classes; past the end where it isn't there.
-fn number_of(classes: &[&ClassName], class: &ClassName) -> usize
+pub(crate) fn number_of(classes: &[&ClassName], class: &ClassName) -> usize
     ensures number { result ≡ place_of (map (λ c. class_bytes c.now) classes.now) (class_bytes class.now) }
     ensures within { result ≤ length classes.now }
 {
@@ -164,7 +164,7 @@ fn place_in(row: &[Room], class: usize) -> usize
 }
 
 // What a row has left of a class.
-fn left_in(row: &[Room], class: usize) -> u64
+pub(crate) fn left_in(row: &[Room], class: usize) -> u64
     ensures { result ≡ left_in (map room_pair row.now) class }
 {
     let place = place_in(row, class);
@@ -185,6 +185,19 @@ pub(crate) fn has_each(row: &[Room], asks: &[Ask]) -> bool
         }
     }
     true
+}
+
+/// What asks want of a class, or less where it is more than can be told.
+pub(crate) fn wanted(asks: &[Ask], class: usize) -> u64
+    ensures { result ≤ wanted (map ask_pair asks.now) class }
+{
+    let mut total = 0u64;
+    for ask in asks {
+        if ask.class == class {
+            total = total.saturating_add(u64::from(ask.amount));
+        }
+    }
+    total
 }
 
 // Takes what an ask wants of a row.

@@ -1,4 +1,4 @@
-ghost use Rattle.std.specs.Prelude.{◌≡◌, ◌+◌, ◌<◌, ◌≤◌, ◌++◌, ◌∷◌, [], length, map, take, true, suc, MatchOption, IsTrue, IfOk, ◌↔◌, slice_index, slice_set};
+ghost use Rattle.std.specs.Prelude.{◌≡◌, ◌+◌, ◌<◌, ◌≤◌, ◌++◌, ◌∷◌, [], length, map, take, true, false, suc, MatchOption, IsTrue, IfOk, ◌↔◌, slice_index, slice_set};
 ghost use Rattle.std.specs.Bool.{MatchBool};
 ghost use Rattle.std.specs.Option.{option_map};
 ghost use Rattle.ac_base.specs.Devices.{one_more};
@@ -9,13 +9,16 @@ ghost use Rattle.ac_query.specs.Tokens as tokens;
 ghost use Rattle.ac_search.specs.Accounts.{providers_in, asked_in, Accounts};
 ghost use Rattle.ac_search.specs.Judge.{is_open};
 ghost use Rattle.ac_search.specs.Pages.{rest};
-ghost use Rattle.ac_search.specs.Search.{IsSound, IsStart, Enters, HasAt, least_at, choices_at, next_at};
+ghost use Rattle.ac_search.specs.Search.{IsDead, IsSound, IsStart, Enters, HasAt, least_at, choices_at, next_at};
 ghost use Rattle.ac_search.specs.QuerySearch.{choices_of, search_of, completes, least_of};
 ghost use Rattle.ac_search.specs.Trees.{AreByTree};
+ghost use Rattle.ac_search.specs.Ahead.{AreRoots};
 
 use crate::choices::all_choices;
+use crate::hosts::host_roots;
 use crate::least::least_of;
 use crate::ledger::Ledger;
+use crate::marks::has_full;
 use crate::open::completes;
 use crate::slots::count_slots;
 use crate::source::Source;
@@ -48,6 +51,8 @@ pub struct Walk<'a> {
     choices: Vec<Vec<u32>>,
     // The same by tree.
     trees: Vec<ByTree>,
+    // The roots that may host a candidate.
+    hosts: Vec<bool>,
     // The providers so far, as many as the depth says, and where each stands among the choices of its slot.
     path: Vec<u32>,
     places: Vec<usize>,
@@ -58,6 +63,7 @@ pub struct Walk<'a> {
     ghost resumed: { least.items ≡ least_of (providers_in ledger) (length (slots_of (asked_in ledger))) (option_map (λ ids. ids.items) after) },
     ghost listed: { map (λ v. v.items) choices.items ≡ choices_of (providers_in ledger) (asked_in ledger) },
     ghost by_tree: { AreByTree (providers_in ledger) (choices_of (providers_in ledger) (asked_in ledger)) trees.items },
+    ghost hosting: { AreRoots (providers_in ledger) (asked_in ledger) hosts.items },
     ghost sound: { IsSound (search_of (providers_in ledger) (asked_in ledger)) least.items path.items places.items depth seeking probes },
     ghost accounted: { Accounts ledger (take depth path.items) },
 }
@@ -86,6 +92,7 @@ impl<'a> Walk<'a> {
         let choices = all_choices(alloc, cloud, query)?;
         let trees = ByTree::of_slots(alloc, cloud, &choices)?;
         let ledger = Ledger::new(alloc, cloud, query)?;
+        let hosts = host_roots(alloc, &ledger, &choices)?;
         let path = vec![in alloc; 0u32; width]?;
         let mut places = vec![in alloc; 0usize; width]?;
         places[0] = start_of(&choices[0], &least, 0);
@@ -95,6 +102,7 @@ impl<'a> Walk<'a> {
             least,
             choices,
             trees,
+            hosts,
             path,
             places,
             depth: 0,
@@ -134,14 +142,26 @@ impl<'a> Walk<'a> {
         self.path[self.depth] = provider;
     }
 
-    // Whether the path is open with the provider that is put behind it.
+    // Whether some root that may host a candidate has all of the path and the provider that is put behind it.
+    fn keeps_host(&self) -> bool
+        requires among { slice_index self.now.places.items self.now.depth < length (choices_at (search_in self.now) self.now.depth) }
+        requires put { slice_index self.now.path.items self.now.depth ≡ next_at (search_in self.now) self.now.depth (slice_index self.now.places.items self.now.depth) }
+        ensures { result ≡ false → IsDead (search_in self.now) (take (suc self.now.depth) self.now.path.items) }
+    {
+        let roots = self.ledger.cloud.anchors(self.path[self.depth]);
+        has_full(&self.ledger.hits, &self.hosts, roots, self.depth)
+    }
+
+    // Whether the path is open with the provider that is put behind it; where it says no, no candidate goes on from there.
     fn stays_open(&self) -> bool
         requires among { slice_index self.now.places.items self.now.depth < length (choices_at (search_in self.now) self.now.depth) }
         requires put { slice_index self.now.path.items self.now.depth ≡ next_at (search_in self.now) self.now.depth (slice_index self.now.places.items self.now.depth) }
-        ensures { result ≡ is_open (providers_in self.now.ledger) (asked_in self.now.ledger) (take (suc self.now.depth) self.now.path.items) }
+        ensures opens { result ≡ true → is_open (providers_in self.now.ledger) (asked_in self.now.ledger) (take (suc self.now.depth) self.now.path.items) ≡ true }
+        ensures dead { result ≡ false → IsDead (search_in self.now) (take (suc self.now.depth) self.now.path.items) }
     {
         self.ledger
             .admits(&self.path[..self.depth], self.path[self.depth])
+            && self.keeps_host()
     }
 
     // Whether the whole path meets what isn't asked of its fronts.

@@ -3,7 +3,7 @@ use Rattle.std.proofs.Common.{◌≡◌, ℕ, List, [], ◌++◌, Option, Some, 
 use Rattle.std.specs.Prelude.{codes}
 use Rattle.uuid.proofs.OnLiterals.{uuid_on_literals}
 use Rattle.csv.proofs.OnLiterals.{csv_on_literals}
-use Rattle.ac_base.specs.Texts.{number, count_value, fraction_parts, parts_at, decimal_parts}
+use Rattle.ac_base.specs.Texts.{number, count_value, in_millionths, ratio_value}
 use Rattle.ac_tables.specs.Rows.{records_of}
 use Rattle.ac_tables.specs.Columns.{header_checks}
 use Rattle.ac_tables.specs.ProviderTable.{uuid_name, root_name, parent_name, provider_columns, listed_in, place_of, listed_field_checks, place_checks, listed_checks}
@@ -66,21 +66,21 @@ unfolding csv_on_literals uuid_on_literals tables_fault header_checks provider_c
 own_parent = refl
 
 bad_class : fault_of one_provider (inventory_header ++ codes "00000000000000000000000000000001,vcpu,8,0,1,8,1,1.0") ≡ Some (fault.At table.Inventories 2 kind.BadClass)
-unfolding csv_on_literals uuid_on_literals tables_fault header_checks provider_columns uuid_name root_name parent_name listed_in place_of listed_field_checks place_checks listed_checks provider_name class_name total_name reserved_name min_unit_name max_unit_name step_size_name ratio_name inventory_columns stock_in holding_in stock_checks owner_checks class_checks holding_field_checks held_checks holding_checks ids_of number count_value fraction_parts parts_at decimal_parts
+unfolding csv_on_literals uuid_on_literals tables_fault header_checks provider_columns uuid_name root_name parent_name listed_in place_of listed_field_checks place_checks listed_checks provider_name class_name total_name reserved_name min_unit_name max_unit_name step_size_name ratio_name inventory_columns stock_in holding_in stock_checks owner_checks class_checks holding_field_checks held_checks holding_checks ids_of number count_value in_millionths ratio_value
 bad_class = refl
 
 zero_step : fault_of one_provider (inventory_header ++ codes "00000000000000000000000000000001,VCPU,8,0,1,8,0,1.0") ≡ Some (fault.At table.Inventories 2 kind.ZeroStep)
-unfolding csv_on_literals uuid_on_literals tables_fault header_checks provider_columns uuid_name root_name parent_name listed_in place_of listed_field_checks place_checks listed_checks provider_name class_name total_name reserved_name min_unit_name max_unit_name step_size_name ratio_name inventory_columns stock_in holding_in stock_checks owner_checks class_checks holding_field_checks held_checks holding_checks ids_of number count_value fraction_parts parts_at decimal_parts
+unfolding csv_on_literals uuid_on_literals tables_fault header_checks provider_columns uuid_name root_name parent_name listed_in place_of listed_field_checks place_checks listed_checks provider_name class_name total_name reserved_name min_unit_name max_unit_name step_size_name ratio_name inventory_columns stock_in holding_in stock_checks owner_checks class_checks holding_field_checks held_checks holding_checks ids_of number count_value in_millionths ratio_value
 zero_step = refl
 
 reserved_over_total : fault_of one_provider (inventory_header ++ codes "00000000000000000000000000000001,VCPU,8,9,1,8,1,1.0") ≡ Some (fault.At table.Inventories 2 kind.ReservedOverTotal)
-unfolding csv_on_literals uuid_on_literals tables_fault header_checks provider_columns uuid_name root_name parent_name listed_in place_of listed_field_checks place_checks listed_checks provider_name class_name total_name reserved_name min_unit_name max_unit_name step_size_name ratio_name inventory_columns stock_in holding_in stock_checks owner_checks class_checks holding_field_checks held_checks holding_checks ids_of number count_value fraction_parts parts_at decimal_parts
+unfolding csv_on_literals uuid_on_literals tables_fault header_checks provider_columns uuid_name root_name parent_name listed_in place_of listed_field_checks place_checks listed_checks provider_name class_name total_name reserved_name min_unit_name max_unit_name step_size_name ratio_name inventory_columns stock_in holding_in stock_checks owner_checks class_checks holding_field_checks held_checks holding_checks ids_of number count_value in_millionths ratio_value
 reserved_over_total = refl
 
 unknown_provider : fault_of one_provider (inventory_header ++ codes "00000000000000000000000000000002,VCPU,8,0,1,8,1,1.0") ≡ Some (fault.At table.Inventories 2 kind.UnknownProvider)
-unfolding csv_on_literals uuid_on_literals tables_fault header_checks provider_columns uuid_name root_name parent_name listed_in place_of listed_field_checks place_checks listed_checks provider_name class_name total_name reserved_name min_unit_name max_unit_name step_size_name ratio_name inventory_columns stock_in holding_in stock_checks owner_checks class_checks holding_field_checks held_checks holding_checks ids_of number count_value fraction_parts parts_at decimal_parts
+unfolding csv_on_literals uuid_on_literals tables_fault header_checks provider_columns uuid_name root_name parent_name listed_in place_of listed_field_checks place_checks listed_checks provider_name class_name total_name reserved_name min_unit_name max_unit_name step_size_name ratio_name inventory_columns stock_in holding_in stock_checks owner_checks class_checks holding_field_checks held_checks holding_checks ids_of number count_value in_millionths ratio_value
 unknown_provider = refl
 
 accepted : fault_of one_provider (inventory_header ++ codes "00000000000000000000000000000001,VCPU,8,0,1,8,1,1.500000") ≡ None
-unfolding csv_on_literals uuid_on_literals tables_fault header_checks provider_columns uuid_name root_name parent_name listed_in place_of listed_field_checks place_checks listed_checks provider_name class_name total_name reserved_name min_unit_name max_unit_name step_size_name ratio_name inventory_columns stock_in holding_in stock_checks owner_checks class_checks holding_field_checks held_checks holding_checks ids_of number count_value fraction_parts parts_at decimal_parts usage_name usage_columns name_name trait_columns aggregate_columns
+unfolding csv_on_literals uuid_on_literals tables_fault header_checks provider_columns uuid_name root_name parent_name listed_in place_of listed_field_checks place_checks listed_checks provider_name class_name total_name reserved_name min_unit_name max_unit_name step_size_name ratio_name inventory_columns stock_in holding_in stock_checks owner_checks class_checks holding_field_checks held_checks holding_checks ids_of number count_value in_millionths ratio_value usage_name usage_columns name_name trait_columns aggregate_columns
 accepted = refl

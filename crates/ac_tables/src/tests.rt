@@ -171,6 +171,12 @@ fn tells_each_fault_of_the_other_tables(rt: HostRuntime) {
             "resource_provider,resource_class,total,reserved,min_unit,max_unit,step_size,allocation_ratio\n00000000-0000-0000-0000-000000000001,VCPU,8,0,1,8,1,1.2345",
             None,
             None,
+            None,
+        ),
+        (
+            "resource_provider,resource_class,total,reserved,min_unit,max_unit,step_size,allocation_ratio\n00000000-0000-0000-0000-000000000001,VCPU,8,0,1,8,1,1.2345678",
+            None,
+            None,
             at(Table::Inventories, 2, TableKind::BadRatio),
         ),
         (

@@ -1,6 +1,7 @@
 //! Many groups over hosts that are full.
-use super::{EMPTY, Left, Rows, SOUND, run_over};
-use crate::job::Command;
+use super::{Left, SOUND, run_texts, texts_under_headers};
+use crate::job::{Command, Job};
+use ac_query::Version;
 use std::alloc::{AllocError, Global};
 use std::test::Fail;
 
@@ -33,14 +34,22 @@ fn left_of_full_hosts(alloc: Global) -> Result<Left, AllocError> {
     let providers = rows_of_roots(alloc, ",\n", true)?;
     let inventories = rows_of_roots(alloc, ",VCPU,8,0,1,8,1,1.0\n", false)?;
     let usages = rows_of_roots(alloc, ",VCPU,8\n", false)?;
-    let rows = Rows {
-        providers: providers.as_str(),
-        inventories: inventories.as_str(),
-        usages: usages.as_str(),
-        ..EMPTY
-    };
+    let texts = texts_under_headers(
+        alloc,
+        providers.as_str(),
+        inventories.as_str(),
+        usages.as_str(),
+        "",
+        "",
+    )?;
     let query = many_groups(alloc)?;
-    run_over(alloc, &rows, Command::Tokens, query.as_str(), None, SOUND)
+    let job = Job {
+        command: Command::Tokens,
+        query: query.as_str(),
+        version: Version::V136,
+        token: None,
+    };
+    run_texts(alloc, &texts, &job, SOUND)
 }
 
 #[test]

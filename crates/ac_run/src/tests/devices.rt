@@ -77,3 +77,30 @@ fn patience(rt: HostRuntime) -> Result<(), Fail> {
     assert_eq!(rt; left.output.as_str(), "");
     Ok(())
 }
+
+// The same where the output is gathered: it is pushed at the end, and its failure is told once.
+#[test]
+fn patience_of_a_gathered_output(rt: HostRuntime) -> Result<(), Fail> {
+    let alloc = rt.alloc();
+    let again = [Turn::Again; 1000];
+    let borne = Turns {
+        out: &again,
+        is_gathered: true,
+        ..SOUND
+    };
+    let left = run_over(alloc, &ONE, Command::Tokens, QUERY, None, borne)?;
+    assert_eq!(rt; left.status, 0);
+    assert_eq!(rt; left.output.as_str(), expanded(alloc, "@1\n")?.as_str());
+
+    let once_more = [Turn::Again; 1001];
+    let sink = Turns {
+        out: &once_more,
+        is_gathered: true,
+        ..SOUND
+    };
+    let left = run_over(alloc, &ONE, Command::Tokens, QUERY, None, sink)?;
+    assert_eq!(rt; left.status, 6);
+    assert_eq!(rt; left.output.as_str(), "");
+    assert_eq!(rt; left.line.as_str(), "output: WriteFailed\n");
+    Ok(())
+}

@@ -8,7 +8,7 @@ use std::test::Fail;
 // What a run is asked, and what it answers. In all texts `@1` stands for the UUID that ends with 1.
 #[derive(Clone, Copy)]
 struct Case {
-    rows: Rows<'static>,
+    rows: Rows,
     command: Command,
     query: &'static str,
     version: Version,
@@ -102,22 +102,22 @@ fn one_provider(rt: HostRuntime) -> Result<(), Fail> {
     )
 }
 
-const THREE: Rows<'static> = Rows {
+const THREE: Rows = Rows {
     inventories: "@1,VCPU,3,1,1,10,1,1.5\n",
     ..ONE
 };
 
-const GREATEST: Rows<'static> = Rows {
+const GREATEST: Rows = Rows {
     inventories: "@1,VCPU,2147483647,0,1,2147483647,1,1\n",
     ..ONE
 };
 
-const EVEN: Rows<'static> = Rows {
+const EVEN: Rows = Rows {
     inventories: "@1,VCPU,8,0,2,8,2,1.0\n",
     ..ONE
 };
 
-const USED: Rows<'static> = Rows {
+const USED: Rows = Rows {
     usages: "@1,VCPU,7\n",
     ..ONE
 };
@@ -192,7 +192,7 @@ fn amounts(rt: HostRuntime) -> Result<(), Fail> {
 }
 
 // A parent and its child, with eight units each.
-const PAIR: Rows<'static> = Rows {
+const PAIR: Rows = Rows {
     providers: "@1,@1,\n@2,@1,@1\n",
     inventories: "@1,VCPU,8,0,1,8,1,1.0\n@2,VCPU,8,0,1,8,1,1.0\n",
     ..EMPTY
@@ -266,7 +266,7 @@ fn groups(rt: HostRuntime) -> Result<(), Fail> {
 }
 
 // A parent with two children, of which each has one class and one trait.
-const PARTED: Rows<'static> = Rows {
+const PARTED: Rows = Rows {
     providers: "@1,@1,\n@2,@1,@1\n@3,@1,@1\n",
     inventories: "@2,VCPU,8,0,1,8,1,1.0\n@3,PGPU,1,0,1,1,1,1.0\n",
     traits: "@2,CUSTOM_A\n@3,CUSTOM_B\n",
@@ -274,7 +274,7 @@ const PARTED: Rows<'static> = Rows {
 };
 
 // Two trees that share the disk of a third provider.
-const SHARED: Rows<'static> = Rows {
+const SHARED: Rows = Rows {
     providers: "@1,@1,\n@2,@1,@1\n@3,@3,\n@4,@3,@3\n@9,@9,\n",
     inventories: "@1,VCPU,8,0,1,8,1,1.0\n@3,VCPU,8,0,1,8,1,1.0\n@9,DISK_GB,100,0,1,100,1,1.0\n",
     traits: "@9,MISC_SHARES_VIA_AGGREGATE\n",
@@ -283,7 +283,7 @@ const SHARED: Rows<'static> = Rows {
 };
 
 // A child with a class, and its parent in an aggregate.
-const MEMBER: Rows<'static> = Rows {
+const MEMBER: Rows = Rows {
     providers: "@1,@1,\n@2,@1,@1\n",
     inventories: "@2,VCPU,8,0,1,8,1,1.0\n",
     aggregates: "@1,@a\n",
@@ -291,7 +291,7 @@ const MEMBER: Rows<'static> = Rows {
 };
 
 // A tree and a provider alone.
-const OLD: Rows<'static> = Rows {
+const OLD: Rows = Rows {
     providers: "@1,@1,\n@2,@1,@1\n@3,@3,\n",
     inventories: "@2,VCPU,8,0,1,8,1,1.0\n@3,VCPU,8,0,1,8,1,1.0\n",
     traits: "@1,CUSTOM_OLD\n",
@@ -367,7 +367,7 @@ fn trees(rt: HostRuntime) -> Result<(), Fail> {
 }
 
 // Two nodes of a machine, of which one has a child with a class.
-const NODES: Rows<'static> = Rows {
+const NODES: Rows = Rows {
     providers: "@1,@1,\n@2,@1,@1\n@3,@1,@1\n@4,@1,@2\n",
     inventories: "@4,VCPU,4,0,1,4,1,1.0\n",
     traits: "@2,HW_NUMA_ROOT\n@3,HW_NUMA_ROOT\n",

@@ -1,11 +1,14 @@
-use Rattle.std.proofs.Common.{◌≡◌, ◌∙◌, Some, sym, arith}
+use Rattle.std.proofs.Common.{◌≡◌, ◌∙◌, ℕ, List, Some, subst, sym, arith}
+use Rattle.std.specs.Io.KnownBytes.{Appends}
 use Rattle.ac_query.specs.QueriesShown.{asked_of}
 use Rattle.ac_search.specs.Lists.{head_of, tail_of}
 use Rattle.ac_tables.specs.CloudWorld.{providers_of}
 use Rattle.ac_report.specs.Pages.{IsAssignment}
 use Rattle.ac_report.proofs.Outcomes.{on_err}
 use Rattle.ac_report.proofs.LinesWritten.{leaves_line, leaves_line_part}
-use Rattle.ac_report.proofs.Paging.{all_head, all_tail, behind_step, count_step, gone_step, loses_one, room_step}
+use Rattle.ac_report.proofs.Wholes.{done_whole, one_done}
+use Rattle.ac_report.specs.Texts.{line}
+use Rattle.ac_report.proofs.Paging.{all_head, all_tail, behind_step, count_step, cut_step, gone_step, loses_one, room_step}
 use Rattle.ac_report.proofs.lines.write_tokens.Goals as goal
 
 pub put_line-requires : goal.put_line-requires
@@ -52,6 +55,7 @@ lists-preserved g c =
     let head : head_of ls ≡ Some x = sym c.in-Some.ensures.head in
     let tail : left c.next.follows.lender-at-none ≡ tail_of ls = c.next.follows.holds-at-none.0 in
     let room = c.lists.invariant.room in
+    let P : List ℕ → Type 0 = λ text. Appends (g.W.Sink.taken c.lists.out) (g.W.Sink.taken c.push_all.new.out) text in
     rw (tail, c.saturating_add-count.ensures)
     (record {
       assigned = all_tail (IsAssignment all asked) ls c.lists.invariant.assigned;
@@ -61,5 +65,10 @@ lists-preserved g c =
       counted = omega arith;
       room = room_step limit count more room;
       gone = gone_step count (left c.args.source.now) ls x head c.lists.invariant.gone;
+      whole = one_done (line all) _ _ _ _ x _ _ (cut_step limit count ls x more room head) c.lists.invariant.whole
+          (subst P (c.deref.ensures.value ∙ c.in_ok-put_line.ensures) c.in_ok-push_all.ensures.ok);
       failures = omega (arith, c.lists.invariant.failures, c.in_ok-push_all.ensures.failures);
     })
+
+pub returns-in_err-put_line-clause-whole : goal.returns-in_err-put_line-clause-whole
+returns-in_err-put_line-clause-whole g c = λ told. done_whole (line (providers_of c.args.cloud.now)) _ _ _ _ c.lists.invariant.whole

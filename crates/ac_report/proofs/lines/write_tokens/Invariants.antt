@@ -3,10 +3,11 @@ use Rattle.std.specs.List.{All}
 use Rattle.ac_query.specs.QueriesShown.{asked_of}
 use Rattle.ac_search.specs.Pages.{cut}
 use Rattle.ac_tables.specs.CloudWorld.{providers_of}
-use Rattle.ac_report.specs.Texts.{lines}
+use Rattle.ac_report.specs.Texts.{line, lines}
 use Rattle.ac_report.specs.Pages.{IsAssignment, behind}
 use Rattle.ac_base.proofs.Leaving.{Leaves}
 use Rattle.ac_report.proofs.Paging.{after, IsRoom, Gone}
+use Rattle.ac_report.proofs.Wholes.{IsDone}
 use Rattle.ac_report.proofs.lines.write_tokens.Given as goal
 
 -- what is left to write, of what was there to write
@@ -24,6 +25,7 @@ invariant-lists g l =
       counted : l.count ≤ 4294967295;
       room : IsRoom asked.limit l.count;
       gone : Gone l.count (left l.fn.source) (left l.source);
+      whole : IsDone (line all) (cut asked.limit (left l.fn.source)) (g.W.Sink.taken l.fn.out) (g.W.Sink.taken l.out) (cut wanted (left l.source));
       failures : g.W.Sink.failures l.fn.out ≤ g.W.Sink.failures l.out;
     }
 

@@ -1,4 +1,4 @@
-use Rattle.std.proofs.Common.{sym, subst, List, ℕ, false}
+use Rattle.std.proofs.Common.{sym, subst, rules, map, List, [], ◌∷◌, ◌++◌, ℕ, false}
 use Rattle.std.specs.Io.KnownBytes.{Appends}
 use Rattle.ac_query.specs.QueriesShown.{asked_of}
 use Rattle.ac_search.specs.Pages.{cut}
@@ -6,7 +6,8 @@ use Rattle.ac_tables.specs.CloudWorld.{providers_of}
 use Rattle.ac_tables.proofs.ProvidersStated.{cloud_in_order}
 use Rattle.ac_report.specs.Marks.{requests_text, summaries_text}
 use Rattle.ac_base.specs.Devices.{TakesPart}
-use Rattle.ac_report.specs.Texts.{head_text, middle_text, tail_text, summarized}
+use Rattle.ac_report.specs.Texts.{head_text, middle_text, request_text, summarized, summary_piece, tail_text, with_commas}
+use Rattle.ac_report.proofs.Wholes.{behind_all, behind_first, behind_one}
 use Rattle.ac_report.proofs.Joining.{body_is}
 use Rattle.ac_report.proofs.Outcomes.{on_err}
 use Rattle.ac_report.proofs.Paging.{loses_page}
@@ -82,3 +83,24 @@ returns-clause-text g c =
     subst P (sym (body_is all (cloud_in_order c.args.cloud.now) asked lists))
     (five _ _ _ _ _ _ head_text (requests_text all asked false lists) middle_text (summaries_text all false (summarized all lists)) tail_text
     c.in_ok-push_head.ensures.ok c.in_ok-count.ensures.text c.in_ok-push_middle.ensures.ok (c.in_ok-write_summaries.ensures.ok lists c.in_ok-count.ensures.marks) c.in_ok-push_tail.ensures.ok)
+
+pub returns-in_err-count-clause-whole : goal.returns-in_err-count-clause-whole
+returns-in_err-count-clause-whole g c = λ told.
+    let all = providers_of c.args.cloud.now in
+    let asked = asked_of c.args.query.now in
+    let lists = cut asked.limit (g.S.Source.left c.args.source.now) in
+    behind_first head_text (with_commas false (map (request_text all asked) lists))
+    (middle_text ∷ (with_commas false (map (summary_piece all) (summarized all lists)) ++ tail_text ∷ [])) _ _ _
+    c.in_ok-push_head.ensures.ok (c.in_err-count.ensures.whole (search rules))
+
+pub returns-in_err-write_summaries-clause-whole : goal.returns-in_err-write_summaries-clause-whole
+returns-in_err-write_summaries-clause-whole g c = λ told.
+    let all = providers_of c.args.cloud.now in
+    let asked = asked_of c.args.query.now in
+    let lists = cut asked.limit (g.S.Source.left c.args.source.now) in
+    let requests = with_commas false (map (request_text all asked) lists) in
+    let summaries = with_commas false (map (summary_piece all) (summarized all lists)) in
+    behind_one head_text (requests ++ middle_text ∷ (summaries ++ tail_text ∷ [])) _ _ _ c.in_ok-push_head.ensures.ok
+    (behind_all requests (middle_text ∷ (summaries ++ tail_text ∷ [])) _ _ _ c.in_ok-count.ensures.text
+    (behind_first middle_text summaries (tail_text ∷ []) _ _ _ c.in_ok-push_middle.ensures.ok
+    (c.in_err-write_summaries.ensures.whole (search rules) lists c.in_ok-count.ensures.marks)))

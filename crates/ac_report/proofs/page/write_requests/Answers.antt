@@ -1,4 +1,4 @@
-use Rattle.std.proofs.Common.{◌≡◌, ◌∙◌, sym, subst, arith, Some, false, get_or, length, List, ℕ, ◌++◌}
+use Rattle.std.proofs.Common.{◌≡◌, ◌∙◌, ap, map, sym, subst, arith, Some, false, get_or, length, List, ℕ, ◌++◌}
 use Rattle.std.specs.List.{list_any}
 use Rattle.std.specs.Io.KnownBytes.{Appends}
 use Rattle.serde_json.specs.Written.{comma_if}
@@ -9,7 +9,8 @@ use Rattle.ac_tables.specs.CloudWorld.{providers_of}
 use Rattle.ac_tables.specs.World.{id_at}
 use Rattle.ac_base.specs.Devices.{TakesPart}
 use Rattle.ac_report.specs.Pages.{IsAssignment}
-use Rattle.ac_report.specs.Texts.{request_text, meets_root}
+use Rattle.ac_report.specs.Texts.{request_text, meets_root, with_commas}
+use Rattle.ac_report.proofs.Wholes.{done_whole, one_done}
 use Rattle.ac_report.proofs.Outcomes.{on_err}
 use Rattle.ac_report.proofs.Marking.{marks_step}
 use Rattle.ac_report.proofs.Paging.{after, counted, all_head, all_tail, cut_step, behind_step, gone_step, loses_one, count_step, room_step}
@@ -88,5 +89,10 @@ lists-preserved g c =
       marks_long = long ∙ c.lists.invariant.marks_long;
       marked = λ r below. marks_step all limit count ls x (id_at all r) (list_any (meets_root all (id_at all r)) (cut limit whole)) (get_or c.lists.marks r false) (get_or c.mark_roots.new.marks r false) more room head
           (c.lists.invariant.marked r below) (c.mark_roots.ensures.marked r (omega (arith, below, c.lists.invariant.marks_long)));
+      whole = one_done (λ text. text) _ _ _ _ (comma_if c.lists.later ++ request_text all asked x) _ _
+          (ap (λ l. with_commas c.lists.later (map (request_text all asked) l)) (cut_step limit count ls x more room head)) c.lists.invariant.whole taken;
       failures = omega (arith, c.lists.invariant.failures, c.in_ok-push_listed.ensures.failures);
     })
+
+pub returns-in_err-text-in-Some-clause-whole : goal.returns-in_err-text-in-Some-clause-whole
+returns-in_err-text-in-Some-clause-whole g c = λ told. done_whole (λ text. text) _ _ _ _ c.lists.invariant.whole

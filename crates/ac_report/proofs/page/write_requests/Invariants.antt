@@ -1,4 +1,4 @@
-use Rattle.std.proofs.Common.{◌≡◌, ◌<◌, ◌≤◌, ◌+◌, ◌||◌, min, length, ℕ, false, get_or}
+use Rattle.std.proofs.Common.{◌≡◌, ◌<◌, ◌≤◌, ◌+◌, ◌||◌, min, length, map, ℕ, false, get_or}
 use Rattle.std.specs.List.{All, list_any}
 use Rattle.ac_query.specs.QueriesShown.{asked_of}
 use Rattle.ac_search.specs.Pages.{cut}
@@ -6,7 +6,8 @@ use Rattle.ac_tables.specs.CloudWorld.{providers_of}
 use Rattle.ac_tables.specs.World.{id_at}
 use Rattle.ac_report.specs.Marks.{requests_text}
 use Rattle.ac_report.specs.Pages.{IsAssignment, behind}
-use Rattle.ac_report.specs.Texts.{meets_root}
+use Rattle.ac_report.specs.Texts.{meets_root, request_text, with_commas}
+use Rattle.ac_report.proofs.Wholes.{IsDone}
 use Rattle.ac_base.proofs.Leaving.{Leaves}
 use Rattle.ac_report.proofs.Paging.{after, IsRoom, Gone}
 use Rattle.ac_report.proofs.page.write_requests.Given as goal
@@ -28,6 +29,7 @@ invariant-lists g l =
       gone : Gone l.count (left l.fn.source) (left l.source);
       marks_long : length l.marks ≡ length all;
       marked : (r : ℕ) → r < length all → list_any (meets_root all (id_at all r)) (cut asked.limit (left l.fn.source)) ≡ (get_or l.marks r false || list_any (meets_root all (id_at all r)) (cut wanted (left l.source)));
+      whole : IsDone (λ text. text) (with_commas false (map (request_text all asked) (cut asked.limit (left l.fn.source)))) (g.W.Sink.taken l.fn.out) (g.W.Sink.taken l.out) (with_commas l.later (map (request_text all asked) (cut wanted (left l.source))));
       failures : g.W.Sink.failures l.fn.out ≤ g.W.Sink.failures l.out;
     }
 

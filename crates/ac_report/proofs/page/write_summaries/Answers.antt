@@ -1,8 +1,10 @@
-use Rattle.std.proofs.Common.{◌≡◌, ℕ, ◌+◌, ◌-◌, suc, Bool, true, false, length, sym, ap, ◌∙◌, refl, arith}
+use Rattle.std.proofs.Common.{◌≡◌, ◌++◌, map, ℕ, ◌+◌, ◌-◌, suc, Bool, true, false, length, sym, ap, ◌∙◌, refl, arith, rules}
 use Rattle.std.specs.List.{list_any}
 use Rattle.ac_tables.specs.CloudWorld.{providers_of}
 use Rattle.ac_tables.specs.World.{id_at, root_of}
-use Rattle.ac_report.specs.Texts.{summary_piece, meets_root}
+use Rattle.serde_json.specs.Written.{comma_if}
+use Rattle.ac_report.specs.Texts.{summary_piece, meets_root, with_commas}
+use Rattle.ac_report.proofs.Wholes.{done_whole, one_done, same_done}
 use Rattle.ac_report.proofs.Outcomes.{on_err}
 use Rattle.ac_report.proofs.Summing.{step_taken, step_skipped, leaves_listed, leaves_listed_part, leaves_same}
 use Rattle.ac_report.proofs.page.write_summaries.Goals as goal
@@ -18,6 +20,10 @@ loop-ix-preserved-then-not-marks-root g c =
           let t : ℕ → Bool = λ ix. list_any (meets_root all (root_of all (id_at all ix))) lists in
           let test : t ix ≡ false = ap (λ r. list_any (meets_root all r) lists) (sym c.root.ensures.id) ∙ sym (m.at_root c.root.result c.root.ensures.inside) ∙ c.if-not-marks-root.true in
           leaves_same (summary_piece all) _ _ _ c.loop-ix.later _ _ (step_skipped t ix (ix + 1) (n - ix) (n - (ix + 1)) test more refl) (c.loop-ix.invariant.leaves lists m);
+      whole = λ lists m.
+          let t : ℕ → Bool = λ ix. list_any (meets_root all (root_of all (id_at all ix))) lists in
+          let test : t ix ≡ false = ap (λ r. list_any (meets_root all r) lists) (sym c.root.ensures.id) ∙ sym (m.at_root c.root.result c.root.ensures.inside) ∙ c.if-not-marks-root.true in
+          same_done (λ text. text) _ _ _ _ _ (ap (λ l. with_commas c.loop-ix.later (map (summary_piece all) l)) (step_skipped t ix (ix + 1) (n - ix) (n - (ix + 1)) test more refl)) (c.loop-ix.invariant.whole lists m);
       failures = c.loop-ix.invariant.failures;
     }
 
@@ -44,5 +50,15 @@ loop-ix-preserved g c =
           let t : ℕ → Bool = λ ix. list_any (meets_root all (root_of all (id_at all ix))) lists in
           let test : t ix ≡ true = ap (λ r. list_any (meets_root all r) lists) (sym c.root.ensures.id) ∙ sym (m.at_root c.root.result c.root.ensures.inside) ∙ c.if-not-marks-root.false in
           leaves_listed (summary_piece all) _ _ _ _ c.loop-ix.later _ _ ix (step_taken t ix (ix + 1) (n - ix) (n - (ix + 1)) test more refl) (c.loop-ix.invariant.leaves lists m) c.in_ok-write_summary.ensures.ok;
+      whole = λ lists m.
+          let t : ℕ → Bool = λ ix. list_any (meets_root all (root_of all (id_at all ix))) lists in
+          let test : t ix ≡ true = ap (λ r. list_any (meets_root all r) lists) (sym c.root.ensures.id) ∙ sym (m.at_root c.root.result c.root.ensures.inside) ∙ c.if-not-marks-root.false in
+          one_done (λ text. text) _ _ _ _ (comma_if c.loop-ix.later ++ summary_piece all ix) _ _
+          (ap (λ l. with_commas c.loop-ix.later (map (summary_piece all) l)) (step_taken t ix (ix + 1) (n - ix) (n - (ix + 1)) test more refl)) (c.loop-ix.invariant.whole lists m)
+          c.in_ok-write_summary.ensures.ok;
       failures = omega (arith, c.loop-ix.invariant.failures, c.in_ok-write_summary.ensures.failures);
     }
+
+pub returns-in_err-write_summary-clause-whole : goal.returns-in_err-write_summary-clause-whole
+returns-in_err-write_summary-clause-whole g c = λ told lists m.
+    rw (c.in_err-write_summary.ensures.whole (search rules)) (done_whole (λ text. text) _ _ _ _ (c.loop-ix.invariant.whole lists m))

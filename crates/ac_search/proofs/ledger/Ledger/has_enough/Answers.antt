@@ -1,4 +1,4 @@
-use Rattle.std.proofs.Common.{◌≡◌, ◌∙◌, map, ap, ap₂, arith, length}
+use Rattle.std.proofs.Common.{◌≡◌, ◌∙◌, map, ap, ap₂, arith}
 use Rattle.ac_search.specs.Placed.{slot_at}
 use Rattle.ac_search.specs.Accounts.{asked_in, texts_in}
 use Rattle.ac_search.specs.Left.{ask_pair, room_pair, row_of, has_each}

@@ -39,7 +39,7 @@ invariant_of-self c =
     let w = c.args.self.now in
     let stands = stands_next w c.in-Some.root c.index-place.result.now c.next-next.result c.index.result.now (home w c.deref.result.now c.home_of.result c.in-Some.root _ c.deref.ensures.value c.in-Some.is c.home_of.ensures)
     (read w c.index-place.result.now c.index-place.ensures) c.index.ensures c.if-next-place.true c.next-next.ensures.within c.next-next.ensures.passed in
-    record { resumed = w.resumed; listed = w.listed; by_tree = w.by_tree; sound = stands.sound; accounted = w.accounted }
+    record { resumed = w.resumed; listed = w.listed; by_tree = w.by_tree; hosting = w.hosting; sound = stands.sound; accounted = w.accounted }
 
 pub returns-then-next-place : goal.returns-then-next-place
 returns-then-next-place c =

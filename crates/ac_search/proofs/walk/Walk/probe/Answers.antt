@@ -3,13 +3,13 @@ use Rattle.std.specs.List.{slice_index}
 use Rattle.ac_query.specs.QueriesShown.{asked_of}
 use Rattle.ac_tables.specs.CloudWorld.{providers_of}
 use Rattle.ac_search.specs.Judge.{is_open}
-use Rattle.ac_search.specs.Search.{Search, choices_at, next_at, left_from}
+use Rattle.ac_search.specs.Search.{Search, IsDead, choices_at, next_at, left_from}
 use Rattle.ac_search.specs.QuerySearch.{completes}
 use Rattle.ac_search.specs.WalkShown.{search_in, front_in, IsSame}
 use Rattle.ac_search.specs.declared.walk.Walk.{Walk}
 use Rattle.ac_search.proofs.OpenLemmas.{candidate_completes}
 use Rattle.ac_search.proofs.PathLemmas.{IsPut}
-use Rattle.ac_search.proofs.TryLemmas.{put_front, whole_front, left_closed, left_lacking, left_whole}
+use Rattle.ac_search.proofs.TryLemmas.{put_front, whole_front, left_dead, left_lacking, left_whole}
 use Rattle.ac_search.proofs.StepLemmas.{laws_in, one_more_kept, one_more_rises, search_same, Stays, stays_put, goes_put, gives_put, Skips, goes_skip, left_skip, bounded_skip, front_after}
 use Rattle.ac_search.proofs.walk.Walk.probe.Goals as goal
 
@@ -56,8 +56,8 @@ returns-then-not-stays_open-clause-gives c =
     let puts : Puts w u c.args.provider = record { same = c.put.ensures.same; path = c.put.ensures.path; places = c.put.ensures.places; depth = c.put.ensures.depth; probes = c.put.ensures.probes } in
     let put = is_put w u c.args.provider puts c.requires.among c.requires.next in
     let skips : Skips u v = record { same = c.skip.ensures.same; path = c.skip.ensures.path; depth = c.skip.ensures.depth; places = c.skip.ensures.places; kept = omega (arith, c.skip.ensures.probes, c.one_more-tries.ensures, one_more_kept u.probes); among = put.among } in
-    let closed : (search_in u).is_open (front_in u) ≡ false = ap (λ (t : List ℕ). (search_in u).is_open t) (sym (tried u put)) ∙ (sym c.stays_open.ensures ∙ c.if-not-stays_open.true) in
-    goes_put w u v (stays w u c.args.provider puts) (goes_skip u v skips (left_closed (search_in u) (laws_in u) u.least.items u.path.items u.places.items u.depth u.seeking u.probes u.sound put.among closed))
+    let dead : IsDead (search_in u) (front_in u) = subst (IsDead (search_in u)) (tried u put) (c.stays_open.ensures.dead c.if-not-stays_open.true) in
+    goes_put w u v (stays w u c.args.provider puts) (goes_skip u v skips (left_dead (search_in u) (laws_in u) u.least.items u.path.items u.places.items u.depth u.seeking u.probes u.sound put.among dead))
 
 pub returns-then-complete-clause-gives : goal.returns-then-complete-clause-gives
 returns-then-complete-clause-gives c =
@@ -69,7 +69,7 @@ returns-then-complete-clause-gives c =
     let put = is_put w u c.args.provider puts c.requires.among c.requires.next in
     let skips : Skips u v = record { same = c.skip-2.ensures.same; path = c.skip-2.ensures.path; depth = c.skip-2.ensures.depth; places = c.skip-2.ensures.places; kept = omega (arith, c.skip-2.ensures.probes, c.one_more-tries.ensures, one_more_kept u.probes); among = put.among } in
     let last : suc u.depth ≡ m.width = omega (arith, u.sound.path_len, u.sound.within, u.path.ok, c.if-self-len.false, c.len.ensures) in
-    let opens = sym c.stays_open.ensures ∙ c.if-not-stays_open.false in
+    let opens = c.stays_open.ensures.opens c.if-not-stays_open.false in
     let wants : m.is_wanted (front_in u) ≡ true = wanted u c.is_complete-complete.result put last opens c.is_complete-complete.ensures ∙ c.if-complete.true in
     let path : front_in u ≡ v.path.items = sym (whole u put last) ∙ sym skips.path in
     gives_put w u v (stays w u c.args.provider puts) (record {
@@ -90,6 +90,6 @@ returns-else-complete-clause-gives c =
     let put = is_put w u c.args.provider puts c.requires.among c.requires.next in
     let skips : Skips u v = record { same = c.skip-2.ensures.same; path = c.skip-2.ensures.path; depth = c.skip-2.ensures.depth; places = c.skip-2.ensures.places; kept = omega (arith, c.skip-2.ensures.probes, c.one_more-tries.ensures, one_more_kept u.probes); among = put.among } in
     let last : suc u.depth ≡ m.width = omega (arith, u.sound.path_len, u.sound.within, u.path.ok, c.if-self-len.false, c.len.ensures) in
-    let opens = sym c.stays_open.ensures ∙ c.if-not-stays_open.false in
+    let opens = c.stays_open.ensures.opens c.if-not-stays_open.false in
     let lacks : m.is_wanted (front_in u) ≡ false = wanted u c.is_complete-complete.result put last opens c.is_complete-complete.ensures ∙ c.if-complete.false in
     goes_put w u v (stays w u c.args.provider puts) (goes_skip u v skips (left_lacking m (laws_in u) u.least.items u.path.items u.places.items u.depth u.seeking u.probes u.sound put.among last lacks))

@@ -1,4 +1,4 @@
-use Rattle.std.proofs.Common.{◌≡◌, ◌+◌, ◌≤◌, slice_index, refl, arith, ◌∙◌}
+use Rattle.std.proofs.Common.{◌≡◌, slice_index, refl, arith, ◌∙◌}
 use Rattle.std.proofs.lemmas.List.{get_or_default}
 use Rattle.ac_search.specs.WalkShown.{search_in}
 use Rattle.ac_search.proofs.MoveLemmas.{sound_next}
@@ -20,6 +20,7 @@ invariant_of-self c =
       resumed = w.resumed;
       listed = w.listed;
       by_tree = w.by_tree;
+      hosting = w.hosting;
       accounted = w.accounted;
       sound = rw place (sound_next (search_in w) (laws_in w) w.least.items w.path.items w.path.items w.places.items w.depth w.seeking w.probes c.args.tries w.sound c.requires.among refl refl c.requires.tried);
     }

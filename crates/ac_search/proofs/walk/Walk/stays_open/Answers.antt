@@ -1,9 +1,13 @@
-use Rattle.std.proofs.Common.{◌≡◌, true, List, ℕ, take, ap, sym, ◌∙◌, subst}
+use Rattle.std.proofs.Common.{◌≡◌, suc, true, Bool, List, [], ◌∷◌, ◌++◌, ℕ, take, ap, sym, ◌∙◌, subst, slice_index_or}
 use Rattle.std.specs.List.{list_all}
 use Rattle.ac_search.specs.Placed.{assigned}
 use Rattle.ac_search.specs.Judge.{is_open}
 use Rattle.ac_search.specs.QuerySearch.{fits}
 use Rattle.ac_search.specs.Accounts.{providers_in, asked_in}
+use Rattle.ac_search.specs.WalkShown.{search_in}
+use Rattle.ac_search.specs.declared.walk.Walk.{Walk}
+use Rattle.ac_search.proofs.StepLemmas.{laws_in}
+use Rattle.ac_search.proofs.TryLemmas.{closed_dead}
 use Rattle.ac_search.proofs.PathLemmas.{IsPut, put_low, front_put, front_fits, path_opens}
 use Rattle.ac_search.proofs.walk.Walk.stays_open.Goals as goal
 
@@ -22,7 +26,17 @@ admits-requires-clause-open c =
     let w = c.args.self.now in
     subst (λ (l : List ℕ). is_open (providers_in w.ledger) (asked_in w.ledger) (take w.depth l) ≡ true) (sym c.deref.ensures.value) (path_opens w c.requires.among)
 
-pub returns : goal.returns
-returns c =
+same_open : (w : Walk) (result : Bool) (list : List ℕ) (p : ℕ) → IsPut w → list ≡ w.path.items → p ≡ slice_index_or w.path.items w.depth p → result ≡ is_open (providers_in w.ledger) (asked_in w.ledger) (take w.depth list ++ p ∷ [])
+    → result ≡ is_open (providers_in w.ledger) (asked_in w.ledger) (take (suc w.depth) w.path.items)
+same_open w result list p put same is e = e ∙ ap (is_open (providers_in w.ledger) (asked_in w.ledger)) (sym (front_put w list p same is))
+
+pub returns-then-admits-clause-opens : goal.returns-then-admits-clause-opens
+returns-then-admits-clause-opens c _ =
     let w = c.args.self.now in
-    c.admits.ensures ∙ ap (is_open (providers_in w.ledger) (asked_in w.ledger)) (sym (front_put w c.deref.result.now c.index.result.now c.deref.ensures.value c.index.ensures))
+    sym (same_open w c.admits.result c.deref.result.now c.index.result.now (record { among = c.requires.among; put = c.requires.put }) c.deref.ensures.value c.index.ensures c.admits.ensures) ∙ c.if-admits.true
+
+pub returns-else-admits-clause-dead : goal.returns-else-admits-clause-dead
+returns-else-admits-clause-dead c _ =
+    let w = c.args.self.now in
+    closed_dead (search_in w) (laws_in w) (take (suc w.depth) w.path.items)
+    (sym (same_open w c.admits.result c.deref.result.now c.index.result.now (record { among = c.requires.among; put = c.requires.put }) c.deref.ensures.value c.index.ensures c.admits.ensures) ∙ c.if-admits.false)

@@ -36,6 +36,7 @@ invariant_of-self c =
       resumed = rw (c.give_back.ensures.same.cloud, c.give_back.ensures.same.query) w.resumed;
       listed = rw (c.give_back.ensures.same.cloud, c.give_back.ensures.same.query) w.listed;
       by_tree = rw (c.give_back.ensures.same.cloud, c.give_back.ensures.same.query) w.by_tree;
+      hosting = rw (c.give_back.ensures.same.cloud, c.give_back.ensures.same.query) w.hosting;
       accounted = rw c.deref.ensures.value at c.give_back.ensures.accounts;
       sound = rw (c.give_back.ensures.same.cloud, c.give_back.ensures.same.query, place) (sound_back (search_in w) (laws_in w) w.least.items w.path.items w.places.items e w.seeking w.probes s);
     }

@@ -1,0 +1,28 @@
+use Rattle.std.proofs.Common.{◌≡◌, ◌∙◌, Bool, List, length, map, ap, arith}
+use Rattle.std.specs.List.{range_with_len}
+use Rattle.std.proofs.lemmas.List.{length-map, with_items_is}
+use Rattle.std.proofs.lemmas.List.FromFn.{length-range_with_len}
+use Rattle.ac_search.specs.Accounts.{providers_in, asked_in}
+use Rattle.ac_search.specs.Together.{takes_root}
+use Rattle.ac_search.specs.declared.ledger.Ledger.{Ledger}
+use Rattle.ac_search.proofs.RootLemmas.{takes_host}
+use Rattle.ac_search.proofs.hosts.host_roots.Goals as goal
+
+many : (l : Ledger) (taken : List Bool) → taken ≡ map (takes_root (providers_in l) (asked_in l)) (range_with_len 0 (length (providers_in l))) → length taken ≡ length (providers_in l)
+many l taken is =
+    let n = length (providers_in l) in
+    ap length is ∙ (length-map (range_with_len 0 n) (takes_root (providers_in l) (asked_in l)) ∙ length-range_with_len 0 n)
+
+pub limit_all-requires-clause-may : goal.limit_all-requires-clause-may
+limit_all-requires-clause-may c = ap length c.deref_mut.ensures.value ∙ many c.args.ledger.now c.in_ok-may.may.items c.in_ok-may.ensures
+
+pub limit_all-requires-clause-hosts : goal.limit_all-requires-clause-hosts
+limit_all-requires-clause-hosts c =
+    let l = c.args.ledger.now in
+    takes_host (providers_in l) (asked_in l) c.deref_mut.result.now (c.deref_mut.ensures.value ∙ c.in_ok-may.ensures)
+
+pub returns-clause-count : goal.returns-clause-count
+returns-clause-count c =
+    let were = ap length c.deref_mut.ensures.value in
+    let items = with_items_is c.in_ok-may.may c.limit_all.new.may (c.limit_all.auto.may ∙ omega (arith, were, c.in_ok-may.may.ok)) in
+    ap length items ∙ (c.limit_all.auto.may ∙ (were ∙ many c.args.ledger.now c.in_ok-may.may.items c.in_ok-may.ensures))
