@@ -10,14 +10,16 @@ use Rattle.std.proofs.lemmas.Bool.{cases_Bool, false≢true}
 use Rattle.std.proofs.lemmas.List.Folds.{list_any_at}
 use Rattle.std.proofs.lemmas.List.FromFn.{get_or-range_with_len, length-range_with_len}
 use Rattle.ac_tables.specs.Places.{parent_in}
-use Rattle.ac_tables.specs.Lists.{held_list, name_list, id_list}
+use Rattle.ac_base.specs.Names.{trait_bytes}
+use Rattle.ac_tables.specs.Entries.{entry_pair}
+use Rattle.ac_tables.specs.ListsOf.{lists_of}
 use Rattle.ac_tables.specs.Anchors.{is_among, meets_at, meets, is_joined, joined, is_joining, is_marked}
 use Rattle.ac_tables.specs.World.{Provider, no_provider, provider_at, id_at, root_of, is_root, shares, is_associated, have_common_aggregate, is_available_at, anchors_of}
 use Rattle.ac_tables.specs.CloudWorld.{providers_of}
 use Rattle.ac_tables.specs.declared.cloud.Cloud.{Cloud}
-use Rattle.ac_tables.specs.declared.ordered.TraitList.{TraitList}
 use Rattle.ac_tables.proofs.WorldFacts.{numbered_here}
-use Rattle.ac_tables.proofs.CloudFacts.{size, parent_is, root_inside, root_here}
+use Rattle.ac_tables.proofs.LookupFacts.{any_map}
+use Rattle.ac_tables.proofs.CloudFacts.{traits_here, size, parent_is, root_inside, root_here}
 use Rattle.ac_tables.proofs.AvailableFacts.{root_test, root_here as root_is_here}
 use Rattle.ac_tables.proofs.SearchFacts.{no_any}
 use Rattle.ac_tables.proofs.AnchorLists.{rising_filter}
@@ -105,10 +107,10 @@ module _ (c : Cloud) where
   roots = c.roots.items
 
   abbrev groups : List (List ℕ)
-  groups = map id_list c.aggregates.items
+  groups = lists_of c.aggregates
 
   at_place : (ix : ℕ) → ix < length c.ids.ids.items → (provider_at (providers_of c) ix).aggregates ≡ get_or groups ix []
-  at_place ix h = ap (λ p. p.aggregates) (numbered_here c.ids.ids.items c.parents.items (map held_list c.entries.items) (map name_list c.traits.items) (map id_list c.aggregates.items) ix h)
+  at_place ix h = ap (λ p. p.aggregates) (numbered_here c.ids.ids.items c.parents.items (map (map entry_pair) (lists_of c.entries)) (map (map trait_bytes) (lists_of c.traits)) (lists_of c.aggregates) ix h)
 
   -- a provider's root is a root
   is_top : (q r : ℕ) → q < length c.ids.ids.items → r < length c.ids.ids.items → (get_or roots q 0 == r) ≡ true → is_root (providers_of c) (id_at (providers_of c) r) ≡ true
@@ -163,27 +165,23 @@ module _ (c : Cloud) where
       list_any_at (meets_at roots groups a r) (range_with_len 0 (length roots)) ix 0 (omega (arith, h2, length-range_with_len 0 (length roots))) (ap (meets_at roots groups a r) (here ∙ none) ∙ test) in
       ap (λ b. b || is_joined roots groups ids r) met
 
-  shares_here : (ix : ℕ) → ix < length c.ids.ids.items → shares (provider_at (providers_of c) ix) ≡ get_or (map (λ (t : TraitList). t.shares) c.traits.items) ix false
+  pub shares_here : (ix : ℕ) → ix < length c.ids.ids.items → shares (provider_at (providers_of c) ix) ≡ get_or c.sharing.items ix false
   shares_here ix h =
       let text = codes "MISC_SHARES_VIA_AGGREGATE" in
-      ap (λ p. list_any (bytes_eq text) p.traits) (numbered_here c.ids.ids.items c.parents.items (map held_list c.entries.items) (map name_list c.traits.items) (map id_list c.aggregates.items) ix h)
-      ∙ at_marks c.traits.items ix (omega (arith, h, c.with_traits))
-    where
-      at_marks : (ts : List TraitList) (i : ℕ) → i < length ts → list_any (bytes_eq (codes "MISC_SHARES_VIA_AGGREGATE")) (get_or (map name_list ts) i []) ≡ get_or (map (λ (t : TraitList). t.shares) ts) i false
-      at_marks [] i h = absurd (omega (arith, h))
-      at_marks (t ∷ ts) zero h = sym t.marked
-      at_marks (t ∷ ts) (suc i) h = at_marks ts i (omega arith)
+      ap (list_any (bytes_eq (codes "MISC_SHARES_VIA_AGGREGATE"))) (sym (traits_here c ix h))
+      ∙ sym (any_map (λ n. bytes_eq (codes "MISC_SHARES_VIA_AGGREGATE") (trait_bytes n)) (bytes_eq (codes "MISC_SHARES_VIA_AGGREGATE")) trait_bytes (λ n. refl) (get_or (lists_of c.traits) ix []))
+      ∙ sym (c.shared ix h)
 
   -- who doesn't share through an aggregate is available in its own tree
-  pub anchors_alone : (ix : ℕ) → ix < length c.ids.ids.items → is_marked c.traits.items groups ix ≡ false → (get_or roots ix 0 ∷ []) ≡ anchors_of (providers_of c) ix
+  pub anchors_alone : (ix : ℕ) → ix < length c.ids.ids.items → is_marked c.sharing.items groups ix ≡ false → (get_or roots ix 0 ∷ []) ≡ anchors_of (providers_of c) ix
   anchors_alone ix h none =
       one_item (get_or roots ix 0) (length c.ids.ids.items) (root_inside c ix h)
       ∙ filter_range (λ (r : ℕ). get_or roots ix 0 == r) (is_available_at (providers_of c) ix) (length c.ids.ids.items) 0
       (λ (r : ℕ) (below : r < 0 + length c.ids.ids.items).
       let hr : r < length c.ids.ids.items = omega (arith, below) in
       sym (ap₂ (λ e j. is_root all (id_at all r) && (e || j)) (same_root ix r h hr) (ap₂ (λ s j. s && j) (shares_here ix h) (associated ix r h hr))
-      ∙ by_root (is_root all (id_at all r)) (get_or roots ix 0 == r) (get_or (map (λ (t : TraitList). t.shares) c.traits.items) ix false) (is_joined roots groups (get_or groups ix []) r)
-      (no_join (get_or (map (λ (t : TraitList). t.shares) c.traits.items) ix false) (get_or groups ix []) r none) (is_top ix r h hr)))
+      ∙ by_root (is_root all (id_at all r)) (get_or roots ix 0 == r) (get_or c.sharing.items ix false) (is_joined roots groups (get_or groups ix []) r)
+      (no_join (get_or c.sharing.items ix false) (get_or groups ix []) r none) (is_top ix r h hr)))
       ∙ ap (λ (n : ℕ). filter (is_available_at (providers_of c) ix) (range_with_len 0 n)) (sym (size c))
     where
       no_join : (s : Bool) (ids : List ℕ) (r : ℕ) → is_joining s ids ≡ false → (s && is_joined roots groups ids r) ≡ false
@@ -193,14 +191,14 @@ module _ (c : Cloud) where
       no_join false (a ∷ ids) r e = refl
 
   -- who does is available where its aggregates join
-  pub anchors_joined : (ix : ℕ) → ix < length c.ids.ids.items → is_marked c.traits.items groups ix ≡ true → joined roots groups (get_or groups ix []) ≡ anchors_of (providers_of c) ix
+  pub anchors_joined : (ix : ℕ) → ix < length c.ids.ids.items → is_marked c.sharing.items groups ix ≡ true → joined roots groups (get_or groups ix []) ≡ anchors_of (providers_of c) ix
   anchors_joined ix h marked =
       filter_range (is_joined roots groups (get_or groups ix [])) (is_available_at (providers_of c) ix) (length roots) 0
       (λ (r : ℕ) (below : r < 0 + length roots).
       let hr : r < length c.ids.ids.items = omega (arith, below, c.with_roots) in
-      let parts = some_aggregate (get_or (map (λ (t : TraitList). t.shares) c.traits.items) ix false) (get_or groups ix []) marked in
+      let parts = some_aggregate (get_or c.sharing.items ix false) (get_or groups ix []) marked in
       sym (ap₂ (λ e j. is_root all (id_at all r) && (e || j)) (same_root ix r h hr) (ap₂ (λ s j. s && j) (shares_here ix h) (associated ix r h hr))
-      ∙ by_join (is_root all (id_at all r)) (get_or roots ix 0 == r) (get_or (map (λ (t : TraitList). t.shares) c.traits.items) ix false) (is_joined roots groups (get_or groups ix []) r)
+      ∙ by_join (is_root all (id_at all r)) (get_or roots ix 0 == r) (get_or c.sharing.items ix false) (is_joined roots groups (get_or groups ix []) r)
       parts.0
       (λ e. ap (λ l. is_joined roots groups l r) parts.1.1.1 ∙ joins_own ix r parts.1.0 parts.1.1.0 h parts.1.1.1 e)
       (joined_root (get_or groups ix []) r hr)))

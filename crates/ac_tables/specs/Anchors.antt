@@ -1,10 +1,12 @@
 -- The roots of the trees that aggregates join, by places.
-use Rattle.std.specs.Prelude.{◌≡◌, ◌<◌, ℕ, Bool, ◌&&◌, ◌==◌, false, List, [], ◌∷◌, map, length, get_or, Option, Some, None}
+use Rattle.std.specs.Prelude.{◌≡◌, ◌<◌, ℕ, Bool, ◌&&◌, ◌==◌, false, codes, List, [], ◌∷◌, map, length, get_or, Option, Some, None}
 use Rattle.std.specs.Global.{Vec}
 use Rattle.std.specs.List.{list_any, filter, range_with_len}
 use Rattle.std.specs.Ordering.{nat_cmp}
 use Rattle.std.specs.BTreeMap.{BTreeMap, get}
-use Rattle.ac_tables.specs.declared.ordered.TraitList.{TraitList}
+use Rattle.std.specs.Str.{bytes_eq}
+use Rattle.ac_base.specs.Names.{trait_bytes}
+use Rattle.ac_base.specs.declared.name.TraitName.{TraitName}
 
 -- the roots of an aggregate, where some were gathered
 abbrev pub roots_in : Option (Vec ℕ) → List ℕ
@@ -53,5 +55,9 @@ abbrev pub AreJoined : List ℕ → List (List ℕ) → List (Vec ℕ) → List 
 AreJoined roots aggregates lists places = (j k : ℕ) → j < length places → get_or places j None ≡ Some k → (k < length lists) × (list_of lists k ≡ joined roots aggregates (get_or aggregates j []))
 
 -- the provider at a place shares through some aggregate
-abbrev pub is_marked : List TraitList → List (List ℕ) → ℕ → Bool
-is_marked traits aggregates j = is_joining (get_or (map (λ t. t.shares) traits) j false) (get_or aggregates j [])
+abbrev pub is_marked : List Bool → List (List ℕ) → ℕ → Bool
+is_marked sharing aggregates j = is_joining (get_or sharing j false) (get_or aggregates j [])
+
+-- a provider of these traits shares what it has
+abbrev pub shares_by : List TraitName → Bool
+shares_by names = list_any (λ name. bytes_eq (codes "MISC_SHARES_VIA_AGGREGATE") (trait_bytes name)) names

@@ -2,12 +2,12 @@
 ghost use Rattle.std.specs.Prelude.{◌≡◌, ◌≤◌, ◌<◌, ◌+◌, ◌++◌, ◌∷◌, ℕ, None, Some, [], map, length, get_or, IfOk, IfSome};
 ghost use Rattle.std.specs.Option.{is_some};
 ghost use Rattle.ac_tables.specs.Anchors.{is_met, meets, is_joining, joined, list_of, is_marked, AreJoined};
-ghost use Rattle.ac_tables.specs.Lists.{id_list};
+ghost use Rattle.ac_tables.specs.ListsOf.{lists_of};
 ghost use Rattle.ac_tables.specs.Places.{ArePlaces};
 
+use crate::flat::lists::Lists;
 use crate::groups::Groups;
 use crate::kept::Kept;
-use crate::ordered::{AggregateList, TraitList};
 use ac_base::Id;
 use std::alloc::{AllocError, Global};
 use std::collections::BTreeMap;
@@ -22,15 +22,15 @@ pub(crate) struct Anchors {
 // The place of the list of an earlier provider that shares through the same aggregates.
 fn find_alike(
     known: &BTreeMap<&[Id], u32>,
-    aggregates: &[AggregateList],
+    aggregates: &Lists<Id>,
     places: &[Option<u32>],
     ids: &[Id],
 ) -> Option<u32>
-    requires { length places.now ≤ length aggregates.now }
-    ensures { IfSome result (λ k. (j : ℕ) × (j < length places.now) × (get_or places.now j None ≡ Some k) × (get_or (map id_list aggregates.now) j [] ≡ ids.now)) }
+    requires { length places.now ≤ length (lists_of aggregates.now) }
+    ensures { IfSome result (λ k. (j : ℕ) × (j < length places.now) × (get_or places.now j None ≡ Some k) × (get_or (lists_of aggregates.now) j [] ≡ ids.now)) }
 {
     let other = *known.get(ids)? as usize;
-    if other < places.len() && aggregates[other].ids.as_slice() == ids {
+    if other < places.len() && aggregates.of(other) == ids {
         places[other]
     } else {
         None
@@ -38,28 +38,28 @@ fn find_alike(
 }
 
 // Whether a provider shares through some aggregate.
-fn joins(traits: &TraitList, aggregates: &AggregateList) -> bool
-    ensures { result ≡ is_joining traits.now.shares (id_list aggregates.now) }
+fn joins(shares: bool, aggregates: &[Id]) -> bool
+    ensures { result ≡ is_joining shares aggregates.now }
 {
-    traits.shares && !aggregates.ids.is_empty()
+    shares && !aggregates.is_empty()
 }
 
 // The providers' roots and aggregates, and the roots of each aggregate.
 #[derive(Drop)]
 struct Members<'a> {
     roots: &'a [u32],
-    aggregates: &'a [AggregateList],
+    aggregates: &'a Lists<Id>,
     groups: Groups,
     ghost few: { length roots.now ≤ 65536 },
     ghost inside: { ArePlaces (length roots.now) roots.now },
-    ghost sized: { length aggregates.now ≡ length roots.now },
-    ghost gathered: { (a r : ℕ) → is_met groups.map a r ≡ meets roots.now (map id_list aggregates.now) (length roots.now) a r },
+    ghost sized: { length (lists_of aggregates.now) ≡ length roots.now },
+    ghost gathered: { (a r : ℕ) → is_met groups.map a r ≡ meets roots.now (lists_of aggregates.now) (length roots.now) a r },
 }
 
 impl<'a> Members<'a> {
     // The roots of the providers of some aggregates, rising.
     fn join(&self, alloc: Global, ids: &[Id]) -> Result<Vec<u32>, AllocError>
-        ensures { IfOk result (λ list. list.items ≡ joined self.now.roots.now (map id_list self.now.aggregates.now) ids.now) }
+        ensures { IfOk result (λ list. list.items ≡ joined self.now.roots.now (lists_of self.now.aggregates.now) ids.now) }
     {
         let list = self.groups.join(alloc, ids)?;
         Ok(list)
@@ -74,11 +74,11 @@ impl<'a> Members<'a> {
         ids: &[Id],
     ) -> Result<(Kept, u32), AllocError>
         requires few { length kept.lists.items < 65536 }
-        requires alike { IfSome alike (λ k. (k < length kept.lists.items) × (list_of kept.lists.items k ≡ joined self.now.roots.now (map id_list self.now.aggregates.now) ids.now)) }
+        requires alike { IfSome alike (λ k. (k < length kept.lists.items) × (list_of kept.lists.items k ≡ joined self.now.roots.now (lists_of self.now.aggregates.now) ids.now)) }
         ensures grown { IfOk result (λ new. length new.0.lists.items ≤ length kept.lists.items + 1) }
         ensures rest { IfOk result (λ new. length kept.lists.items ≤ length new.0.lists.items) }
         ensures inside { IfOk result (λ new. new.1 < length new.0.lists.items) }
-        ensures here { IfOk result (λ new. list_of new.0.lists.items new.1 ≡ joined self.now.roots.now (map id_list self.now.aggregates.now) ids.now) }
+        ensures here { IfOk result (λ new. list_of new.0.lists.items new.1 ≡ joined self.now.roots.now (lists_of self.now.aggregates.now) ids.now) }
         ensures stay { IfOk result (λ new. (k : ℕ) → k < length kept.lists.items → list_of new.0.lists.items k ≡ list_of kept.lists.items k) }
     {
         match alike {
@@ -97,18 +97,17 @@ impl<'a> Members<'a> {
         kept: Kept,
         known: &BTreeMap<&[Id], u32>,
         places: &[Option<u32>],
-        traits: &TraitList,
+        shares: bool,
     ) -> Result<(Kept, Option<u32>), AllocError>
         requires more { length places.now < length self.now.roots.now }
         requires few { length kept.lists.items ≤ length places.now }
-        requires joined { AreJoined self.now.roots.now (map id_list self.now.aggregates.now) kept.lists.items places.now }
+        requires joined { AreJoined self.now.roots.now (lists_of self.now.aggregates.now) kept.lists.items places.now }
         ensures grown { IfOk result (λ new. length new.0.lists.items ≤ length kept.lists.items + 1) }
-        ensures joined { IfOk result (λ new. AreJoined self.now.roots.now (map id_list self.now.aggregates.now) new.0.lists.items (places.now ++ new.1 ∷ [])) }
-        ensures marked { IfOk result (λ new. is_some new.1 ≡ is_joining traits.now.shares (get_or (map id_list self.now.aggregates.now) (length places.now) [])) }
+        ensures joined { IfOk result (λ new. AreJoined self.now.roots.now (lists_of self.now.aggregates.now) new.0.lists.items (places.now ++ new.1 ∷ [])) }
+        ensures marked { IfOk result (λ new. is_some new.1 ≡ is_joining shares (get_or (lists_of self.now.aggregates.now) (length places.now) [])) }
     {
-        let aggregates = &self.aggregates[places.len()];
-        if joins(traits, aggregates) {
-            let ids = aggregates.ids.as_slice();
+        let ids = self.aggregates.of(places.len());
+        if joins(shares, ids) {
             let alike = find_alike(known, self.aggregates, places, ids);
             let (kept, place) = self.find_list(alloc, kept, alike, ids)?;
             Ok((kept, Some(place)))
@@ -122,16 +121,16 @@ impl<'a> Members<'a> {
 pub(crate) fn find_anchors(
     alloc: Global,
     roots: &[u32],
-    traits: &[TraitList],
-    aggregates: &[AggregateList],
+    sharing: &[bool],
+    aggregates: &Lists<Id>,
 ) -> Result<Anchors, AllocError>
     requires few { length roots.now ≤ 65536 }
     requires inside { ArePlaces (length roots.now) roots.now }
-    requires traits { length traits.now ≡ length roots.now }
-    requires aggregates { length aggregates.now ≡ length roots.now }
+    requires sharing { length sharing.now ≡ length roots.now }
+    requires aggregates { length (lists_of aggregates.now) ≡ length roots.now }
     ensures length { IfOk result (λ anchors. length anchors.places.items ≡ length roots.now) }
-    ensures joined { IfOk result (λ anchors. AreJoined roots.now (map id_list aggregates.now) anchors.lists.items anchors.places.items) }
-    ensures marked { IfOk result (λ anchors. (j : ℕ) → j < length roots.now → is_some (get_or anchors.places.items j None) ≡ is_marked traits.now (map id_list aggregates.now) j) }
+    ensures joined { IfOk result (λ anchors. AreJoined roots.now (lists_of aggregates.now) anchors.lists.items anchors.places.items) }
+    ensures marked { IfOk result (λ anchors. (j : ℕ) → j < length roots.now → is_some (get_or anchors.places.items j None) ≡ is_marked sharing.now (lists_of aggregates.now) j) }
 {
     let groups = Groups::gather(alloc, roots, aggregates)?;
     let members = Members {
@@ -143,11 +142,11 @@ pub(crate) fn find_anchors(
     let mut places = Vec::new(alloc);
     let mut known = BTreeMap::new(alloc);
     for i in 0..roots.len() {
-        let (more, place) = members.find_next(alloc, kept, &known, &places, &traits[i])?;
+        let (more, place) = members.find_next(alloc, kept, &known, &places, sharing[i])?;
         kept = more;
         places.push(place)?;
         if place.is_some() {
-            known.insert(aggregates[i].ids.as_slice(), i as u32)?;
+            known.insert(aggregates.of(i), i as u32)?;
         }
     }
     Ok(Anchors {

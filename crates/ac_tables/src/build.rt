@@ -4,33 +4,38 @@ ghost use Rattle.std.specs.Option.{option_and_then};
 ghost use Rattle.ac_tables.specs.ProviderTable.{listed_parent};
 ghost use Rattle.ac_tables.specs.Places.{rank};
 ghost use Rattle.ac_tables.specs.Kin.{AreKin};
-ghost use Rattle.ac_tables.specs.Gathered.{by_class, trait_texts, ids_in};
-ghost use Rattle.ac_tables.specs.Lists.{zip_used};
+ghost use Rattle.std.specs.List.{All};
+ghost use Rattle.std.specs.List.Sorted.{IsStrictlySortedBy};
+ghost use Rattle.std.specs.Ordering.{nat_cmp};
+ghost use Rattle.ac_base.specs.Names.{class_bytes, trait_bytes};
+ghost use Rattle.ac_base.specs.Texts.{text_cmp};
+ghost use Rattle.ac_tables.specs.FlatInventories.{class_pair};
+ghost use Rattle.ac_tables.specs.Joined.{with_used_lists};
+ghost use Rattle.ac_tables.specs.ListsOf.{lists_of};
 ghost use Rattle.ac_tables.specs.Numbered.{numbered};
 
-use crate::aggregates::Aggregates;
 use crate::anchors::find_anchors;
 use crate::climbing::find_tops;
 use crate::cloud::{Cloud, Counts};
+use crate::flat::lists::Lists;
+use crate::flat::row::FlatRow;
 use crate::forest::find_parents;
-use crate::ids::Ids;
 use crate::inventories::Inventories;
-use crate::lists::{aggregate_lists, join_all, trait_lists};
+use crate::joining::join;
+use crate::ordered::find_sharing;
 use crate::roll::Roll;
-use crate::traits::Traits;
-use crate::usages::Usages;
 use crate::visits::walk;
+use ac_base::{ClassName, Id, TraitName};
 use std::alloc::{AllocError, Global};
 
 // What was read of all tables.
 #[derive(Drop)]
 pub(crate) struct Parts {
     pub(crate) roll: Roll,
-    pub(crate) ids: Ids,
     pub(crate) inventories: Inventories,
-    pub(crate) usages: Usages,
-    pub(crate) traits: Traits,
-    pub(crate) aggregates: Aggregates,
+    pub(crate) usages: Lists<FlatRow<ClassName, u32>>,
+    pub(crate) traits: Lists<TraitName>,
+    pub(crate) aggregates: Lists<Id>,
     pub(crate) counts: Counts,
 }
 
@@ -38,29 +43,31 @@ impl Cloud {
     ghost use Rattle.ac_tables.specs.CloudWorld.{providers_of};
 
     pub(crate) fn build(alloc: Global, parts: Parts) -> Result<Cloud, AllocError>
-        requires kin { AreKin parts.ids.ids.items parts.roll.rows.items }
-        requires inventories { length parts.inventories.maps.items ≡ length parts.ids.ids.items }
-        requires usages { length parts.usages.maps.items ≡ length parts.ids.ids.items }
-        requires traits { length parts.traits.sets.items ≡ length parts.ids.ids.items }
-        requires aggregates { length parts.aggregates.sets.items ≡ length parts.ids.ids.items }
-        ensures providers { IfOk result (λ cloud. providers_of cloud ≡ numbered parts.ids.ids.items (map (λ id. option_and_then (rank parts.ids.ids.items) (listed_parent parts.roll.rows.items id)) parts.ids.ids.items) (zip_used (map by_class parts.usages.maps.items) (map by_class parts.inventories.maps.items)) (map trait_texts parts.traits.sets.items) (map ids_in parts.aggregates.sets.items)) }
+        requires kin { AreKin parts.inventories.ids.ids.items parts.roll.rows.items }
+        requires usages { length (lists_of parts.usages) ≡ length parts.inventories.ids.ids.items }
+        requires traits { length (lists_of parts.traits) ≡ length parts.inventories.ids.ids.items }
+        requires aggregates { length (lists_of parts.aggregates) ≡ length parts.inventories.ids.ids.items }
+        requires classes_rise { All (λ rs. IsStrictlySortedBy text_cmp (map (λ r. class_bytes r.key) rs)) (lists_of parts.inventories.rows) }
+        requires used_rise { All (λ rs. IsStrictlySortedBy text_cmp (map (λ r. class_bytes r.key) rs)) (lists_of parts.usages) }
+        requires names_rise { All (λ names. IsStrictlySortedBy text_cmp (map trait_bytes names)) (lists_of parts.traits) }
+        requires aggregates_rise { All (λ all. IsStrictlySortedBy nat_cmp all) (lists_of parts.aggregates) }
+        ensures providers { IfOk result (λ cloud. providers_of cloud ≡ numbered parts.inventories.ids.ids.items (map (λ id. option_and_then (rank parts.inventories.ids.ids.items) (listed_parent parts.roll.rows.items id)) parts.inventories.ids.ids.items) (with_used_lists (map (map class_pair) (lists_of parts.usages)) (map (map class_pair) (lists_of parts.inventories.rows))) (map (map trait_bytes) (lists_of parts.traits)) (lists_of parts.aggregates)) }
         ensures counts { IfOk result (λ cloud. cloud.counts ≡ parts.counts) }
     {
         let Parts {
             roll,
-            ids,
             inventories,
             usages,
             traits,
             aggregates,
             counts,
         } = parts;
+        let Inventories { ids, rows } = inventories;
         let parents = find_parents(alloc, &roll, &ids)?;
         let roots = find_tops(alloc, &parents)?;
-        let entries = join_all(alloc, inventories.maps, &usages.maps)?;
-        let traits = trait_lists(alloc, traits.sets)?;
-        let aggregates = aggregate_lists(alloc, &aggregates.sets)?;
-        let anchors = find_anchors(alloc, &roots, &traits, &aggregates)?;
+        let entries = join(alloc, rows, &usages)?;
+        let sharing = find_sharing(alloc, &traits)?;
+        let anchors = find_anchors(alloc, &roots, &sharing, &aggregates)?;
         let visits = walk(alloc, &parents)?;
         Ok(Cloud {
             ids,
@@ -69,6 +76,7 @@ impl Cloud {
             entries,
             traits,
             aggregates,
+            sharing,
             anchors,
             visits,
             counts,

@@ -1,20 +1,15 @@
 //! What a provider has of one resource class.
-ghost use Rattle.std.specs.Prelude.{◌≡◌, map, IfOk};
+ghost use Rattle.std.specs.Prelude.{◌≡◌};
 ghost use Rattle.ac_base.specs.Names.{class_bytes};
-ghost use Rattle.ac_tables.specs.Entries.{entry_pair};
-ghost use Rattle.ac_tables.specs.Gathered.{by_class};
-ghost use Rattle.ac_tables.specs.Tables.{with_used};
 
 use ac_base::{ClassName, Inventory};
-use std::alloc::{AllocError, Global};
-use std::collections::BTreeMap;
 
 /// What a provider has of one resource class, and how much of it is used.
 #[derive(Debug, Drop, PartialEq, Eq)]
 pub struct Entry {
-    class: ClassName,
-    inventory: Inventory,
-    used: u32,
+    pub(crate) class: ClassName,
+    pub(crate) inventory: Inventory,
+    pub(crate) used: u32,
 }
 
 impl Entry {
@@ -40,24 +35,4 @@ impl Entry {
     {
         self.used
     }
-}
-
-// The entries of one provider, in the order of their classes.
-pub(crate) fn join(
-    alloc: Global,
-    inventories: BTreeMap<ClassName, Inventory>,
-    usages: &BTreeMap<ClassName, u32>,
-) -> Result<Vec<Entry>, AllocError>
-    ensures { IfOk result (λ entries. map entry_pair entries.items ≡ with_used (by_class usages.now) (by_class inventories)) }
-{
-    let mut entries = Vec::new(alloc);
-    for (class, inventory) in inventories {
-        let used = usages.get(&class).copied().unwrap_or(0);
-        entries.push(Entry {
-            class,
-            inventory,
-            used,
-        })?;
-    }
-    Ok(entries)
 }

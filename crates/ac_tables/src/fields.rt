@@ -15,6 +15,7 @@ use csv::ByteRecord;
 // The provider to which a record belongs.
 #[tactic(auto, unfolding(crate::specs::InventoryTable::owner_checks))]
 pub(crate) fn read_owner(
+    names: &mut Names,
     header: &ByteRecord,
     place: usize,
     row: &ByteRecord,
@@ -25,7 +26,7 @@ pub(crate) fn read_owner(
     if row.len() != header.len() {
         return Err(TableKind::Width);
     }
-    match Id::read(text_at(row, place)) {
+    match names.id(text_at(row, place)) {
         Some(id) => Ok(id),
         None => Err(TableKind::BadUuid),
     }

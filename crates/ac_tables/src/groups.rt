@@ -6,9 +6,9 @@ ghost use Rattle.std.specs.Ordering.{nat_cmp};
 ghost use Rattle.std.specs.BTreeMap.{get, is_at};
 ghost use Rattle.std.specs.BTreeSet.{contains};
 ghost use Rattle.ac_tables.specs.Anchors.{roots_in, is_met, is_among, meets};
-ghost use Rattle.ac_tables.specs.Lists.{id_list};
+ghost use Rattle.ac_tables.specs.ListsOf.{lists_of};
 
-use crate::ordered::AggregateList;
+use crate::flat::lists::Lists;
 use ac_base::Id;
 use std::alloc::{AllocError, Global};
 use std::collections::{BTreeMap, BTreeSet};
@@ -65,14 +65,14 @@ impl Groups {
     pub(crate) fn gather(
         alloc: Global,
         roots: &[u32],
-        aggregates: &[AggregateList],
+        aggregates: &Lists<Id>,
     ) -> Result<Groups, AllocError>
-        requires { length aggregates.now ≡ length roots.now }
-        ensures { IfOk result (λ groups. (a r : ℕ) → is_met groups.map a r ≡ meets roots.now (map id_list aggregates.now) (length roots.now) a r) }
+        requires { length (lists_of aggregates.now) ≡ length roots.now }
+        ensures { IfOk result (λ groups. (a r : ℕ) → is_met groups.map a r ≡ meets roots.now (lists_of aggregates.now) (length roots.now) a r) }
     {
         let mut groups = Groups::new(alloc);
         for place in 0..roots.len() {
-            groups = groups.with_all(alloc, &aggregates[place].ids, roots[place])?;
+            groups = groups.with_all(alloc, aggregates.of(place), roots[place])?;
         }
         Ok(groups)
     }

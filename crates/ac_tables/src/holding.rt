@@ -112,7 +112,7 @@ impl HoldingRow {
         ensures inventory { IfOk result (λ h. h.inventory ≡ stock_in (fields_of header.now) (fields_of row.now)) }
         ensures fault { IfErr result (λ e. TellsKind (first_failing (holding_field_checks (fields_of header.now) (fields_of row.now))) e) }
     {
-        let provider = match read_owner(header, columns.provider, row) {
+        let provider = match read_owner(names, header, columns.provider, row) {
             Ok(provider) => provider,
             Err(kind) => return Err(RecordFault::Kind(kind)),
         };

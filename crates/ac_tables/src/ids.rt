@@ -1,5 +1,5 @@
 //! The ids of all providers, rising: a provider's place in them is its number.
-ghost use Rattle.std.specs.Prelude.{◌≡◌, ◌≤◌, ◌<◌, ◌^◌, false, length, get_or, IfNone, IfSome};
+ghost use Rattle.std.specs.Prelude.{◌≡◌, ◌≤◌, ◌<◌, ◌^◌, true, false, length, get_or, IfNone, IfSome};
 ghost use Rattle.std.specs.List.{All};
 ghost use Rattle.ac_tables.specs.Sorted.{rising};
 ghost use Rattle.ac_tables.specs.Gathered.{IsRising};
@@ -32,5 +32,29 @@ impl Ids {
         ensures value { result ≡ rank self.now.ids.items id }
     {
         self.ids.binary_search(&id).ok()
+    }
+
+    // Whether this is the provider at a place.
+    fn is_at(&self, place: usize, id: Id) -> bool
+        ensures { result ≡ true → (place < length self.now.ids.items) × (get_or self.now.ids.items place 0 ≡ id) }
+    {
+        place < self.ids.len() && self.ids[place] == id
+    }
+
+    // The place of a provider, which is looked for at this place and the next one first.
+    pub(crate) fn find_near(&self, guess: usize, id: Id) -> Option<usize>
+        ensures inside { IfSome result (λ place. place < length self.now.ids.items) }
+        ensures found { IfSome result (λ place. get_or self.now.ids.items place 0 ≡ id) }
+        ensures absent { IfNone result (is_one_of self.now.ids.items id ≡ false) }
+        ensures value { result ≡ rank self.now.ids.items id }
+    {
+        if self.is_at(guess, id) {
+            return Some(guess);
+        }
+        let next = guess.wrapping_add(1);
+        if self.is_at(next, id) {
+            return Some(next);
+        }
+        self.find(id)
     }
 }

@@ -79,7 +79,7 @@ impl MarkRow {
         ensures name { IfOk result (λ m. trait_bytes m.name ≡ text_in (fields_of header.now) name_name (fields_of row.now)) }
         ensures fault { IfErr result (λ e. TellsKind (first_failing (mark_field_checks (fields_of header.now) (fields_of row.now))) e) }
     {
-        let provider = match read_owner(header, columns.provider, row) {
+        let provider = match read_owner(names, header, columns.provider, row) {
             Ok(provider) => provider,
             Err(kind) => return Err(RecordFault::Kind(kind)),
         };

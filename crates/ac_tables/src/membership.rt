@@ -7,7 +7,7 @@ ghost use Rattle.ac_tables.specs.AggregateTable.{membership_in, membership_field
 use crate::columns::column_at;
 use crate::fault::TableKind;
 use crate::rows::text_at;
-use ac_base::Id;
+use ac_base::{Id, Names};
 use csv::ByteRecord;
 use std::marker::Model;
 
@@ -55,6 +55,7 @@ impl MembershipRow {
     // What a record says, or the first fault of its fields.
     #[tactic(auto, unfolding(crate::specs::ColumnPlaces::membership_places, crate::specs::AggregateTable::membership_in, crate::specs::AggregateTable::membership_field_checks, crate::specs::InventoryTable::owner_checks))]
     pub(crate) fn read(
+        names: &mut Names,
         header: &ByteRecord,
         columns: MembershipColumns,
         row: &ByteRecord,
@@ -65,7 +66,7 @@ impl MembershipRow {
         if row.len() != header.len() {
             return Err(TableKind::Width);
         }
-        let Some(provider) = Id::read(text_at(row, columns.provider)) else {
+        let Some(provider) = names.id(text_at(row, columns.provider)) else {
             return Err(TableKind::BadUuid);
         };
         let Some(aggregate) = Id::read(text_at(row, columns.aggregate)) else {

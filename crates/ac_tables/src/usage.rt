@@ -76,7 +76,7 @@ impl UsageRow {
         ensures amount { IfOk result (λ u. u.amount ≡ number_in (fields_of header.now) usage_name (fields_of row.now)) }
         ensures fault { IfErr result (λ e. TellsKind (first_failing (usage_field_checks (fields_of header.now) (fields_of row.now))) e) }
     {
-        let provider = match read_owner(header, columns.provider, row) {
+        let provider = match read_owner(names, header, columns.provider, row) {
             Ok(provider) => provider,
             Err(kind) => return Err(RecordFault::Kind(kind)),
         };

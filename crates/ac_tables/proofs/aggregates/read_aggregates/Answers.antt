@@ -1,31 +1,56 @@
-use Rattle.ac_tables.specs.Checks.{rows_fault}
+use Rattle.std.proofs.Common.{◌≡◌, ◌∙◌, ◌<◌, ℕ, false, List, map, length, get_or, refl, sym, ap, subst, arith}
+use Rattle.std.specs.declared.cmp.Ordering.{Ordering}
+use Rattle.std.specs.Ordering.{nat_cmp}
+use Rattle.std.specs.List.{All, dedup}
+use Rattle.std.specs.List.Sorted.{IsNonDecreasingBy}
+use Rattle.std.proofs.lemmas.Cmp.{nat_cmp_total}
+use Rattle.std.proofs.lemmas.List.Filters.{All-dedup}
+use Rattle.std.proofs.lemmas.Map.Lookups.{exact_unsigned}
+use Rattle.ac_tables.specs.Flat.{row_ties}
+use Rattle.ac_tables.specs.declared.flat.row.FlatRow.{FlatRow}
+use Rattle.ac_tables.specs.AggregateTable.{Membership, memberships_of, aggregates_fault}
 use Rattle.ac_tables.specs.Rows.{records_of}
-use Rattle.ac_tables.specs.InventoryTable.{provider_name}
-use Rattle.ac_tables.specs.AggregateTable.{aggregate_columns, membership_in, membership_checks, aggregates_fault}
-use Rattle.ac_tables.specs.ProviderTable.{uuid_name}
-use Rattle.ac_tables.specs.declared.fault.Table.TheVariants as table
-use Rattle.ac_tables.proofs.Header.{fault_of_header, records_left}
+use Rattle.ac_tables.specs.Tables.{aggregates_of}
+use Rattle.ac_tables.specs.FlatLaws.{same_place}
+use Rattle.ac_tables.proofs.FlatSets.{shown_set, once_sorted}
+use Rattle.ac_tables.proofs.SliceFacts.{of_each}
 use Rattle.ac_tables.proofs.aggregates.read_aggregates.Goals as goal
 
-pub returns-in-Err-clause-fault : goal.returns-in-Err-clause-fault
-unfolding aggregates_fault aggregate_columns provider_name uuid_name
-returns-in-Err-clause-fault c =
-    fault_of_header table.Aggregates aggregate_columns membership_in (membership_checks c.args.ids.now.ids.items) (records_of c.args.text.now) c.in-Err.fault c.in-Err.ensures.fault
+abbrev membership_shown : List ℕ → ℕ → ℕ → Unit {0} → Membership
+membership_shown ids place key value = record { provider = get_or ids place 0; aggregate = key }
 
-pub returns-clause-gathered : goal.returns-clause-gathered
-unfolding aggregate_columns provider_name uuid_name
-returns-clause-gathered c =
-    let left = records_left table.Aggregates aggregate_columns membership_in (membership_checks c.args.ids.now.ids.items) (records_of c.args.text.now) _ _ c.in-Ok.ensures.rows c.in-Ok.ensures.ok in
-    rw left.1 c.read_rows.ensures.gathered
+pub split-requires-clause-sorted : goal.split-requires-clause-sorted
+split-requires-clause-sorted c =
+    subst (IsNonDecreasingBy (λ (r : FlatRow ℕ (Unit {0})). r.place)) (sym c.keep_first.ensures.value) (once_sorted nat_cmp nat_cmp_total c.in-Ok.rows.items c.in-Ok.ensures.rows.sorted)
+
+pub split-requires-clause-inside : goal.split-requires-clause-inside
+split-requires-clause-inside c =
+    let ids = c.args.ids.now.ids.items in
+    subst (λ (n : ℕ). All (λ (r : FlatRow ℕ (Unit {0})). r.place < n) c.keep_first.new.rows.items) (sym c.len.ensures.value)
+    (subst (All (λ (r : FlatRow ℕ (Unit {0})). r.place < length ids)) (sym c.keep_first.ensures.value) (All-dedup (row_ties nat_cmp) (λ r. r.place < length ids) c.in-Ok.rows.items c.in-Ok.ensures.rows.inside))
+
+pub returns-clause-value : goal.returns-clause-value
+unfolding aggregates_of
+returns-clause-value c =
+    let ids = c.args.ids.now.ids.items in
+    let said = memberships_of (records_of c.args.text.now) in
+    c.in_ok-keys_of.ensures.lists
+    ∙ of_each (dedup (row_ties nat_cmp) c.in-Ok.rows.items) (map (λ r. r.key)) (aggregates_of said) ids _
+    (rw (sym c.keep_first.ensures.value, sym c.len.ensures.value) c.in_ok-rows.ensures.lists) (λ p h.
+    shown_set nat_cmp nat_cmp_total nat_cmp nat_cmp_total exact_unsigned (λ (k : ℕ). k) (λ a b. refl)
+    (membership_shown ids) (length ids) false said c.in-Ok.rows.items c.in-Ok.ensures.rows (λ (v : Membership). v.provider) (λ (v : Membership). v.aggregate) p (get_or ids p 0)
+    (λ r inside. same_place ids c.args.ids.now.rising r.place p inside h)
+    (λ r. refl))
+
+pub returns-in-Err-clause-err : goal.returns-in-Err-clause-err
+unfolding aggregates_fault
+returns-in-Err-clause-err c = c.in-Err.ensures.fault
 
 pub returns-clause-ok : goal.returns-clause-ok
-unfolding aggregates_fault rows_fault aggregate_columns provider_name uuid_name
-returns-clause-ok c =
-    let left = records_left table.Aggregates aggregate_columns membership_in (membership_checks c.args.ids.now.ids.items) (records_of c.args.text.now) _ _ c.in-Ok.ensures.rows c.in-Ok.ensures.ok in
-    rw left.0 c.read_rows.ensures.ok
+unfolding aggregates_fault
+returns-clause-ok c = c.in-Ok.ensures.ok
 
-pub returns-clause-fault : goal.returns-clause-fault
-unfolding aggregates_fault rows_fault aggregate_columns provider_name uuid_name
-returns-clause-fault c =
-    let left = records_left table.Aggregates aggregate_columns membership_in (membership_checks c.args.ids.now.ids.items) (records_of c.args.text.now) _ _ c.in-Ok.ensures.rows c.in-Ok.ensures.ok in
-    rw left.0 c.read_rows.ensures.fault
+pub returns-clause-few : goal.returns-clause-few
+returns-clause-few c =
+    let few = c.in-Ok.ensures.few in
+    omega (arith, few, c.keep_first.ensures.few, ap length c.in_ok-rows.ensures.rows, c.in_ok-keys_of.ensures.count)

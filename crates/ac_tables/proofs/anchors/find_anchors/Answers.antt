@@ -1,9 +1,8 @@
-use Rattle.std.proofs.Common.{◌≡◌, ◌<◌, ◌+◌, ◌∙◌, ℕ, List, Option, None, [], map, length, get_or, sym, ap, ap₂, subst, false, arith}
+use Rattle.std.proofs.Common.{◌≡◌, ◌<◌, ◌+◌, ◌∙◌, ℕ, List, Option, None, [], map, length, get_or, refl, sym, ap, ap₂, subst, false, arith}
 use Rattle.std.specs.Option.{is_some}
-use Rattle.std.proofs.lemmas.List.{get_or-map}
-use Rattle.ac_tables.specs.Lists.{id_list}
+use Rattle.std.proofs.lemmas.List.{get_or_read}
+use Rattle.ac_tables.specs.ListsOf.{lists_of}
 use Rattle.ac_tables.specs.Anchors.{is_joining, is_marked, AreJoined}
-use Rattle.ac_tables.specs.declared.ordered.TraitList.{TraitList}
 use Rattle.ac_tables.proofs.AnchorLists.{marked_more, length_more}
 use Rattle.ac_tables.proofs.anchors.find_anchors.Goals as goal
 
@@ -13,18 +12,18 @@ find_next-requires-clause-joined c = rw c.deref.ensures.value c.loop-i.invariant
 pub loop-i-preserved : goal.loop-i-preserved
 loop-i-preserved c =
     let roots = c.args.roots.now in
-    let traits = c.args.traits.now in
-    let aggregates = map id_list c.args.aggregates.now in
+    let sharing = c.args.sharing.now in
+    let aggregates = lists_of c.args.aggregates.now in
     let places = c.loop-i.places.items in
     let items = c.in_ok-push.ensures.items in
     let size : length places ≡ c.loop-i.i = c.loop-i.invariant.0 in
-    let inside : c.loop-i.i < length traits = omega (arith, c.loop-i-test.true, c.requires.traits) in
-    let here : is_some c.in_ok-more.place ≡ is_marked traits aggregates c.loop-i.i =
+    let inside : c.loop-i.i < length sharing = omega (arith, c.loop-i-test.true, c.requires.sharing) in
+    let here : is_some c.in_ok-more.place ≡ is_marked sharing aggregates c.loop-i.i =
     c.in_ok-more.ensures.marked
-    ∙ ap₂ (λ b l. is_joining b l) (ap (λ (t : TraitList). t.shares) c.index-traits-i.is ∙ sym (get_or-map (λ (t : TraitList). t.shares) traits c.loop-i.i c.index-traits-i.result false inside))
+    ∙ ap₂ (λ b l. is_joining b l) refl
     (ap (λ (n : ℕ). get_or aggregates n []) (ap length c.deref.ensures.value ∙ size)) in (
       ap length items ∙ length_more places c.in_ok-more.place c.loop-i.i size,
       omega (arith, c.in_ok-more.ensures.grown, c.loop-i.invariant.1),
       subst (λ (l : List (Option ℕ)). AreJoined roots aggregates c.in_ok-more.more.lists.items l) (sym items) (rw c.deref.ensures.value at c.in_ok-more.ensures.joined),
-      λ (j : ℕ) (h : j < c.loop-i.i + 1). ap (λ (l : List (Option ℕ)). is_some (get_or l j None)) items ∙ marked_more places c.in_ok-more.place (is_marked traits aggregates) c.loop-i.i size c.loop-i.invariant.3 here j h,
+      λ (j : ℕ) (h : j < c.loop-i.i + 1). ap (λ (l : List (Option ℕ)). is_some (get_or l j None)) items ∙ marked_more places c.in_ok-more.place (is_marked sharing aggregates) c.loop-i.i size c.loop-i.invariant.3 here j h,
     )

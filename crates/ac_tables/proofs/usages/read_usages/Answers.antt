@@ -1,56 +1,62 @@
-use Rattle.std.proofs.Common.{◌≡◌, ◌∙◌, sym, ap, None, List, [], length}
-use Rattle.ac_tables.specs.Checks.{rows_fault, Tells}
+use Rattle.std.proofs.Common.{◌≡◌, ◌∙◌, ◌<◌, ℕ, List, None, Option, map, length, get_or, refl, sym, ap, subst, arith}
+use Rattle.std.specs.Cmp.{on_total}
+use Rattle.std.proofs.lemmas.Cmp.{nat_list_cmp_total}
 use Rattle.std.proofs.lemmas.List.{length-map}
-use Rattle.csv.specs.Records.{fields_of}
-use Rattle.ac_tables.specs.Gathered.{AreStocks}
+use Rattle.std.proofs.lemmas.List.Sorted.{length_permutation}
+use Rattle.std.proofs.lemmas.Map.Text.{is_eq-slice_cmp}
+use Rattle.ac_base.specs.Names.{class_bytes}
+use Rattle.ac_base.specs.Texts.{text_cmp}
+use Rattle.ac_base.specs.declared.name.ClassName.{ClassName}
+use Rattle.ac_tables.specs.Checks.{Tells}
+use Rattle.ac_tables.specs.Flat.{row_shown}
+use Rattle.ac_tables.specs.UsageTable.{Usage, usages_of, usages_fault}
+use Rattle.ac_tables.specs.Rows.{records_of}
+use Rattle.ac_tables.specs.Tables.{amounts_of}
+use Rattle.ac_tables.specs.FlatInventories.{class_pair, holdings_shown}
+use Rattle.ac_tables.specs.FlatLaws.{same_place, eq_turned}
 use Rattle.ac_tables.specs.declared.fault.TableFault.{TableFault}
-use Rattle.ac_tables.proofs.Results.{weaker_ok, map_err}
-use Rattle.ac_tables.specs.Rows.{records_of, rows_left}
-use Rattle.ac_tables.specs.InventoryTable.{Holding, provider_name, class_name}
-use Rattle.ac_tables.specs.UsageTable.{usage_columns, usage_name, usage_in, usage_row_checks, usages_of, usages_fault}
-use Rattle.ac_tables.specs.declared.fault.Table.TheVariants as table
-use Rattle.ac_tables.proofs.Header.{fault_of_header, records_left}
+use Rattle.ac_tables.proofs.FlatPlaces.{places_rise}
+use Rattle.ac_tables.proofs.FlatShown.{shown_map}
+use Rattle.ac_tables.proofs.SliceFacts.{of_each}
+use Rattle.ac_tables.proofs.UsageChecks.{same_fault}
 use Rattle.ac_tables.proofs.usages.read_usages.Goals as goal
 
-pub returns-in-Err-clause-fault : goal.returns-in-Err-clause-fault
-unfolding usages_fault usage_columns provider_name class_name usage_name
-returns-in-Err-clause-fault c = λ holdings stocks.
-    fault_of_header table.Usages usage_columns usage_in (usage_row_checks c.args.ids.now.ids.items holdings) (records_of c.args.text.now) c.in-Err.fault c.in-Err.ensures.fault
+abbrev usage_shown : List ℕ → ℕ → ClassName → ℕ → Usage
+usage_shown ids place key value = record { provider = get_or ids place 0; class = class_bytes key; amount = value }
 
-pub returns-clause-gathered : goal.returns-clause-gathered
-unfolding usage_columns provider_name class_name usage_name
-returns-clause-gathered c =
-    let left = records_left table.Usages usage_columns usage_in (usage_row_checks c.args.ids.now.ids.items []) (records_of c.args.text.now) _ _ c.in-Ok.ensures.rows c.in-Ok.ensures.ok in
-    rw left.1 c.read_rows.ensures.gathered
+pub returns-clause-value : goal.returns-clause-value
+unfolding amounts_of
+returns-clause-value c =
+    let ids = c.args.inventories.now.ids.ids.items in
+    let said = usages_of (records_of c.args.text.now) in
+    of_each c.in-Ok.rows.items (map class_pair) (amounts_of said) ids _ (rw (sym c.len.ensures.value) c.in_ok-split.ensures.lists) (λ p h.
+    shown_map (λ a b. text_cmp (class_bytes a) (class_bytes b)) (on_total class_bytes nat_list_cmp_total) nat_list_cmp_total (λ a b. is_eq-slice_cmp a b ∙ eq_turned a b ∙ sym (is_eq-slice_cmp b a))
+    class_bytes (λ a b. refl) (usage_shown ids) (length ids) said c.in-Ok.rows.items c.in-Ok.ensures.rows (λ (v : Usage). v.provider) (λ (v : Usage). (v.class, v.amount)) p (get_or ids p 0)
+    (λ r inside. same_place ids c.args.inventories.now.ids.rising r.place p inside h)
+    (λ r. refl))
+
+pub split-requires-clause-sorted : goal.split-requires-clause-sorted
+split-requires-clause-sorted c =
+    places_rise (λ a b. text_cmp (class_bytes a) (class_bytes b)) (on_total class_bytes nat_list_cmp_total) c.in-Ok.rows.items c.in-Ok.ensures.rows.sorted
 
 pub returns-clause-count : goal.returns-clause-count
-unfolding usage_columns provider_name class_name usage_name
 returns-clause-count c =
-    let left = records_left table.Usages usage_columns usage_in (usage_row_checks c.args.ids.now.ids.items []) (records_of c.args.text.now) _ _ c.in-Ok.ensures.rows c.in-Ok.ensures.ok in
-    weaker_ok c.read_rows.result (λ v. v.1 ≡ length (rows_left c.in-Ok.reader)) (λ v. v.1 ≡ length (usages_of (records_of c.args.text.now)))
-    (λ v e. e ∙ sym (ap length left.1 ∙ length-map (rows_left c.in-Ok.reader) (usage_in (fields_of c.open_table.new.header)))) c.read_rows.ensures.count
+    let table = c.in-Ok.ensures.rows in
+    ap length c.in_ok-split.ensures.rows ∙ length_permutation table.read c.in-Ok.rows.items table.same
+    ∙ sym (length-map table.read (row_shown (usage_shown c.args.inventories.now.ids.ids.items))) ∙ ap length table.shows
+
+pub returns-in-Err-clause-err : goal.returns-in-Err-clause-err
+returns-in-Err-clause-err c = λ holdings same.
+    subst (λ (o : Option TableFault). Tells o c.in-Err.fault)
+    (same_fault c.args.inventories.now.ids.ids.items holdings (holdings_shown c.args.inventories.now.ids.ids.items c.args.inventories.now.rows.items.items) (records_of c.args.text.now) same)
+    c.in-Err.ensures.fault
 
 pub returns-clause-ok : goal.returns-clause-ok
-unfolding usages_fault rows_fault usage_columns provider_name class_name usage_name
-returns-clause-ok c =
-    let ids = c.args.ids.now.ids.items in
-    let header = fields_of c.open_table.new.header in
-    weaker_ok c.read_rows.result
-    (λ _. (holdings : List Holding) → AreStocks ids holdings c.args.inventories.now.maps.items → rows_fault table.Usages (usage_in header) (usage_row_checks ids holdings header) [] (rows_left c.in-Ok.reader) ≡ None)
-    (λ _. (holdings : List Holding) → AreStocks ids holdings c.args.inventories.now.maps.items → usages_fault ids holdings (records_of c.args.text.now) ≡ None)
-    (λ _ f holdings stocks.
-    (records_left table.Usages usage_columns usage_in (usage_row_checks ids holdings) (records_of c.args.text.now) _ _ c.in-Ok.ensures.rows c.in-Ok.ensures.ok).0 ∙ f holdings stocks)
-    c.read_rows.ensures.ok
+returns-clause-ok c = λ holdings same.
+    sym (same_fault c.args.inventories.now.ids.ids.items holdings (holdings_shown c.args.inventories.now.ids.ids.items c.args.inventories.now.rows.items.items) (records_of c.args.text.now) same)
+    ∙ c.in-Ok.ensures.ok
 
-pub returns-clause-fault : goal.returns-clause-fault
-unfolding usages_fault rows_fault usage_columns provider_name class_name usage_name
-returns-clause-fault c =
-    let ids = c.args.ids.now.ids.items in
-    let header = fields_of c.open_table.new.header in
-    map_err c.read_rows.result
-    (λ (e : TableFault). (holdings : List Holding) → AreStocks ids holdings c.args.inventories.now.maps.items
-    → Tells (rows_fault table.Usages (usage_in header) (usage_row_checks ids holdings header) [] (rows_left c.in-Ok.reader)) e)
-    (λ (e : TableFault). (holdings : List Holding) → AreStocks ids holdings c.args.inventories.now.maps.items → Tells (usages_fault ids holdings (records_of c.args.text.now)) e)
-    (λ e f holdings stocks.
-    rw (records_left table.Usages usage_columns usage_in (usage_row_checks ids holdings) (records_of c.args.text.now) _ _ c.in-Ok.ensures.rows c.in-Ok.ensures.ok).0 (f holdings stocks))
-    c.read_rows.ensures.fault
+pub returns-clause-few : goal.returns-clause-few
+returns-clause-few c =
+    let few = c.in-Ok.ensures.few in
+    omega (arith, few, ap length c.in_ok-split.ensures.rows)

@@ -1,13 +1,24 @@
-use Rattle.std.proofs.Common.{◌∙◌, refl, ap, subst, ◌<◌}
-use Rattle.std.specs.Prelude.{not}
-use Rattle.ac_tables.specs.InventoryTable.{Holding}
-use Rattle.ac_tables.specs.Tables.{stocks_of}
-use Rattle.ac_tables.proofs.ClassMaps.{map_at, has_at}
+use Rattle.std.proofs.Common.{◌≡◌, ◌∙◌, ap, arith}
+use Rattle.std.specs.Prelude.{◌==◌, not}
+use Rattle.std.specs.List.{filter, list_any}
+use Rattle.std.specs.Str.{bytes_eq}
+use Rattle.ac_base.specs.Names.{class_bytes}
+use Rattle.ac_base.specs.Quantities.{Stock}
+use Rattle.ac_base.specs.declared.name.ClassName.{ClassName}
+use Rattle.ac_tables.specs.declared.flat.row.FlatRow.{FlatRow}
+use Rattle.ac_tables.proofs.FlatUsed.{any_filter}
+use Rattle.ac_tables.proofs.SliceFacts.{lists_size, split_here}
 use Rattle.ac_tables.proofs.inventories.Inventories.lacks.Goals as goal
 
+pub of-requires : goal.of-requires
+of-requires c =
+    let own = c.args.self.now in
+    omega (arith, lists_size own.rows.items.items own.rows.starts.items, own.started.sized)
+
 pub returns : goal.returns
-unfolding stocks_of
-returns c = λ ids said id gathered size here.
-    let m = map_at (λ (h : Holding). h.provider) (λ (h : Holding). h.class) (λ (h : Holding). h.stock) ids said c.args.self.now.maps.items c.args.place id c.index.result.now
-    gathered size (subst (λ n. c.args.place < n) size c.requires) here c.index.ensures in
-    ap not (c.contains_key.ensures ∙ has_at (λ (h : Holding). h.provider) (λ (h : Holding). h.class) (λ (h : Holding). h.stock) _ (λ a b. refl) said id c.index.result.now c.args.class.now m)
+returns c =
+    let own = c.args.self.now in
+    let here = λ (r : FlatRow ClassName Stock). r.place == c.args.place in
+    let like = λ (r : FlatRow ClassName Stock). bytes_eq (class_bytes r.key) (class_bytes c.args.class.now) in
+    ap not (c.has_class.ensures ∙ ap (list_any like) (c.of.ensures ∙ split_here _ own.rows.items.items own.rows.starts.items own.started c.args.place c.requires)
+    ∙ any_filter here like own.rows.items.items)
