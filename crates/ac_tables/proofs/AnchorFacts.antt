@@ -19,7 +19,7 @@ use Rattle.ac_tables.specs.CloudWorld.{providers_of}
 use Rattle.ac_tables.specs.declared.cloud.Cloud.{Cloud}
 use Rattle.ac_tables.proofs.WorldFacts.{numbered_here}
 use Rattle.ac_tables.proofs.LookupFacts.{any_map}
-use Rattle.ac_tables.proofs.CloudFacts.{traits_here, size, parent_is, root_inside, root_here}
+use Rattle.ac_tables.proofs.CloudFacts.{traits_here, aggregates_here, size, parent_is, root_inside, root_here}
 use Rattle.ac_tables.proofs.AvailableFacts.{root_test, root_here as root_is_here}
 use Rattle.ac_tables.proofs.SearchFacts.{no_any}
 use Rattle.ac_tables.proofs.AnchorLists.{rising_filter}
@@ -110,7 +110,7 @@ module _ (c : Cloud) where
   groups = lists_of c.aggregates
 
   at_place : (ix : ℕ) → ix < length c.ids.ids.items → (provider_at (providers_of c) ix).aggregates ≡ get_or groups ix []
-  at_place ix h = ap (λ p. p.aggregates) (numbered_here c.ids.ids.items c.parents.items (map (map entry_pair) (lists_of c.entries)) (map (map trait_bytes) (lists_of c.traits)) (lists_of c.aggregates) ix h)
+  at_place ix h = sym (aggregates_here c ix h)
 
   -- a provider's root is a root
   is_top : (q r : ℕ) → q < length c.ids.ids.items → r < length c.ids.ids.items → (get_or roots q 0 == r) ≡ true → is_root (providers_of c) (id_at (providers_of c) r) ≡ true

@@ -18,6 +18,7 @@ module _ (c : Cloud) where
   ids = c.ids.ids.items
 
   pub size : length (providers_of c) ≡ length c.ids.ids.items
+  unfolding providers_of
   size = numbered_size ids c.parents.items (map (map entry_pair) (lists_of c.entries)) (map (map trait_bytes) (lists_of c.traits)) (lists_of c.aggregates)
 
   pub inside : (ix : ℕ) → ix < length (providers_of c) → ix < length c.ids.ids.items
@@ -27,12 +28,15 @@ module _ (c : Cloud) where
   outside ix h = omega (arith, h, size)
 
   pub id_here : (ix : ℕ) → ix < length c.ids.ids.items → id_at (providers_of c) ix ≡ get_or c.ids.ids.items ix 0
+  unfolding providers_of
   id_here ix h = ap (λ p. p.id) (numbered_here ids c.parents.items (map (map entry_pair) (lists_of c.entries)) (map (map trait_bytes) (lists_of c.traits)) (lists_of c.aggregates) ix h)
 
   pub place_here : (id : ℕ) → place_of (providers_of c) id ≡ rank c.ids.ids.items id
+  unfolding providers_of
   place_here id = numbered_place ids c.parents.items (map (map entry_pair) (lists_of c.entries)) (map (map trait_bytes) (lists_of c.traits)) (lists_of c.aggregates) id
 
   pub parent_here : (ix : ℕ) → ix < length c.ids.ids.items → parent_of (providers_of c) (id_at (providers_of c) ix) ≡ option_map (λ j. get_or c.ids.ids.items j 0) (parent_in c.parents.items ix)
+  unfolding providers_of
   parent_here ix h =
       ap (parent_of (providers_of c)) (id_here ix h)
       ∙ numbered_parent ids c.parents.items (map (map entry_pair) (lists_of c.entries)) (map (map trait_bytes) (lists_of c.traits)) (lists_of c.aggregates) c.ids.rising ix h
@@ -43,12 +47,14 @@ module _ (c : Cloud) where
       subst (λ (j : ℕ). j < length ids) (sym (c.rooted ix h)) r.0
 
   pub root_here : (ix : ℕ) → ix < length c.ids.ids.items → id_at (providers_of c) (get_or c.roots.items ix 0) ≡ root_of (providers_of c) (id_at (providers_of c) ix)
+  unfolding providers_of
   root_here ix h =
       let r = numbered_root ids c.parents.items (map (map entry_pair) (lists_of c.entries)) (map (map trait_bytes) (lists_of c.traits)) (lists_of c.aggregates) c.ids.rising c.within ix h in
       id_here (get_or c.roots.items ix 0) (root_inside ix h)
       ∙ ap (λ (j : ℕ). get_or ids j 0) (c.rooted ix h) ∙ sym r.1 ∙ ap (root_of (providers_of c)) (sym (id_here ix h))
 
   at_place : (ix : ℕ) → ix < length c.ids.ids.items → provider_at (providers_of c) ix ≡ numbered_at ids c.parents.items (map (map entry_pair) (lists_of c.entries)) (map (map trait_bytes) (lists_of c.traits)) (lists_of c.aggregates) ix
+  unfolding providers_of
   at_place ix h = numbered_here ids c.parents.items (map (map entry_pair) (lists_of c.entries)) (map (map trait_bytes) (lists_of c.traits)) (lists_of c.aggregates) ix h
 
   pub holdings_here : (ix : ℕ) → ix < length c.ids.ids.items → map entry_pair (get_or (lists_of c.entries) ix []) ≡ (provider_at (providers_of c) ix).holdings

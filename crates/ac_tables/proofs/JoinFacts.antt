@@ -9,14 +9,14 @@ use Rattle.ac_tables.specs.Sorted.{TextMap}
 use Rattle.ac_tables.specs.World.{Held}
 use Rattle.ac_tables.specs.Tables.{with_used}
 use Rattle.ac_tables.specs.Entries.{entry_class, entry_pair}
-use Rattle.ac_tables.specs.declared.entry.Entry.{Entry}
+use Rattle.ac_tables.specs.declared.cloud.entry.Entry.{Entry}
 use Rattle.ac_base.specs.Names.{class_bytes}
-use Rattle.ac_tables.specs.FlatInventories.{class_pair}
-use Rattle.ac_tables.specs.Flat.{AreStarts}
-use Rattle.ac_tables.specs.Slices.{lists_in}
-use Rattle.ac_tables.specs.Joined.{entry_of, with_used_lists}
-use Rattle.ac_tables.specs.declared.flat.row.FlatRow.{FlatRow}
-use Rattle.ac_tables.proofs.SliceFacts.{map_map, range_same, lists_map, split_lists}
+use Rattle.ac_tables.specs.InventoryRows.{class_pair}
+use Rattle.ac_tables.specs.TableRows.{AreStarts}
+use Rattle.ac_tables.specs.ListBounds.{lists_in}
+use Rattle.ac_tables.specs.EntryLists.{entry_of, with_used_lists}
+use Rattle.ac_tables.specs.declared.reader.row.TableRow.{TableRow}
+use Rattle.ac_tables.proofs.ListFacts.{map_map, range_same, lists_map, split_lists}
 
 -- of maps of one list
 pub zip_maps : (f : ℕ → TextMap ℕ) (g : ℕ → TextMap Stock) (ids : List ℕ) → with_used_lists (map f ids) (map g ids) ≡ map (λ id. with_used (f id) (g id)) ids
@@ -37,7 +37,7 @@ by_place k (x ∷ xs) all d same =
     (by_place (k + 1) xs all d (λ (i : ℕ) (h : i < length xs). ap (λ j. get_or all j d) (omega arith) ∙ same (suc i) (omega arith)))
 
 -- an entry for each inventory of a provider
-of_place : (us : List (List (FlatRow ClassName ℕ))) (p : ℕ) (rows : List (FlatRow ClassName Stock))
+of_place : (us : List (List (TableRow ClassName ℕ))) (p : ℕ) (rows : List (TableRow ClassName Stock))
     → map entry_pair (map (entry_of us) (filter (λ r. r.place == p) rows)) ≡ with_used (map class_pair (get_or us p [])) (map class_pair (filter (λ r. r.place == p) rows))
 of_place us p [] = refl
 of_place us p (r ∷ rows) = elim (cases_Bool (r.place == p)) [
@@ -50,39 +50,39 @@ of_place us p (r ∷ rows) = elim (cases_Bool (r.place == p)) [
     at : (a : ℕ) → (a == p) ≡ true → a ≡ p
     at a e = search (arith, rules)
 
-    amount : FlatRow ClassName Stock → ℕ → ℕ
+    amount : TableRow ClassName Stock → ℕ → ℕ
     amount row q = (entry_of us record { place = q; number = row.number; key = row.key; value = row.value }).used
 
-pub joined_lists : (us : List (List (FlatRow ClassName ℕ))) (rows : List (FlatRow ClassName Stock)) (starts : List ℕ) → AreStarts (length us) rows starts
+pub joined_lists : (us : List (List (TableRow ClassName ℕ))) (rows : List (TableRow ClassName Stock)) (starts : List ℕ) → AreStarts (length us) rows starts
     → map (map entry_pair) (lists_in (map (entry_of us) rows) starts) ≡ with_used_lists (map (map class_pair) us) (map (map class_pair) (lists_in rows starts))
 joined_lists us rows starts are =
     let n = length us in
-    let here = λ (p : ℕ). filter (λ (r : FlatRow ClassName Stock). r.place == p) rows in
+    let here = λ (p : ℕ). filter (λ (r : TableRow ClassName Stock). r.place == p) rows in
     let range = range_with_len 0 (length us) in
     let used : map (map class_pair) us ≡ map (λ p. map class_pair (get_or us p [])) (range_with_len 0 (length us)) =
     ap (map (map class_pair)) (by_place 0 us us [] (λ i h. ap (λ j. get_or us j []) (omega arith))) ∙ map_map (λ p. get_or us p []) (map class_pair) (range_with_len 0 (length us)) in
-    let own : map (map class_pair) (lists_in rows starts) ≡ map (λ p. map class_pair (filter (λ (r : FlatRow ClassName Stock). r.place == p) rows)) (range_with_len 0 (length us)) =
-    ap (map (map class_pair)) (split_lists (length us) rows starts are) ∙ map_map (λ p. filter (λ (r : FlatRow ClassName Stock). r.place == p) rows) (map class_pair) (range_with_len 0 (length us)) in
+    let own : map (map class_pair) (lists_in rows starts) ≡ map (λ p. map class_pair (filter (λ (r : TableRow ClassName Stock). r.place == p) rows)) (range_with_len 0 (length us)) =
+    ap (map (map class_pair)) (split_lists (length us) rows starts are) ∙ map_map (λ p. filter (λ (r : TableRow ClassName Stock). r.place == p) rows) (map class_pair) (range_with_len 0 (length us)) in
     ap (map (map entry_pair)) (lists_map rows starts (entry_of us) ∙ ap (map (map (entry_of us))) (split_lists (length us) rows starts are)
-    ∙ map_map (λ p. filter (λ (r : FlatRow ClassName Stock). r.place == p) rows) (map (entry_of us)) (range_with_len 0 (length us)))
-    ∙ map_map (λ p. map (entry_of us) (filter (λ (r : FlatRow ClassName Stock). r.place == p) rows)) (map entry_pair) (range_with_len 0 (length us))
-    ∙ range_same _ (λ p. with_used (map class_pair (get_or us p [])) (map class_pair (filter (λ (r : FlatRow ClassName Stock). r.place == p) rows))) 0 (length us) (λ p l h. of_place us p rows)
-    ∙ sym (zip_maps (λ p. map class_pair (get_or us p [])) (λ p. map class_pair (filter (λ (r : FlatRow ClassName Stock). r.place == p) rows)) (range_with_len 0 (length us)))
+    ∙ map_map (λ p. filter (λ (r : TableRow ClassName Stock). r.place == p) rows) (map (entry_of us)) (range_with_len 0 (length us)))
+    ∙ map_map (λ p. map (entry_of us) (filter (λ (r : TableRow ClassName Stock). r.place == p) rows)) (map entry_pair) (range_with_len 0 (length us))
+    ∙ range_same _ (λ p. with_used (map class_pair (get_or us p [])) (map class_pair (filter (λ (r : TableRow ClassName Stock). r.place == p) rows))) 0 (length us) (λ p l h. of_place us p rows)
+    ∙ sym (zip_maps (λ p. map class_pair (get_or us p [])) (λ p. map class_pair (filter (λ (r : TableRow ClassName Stock). r.place == p) rows)) (range_with_len 0 (length us)))
     ∙ ap₂ with_used_lists (sym used) (sym own)
 
-first_keys : (e : List Entry) (u : TextMap ℕ) (r : List (FlatRow ClassName Stock)) → map entry_pair e ≡ with_used u (map class_pair r) → map entry_class e ≡ map (λ a. class_bytes a.key) r
+first_keys : (e : List Entry) (u : TextMap ℕ) (r : List (TableRow ClassName Stock)) → map entry_pair e ≡ with_used u (map class_pair r) → map entry_class e ≡ map (λ a. class_bytes a.key) r
 first_keys e u r same = sym (own e) ∙ ap (map (λ (d : List ℕ × Held). d.0)) same ∙ used r
   where
     own : (es : List Entry) → map (λ (d : List ℕ × Held). d.0) (map entry_pair es) ≡ map entry_class es
     own [] = refl
     own (x ∷ es) = ap (λ l. entry_class x ∷ l) (own es)
 
-    used : (rs : List (FlatRow ClassName Stock)) → map (λ (d : List ℕ × Held). d.0) (with_used u (map class_pair rs)) ≡ map (λ a. class_bytes a.key) rs
+    used : (rs : List (TableRow ClassName Stock)) → map (λ (d : List ℕ × Held). d.0) (with_used u (map class_pair rs)) ≡ map (λ a. class_bytes a.key) rs
     used [] = refl
     used (x ∷ rs) = ap (λ l. class_bytes x.key ∷ l) (used rs)
 
 -- the classes of entries rise as those of their inventories
-pub entries_rise : (P : List (List ℕ) → Type 0) (es : List (List Entry)) (us : List (TextMap ℕ)) (rs : List (List (FlatRow ClassName Stock)))
+pub entries_rise : (P : List (List ℕ) → Type 0) (es : List (List Entry)) (us : List (TextMap ℕ)) (rs : List (List (TableRow ClassName Stock)))
     → map (map entry_pair) es ≡ with_used_lists us (map (map class_pair) rs) → All (λ r. P (map (λ a. class_bytes a.key) r)) rs → All (λ e. P (map entry_class e)) es
 entries_rise P [] us rs e all k d inside = absurd (omega (arith, inside))
 entries_rise P (x ∷ es) [] rs e all k d inside = absurd (cc)

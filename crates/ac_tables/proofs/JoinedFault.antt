@@ -5,7 +5,7 @@ use Rattle.std.specs.List.{All, AllPairs, list_any}
 use Rattle.std.proofs.lemmas.List.{take-append-drop, map-append}
 use Rattle.std.proofs.lemmas.List.Elements.{All-head, All-tail, All-take}
 use Rattle.ac_tables.specs.Checks.{Row, Check, first_failing, rows_fault, Tells}
-use Rattle.ac_tables.specs.Flat.{IsKeyed}
+use Rattle.ac_tables.specs.TableRows.{IsKeyed}
 use Rattle.ac_tables.specs.declared.fault.Table.{Table}
 use Rattle.ac_tables.specs.declared.fault.TableKind.{TableKind}
 use Rattle.ac_tables.specs.declared.fault.TableKind.TheVariants as kind

@@ -4,8 +4,8 @@ use Rattle.std.specs.Prelude.{◌==◌}
 use Rattle.std.specs.List.{All, Contains, filter}
 use Rattle.std.proofs.lemmas.Bool.{cases_Bool}
 use Rattle.std.proofs.lemmas.List.{get_or-map, length-map}
-use Rattle.ac_tables.specs.Flat.{row_shown}
-use Rattle.ac_tables.specs.declared.flat.row.FlatRow.{FlatRow}
+use Rattle.ac_tables.specs.TableRows.{row_shown}
+use Rattle.ac_tables.specs.declared.reader.row.TableRow.{TableRow}
 
 module _ {X : Type 0} (p : X → Bool) where
   pub filter_has : (xs : List X) (x : X) → Contains xs x → p x ≡ true → Contains (filter p xs) x
@@ -38,10 +38,10 @@ module _ {X Y : Type 0} (f : X → Y) where
   has_map (x ∷ xs) y (zero, inside, here) = (x, (zero, omega arith, refl), here)
   has_map (x ∷ xs) y (suc k, inside, here) = let r = has_map xs y (k, omega arith, here) in (r.0, (suc r.1.0, (let i = r.1.1 in omega (arith, i)), r.1.2), r.2)
 
-module _ {V K X Y : Type 0} (shown : ℕ → K → X → V) (count : ℕ) (provider : V → ℕ) (part : V → Y) (show : FlatRow K X → Y) (p id : ℕ)
-    (whose : (r : FlatRow K X) → r.place < count → (provider (row_shown shown r) == id) ≡ (r.place == p))
-    (what : (r : FlatRow K X) → part (row_shown shown r) ≡ show r) where
-  pub of_provider : (rs : List (FlatRow K X)) → All (λ r. r.place < count) rs → map part (filter (λ v. provider v == id) (map (row_shown shown) rs)) ≡ map show (filter (λ r. r.place == p) rs)
+module _ {V K X Y : Type 0} (shown : ℕ → K → X → V) (count : ℕ) (provider : V → ℕ) (part : V → Y) (show : TableRow K X → Y) (p id : ℕ)
+    (whose : (r : TableRow K X) → r.place < count → (provider (row_shown shown r) == id) ≡ (r.place == p))
+    (what : (r : TableRow K X) → part (row_shown shown r) ≡ show r) where
+  pub of_provider : (rs : List (TableRow K X)) → All (λ r. r.place < count) rs → map part (filter (λ v. provider v == id) (map (row_shown shown) rs)) ≡ map show (filter (λ r. r.place == p) rs)
   of_provider [] inside = refl
   of_provider (r ∷ rs) inside =
       let rest = of_provider rs (λ k d i. inside (suc k) d (omega arith)) in

@@ -17,13 +17,13 @@ use Rattle.ac_tables.specs.UsageTable.{Usage}
 use Rattle.ac_tables.specs.TraitTable.{Mark}
 use Rattle.ac_tables.specs.AggregateTable.{Membership}
 use Rattle.ac_tables.specs.Tables.{stocks_of, amounts_of, names_of, aggregates_of}
-use Rattle.ac_tables.specs.FlatInventories.{class_pair, holdings_shown}
-use Rattle.ac_tables.specs.declared.flat.row.FlatRow.{FlatRow}
-use Rattle.ac_tables.specs.declared.inventories.Inventories.{Inventories}
+use Rattle.ac_tables.specs.InventoryRows.{class_pair, holdings_shown}
+use Rattle.ac_tables.specs.declared.reader.row.TableRow.{TableRow}
+use Rattle.ac_tables.specs.declared.tables.inventories.Inventories.{Inventories}
 use Rattle.ac_tables.proofs.SortedSets.{rising_sorted}
-use Rattle.ac_tables.proofs.FlatValues.{keys_inserted}
+use Rattle.ac_tables.proofs.SameItems.{keys_inserted}
 use Rattle.ac_tables.proofs.SearchFacts.{map_itself}
-use Rattle.ac_tables.proofs.SliceFacts.{all_gathered}
+use Rattle.ac_tables.proofs.ListFacts.{all_gathered}
 
 -- what the rows of the inventories show, beside ids that are equal
 pub said_here : (own : Inventories) (ids : List ℕ) (said : List Holding) → own.ids.ids.items ≡ ids → IsPermutation said (holdings_shown ids own.rows.items.items) → IsPermutation said (holdings_shown own.ids.ids.items own.rows.items.items)
@@ -32,23 +32,23 @@ said_here own ids said e h = subst (λ (l : List ℕ). IsPermutation said (holdi
 map_rises : {X : Type 0} (pairs : List (List ℕ × X)) → IsStrictlySortedBy text_cmp (map (λ (e : List ℕ × X). e.0) (map_of pairs))
 map_rises {X} pairs = subst (IsStrictlySortedBy text_cmp) (sym (keys_inserted nat_list_cmp_total [] pairs)) (rising_sorted nat_list_cmp_total (map (λ (e : List ℕ × X). e.0) pairs))
 
-first_of_pairs : {X : Type 0} (rs : List (FlatRow ClassName X)) → map (λ (e : List ℕ × X). e.0) (map class_pair rs) ≡ map (λ (r : FlatRow ClassName X). class_bytes r.key) rs
+first_of_pairs : {X : Type 0} (rs : List (TableRow ClassName X)) → map (λ (e : List ℕ × X). e.0) (map class_pair rs) ≡ map (λ (r : TableRow ClassName X). class_bytes r.key) rs
 first_of_pairs [] = refl
 first_of_pairs (r ∷ rs) = ap (λ l. class_bytes r.key ∷ l) (first_of_pairs rs)
 
-classes_rise : {X : Type 0} (gather : ℕ → TextMap X) (ids : List ℕ) (lists : List (List (FlatRow ClassName X))) → map (map class_pair) lists ≡ map gather ids
-    → ((id : ℕ) → IsStrictlySortedBy text_cmp (map (λ (e : List ℕ × X). e.0) (gather id))) → All (λ rs. IsStrictlySortedBy text_cmp (map (λ (r : FlatRow ClassName X). class_bytes r.key) rs)) lists
+classes_rise : {X : Type 0} (gather : ℕ → TextMap X) (ids : List ℕ) (lists : List (List (TableRow ClassName X))) → map (map class_pair) lists ≡ map gather ids
+    → ((id : ℕ) → IsStrictlySortedBy text_cmp (map (λ (e : List ℕ × X). e.0) (gather id))) → All (λ rs. IsStrictlySortedBy text_cmp (map (λ (r : TableRow ClassName X). class_bytes r.key) rs)) lists
 classes_rise {X} gather ids lists e rise k d inside =
     subst (IsStrictlySortedBy text_cmp) (first_of_pairs (get_or lists k d))
     (all_gathered (λ m. IsStrictlySortedBy text_cmp (map (λ (e : List ℕ × X). e.0) m)) (map class_pair) gather lists ids e rise k d inside)
 
-pub stocks_rise : (said : List Holding) (ids : List ℕ) (lists : List (List (FlatRow ClassName Stock))) → map (map class_pair) lists ≡ map (stocks_of said) ids
-    → All (λ rs. IsStrictlySortedBy text_cmp (map (λ (r : FlatRow ClassName Stock). class_bytes r.key) rs)) lists
+pub stocks_rise : (said : List Holding) (ids : List ℕ) (lists : List (List (TableRow ClassName Stock))) → map (map class_pair) lists ≡ map (stocks_of said) ids
+    → All (λ rs. IsStrictlySortedBy text_cmp (map (λ (r : TableRow ClassName Stock). class_bytes r.key) rs)) lists
 unfolding stocks_of
 stocks_rise said ids lists e = classes_rise (stocks_of said) ids lists e (λ id. map_rises (map (λ (h : Holding). (h.class, h.stock)) (filter (λ (h : Holding). h.provider == id) said)))
 
-pub amounts_rise : (said : List Usage) (ids : List ℕ) (lists : List (List (FlatRow ClassName ℕ))) → map (map class_pair) lists ≡ map (amounts_of said) ids
-    → All (λ rs. IsStrictlySortedBy text_cmp (map (λ (r : FlatRow ClassName ℕ). class_bytes r.key) rs)) lists
+pub amounts_rise : (said : List Usage) (ids : List ℕ) (lists : List (List (TableRow ClassName ℕ))) → map (map class_pair) lists ≡ map (amounts_of said) ids
+    → All (λ rs. IsStrictlySortedBy text_cmp (map (λ (r : TableRow ClassName ℕ). class_bytes r.key) rs)) lists
 unfolding amounts_of
 amounts_rise said ids lists e = classes_rise (amounts_of said) ids lists e (λ id. map_rises (map (λ (u : Usage). (u.class, u.amount)) (filter (λ (u : Usage). u.provider == id) said)))
 

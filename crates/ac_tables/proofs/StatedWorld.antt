@@ -13,12 +13,12 @@ use Rattle.ac_tables.specs.TraitTable.{marks_of}
 use Rattle.ac_tables.specs.AggregateTable.{memberships_of}
 use Rattle.ac_tables.specs.Kin.{AreKin}
 use Rattle.ac_tables.specs.World.{Provider, Sizes}
-use Rattle.ac_tables.specs.Joined.{with_used_lists}
+use Rattle.ac_tables.specs.EntryLists.{with_used_lists}
 use Rattle.ac_tables.specs.Numbered.{numbered_at, numbered}
 use Rattle.ac_tables.specs.Tables.{Tables, stocks_of, amounts_of, names_of, aggregates_of, with_used, gathered}
 use Rattle.ac_tables.proofs.BuildFacts.{agree}
 use Rattle.ac_tables.proofs.JoinFacts.{zip_maps}
-use Rattle.ac_tables.proofs.SliceFacts.{by_places}
+use Rattle.ac_tables.proofs.ListFacts.{by_places}
 
 same_provider : (p q : Provider) → p.id ≡ q.id → p.parent ≡ q.parent → p.holdings ≡ q.holdings → p.traits ≡ q.traits → p.aggregates ≡ q.aggregates → p ≡ q
 same_provider p q e1 e2 e3 e4 e5 = λ i. record { id = e1 i; parent = e2 i; holdings = e3 i; traits = e4 i; aggregates = e5 i }

@@ -13,7 +13,7 @@ abbrev pub sizes_of : Counts → Sizes
 sizes_of c = record { providers = c.providers; inventories = c.inventories; usages = c.usages; traits = c.traits; aggregates = c.aggregates }
 
 -- the providers of a cloud, in the order of their ids
-abbrev pub providers_of : Cloud → List Provider
+unfoldable pub providers_of : Cloud → List Provider
 providers_of cloud = numbered cloud.ids.ids.items cloud.parents.items (map (map entry_pair) (lists_of cloud.entries)) (map (map trait_bytes) (lists_of cloud.traits)) (lists_of cloud.aggregates)
 
 -- the world of a cloud

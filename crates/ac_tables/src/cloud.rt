@@ -1,4 +1,18 @@
 //! The cloud that accepted tables state.
+
+pub(crate) mod ancestry;
+pub(crate) mod anchors;
+pub(crate) mod build;
+pub(crate) mod draft;
+pub(crate) mod entries;
+pub mod entry;
+pub(crate) mod kept_lists;
+pub(crate) mod lookups;
+pub(crate) mod parents;
+pub(crate) mod provider_index;
+pub(crate) mod roots;
+pub(crate) mod roots_by_aggregate;
+
 ghost use Rattle.std.specs.Prelude.{◌==◌, ◌≡◌, ◌<◌, ℕ, Option, None, Some, false, [], map, length, get_or, IfSome};
 ghost use Rattle.std.specs.Option.{is_some, option_map, option_copied};
 ghost use Rattle.ac_base.specs.Names.{class_bytes, trait_bytes};
@@ -15,12 +29,12 @@ ghost use Rattle.std.proofs.Props.{props};
 ghost use Rattle.ac_tables.specs.Entries.{entry_class, entry_pair, entry_held};
 ghost use Rattle.ac_tables.specs.World.{provider_at, id_at, place_of, parent_of, root_of, is_above, held_of, used_of, has_trait, is_member, shares, is_available_at, anchors_of};
 
-use crate::anchors::Anchors;
-use crate::entry::Entry;
-use crate::flat::lists::Lists;
-use crate::ids::Ids;
-use crate::ordered::{find_entry, has_id, has_name};
-use crate::visits::Visits;
+use crate::cloud::ancestry::Visits;
+use crate::cloud::anchors::Anchors;
+use crate::cloud::entry::Entry;
+use crate::cloud::lookups::{find_entry, has_id, has_name};
+use crate::cloud::provider_index::Ids;
+use crate::reader::lists::Lists;
 use ac_base::{ClassName, Id, Inventory, TraitName};
 
 /// How much the tables tell.

@@ -4,14 +4,14 @@ ghost use Rattle.ac_tables.specs.Checks.{Tells};
 ghost use Rattle.ac_tables.specs.Tables.{tables_fault, world_stated};
 ghost use Rattle.ac_tables.specs.SourceText.{text_or};
 
-use crate::aggregates::read_aggregates;
-use crate::build::Parts;
+use crate::cloud::build::Parts;
 use crate::cloud::{Cloud, Counts};
 use crate::fault::TableFault;
-use crate::inventories::Inventories;
-use crate::providers::read_providers;
-use crate::traits::read_traits;
-use crate::usages::read_usages;
+use crate::tables::aggregates::read_aggregates;
+use crate::tables::inventories::Inventories;
+use crate::tables::providers::read_providers;
+use crate::tables::traits::read_traits;
+use crate::tables::usages::read_usages;
 use std::alloc::Global;
 
 /// The texts of the tables. A table that isn't there is its header alone.

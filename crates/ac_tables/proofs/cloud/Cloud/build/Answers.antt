@@ -5,14 +5,14 @@ use Rattle.std.proofs.lemmas.List.{length-map, get_or-map}
 use Rattle.std.specs.List.Sorted.{IsStrictlySortedBy}
 use Rattle.ac_base.specs.Texts.{text_cmp}
 use Rattle.ac_tables.specs.Anchors.{shares_by}
-use Rattle.ac_tables.specs.declared.inventories.Inventories.{Inventories}
+use Rattle.ac_tables.specs.declared.tables.inventories.Inventories.{Inventories}
 use Rattle.ac_tables.specs.Entries.{entry_pair}
-use Rattle.ac_tables.specs.FlatInventories.{class_pair}
+use Rattle.ac_tables.specs.InventoryRows.{class_pair}
 use Rattle.ac_tables.specs.ListsOf.{lists_of}
 use Rattle.ac_tables.proofs.WorldFacts.{numbered_root}
 use Rattle.ac_tables.proofs.BuildFacts.{same_size, are_within, are_parents, chains_end}
 use Rattle.ac_tables.proofs.JoinFacts.{zip_size, entries_rise}
-use Rattle.ac_tables.proofs.SliceFacts.{lists_size}
+use Rattle.ac_tables.proofs.ListFacts.{lists_size}
 use Rattle.ac_tables.proofs.cloud.Cloud.build.Goals as goal
 
 rows_size : (own : Inventories) → length (lists_of own.rows) ≡ length own.ids.ids.items

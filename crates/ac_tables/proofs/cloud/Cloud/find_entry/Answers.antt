@@ -5,7 +5,7 @@ use Rattle.std.specs.Str.{bytes_eq}
 use Rattle.ac_base.specs.Names.{class_bytes}
 use Rattle.ac_base.specs.Texts.{text_cmp}
 use Rattle.ac_tables.specs.Entries.{entry_class, entry_pair}
-use Rattle.ac_tables.specs.declared.entry.Entry.{Entry}
+use Rattle.ac_tables.specs.declared.cloud.entry.Entry.{Entry}
 use Rattle.ac_tables.proofs.CloudFacts.{inside, holdings_here}
 use Rattle.ac_tables.specs.ListsOf.{lists_of}
 use Rattle.ac_tables.proofs.cloud.Cloud.find_entry.Goals as goal

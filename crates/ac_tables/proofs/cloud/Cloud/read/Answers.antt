@@ -15,8 +15,8 @@ use Rattle.ac_tables.specs.Tables.{ids_of, stocks_of, amounts_of, names_of, aggr
 use Rattle.std.specs.Option.{option_and_then}
 use Rattle.ac_tables.specs.Places.{rank}
 use Rattle.ac_tables.specs.Kin.{AreKin}
-use Rattle.ac_tables.specs.FlatInventories.{class_pair}
-use Rattle.ac_tables.specs.Joined.{with_used_lists}
+use Rattle.ac_tables.specs.InventoryRows.{class_pair}
+use Rattle.ac_tables.specs.EntryLists.{with_used_lists}
 use Rattle.ac_tables.specs.ListsOf.{lists_of}
 use Rattle.ac_tables.proofs.SearchFacts.{map_itself}
 use Rattle.ac_tables.proofs.RiseFacts.{said_here, stocks_rise, amounts_rise, names_rise, aggregates_rise}
