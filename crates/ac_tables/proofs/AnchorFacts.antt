@@ -40,7 +40,7 @@ any_range : (p q : ℕ → Bool) (n a : ℕ) → ((i : ℕ) → i < a + n → p 
 any_range p q zero a same = refl
 any_range p q (suc n) a same = ap₂ (λ b c. b || c) (same a (omega arith)) (any_range p q n (a + 1) (λ (i : ℕ) (h : i < a + 1 + n). same i (omega (arith, h))))
 
-filter_range : (p q : ℕ → Bool) (n a : ℕ) → ((i : ℕ) → i < a + n → p i ≡ q i) → filter p (range_with_len a n) ≡ filter q (range_with_len a n)
+pub filter_range : (p q : ℕ → Bool) (n a : ℕ) → ((i : ℕ) → i < a + n → p i ≡ q i) → filter p (range_with_len a n) ≡ filter q (range_with_len a n)
 filter_range p q zero a same = refl
 filter_range p q (suc n) a same =
     let rest = filter_range p q n (a + 1) (λ (i : ℕ) (h : i < a + 1 + n). same i (omega (arith, h))) in
@@ -73,7 +73,7 @@ alone : (x : ℕ) → IsStrictlySortedBy nat_cmp (x ∷ [])
 unfolding IsStrictlySortedBy
 alone x = (tt, tt)
 
-one_item : (x n : ℕ) → x < n → (x ∷ []) ≡ filter (λ (r : ℕ). x == r) (range_with_len 0 n)
+pub one_item : (x n : ℕ) → x < n → (x ∷ []) ≡ filter (λ (r : ℕ). x == r) (range_with_len 0 n)
 one_item x n h = rising_filter n (λ (r : ℕ). x == r) (x ∷ []) (alone x) (λ (r : ℕ). or_none (x == r)) (λ (r : ℕ) (e : (x == r) ≡ true). below x r n h e)
   where
     or_none : (b : Bool) → (b || false) ≡ b

@@ -54,3 +54,4 @@ pub mod ProviderRows
 pub mod ProviderSets
 pub mod UsageChecks
 pub mod RiseFacts
+pub mod WideAggregates

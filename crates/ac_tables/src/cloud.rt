@@ -13,12 +13,12 @@ pub(crate) mod provider_index;
 pub(crate) mod roots;
 pub(crate) mod roots_by_aggregate;
 
-ghost use Rattle.std.specs.Prelude.{◌==◌, ◌≡◌, ◌<◌, ℕ, Option, None, Some, false, [], map, length, get_or, IfSome};
+ghost use Rattle.std.specs.Prelude.{◌==◌, ◌≡◌, ◌<◌, ℕ, Option, None, Some, true, false, [], map, length, get_or, IfSome};
 ghost use Rattle.std.specs.Option.{is_some, option_map, option_copied};
 ghost use Rattle.ac_base.specs.Names.{class_bytes, trait_bytes};
 ghost use Rattle.ac_tables.specs.Trees.{top};
 ghost use Rattle.ac_tables.specs.Places.{parent_in, AreWithin};
-ghost use Rattle.ac_tables.specs.Anchors.{is_marked, shares_by, AreJoined};
+ghost use Rattle.ac_tables.specs.Anchors.{is_marked, shares_by, AreJoined, IsAlone};
 ghost use Rattle.std.specs.List.{All};
 ghost use Rattle.std.specs.List.Sorted.{IsStrictlySortedBy};
 ghost use Rattle.std.specs.Ordering.{nat_cmp};
@@ -79,7 +79,8 @@ pub struct Cloud {
     ghost rooted: { (i : ℕ) → i < length ids.ids.items → get_or roots.items i 0 ≡ top (parent_in parents.items) (length ids.ids.items) i },
     ghost with_anchors: { length anchors.places.items ≡ length ids.ids.items },
     ghost joined: { AreJoined roots.items (lists_of aggregates) anchors.lists.items anchors.places.items },
-    ghost marked: { (j : ℕ) → j < length ids.ids.items → is_some (get_or anchors.places.items j None) ≡ is_marked sharing.items (lists_of aggregates) j },
+    ghost marked: { (j : ℕ) → j < length ids.ids.items → is_some (get_or anchors.places.items j None) ≡ true → is_marked sharing.items (lists_of aggregates) j ≡ true },
+    ghost alone: { (j : ℕ) → j < length ids.ids.items → is_some (get_or anchors.places.items j None) ≡ false → is_marked sharing.items (lists_of aggregates) j ≡ true → IsAlone roots.items (lists_of aggregates) j },
     ghost visited: { IfSome visits (λ v. IsWalk parents.items v.entered.items v.left.items) } by { Prim.hlevel props },
     ghost ends: { (i : ℕ) → i < length ids.ids.items → parent_in parents.items (get_or roots.items i 0) ≡ None },
 }

@@ -1,7 +1,7 @@
 //! The roots of the trees in which each provider is available.
-ghost use Rattle.std.specs.Prelude.{◌≡◌, ◌≤◌, ◌<◌, ◌+◌, ◌++◌, ◌∷◌, ℕ, None, Some, [], map, length, get_or, IfOk, IfSome};
+ghost use Rattle.std.specs.Prelude.{◌≡◌, ◌≤◌, ◌<◌, ◌+◌, ◌++◌, ◌∷◌, ℕ, true, false, None, Some, [], map, length, get_or, IfOk, IfSome};
 ghost use Rattle.std.specs.Option.{is_some};
-ghost use Rattle.ac_tables.specs.Anchors.{is_met, meets, is_joining, joined, list_of, is_marked, AreJoined};
+ghost use Rattle.ac_tables.specs.Anchors.{is_met, meets, is_joining, joined, list_of, list_items, is_marked, AreAsked, AreJoined, IsAlone};
 ghost use Rattle.ac_tables.specs.ListsOf.{lists_of};
 ghost use Rattle.ac_tables.specs.Places.{ArePlaces};
 
@@ -12,7 +12,7 @@ use ac_base::Id;
 use std::alloc::{AllocError, Global};
 use std::collections::BTreeMap;
 
-// The roots that each provider who shares through aggregates reaches: a list for several of them where it is the same.
+// The roots that each provider reaches who may share with another tree: a list for several of them where it is the same.
 #[derive(Drop)]
 pub(crate) struct Anchors {
     pub(crate) lists: Vec<Vec<u32>>,
@@ -22,26 +22,19 @@ pub(crate) struct Anchors {
 // The place of the list of an earlier provider that shares through the same aggregates.
 fn find_alike(
     known: &BTreeMap<&[Id], u32>,
-    aggregates: &Lists<Id>,
+    asked: &[Vec<Id>],
     places: &[Option<u32>],
     ids: &[Id],
 ) -> Option<u32>
-    requires { length places.now ≤ length (lists_of aggregates.now) }
-    ensures { IfSome result (λ k. (j : ℕ) × (j < length places.now) × (get_or places.now j None ≡ Some k) × (get_or (lists_of aggregates.now) j [] ≡ ids.now)) }
+    requires { length places.now ≤ length asked.now }
+    ensures { IfSome result (λ k. (j : ℕ) × (j < length places.now) × (get_or places.now j None ≡ Some k) × (list_of asked.now j ≡ ids.now)) }
 {
     let other = *known.get(ids)? as usize;
-    if other < places.len() && aggregates.of(other) == ids {
+    if other < places.len() && asked[other].as_slice() == ids {
         places[other]
     } else {
         None
     }
-}
-
-// Whether a provider shares through some aggregate.
-fn joins(shares: bool, aggregates: &[Id]) -> bool
-    ensures { result ≡ is_joining shares aggregates.now }
-{
-    shares && !aggregates.is_empty()
 }
 
 // The providers' roots and aggregates, and the roots of each aggregate.
@@ -49,11 +42,13 @@ fn joins(shares: bool, aggregates: &[Id]) -> bool
 struct Members<'a> {
     roots: &'a [u32],
     aggregates: &'a Lists<Id>,
-    groups: Groups,
+    asked: &'a [Vec<Id>],
+    groups: &'a Groups,
     ghost few: { length roots.now ≤ 65536 },
     ghost inside: { ArePlaces (length roots.now) roots.now },
     ghost sized: { length (lists_of aggregates.now) ≡ length roots.now },
-    ghost gathered: { (a r : ℕ) → is_met groups.map a r ≡ meets roots.now (lists_of aggregates.now) (length roots.now) a r },
+    ghost asks: { length asked.now ≡ length roots.now },
+    ghost gathered: { (a r : ℕ) → is_met groups.now.map a r ≡ meets roots.now (lists_of aggregates.now) (length roots.now) a r },
 }
 
 impl<'a> Members<'a> {
@@ -97,24 +92,45 @@ impl<'a> Members<'a> {
         kept: Kept,
         known: &BTreeMap<&[Id], u32>,
         places: &[Option<u32>],
-        shares: bool,
     ) -> Result<(Kept, Option<u32>), AllocError>
         requires more { length places.now < length self.now.roots.now }
         requires few { length kept.lists.items ≤ length places.now }
-        requires joined { AreJoined self.now.roots.now (lists_of self.now.aggregates.now) kept.lists.items places.now }
+        requires joined { AreAsked self.now.roots.now (lists_of self.now.aggregates.now) (map list_items self.now.asked.now) kept.lists.items places.now }
         ensures grown { IfOk result (λ new. length new.0.lists.items ≤ length kept.lists.items + 1) }
-        ensures joined { IfOk result (λ new. AreJoined self.now.roots.now (lists_of self.now.aggregates.now) new.0.lists.items (places.now ++ new.1 ∷ [])) }
-        ensures marked { IfOk result (λ new. is_some new.1 ≡ is_joining shares (get_or (lists_of self.now.aggregates.now) (length places.now) [])) }
+        ensures joined { IfOk result (λ new. AreAsked self.now.roots.now (lists_of self.now.aggregates.now) (map list_items self.now.asked.now) new.0.lists.items (places.now ++ new.1 ∷ [])) }
+        ensures marked { IfOk result (λ new. is_some new.1 ≡ is_joining true (list_of self.now.asked.now (length places.now))) }
     {
-        let ids = self.aggregates.of(places.len());
-        if joins(shares, ids) {
-            let alike = find_alike(known, self.aggregates, places, ids);
-            let (kept, place) = self.find_list(alloc, kept, alike, ids)?;
-            Ok((kept, Some(place)))
-        } else {
-            Ok((kept, None))
+        let ids = self.asked[places.len()].as_slice();
+        if ids.is_empty() {
+            return Ok((kept, None));
+        }
+        let alike = find_alike(known, self.asked, places, ids);
+        let (kept, place) = self.find_list(alloc, kept, alike, ids)?;
+        Ok((kept, Some(place)))
+    }
+}
+
+// The lists of all providers, where these aggregates are asked of each.
+fn find_lists(alloc: Global, members: &Members) -> Result<Anchors, AllocError>
+    ensures length { IfOk result (λ anchors. length anchors.places.items ≡ length members.now.roots.now) }
+    ensures joined { IfOk result (λ anchors. AreAsked members.now.roots.now (lists_of members.now.aggregates.now) (map list_items members.now.asked.now) anchors.lists.items anchors.places.items) }
+    ensures marked { IfOk result (λ anchors. (j : ℕ) → j < length members.now.roots.now → is_some (get_or anchors.places.items j None) ≡ is_joining true (list_of members.now.asked.now j)) }
+{
+    let mut kept = Kept::new(alloc);
+    let mut places = Vec::new(alloc);
+    let mut known = BTreeMap::new(alloc);
+    for i in 0..members.roots.len() {
+        let (more, place) = members.find_next(alloc, kept, &known, &places)?;
+        kept = more;
+        places.push(place)?;
+        if place.is_some() {
+            known.insert(members.asked[i].as_slice(), i as u32)?;
         }
     }
+    Ok(Anchors {
+        lists: kept.lists,
+        places,
+    })
 }
 
 // The lists of all providers.
@@ -130,27 +146,17 @@ pub(crate) fn find_anchors(
     requires aggregates { length (lists_of aggregates.now) ≡ length roots.now }
     ensures length { IfOk result (λ anchors. length anchors.places.items ≡ length roots.now) }
     ensures joined { IfOk result (λ anchors. AreJoined roots.now (lists_of aggregates.now) anchors.lists.items anchors.places.items) }
-    ensures marked { IfOk result (λ anchors. (j : ℕ) → j < length roots.now → is_some (get_or anchors.places.items j None) ≡ is_marked sharing.now (lists_of aggregates.now) j) }
+    ensures marked { IfOk result (λ anchors. (j : ℕ) → j < length roots.now → is_some (get_or anchors.places.items j None) ≡ true → is_marked sharing.now (lists_of aggregates.now) j ≡ true) }
+    ensures alone { IfOk result (λ anchors. (j : ℕ) → j < length roots.now → is_some (get_or anchors.places.items j None) ≡ false → is_marked sharing.now (lists_of aggregates.now) j ≡ true → IsAlone roots.now (lists_of aggregates.now) j) }
 {
     let groups = Groups::gather(alloc, roots, aggregates)?;
+    let asked = groups.ask(alloc, sharing, aggregates)?;
     let members = Members {
         roots,
         aggregates,
-        groups,
+        asked: &asked,
+        groups: &groups,
     };
-    let mut kept = Kept::new(alloc);
-    let mut places = Vec::new(alloc);
-    let mut known = BTreeMap::new(alloc);
-    for i in 0..roots.len() {
-        let (more, place) = members.find_next(alloc, kept, &known, &places, sharing[i])?;
-        kept = more;
-        places.push(place)?;
-        if place.is_some() {
-            known.insert(aggregates.of(i), i as u32)?;
-        }
-    }
-    Ok(Anchors {
-        lists: kept.lists,
-        places,
-    })
+    let anchors = find_lists(alloc, &members)?;
+    Ok(anchors)
 }

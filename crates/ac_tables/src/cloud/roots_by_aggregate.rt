@@ -5,7 +5,7 @@ ghost use Rattle.std.specs.List.Sorted.{IsStrictlySortedBy};
 ghost use Rattle.std.specs.Ordering.{nat_cmp};
 ghost use Rattle.std.specs.BTreeMap.{get, is_at};
 ghost use Rattle.std.specs.BTreeSet.{contains};
-ghost use Rattle.ac_tables.specs.Anchors.{roots_in, is_met, is_among, meets};
+ghost use Rattle.ac_tables.specs.Anchors.{roots_in, is_met, is_among, meets, is_lone, wide, shared_ids, asked_at, list_of};
 ghost use Rattle.ac_tables.specs.ListsOf.{lists_of};
 
 use crate::reader::lists::Lists;
@@ -44,9 +44,8 @@ impl Groups {
         ensures { IfOk result (λ new. (a r : ℕ) → is_met new.map a r ≡ (is_met self.map a r || ((root == r) && (aggregate == a)))) }
     {
         let mut groups = self;
-        let mut roots = groups.take(alloc, aggregate);
-        roots.push(root)?;
-        groups.map.insert(aggregate, roots)?;
+        let roots = groups.take(alloc, aggregate);
+        groups.map.insert(aggregate, with_root(roots, root)?)?;
         Ok(groups)
     }
 
@@ -87,6 +86,42 @@ impl Groups {
         }
     }
 
+    // Whether an aggregate is of one tree.
+    fn is_lone(&self, aggregate: &Id) -> bool
+        ensures { result ≡ is_lone (roots_in (get nat_cmp self.now.map aggregate.now)) }
+    {
+        self.roots(aggregate).len() == 1
+    }
+
+    // Those of these aggregates that are of several trees.
+    fn wide(&self, alloc: Global, ids: &[Id]) -> Result<Vec<Id>, AllocError>
+        ensures { IfOk result (λ list. list.items ≡ wide self.now.map ids.now) }
+    {
+        ids.iter()
+            .copied()
+            .filter(|id| !self.is_lone(id))
+            .collect(alloc)
+    }
+
+    // The aggregates through which each provider may share with another tree.
+    pub(crate) fn ask(
+        &self,
+        alloc: Global,
+        sharing: &[bool],
+        aggregates: &Lists<Id>,
+    ) -> Result<Vec<Vec<Id>>, AllocError>
+        requires { length sharing.now ≡ length (lists_of aggregates.now) }
+        ensures length { IfOk result (λ asked. length asked.items ≡ length sharing.now) }
+        ensures each { IfOk result (λ asked. (j : ℕ) → j < length sharing.now → list_of asked.items j ≡ asked_at self.now.map sharing.now (lists_of aggregates.now) j) }
+    {
+        let mut asked = Vec::new(alloc);
+        for place in 0..sharing.len() {
+            let ids = shared_ids(sharing[place], aggregates.of(place));
+            asked.push(self.wide(alloc, ids)?)?;
+        }
+        Ok(asked)
+    }
+
     // The roots of all these aggregates.
     fn union(&self, alloc: Global, aggregates: &[Id]) -> Result<BTreeSet<u32>, AllocError>
         ensures { IfOk result (λ set. (r : ℕ) → contains nat_cmp set r ≡ list_any (λ a. is_met self.now.map a r) aggregates.now) }
@@ -107,6 +142,26 @@ impl Groups {
         let _count = set.len();
         items_of(alloc, set)
     }
+}
+
+// These roots and one more, unless it is the last of them.
+fn with_root(roots: Vec<u32>, root: u32) -> Result<Vec<u32>, AllocError>
+    ensures { IfOk result (λ new. (r : ℕ) → list_any (λ x. x == r) new.items ≡ (list_any (λ x. x == r) roots.items || (root == r))) }
+{
+    let mut all = roots;
+    let count = all.len();
+    if count > 0 && all[count - 1] == root {
+        return Ok(all);
+    }
+    all.push(root)?;
+    Ok(all)
+}
+
+// A provider's aggregates, where it shares.
+fn shared_ids(shares: bool, ids: &[Id]) -> &[Id]
+    ensures { result.now ≡ shared_ids shares ids.now }
+{
+    if shares { ids } else { &[] }
 }
 
 // These roots and some more.

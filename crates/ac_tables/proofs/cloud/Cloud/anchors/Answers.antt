@@ -1,7 +1,9 @@
-use Rattle.std.proofs.Common.{◌≡◌, ◌∙◌, ◌<◌, ◌+◌, ◌-◌, ℕ, List, Some, None, [], length, get_or, take, drop, drop-cons, sym, ap, arith}
+use Rattle.std.proofs.Common.{◌≡◌, ◌∙◌, ◌<◌, ◌+◌, ◌-◌, ℕ, List, Some, None, [], length, get_or, take, drop, drop-cons, sym, ap, arith, inl, inr}
 use Rattle.std.specs.Option.{is_some}
 use Rattle.std.proofs.lemmas.List.{get_or-map, get_or_read}
-use Rattle.ac_tables.specs.Anchors.{list_items}
+use Rattle.std.proofs.lemmas.Bool.{cases_Bool}
+use Rattle.ac_tables.specs.ListsOf.{lists_of}
+use Rattle.ac_tables.specs.Anchors.{list_items, is_marked}
 use Rattle.ac_tables.proofs.CloudFacts.{inside}
 use Rattle.ac_tables.proofs.AnchorFacts.{anchors_alone, anchors_joined}
 use Rattle.ac_tables.proofs.cloud.Cloud.anchors.Goals as goal
@@ -29,7 +31,7 @@ returns-in-Some c =
     let here : get_or places c.args.ix None ≡ Some c.in-Some.place = sym (get_or_read places _ _ k c.index.ensures None) ∙ c.in-Some.is in
     let list = cloud.joined c.args.ix c.in-Some.place k here in
     c.as_slice.ensures.value ∙ ap list_items c.index-in-Some.ensures ∙ sym (get_or-map list_items cloud.anchors.lists.items c.in-Some.place c.index-in-Some.result.now [] list.0)
-    ∙ list.1 ∙ anchors_joined cloud c.args.ix h (sym (cloud.marked c.args.ix h) ∙ ap is_some here)
+    ∙ list.1 ∙ anchors_joined cloud c.args.ix h (cloud.marked c.args.ix h (ap is_some here))
 
 pub returns-in-None : goal.returns-in-None
 returns-in-None c =
@@ -43,4 +45,7 @@ returns-in-None c =
     ap (λ (n : ℕ). take n (drop c.args.ix c.deref.result.now)) one
     ∙ ap (λ (l : List ℕ). take 1 (drop c.args.ix l)) c.deref.ensures.value
     ∙ ap (λ (l : List ℕ). take 1 l) (drop-cons cloud.roots.items c.args.ix 0 room)
-    ∙ anchors_alone cloud c.args.ix h (sym (cloud.marked c.args.ix h) ∙ ap is_some here)
+    ∙ elim (cases_Bool (is_marked cloud.sharing.items (lists_of cloud.aggregates) c.args.ix)) [
+      | inl marked ↦ sym (cloud.alone c.args.ix h (ap is_some here) marked) ∙ anchors_joined cloud c.args.ix h marked
+      | inr not ↦ anchors_alone cloud c.args.ix h not
+    ]

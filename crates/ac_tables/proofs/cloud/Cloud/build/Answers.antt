@@ -104,3 +104,9 @@ invariant_of-result-clause-shared c = λ (i : ℕ) h.
 pub invariant_of-result-clause-classes_rise : goal.invariant_of-result-clause-classes_rise
 invariant_of-result-clause-classes_rise c =
     entries_rise (IsStrictlySortedBy text_cmp) (lists_of c.in_ok-entries.entries) (map (map class_pair) (lists_of c.args.parts.usages)) (lists_of c.args.parts.inventories.rows) c.in_ok-entries.ensures c.requires.classes_rise
+
+pub invariant_of-result-clause-alone : goal.invariant_of-result-clause-alone
+invariant_of-result-clause-alone c = λ (j : ℕ) h.
+    let alone = rw (c.deref-2.ensures.value, c.deref-3.ensures.value) at c.in_ok-anchors.ensures.alone in
+    let sized : length c.in_ok-roots.roots.items ≡ length c.args.parts.inventories.ids.ids.items = c.in_ok-roots.ensures.length ∙ ap length c.deref.ensures.value ∙ same_size c.args.parts.inventories.ids.ids.items c.args.parts.roll.rows.items c.requires.kin c.in_ok-parents.parents.items c.in_ok-parents.ensures in
+    alone j (omega (arith, h, sized))

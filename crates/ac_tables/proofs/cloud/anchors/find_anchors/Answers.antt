@@ -1,29 +1,33 @@
-use Rattle.std.proofs.Common.{◌≡◌, ◌<◌, ◌+◌, ◌∙◌, ℕ, List, Option, None, [], map, length, get_or, refl, sym, ap, ap₂, subst, false, arith}
+use Rattle.std.proofs.Common.{◌≡◌, ◌<◌, ◌∙◌, ℕ, List, Option, None, Some, [], map, length, get_or, sym, ap, subst, true, false, arith}
 use Rattle.std.specs.Option.{is_some}
-use Rattle.std.proofs.lemmas.List.{get_or_read}
+use Rattle.std.specs.Global.{Vec}
 use Rattle.ac_tables.specs.ListsOf.{lists_of}
-use Rattle.ac_tables.specs.Anchors.{is_joining, is_marked, AreJoined}
-use Rattle.ac_tables.proofs.AnchorLists.{marked_more, length_more}
+use Rattle.ac_tables.specs.Anchors.{list_items, list_of, asked_at, joined}
+use Rattle.ac_tables.proofs.WideAggregates.{asked_marked, asked_joined, asked_alone}
 use Rattle.ac_tables.proofs.cloud.anchors.find_anchors.Goals as goal
 
-pub find_next-requires-clause-joined : goal.find_next-requires-clause-joined
-find_next-requires-clause-joined c = rw c.deref.ensures.value c.loop-i.invariant.2
-
-pub loop-i-preserved : goal.loop-i-preserved
-loop-i-preserved c =
+pub returns-clause-joined : goal.returns-clause-joined
+returns-clause-joined c = λ (j k : ℕ) below is.
     let roots = c.args.roots.now in
-    let sharing = c.args.sharing.now in
     let aggregates = lists_of c.args.aggregates.now in
-    let places = c.loop-i.places.items in
-    let items = c.in_ok-push.ensures.items in
-    let size : length places ≡ c.loop-i.i = c.loop-i.invariant.0 in
-    let inside : c.loop-i.i < length sharing = omega (arith, c.loop-i-test.true, c.requires.sharing) in
-    let here : is_some c.in_ok-more.place ≡ is_marked sharing aggregates c.loop-i.i =
-    c.in_ok-more.ensures.marked
-    ∙ ap₂ (λ b l. is_joining b l) refl
-    (ap (λ (n : ℕ). get_or aggregates n []) (ap length c.deref.ensures.value ∙ size)) in (
-      ap length items ∙ length_more places c.in_ok-more.place c.loop-i.i size,
-      omega (arith, c.in_ok-more.ensures.grown, c.loop-i.invariant.1),
-      subst (λ (l : List (Option ℕ)). AreJoined roots aggregates c.in_ok-more.more.lists.items l) (sym items) (rw c.deref.ensures.value at c.in_ok-more.ensures.joined),
-      λ (j : ℕ) (h : j < c.loop-i.i + 1). ap (λ (l : List (Option ℕ)). is_some (get_or l j None)) items ∙ marked_more places c.in_ok-more.place (is_marked sharing aggregates) c.loop-i.i size c.loop-i.invariant.3 here j h,
+    let asked = c.in_ok-asked.asked.items in
+    let inside : j < length c.args.roots.now = omega (arith, below, c.in_ok-anchors.ensures.length) in
+    let same : list_of c.deref.result.now j ≡ list_of asked j = ap (λ (l : List (Vec ℕ)). list_of l j) c.deref.ensures.value in
+    let some = sym (ap is_some is) ∙ c.in_ok-anchors.ensures.marked j inside in
+    let list = c.in_ok-anchors.ensures.joined j k below is in (
+      list.0,
+      list.1 ∙ asked_joined roots aggregates c.in_ok-groups.groups.map c.in_ok-groups.ensures c.requires.inside c.args.sharing.now j inside (list_of c.deref.result.now j)
+          (same ∙ c.in_ok-asked.ensures.each j (omega (arith, inside, c.requires.sharing))) (sym some),
     )
+
+pub returns-clause-marked : goal.returns-clause-marked
+returns-clause-marked c = λ (j : ℕ) inside is.
+    let same : list_of c.deref.result.now j ≡ list_of c.in_ok-asked.asked.items j = ap (λ (l : List (Vec ℕ)). list_of l j) c.deref.ensures.value in
+    asked_marked c.args.roots.now (lists_of c.args.aggregates.now) c.in_ok-groups.groups.map c.in_ok-groups.ensures c.requires.inside c.args.sharing.now j inside (list_of c.deref.result.now j)
+    (same ∙ c.in_ok-asked.ensures.each j (omega (arith, inside, c.requires.sharing))) (sym (c.in_ok-anchors.ensures.marked j inside) ∙ is)
+
+pub returns-clause-alone : goal.returns-clause-alone
+returns-clause-alone c = λ (j : ℕ) inside is marked.
+    let same : list_of c.deref.result.now j ≡ list_of c.in_ok-asked.asked.items j = ap (λ (l : List (Vec ℕ)). list_of l j) c.deref.ensures.value in
+    asked_alone c.args.roots.now (lists_of c.args.aggregates.now) c.in_ok-groups.groups.map c.in_ok-groups.ensures c.requires.inside c.args.sharing.now j inside (list_of c.deref.result.now j)
+    (same ∙ c.in_ok-asked.ensures.each j (omega (arith, inside, c.requires.sharing))) (sym (c.in_ok-anchors.ensures.marked j inside) ∙ is) marked
