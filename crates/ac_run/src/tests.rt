@@ -39,6 +39,12 @@ const ONE: Rows = Rows {
     ..EMPTY
 };
 
+// The body of its candidates for two units.
+const ONE_BODY: &str =
+    "{\"allocation_requests\":[{\"allocations\":{\"@1\":{\"resources\":{\"VCPU\":2}}},\
+    \"mappings\":{\"\":[\"@1\"]}}],\"provider_summaries\":{\"@1\":{\"parent_provider_uuid\":null,\
+    \"resources\":{\"VCPU\":{\"capacity\":8,\"used\":0}},\"root_provider_uuid\":\"@1\",\"traits\":[]}}}\n";
+
 fn expanded(alloc: Global, text: &str) -> Result<String, AllocError> {
     text.replace(alloc, "@", "00000000-0000-0000-0000-00000000000")
 }
@@ -94,6 +100,9 @@ fn texts_of(alloc: Global, rows: &Rows) -> Result<Texts, AllocError> {
 struct Turns<'a> {
     providers: &'a [Turn],
     inventories: &'a [Turn],
+    usages: &'a [Turn],
+    traits: &'a [Turn],
+    aggregates: &'a [Turn],
     out: &'a [Turn],
     err: &'a [Turn],
     is_gathered: bool,
@@ -102,10 +111,27 @@ struct Turns<'a> {
 const SOUND: Turns<'static> = Turns {
     providers: &[],
     inventories: &[],
+    usages: &[],
+    traits: &[],
+    aggregates: &[],
     out: &[],
     err: &[],
     is_gathered: false,
 };
+
+// Every device goes by these turns.
+fn alike<'a>(turns: &'a [Turn]) -> Turns<'a> {
+    Turns {
+        providers: turns,
+        inventories: turns,
+        usages: turns,
+        traits: turns,
+        aggregates: turns,
+        out: turns,
+        err: turns,
+        is_gathered: false,
+    }
+}
 
 // What a run leaves.
 #[derive(Drop)]
@@ -129,9 +155,9 @@ fn run_texts(alloc: Global, texts: &Texts, job: &Job<'_>, turns: Turns) -> Resul
     let mut inputs = Inputs {
         providers: MemFeed::new(texts.providers.as_bytes(), turns.providers),
         inventories: MemFeed::new(texts.inventories.as_bytes(), turns.inventories),
-        usages: Some(MemFeed::new(texts.usages.as_bytes(), &[])),
-        traits: Some(MemFeed::new(texts.traits.as_bytes(), &[])),
-        aggregates: Some(MemFeed::new(texts.aggregates.as_bytes(), &[])),
+        usages: Some(MemFeed::new(texts.usages.as_bytes(), turns.usages)),
+        traits: Some(MemFeed::new(texts.traits.as_bytes(), turns.traits)),
+        aggregates: Some(MemFeed::new(texts.aggregates.as_bytes(), turns.aggregates)),
     };
     let mut out = MemSink::new(vec![in alloc; 0u8; 2000]?, turns.out);
     let mut err = MemSink::new(vec![in alloc; 0u8; 1000]?, turns.err);

@@ -1,7 +1,9 @@
 //! Worked examples, with values worked out by hand.
-use super::{EMPTY, ONE, Rows, SOUND, expanded, run_job};
+use super::{EMPTY, ONE, ONE_BODY, Rows, SOUND, Turns, alike, expanded, run_job};
 use crate::job::{Command, Job};
+use ac_base::Turn;
 use ac_query::Version;
+use std::alloc::{AllocError, Global};
 use std::process::Abort;
 use std::test::Fail;
 
@@ -41,30 +43,67 @@ const VERDICT: Case = Case {
     ..TOKENS
 };
 
-fn check(rt: &(impl Abort + AllocGlobal), cases: &[Case]) -> Result<(), Fail> {
+// More turns than any device of an example is called.
+const MANY: usize = 3000;
+
+// An interrupted call before each byte.
+fn interrupted(alloc: Global) -> Result<Vec<Turn>, AllocError> {
+    let mut turns = Vec::new(alloc);
+    for _ in 0..MANY {
+        turns.push(Turn::Again)?;
+        turns.push(Turn::Up(1))?;
+    }
+    Ok(turns)
+}
+
+fn check_case(
+    rt: &(impl Abort + AllocGlobal),
+    place: usize,
+    case: &Case,
+    turns: Turns,
+) -> Result<(), Fail> {
     let alloc = rt.alloc();
-    for (place, case) in cases.iter().enumerate() {
-        assert!(rt; case.command != Command::Verify || case.token.is_some());
-        let query = expanded(alloc, case.query)?;
-        let token = match case.token {
-            Some(token) => Some(expanded(alloc, token)?),
-            None => None,
-        };
-        let job = Job {
-            command: case.command,
-            query: query.as_str(),
-            version: case.version,
-            token: token.as_deref(),
-        };
-        let left = run_job(alloc, &case.rows, &job, SOUND)?;
-        let output = expanded(alloc, case.output)?;
-        assert_eq!(rt;
-            left.output.as_str(),
-            output.as_str(),
-            "output of case {place}"
-        );
-        assert_eq!(rt; left.line.as_str(), case.line, "line of case {place}");
-        assert_eq!(rt; left.status, case.status, "status of case {place}");
+    assert!(rt; case.command != Command::Verify || case.token.is_some());
+    let query = expanded(alloc, case.query)?;
+    let token = match case.token {
+        Some(token) => Some(expanded(alloc, token)?),
+        None => None,
+    };
+    let job = Job {
+        command: case.command,
+        query: query.as_str(),
+        version: case.version,
+        token: token.as_deref(),
+    };
+    let left = run_job(alloc, &case.rows, &job, turns)?;
+    let output = expanded(alloc, case.output)?;
+    assert_eq!(rt;
+        left.output.as_str(),
+        output.as_str(),
+        "output of case {place}"
+    );
+    assert_eq!(rt; left.line.as_str(), case.line, "line of case {place}");
+    assert_eq!(rt; left.status, case.status, "status of case {place}");
+    Ok(())
+}
+
+// The answer is the same where each call of a device moves one byte, and where one more is interrupted before it.
+fn check(rt: &(impl Abort + AllocGlobal), cases: &[Case]) -> Result<(), Fail> {
+    let one_byte = vec![in rt.alloc(); Turn::Up(1); MANY]?;
+    let again = interrupted(rt.alloc())?;
+    let slow = [
+        SOUND,
+        alike(&one_byte),
+        alike(&again),
+        Turns {
+            is_gathered: true,
+            ..alike(&again)
+        },
+    ];
+    for turns in slow {
+        for (place, case) in cases.iter().enumerate() {
+            check_case(rt, place, case, turns)?;
+        }
     }
     Ok(())
 }
@@ -79,9 +118,7 @@ fn one_provider(rt: HostRuntime) -> Result<(), Fail> {
                 ..TOKENS
             },
             Case {
-                output: "{\"allocation_requests\":[{\"allocations\":{\"@1\":{\"resources\":{\"VCPU\":2}}},\
-                    \"mappings\":{\"\":[\"@1\"]}}],\"provider_summaries\":{\"@1\":{\"parent_provider_uuid\":null,\
-                    \"resources\":{\"VCPU\":{\"capacity\":8,\"used\":0}},\"root_provider_uuid\":\"@1\",\"traits\":[]}}}\n",
+                output: ONE_BODY,
                 ..BODY
             },
             Case {
