@@ -19,6 +19,7 @@ sys.dont_write_bytecode = True
 from cases import CHILD, ONE, SHARED, SMALL, SOME, Case, cuts, full, lines, tables
 from export import exports
 from faults import drawn_queries, drawn_tables
+from hostile import hostile
 from large import LARGE, MOST_PROVIDERS, roots, vcpu
 from model import drawn
 from notation import HEADERS, provider
@@ -180,6 +181,11 @@ GROWTHS = [
 ]
 
 
+# The calls that take memory, each by itself.
+REFUSALS = [Case(f'each growth refused, in the tests of {crate}', ['sh', '-c', f'exec python3 -B tests/refusals.py {crate}'], SOME)
+            for crate in ('ac_base', 'ac_tables', 'ac_query', 'ac_search', 'ac_report', 'ac_run', 'ac_cli')]
+
+
 def status_of(text):
     """The status that comes with a text: an answer, or a fault line."""
     return next((status for start, status in STATUSES.items() if text.startswith(start)), 0)
@@ -287,7 +293,8 @@ def main(*given):
     pages = [case for page in ('README.md', 'examples/README.md', 'docs/RULES.md', 'docs/FORMATS.md', 'docs/EXPORT.md')
              for case in shown(page)]
     chance = [*drawn(150), *drawn_tables(200), *drawn_queries(200)]
-    cases = [PAGES, *HELP, *WORDS, *FILES, *DEVICES, *GROWTHS, *SMALL, *pages, *rules, *exports(), *chance, *LARGE, FEW_BYTES, *cuts()]
+    cases = [PAGES, *HELP, *WORDS, *FILES, *DEVICES, *GROWTHS, *REFUSALS, *SMALL, *pages, *rules, *exports(), *chance, *LARGE,
+             *hostile(PROGRAM), FEW_BYTES, *cuts()]
     cases = [case for case in cases if all(word in case.name for word in words)]
     failed = 0
     with ThreadPoolExecutor(max_workers=2) as pool:

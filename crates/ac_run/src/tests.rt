@@ -12,6 +12,7 @@ use std::alloc::{AllocError, Global};
 mod crowded;
 mod devices;
 mod examples;
+mod refusals;
 
 // The rows of the tables. `@1` stands for the UUID that ends with 1.
 #[derive(Clone, Copy)]
