@@ -5,6 +5,7 @@ use ac_tables::{Cloud, Sources};
 use std::alloc::{AllocError, Global};
 use std::test::Fail;
 
+mod limits;
 mod refusals;
 
 /// The line of a fault by 1.36, or `accepted`.
