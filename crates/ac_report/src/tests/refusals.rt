@@ -49,12 +49,13 @@ fn request(rt: HostRuntime) {
     let Ok(query) = query_of(alloc, "resources=VCPU:2") else {
         return;
     };
-    if !is_assignment(&cloud, &query, &[0]) {
+    let list: &[u32] = &[0];
+    if !is_assignment(&cloud, &query, list) {
         return;
     }
     let want =
         "{\"allocations\":{\"@01\":{\"resources\":{\"VCPU\":2}}},\"mappings\":{\"\":[\"@01\"]}}";
-    match request_text(alloc, &cloud, &query, &[0]) {
+    match request_text(alloc, &cloud, &query, list) {
         Ok(text) => assert!(rt; is_text(alloc, text.as_str(), want)),
         Err(fault) => assert_eq!(rt; fault, NoMemory),
     }

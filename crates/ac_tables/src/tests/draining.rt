@@ -10,7 +10,8 @@ fn asks_nothing_after_a_failure(rt: HostRuntime) {
     let turns = [Turn::Up(1), Turn::Failed, Turn::Again];
     let mut feed = MemFeed::new(b"abc", &turns);
     assert!(rt; drain(rt.alloc(), &mut feed) == Err(ReadFault::Unreadable));
-    assert_eq!(rt; feed.pull(&mut [0; 4]), Pull::Again);
+    let mut buf = [0; 4];
+    assert_eq!(rt; feed.pull(&mut buf), Pull::Again);
 }
 
 // Nor after one interrupted call too many.
@@ -20,7 +21,8 @@ fn asks_nothing_after_the_last_interrupted_call(rt: HostRuntime) {
     turns[1001] = Turn::Failed;
     let mut feed = MemFeed::new(b"abc", &turns);
     assert!(rt; drain(rt.alloc(), &mut feed) == Err(ReadFault::Unreadable));
-    assert_eq!(rt; feed.pull(&mut [0; 4]), Pull::Failed);
+    let mut buf = [0; 4];
+    assert_eq!(rt; feed.pull(&mut buf), Pull::Failed);
 }
 
 // A thousand interrupted calls, a byte, and a thousand more; then one more than that.
