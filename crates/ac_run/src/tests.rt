@@ -10,6 +10,7 @@ use ac_query::Version;
 use std::alloc::{AllocError, Global};
 
 mod crowded;
+mod cuts;
 mod devices;
 mod examples;
 mod refusals;
@@ -107,6 +108,9 @@ struct Turns<'a> {
     out: &'a [Turn],
     err: &'a [Turn],
     is_gathered: bool,
+    // After how many bytes the table ends.
+    providers_end: usize,
+    inventories_end: usize,
 }
 
 const SOUND: Turns<'static> = Turns {
@@ -118,6 +122,8 @@ const SOUND: Turns<'static> = Turns {
     out: &[],
     err: &[],
     is_gathered: false,
+    providers_end: usize::MAX,
+    inventories_end: usize::MAX,
 };
 
 // Every device goes by these turns.
@@ -130,7 +136,7 @@ fn alike<'a>(turns: &'a [Turn]) -> Turns<'a> {
         aggregates: turns,
         out: turns,
         err: turns,
-        is_gathered: false,
+        ..SOUND
     }
 }
 
@@ -149,13 +155,25 @@ fn text_of(alloc: Global, bytes: &[u8]) -> Result<String, AllocError> {
     }
 }
 
+// The bytes of a table that ends after so many.
+fn front(text: &String, end: usize) -> &[u8] {
+    let bytes = text.as_bytes();
+    &bytes[..end.min(bytes.len())]
+}
+
 // A run over the five tables.
 fn run_texts(alloc: Global, texts: &Texts, job: &Job<'_>, turns: Turns) -> Result<Left, AllocError>
     requires { HasToken job.now.command (option_map (λ token. token.now) job.now.token) }
 {
     let mut inputs = Inputs {
-        providers: MemFeed::new(texts.providers.as_bytes(), turns.providers),
-        inventories: MemFeed::new(texts.inventories.as_bytes(), turns.inventories),
+        providers: MemFeed::new(
+            front(&texts.providers, turns.providers_end),
+            turns.providers,
+        ),
+        inventories: MemFeed::new(
+            front(&texts.inventories, turns.inventories_end),
+            turns.inventories,
+        ),
         usages: Some(MemFeed::new(texts.usages.as_bytes(), turns.usages)),
         traits: Some(MemFeed::new(texts.traits.as_bytes(), turns.traits)),
         aggregates: Some(MemFeed::new(texts.aggregates.as_bytes(), turns.aggregates)),
