@@ -277,7 +277,7 @@ def wrong(case):
     missing = [text for text in case.has if text not in out + err]
     if missing:
         return f'{missing[0]!r} is not said'
-    return None if status == case.status else f'status is {status}, and not {case.status}'
+    return None if status == case.status else f'status is {status}, and not {case.status}: {(err or out)[-300:]!r}'
 
 
 def main(*given):
