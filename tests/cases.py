@@ -56,15 +56,19 @@ def lines(*answers):
     return ''.join(full(answer) + '\n' for answer in answers)
 
 
-def found(name, cloud, query, *answers, after=None):
+def by(version):
+    return [] if version is None else ['--microversion', version]
+
+
+def found(name, cloud, query, *answers, after=None, version=None):
     """`tokens` gives these assignments."""
-    words = ['tokens', full(query), *([] if after is None else ['--after', full(after)])]
+    words = ['tokens', full(query), *([] if after is None else ['--after', full(after)]), *by(version)]
     return Case(f'tokens: {name}', words, lines(*answers), tables=tables(cloud))
 
 
-def judged(name, cloud, query, token, line):
+def judged(name, cloud, query, token, line, version=None):
     """`verify` says so of one assignment."""
-    words = ['verify', full(query), full(token)]
+    words = ['verify', full(query), full(token), *by(version)]
     return Case(f'verify: {name}', words, line + '\n', status=0 if line == 'candidate' else 1, tables=tables(cloud))
 
 
@@ -84,8 +88,9 @@ def bad_table(line, *, command=('check',), why='', **changed):
                 tables={**tables(ONE), **changed})
 
 
-def bad_query(line, query, cloud=ONE, shown=None):
-    return Case(f'query: {line}: {shown or query}', ['tokens', full(query)], err=f'query: {line}\n', status=4, tables=tables(cloud))
+def bad_query(line, query, cloud=ONE, shown=None, version=None):
+    name = f'query: {line}: {shown or query}' + ('' if version is None else f' by {version}')
+    return Case(name, ['tokens', full(query), *by(version)], err=f'query: {line}\n', status=4, tables=tables(cloud))
 
 
 def bad_token(line, query, token, command='tokens', cloud=CHILD):
@@ -172,6 +177,36 @@ RULES = [
     judged('no inventory of the class', DEVICES, 'resources=PGPU:1', 'P2', 'no: rule 1 Units'),
     judged('within the units and over the capacity', 'P1 | | VCPU total 8, max_unit 9', 'resources=VCPU:9', 'P1', 'no: rule 6 Sums'),
     judged('the limit is not asked', CHILD, FIVE_AND_FIVE + '&limit=1', 'P2,P1', 'candidate'),
+]
+
+# Lists of traits of which one each is asked, and traits that are asked one after another: by 1.39 alone.
+LISTED = 'resources=PGPU:1,VCPU:1&required=in:CUSTOM_A,CUSTOM_X&required=CUSTOM_B'
+NOBODY = 'resources=PGPU:1,VCPU:1&required=in:CUSTOM_X,CUSTOM_Y'
+TWICE = 'resources=VCPU:1&required=CUSTOM_A&required=CUSTOM_A'
+LISTS = [
+    found('a list, and a trait of another provider', DEVICES, LISTED, 'P3,P2', version='1.39'),
+    bad_query('pair 2: BadValue', LISTED, DEVICES),
+    bad_query('pair 2: BadValue', LISTED, DEVICES, version='1.36'),
+    found('a list of which nobody has one', DEVICES, NOBODY, version='1.39'),
+    judged('a list of which nobody has one', DEVICES, NOBODY, 'P3,P2', 'no: rule 5 Collective', version='1.39'),
+    found('two lists, each met by another provider', DEVICES, BOTH + 'in:CUSTOM_A,CUSTOM_X&required=in:CUSTOM_B', 'P3,P2', version='1.39'),
+    found('two lists, and nobody meets the second', DEVICES, BOTH + 'in:CUSTOM_A,CUSTOM_B&required=in:CUSTOM_X', version='1.39'),
+    found('a list of a group with a suffix', DEVICES, 'resources1=VCPU:1&required1=in:CUSTOM_A,CUSTOM_B', 'P2', version='1.39'),
+    found('a list that the one provider lacks', DEVICES, 'resources1=VCPU:1&required1=in:CUSTOM_B', version='1.39'),
+    judged('a list that the one provider lacks', DEVICES, 'resources1=VCPU:1&required1=in:CUSTOM_B', 'P2', 'no: rule 2 SlotTraits', version='1.39'),
+    found('two lists of one provider, of which it lacks one', DEVICES, 'resources1=VCPU:1&required1=in:CUSTOM_A&required1=in:CUSTOM_B', version='1.39'),
+    found('a trait asked twice', DEVICES, TWICE, 'P2', version='1.39'),
+    bad_query('pair 3: Repeated', TWICE, DEVICES, version='1.36'),
+    found('a trait asked, and forbidden by another pair', DEVICES, 'resources=VCPU:1&required=CUSTOM_A&required=!CUSTOM_A', version='1.39'),
+    found('a group of nothing but a list', NUMA, 'resources_PF=VCPU:1&required_NUMA=in:HW_NUMA_ROOT,CUSTOM_X&same_subtree=_NUMA,_PF', 'P2,P4', version='1.39'),
+    found('a trait twice in a list, in an escape', DEVICES, 'resources=VCPU:1&required=in%3ACUSTOM_A%2CCUSTOM_A', 'P2', version='1.39'),
+    *(bad_query('pair 2: BadValue', 'resources=VCPU:1&' + pair, DEVICES, version='1.39') for pair in (
+        'required=in:!CUSTOM_A', 'root_required=in:CUSTOM_A', 'required=!in:CUSTOM_A', 'required=in:', 'required=in:CUSTOM_A,', 'required=IN:CUSTOM_A',
+        'required=CUSTOM_A,in:CUSTOM_B', 'required=in:CUSTOM_A,in:CUSTOM_B', 'required1=in:a')),
+    bad_query('pair 3: Repeated', 'resources=VCPU:1&root_required=CUSTOM_A&root_required=CUSTOM_A', DEVICES, version='1.39'),
+    bad_query('pair 2: Repeated', 'resources=VCPU:1&resources=VCPU:1', DEVICES, version='1.39'),
+    bad_query('pair 2: Conflict', BOTH + 'CUSTOM_A,!CUSTOM_A', DEVICES, version='1.39'),
+    bad_query('group "": GroupWithoutResources', 'resources1=VCPU:1&required=in:A', version='1.39'),
 ]
 
 TWO_HALVES = '''{"allocation_requests":[\
@@ -396,7 +431,7 @@ MANY_GROUPS = [
     found('64 groups fill 8 providers: after the last', EIGHT, SIXTY_FOUR, after=','.join(reversed(EIGHT_EACH.split(',')))),
 ]
 
-SMALL = [*QUANTITIES, *RULES, *PAGES, *TOKENS, *TABLES, *QUERIES, *MANY_GROUPS]
+SMALL = [*QUANTITIES, *RULES, *LISTS, *PAGES, *TOKENS, *TABLES, *QUERIES, *MANY_GROUPS]
 
 
 def cuts():

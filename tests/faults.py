@@ -191,8 +191,11 @@ def parameter(name):
     return next(((word, name[len(word):]) for word in GROUPED if name == word or name.startswith(word) and is_suffix(name[len(word):])), None)
 
 
-def value(word, text):
+def value(word, text, version):
     """What the value of a parameter says, or None."""
+    if word == 'required' and version == '1.39' and text.startswith('in:'):
+        listed = text.removeprefix('in:').split(',')
+        return listed if all(map(is_name, listed)) else None
     items = text.split(',')
     if word == 'resources':
         needs = [item.partition(':') for item in items]
@@ -210,8 +213,9 @@ def value(word, text):
     return [text] if fine else None
 
 
-def query_fault(text):
+def query_fault(text, version):
     """The line of the first fault, and how many slots there are."""
+    repeated = ('member_of', 'same_subtree', *(['required'] if version == '1.39' else []))
     if len(text.encode()) > 65536:
         return 'QueryTooLong', 0
     seen, groups, listed = set(), {}, set()
@@ -221,10 +225,10 @@ def query_fault(text):
         if not known:
             return f'pair {place}: UnknownParameter', 0
         word, suffix = known
-        if name in seen and word not in ('member_of', 'same_subtree'):
+        if name in seen and word not in repeated:
             return f'pair {place}: Repeated', 0
         seen.add(name)
-        found = value(word, said)
+        found = value(word, said, version)
         if found is None:
             return f'pair {place}: BadValue', 0
         if word in ('required', 'root_required') and any('!' + item in found for item in found):
@@ -249,13 +253,14 @@ def query_fault(text):
 VALUES = {
     'resources': ('VCPU:1', 'VCPU:1,MEMORY_MB:2', 'VCPU%3A3', 'VCPU:2147483647', 'VCPU:0', 'VCPU:2147483648', 'VCPU:1,VCPU:2', 'vcpu:1', '',
                   'VCPU:1,', 'VCPU:+1', 'VCPU:1:1'),
-    'required': ('A', '!A', 'A,!B', 'A,A', '%41', 'A,!A', 'a', 'A,', '!', '!!A', 'A+B', 'A,!A,a'),
+    'required': ('A', 'in:A,B', 'A,!B', '!A', 'A,A', '%41', 'A,!A', 'a', 'A,', '!', '!!A', 'A+B', 'A,!A,a', 'in:B', 'in%3AA', 'in:', 'in:!A', '!in:A', 'in:A,',
+                 'in:a', 'in:A,in:B', 'A,in:B', 'IN:A'),
     'member_of': ('A1', '!A1', 'in:A1,A1', '!in:A1,{A2}', 'A1,A1', 'in:', 'IN:A1', '!!A1', ''),
     'in_tree': ('P1', '{P1}', 'urn:uuid:P1', 'P1,P1', 'xyz'),
     'group_policy': ('none', 'isolate', 'None', ''),
     'same_subtree': ('1', '1,2', '1,1', '2,_A', '10,2', 'a', '1,', '.'),
     'limit': ('1', '0000000001', '0', '00000000001', 'x'),
-    'root_required': ('A', '!A', 'A,!A', 'a'),
+    'root_required': ('A', '!A', 'A,!A', 'a', 'in:A'),
 }
 SUFFIXES = '', '', '1', '2', '10', '_A'
 STRANGE = 'colour', 'limit1', 'root_required1', 'resources.', 'Resources', '', 'same_subtree_A', 'required' + 'a' * 65
@@ -282,10 +287,11 @@ def drawn_queries(number_of, seed=1):
     none = {name: HEADERS[name] for name in ('providers', 'inventories')}
     for n in range(number_of):
         text = drawn_query(chance)
-        fault, slots = query_fault(text)
-        yield Case(f'faults drawn {n}: tokens {text[:60]}', ['tokens', text], '', f'query: {fault}\n' if fault else '', 4 if fault else 0, none)
+        said = chance.choice(((), ('--microversion', '1.36'), ('--microversion', '1.39'), ('--microversion=1.39',)))
+        fault, slots = query_fault(text, '1.39' if '1.39' in ''.join(said) else '1.36')
+        yield Case(f'faults drawn {n}: tokens {text[:60]} {" ".join(said)}', ['tokens', text, *said], '', f'query: {fault}\n' if fault else '', 4 if fault else 0, none)
         if not fault:
             parts = chance.choices(('P1', '{P2}', 'zz', ''), (8, 2, 1, 1), k=max(1, slots + chance.choice((-1, 0, 0, 0, 1))))
             line = 'BadToken' if {'zz', ''} & set(parts) else 'WrongLength' if len(parts) != slots else None
-            yield Case(f'faults drawn {n}: verify', ['verify', text, full(','.join(parts))], '' if line else 'unknown provider\n',
+            yield Case(f'faults drawn {n}: verify', ['verify', text, full(','.join(parts)), *said], '' if line else 'unknown provider\n',
                        f'token: {line}\n' if line else '', 5 if line else 1, none)

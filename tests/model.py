@@ -61,14 +61,18 @@ class Group:
     needs: dict
     required: set
     forbidden: set
+    any_of: list  # lists of traits of which one each is asked, by 1.39 alone
     rules: list  # whether it forbids, and the aggregates
     tree: str | None
 
     def pairs(self, suffix):
         if self.needs:
             yield f'resources{suffix}', ','.join(f'{name}:{amount}' for name, amount in self.needs.items())
-        if self.required or self.forbidden:
-            yield f'required{suffix}', traits_text(self.required, self.forbidden)
+        traits = traits_text(self.required, self.forbidden)
+        for value in traits.split(',') if self.any_of and traits else [traits] if traits else []:
+            yield f'required{suffix}', value
+        for listed in self.any_of:
+            yield f'required{suffix}', 'in:' + ','.join(listed)
         for forbids, aggregates in self.rules:
             yield f'member_of{suffix}', '!' * forbids + 'in:' + ','.join(aggregates)
         if self.tree:
@@ -101,6 +105,11 @@ def traits_text(required, forbidden):
     return ','.join([*sorted(required), *('!' + name for name in sorted(forbidden))])
 
 
+def meets(group, traits):
+    """Whether each required trait of a group is among these, and one of each of its lists."""
+    return group.required <= traits and all(traits & set(listed) for listed in group.any_of)
+
+
 def available(provider, root, cloud):
     return provider.root() is root or SHARES in provider.traits and any(
         other.root() is root and other.aggregates & provider.aggregates for other in cloud)
@@ -113,7 +122,7 @@ def broken_by_one(provider, suffix, needs, query, cloud):
         has = provider.has.get(name)
         if not has or not has.min_unit <= amount <= has.max_unit or amount % has.step_size:
             yield 'Units'
-    if group.forbidden & provider.traits or suffix and not group.required <= provider.traits:
+    if group.forbidden & provider.traits or suffix and not meets(group, provider.traits):
         yield 'SlotTraits'
     member = provider.aggregates | (set() if suffix else provider.root().aggregates)
     if any(bool(member & set(aggregates)) == forbids for forbids, aggregates in group.rules):
@@ -125,7 +134,7 @@ def broken_by_one(provider, suffix, needs, query, cloud):
 def broken_by_all(placed, query, cloud):
     """The rules that an assignment breaks as a whole. It is a list of providers, suffixes and amounts."""
     together = set().union(*(provider.traits for provider, suffix, _ in placed if not suffix))
-    if '' in query.groups and not query.groups[''].required <= together:
+    if '' in query.groups and not meets(query.groups[''], together):
         yield 'Collective'
     for name in CLASSES:
         for provider in cloud:
@@ -199,7 +208,8 @@ def draw_group(chance, needs):
     required = set(some(chance, TRAITS, 2)) if chance.random() < 0.2 else set()
     forbidden = set(some(chance, TRAITS, 1)) - required if chance.random() < 0.3 else set()
     rules = [(chance.random() < 0.5, some(chance, AGGREGATES, 1) or ['A2'])] if chance.random() < 0.15 else []
-    return Group(needs, required, forbidden, rules, chance.choice(('P1', 'P2', 'P7')) if chance.random() < 0.1 else None)
+    any_of = [chance.sample(TRAITS, chance.randint(1, 2)) for _ in range(chance.randint(1, 2))] if chance.random() < 0.2 else []
+    return Group(needs, required, forbidden, any_of, rules, chance.choice(('P1', 'P2', 'P7')) if chance.random() < 0.1 else None)
 
 
 def draw_needs(chance, most):
@@ -213,7 +223,7 @@ def draw_query(chance):
     subtrees = []
     if suffixes and chance.random() < 0.4:
         group = draw_group(chance, {})
-        if group.required or group.forbidden:
+        if group.required or group.forbidden or group.any_of:
             groups['_NUMA'] = group
             subtrees.append([*suffixes, '_NUMA'])
         else:
@@ -249,7 +259,9 @@ def asked(name, chance, cloud, query, every, judged):
     line = f'no: rule {rule} {RULES[rule - 1]}\n' if rule else 'candidate\n'
     text, made = full(query.text(chance)), tables('\n'.join(provider.text() for provider in cloud))
     after = ['--after', full(names(every[at]))]
-    yield Case(f'{name}: tokens', ['tokens', text], lines(*map(names, found)), tables=made)
-    yield Case(f'{name}: candidates', ['candidates', text], full(body(found, query, cloud)), tables=made)
-    yield Case(f'{name}: candidates after a token', ['candidates', text + '&limit=2', *after], full(body(later, query, cloud)), tables=made)
-    yield Case(f'{name}: verify', ['verify', text, full(names(every[one]))], line, status=1 if rule else 0, tables=made)
+    older = [] if any(group.any_of for group in query.groups.values()) else [[], ['--microversion', '1.36']]
+    version = chance.choice([*older, ['--microversion', '1.39']])
+    yield Case(f'{name}: tokens', ['tokens', text, *version], lines(*map(names, found)), tables=made)
+    yield Case(f'{name}: candidates', ['candidates', text, *version], full(body(found, query, cloud)), tables=made)
+    yield Case(f'{name}: candidates after a token', ['candidates', text + '&limit=2', *after, *version], full(body(later, query, cloud)), tables=made)
+    yield Case(f'{name}: verify', ['verify', text, full(names(every[one])), *version], line, status=1 if rule else 0, tables=made)

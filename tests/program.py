@@ -69,6 +69,8 @@ HELP = [
       for words in (['--help'], ['-h'], ['help'])),
     *(Case(f'help: {" ".join(words)}', words, SOME, has=('--providers', '--inventories', '--usages', '--traits', '--aggregates'))
       for name in COMMANDS for words in ([name, '--help'], ['help', name])),
+    *(Case(f'help of {name} tells --microversion', [name, '--help'], SOME, has=('--microversion', '1.36', '1.39', 'in:A,B'))
+      for name in COMMANDS if name != 'check'),
     *(Case(f'help of {name} tells --after', [name, '--help'], SOME, has=('--after', 'QUERY')) for name in ('candidates', 'tokens')),
     Case('help of verify tells both words', ['verify', '--help'], SOME, has=('QUERY', 'TOKEN')),
 ]
@@ -88,7 +90,16 @@ WORDS = [
     refused('no inventories', ['tokens', 'resources=VCPU:2', '--providers', PROVIDERS], '--inventories <FILE>', 'Usage: ac_cli tokens'),
     refused('no providers', ['check', '--inventories', INVENTORIES]),
     refused('no such option', [*tokens('resources=VCPU:2'), '--colour', 'red'], '--colour', 'Usage: ac_cli tokens'),
-    refused('a microversion', [*tokens('resources=VCPU:2'), '--microversion', '1.36']),
+    refused('a later microversion', [*tokens('resources=VCPU:2'), '--microversion', '1.40'], "invalid value '1.40'", '1.36', '1.39', 'Usage: ac_cli'),
+    refused('an earlier microversion', over(['candidates', 'resources=VCPU:2', '--microversion=1.35']), "invalid value '1.35'"),
+    refused('no number for a microversion', over(['verify', 'resources=VCPU:2', ONE_HOST.strip(), '--microversion', ''])),
+    refused('a microversion with a zero behind it', [*tokens('resources=VCPU:2'), '--microversion', '1.390']),
+    refused('two microversions', [*tokens('resources=VCPU:2'), '--microversion', '1.36', '--microversion', '1.36'], '--microversion'),
+    refused('--microversion without a value', [*tokens('resources=VCPU:2'), '--microversion']),
+    refused('a microversion for check', [*check(), '--microversion', '1.36']),
+    refused('help is not asked by a value', [*tokens('resources=VCPU:2'), '--microversion', '--help']),
+    Case('the microversion that is the default', [*tokens('resources=VCPU:12'), '--microversion', '1.36'], ONE_HOST),
+    Case('the later microversion, before the query', over(['tokens', '--microversion=1.39', 'resources=VCPU:12']), ONE_HOST),
     refused('a version', ['--version']),
     refused('an option twice', [*tokens('resources=VCPU:2'), '--providers', PROVIDERS], '--providers'),
     refused('a query that looks like an option', tokens('-resources=VCPU:2')),
@@ -195,12 +206,13 @@ def ruled(page):
         cloud = '\n'.join(row.strip('|') for row in table[1].splitlines())
         for line in table[2].splitlines():
             query, *names = re.findall(r'`([^`]*)`', line)
+            version = ['--microversion', '1.39'] if ' by 1.39' in line else []
             words = {'tokens': [full(query)], 'verify': [full(query), full(names[0])] if names else []}
             if ', assignment `' in line:
-                yield Case(f'{page}: {line}', ['verify', *words['verify']], names[1] + '\n', status=status_of(names[1]), tables=tables(cloud))
+                yield Case(f'{page}: {line}', ['verify', *words['verify'], *version], names[1] + '\n', status=status_of(names[1]), tables=tables(cloud))
             else:
                 after = ['--after', full(names.pop(0))] if ' after `' in line else []
-                yield Case(f'{page}: {line}', ['tokens', *words['tokens'], *after], lines(*names), tables=tables(cloud))
+                yield Case(f'{page}: {line}', ['tokens', *words['tokens'], *after, *version], lines(*names), tables=tables(cloud))
 
 
 def files(case, folder):

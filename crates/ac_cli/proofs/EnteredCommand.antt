@@ -7,7 +7,7 @@ use Rattle.std.specs.Str.{bytes_eq}
 use Rattle.std.proofs.lemmas.Bool.{cases_Bool}
 use Rattle.std.proofs.lemmas.Slice.Eq.{bytes_eq-Decides}
 use Rattle.clap.specs.Facts.{explicit_source}
-use Rattle.clap.specs.Faults.{check_fault, defaults_fault, entered_fault, level_fault, other_fault, settle_fault, step_fault, turn_fault, walk_fault, word_fault}
+use Rattle.clap.specs.Faults.{check_fault, defaults_fault, entered_fault, fault_of, level_fault, other_fault, settle_fault, step_fault, turn_fault, walk_fault, word_fault}
 use Rattle.clap.specs.Kinds.{or_else}
 use Rattle.clap.specs.Lexer.{long_of, short_of}
 use Rattle.clap.specs.Simple.{App, Shape, argument_words, built, entered, label_of, names_of, rows_at}
@@ -15,7 +15,7 @@ use Rattle.clap.specs.Takes.{is_given}
 use Rattle.clap.specs.Walk.{Held, Names, Outcome, Row, Rule, Step, Text, Waiting, Walk, after_flag, after_step, answers_to, arg_by_index, arg_by_long, bundle, done, finished, idle, is_empty, long_met, long_or_other, next, nothing_held, option, plain, plain_word, positional, refused, rows_after, settled, short_or_plain, subcommand, subcommand_met, subcommand_or_other, to_positional, trailing, value, waits, walk, walk_from, walked, walked_from, word_met}
 use Rattle.clap.proofs.SimpleLemmas.{is_nil}
 use Rattle.clap.proofs.OnLiterals.{clap_on_literals}
-use Rattle.ac_cli.specs.Words.{HasEntry, IsComplete, faults, name_of, named, program, query_of, token_of}
+use Rattle.ac_cli.specs.Words.{HasEntry, IsComplete, name_of, named, program, query_of, token_of}
 use Rattle.ac_run.specs.Jobs.{HasToken}
 use Rattle.ac_run.specs.declared.job.Command.{Command}
 use Rattle.ac_run.specs.declared.job.Command.TheVariants.{Check, Candidates, Tokens, Verify}
@@ -279,8 +279,8 @@ unfolding clap_on_literals
 program-served = refl
 
 -- where no fault is found, a command was found with all that it needs
-pub named-complete : (words : List Text) → faults words ≡ [] → IsComplete (named words)
-unfolding faults named
+pub named-complete : (words : List Text) → fault_of program words ≡ [] → IsComplete (named words)
+unfolding named
 named-complete words e =
     let a = built program in
     let rest = argument_words program words in

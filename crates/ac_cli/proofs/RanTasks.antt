@@ -1,16 +1,18 @@
 -- A run of a task is a run of an equal one.
 use Rattle.std.proofs.Common.{◌≡◌, ◌∙◌, ℕ, List, Option, ap, subst}
+use Rattle.ac_query.specs.declared.version.Version.{Version}
 use Rattle.ac_run.specs.Answer.{Task}
 use Rattle.ac_run.specs.declared.job.Command.{Command}
 use Rattle.ac_run.specs.declared.job.Inputs.{Inputs}
 use Rattle.ac_cli.specs.Program.{Ran, Streams}
 
-abbrev task_with : Command → List ℕ → Option (List ℕ) → Task
-task_with command query token = record { command = command; query = query; token = token }
+abbrev task_with : Command → List ℕ → Version → Option (List ℕ) → Task
+task_with command query version token = record { command = command; query = query; version = version; token = token }
 
-pub same_task : {c d : Command} {q r : List ℕ} {t u : Option (List ℕ)} → c ≡ d → q ≡ r → t ≡ u → task_with c q t ≡ task_with d r u
-same_task {c} {d} {q} {r} {t} {u} command query token =
-    ap (λ x. task_with x q t) command ∙ ap (λ x. task_with d x t) query ∙ ap (λ x. task_with d r x) token
+pub same_task : {c d : Command} {q r : List ℕ} {v w : Version} {t u : Option (List ℕ)} → c ≡ d → q ≡ r → v ≡ w → t ≡ u
+    → task_with c q v t ≡ task_with d r w u
+same_task {c} {d} {q} {r} {v} {w} {t} {u} command query version token =
+    ap (λ x. task_with x q v t) command ∙ ap (λ x. task_with d x v t) query ∙ ap (λ x. task_with d r x t) version ∙ ap (λ x. task_with d r w x) token
 
 pub ran_same : {R : Type 0} (remaining : R → Option (List ℕ)) (failures : R → ℕ) (t u : Task) (from to : Inputs R) (s : Streams) (given : ℕ) → t ≡ u
     → Ran remaining failures t from to s given → Ran remaining failures u from to s given

@@ -7,6 +7,7 @@ use Rattle.clap.specs.declared.error.kind.ErrorKind.TheVariants.{DisplayHelp}
 use Rattle.ac_base.specs.Devices.{Rises, TakesPart}
 use Rattle.ac_base.specs.Gathered.{IsFirstPart}
 use Rattle.ac_tables.specs.declared.fault.Table.{Table}
+use Rattle.ac_query.specs.declared.version.Version.TheVariants.{V136}
 use Rattle.ac_run.specs.Answer.{Task, answer}
 use Rattle.ac_run.specs.Feeds.{Bytes, FeedRose, TellBytes}
 use Rattle.ac_run.specs.Lines.{memory_line, output_line, unreadable_line}
@@ -72,7 +73,7 @@ pub record Ran {R : Type 0} (remaining : R → Option (List ℕ)) (failures : R 
 
 -- the task that a line asks for
 abbrev pub task_asked : Line → Task
-task_asked line = record { command = line.command; query = line.query; token = line.token }
+task_asked line = record { command = line.command; query = line.query; version = line.version; token = line.token }
 
 -- The path that is given for a table was refused, which is told.
 pub record IsUnopened (refuses : List ℕ → Type 0) (line : Line) (s : Streams) (given : ℕ) : Type 0 where
@@ -129,7 +130,7 @@ EndsForWords Ends words s given =
 
 -- the task and the tables of a call without words
 abbrev pub sample_task : Task
-sample_task = record { command = Tokens; query = codes "resources=VCPU:2"; token = None }
+sample_task = record { command = Tokens; query = codes "resources=VCPU:2"; version = V136; token = None }
 
 unfoldable pub sample_bytes : Bytes
 sample_bytes = record {

@@ -1,10 +1,15 @@
 -- The command line: what `clap` is told of it, and what it states of the words.
-use Rattle.std.specs.Prelude.{◌≡◌, ◌≢◌, ⊤, List, [], Bool, Option, Some, None, true, codes, is_some}
+use Rattle.std.specs.Prelude.{◌≡◌, ◌≢◌, ◌&&◌, ⊤, List, [], ◌∷◌, Bool, Option, Some, None, true, codes, is_some, if◌then◌else◌}
+use Rattle.std.specs.Str.{bytes_eq}
+use Rattle.clap.specs.Kinds.{or_else}
+use Rattle.clap.specs.Walk.{is_empty}
 use Rattle.clap.specs.Words.{App, IsAmong, Kinds, Row, Rule, Text, fault_of, first_of, new_app, new_rule, subcommand_of, takes, with_rule, with_subcommand}
 use Rattle.clap.specs.declared.error.kind.ErrorKind.{ErrorKind}
-use Rattle.clap.specs.declared.error.kind.ErrorKind.TheVariants.{DisplayHelp}
+use Rattle.clap.specs.declared.error.kind.ErrorKind.TheVariants.{DisplayHelp, InvalidValue}
 use Rattle.ac_tables.specs.declared.fault.Table.{Table}
 use Rattle.ac_tables.specs.declared.fault.Table.TheVariants.{Providers, Inventories, Usages, Traits, Aggregates}
+use Rattle.ac_query.specs.declared.version.Version.{Version}
+use Rattle.ac_query.specs.declared.version.Version.TheVariants.{V136, V139}
 use Rattle.ac_run.specs.Jobs.{HasToken}
 use Rattle.ac_run.specs.declared.job.Command.{Command}
 use Rattle.ac_run.specs.declared.job.Command.TheVariants.{Check, Candidates, Tokens, Verify}
@@ -32,6 +37,10 @@ with_tables app =
     (needed_rule (codes "providers"))) (needed_rule (codes "inventories")))
     (option_rule (codes "usages"))) (option_rule (codes "traits"))) (option_rule (codes "aggregates"))
 
+-- the options of a command with a query: those of the tables, and the version
+abbrev pub with_options : App → App
+with_options app = with_rule (with_tables app) (option_rule (codes "microversion"))
+
 abbrev pub query_app : Text → App
 query_app name = with_rule (new_app name) (word_rule (codes "query"))
 
@@ -40,10 +49,10 @@ check_app = with_tables (new_app (codes "check"))
 
 -- a command that writes candidates
 abbrev pub search_app : Text → App
-search_app name = with_rule (with_tables (query_app name)) (option_rule (codes "after"))
+search_app name = with_rule (with_options (query_app name)) (option_rule (codes "after"))
 
 abbrev pub verify_app : App
-verify_app = with_tables (with_rule (query_app (codes "verify")) (word_rule (codes "token")))
+verify_app = with_options (with_rule (query_app (codes "verify")) (word_rule (codes "token")))
 
 abbrev pub needs_command : App → App
 needs_command app = record app { top = record app.top { subcommand_required = true } }
@@ -59,13 +68,33 @@ program =
 unfoldable pub named : List Text → Option (Text × List Row)
 named words = subcommand_of program words
 
--- the parse fails for want of memory alone
+-- the version of a text; 1.36 where there is none
+abbrev pub version_named : Option Text → Option Version
+version_named None = Some V136
+version_named (Some text) =
+    if bytes_eq text (codes "1.36") then Some V136 else if bytes_eq text (codes "1.39") then Some V139 else None
+
+-- the version that reads the query
+abbrev pub version_of : List Row → Option Version
+version_of rows = version_named (first_of (codes "microversion") rows)
+
+-- another version is a value that isn't valid
+abbrev pub version_kinds : Option Version → Kinds
+version_kinds None = InvalidValue ∷ []
+version_kinds (Some version) = []
+
+-- the fault of the version that is named with a command
+abbrev pub version_faults : Option (Text × List Row) → Kinds
+version_faults None = []
+version_faults (Some p) = version_kinds (version_of p.1)
+
+-- `clap` refuses them for want of memory alone, and their version is known
 unfoldable pub is_taken : List Text → Bool
-is_taken words = takes program words
+is_taken words = takes program words && is_empty (version_faults (named words))
 
 -- the kinds of fault that they may be refused for: none where they are taken
 unfoldable pub faults : List Text → Kinds
-faults words = fault_of program words
+faults words = or_else (fault_of program words) (version_faults (named words))
 
 -- ---- what is made of it
 
@@ -73,6 +102,7 @@ faults words = fault_of program words
 pub record Line : Type 0 where
   pub command : Command
   pub query : Text
+  pub version : Version
   pub token : Option Text
   pub providers : Text
   pub inventories : Text
@@ -100,6 +130,7 @@ token_of _ rows = first_of (codes "after") rows
 -- the line has these entries
 pub record IsMadeOf (rows : List Row) (line : Line) : Type 0 where
   pub query : query_of line.command rows ≡ Some line.query
+  pub version : version_of rows ≡ Some line.version
   pub token : token_of line.command rows ≡ line.token
   pub judged : HasToken line.command line.token
   pub providers : first_of (codes "providers") rows ≡ Some line.providers

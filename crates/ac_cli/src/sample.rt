@@ -5,6 +5,7 @@ ghost use Rattle.ac_run.specs.Jobs.{task_of};
 ghost use Rattle.ac_cli.specs.Program.{sample_bytes, sample_task};
 
 use ac_base::{Feed, FromRead};
+use ac_query::Version;
 use ac_run::{Command, Inputs, Job};
 
 const PROVIDERS: &str = "\
@@ -24,6 +25,7 @@ pub fn job() -> Job<'static>
     Job {
         command: Command::Tokens,
         query: "resources=VCPU:2",
+        version: Version::V136,
         token: None,
     }
 }

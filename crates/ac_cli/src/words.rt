@@ -7,6 +7,7 @@ ghost use Rattle.ac_cli.specs.declared.words.WordFault.TheVariants.{NoMemory};
 mod entries;
 mod grammar;
 
+use ac_query::Version;
 pub use ac_run::{Command, Job};
 pub use ac_tables::Table;
 use clap::error::ErrorKind;
@@ -18,6 +19,7 @@ use std::marker::Model;
 pub struct Words {
     command: Command,
     query: String,
+    version: Version,
     token: Option<String>,
     providers: String,
     inventories: String,
@@ -32,6 +34,7 @@ impl Model for Words {
     ghost view = { λ w. record {
       command = w.command;
       query = string_bytes w.query;
+      version = w.version;
       token = option_map string_bytes w.token;
       providers = string_bytes w.providers;
       inventories = string_bytes w.inventories;
@@ -46,11 +49,13 @@ impl Words {
     pub fn job(&self) -> Job<'_>
         ensures command { result.command ≡ self.now.command }
         ensures query { result.query.now ≡ self.now.query }
+        ensures version { result.version ≡ self.now.version }
         ensures token { option_map (λ token. token.now) result.token ≡ self.now.token }
     {
         Job {
             command: self.command,
             query: self.query.as_str(),
+            version: self.version,
             token: self.token.as_deref(),
         }
     }
@@ -72,7 +77,7 @@ impl Words {
 /// Why words were not accepted.
 #[derive(Debug, Drop)]
 pub enum WordFault {
-    /// They are refused: `clap`'s text on what is wrong with them.
+    /// They are refused: a text on what is wrong with them, as `clap` writes it.
     Refused(String),
     /// They ask for help: `clap`'s text of it.
     Help(String),
@@ -108,7 +113,7 @@ pub fn read_words(alloc: Global, words: &[String]) -> Result<Words, WordFault>
 {
     let grammar = grammar::program(alloc)?;
     match grammar.try_get_matches_from(words) {
-        Ok(matches) => Ok(entries::words_of(alloc, &matches)?),
+        Ok(matches) => entries::words_of(alloc, &matches),
         Err(error) => Err(fault_of(alloc, &error)?),
     }
 }

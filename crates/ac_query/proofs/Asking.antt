@@ -10,6 +10,7 @@ use Rattle.std.proofs.lemmas.Map.Entries.{lookup_from_place}
 use Rattle.std.proofs.lemmas.Map.Keys.{IsDistinct-from_sorted}
 use Rattle.ac_base.specs.Texts.{text_cmp}
 use Rattle.ac_tables.proofs.SortedSets.{rising_sorted}
+use Rattle.ac_query.specs.declared.version.Version.{Version}
 use Rattle.ac_query.specs.Texts.{has_text, in_order_with}
 use Rattle.ac_query.specs.Values.{Part, Given}
 use Rattle.ac_query.specs.Pairs.{given}
@@ -72,42 +73,42 @@ suffixes_named : (es : List (List ℕ × Group)) → map (λ e. e.0) (map of_suf
 suffixes_named [] = refl
 suffixes_named (e ∷ es) = ap (λ l. Some e.0 ∷ l) (suffixes_named es)
 
-module _ (pairs : List (List ℕ × List ℕ)) (fine : first_fault (pairs_conditions 1 [] pairs) ≡ None) where
+module _ (version : Version) (pairs : List (List ℕ × List ℕ)) (fine : first_fault (pairs_conditions version 1 [] pairs) ≡ None) where
   abbrev all : List Given
-  all = given pairs
+  all = given version pairs
 
   group_fits : (s : Option (List ℕ)) (g : Group) → Some g ≡ grown_all None (parts_of s all) → AsksOfGroup (parts_of s all) g
   group_fits s g is =
-      subst (AsksOfGroup (parts_of s all)) (sym (grown_is (parts_of s all) g is)) (group_asks (parts_of s all) (needs_once pairs fine s) (tree_once pairs fine s))
+      subst (AsksOfGroup (parts_of s all)) (sym (grown_is (parts_of s all) g is)) (group_asks (parts_of s all) (needs_once version pairs fine s) (tree_once version pairs fine s))
 
   plain_fits : (o : Option Group) → o ≡ grown_all None (parts_of None all) → AllByRecursion (λ e. AsksOfGroup (parts_of e.0 all) e.1) (plain_groups o)
   plain_fits None is = tt
   plain_fits (Some g) is = (group_fits None g is, tt)
 
-  sorted : IsStrictlySortedBy text_cmp (keys_of (gathered pairs).suffixed)
+  sorted : IsStrictlySortedBy text_cmp (keys_of (gathered version pairs).suffixed)
   sorted = subst (IsStrictlySortedBy text_cmp) (sym (suffixes_all nothing all)) (rising_sorted nat_list_cmp_total (filter_map suffix_in all))
 
-  suffixed_fits : AllByRecursion (λ e. AsksOfGroup (parts_of e.0 all) e.1) (map of_suffix (gathered pairs).suffixed)
+  suffixed_fits : AllByRecursion (λ e. AsksOfGroup (parts_of e.0 all) e.1) (map of_suffix (gathered version pairs).suffixed)
   suffixed_fits =
-      all_map of_suffix (λ e. AsksOfGroup (parts_of e.0 all) e.1) (gathered pairs).suffixed
-      (all_from_places _ (gathered pairs).suffixed
+      all_map of_suffix (λ e. AsksOfGroup (parts_of e.0 all) e.1) (gathered version pairs).suffixed
+      (all_from_places _ (gathered version pairs).suffixed
       (λ i e is. group_fits (Some e.0) e.1
-      (sym (lookup_from_place (eq_by_cmp_equiv nat_list_cmp_total) (gathered pairs).suffixed i e.0 e.1 (IsDistinct-from_sorted text_cmp _ sorted) is)
+      (sym (lookup_from_place (eq_by_cmp_equiv nat_list_cmp_total) (gathered version pairs).suffixed i e.0 e.1 (IsDistinct-from_sorted text_cmp _ sorted) is)
       ∙ found_grown e.0 nothing all)))
 
-  pub asks : Asks pairs (as_asked (gathered pairs))
+  pub asks : Asks version pairs (as_asked (gathered version pairs))
   asks = record {
     groups =
-        map-append (λ e. e.0) (plain_groups (gathered pairs).plain) (map of_suffix (gathered pairs).suffixed)
+        map-append (λ e. e.0) (plain_groups (gathered version pairs).plain) (map of_suffix (gathered version pairs).suffixed)
         ∙ ap₂ (λ a b. a ++ b)
         (ap (λ o. map (λ e. e.0) (plain_groups o)) (plain_grown nothing all) ∙ plain_named (parts_of None all))
-        (suffixes_named (gathered pairs).suffixed ∙ ap (map (λ s. Some s)) (suffixes_all nothing all));
-    parts = all_append _ (plain_groups (gathered pairs).plain) _ (plain_fits (gathered pairs).plain (plain_grown nothing all)) suffixed_fits;
-    policy = subst (λ v. IsTold None v (filter_map policy_in all)) (sym (policy_latest nothing all)) (told_from_short None (filter_map policy_in all) (policy_once pairs fine));
+        (suffixes_named (gathered version pairs).suffixed ∙ ap (map (λ s. Some s)) (suffixes_all nothing all));
+    parts = all_append _ (plain_groups (gathered version pairs).plain) _ (plain_fits (gathered version pairs).plain (plain_grown nothing all)) suffixed_fits;
+    policy = subst (λ v. IsTold None v (filter_map policy_in all)) (sym (policy_latest nothing all)) (told_from_short None (filter_map policy_in all) (policy_once version pairs fine));
     subtrees = subtrees_all nothing all;
     root_required = root_required_all nothing all;
     root_forbidden = root_forbidden_all nothing all;
-    limit = subst (λ v. IsTold None v (filter_map limit_in all)) (sym (limit_latest nothing all)) (told_from_short None (filter_map limit_in all) (limit_once pairs fine));
+    limit = subst (λ v. IsTold None v (filter_map limit_in all)) (sym (limit_latest nothing all)) (told_from_short None (filter_map limit_in all) (limit_once version pairs fine));
   }
 
 -- ---- no other record
@@ -120,7 +121,8 @@ group_same : (ps : List Part) (g h : Group) → AsksOfGroup ps g → AsksOfGroup
 group_same ps g h a b =
     ap (λ v. record g { needs = v }) (told_same [] g.needs h.needs (filter_map needs_in ps) a.needs b.needs)
     ∙ ap (λ v. record g { needs = h.needs; required = v }) (a.required ∙ sym b.required)
-    ∙ ap (λ v. record h { forbidden = v; member_of = g.member_of; in_tree = g.in_tree }) (a.forbidden ∙ sym b.forbidden)
+    ∙ ap (λ v. record h { forbidden = v; any_of = g.any_of; member_of = g.member_of; in_tree = g.in_tree }) (a.forbidden ∙ sym b.forbidden)
+    ∙ ap (λ v. record h { any_of = v; member_of = g.member_of; in_tree = g.in_tree }) (a.any_of ∙ sym b.any_of)
     ∙ ap (λ v. record h { member_of = v; in_tree = g.in_tree }) (a.member_of ∙ sym b.member_of)
     ∙ ap (λ v. record h { in_tree = v }) (told_same None g.in_tree h.in_tree (filter_map tree_in ps) a.in_tree b.in_tree)
 
@@ -135,15 +137,15 @@ groups_same gs (e ∷ es) (f ∷ fs) same a b =
     let group : e.1 ≡ f.1 = group_same (parts_of f.0 gs) e.1 f.1 (subst (λ s. AsksOfGroup (parts_of s gs) e.1) first a.0) b.0 in
     ap₂ (λ d l. d ∷ l) (ap₂ (λ s g. (s, g)) first group) (groups_same gs es fs later a.1 b.1)
 
-pub asked_same : (pairs : List (List ℕ × List ℕ)) (a b : Asked) → Asks pairs a → Asks pairs b → a ≡ b
-asked_same pairs a b h k =
-    ap (λ v. record a { groups = v }) (groups_same (given pairs) a.groups b.groups (h.groups ∙ sym k.groups) h.parts k.parts)
-    ∙ ap (λ v. record a { groups = b.groups; policy = v }) (told_same None a.policy b.policy (filter_map policy_in (given pairs)) h.policy k.policy)
+pub asked_same : (version : Version) (pairs : List (List ℕ × List ℕ)) (a b : Asked) → Asks version pairs a → Asks version pairs b → a ≡ b
+asked_same version pairs a b h k =
+    ap (λ v. record a { groups = v }) (groups_same (given version pairs) a.groups b.groups (h.groups ∙ sym k.groups) h.parts k.parts)
+    ∙ ap (λ v. record a { groups = b.groups; policy = v }) (told_same None a.policy b.policy (filter_map policy_in (given version pairs)) h.policy k.policy)
     ∙ ap (λ v. record a { groups = b.groups; policy = b.policy; subtrees = v }) (h.subtrees ∙ sym k.subtrees)
     ∙ ap (λ v. record b { root_required = v; root_forbidden = a.root_forbidden; limit = a.limit }) (h.root_required ∙ sym k.root_required)
     ∙ ap (λ v. record b { root_forbidden = v; limit = a.limit }) (h.root_forbidden ∙ sym k.root_forbidden)
-    ∙ ap (λ v. record b { limit = v }) (told_same None a.limit b.limit (filter_map limit_in (given pairs)) h.limit k.limit)
+    ∙ ap (λ v. record b { limit = v }) (told_same None a.limit b.limit (filter_map limit_in (given version pairs)) h.limit k.limit)
 
 pub asks_once : AsksOnce
 unfolding asked_by
-asks_once pairs fine = (asks pairs fine, λ a h. asked_same pairs a (as_asked (gathered pairs)) h (asks pairs fine))
+asks_once version pairs fine = (asks version pairs fine, λ a h. asked_same version pairs a (as_asked (gathered version pairs)) h (asks version pairs fine))

@@ -6,6 +6,7 @@ use Rattle.std.specs.Str.{bytes_eq}
 use Rattle.std.specs.BTreeSet.{insert_key}
 use Rattle.std.proofs.lemmas.Map.Lookups.{exact_bytes}
 use Rattle.ac_base.specs.Texts.{text_cmp}
+use Rattle.ac_query.specs.declared.version.Version.{Version}
 use Rattle.ac_query.specs.Texts.{has_text}
 use Rattle.ac_query.specs.Parameters.{Parameter, parameter}
 use Rattle.ac_query.specs.Faults.{conditions_of, pairs_conditions}
@@ -43,18 +44,18 @@ has_text-insert (n ∷ names) name x = by_order (text_cmp name n) refl (has_text
     by_order Greater is later = rw is (ap (λ b. bytes_eq x n || b) later)
 
 -- names of which the same are there
-module _ (n : ℕ) (p : List ℕ × List ℕ) (a b : List (List ℕ)) (same : has_text a p.0 ≡ has_text b p.0) where
-  pair_same : (o : Option Parameter) → conditions_of n a p o ≡ conditions_of n b p o
+module _ (version : Version) (n : ℕ) (p : List ℕ × List ℕ) (a b : List (List ℕ)) (same : has_text a p.0 ≡ has_text b p.0) where
+  pair_same : (o : Option Parameter) → conditions_of version n a p o ≡ conditions_of version n b p o
   pair_same None = refl
   pair_same (Some q) = rw same refl
 
-conditions_same : (n : ℕ) (a b : List (List ℕ)) (ps : List (List ℕ × List ℕ)) → ((x : List ℕ) → has_text a x ≡ has_text b x) → pairs_conditions n a ps ≡ pairs_conditions n b ps
-conditions_same n a b [] same = refl
-conditions_same n a b (p ∷ ps) same =
-    ap₂ (λ c cs. c ++ cs) (pair_same n p a b (same p.0) (parameter p.0))
-    (conditions_same (n + 1) (a ++ p.0 ∷ []) (b ++ p.0 ∷ []) ps
+conditions_same : (version : Version) (n : ℕ) (a b : List (List ℕ)) (ps : List (List ℕ × List ℕ)) → ((x : List ℕ) → has_text a x ≡ has_text b x) → pairs_conditions version n a ps ≡ pairs_conditions version n b ps
+conditions_same version n a b [] same = refl
+conditions_same version n a b (p ∷ ps) same =
+    ap₂ (λ c cs. c ++ cs) (pair_same version n p a b (same p.0) (parameter p.0))
+    (conditions_same version (n + 1) (a ++ p.0 ∷ []) (b ++ p.0 ∷ []) ps
     (λ x. has_text-push a p.0 x ∙ ap (λ h. h || (bytes_eq x p.0 || false)) (same x) ∙ sym (has_text-push b p.0 x)))
 
-pub earlier_set : (n : ℕ) (names : List (List ℕ)) (name : List ℕ) (ps : List (List ℕ × List ℕ))
-    → pairs_conditions n (insert_key text_cmp names name) ps ≡ pairs_conditions n (names ++ name ∷ []) ps
-earlier_set n names name ps = conditions_same n _ _ ps (has_text-insert names name)
+pub earlier_set : (version : Version) (n : ℕ) (names : List (List ℕ)) (name : List ℕ) (ps : List (List ℕ × List ℕ))
+    → pairs_conditions version n (insert_key text_cmp names name) ps ≡ pairs_conditions version n (names ++ name ∷ []) ps
+earlier_set version n names name ps = conditions_same version n _ _ ps (has_text-insert names name)

@@ -15,9 +15,9 @@ use Rattle.std.proofs.lemmas.List.{append-nil}
 use Rattle.std.proofs.lemmas.List.Sums.{fold-append}
 use Rattle.ac_base.specs.Texts.{text_cmp}
 use Rattle.ac_query.specs.Texts.{in_order_with}
-use Rattle.ac_query.specs.Values.{Part, needs, traits, aggregates, tree, Given, in_group, root_traits, policy, subtree, at_most}
+use Rattle.ac_query.specs.Values.{Part, needs, traits, any_of, aggregates, tree, Given, in_group, root_traits, policy, subtree, at_most}
 use Rattle.ac_query.specs.Asked.{Group}
-use Rattle.ac_query.specs.Asks.{IsTold, needs_in, required_in, forbidden_in, rule_in, tree_in, AsksOfGroup, parts_of, suffix_in, root_required_in, root_forbidden_in, policy_in, subtree_in, limit_in}
+use Rattle.ac_query.specs.Asks.{IsTold, needs_in, required_in, forbidden_in, any_of_in, rule_in, tree_in, AsksOfGroup, parts_of, suffix_in, root_required_in, root_forbidden_in, policy_in, subtree_in, limit_in}
 use Rattle.ac_query.specs.Gathered.{Gathered, empty_group, with_part, grown, with_suffixed, with_given}
 use Rattle.ac_query.proofs.Once.{IsShort, none, one}
 
@@ -36,6 +36,7 @@ module _ where
   needs_latest g [] = refl
   needs_latest g (needs v ∷ ps) = needs_latest (with_part g (needs v)) ps
   needs_latest g (traits t ∷ ps) = needs_latest (with_part g (traits t)) ps
+  needs_latest g (any_of a ∷ ps) = needs_latest (with_part g (any_of a)) ps
   needs_latest g (aggregates r ∷ ps) = needs_latest (with_part g (aggregates r)) ps
   needs_latest g (tree u ∷ ps) = needs_latest (with_part g (tree u)) ps
 
@@ -43,6 +44,7 @@ module _ where
   tree_latest g [] = refl
   tree_latest g (needs v ∷ ps) = tree_latest (with_part g (needs v)) ps
   tree_latest g (traits t ∷ ps) = tree_latest (with_part g (traits t)) ps
+  tree_latest g (any_of a ∷ ps) = tree_latest (with_part g (any_of a)) ps
   tree_latest g (aggregates r ∷ ps) = tree_latest (with_part g (aggregates r)) ps
   tree_latest g (tree u ∷ ps) = tree_latest (with_part g (tree u)) ps
 
@@ -50,6 +52,7 @@ module _ where
   required_all g [] = refl
   required_all g (needs v ∷ ps) = required_all (with_part g (needs v)) ps
   required_all g (traits t ∷ ps) = required_all (with_part g (traits t)) ps ∙ sym (fold-append (insert_key text_cmp) g.required t.required (flat_map required_in ps))
+  required_all g (any_of a ∷ ps) = required_all (with_part g (any_of a)) ps
   required_all g (aggregates r ∷ ps) = required_all (with_part g (aggregates r)) ps
   required_all g (tree u ∷ ps) = required_all (with_part g (tree u)) ps
 
@@ -57,6 +60,7 @@ module _ where
   forbidden_all g [] = refl
   forbidden_all g (needs v ∷ ps) = forbidden_all (with_part g (needs v)) ps
   forbidden_all g (traits t ∷ ps) = forbidden_all (with_part g (traits t)) ps ∙ sym (fold-append (insert_key text_cmp) g.forbidden t.forbidden (flat_map forbidden_in ps))
+  forbidden_all g (any_of a ∷ ps) = forbidden_all (with_part g (any_of a)) ps
   forbidden_all g (aggregates r ∷ ps) = forbidden_all (with_part g (aggregates r)) ps
   forbidden_all g (tree u ∷ ps) = forbidden_all (with_part g (tree u)) ps
 
@@ -64,8 +68,17 @@ module _ where
   rules_all g [] = sym (append-nil g.member_of)
   rules_all g (needs v ∷ ps) = rules_all (with_part g (needs v)) ps
   rules_all g (traits t ∷ ps) = rules_all (with_part g (traits t)) ps
+  rules_all g (any_of a ∷ ps) = rules_all (with_part g (any_of a)) ps
   rules_all g (aggregates r ∷ ps) = rules_all (with_part g (aggregates r)) ps ∙ append_assoc g.member_of (r ∷ []) (filter_map rule_in ps)
   rules_all g (tree u ∷ ps) = rules_all (with_part g (tree u)) ps
+
+  pub any_of_all : (g : Group) (ps : List Part) → (fold with_part g ps).any_of ≡ g.any_of ++ filter_map any_of_in ps
+  any_of_all g [] = sym (append-nil g.any_of)
+  any_of_all g (needs v ∷ ps) = any_of_all (with_part g (needs v)) ps
+  any_of_all g (traits t ∷ ps) = any_of_all (with_part g (traits t)) ps
+  any_of_all g (any_of a ∷ ps) = any_of_all (with_part g (any_of a)) ps ∙ append_assoc g.any_of (a ∷ []) (filter_map any_of_in ps)
+  any_of_all g (aggregates r ∷ ps) = any_of_all (with_part g (aggregates r)) ps
+  any_of_all g (tree u ∷ ps) = any_of_all (with_part g (tree u)) ps
 
 -- a group of all its parts
 pub group_asks : (ps : List Part) → IsShort (filter_map needs_in ps) → IsShort (filter_map tree_in ps) → AsksOfGroup ps (fold with_part empty_group ps)
@@ -73,6 +86,7 @@ group_asks ps needs_short tree_short = record {
   needs = subst (λ n. IsTold [] n (filter_map needs_in ps)) (sym (needs_latest empty_group ps)) (told_from_short [] (filter_map needs_in ps) needs_short);
   required = required_all empty_group ps;
   forbidden = forbidden_all empty_group ps;
+  any_of = any_of_all empty_group ps;
   member_of = rules_all empty_group ps;
   in_tree = subst (λ u. IsTold None u (filter_map tree_in ps)) (sym (tree_latest empty_group ps)) (told_from_short None (filter_map tree_in ps) tree_short);
 }

@@ -7,9 +7,10 @@ use Rattle.ac_base.specs.Texts.{id_value}
 use Rattle.ac_query.specs.declared.parameter.Field.TheVariants as field
 use Rattle.std.specs.Str.{bytes_eq}
 use Rattle.std.proofs.lemmas.Cmp.{nat_list_eq_equiv}
+use Rattle.ac_query.specs.declared.version.Version.{Version}
 use Rattle.ac_query.specs.Texts.{has_text}
 use Rattle.ac_query.specs.Parameters.{Parameter, of_group, root_required, group_policy, same_subtree, limit, parameter, may_repeat}
-use Rattle.ac_query.specs.Values.{Part, needs, traits, aggregates, tree, Given, in_group, root_traits, policy, subtree, at_most, given_of, needs_value, traits_value, rule_value, policy_value, subtree_value, amount_value}
+use Rattle.ac_query.specs.Values.{Part, needs, traits, any_of, aggregates, tree, Given, in_group, root_traits, policy, subtree, at_most, given_of, needs_value, traits_value, names_value, any_of_text, required_part, required_value, rule_value, policy_value, subtree_value, amount_value}
 use Rattle.ac_query.specs.Asks.{same_suffix, part_of, parts_of, needs_in, tree_in, policy_in, limit_in}
 use Rattle.ac_query.specs.Pairs.{read_pair, given}
 use Rattle.ac_query.specs.Faults.{Fault, first_fault, is_repeat, conditions_of, pair_conditions, pairs_conditions}
@@ -33,77 +34,77 @@ second_part ((true, f) ∷ a) b h = absurd (cc)
 second_part ((false, f) ∷ a) b h = second_part a b h
 
 -- a pair without a fault: its parameter, which is no repeat, and what it gives
-record IsFine (earlier : List (List ℕ)) (p : List ℕ × List ℕ) : Type 0 where
+record IsFine (version : Version) (earlier : List (List ℕ)) (p : List ℕ × List ℕ) : Type 0 where
   of : Parameter
   is : parameter p.0 ≡ Some of
-  fresh : is_repeat earlier p.0 of ≡ false
+  fresh : is_repeat version earlier p.0 of ≡ false
   value : Given
-  gives : given_of of p.1 ≡ Some value
+  gives : given_of version of p.1 ≡ Some value
 
-module _ (n : ℕ) (earlier : List (List ℕ)) (p : List ℕ × List ℕ) where
-  fine_value : (q : Parameter) → parameter p.0 ≡ Some q → is_repeat earlier p.0 q ≡ false → (o : Option Given) → given_of q p.1 ≡ o
-      → (f : Fault) (rest : Option Fault) → (if is_none o then Some f else rest) ≡ None → IsFine earlier p
+module _ (version : Version) (n : ℕ) (earlier : List (List ℕ)) (p : List ℕ × List ℕ) where
+  fine_value : (q : Parameter) → parameter p.0 ≡ Some q → is_repeat version earlier p.0 q ≡ false → (o : Option Given) → given_of version q p.1 ≡ o
+      → (f : Fault) (rest : Option Fault) → (if is_none o then Some f else rest) ≡ None → IsFine version earlier p
   fine_value q is fresh None gives f rest h = absurd (cc)
   fine_value q is fresh (Some v) gives f rest h = record { of = q; is = is; fresh = fresh; value = v; gives = gives }
 
-  fine_known : (q : Parameter) → parameter p.0 ≡ Some q → (b : Bool) → is_repeat earlier p.0 q ≡ b
-      → (f g : Fault) (rest : Option Fault) → (if b then Some f else (if is_none (given_of q p.1) then Some g else rest)) ≡ None → IsFine earlier p
+  fine_known : (q : Parameter) → parameter p.0 ≡ Some q → (b : Bool) → is_repeat version earlier p.0 q ≡ b
+      → (f g : Fault) (rest : Option Fault) → (if b then Some f else (if is_none (given_of version q p.1) then Some g else rest)) ≡ None → IsFine version earlier p
   fine_known q is true again f g rest h = absurd (cc)
-  fine_known q is false again f g rest h = fine_value q is again (given_of q p.1) refl g rest h
+  fine_known q is false again f g rest h = fine_value q is again (given_of version q p.1) refl g rest h
 
-  fine_of : (o : Option Parameter) → parameter p.0 ≡ o → first_fault (conditions_of n earlier p o) ≡ None → IsFine earlier p
+  fine_of : (o : Option Parameter) → parameter p.0 ≡ o → first_fault (conditions_of version n earlier p o) ≡ None → IsFine version earlier p
   fine_of None is h = absurd (cc)
-  fine_of (Some q) is h = fine_known q is (is_repeat earlier p.0 q) refl _ _ _ h
+  fine_of (Some q) is h = fine_known q is (is_repeat version earlier p.0 q) refl _ _ _ h
 
-fine_pair : (n : ℕ) (earlier : List (List ℕ)) (p : List ℕ × List ℕ) → first_fault (pair_conditions n earlier p) ≡ None → IsFine earlier p
-fine_pair n earlier p h = fine_of n earlier p (parameter p.0) refl h
+fine_pair : (version : Version) (n : ℕ) (earlier : List (List ℕ)) (p : List ℕ × List ℕ) → first_fault (pair_conditions version n earlier p) ≡ None → IsFine version earlier p
+fine_pair version n earlier p h = fine_of version n earlier p (parameter p.0) refl h
 
-read_is : (earlier : List (List ℕ)) (p : List ℕ × List ℕ) (f : IsFine earlier p) → read_pair p ≡ Some f.value
-read_is earlier p f = ap (option_and_then (λ q. given_of q p.1)) f.is ∙ f.gives
+read_is : (version : Version) (earlier : List (List ℕ)) (p : List ℕ × List ℕ) (f : IsFine version earlier p) → read_pair version p ≡ Some f.value
+read_is version earlier p f = ap (option_and_then (λ q. given_of version q p.1)) f.is ∙ f.gives
 
 -- ---- what one parameter gives
-module _ {V : Type 0} (pick : Given → Option V) (q : Parameter) (once : may_repeat q ≡ false)
-    (only : (r : Parameter) (text : List ℕ) (v : Given) (x : V) → given_of r text ≡ Some v → pick v ≡ Some x → r ≡ q) where
+module _ (version : Version) {V : Type 0} (pick : Given → Option V) (q : Parameter) (once : may_repeat version q ≡ false)
+    (only : (r : Parameter) (text : List ℕ) (v : Given) (x : V) → given_of version r text ≡ Some v → pick v ≡ Some x → r ≡ q) where
   -- the name of a pair that gives it
-  named : (earlier : List (List ℕ)) (p : List ℕ × List ℕ) (f : IsFine earlier p) (x : V) → pick f.value ≡ Some x → (f.of ≡ q) × (p.0 ≡ name_of q)
+  named : (earlier : List (List ℕ)) (p : List ℕ × List ℕ) (f : IsFine version earlier p) (x : V) → pick f.value ≡ Some x → (f.of ≡ q) × (p.0 ≡ name_of q)
   named earlier p f x picked =
       let same : f.of ≡ q = only f.of p.1 f.value x f.gives picked in
       (same, name_is p.0 f.of f.is ∙ ap name_of same)
 
   -- what a pair gives first
-  opened : (earlier : List (List ℕ)) (p : List ℕ × List ℕ) (ps : List (List ℕ × List ℕ)) (f : IsFine earlier p)
-      → filter_map pick (given (p ∷ ps)) ≡ cons_option (pick f.value) (filter_map pick (given ps))
-  opened earlier p ps f = ap (λ o. filter_map pick (cons_option o (given ps))) (read_is earlier p f)
+  opened : (earlier : List (List ℕ)) (p : List ℕ × List ℕ) (ps : List (List ℕ × List ℕ)) (f : IsFine version earlier p)
+      → filter_map pick (given version (p ∷ ps)) ≡ cons_option (pick f.value) (filter_map pick (given version ps))
+  opened earlier p ps f = ap (λ o. filter_map pick (cons_option o (given version ps))) (read_is version earlier p f)
 
   -- a repeat is no pair without a fault
-  no_repeat : (earlier : List (List ℕ)) (p : List ℕ × List ℕ) (f : IsFine earlier p) (x : V) → has_text earlier (name_of q) ≡ true → pick f.value ≡ Some x → ⊥
+  no_repeat : (earlier : List (List ℕ)) (p : List ℕ × List ℕ) (f : IsFine version earlier p) (x : V) → has_text earlier (name_of q) ≡ true → pick f.value ≡ Some x → ⊥
   no_repeat earlier p f x there picked =
       let of = named earlier p f x picked in
-      let again : is_repeat earlier p.0 f.of ≡ true = ap₂ (λ r t. is_repeat earlier t r) of.0 of.1 ∙ ap₂ (λ r t. not r && t) once there in
+      let again : is_repeat version earlier p.0 f.of ≡ true = ap₂ (λ r t. is_repeat version earlier t r) of.0 of.1 ∙ ap₂ (λ r t. not r && t) once there in
       let clash : true ≡ false = sym again ∙ f.fresh in
       absurd (cc)
 
   -- behind a pair of its name none gives it
-  none_more : (n : ℕ) (earlier : List (List ℕ)) (ps : List (List ℕ × List ℕ)) → has_text earlier (name_of q) ≡ true → first_fault (pairs_conditions n earlier ps) ≡ None
-      → filter_map pick (given ps) ≡ []
+  none_more : (n : ℕ) (earlier : List (List ℕ)) (ps : List (List ℕ × List ℕ)) → has_text earlier (name_of q) ≡ true → first_fault (pairs_conditions version n earlier ps) ≡ None
+      → filter_map pick (given version ps) ≡ []
   none_more n earlier [] there fine = refl
   none_more n earlier (p ∷ ps) there fine =
-      let f = fine_pair n earlier p (first_part (pair_conditions n earlier p) _ fine) in
+      let f = fine_pair version n earlier p (first_part (pair_conditions version n earlier p) _ fine) in
       opened earlier p ps f
       ∙ by_pick f (pick f.value) refl
       (none_more (n + 1) (earlier ++ p.0 ∷ []) ps (has_text-push earlier p.0 (name_of q) ∙ ap (λ b. b || (bytes_eq (name_of q) p.0 || false)) there)
-      (second_part (pair_conditions n earlier p) _ fine))
+      (second_part (pair_conditions version n earlier p) _ fine))
     where
-      by_pick : (f : IsFine earlier p) (o : Option V) → pick f.value ≡ o → filter_map pick (given ps) ≡ [] → cons_option o (filter_map pick (given ps)) ≡ []
+      by_pick : (f : IsFine version earlier p) (o : Option V) → pick f.value ≡ o → filter_map pick (given version ps) ≡ [] → cons_option o (filter_map pick (given version ps)) ≡ []
       by_pick f None is later = later
       by_pick f (Some x) is later = absurd (no_repeat earlier p f x there is)
 
   -- no two pairs give it
-  pub is_short : (n : ℕ) (earlier : List (List ℕ)) (ps : List (List ℕ × List ℕ)) → first_fault (pairs_conditions n earlier ps) ≡ None → IsShort (filter_map pick (given ps))
+  pub is_short : (n : ℕ) (earlier : List (List ℕ)) (ps : List (List ℕ × List ℕ)) → first_fault (pairs_conditions version n earlier ps) ≡ None → IsShort (filter_map pick (given version ps))
   is_short n earlier [] fine = none
   is_short n earlier (p ∷ ps) fine =
-      let f = fine_pair n earlier p (first_part (pair_conditions n earlier p) _ fine) in
-      let rest = second_part (pair_conditions n earlier p) _ fine in
+      let f = fine_pair version n earlier p (first_part (pair_conditions version n earlier p) _ fine) in
+      let rest = second_part (pair_conditions version n earlier p) _ fine in
       subst IsShort (sym (opened earlier p ps f)) (by_pick f (pick f.value) refl rest (is_short (n + 1) (earlier ++ p.0 ∷ []) ps rest))
     where
       or_true : (b : Bool) → b || (true || false) ≡ true
@@ -116,8 +117,8 @@ module _ {V : Type 0} (pick : Given → Option V) (q : Parameter) (once : may_re
           ∙ ap (λ b. has_text earlier (name_of q) || (b || false)) (ap (bytes_eq (name_of q)) is ∙ nat_list_eq_equiv.refl (name_of q))
           ∙ or_true (has_text earlier (name_of q))
 
-      by_pick : (f : IsFine earlier p) (o : Option V) → pick f.value ≡ o → first_fault (pairs_conditions (n + 1) (earlier ++ p.0 ∷ []) ps) ≡ None
-          → IsShort (filter_map pick (given ps)) → IsShort (cons_option o (filter_map pick (given ps)))
+      by_pick : (f : IsFine version earlier p) (o : Option V) → pick f.value ≡ o → first_fault (pairs_conditions version (n + 1) (earlier ++ p.0 ∷ []) ps) ≡ None
+          → IsShort (filter_map pick (given version ps)) → IsShort (cons_option o (filter_map pick (given version ps)))
       by_pick f None is fine later = later
       by_pick f (Some x) is fine later =
           subst (λ l. IsShort (x ∷ l)) (sym (none_more (n + 1) (earlier ++ p.0 ∷ []) ps (there (named earlier p f x is).1) fine)) (one x)
@@ -126,6 +127,7 @@ module _ {V : Type 0} (pick : Given → Option V) (q : Parameter) (once : may_re
 parameter_of_part : Option (List ℕ) → Part → Parameter
 parameter_of_part g (needs v) = of_group field.Resources g
 parameter_of_part g (traits t) = of_group field.Required g
+parameter_of_part g (any_of a) = of_group field.Required g
 parameter_of_part g (aggregates r) = of_group field.MemberOf g
 parameter_of_part g (tree u) = of_group field.InTree g
 
@@ -140,16 +142,27 @@ made : {X : Type 0} (make : X → Given) (q : Parameter) → ((x : X) → parame
 made make q is None v h = absurd (cc)
 made make q is (Some x) v h = let e : make x ≡ v = cc in sym (is x) ∙ ap parameter_of e
 
-pub given_by : (r : Parameter) (text : List ℕ) (v : Given) → given_of r text ≡ Some v → r ≡ parameter_of v
-unfolding parameter_of parameter_of_part
-given_by (of_group field.Resources g) text v h = made (λ x. in_group g (needs x)) _ (λ x. refl) (needs_value text) v h
-given_by (of_group field.Required g) text v h = made (λ x. in_group g (traits x)) _ (λ x. refl) (traits_value text) v h
-given_by (of_group field.MemberOf g) text v h = made (λ x. in_group g (aggregates x)) _ (λ x. refl) (rule_value text) v h
-given_by (of_group field.InTree g) text v h = made (λ x. in_group g (tree x)) _ (λ x. refl) (id_value text) v h
-given_by root_required text v h = made root_traits _ (λ x. refl) (traits_value text) v h
-given_by group_policy text v h = made policy _ (λ x. refl) (policy_value text) v h
-given_by same_subtree text v h = made subtree _ (λ x. refl) (subtree_value text) v h
-given_by limit text v h = made at_most _ (λ x. refl) (amount_value text) v h
+module _ (g : Option (List ℕ)) where
+  made_part : {X : Type 0} (make : X → Part) → ((x : X) → parameter_of (in_group g (make x)) ≡ of_group field.Required g)
+      → (o : Option X) (v : Given) → option_map (in_group g) (option_map make o) ≡ Some v → of_group field.Required g ≡ parameter_of v
+  made_part make is None v h = absurd (cc)
+  made_part make is (Some x) v h = let e : in_group g (make x) ≡ v = cc in sym (is x) ∙ ap parameter_of e
+
+  required_by : (text : List ℕ) (list : Option (List ℕ)) (v : Given) → option_map (in_group g) (required_part text list) ≡ Some v → of_group field.Required g ≡ parameter_of v
+  unfolding parameter_of parameter_of_part
+  required_by text (Some list) v h = made_part any_of (λ x. refl) (names_value list) v h
+  required_by text None v h = made_part traits (λ x. refl) (traits_value text) v h
+
+pub given_by : (version : Version) (r : Parameter) (text : List ℕ) (v : Given) → given_of version r text ≡ Some v → r ≡ parameter_of v
+unfolding parameter_of parameter_of_part required_value
+given_by version (of_group field.Resources g) text v h = made (λ x. in_group g (needs x)) _ (λ x. refl) (needs_value text) v h
+given_by version (of_group field.Required g) text v h = required_by g text (any_of_text version text) v h
+given_by version (of_group field.MemberOf g) text v h = made (λ x. in_group g (aggregates x)) _ (λ x. refl) (rule_value text) v h
+given_by version (of_group field.InTree g) text v h = made (λ x. in_group g (tree x)) _ (λ x. refl) (id_value text) v h
+given_by version root_required text v h = made root_traits _ (λ x. refl) (traits_value text) v h
+given_by version group_policy text v h = made policy _ (λ x. refl) (policy_value text) v h
+given_by version same_subtree text v h = made subtree _ (λ x. refl) (subtree_value text) v h
+given_by version limit text v h = made at_most _ (λ x. refl) (amount_value text) v h
 
 same_is : (s t : Option (List ℕ)) → same_suffix s t ≡ true → s ≡ t
 same_is None None h = refl
@@ -170,6 +183,7 @@ module _ (s : Option (List ℕ)) where
   unfolding parameter_of parameter_of_part
   needs_by (in_group g (needs n)) x h = ap (of_group field.Resources) (sym (part_is needs_in s g (needs n) x h).0)
   needs_by (in_group g (traits t)) x h = let k = (part_is needs_in s g (traits t) x h).1 in absurd (cc)
+  needs_by (in_group g (any_of a)) x h = let k = (part_is needs_in s g (any_of a) x h).1 in absurd (cc)
   needs_by (in_group g (aggregates r)) x h = let k = (part_is needs_in s g (aggregates r) x h).1 in absurd (cc)
   needs_by (in_group g (tree u)) x h = let k = (part_is needs_in s g (tree u) x h).1 in absurd (cc)
   needs_by (root_traits t) x h = absurd (cc)
@@ -181,6 +195,7 @@ module _ (s : Option (List ℕ)) where
   unfolding parameter_of parameter_of_part
   tree_by (in_group g (needs n)) x h = let k = (part_is tree_in s g (needs n) x h).1 in absurd (cc)
   tree_by (in_group g (traits t)) x h = let k = (part_is tree_in s g (traits t) x h).1 in absurd (cc)
+  tree_by (in_group g (any_of a)) x h = let k = (part_is tree_in s g (any_of a) x h).1 in absurd (cc)
   tree_by (in_group g (aggregates r)) x h = let k = (part_is tree_in s g (aggregates r) x h).1 in absurd (cc)
   tree_by (in_group g (tree u)) x h = ap (of_group field.InTree) (sym (part_is tree_in s g (tree u) x h).0)
   tree_by (root_traits t) x h = absurd (cc)
@@ -215,20 +230,20 @@ module _ {X Y Z : Type 0} (f : X → Option Y) (g : Y → Option Z) where
   filter_map-filter_map (x ∷ xs) = at_first (f x) (filter_map f xs) ∙ ap (cons_option (option_and_then g (f x))) (filter_map-filter_map xs)
 
 -- ---- where no pair has a fault
-module _ (pairs : List (List ℕ × List ℕ)) (fine : first_fault (pairs_conditions 1 [] pairs) ≡ None) where
-  pub policy_once : IsShort (filter_map policy_in (given pairs))
-  policy_once = is_short policy_in group_policy refl (λ r text v x h k. given_by r text v h ∙ policy_by v x k) 1 [] pairs fine
+module _ (version : Version) (pairs : List (List ℕ × List ℕ)) (fine : first_fault (pairs_conditions version 1 [] pairs) ≡ None) where
+  pub policy_once : IsShort (filter_map policy_in (given version pairs))
+  policy_once = is_short version policy_in group_policy refl (λ r text v x h k. given_by version r text v h ∙ policy_by v x k) 1 [] pairs fine
 
-  pub limit_once : IsShort (filter_map limit_in (given pairs))
-  limit_once = is_short limit_in limit refl (λ r text v x h k. given_by r text v h ∙ limit_by v x k) 1 [] pairs fine
+  pub limit_once : IsShort (filter_map limit_in (given version pairs))
+  limit_once = is_short version limit_in limit refl (λ r text v x h k. given_by version r text v h ∙ limit_by v x k) 1 [] pairs fine
 
   module _ (s : Option (List ℕ)) where
-    pub needs_once : IsShort (filter_map needs_in (parts_of s (given pairs)))
+    pub needs_once : IsShort (filter_map needs_in (parts_of s (given version pairs)))
     needs_once =
-        subst IsShort (sym (filter_map-filter_map (part_of s) needs_in (given pairs)))
-        (is_short (λ v. option_and_then needs_in (part_of s v)) (of_group field.Resources s) refl (λ r text v x h k. given_by r text v h ∙ needs_by s v x k) 1 [] pairs fine)
+        subst IsShort (sym (filter_map-filter_map (part_of s) needs_in (given version pairs)))
+        (is_short version (λ v. option_and_then needs_in (part_of s v)) (of_group field.Resources s) refl (λ r text v x h k. given_by version r text v h ∙ needs_by s v x k) 1 [] pairs fine)
 
-    pub tree_once : IsShort (filter_map tree_in (parts_of s (given pairs)))
+    pub tree_once : IsShort (filter_map tree_in (parts_of s (given version pairs)))
     tree_once =
-        subst IsShort (sym (filter_map-filter_map (part_of s) tree_in (given pairs)))
-        (is_short (λ v. option_and_then tree_in (part_of s v)) (of_group field.InTree s) refl (λ r text v x h k. given_by r text v h ∙ tree_by s v x k) 1 [] pairs fine)
+        subst IsShort (sym (filter_map-filter_map (part_of s) tree_in (given version pairs)))
+        (is_short version (λ v. option_and_then tree_in (part_of s v)) (of_group field.InTree s) refl (λ r text v x h k. given_by version r text v h ∙ tree_by s v x k) 1 [] pairs fine)

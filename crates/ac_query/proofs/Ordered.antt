@@ -11,8 +11,9 @@ use Rattle.std.proofs.lemmas.Map.Views.{All-insert_key, All-values-insert_entry,
 use Rattle.ac_base.specs.Texts.{text_cmp, id_value}
 use Rattle.ac_tables.proofs.SortedSets.{insert_sorted, empty_sorted}
 use Rattle.ac_query.specs.declared.parameter.Field.TheVariants as field
+use Rattle.ac_query.specs.declared.version.Version.{Version}
 use Rattle.ac_query.specs.Parameters.{Parameter, of_group, root_required, group_policy, same_subtree, limit, parameter}
-use Rattle.ac_query.specs.Values.{Part, needs, traits, aggregates, tree, Given, in_group, root_traits, policy, subtree, at_most, given_of, needs_value, traits_value, rule_value, policy_value, subtree_value, amount_value}
+use Rattle.ac_query.specs.Values.{Part, needs, traits, any_of, aggregates, tree, Given, in_group, root_traits, policy, subtree, at_most, given_of, needs_value, traits_value, names_value, any_of_text, required_part, required_value, rule_value, policy_value, subtree_value, amount_value}
 use Rattle.ac_query.specs.Pairs.{read_pair, given}
 use Rattle.ac_query.specs.Asked.{Group}
 use Rattle.ac_query.specs.Gathered.{Gathered, empty_group, nothing, with_part, grown, with_given, plain_groups, of_suffix, as_asked, gathered, asked_by}
@@ -27,6 +28,7 @@ use Rattle.ac_query.proofs.LongSuffixes.{IsLong, IsNamed, named}
 abbrev IsServed : Part → Type 0
 IsServed (needs v) = AreNeeds v
 IsServed (traits t) = ⊤
+IsServed (any_of names) = ⊤
 IsServed (aggregates r) = ⊤
 IsServed (tree u) = ⊤
 
@@ -38,18 +40,26 @@ IsSound (policy b) = ⊤
 IsSound (subtree names) = ⊤
 IsSound (at_most n) = ⊤
 
-sound_value : (q : Parameter) (text : List ℕ) → IsNamed q → IfSome (given_of q text) IsSound
-sound_value (of_group field.Resources g) text h = map_some AreNeeds IsSound (λ v. in_group g (needs v)) (needs_value text) (needs_are text) (λ v k. (h, k))
-sound_value (of_group field.Required g) text h = map_some (λ v. ⊤) IsSound (λ v. in_group g (traits v)) (traits_value text) (any_some (traits_value text)) (λ v k. (h, tt))
-sound_value (of_group field.MemberOf g) text h = map_some (λ v. ⊤) IsSound (λ v. in_group g (aggregates v)) (rule_value text) (any_some (rule_value text)) (λ v k. (h, tt))
-sound_value (of_group field.InTree g) text h = map_some (λ v. ⊤) IsSound (λ v. in_group g (tree v)) (id_value text) (any_some (id_value text)) (λ v k. (h, tt))
-sound_value root_required text h = map_some (λ v. ⊤) IsSound root_traits (traits_value text) (any_some (traits_value text)) (λ v k. tt)
-sound_value group_policy text h = map_some (λ v. ⊤) IsSound policy (policy_value text) (any_some (policy_value text)) (λ v k. tt)
-sound_value same_subtree text h = map_some (λ v. ⊤) IsSound subtree (subtree_value text) (any_some (subtree_value text)) (λ v k. tt)
-sound_value limit text h = map_some (λ v. ⊤) IsSound at_most (amount_value text) (any_some (amount_value text)) (λ v k. tt)
+part_served : (text : List ℕ) (list : Option (List ℕ)) → IfSome (required_part text list) IsServed
+part_served text (Some list) = map_some (λ v. ⊤) IsServed any_of (names_value list) (any_some (names_value list)) (λ v k. tt)
+part_served text None = map_some (λ v. ⊤) IsServed traits (traits_value text) (any_some (traits_value text)) (λ v k. tt)
 
-sound_pair : (p : List ℕ × List ℕ) → IfSome (read_pair p) IsSound
-sound_pair p = then_some IsNamed IsSound (λ q. given_of q p.1) (parameter p.0) (named p.0) (λ q h. sound_value q p.1 h)
+required_served : (version : Version) (text : List ℕ) → IfSome (required_value version text) IsServed
+unfolding required_value
+required_served version text = part_served text (any_of_text version text)
+
+sound_value : (version : Version) (q : Parameter) (text : List ℕ) → IsNamed q → IfSome (given_of version q text) IsSound
+sound_value version (of_group field.Resources g) text h = map_some AreNeeds IsSound (λ v. in_group g (needs v)) (needs_value text) (needs_are text) (λ v k. (h, k))
+sound_value version (of_group field.Required g) text h = map_some IsServed IsSound (in_group g) (required_value version text) (required_served version text) (λ p k. (h, k))
+sound_value version (of_group field.MemberOf g) text h = map_some (λ v. ⊤) IsSound (λ v. in_group g (aggregates v)) (rule_value text) (any_some (rule_value text)) (λ v k. (h, tt))
+sound_value version (of_group field.InTree g) text h = map_some (λ v. ⊤) IsSound (λ v. in_group g (tree v)) (id_value text) (any_some (id_value text)) (λ v k. (h, tt))
+sound_value version root_required text h = map_some (λ v. ⊤) IsSound root_traits (traits_value text) (any_some (traits_value text)) (λ v k. tt)
+sound_value version group_policy text h = map_some (λ v. ⊤) IsSound policy (policy_value text) (any_some (policy_value text)) (λ v k. tt)
+sound_value version same_subtree text h = map_some (λ v. ⊤) IsSound subtree (subtree_value text) (any_some (subtree_value text)) (λ v k. tt)
+sound_value version limit text h = map_some (λ v. ⊤) IsSound at_most (amount_value text) (any_some (amount_value text)) (λ v k. tt)
+
+sound_pair : (version : Version) (p : List ℕ × List ℕ) → IfSome (read_pair version p) IsSound
+sound_pair version p = then_some IsNamed IsSound (λ q. given_of version q p.1) (parameter p.0) (named p.0) (λ q h. sound_value version q p.1 h)
 
 -- ---- what is gathered
 abbrev HasNeeds : Group → Type 0
@@ -64,6 +74,7 @@ record IsOrdered (d : Gathered) : Type 0 where
 with_served : (g : Group) (p : Part) → HasNeeds g → IsServed p → HasNeeds (with_part g p)
 with_served g (needs v) h k = k
 with_served g (traits t) h k = h
+with_served g (any_of names) h k = h
 with_served g (aggregates r) h k = h
 with_served g (tree u) h k = h
 
@@ -137,4 +148,4 @@ in_order d h = record { first = first_plain d.plain d.suffixed; names = names_ap
 
 pub query_in_order : QueryInOrder
 unfolding asked_by
-query_in_order pairs = in_order (gathered pairs) (all_given nothing (given pairs) nothing_ordered (all_chosen IsSound read_pair sound_pair pairs))
+query_in_order version pairs = in_order (gathered version pairs) (all_given nothing (given version pairs) nothing_ordered (all_chosen IsSound (read_pair version) (sound_pair version) pairs))

@@ -4,12 +4,13 @@ use Rattle.std.specs.List.{slice_get}
 use Rattle.ac_query.specs.Texts.{has_text}
 use Rattle.ac_query.specs.Values.{AggregateRule}
 
--- What is asked of a group: amounts by class, classes in byte order; traits in byte order, each once; aggregate rules in the order
--- of their pairs; perhaps a tree.
+-- What is asked of a group: amounts by class, classes in byte order; traits in byte order, each once; lists of traits of which one
+-- each is asked, and aggregate rules, both in the order of their pairs; perhaps a tree.
 pub record Group : Type 0 where
   pub needs : List (List ℕ × ℕ)
   pub required : List (List ℕ)
   pub forbidden : List (List ℕ)
+  pub any_of : List (List (List ℕ))
   pub member_of : List AggregateRule
   pub in_tree : Option ℕ
 

@@ -2,8 +2,9 @@
 use Rattle.std.specs.Prelude.{◌≡◌, ℕ, Bool, true, false, List, [], ◌∷◌, ◌++◌, map, Option, Some, None, if◌then◌else◌}
 use Rattle.std.specs.List.{filter_map, flat_map, AllByRecursion}
 use Rattle.std.specs.Str.{bytes_eq}
+use Rattle.ac_query.specs.declared.version.Version.{Version}
 use Rattle.ac_query.specs.Texts.{in_byte_order}
-use Rattle.ac_query.specs.Values.{AggregateRule, Part, needs, traits, aggregates, tree, Given, in_group, root_traits, policy, subtree, at_most}
+use Rattle.ac_query.specs.Values.{AggregateRule, Part, needs, traits, any_of, aggregates, tree, Given, in_group, root_traits, policy, subtree, at_most}
 use Rattle.ac_query.specs.Pairs.{given}
 use Rattle.ac_query.specs.Asked.{Group, Asked}
 
@@ -19,6 +20,7 @@ IsTold none a (v ∷ w ∷ vs) = ⊥
 abbrev pub needs_in : Part → Option (List (List ℕ × ℕ))
 needs_in (needs v) = Some v
 needs_in (traits t) = None
+needs_in (any_of names) = None
 needs_in (aggregates r) = None
 needs_in (tree u) = None
 
@@ -26,6 +28,7 @@ needs_in (tree u) = None
 abbrev pub required_in : Part → List (List ℕ)
 required_in (needs v) = []
 required_in (traits t) = t.required
+required_in (any_of names) = []
 required_in (aggregates r) = []
 required_in (tree u) = []
 
@@ -33,13 +36,23 @@ required_in (tree u) = []
 abbrev pub forbidden_in : Part → List (List ℕ)
 forbidden_in (needs v) = []
 forbidden_in (traits t) = t.forbidden
+forbidden_in (any_of names) = []
 forbidden_in (aggregates r) = []
 forbidden_in (tree u) = []
+
+-- the list of a part of which one trait is asked
+abbrev pub any_of_in : Part → Option (List (List ℕ))
+any_of_in (needs v) = None
+any_of_in (traits t) = None
+any_of_in (any_of names) = Some names
+any_of_in (aggregates r) = None
+any_of_in (tree u) = None
 
 -- what a part says of `member_of`
 abbrev pub rule_in : Part → Option AggregateRule
 rule_in (needs v) = None
 rule_in (traits t) = None
+rule_in (any_of names) = None
 rule_in (aggregates r) = Some r
 rule_in (tree u) = None
 
@@ -47,15 +60,17 @@ rule_in (tree u) = None
 abbrev pub tree_in : Part → Option (Option ℕ)
 tree_in (needs v) = None
 tree_in (traits t) = None
+tree_in (any_of names) = None
 tree_in (aggregates r) = None
 tree_in (tree u) = Some (Some u)
 
--- The group of these parts: its needs are those of its one `resources`, its traits those of its `required`, its rules those of all its
--- `member_of` in order, its tree that of its one `in_tree`.
+-- The group of these parts: its needs are those of its one `resources`, its traits those of all its `required`, its lists of which one
+-- trait is asked those of its `required` in order, its rules those of all its `member_of` in order, its tree that of its one `in_tree`.
 pub record AsksOfGroup (parts : List Part) (g : Group) : Type 0 where
   pub needs : IsTold [] g.needs (filter_map needs_in parts)
   pub required : g.required ≡ in_byte_order (flat_map required_in parts)
   pub forbidden : g.forbidden ≡ in_byte_order (flat_map forbidden_in parts)
+  pub any_of : g.any_of ≡ filter_map any_of_in parts
   pub member_of : g.member_of ≡ filter_map rule_in parts
   pub in_tree : IsTold None g.in_tree (filter_map tree_in parts)
 
@@ -138,11 +153,11 @@ limit_in (subtree names) = None
 limit_in (at_most n) = Some (Some n)
 
 -- The record that the pairs ask for. A group is there where any of its parameters is given.
-pub record Asks (pairs : List (List ℕ × List ℕ)) (a : Asked) : Type 0 where
-  pub groups : map (λ e. e.0) a.groups ≡ groups_given (given pairs)
-  pub parts : AllByRecursion (λ e. AsksOfGroup (parts_of e.0 (given pairs)) e.1) a.groups
-  pub policy : IsTold None a.policy (filter_map policy_in (given pairs))
-  pub subtrees : a.subtrees ≡ filter_map subtree_in (given pairs)
-  pub root_required : a.root_required ≡ in_byte_order (flat_map root_required_in (given pairs))
-  pub root_forbidden : a.root_forbidden ≡ in_byte_order (flat_map root_forbidden_in (given pairs))
-  pub limit : IsTold None a.limit (filter_map limit_in (given pairs))
+pub record Asks (version : Version) (pairs : List (List ℕ × List ℕ)) (a : Asked) : Type 0 where
+  pub groups : map (λ e. e.0) a.groups ≡ groups_given (given version pairs)
+  pub parts : AllByRecursion (λ e. AsksOfGroup (parts_of e.0 (given version pairs)) e.1) a.groups
+  pub policy : IsTold None a.policy (filter_map policy_in (given version pairs))
+  pub subtrees : a.subtrees ≡ filter_map subtree_in (given version pairs)
+  pub root_required : a.root_required ≡ in_byte_order (flat_map root_required_in (given version pairs))
+  pub root_forbidden : a.root_forbidden ≡ in_byte_order (flat_map root_forbidden_in (given version pairs))
+  pub limit : IsTold None a.limit (filter_map limit_in (given version pairs))

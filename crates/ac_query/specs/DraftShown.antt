@@ -7,7 +7,7 @@ use Rattle.ac_base.specs.Names.{suffix_bytes}
 use Rattle.ac_query.specs.declared.draft.GroupDraft.{GroupDraft}
 use Rattle.ac_query.specs.declared.draft.Draft.{Draft}
 use Rattle.ac_query.specs.Shown.{needs_shown, names_shown, traits_shown, suffixes_shown}
-use Rattle.ac_query.specs.GroupsShown.{rule_shown}
+use Rattle.ac_query.specs.GroupsShown.{rule_shown, any_of_shown}
 use Rattle.ac_query.specs.Asked.{Group, Asked}
 use Rattle.ac_query.specs.Gathered.{Gathered, plain_groups, of_suffix, as_asked}
 
@@ -17,6 +17,7 @@ group_drafted g = record {
   needs = needs_shown g.needs;
   required = names_shown g.traits.required;
   forbidden = names_shown g.traits.forbidden;
+  any_of = map any_of_shown g.any_of.items;
   member_of = map rule_shown g.member_of.items;
   in_tree = g.in_tree;
 }

@@ -2,6 +2,7 @@
 use Rattle.std.specs.Prelude.{ℕ, ◌+◌, ◌&&◌, ◌||◌, not, nat_lt, Bool, true, false, List, [], ◌∷◌, ◌++◌, length, map, filter, sum_by, Option, Some, None, is_some, is_none, if◌then◌else◌}
 use Rattle.std.specs.List.{list_any, flat_map}
 use Rattle.std.specs.Str.{bytes_eq}
+use Rattle.ac_query.specs.declared.version.Version.{Version}
 use Rattle.ac_query.specs.Texts.{has_text, in_byte_order}
 use Rattle.ac_query.specs.Parameters.{Parameter, parameter, may_repeat}
 use Rattle.ac_query.specs.Values.{Given, given_of, is_conflict}
@@ -30,8 +31,8 @@ first_fault (c ∷ cs) = if c.0 then Some c.1 else first_fault cs
 -- ---- a pair
 
 -- whether the name is among earlier names, and may not be repeated
-abbrev pub is_repeat : List (List ℕ) → List ℕ → Parameter → Bool
-is_repeat earlier name q = not (may_repeat q) && has_text earlier name
+abbrev pub is_repeat : Version → List (List ℕ) → List ℕ → Parameter → Bool
+is_repeat version earlier name q = not (may_repeat version q) && has_text earlier name
 
 -- a trait required and forbidden in a value
 abbrev pub has_conflict : Option Given → Bool
@@ -39,25 +40,25 @@ has_conflict None = false
 has_conflict (Some v) = is_conflict v
 
 -- what can be wrong with pair n, where its name is a parameter
-abbrev pub known_conditions : ℕ → List (List ℕ) → List ℕ × List ℕ → Parameter → List (Bool × Fault)
-known_conditions n earlier p q =
-    (is_repeat earlier p.0 q, repeated n)
-    ∷ (is_none (given_of q p.1), bad_value n)
-    ∷ (has_conflict (given_of q p.1), conflict n)
+abbrev pub known_conditions : Version → ℕ → List (List ℕ) → List ℕ × List ℕ → Parameter → List (Bool × Fault)
+known_conditions version n earlier p q =
+    (is_repeat version earlier p.0 q, repeated n)
+    ∷ (is_none (given_of version q p.1), bad_value n)
+    ∷ (has_conflict (given_of version q p.1), conflict n)
     ∷ []
 
 -- what can be wrong with pair n, behind pairs of these names
-abbrev pub conditions_of : ℕ → List (List ℕ) → List ℕ × List ℕ → Option Parameter → List (Bool × Fault)
-conditions_of n earlier p None = (true, unknown_parameter n) ∷ []
-conditions_of n earlier p (Some q) = known_conditions n earlier p q
+abbrev pub conditions_of : Version → ℕ → List (List ℕ) → List ℕ × List ℕ → Option Parameter → List (Bool × Fault)
+conditions_of version n earlier p None = (true, unknown_parameter n) ∷ []
+conditions_of version n earlier p (Some q) = known_conditions version n earlier p q
 
-abbrev pub pair_conditions : ℕ → List (List ℕ) → List ℕ × List ℕ → List (Bool × Fault)
-pair_conditions n earlier p = conditions_of n earlier p (parameter p.0)
+abbrev pub pair_conditions : Version → ℕ → List (List ℕ) → List ℕ × List ℕ → List (Bool × Fault)
+pair_conditions version n earlier p = conditions_of version n earlier p (parameter p.0)
 
 -- the conditions of pairs in order, from pair n on, behind pairs of these names
-abbrev pub pairs_conditions : ℕ → List (List ℕ) → List (List ℕ × List ℕ) → List (Bool × Fault)
-pairs_conditions n earlier [] = []
-pairs_conditions n earlier (p ∷ ps) = pair_conditions n earlier p ++ pairs_conditions (n + 1) (earlier ++ p.0 ∷ []) ps
+abbrev pub pairs_conditions : Version → ℕ → List (List ℕ) → List (List ℕ × List ℕ) → List (Bool × Fault)
+pairs_conditions version n earlier [] = []
+pairs_conditions version n earlier (p ∷ ps) = pair_conditions version n earlier p ++ pairs_conditions version (n + 1) (earlier ++ p.0 ∷ []) ps
 
 -- ---- all that is asked
 
@@ -112,13 +113,13 @@ asked_conditions a =
 -- ---- a query
 
 -- the conditions on the text and its pairs, in order
-abbrev pub text_conditions : List ℕ → List (Bool × Fault)
-text_conditions query = (nat_lt 65536 (length query), too_long) ∷ pairs_conditions 1 [] (pairs_of query)
+abbrev pub text_conditions : Version → List ℕ → List (Bool × Fault)
+text_conditions version query = (nat_lt 65536 (length query), too_long) ∷ pairs_conditions version 1 [] (pairs_of query)
 
 -- the conditions on a query, in order
-abbrev pub conditions : List ℕ → List (Bool × Fault)
-conditions query = text_conditions query ++ asked_conditions (asked_by (pairs_of query))
+abbrev pub conditions : Version → List ℕ → List (Bool × Fault)
+conditions version query = text_conditions version query ++ asked_conditions (asked_by version (pairs_of query))
 
--- the first fault of a query
-unfoldable pub query_fault : List ℕ → Option Fault
-query_fault query = first_fault (conditions query)
+-- the first fault of a query, as a version reads it
+unfoldable pub query_fault : Version → List ℕ → Option Fault
+query_fault version query = first_fault (conditions version query)

@@ -4,8 +4,9 @@ use Rattle.std.specs.List.{fold}
 use Rattle.std.specs.Map.{lookup}
 use Rattle.std.specs.BTreeMap.{insert_entry, is_at}
 use Rattle.ac_base.specs.Texts.{text_cmp}
+use Rattle.ac_query.specs.declared.version.Version.{Version}
 use Rattle.ac_query.specs.Texts.{in_order_with}
-use Rattle.ac_query.specs.Values.{Traits, no_traits, Part, needs, traits, aggregates, tree, Given, in_group, root_traits, policy, subtree, at_most}
+use Rattle.ac_query.specs.Values.{Traits, no_traits, Part, needs, traits, any_of, aggregates, tree, Given, in_group, root_traits, policy, subtree, at_most}
 use Rattle.ac_query.specs.Pairs.{given}
 use Rattle.ac_query.specs.Asked.{Group, Asked}
 
@@ -19,7 +20,7 @@ pub record Gathered : Type 0 where
   pub limit : Option ℕ
 
 abbrev pub empty_group : Group
-empty_group = record { needs = []; required = []; forbidden = []; member_of = []; in_tree = None }
+empty_group = record { needs = []; required = []; forbidden = []; any_of = []; member_of = []; in_tree = None }
 
 abbrev pub nothing : Gathered
 nothing = record { plain = None; suffixed = []; policy = None; subtrees = []; root = no_traits; limit = None }
@@ -32,6 +33,7 @@ joined_traits have more = record { required = in_order_with have.required more.r
 abbrev pub with_part : Group → Part → Group
 with_part g (needs v) = record g { needs = v }
 with_part g (traits t) = record g { required = in_order_with g.required t.required; forbidden = in_order_with g.forbidden t.forbidden }
+with_part g (any_of names) = record g { any_of = g.any_of ++ names ∷ [] }
 with_part g (aggregates r) = record g { member_of = g.member_of ++ r ∷ [] }
 with_part g (tree u) = record g { in_tree = Some u }
 
@@ -73,8 +75,8 @@ as_asked a = record {
 }
 
 -- what pairs ask for
-abbrev pub gathered : List (List ℕ × List ℕ) → Gathered
-gathered pairs = fold with_given nothing (given pairs)
+abbrev pub gathered : Version → List (List ℕ × List ℕ) → Gathered
+gathered version pairs = fold with_given nothing (given version pairs)
 
-unfoldable pub asked_by : List (List ℕ × List ℕ) → Asked
-asked_by pairs = as_asked (gathered pairs)
+unfoldable pub asked_by : Version → List (List ℕ × List ℕ) → Asked
+asked_by version pairs = as_asked (gathered version pairs)

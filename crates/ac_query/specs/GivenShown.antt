@@ -6,12 +6,13 @@ use Rattle.ac_query.specs.declared.given.Part.TheVariants as part
 use Rattle.ac_query.specs.declared.given.Given as rust
 use Rattle.ac_query.specs.declared.given.Given.TheVariants as variant
 use Rattle.ac_query.specs.Shown.{needs_shown, traits_shown, suffixes_shown}
-use Rattle.ac_query.specs.GroupsShown.{rule_shown}
-use Rattle.ac_query.specs.Values.{Part, needs, traits, aggregates, tree, Given, in_group, root_traits, policy, subtree, at_most}
+use Rattle.ac_query.specs.GroupsShown.{rule_shown, any_of_shown}
+use Rattle.ac_query.specs.Values.{Part, needs, traits, any_of, aggregates, tree, Given, in_group, root_traits, policy, subtree, at_most}
 
 abbrev pub part_shown : rust_part.Part → Part
 part_shown (part.Needs m) = needs (needs_shown m)
 part_shown (part.Traits t) = traits (traits_shown t)
+part_shown (part.AnyOf a) = any_of (any_of_shown a)
 part_shown (part.Aggregates r) = aggregates (rule_shown r)
 part_shown (part.Tree id) = tree id
 

@@ -2,6 +2,7 @@
 use Rattle.std.specs.Prelude.{◌≡◌, ◌<◌, ℕ, false, List, [], ◌∷◌, map, Option, IsSome, bytes_eq, ⊤}
 use Rattle.std.specs.Option.{unwrap_or}
 use Rattle.std.specs.List.{AllByRecursion}
+use Rattle.ac_query.specs.declared.version.Version.{Version}
 use Rattle.ac_query.specs.Asked.{Group, Asked}
 use Rattle.ac_query.specs.Gathered.{asked_by}
 
@@ -36,4 +37,4 @@ pub record IsInOrder (asked : Asked) : Type 0 where
 
 -- What pairs ask for is in order, be they accepted or not.
 abbrev pub QueryInOrder : Type 0
-QueryInOrder = (pairs : List (List ℕ × List ℕ)) → IsInOrder (asked_by pairs)
+QueryInOrder = (version : Version) (pairs : List (List ℕ × List ℕ)) → IsInOrder (asked_by version pairs)

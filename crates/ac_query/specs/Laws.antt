@@ -3,6 +3,7 @@ use Rattle.std.specs.Prelude.{◌≡◌, ℕ, ◌^◌, ◌<◌, List, [], ◌∷
 use Rattle.std.specs.List.{AllByRecursion, slice_get}
 use Rattle.std.specs.List.Sorted.{IsStrictlySortedBy}
 use Rattle.ac_base.specs.Texts.{text_cmp}
+use Rattle.ac_query.specs.declared.version.Version.{Version}
 use Rattle.ac_query.specs.Texts.{has_text, in_byte_order}
 use Rattle.ac_query.specs.Values.{ids_value}
 use Rattle.ac_query.specs.Asked.{Asked, slots_of}
@@ -14,8 +15,8 @@ use Rattle.ac_query.specs.Tokens.{ids_text}
 -- Where no pair has a fault, exactly one record is what the pairs ask for.
 abbrev pub AsksOnce : Type 0
 AsksOnce =
-    (pairs : List (List ℕ × List ℕ)) → first_fault (pairs_conditions 1 [] pairs) ≡ None
-    → Asks pairs (asked_by pairs) × ((a : Asked) → Asks pairs a → a ≡ asked_by pairs)
+    (version : Version) (pairs : List (List ℕ × List ℕ)) → first_fault (pairs_conditions version 1 [] pairs) ≡ None
+    → Asks version pairs (asked_by version pairs) × ((a : Asked) → Asks version pairs a → a ≡ asked_by version pairs)
 
 -- The text of ids is read as these ids, in order: so a token of as many as there are slots is accepted.
 abbrev pub TokenReads : Type 0

@@ -1,4 +1,5 @@
 pub mod Texts
+pub mod Versions
 pub mod Parameters
 pub mod Values
 pub mod Pairs

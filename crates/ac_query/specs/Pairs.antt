@@ -4,6 +4,7 @@ use Rattle.std.specs.List.{filter_map}
 use Rattle.std.specs.Option.{option_and_then}
 use Rattle.std.specs.Str.Lossy.{utf8_lossy}
 use Rattle.form_urlencoded.specs.Form.{decode, raw_pairs}
+use Rattle.ac_query.specs.declared.version.Version.{Version}
 use Rattle.ac_query.specs.Parameters.{parameter}
 use Rattle.ac_query.specs.Values.{Given, given_of}
 
@@ -20,9 +21,9 @@ abbrev pub pairs_of : List ℕ → List (List ℕ × List ℕ)
 pairs_of query = map pair_text (raw_pairs query)
 
 -- what a pair gives, where its name is a parameter and its value has the form
-abbrev pub read_pair : List ℕ × List ℕ → Option Given
-read_pair p = option_and_then (λ q. given_of q p.1) (parameter p.0)
+abbrev pub read_pair : Version → List ℕ × List ℕ → Option Given
+read_pair version p = option_and_then (λ q. given_of version q p.1) (parameter p.0)
 
 -- what pairs give, in order
-abbrev pub given : List (List ℕ × List ℕ) → List Given
-given pairs = filter_map read_pair pairs
+abbrev pub given : Version → List (List ℕ × List ℕ) → List Given
+given version pairs = filter_map (read_pair version) pairs

@@ -5,7 +5,9 @@ use Rattle.std.specs.Str.{bytes_eq}
 use Rattle.ac_base.specs.Texts.{suffix_value}
 use Rattle.ac_query.specs.declared.parameter.Field.{Field}
 use Rattle.ac_query.specs.declared.parameter.Field.TheVariants as field
+use Rattle.ac_query.specs.declared.version.Version.{Version}
 use Rattle.ac_query.specs.Texts.{behind}
+use Rattle.ac_query.specs.Versions.{has_any_of}
 
 -- A parameter. A field without a suffix is of the unsuffixed group.
 pub data Parameter : Type 0 where
@@ -50,12 +52,12 @@ unfoldable pub parameter : List ℕ → Option Parameter
 parameter name = or_else (plain_parameter name) (group_parameter name)
 
 -- whether a parameter may be given more than once
-abbrev pub may_repeat : Parameter → Bool
-may_repeat (of_group field.Resources g) = false
-may_repeat (of_group field.Required g) = false
-may_repeat (of_group field.MemberOf g) = true
-may_repeat (of_group field.InTree g) = false
-may_repeat root_required = false
-may_repeat group_policy = false
-may_repeat same_subtree = true
-may_repeat limit = false
+abbrev pub may_repeat : Version → Parameter → Bool
+may_repeat v (of_group field.Resources g) = false
+may_repeat v (of_group field.Required g) = has_any_of v
+may_repeat v (of_group field.MemberOf g) = true
+may_repeat v (of_group field.InTree g) = false
+may_repeat v root_required = false
+may_repeat v group_policy = false
+may_repeat v same_subtree = true
+may_repeat v limit = false

@@ -8,7 +8,9 @@ use Rattle.std.specs.BTreeSet.{insert_key}
 use Rattle.std.specs.Str.{bytes_eq}
 use Rattle.ac_base.specs.Texts.{text_cmp, name_value, suffix_value, id_value, count_value}
 use Rattle.ac_query.specs.declared.parameter.Field.TheVariants as field
+use Rattle.ac_query.specs.declared.version.Version.{Version}
 use Rattle.ac_query.specs.Texts.{is_colon, items_of, behind, has_text}
+use Rattle.ac_query.specs.Versions.{has_any_of}
 use Rattle.ac_query.specs.Parameters.{Parameter, of_group, root_required, group_policy, same_subtree, limit}
 
 -- ---- `resources`: amounts by class
@@ -76,6 +78,20 @@ traits_value text = fold with_trait_item (Some no_traits) (items_of text)
 abbrev pub is_conflicting : Traits → Bool
 is_conflicting t = list_any (has_text t.forbidden) t.required
 
+-- ---- a list of traits of which one is asked
+
+-- names and what a further item says
+abbrev pub with_name_item : Option (List (List ℕ)) → List ℕ → Option (List (List ℕ))
+with_name_item names item = option_and_then (λ before. with_name before item) names
+
+-- `TRAIT,..`: one or more, in byte order, each once
+unfoldable pub names_value : List ℕ → Option (List (List ℕ))
+names_value text = fold with_name_item (Some []) (items_of text)
+
+-- what stands behind `in:`, where the version has such lists
+unfoldable pub any_of_text : Version → List ℕ → Option (List ℕ)
+any_of_text version text = if has_any_of version then behind (codes "in:") text else None
+
 -- ---- `member_of`
 
 -- a rule forbids its aggregates, or asks for one of them; they are as written
@@ -132,6 +148,7 @@ policy_value text =
 pub data Part : Type 0 where
   needs : List (List ℕ × ℕ) → Part
   traits : Traits → Part
+  any_of : List (List ℕ) → Part
   aggregates : AggregateRule → Part
   tree : ℕ → Part
 
@@ -143,21 +160,31 @@ pub data Given : Type 0 where
   subtree : List (List ℕ) → Given
   at_most : ℕ → Given
 
+-- `in:TRAIT,..`, where there is such a list, or `TRAIT` and `!TRAIT`
+abbrev pub required_part : List ℕ → Option (List ℕ) → Option Part
+required_part text (Some list) = option_map any_of (names_value list)
+required_part text None = option_map traits (traits_value text)
+
+-- what `required` says of a group
+unfoldable pub required_value : Version → List ℕ → Option Part
+required_value version text = required_part text (any_of_text version text)
+
 -- what a parameter and its text give, where the text has the parameter's form
-abbrev pub given_of : Parameter → List ℕ → Option Given
-given_of (of_group field.Resources g) text = option_map (λ v. in_group g (needs v)) (needs_value text)
-given_of (of_group field.Required g) text = option_map (λ v. in_group g (traits v)) (traits_value text)
-given_of (of_group field.MemberOf g) text = option_map (λ v. in_group g (aggregates v)) (rule_value text)
-given_of (of_group field.InTree g) text = option_map (λ v. in_group g (tree v)) (id_value text)
-given_of root_required text = option_map root_traits (traits_value text)
-given_of group_policy text = option_map policy (policy_value text)
-given_of same_subtree text = option_map subtree (subtree_value text)
-given_of limit text = option_map at_most (amount_value text)
+abbrev pub given_of : Version → Parameter → List ℕ → Option Given
+given_of version (of_group field.Resources g) text = option_map (λ v. in_group g (needs v)) (needs_value text)
+given_of version (of_group field.Required g) text = option_map (in_group g) (required_value version text)
+given_of version (of_group field.MemberOf g) text = option_map (λ v. in_group g (aggregates v)) (rule_value text)
+given_of version (of_group field.InTree g) text = option_map (λ v. in_group g (tree v)) (id_value text)
+given_of version root_required text = option_map root_traits (traits_value text)
+given_of version group_policy text = option_map policy (policy_value text)
+given_of version same_subtree text = option_map subtree (subtree_value text)
+given_of version limit text = option_map at_most (amount_value text)
 
 -- whether a part requires and forbids one trait
 abbrev pub is_part_conflict : Part → Bool
 is_part_conflict (needs v) = false
 is_part_conflict (traits t) = is_conflicting t
+is_part_conflict (any_of names) = false
 is_part_conflict (aggregates r) = false
 is_part_conflict (tree u) = false
 

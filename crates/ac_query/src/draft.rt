@@ -7,7 +7,7 @@ ghost use Rattle.ac_query.specs.DraftShown.{group_drafted, entries_shown, draft_
 
 use crate::amount::Amount;
 use crate::given::{Given, Part};
-use crate::group::AggregateRule;
+use crate::group::{AggregateRule, AnyOf};
 use crate::traits::Traits;
 use ac_base::{ClassName, Id, NoMemory, Suffix};
 use std::alloc::Global;
@@ -18,6 +18,7 @@ use std::collections::{BTreeMap, BTreeSet};
 pub(crate) struct GroupDraft {
     pub(crate) needs: BTreeMap<ClassName, Amount>,
     pub(crate) traits: Traits,
+    pub(crate) any_of: Vec<AnyOf>,
     pub(crate) member_of: Vec<AggregateRule>,
     pub(crate) in_tree: Option<Id>,
 }
@@ -40,6 +41,7 @@ impl GroupDraft {
         GroupDraft {
             needs: BTreeMap::new(alloc),
             traits: Traits::new(alloc),
+            any_of: Vec::new(alloc),
             member_of: Vec::new(alloc),
             in_tree: None,
         }
@@ -61,6 +63,7 @@ impl GroupDraft {
         match part {
             Part::Needs(needs) => self.needs = needs,
             Part::Traits(traits) => self.traits.join(traits)?,
+            Part::AnyOf(names) => self.any_of.push(names)?,
             Part::Aggregates(rule) => self.member_of.push(rule)?,
             Part::Tree(id) => self.in_tree = Some(id),
         }

@@ -3,14 +3,17 @@ ghost use Rattle.std.specs.Option.{option_map};
 ghost use Rattle.ac_base.specs.Names.{suffix_bytes};
 ghost use Rattle.ac_query.specs.Parameters.{of_group};
 ghost use Rattle.ac_query.specs.ParametersShown.{parameter_shown};
-ghost use Rattle.ac_query.specs.Values.{given_of, is_part_conflict, is_conflict};
+ghost use Rattle.ac_query.specs.Values.{any_of_text, required_value, given_of, is_part_conflict, is_conflict};
 ghost use Rattle.ac_query.specs.GivenShown.{part_shown, given_shown};
 
 use crate::amount::Amount;
-use crate::group::AggregateRule;
-use crate::parameter::{Field, Parameter};
+use crate::group::{AggregateRule, AnyOf};
+use crate::parameter::{Field, Parameter, behind};
 use crate::traits::Traits;
-use crate::values::{read_amount, read_needs, read_policy, read_rule, read_subtree, read_traits};
+use crate::values::{
+    read_amount, read_any_of, read_needs, read_policy, read_rule, read_subtree, read_traits,
+};
+use crate::version::Version;
 use ac_base::{ClassName, Id, NoMemory, Suffix};
 use std::alloc::Global;
 use std::collections::{BTreeMap, BTreeSet};
@@ -20,6 +23,7 @@ use std::collections::{BTreeMap, BTreeSet};
 pub(crate) enum Part {
     Needs(BTreeMap<ClassName, Amount>),
     Traits(Traits),
+    AnyOf(AnyOf),
     Aggregates(AggregateRule),
     Tree(Id),
 }
@@ -34,22 +38,46 @@ pub(crate) enum Given {
     AtMost(u32),
 }
 
+/// What stands behind `in:`, where the version has such lists.
+#[tactic(auto, unfolding(crate::specs::Values::any_of_text))]
+fn any_of_text<'a>(version: Version, text: &'a str) -> Option<&'a str>
+    ensures { option_map (λ s. s.now) result ≡ any_of_text version text.now }
+{
+    if version.has_any_of() {
+        behind("in:", text)
+    } else {
+        None
+    }
+}
+
+/// What `required` says of a group.
+#[tactic(auto, unfolding(crate::specs::Values::required_value))]
+fn read_required(alloc: Global, version: Version, text: &str) -> Result<Option<Part>, NoMemory>
+    ensures { IfOk result (λ part. option_map part_shown part ≡ required_value version text.now) }
+{
+    match any_of_text(version, text) {
+        Some(list) => Ok(read_any_of(alloc, list)?.map(Part::AnyOf)),
+        None => Ok(read_traits(alloc, text)?.map(Part::Traits)),
+    }
+}
+
 /// What a field of a group and its text give.
 fn read_field_value(
     alloc: Global,
+    version: Version,
     field: Field,
     group: Option<Suffix>,
     text: &str,
 ) -> Result<Option<Given>, NoMemory>
-    ensures { IfOk result (λ given. option_map given_shown given ≡ given_of (of_group field (option_map suffix_bytes group)) text.now) }
+    ensures { IfOk result (λ given. option_map given_shown given ≡ given_of version (of_group field (option_map suffix_bytes group)) text.now) }
 {
     match field {
         Field::Resources => match read_needs(alloc, text)? {
             Some(needs) => Ok(Some(Given::Group(group, Part::Needs(needs)))),
             None => Ok(None),
         },
-        Field::Required => match read_traits(alloc, text)? {
-            Some(traits) => Ok(Some(Given::Group(group, Part::Traits(traits)))),
+        Field::Required => match read_required(alloc, version, text)? {
+            Some(part) => Ok(Some(Given::Group(group, part))),
             None => Ok(None),
         },
         Field::MemberOf => match read_rule(alloc, text)? {
@@ -70,7 +98,7 @@ impl Part {
     {
         match self {
             Part::Traits(traits) => traits.is_conflicting(),
-            Part::Needs(_) | Part::Aggregates(_) | Part::Tree(_) => false,
+            Part::Needs(_) | Part::AnyOf(_) | Part::Aggregates(_) | Part::Tree(_) => false,
         }
     }
 }
@@ -79,13 +107,14 @@ impl Given {
     /// What a parameter and its text give, where the text has the parameter's form.
     pub(crate) fn read(
         alloc: Global,
+        version: Version,
         parameter: Parameter,
         text: &str,
     ) -> Result<Option<Given>, NoMemory>
-        ensures { IfOk result (λ given. option_map given_shown given ≡ given_of (parameter_shown parameter) text.now) }
+        ensures { IfOk result (λ given. option_map given_shown given ≡ given_of version (parameter_shown parameter) text.now) }
     {
         match parameter {
-            Parameter::Group(field, group) => read_field_value(alloc, field, group, text),
+            Parameter::Group(field, group) => read_field_value(alloc, version, field, group, text),
             Parameter::RootRequired => Ok(read_traits(alloc, text)?.map(Given::RootTraits)),
             Parameter::GroupPolicy => Ok(read_policy(text).map(Given::Policy)),
             Parameter::SameSubtree => Ok(read_subtree(alloc, text)?.map(Given::Subtree)),

@@ -17,6 +17,12 @@ pub struct Need {
     pub(crate) amount: Amount,
 }
 
+/// Traits of which one is asked.
+#[derive(Debug, Drop)]
+pub struct AnyOf {
+    pub(crate) names: Vec<TraitName>,
+}
+
 /// One `member_of`: one of the aggregates is to be the provider's, or none.
 #[derive(Debug, Drop)]
 pub struct AggregateRule {
@@ -31,6 +37,7 @@ pub struct Group {
     pub(crate) needs: Vec<Need>,
     pub(crate) required: Vec<TraitName>,
     pub(crate) forbidden: Vec<TraitName>,
+    pub(crate) any_of: Vec<AnyOf>,
     pub(crate) member_of: Vec<AggregateRule>,
     pub(crate) in_tree: Option<Id>,
     ghost rising: { IsStrictlySortedBy text_cmp (map (λ need. class_bytes need.class) needs.items) } by { Prim.hlevel props },

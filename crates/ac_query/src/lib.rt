@@ -20,11 +20,13 @@ mod tests;
 pub mod token;
 mod traits;
 mod values;
+pub mod version;
 pub mod write;
 
 pub use fault::QueryFault;
-pub use group::{AggregateRule, Group, Need};
+pub use group::{AggregateRule, AnyOf, Group, Need};
 pub use query::Query;
 pub use slot::Slot;
 pub use token::{Token, TokenFault};
+pub use version::Version;
 pub use write::write_ids;

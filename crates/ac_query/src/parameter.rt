@@ -5,6 +5,7 @@ ghost use Rattle.ac_query.specs.Texts.{behind};
 ghost use Rattle.ac_query.specs.Parameters.{group_of, field_of, plain_parameter, group_parameter, parameter, may_repeat};
 ghost use Rattle.ac_query.specs.ParametersShown.{parameter_shown};
 
+use crate::version::Version;
 use ac_base::{NoMemory, Suffix};
 use std::alloc::Global;
 
@@ -112,11 +113,12 @@ impl Parameter {
     }
 
     /// Whether it may be given more than once.
-    pub(crate) fn may_repeat(&self) -> bool
-        ensures { result ≡ may_repeat (parameter_shown self.now) }
+    pub(crate) fn may_repeat(&self, version: Version) -> bool
+        ensures { result ≡ may_repeat version (parameter_shown self.now) }
     {
         match self {
             Parameter::Group(Field::MemberOf, _) | Parameter::SameSubtree => true,
+            Parameter::Group(Field::Required, _) => version.has_any_of(),
             Parameter::Group(_, _)
             | Parameter::RootRequired
             | Parameter::GroupPolicy

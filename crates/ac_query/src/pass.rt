@@ -15,6 +15,7 @@ use crate::draft::Draft;
 use crate::fault::QueryFault;
 use crate::given::Given;
 use crate::parameter::Parameter;
+use crate::version::Version;
 use std::alloc::Global;
 use std::collections::BTreeSet;
 
@@ -23,16 +24,17 @@ const LIMIT: usize = 65_536;
 
 /// Whether the name is among earlier names, and may not be repeated. It is among them from now on.
 fn is_repeat(
+    version: Version,
     earlier: &mut BTreeSet<String>,
     name: String,
     parameter: &Parameter,
 ) -> Result<bool, QueryFault>
-    ensures ok { IfOk result (λ again. again ≡ is_repeat (texts_shown earlier.old) (string_bytes name) (parameter_shown parameter.now)) }
+    ensures ok { IfOk result (λ again. again ≡ is_repeat version (texts_shown earlier.old) (string_bytes name) (parameter_shown parameter.now)) }
     ensures earlier { OnOk result (texts_shown earlier.new ≡ insert_key text_cmp (texts_shown earlier.old) (string_bytes name)) }
     ensures err { IfErr result (λ e. fault_shown e ≡ None) }
 {
     let is_new = earlier.insert(name)?;
-    if parameter.may_repeat() {
+    if parameter.may_repeat(version) {
         return Ok(false);
     }
     Ok(!is_new)
@@ -41,24 +43,25 @@ fn is_repeat(
 /// What a pair gives, behind pairs of these names.
 fn read_pair(
     alloc: Global,
+    version: Version,
     number: u32,
     earlier: &mut BTreeSet<String>,
     name: String,
     text: &str,
 ) -> Result<Given, QueryFault>
-    ensures fine { OnOk result (first_fault (pair_conditions number (texts_shown earlier.old) (string_bytes name, text.now)) ≡ None) }
-    ensures value { IfOk result (λ g. read_pair (string_bytes name, text.now) ≡ Some (given_shown g)) }
+    ensures fine { OnOk result (first_fault (pair_conditions version number (texts_shown earlier.old) (string_bytes name, text.now)) ≡ None) }
+    ensures value { IfOk result (λ g. read_pair version (string_bytes name, text.now) ≡ Some (given_shown g)) }
     ensures earlier { OnOk result (texts_shown earlier.new ≡ insert_key text_cmp (texts_shown earlier.old) (string_bytes name)) }
-    ensures err { IfErr result (λ e. IfSome (fault_shown e) (λ f. first_fault (pair_conditions number (texts_shown earlier.old) (string_bytes name, text.now)) ≡ Some f)) }
+    ensures err { IfErr result (λ e. IfSome (fault_shown e) (λ f. first_fault (pair_conditions version number (texts_shown earlier.old) (string_bytes name, text.now)) ≡ Some f)) }
 {
     let Some(parameter) = Parameter::read(alloc, name.as_str())? else {
         return Err(QueryFault::UnknownParameter(number));
     };
-    let again = is_repeat(earlier, name, &parameter)?;
+    let again = is_repeat(version, earlier, name, &parameter)?;
     if again {
         return Err(QueryFault::Repeated(number));
     }
-    let Some(given) = Given::read(alloc, parameter, text)? else {
+    let Some(given) = Given::read(alloc, version, parameter, text)? else {
         return Err(QueryFault::BadValue(number));
     };
     if given.is_conflict() {
@@ -68,11 +71,11 @@ fn read_pair(
 }
 
 /// What the pairs of a query ask for, or their first fault.
-fn read_pairs(alloc: Global, text: &str) -> Result<Draft, QueryFault>
+fn read_pairs(alloc: Global, text: &str, version: Version) -> Result<Draft, QueryFault>
     requires { length text.now ≤ 65536 }
-    ensures fine { OnOk result (first_fault (pairs_conditions 1 [] (pairs_of text.now)) ≡ None) }
-    ensures ok { IfOk result (λ draft. draft_shown draft ≡ gathered (pairs_of text.now)) }
-    ensures err { IfErr result (λ e. IfSome (fault_shown e) (λ f. first_fault (pairs_conditions 1 [] (pairs_of text.now)) ≡ Some f)) }
+    ensures fine { OnOk result (first_fault (pairs_conditions version 1 [] (pairs_of text.now)) ≡ None) }
+    ensures ok { IfOk result (λ draft. draft_shown draft ≡ gathered version (pairs_of text.now)) }
+    ensures err { IfErr result (λ e. IfSome (fault_shown e) (λ f. first_fault (pairs_conditions version 1 [] (pairs_of text.now)) ≡ Some f)) }
 {
     let mut draft = Draft::new(alloc);
     let mut earlier = BTreeSet::new(alloc);
@@ -80,22 +83,22 @@ fn read_pairs(alloc: Global, text: &str) -> Result<Draft, QueryFault>
     for pair in form_urlencoded::parse(alloc, text.as_bytes()).into_owned() {
         let (name, value) = pair?;
         number += 1;
-        let given = read_pair(alloc, number, &mut earlier, name, value.as_str())?;
+        let given = read_pair(alloc, version, number, &mut earlier, name, value.as_str())?;
         draft.add(alloc, given)?;
     }
     Ok(draft)
 }
 
 /// What a query asks for, or the first of the faults of its text and its pairs.
-pub(crate) fn read_draft(alloc: Global, text: &str) -> Result<Draft, QueryFault>
-    ensures fine { OnOk result (first_fault (text_conditions text.now) ≡ None) }
-    ensures ok { IfOk result (λ draft. draft_shown draft ≡ gathered (pairs_of text.now)) }
-    ensures err { IfErr result (λ e. IfSome (fault_shown e) (λ f. first_fault (text_conditions text.now) ≡ Some f)) }
+pub(crate) fn read_draft(alloc: Global, text: &str, version: Version) -> Result<Draft, QueryFault>
+    ensures fine { OnOk result (first_fault (text_conditions version text.now) ≡ None) }
+    ensures ok { IfOk result (λ draft. draft_shown draft ≡ gathered version (pairs_of text.now)) }
+    ensures err { IfErr result (λ e. IfSome (fault_shown e) (λ f. first_fault (text_conditions version text.now) ≡ Some f)) }
 {
     if text.len() > LIMIT {
         return Err(QueryFault::QueryTooLong);
     }
-    match read_pairs(alloc, text) {
+    match read_pairs(alloc, text, version) {
         Ok(draft) => Ok(draft),
         Err(fault) => Err(fault),
     }

@@ -1,13 +1,18 @@
 //! What queries and tokens are read as, and which fault is told of those that are refused.
-use crate::{Group, Need, Query, QueryFault, Token, TokenFault, write_ids};
+use crate::{Group, Need, Query, QueryFault, Token, TokenFault, Version, write_ids};
 use ac_base::{Id, Suffix, TraitName};
 use ac_tables::{Cloud, Sources};
 use std::alloc::{AllocError, Global};
 use std::test::Fail;
 
-/// The line of a fault, or `accepted`.
+/// The line of a fault by 1.36, or `accepted`.
 fn line(alloc: Global, text: &str) -> Result<String, AllocError> {
-    match Query::read(alloc, text) {
+    line_by(alloc, text, Version::V136)
+}
+
+/// The line of a fault, or `accepted`.
+fn line_by(alloc: Global, text: &str, version: Version) -> Result<String, AllocError> {
+    match Query::read(alloc, text, version) {
         Ok(_query) => String::from_str(alloc, "accepted"),
         Err(fault) => fault_line(alloc, fault),
     }
@@ -138,6 +143,99 @@ fn names_and_values(rt: HostRuntime) -> Result<(), Fail> {
     Ok(())
 }
 
+/// What 1.39 reads otherwise than 1.36, and what it doesn't.
+#[test]
+fn lists_of_which_one_is_asked(rt: HostRuntime) -> Result<(), Fail> {
+    for (query, older, newer) in [
+        (
+            "resources=PGPU:1,VCPU:1&required=in:CUSTOM_A,CUSTOM_X&required=CUSTOM_B",
+            "pair 2: BadValue",
+            "accepted",
+        ),
+        (
+            "resources=VCPU:1&required=CUSTOM_A&required=CUSTOM_A",
+            "pair 3: Repeated",
+            "accepted",
+        ),
+        (
+            "resources1=VCPU:1&required1=A&required1=in:B",
+            "pair 3: Repeated",
+            "accepted",
+        ),
+        (
+            "resources=VCPU:1&required=CUSTOM_A&required=!CUSTOM_A",
+            "pair 3: Repeated",
+            "accepted",
+        ),
+        (
+            "resources=VCPU:1&required=A,!A",
+            "pair 2: Conflict",
+            "pair 2: Conflict",
+        ),
+        (
+            "resources=VCPU:1&required=in:!CUSTOM_A",
+            "pair 2: BadValue",
+            "pair 2: BadValue",
+        ),
+        (
+            "resources=VCPU:1&required=!in:CUSTOM_A",
+            "pair 2: BadValue",
+            "pair 2: BadValue",
+        ),
+        (
+            "resources=VCPU:1&required=in:",
+            "pair 2: BadValue",
+            "pair 2: BadValue",
+        ),
+        (
+            "resources=VCPU:1&required=in:A,",
+            "pair 2: BadValue",
+            "pair 2: BadValue",
+        ),
+        (
+            "resources=VCPU:1&required=in:A,in:B",
+            "pair 2: BadValue",
+            "pair 2: BadValue",
+        ),
+        (
+            "resources=VCPU:1&required=IN:A",
+            "pair 2: BadValue",
+            "pair 2: BadValue",
+        ),
+        (
+            "resources=VCPU:1&required=A,in:B",
+            "pair 2: BadValue",
+            "pair 2: BadValue",
+        ),
+        (
+            "resources=VCPU:1&root_required=in:CUSTOM_A",
+            "pair 2: BadValue",
+            "pair 2: BadValue",
+        ),
+        (
+            "resources=VCPU:1&root_required=CUSTOM_A&root_required=CUSTOM_A",
+            "pair 3: Repeated",
+            "pair 3: Repeated",
+        ),
+        (
+            "resources=VCPU:1&resources=VCPU:1",
+            "pair 2: Repeated",
+            "pair 2: Repeated",
+        ),
+        (
+            "resources1=VCPU:1&required=in:A",
+            "pair 2: BadValue",
+            "group : GroupWithoutResources",
+        ),
+    ] {
+        let told = line_by(rt.alloc(), query, Version::V136)?;
+        assert_eq!(rt; told.as_str(), older, "by 1.36 at {query}");
+        let told = line_by(rt.alloc(), query, Version::V139)?;
+        assert_eq!(rt; told.as_str(), newer, "by 1.39 at {query}");
+    }
+    Ok(())
+}
+
 #[test]
 fn greatest_queries(rt: HostRuntime) -> Result<(), Fail> {
     let alloc = rt.alloc();
@@ -217,7 +315,7 @@ fn push_ids(alloc: Global, text: &mut String, ids: &[Id]) -> Result<(), AllocErr
     }
 }
 
-/// A group by all that it shows: suffix, needs, traits, aggregate rules and tree.
+/// A group by all that it shows: suffix, needs, traits, lists of traits, aggregate rules and tree.
 fn push_group(alloc: Global, text: &mut String, group: &Group) -> Result<(), AllocError> {
     text.push('[')?;
     if let Some(suffix) = group.suffix() {
@@ -226,6 +324,10 @@ fn push_group(alloc: Global, text: &mut String, group: &Group) -> Result<(), All
     push_needs(alloc, text, group.needs())?;
     push_names(text, " +", group.required())?;
     push_names(text, " -", group.forbidden())?;
+    for list in group.any_of() {
+        text.push_str(" any")?;
+        push_names(text, " ", list.names())?;
+    }
     for rule in group.member_of() {
         text.push_str(if rule.forbids() { " out " } else { " in " })?;
         push_ids(alloc, text, rule.ids())?;
@@ -269,29 +371,39 @@ fn shown(alloc: Global, query: &Query) -> Result<String, AllocError> {
 #[test]
 fn what_is_asked(rt: HostRuntime) -> Result<(), Fail> {
     let alloc = rt.alloc();
-    for (text, want) in [
+    for (version, text, want) in [
         (
+            Version::V139,
+            "required1=in:C,A,B,A&resources1=VCPU:1&required1=!Z,T&required1=in:A&required1=S,T",
+            "[1 VCPU:1 +S +T -Z any A B C any A] slot 0 VCPU:1 none",
+        ),
+        (
+            Version::V136,
             "resources=VCPU:2,DISK_GB:10",
             "[ DISK_GB:10 VCPU:2] slot 0 DISK_GB:10 slot 0 VCPU:2 none",
         ),
         (
+            Version::V136,
             "resources2=VCPU:1&resources10=VCPU:1&resources_=VCPU:1&resourcesa=VCPU:1&resources-=VCPU:1&resourcesA=VCPU:1&group_policy=none",
             "[- VCPU:1][10 VCPU:1][2 VCPU:1][A VCPU:1][_ VCPU:1][a VCPU:1] slot 0 VCPU:1 slot 1 VCPU:1 slot 2 VCPU:1 slot 3 VCPU:1 slot 4 VCPU:1 slot 5 VCPU:1 none",
         ),
         (
+            Version::V136,
             "required=!C,B,A,B&resources=VCPU:1&limit=7&root_required=!Y,X&group_policy=isolate",
             "[ VCPU:1 +A +B -C] slot 0 VCPU:1 root+X root-Y isolate limit 7",
         ),
         (
+            Version::V136,
             "member_of1=000000000000000000000000000000a2&resources1=B:1,A:2&member_of1=!in:000000000000000000000000000000a1,000000000000000000000000000000a1&in_tree1=00000000000000000000000000000009",
             "[1 A:2 B:1 in 00000000-0000-0000-0000-0000000000a2 out 00000000-0000-0000-0000-0000000000a1,00000000-0000-0000-0000-0000000000a1 tree 00000000-0000-0000-0000-000000000009] slot 0 A:2 B:1 none",
         ),
         (
+            Version::V136,
             "resources=M:1&resources_PF=V:1&required_N=T&same_subtree=_N,_PF&same_subtree=_PF",
             "[ M:1][_N +T][_PF V:1] slot 0 M:1 no no slot 1 yes no slot 2 V:1 yes yes none",
         ),
     ] {
-        match Query::read(alloc, text) {
+        match Query::read(alloc, text, version) {
             Ok(query) => {
                 let told = shown(alloc, &query)?;
                 assert_eq!(rt; told.as_str(), want);
@@ -325,7 +437,7 @@ fn tokens(rt: HostRuntime) -> Result<(), Fail> {
     let one = "00000000-0000-0000-0000-000000000001";
     let both = "00000000-0000-0000-0000-000000000001,00000000-0000-0000-0000-000000000002";
     let text = "resources1=VCPU:5&resources2=VCPU:5&group_policy=none";
-    match Query::read(alloc, text) {
+    match Query::read(alloc, text, Version::V136) {
         Ok(query) => {
             for (text, want) in [
                 (both, both),
@@ -378,6 +490,7 @@ fn tokens_of_a_cloud(rt: HostRuntime) -> Result<(), Fail> {
     let Ok(query) = Query::read(
         alloc,
         "resources1=VCPU:5&resources2=VCPU:5&group_policy=none",
+        Version::V136,
     ) else {
         assert!(rt; false, "the query is accepted");
         return Ok(());

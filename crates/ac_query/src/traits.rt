@@ -1,4 +1,5 @@
-ghost use Rattle.std.specs.Prelude.{◌≡◌, OnOk};
+ghost use Rattle.std.specs.Prelude.{◌≡◌, IfOk, OnOk, map};
+ghost use Rattle.ac_base.specs.Names.{trait_bytes};
 ghost use Rattle.ac_query.specs.Texts.{in_order_with};
 ghost use Rattle.ac_query.specs.Values.{no_traits, is_conflicting};
 ghost use Rattle.ac_query.specs.Gathered.{joined_traits};
@@ -23,6 +24,20 @@ fn add_names(names: &mut BTreeSet<TraitName>, more: BTreeSet<TraitName>) -> Resu
         names.insert(name)?;
     }
     Ok(())
+}
+
+/// The names of a set, in byte order.
+pub(crate) fn names_in_order(
+    alloc: Global,
+    names: BTreeSet<TraitName>,
+) -> Result<Vec<TraitName>, NoMemory>
+    ensures { IfOk result (λ list. map trait_bytes list.items ≡ names_shown names) }
+{
+    let mut list = Vec::new(alloc);
+    for name in names {
+        list.push(name)?;
+    }
+    Ok(list)
 }
 
 impl Traits {

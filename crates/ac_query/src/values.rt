@@ -1,13 +1,13 @@
 ghost use Rattle.std.specs.Prelude.{◌≡◌, IfOk, Some, None, if◌then◌else◌};
 ghost use Rattle.std.specs.Option.{option_map};
-ghost use Rattle.ac_query.specs.Values.{amount_value, need_value, with_need_item, needs_value, with_name, with_trait_item, traits_value, with_id_item, ids_value, aggregates_value, rule_value, with_suffix_item, subtree_value, policy_value};
+ghost use Rattle.ac_query.specs.Values.{amount_value, need_value, with_need_item, needs_value, with_name, with_trait_item, traits_value, with_name_item, names_value, with_id_item, ids_value, aggregates_value, rule_value, with_suffix_item, subtree_value, policy_value};
 ghost use Rattle.ac_query.specs.Shown.{need_shown, needs_shown, names_shown, traits_shown, suffixes_shown};
-ghost use Rattle.ac_query.specs.GroupsShown.{rule_shown};
+ghost use Rattle.ac_query.specs.GroupsShown.{rule_shown, any_of_shown};
 
 use crate::amount::Amount;
-use crate::group::AggregateRule;
+use crate::group::{AggregateRule, AnyOf};
 use crate::parameter::behind;
-use crate::traits::Traits;
+use crate::traits::{Traits, names_in_order};
 use ac_base::{ClassName, Id, NoMemory, Suffix, TraitName, read_count};
 use std::alloc::Global;
 use std::collections::{BTreeMap, BTreeSet};
@@ -110,6 +110,33 @@ pub(crate) fn read_traits(alloc: Global, text: &str) -> Result<Option<Traits>, N
         }
     }
     Ok(Some(traits))
+}
+
+/// `TRAIT,..`, one or more.
+#[tactic(auto, unfolding(crate::specs::Values::names_value))]
+fn read_names(alloc: Global, text: &str) -> Result<Option<BTreeSet<TraitName>>, NoMemory>
+    ensures { IfOk result (λ names. option_map names_shown names ≡ names_value text.now) }
+{
+    let mut names = BTreeSet::new(alloc);
+    for item in text.split(',') {
+        if !add_name(alloc, &mut names, item)? {
+            return Ok(None);
+        }
+    }
+    Ok(Some(names))
+}
+
+/// The traits of a list of which one is asked.
+pub(crate) fn read_any_of(alloc: Global, text: &str) -> Result<Option<AnyOf>, NoMemory>
+    ensures { IfOk result (λ list. option_map any_of_shown list ≡ names_value text.now) }
+{
+    match read_names(alloc, text)? {
+        Some(names) => {
+            let names = names_in_order(alloc, names)?;
+            Ok(Some(AnyOf { names }))
+        }
+        None => Ok(None),
+    }
 }
 
 /// Adds an id, unless the item is none.

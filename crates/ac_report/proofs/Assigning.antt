@@ -172,4 +172,5 @@ requests_differ all asked t u are order at au e =
     ∙ taken_of all told ys u ix (providers_are (slots_of asked) u au.long) low (all_filter P (λ ix. gives ys ix) (rising nat_cmp u) (all_rising P u au.below))))
 
 pub stated_requests_differ : StatedRequestsDiffer
-stated_requests_differ tables pairs t u = requests_differ (world_stated tables).providers (asked_by pairs) t u (providers_in_order tables) (query_in_order pairs)
+stated_requests_differ tables version pairs t u =
+    requests_differ (world_stated tables).providers (asked_by version pairs) t u (providers_in_order tables) (query_in_order version pairs)

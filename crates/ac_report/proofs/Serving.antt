@@ -210,7 +210,7 @@ abbrev pub no_slot : Slot
 no_slot = record {
   place = 0;
   suffix = None;
-  group = record { needs = []; required = []; forbidden = []; member_of = []; in_tree = None };
+  group = record { needs = []; required = []; forbidden = []; any_of = []; member_of = []; in_tree = None };
   needs = [];
 }
 

@@ -3,6 +3,7 @@ use Rattle.std.specs.Prelude.{◌≡◌, ℕ, List}
 use Rattle.ac_tables.specs.Laws.{AreProviders}
 use Rattle.ac_tables.specs.Tables.{Tables, world_stated}
 use Rattle.ac_tables.specs.World.{Provider}
+use Rattle.ac_query.specs.declared.version.Version.{Version}
 use Rattle.ac_query.specs.Asked.{Asked}
 use Rattle.ac_query.specs.Gathered.{asked_by}
 use Rattle.ac_query.specs.InOrder.{IsInOrder}
@@ -21,6 +22,7 @@ RequestsDiffer = (all : List Provider) (asked : Asked) (t u : List ℕ) → AreP
 
 -- the same of the providers that tables state and of what pairs ask for, be they accepted or not
 abbrev pub StatedRequestsDiffer : Type 0
-StatedRequestsDiffer = (tables : Tables) (pairs : List (List ℕ × List ℕ)) (t u : List ℕ)
-    → IsAssignment (world_stated tables).providers (asked_by pairs) t → IsAssignment (world_stated tables).providers (asked_by pairs) u
-    → request (world_stated tables).providers (asked_by pairs) t ≡ request (world_stated tables).providers (asked_by pairs) u → t ≡ u
+StatedRequestsDiffer = (tables : Tables) (version : Version) (pairs : List (List ℕ × List ℕ)) (t u : List ℕ)
+    → IsAssignment (world_stated tables).providers (asked_by version pairs) t
+    → IsAssignment (world_stated tables).providers (asked_by version pairs) u
+    → request (world_stated tables).providers (asked_by version pairs) t ≡ request (world_stated tables).providers (asked_by version pairs) u → t ≡ u

@@ -8,7 +8,7 @@ ghost use Rattle.ac_report.specs.Pages.{IsAssignment};
 
 use crate::{PageFault, request_text, summary_text, write_page, write_tokens};
 use ac_base::{MemSink, Turn};
-use ac_query::Query;
+use ac_query::{Query, Version};
 use ac_search::Source;
 use ac_tables::{Cloud, Sources};
 use std::alloc::{AllocError, Global};
@@ -136,7 +136,7 @@ fn cloud_of(alloc: Global, rows: Rows) -> Result<Cloud, Unfit> {
 }
 
 fn query_of(alloc: Global, text: &str) -> Result<Query, Unfit> {
-    match Query::read(alloc, text) {
+    match Query::read(alloc, text, Version::V136) {
         Ok(query) => Ok(query),
         Err(_) => Err(Unfit::Query),
     }

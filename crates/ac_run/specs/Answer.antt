@@ -9,6 +9,7 @@ use Rattle.ac_tables.specs.Tables.{Tables, records_or_header, tables_fault, worl
 use Rattle.ac_tables.specs.World.{World, Provider}
 use Rattle.ac_tables.specs.declared.fault.TableFault.{TableFault}
 use Rattle.ac_tables.specs.declared.fault.TableFault.TheVariants as fault
+use Rattle.ac_query.specs.declared.version.Version.{Version}
 use Rattle.ac_query.specs.Asked.{Asked}
 use Rattle.ac_query.specs.Faults.{query_fault}
 use Rattle.ac_query.specs.Located.{places_of}
@@ -26,10 +27,11 @@ use Rattle.ac_run.specs.Lines.{too_large_line, record_line, query_line, token_li
 use Rattle.ac_run.specs.declared.job.Command.{Command}
 use Rattle.ac_run.specs.declared.job.Command.TheVariants as command
 
--- what is asked: the query, and perhaps a token
+-- what is asked: the query, the version that reads it, and perhaps a token
 pub record Task : Type 0 where
   pub command : Command
   pub query : List ℕ
+  pub version : Version
   pub token : Option (List ℕ)
 
 -- what is answered
@@ -90,7 +92,8 @@ past_token say token asked = told (token_refusal asked token) (λ f. refused (to
 
 -- what is said, unless the query or the token is refused
 abbrev pub past_query : Says → Task → Outcome
-past_query say task = told (query_fault task.query) (λ f. refused (query_line f) 4) (past_token say task.token (asked_by (pairs_of task.query)))
+past_query say task =
+    told (query_fault task.version task.query) (λ f. refused (query_line f) 4) (past_token say task.token (asked_by task.version (pairs_of task.query)))
 
 -- the answer of a command in a world
 abbrev pub answer_in : Command → Task → World → Outcome

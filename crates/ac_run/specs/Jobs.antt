@@ -10,7 +10,7 @@ use Rattle.ac_run.specs.declared.refusal.Refusal.TheVariants as why
 use Rattle.ac_run.specs.declared.job.Job.{Job}
 
 abbrev pub task_of : Job → Task
-task_of job = record { command = job.command; query = job.query.now; token = option_map (λ token. token.now) job.token }
+task_of job = record { command = job.command; query = job.query.now; version = job.version; token = option_map (λ token. token.now) job.token }
 
 -- a token is there to be judged
 abbrev pub HasToken : Command → Option (List ℕ) → Type 0

@@ -11,16 +11,16 @@ ghost use Rattle.ac_run.specs.Answer.{ids_given, token_refusal};
 ghost use Rattle.ac_run.specs.Asking.{ExplainsQuery, ExplainsToken, IsRefusalOf};
 
 use crate::refusal::Refusal;
-use ac_query::{Query, QueryFault, Token, TokenFault};
+use ac_query::{Query, QueryFault, Token, TokenFault, Version};
 use std::alloc::Global;
 
-/// The query of a text.
-pub fn read_query(alloc: Global, text: &str) -> Result<Query, Refusal>
-    ensures fine { OnOk result (query_fault text.now ≡ None) }
-    ensures asked { IfOk result (λ query. asked_of query ≡ asked_by (pairs_of text.now)) }
-    ensures fault { IfErr result (ExplainsQuery (query_fault text.now)) }
+/// The query of a text, as a version reads it.
+pub fn read_query(alloc: Global, text: &str, version: Version) -> Result<Query, Refusal>
+    ensures fine { OnOk result (query_fault version text.now ≡ None) }
+    ensures asked { IfOk result (λ query. asked_of query ≡ asked_by version (pairs_of text.now)) }
+    ensures fault { IfErr result (ExplainsQuery (query_fault version text.now)) }
 {
-    match Query::read(alloc, text) {
+    match Query::read(alloc, text, version) {
         Ok(query) => Ok(query),
         Err(fault) => Err(refusal_of(fault)),
     }

@@ -1,4 +1,5 @@
 //! What a run is given: a job, and the feeds of the tables.
+use ac_query::Version;
 
 /// What is to be done.
 #[derive(Clone, Copy, Debug, PartialEq, Eq)]
@@ -13,12 +14,14 @@ pub enum Command {
     Verify,
 }
 
-/// What is to be done, and for which query and token.
+/// What is to be done, and for which query, version and token.
 #[derive(Clone, Copy, Debug, PartialEq, Eq)]
 pub struct Job<'a> {
     pub command: Command,
     /// What is asked for; empty for `Check`.
     pub query: &'a str,
+    /// The microversion of the API by which the query is read; `V136` for `Check`, where it says nothing.
+    pub version: Version,
     /// For `Verify` the token to judge, which is there; for `Candidates` and `Tokens` the one to begin after; none for `Check`.
     pub token: Option<&'a str>,
 }

@@ -40,7 +40,7 @@ fn read_wanted(alloc: Global, job: &Job) -> Result<Wanted, Refusal>
     ensures wanted { IfOk result (λ wanted. (say : Says) → past_query say (task_of job.now) ≡ say (asked_of wanted.query) (option_map ids_of wanted.token)) }
     ensures fault { IfErr result (ExplainsWanted (task_of job.now)) }
 {
-    let query = read_query(alloc, job.query)?;
+    let query = read_query(alloc, job.query, job.version)?;
     let token = read_token(alloc, job.token, &query)?;
     Ok(Wanted { query, token })
 }

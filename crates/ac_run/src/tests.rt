@@ -6,6 +6,7 @@ use crate::gathered::run_gathered;
 use crate::job::{Command, Inputs, Job};
 use crate::running::run;
 use ac_base::{MemFeed, MemSink, Turn};
+use ac_query::Version;
 use std::alloc::{AllocError, Global};
 
 mod crowded;
@@ -148,7 +149,7 @@ fn run_texts(alloc: Global, texts: &Texts, job: &Job<'_>, turns: Turns) -> Resul
     })
 }
 
-// A run over the tables of these rows.
+// A run by 1.36 over the tables of these rows.
 fn run_over<'a>(
     alloc: Global,
     rows: &Rows,
@@ -159,11 +160,19 @@ fn run_over<'a>(
 ) -> Result<Left, AllocError>
     requires { HasToken command (option_map (λ token. token.now) token) }
 {
-    let texts = texts_of(alloc, rows)?;
     let job = Job {
         command,
         query,
+        version: Version::V136,
         token,
     };
-    run_texts(alloc, &texts, &job, turns)
+    run_job(alloc, rows, &job, turns)
+}
+
+// A run over the tables of these rows.
+fn run_job(alloc: Global, rows: &Rows, job: &Job<'_>, turns: Turns) -> Result<Left, AllocError>
+    requires { HasToken job.now.command (option_map (λ token. token.now) job.now.token) }
+{
+    let texts = texts_of(alloc, rows)?;
+    run_texts(alloc, &texts, job, turns)
 }

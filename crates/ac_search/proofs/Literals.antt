@@ -25,7 +25,7 @@ provider id parent holdings traits aggregates = record { id = id; parent = paren
 
 -- a group without required traits
 group : List (List ℕ × ℕ) → List AggregateRule → Group
-group needs member_of = record { needs = needs; required = []; forbidden = []; member_of = member_of; in_tree = None }
+group needs member_of = record { needs = needs; required = []; forbidden = []; any_of = []; member_of = member_of; in_tree = None }
 
 ask : List (Option (List ℕ) × Group) → Asked
 ask groups = record { groups = groups; policy = None; subtrees = []; root_required = []; root_forbidden = []; limit = None }

@@ -4,6 +4,7 @@ use Rattle.std.specs.List.{list_all, list_any}
 use Rattle.std.specs.Option.{is_none, is_some, option_map, unwrap_or}
 use Rattle.ac_base.specs.Quantities.{Stock, units}
 use Rattle.ac_query.specs.Values.{AggregateRule}
+use Rattle.ac_query.specs.Asked.{Group}
 use Rattle.ac_tables.specs.World.{Provider, provider_at, place_of, root_of, held_of, has_trait, is_member}
 use Rattle.ac_search.specs.Placed.{Placed}
 
@@ -30,11 +31,22 @@ has_all p names = list_all (λ name. has_trait p name) names
 abbrev pub has_none : Provider → List (List ℕ) → Bool
 has_none p names = list_all (λ name. not (has_trait p name)) names
 
--- SlotTraits: the provider has no forbidden trait of the group, and in a suffixed group each required one.
+abbrev pub has_any : Provider → List (List ℕ) → Bool
+has_any p names = list_any (λ name. has_trait p name) names
+
+-- of each list the provider has a trait
+abbrev pub has_one_of_each : Provider → List (List (List ℕ)) → Bool
+has_one_of_each p lists = list_all (λ names. has_any p names) lists
+
+-- each required trait of a group, and of each any-of list one
+abbrev pub has_required : Provider → Group → Bool
+has_required p g = has_all p g.required && has_one_of_each p g.any_of
+
+-- SlotTraits: the provider has no forbidden trait of the group, and in a suffixed group each required one and of each any-of list one.
 unfoldable pub traits_fit : List Provider → Placed → Bool
 traits_fit all x =
     has_none (provider_at all x.provider) x.slot.group.forbidden
-    && (is_none x.slot.suffix || has_all (provider_at all x.provider) x.slot.group.required)
+    && (is_none x.slot.suffix || has_required (provider_at all x.provider) x.slot.group)
 
 -- ---- Aggregates
 

@@ -19,7 +19,7 @@ assigned asked list = placed (slots_of asked) list
 
 -- a slot for the places past the end
 unfoldable pub no_slot : Slot
-no_slot = record { place = 0; suffix = None; group = record { needs = []; required = []; forbidden = []; member_of = []; in_tree = None }; needs = [] }
+no_slot = record { place = 0; suffix = None; group = record { needs = []; required = []; forbidden = []; any_of = []; member_of = []; in_tree = None }; needs = [] }
 
 -- the slot at a place of a query
 abbrev pub slot_at : Asked → ℕ → Slot

@@ -4,7 +4,7 @@ use Rattle.std.specs.List.{list_all, list_any, filter, range_with_len}
 use Rattle.std.specs.Option.{is_none, is_some}
 use Rattle.std.specs.Str.{bytes_eq}
 use Rattle.ac_base.specs.Quantities.{Stock, capacity}
-use Rattle.ac_query.specs.Asked.{Asked, Slot, is_isolated, lists_suffix}
+use Rattle.ac_query.specs.Asked.{Asked, Group, Slot, is_isolated, lists_suffix}
 use Rattle.ac_tables.specs.World.{Provider, provider_at, id_at, used_of, has_trait, is_root, is_above, is_available_at}
 use Rattle.ac_search.specs.Placed.{Placed}
 use Rattle.ac_search.specs.Own.{stock_of, has_all, has_none}
@@ -19,9 +19,17 @@ brings all name x = is_none x.slot.suffix && has_trait (provider_at all x.provid
 unfoldable pub is_brought : List Provider → List Placed → List ℕ → Bool
 is_brought all xs name = list_any (λ x. brings all name x) xs
 
--- Collective: each required trait of the unsuffixed group is had by the provider of some unsuffixed slot.
+-- some unsuffixed slot's provider has one of these traits
+abbrev pub is_one_brought : List Provider → List Placed → List (List ℕ) → Bool
+is_one_brought all xs names = list_any (λ name. is_brought all xs name) names
+
+-- each required trait of a group is had by the provider of some unsuffixed slot, and of each any-of list one is
+abbrev pub are_brought : List Provider → List Placed → Group → Bool
+are_brought all xs g = list_all (λ name. is_brought all xs name) g.required && list_all (λ names. is_one_brought all xs names) g.any_of
+
+-- Collective: what the unsuffixed group requires, the providers of the unsuffixed slots have together.
 unfoldable pub collective : List Provider → Asked → List Placed → Bool
-collective all asked xs = list_all (λ g. is_some g.0 || list_all (λ name. is_brought all xs name) g.1.required) asked.groups
+collective all asked xs = list_all (λ g. is_some g.0 || are_brought all xs g.1) asked.groups
 
 -- ---- Sums
 

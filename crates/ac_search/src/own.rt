@@ -6,14 +6,14 @@ ghost use Rattle.ac_base.specs.Names.{trait_bytes};
 ghost use Rattle.ac_tables.specs.World.{provider_at};
 ghost use Rattle.ac_tables.specs.CloudWorld.{providers_of};
 ghost use Rattle.ac_query.specs.Asked.{slots_of};
-ghost use Rattle.ac_query.specs.GroupsShown.{need_entry, rule_shown};
+ghost use Rattle.ac_query.specs.GroupsShown.{need_entry, rule_shown, any_of_shown, group_asked};
 ghost use Rattle.ac_query.specs.QueriesShown.{asked_of};
 ghost use Rattle.ac_search.specs.Placed.{placed_at};
-ghost use Rattle.ac_search.specs.Own.{stock_of, admits, units_fit, has_all, has_none, traits_fit, counts_in, meets_rule, aggregates_fit, tree_fits};
+ghost use Rattle.ac_search.specs.Own.{stock_of, admits, units_fit, has_all, has_none, has_any, has_one_of_each, has_required, traits_fit, counts_in, meets_rule, aggregates_fit, tree_fits};
 
 use crate::slots::{group_at, is_suffixed, needs_at};
 use ac_base::{Id, TraitName};
-use ac_query::{AggregateRule, Need, Query};
+use ac_query::{AggregateRule, AnyOf, Group, Need, Query};
 use ac_tables::Cloud;
 
 // Whether the provider has an inventory of the class whose units admit the amount.
@@ -68,7 +68,41 @@ pub(crate) fn has_none(cloud: &Cloud, ix: u32, names: &[TraitName]) -> bool
     true
 }
 
-/// SlotTraits: whether the provider has no forbidden trait, and in a suffixed group each required one.
+// Whether the provider has one of these traits.
+fn has_any(cloud: &Cloud, ix: u32, names: &[TraitName]) -> bool
+    requires { ix < length (providers_of cloud.now) }
+    ensures { result ≡ has_any (provider_at (providers_of cloud.now) ix) (map trait_bytes names.now) }
+{
+    for name in names {
+        if cloud.has_trait(ix, name) {
+            return true;
+        }
+    }
+    false
+}
+
+// Whether of each of these lists the provider has a trait.
+fn has_one_of_each(cloud: &Cloud, ix: u32, lists: &[AnyOf]) -> bool
+    requires { ix < length (providers_of cloud.now) }
+    ensures { result ≡ has_one_of_each (provider_at (providers_of cloud.now) ix) (map any_of_shown lists.now) }
+{
+    for list in lists {
+        if !has_any(cloud, ix, list.names()) {
+            return false;
+        }
+    }
+    true
+}
+
+// Whether the provider has each required trait of a group, and of each any-of list one.
+fn has_required(cloud: &Cloud, ix: u32, group: &Group) -> bool
+    requires { ix < length (providers_of cloud.now) }
+    ensures { result ≡ has_required (provider_at (providers_of cloud.now) ix) (group_asked group.now) }
+{
+    has_all(cloud, ix, group.required()) && has_one_of_each(cloud, ix, group.any_of())
+}
+
+/// SlotTraits: whether the provider has no forbidden trait, and in a suffixed group what is required.
 #[tactic(auto, unfolding(crate::specs::Own::traits_fit))]
 pub(crate) fn has_slot_traits(cloud: &Cloud, query: &Query, s: usize, ix: u32) -> bool
     requires slot { s < length (slots_of (asked_of query.now)) }
@@ -77,7 +111,7 @@ pub(crate) fn has_slot_traits(cloud: &Cloud, query: &Query, s: usize, ix: u32) -
 {
     let group = group_at(query, s);
     has_none(cloud, ix, group.forbidden())
-        && (group.suffix().is_none() || has_all(cloud, ix, group.required()))
+        && (group.suffix().is_none() || has_required(cloud, ix, group))
 }
 
 // Whether an aggregate counts as the provider's: it is its own, or in the unsuffixed group its root's.

@@ -10,7 +10,7 @@ use crate::verdict::Verdict;
 use crate::verify;
 use crate::walk::Walk;
 use ac_base::Id;
-use ac_query::{Query, Token};
+use ac_query::{Query, Token, Version};
 use ac_tables::{Cloud, Sources};
 use std::alloc::{AllocError, Global};
 
@@ -83,9 +83,10 @@ fn cloud_of(alloc: Global, rows: Rows) -> Result<Option<Cloud>, AllocError> {
     Ok(Cloud::read(alloc, &src).ok())
 }
 
+// A query as 1.39 reads it: what 1.36 accepts, both read alike.
 fn query_of(alloc: Global, text: &str) -> Result<Option<Query>, AllocError> {
     let text = expanded(alloc, text)?;
-    match Query::read(alloc, text.as_str()) {
+    match Query::read(alloc, text.as_str(), Version::V139) {
         Ok(query) => Ok(Some(query)),
         Err(_) => Ok(None),
     }

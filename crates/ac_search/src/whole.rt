@@ -5,13 +5,14 @@ ghost use Rattle.std.specs.List.{All, list_all, list_any};
 ghost use Rattle.ac_base.specs.Names.{trait_bytes};
 ghost use Rattle.ac_tables.specs.CloudWorld.{providers_of};
 ghost use Rattle.ac_query.specs.Asked.{slots_of};
+ghost use Rattle.ac_query.specs.GroupsShown.{any_of_shown, group_asked};
 ghost use Rattle.ac_query.specs.QueriesShown.{asked_of};
 ghost use Rattle.ac_search.specs.Placed.{placed, assigned, placed_at};
-ghost use Rattle.ac_search.specs.Together.{is_brought, collective, are_apart, all_apart, isolate, listed, is_top, subtree};
+ghost use Rattle.ac_search.specs.Together.{is_brought, is_one_brought, are_brought, collective, are_apart, all_apart, isolate, listed, is_top, subtree};
 
 use crate::slots::{is_listed, is_set_apart, is_suffixed};
 use ac_base::TraitName;
-use ac_query::Query;
+use ac_query::{AnyOf, Group, Query};
 use ac_tables::Cloud;
 
 // Whether the provider of some unsuffixed slot has a trait.
@@ -30,7 +31,7 @@ fn is_brought(cloud: &Cloud, query: &Query, list: &[u32], name: &TraitName) -> b
 }
 
 // Whether each of these traits is brought.
-fn are_brought(cloud: &Cloud, query: &Query, list: &[u32], names: &[TraitName]) -> bool
+fn are_all_brought(cloud: &Cloud, query: &Query, list: &[u32], names: &[TraitName]) -> bool
     requires slots { length list.now ≤ length (slots_of (asked_of query.now)) }
     requires providers { All (λ p. p < length (providers_of cloud.now)) list.now }
     ensures { result ≡ list_all (λ name. is_brought (providers_of cloud.now) (assigned (asked_of query.now) list.now) name) (map trait_bytes names.now) }
@@ -43,7 +44,45 @@ fn are_brought(cloud: &Cloud, query: &Query, list: &[u32], names: &[TraitName]) 
     true
 }
 
-/// Collective: whether the providers of the unsuffixed slots have the required traits of their group together.
+// Whether one of these traits is brought.
+fn is_one_brought(cloud: &Cloud, query: &Query, list: &[u32], names: &[TraitName]) -> bool
+    requires slots { length list.now ≤ length (slots_of (asked_of query.now)) }
+    requires providers { All (λ p. p < length (providers_of cloud.now)) list.now }
+    ensures { result ≡ is_one_brought (providers_of cloud.now) (assigned (asked_of query.now) list.now) (map trait_bytes names.now) }
+{
+    for name in names {
+        if is_brought(cloud, query, list, name) {
+            return true;
+        }
+    }
+    false
+}
+
+// Whether of each of these lists one trait is brought.
+fn is_one_of_each_brought(cloud: &Cloud, query: &Query, list: &[u32], lists: &[AnyOf]) -> bool
+    requires slots { length list.now ≤ length (slots_of (asked_of query.now)) }
+    requires providers { All (λ p. p < length (providers_of cloud.now)) list.now }
+    ensures { result ≡ list_all (λ names. is_one_brought (providers_of cloud.now) (assigned (asked_of query.now) list.now) names) (map any_of_shown lists.now) }
+{
+    for names in lists {
+        if !is_one_brought(cloud, query, list, names.names()) {
+            return false;
+        }
+    }
+    true
+}
+
+// Whether each required trait of a group is brought, and of each any-of list one.
+fn are_brought(cloud: &Cloud, query: &Query, list: &[u32], group: &Group) -> bool
+    requires slots { length list.now ≤ length (slots_of (asked_of query.now)) }
+    requires providers { All (λ p. p < length (providers_of cloud.now)) list.now }
+    ensures { result ≡ are_brought (providers_of cloud.now) (assigned (asked_of query.now) list.now) (group_asked group.now) }
+{
+    are_all_brought(cloud, query, list, group.required())
+        && is_one_of_each_brought(cloud, query, list, group.any_of())
+}
+
+/// Collective: whether the providers of the unsuffixed slots have together what their group requires.
 #[tactic(auto, unfolding(crate::specs::Together::collective))]
 pub(crate) fn are_collective(cloud: &Cloud, query: &Query, list: &[u32]) -> bool
     requires slots { length list.now ≤ length (slots_of (asked_of query.now)) }
@@ -51,7 +90,7 @@ pub(crate) fn are_collective(cloud: &Cloud, query: &Query, list: &[u32]) -> bool
     ensures { result ≡ collective (providers_of cloud.now) (asked_of query.now) (assigned (asked_of query.now) list.now) }
 {
     for group in query.groups() {
-        if group.suffix().is_none() && !are_brought(cloud, query, list, group.required()) {
+        if group.suffix().is_none() && !are_brought(cloud, query, list, group) {
             return false;
         }
     }

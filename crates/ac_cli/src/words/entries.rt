@@ -1,10 +1,12 @@
 //! What the matches of `clap` hold.
-ghost use Rattle.std.specs.Prelude.{◌≡◌, IfOk, Some, is_some, option_map, string_bytes, true};
+ghost use Rattle.std.specs.Prelude.{◌≡◌, ⊤, IfErr, IfOk, None, OnOk, Some, [], is_some, option_map, string_bytes, true};
 ghost use Rattle.clap.specs.Words.{first_of, found_of, rows_of, subcommand_rows_of};
-ghost use Rattle.ac_cli.specs.Words.{HasEntry, HasNeeded, IsComplete, IsMadeOf, Says, name_of, query_of, token_of};
+ghost use Rattle.ac_cli.specs.Words.{HasEntry, HasNeeded, IsComplete, IsMadeOf, Says, Tells, name_of, query_of, token_of, version_faults, version_kinds, version_named, version_of};
 
-use super::{Command, Words};
+use super::{Command, WordFault, Words, fault_of, grammar};
+use ac_query::Version;
 use clap::ArgMatches;
+use clap::error::ErrorKind;
 use std::alloc::{AllocError, Global};
 
 // The entry of a name, where it has one.
@@ -46,6 +48,41 @@ fn query(alloc: Global, command: Command, entries: &ArgMatches<'_>) -> Result<St
     }
 }
 
+// The version of a text; 1.36 where there is none.
+fn version_named(text: Option<&str>) -> Option<Version>
+    ensures { result ≡ version_named (option_map (λ t. t.now) text.entry) }
+{
+    match text {
+        None | Some("1.36") => Some(Version::V136),
+        Some("1.39") => Some(Version::V139),
+        Some(_) => None,
+    }
+}
+
+// What the user is told of a version that isn't known.
+fn unknown_version(alloc: Global, text: &str) -> Result<WordFault, AllocError>
+    ensures { IfOk result (Tells (version_kinds None)) }
+{
+    let message = format!(in alloc;
+        "invalid value '{text}' for '--microversion <VERSION>': it is 1.36 or 1.39"
+    )?;
+    let mut command = grammar::program(alloc)?;
+    let error = command.error(ErrorKind::InvalidValue, message.as_str())?;
+    fault_of(alloc, &error)
+}
+
+// The version that reads the query.
+fn version(alloc: Global, entries: &ArgMatches<'_>) -> Result<Version, WordFault>
+    ensures version { IfOk result (λ v. version_of (rows_of (found_of entries.now)) ≡ Some v) }
+    ensures fault { IfErr result (Tells (version_kinds (version_of (rows_of (found_of entries.now))))) }
+{
+    let text = entry(entries, "microversion");
+    match version_named(text) {
+        Some(version) => Ok(version),
+        None => Err(unknown_version(alloc, text.unwrap_or(""))?),
+    }
+}
+
 // The token of a command.
 fn token(
     alloc: Global,
@@ -79,14 +116,17 @@ fn chosen<'m, 'a>(matches: &'m ArgMatches<'a>) -> (Command, &'m ArgMatches<'a>)
 fn words_with(
     alloc: Global,
     command: Command,
+    version: Version,
     entries: &ArgMatches<'_>,
 ) -> Result<Words, AllocError>
-    requires { HasNeeded command (rows_of (found_of entries.now)) }
+    requires needed { HasNeeded command (rows_of (found_of entries.now)) }
+    requires version { version_of (rows_of (found_of entries.now)) ≡ Some version }
     ensures { IfOk result (λ words. (words.command ≡ command) × IsMadeOf (rows_of (found_of entries.now)) words) }
 {
     Ok(Words {
         command,
         query: query(alloc, command, entries)?,
+        version,
         token: token(alloc, command, entries)?,
         providers: needed(alloc, entries, "providers")?,
         inventories: needed(alloc, entries, "inventories")?,
@@ -97,10 +137,13 @@ fn words_with(
 }
 
 // The words of the command that was found.
-pub fn words_of(alloc: Global, matches: &ArgMatches<'_>) -> Result<Words, AllocError>
+pub fn words_of(alloc: Global, matches: &ArgMatches<'_>) -> Result<Words, WordFault>
     requires { IsComplete (subcommand_rows_of matches.now) }
-    ensures { IfOk result (Says (subcommand_rows_of matches.now)) }
+    ensures entries { IfOk result (Says (subcommand_rows_of matches.now)) }
+    ensures known { OnOk result (version_faults (subcommand_rows_of matches.now) ≡ []) }
+    ensures fault { IfErr result (Tells (version_faults (subcommand_rows_of matches.now))) }
 {
     let (command, entries) = chosen(matches);
-    words_with(alloc, command, entries)
+    let version = version(alloc, entries)?;
+    Ok(words_with(alloc, command, version, entries)?)
 }

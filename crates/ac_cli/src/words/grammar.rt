@@ -2,7 +2,7 @@
 ghost use Rattle.std.specs.Prelude.{◌≡◌, IfOk, false};
 ghost use Rattle.clap.specs.Words.{app_of, rule_of};
 ghost use Rattle.clap.specs.declared.builder.command.Command.TheViews.{out-Command as fields_of};
-ghost use Rattle.ac_cli.specs.Words.{check_app, needed_rule, option_rule, program, query_app, search_app, verify_app, with_tables, word_rule};
+ghost use Rattle.ac_cli.specs.Words.{check_app, needed_rule, option_rule, program, query_app, search_app, verify_app, with_options, with_tables, word_rule};
 
 use clap::{Arg, Command};
 use std::alloc::{AllocError, Global};
@@ -94,6 +94,22 @@ fn add_tables<'a>(alloc: Global, command: Command<'a>) -> Result<Command<'a>, Al
     Ok(command)
 }
 
+// Adds the options of a command with a query: those of the tables, and the version.
+fn add_options<'a>(alloc: Global, command: Command<'a>) -> Result<Command<'a>, AllocError>
+    ensures app { IfOk result (λ c. app_of c ≡ with_options (app_of command.entry)) }
+    ensures local { (fields_of command.entry).has_globals ≡ false → IfOk result (λ c. (fields_of c).has_globals ≡ false) }
+{
+    let command = add_tables(alloc, command)?;
+    let command = command.arg(option(
+        alloc,
+        "microversion",
+        "VERSION",
+        "Reads the query by 1.36, or by 1.39, where `required` may be a list `in:A,B` of traits \
+         of which one is asked, and may be repeated [default: 1.36]",
+    ))?;
+    Ok(command)
+}
+
 // A command with a query.
 fn with_query<'a>(alloc: Global, name: &'a str, about: &'a str) -> Result<Command<'a>, AllocError>
     ensures app { IfOk result (λ c. app_of c ≡ query_app name.entry.now) }
@@ -125,7 +141,7 @@ fn search<'a>(alloc: Global, name: &'a str, about: &'a str) -> Result<Command<'a
     ensures app { IfOk result (λ c. app_of c ≡ search_app name.entry.now) }
     ensures local { IfOk result (λ c. (fields_of c).has_globals ≡ false) }
 {
-    let command = add_tables(alloc, with_query(alloc, name, about)?)?;
+    let command = add_options(alloc, with_query(alloc, name, about)?)?;
     command.arg(option(
         alloc,
         "after",
@@ -149,7 +165,7 @@ fn verify<'a>(alloc: Global) -> Result<Command<'a>, AllocError>
         "TOKEN",
         "The UUIDs of providers, as `tokens` writes them",
     ))?;
-    add_tables(alloc, command)
+    add_options(alloc, command)
 }
 
 // The whole command line.

@@ -1,5 +1,6 @@
 //! What the words of a command line answer, and the texts that come with it.
 use crate::words::{Command, Job, Table, WordFault, read_words};
+use ac_query::Version;
 use std::alloc::{AllocError, Global};
 use std::test::Fail;
 
@@ -42,6 +43,15 @@ fn has_line(text: &str, line: &str) -> bool {
 }
 
 // Whether the words are accepted, with this job.
+fn gives(alloc: Global, line: &str, job: Job<'_>) -> Result<bool, AllocError> {
+    let words = words_of(alloc, line)?;
+    Ok(match read_words(alloc, words.as_slice()) {
+        Ok(words) => words.job() == job,
+        Err(_fault) => false,
+    })
+}
+
+// Whether the words are accepted, with this job by 1.36.
 fn asks(
     alloc: Global,
     line: &str,
@@ -49,16 +59,14 @@ fn asks(
     query: &str,
     token: Option<&str>,
 ) -> Result<bool, AllocError> {
-    let words = words_of(alloc, line)?;
+    let version = Version::V136;
     let job = Job {
         command,
         query,
+        version,
         token,
     };
-    Ok(match read_words(alloc, words.as_slice()) {
-        Ok(words) => words.job() == job,
-        Err(_fault) => false,
-    })
+    gives(alloc, line, job)
 }
 
 #[test]
@@ -120,6 +128,76 @@ fn verify(rt: HostRuntime) -> Result<(), Fail> {
             asks(rt.alloc(), line, Command::Verify, "q", Some("t"))?,
             "{line}"
         );
+    }
+    Ok(())
+}
+
+#[test]
+fn versions(rt: HostRuntime) -> Result<(), Fail> {
+    let job = Job {
+        command: Command::Tokens,
+        query: "q",
+        version: Version::V136,
+        token: None,
+    };
+    let older = "ac_cli tokens q --microversion 1.36 --providers a --inventories b";
+    assert!(rt; gives(rt.alloc(), older, job)?);
+    let version = Version::V139;
+    let newer = "ac_cli tokens --microversion=1.39 q --providers a --inventories b";
+    assert!(rt; gives(rt.alloc(), newer, Job { version, ..job })?);
+    let command = Command::Candidates;
+    let newer = "ac_cli candidates q --providers a --inventories b --microversion 1.39";
+    assert!(rt;
+        gives(
+            rt.alloc(),
+            newer,
+            Job {
+                command,
+                version,
+                ..job
+            }
+        )?
+    );
+    let command = Command::Verify;
+    let token = Some("t");
+    let newer = "ac_cli verify q t --providers a --microversion 1.39 --inventories b";
+    assert!(rt;
+        gives(
+            rt.alloc(),
+            newer,
+            Job {
+                command,
+                version,
+                token,
+                ..job
+            }
+        )?
+    );
+    Ok(())
+}
+
+#[test]
+fn other_versions_are_refused(rt: HostRuntime) -> Result<(), Fail> {
+    let lines = [
+        "ac_cli tokens q --providers a --inventories b --microversion 1.40",
+        "ac_cli candidates q --providers a --inventories b --microversion 1.35",
+        "ac_cli verify q t --providers a --inventories b --microversion=1.390",
+        "ac_cli tokens q --providers a --inventories b --microversion=",
+    ];
+    for line in lines.as_slice() {
+        assert!(rt; refusal(rt.alloc(), line)?.is_some(), "{line}");
+    }
+    match refusal(
+        rt.alloc(),
+        "ac_cli tokens q --providers a --inventories b --microversion 1.40",
+    )? {
+        Some(text) => {
+            let told =
+                "error: invalid value '1.40' for '--microversion <VERSION>': it is 1.36 or 1.39";
+            assert!(rt; has_line(text.as_str(), told));
+            assert!(rt; has_line(text.as_str(), "Usage: ac_cli <COMMAND>"));
+        }
+        None => assert!(rt; false),
     }
     Ok(())
 }
@@ -251,23 +329,31 @@ fn help_tells_the_options(rt: HostRuntime) -> Result<(), Fail> {
         "      --traits <FILE>       The traits of each provider (CSV); without it none has any",
         "      --aggregates <FILE>   The aggregates of each provider (CSV); without it none is in any",
     ];
+    let options = [
+        "      --providers <FILE>        The resource providers and their trees (CSV)",
+        "      --inventories <FILE>      What each provider has of each resource class (CSV)",
+        "      --usages <FILE>           How much of it is used (CSV); without it nothing is",
+        "      --traits <FILE>           The traits of each provider (CSV); without it none has any",
+        "      --aggregates <FILE>       The aggregates of each provider (CSV); without it none is in any",
+        "      --microversion <VERSION>  Reads the query by 1.36, or by 1.39, where `required` may be a list `in:A,B` of traits of which one is asked, and may be repeated [default: 1.36]",
+    ];
     let searches = [
         "  <QUERY>  What is asked for, as in 'resources=VCPU:2'",
-        "      --after <TOKEN>       Begins after this candidate, written as `tokens` writes it",
+        "      --after <TOKEN>           Begins after this candidate, written as `tokens` writes it",
     ];
     let verifies = [
         "  <QUERY>  What is asked for, as in 'resources=VCPU:2'",
         "  <TOKEN>  The UUIDs of providers, as `tokens` writes them",
     ];
     let commands = [
-        "ac_cli help check",
         "ac_cli help candidates",
         "ac_cli help tokens",
         "ac_cli help verify",
     ];
     for line in commands.as_slice() {
-        assert!(rt; tells(rt.alloc(), line, tables.as_slice())?, "{line}");
+        assert!(rt; tells(rt.alloc(), line, options.as_slice())?, "{line}");
     }
+    assert!(rt; tells(rt.alloc(), "ac_cli help check", tables.as_slice())?);
     assert!(rt; tells(rt.alloc(), "ac_cli help candidates", searches.as_slice())?);
     assert!(rt; tells(rt.alloc(), "ac_cli help tokens", searches.as_slice())?);
     assert!(rt; tells(rt.alloc(), "ac_cli help verify", verifies.as_slice())?);
@@ -309,7 +395,9 @@ fn other_words_are_refused(rt: HostRuntime) -> Result<(), Fail> {
         "ac_cli candidates q --providers a --providers a --inventories b",
         "ac_cli candidates q --providers a --inventories b --traits c --traits c",
         "ac_cli candidates q --providers a --inventories b --after t --after t",
-        "ac_cli candidates q --providers a --inventories b --microversion 1.36",
+        "ac_cli check --providers a --inventories b --microversion 1.36",
+        "ac_cli candidates q --providers a --inventories b --microversion",
+        "ac_cli tokens q --providers a --inventories b --microversion 1.36 --microversion 1.36",
         "ac_cli verify q --providers a --inventories b",
         "ac_cli verify q -t --providers a --inventories b",
         "ac_cli verify q t t --providers a --inventories b",

@@ -4,9 +4,9 @@ ghost use Rattle.std.specs.List.Sorted.{IsStrictlySortedBy};
 ghost use Rattle.std.specs.Option.{option_map};
 ghost use Rattle.ac_base.specs.Names.{class_bytes, trait_bytes, suffix_bytes};
 ghost use Rattle.ac_base.specs.Texts.{text_cmp};
-ghost use Rattle.ac_query.specs.GroupsShown.{need_class, need_entry, rule_shown, suffix_of, group_asked};
+ghost use Rattle.ac_query.specs.GroupsShown.{need_class, need_entry, rule_shown, any_of_shown, suffix_of, group_asked};
 
-use super::{AggregateRule, Group, Need};
+use super::{AggregateRule, AnyOf, Group, Need};
 use ac_base::{ClassName, Id, Suffix, TraitName};
 
 impl Need {
@@ -23,6 +23,15 @@ impl Need {
         ensures small { result ≤ 2147483647 }
     {
         self.amount.count
+    }
+}
+
+impl AnyOf {
+    /// The traits, in byte order, each once.
+    pub fn names(&self) -> &[TraitName]
+        ensures { map trait_bytes result.now ≡ any_of_shown self.now }
+    {
+        self.names.as_slice()
     }
 }
 
@@ -70,6 +79,13 @@ impl Group {
         ensures { map trait_bytes result.now ≡ (group_asked self.now).forbidden }
     {
         self.forbidden.as_slice()
+    }
+
+    /// Its lists of traits of which one each is asked, in the order of their pairs.
+    pub fn any_of(&self) -> &[AnyOf]
+        ensures { map any_of_shown result.now ≡ (group_asked self.now).any_of }
+    {
+        self.any_of.as_slice()
     }
 
     /// Its aggregate rules, in the order of their pairs.

@@ -1,7 +1,7 @@
 ghost use Rattle.std.specs.Prelude.{◌≡◌, ◌+◌, ◌++◌, IfOk, OnOk, IfErr, IfSome, None, Some, map};
 ghost use Rattle.std.specs.Option.{option_map};
 ghost use Rattle.std.specs.List.Sorted.{IsStrictlySortedBy};
-ghost use Rattle.ac_base.specs.Names.{trait_bytes, suffix_bytes};
+ghost use Rattle.ac_base.specs.Names.{suffix_bytes};
 ghost use Rattle.ac_base.specs.Texts.{text_cmp};
 ghost use Rattle.ac_query.specs.Asked.{slots_from};
 ghost use Rattle.ac_query.specs.Asks.{Asks};
@@ -9,7 +9,7 @@ ghost use Rattle.ac_query.specs.Gathered.{asked_by};
 ghost use Rattle.ac_query.specs.Pairs.{pairs_of};
 ghost use Rattle.ac_query.specs.Faults.{first_fault, asked_conditions, query_fault};
 ghost use Rattle.ac_query.specs.FaultsShown.{fault_shown};
-ghost use Rattle.ac_query.specs.Shown.{needs_shown, names_shown};
+ghost use Rattle.ac_query.specs.Shown.{needs_shown};
 ghost use Rattle.ac_query.specs.DraftShown.{group_drafted, plain_shown, suffixed_shown, draft_asked};
 ghost use Rattle.ac_query.specs.GroupsShown.{need_class, need_entry, group_entry};
 ghost use Rattle.ac_query.specs.SlotsShown.{slot_shown, slots_at};
@@ -23,21 +23,11 @@ use crate::fault::QueryFault;
 use crate::group::{Group, Need};
 use crate::pass::read_draft;
 use crate::slot::Slot;
-use crate::traits::Traits;
-use ac_base::{ClassName, NoMemory, Suffix, TraitName};
+use crate::traits::{Traits, names_in_order};
+use crate::version::Version;
+use ac_base::{ClassName, NoMemory, Suffix};
 use std::alloc::Global;
-use std::collections::{BTreeMap, BTreeSet};
-
-/// The names of a set, in byte order.
-fn names_in_order(alloc: Global, names: BTreeSet<TraitName>) -> Result<Vec<TraitName>, NoMemory>
-    ensures { IfOk result (λ list. map trait_bytes list.items ≡ names_shown names) }
-{
-    let mut list = Vec::new(alloc);
-    for name in names {
-        list.push(name)?;
-    }
-    Ok(list)
-}
+use std::collections::BTreeMap;
 
 /// The needs of a map, classes in byte order.
 fn needs_in_order(alloc: Global, needs: BTreeMap<ClassName, Amount>) -> Result<Vec<Need>, NoMemory>
@@ -58,6 +48,7 @@ fn group_of(alloc: Global, suffix: Option<Suffix>, draft: GroupDraft) -> Result<
     let GroupDraft {
         needs,
         traits,
+        any_of,
         member_of,
         in_tree,
     } = draft;
@@ -73,6 +64,7 @@ fn group_of(alloc: Global, suffix: Option<Suffix>, draft: GroupDraft) -> Result<
         needs,
         required,
         forbidden,
+        any_of,
         member_of,
         in_tree,
     })
@@ -173,17 +165,17 @@ fn query_of(alloc: Global, draft: Draft) -> Result<Query, NoMemory>
 }
 
 impl Query {
-    /// Reads the text of a query, as it stands behind the `?` of the API's URL.
+    /// Reads the text of a query, as it stands behind the `?` of the API's URL, by a version of the API.
     ///
     /// Its pairs are those of `application/x-www-form-urlencoded`. The first fault in the order of the definition is told;
     /// want of memory is told where a growth was refused.
-    pub fn read(alloc: Global, text: &str) -> Result<Query, QueryFault>
-        ensures fine { OnOk result (query_fault text.now ≡ None) }
-        ensures asks { IfOk result (λ query. Asks (pairs_of text.now) (asked_of query)) }
-        ensures record { IfOk result (λ query. asked_of query ≡ asked_by (pairs_of text.now)) }
-        ensures err { IfErr result (λ e. IfSome (fault_shown e) (λ f. query_fault text.now ≡ Some f)) }
+    pub fn read(alloc: Global, text: &str, version: Version) -> Result<Query, QueryFault>
+        ensures fine { OnOk result (query_fault version text.now ≡ None) }
+        ensures asks { IfOk result (λ query. Asks version (pairs_of text.now) (asked_of query)) }
+        ensures record { IfOk result (λ query. asked_of query ≡ asked_by version (pairs_of text.now)) }
+        ensures err { IfErr result (λ e. IfSome (fault_shown e) (λ f. query_fault version text.now ≡ Some f)) }
     {
-        let draft = read_draft(alloc, text)?;
+        let draft = read_draft(alloc, text, version)?;
         check(alloc, &draft)?;
         let query = query_of(alloc, draft)?;
         Ok(query)

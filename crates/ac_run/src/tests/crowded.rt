@@ -1,6 +1,7 @@
 //! Many groups over hosts that are full.
 use super::{Left, SOUND, run_texts, texts_under_headers};
 use crate::job::{Command, Job};
+use ac_query::Version;
 use std::alloc::{AllocError, Global};
 use std::test::Fail;
 
@@ -45,6 +46,7 @@ fn left_of_full_hosts(alloc: Global) -> Result<Left, AllocError> {
     let job = Job {
         command: Command::Tokens,
         query: query.as_str(),
+        version: Version::V136,
         token: None,
     };
     run_texts(alloc, &texts, &job, SOUND)

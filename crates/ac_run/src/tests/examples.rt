@@ -1,6 +1,7 @@
 //! Worked examples, with values worked out by hand.
-use super::{EMPTY, ONE, Rows, SOUND, expanded, run_over};
-use crate::job::Command;
+use super::{EMPTY, ONE, Rows, SOUND, expanded, run_job};
+use crate::job::{Command, Job};
+use ac_query::Version;
 use std::process::Abort;
 use std::test::Fail;
 
@@ -10,6 +11,7 @@ struct Case {
     rows: Rows,
     command: Command,
     query: &'static str,
+    version: Version,
     token: Option<&'static str>,
     output: &'static str,
     line: &'static str,
@@ -21,6 +23,7 @@ const TOKENS: Case = Case {
     rows: ONE,
     command: Command::Tokens,
     query: "resources=VCPU:2",
+    version: Version::V136,
     token: None,
     output: "",
     line: "",
@@ -47,14 +50,13 @@ fn check(rt: &(impl Abort + AllocGlobal), cases: &[Case]) -> Result<(), Fail> {
             Some(token) => Some(expanded(alloc, token)?),
             None => None,
         };
-        let left = run_over(
-            alloc,
-            &case.rows,
-            case.command,
-            query.as_str(),
-            token.as_deref(),
-            SOUND,
-        )?;
+        let job = Job {
+            command: case.command,
+            query: query.as_str(),
+            version: case.version,
+            token: token.as_deref(),
+        };
+        let left = run_job(alloc, &case.rows, &job, SOUND)?;
         let output = expanded(alloc, case.output)?;
         assert_eq!(rt;
             left.output.as_str(),
@@ -373,6 +375,94 @@ const NODES: Rows = Rows {
 };
 
 const UNDER_A_NODE: &str = "resources_PF=VCPU:1&required_NUMA=HW_NUMA_ROOT&same_subtree=_NUMA,_PF";
+
+// Lists of traits of which one each is asked, by 1.39.
+#[test]
+fn lists_of_traits(rt: HostRuntime) -> Result<(), Fail> {
+    check(
+        &rt,
+        &[
+            Case {
+                rows: PARTED,
+                query: "resources=PGPU:1,VCPU:1&required=in:CUSTOM_A,CUSTOM_X&required=CUSTOM_B",
+                version: Version::V139,
+                output: "@3,@2\n",
+                ..TOKENS
+            },
+            Case {
+                rows: PARTED,
+                query: "resources=PGPU:1,VCPU:1&required=in:CUSTOM_A,CUSTOM_X&required=CUSTOM_B",
+                line: "query: pair 2: BadValue\n",
+                status: 4,
+                ..TOKENS
+            },
+            Case {
+                rows: PARTED,
+                query: "resources=PGPU:1,VCPU:1&required=in:CUSTOM_X,CUSTOM_Y",
+                version: Version::V139,
+                ..TOKENS
+            },
+            Case {
+                rows: PARTED,
+                query: "resources=PGPU:1,VCPU:1&required=in:CUSTOM_X,CUSTOM_Y",
+                version: Version::V139,
+                output: "no: rule 5 Collective\n",
+                token: Some("@3,@2"),
+                ..VERDICT
+            },
+            Case {
+                rows: PARTED,
+                query: "resources1=VCPU:1&required1=in:CUSTOM_A,CUSTOM_B",
+                version: Version::V139,
+                output: "@2\n",
+                ..TOKENS
+            },
+            Case {
+                rows: PARTED,
+                query: "resources1=VCPU:1&required1=in:CUSTOM_B",
+                version: Version::V139,
+                ..TOKENS
+            },
+            Case {
+                rows: PARTED,
+                query: "resources1=VCPU:1&required1=in:CUSTOM_B",
+                version: Version::V139,
+                output: "no: rule 2 SlotTraits\n",
+                token: Some("@2"),
+                ..VERDICT
+            },
+            Case {
+                rows: PARTED,
+                query: "resources=VCPU:1&required=CUSTOM_A&required=CUSTOM_A",
+                version: Version::V139,
+                output: "@2\n",
+                ..TOKENS
+            },
+            Case {
+                rows: PARTED,
+                query: "resources=VCPU:1&required=CUSTOM_A&required=!CUSTOM_A",
+                version: Version::V139,
+                ..TOKENS
+            },
+            Case {
+                rows: PARTED,
+                query: "resources=VCPU:1&root_required=in:CUSTOM_A",
+                version: Version::V139,
+                line: "query: pair 2: BadValue\n",
+                status: 4,
+                ..TOKENS
+            },
+            Case {
+                rows: PARTED,
+                query: "resources=VCPU:1&root_required=CUSTOM_A&root_required=CUSTOM_A",
+                version: Version::V139,
+                line: "query: pair 3: Repeated\n",
+                status: 4,
+                ..TOKENS
+            },
+        ],
+    )
+}
 
 #[test]
 fn subtrees(rt: HostRuntime) -> Result<(), Fail> {

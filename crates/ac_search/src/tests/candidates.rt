@@ -428,9 +428,70 @@ static CASES: [Case<'static>; 43] = [
     },
 ];
 
+// Lists of traits of which one each is asked, and traits that are asked one after another.
+static LISTED: [Case<'static>; 8] = [
+    Case {
+        rows: SIBLINGS,
+        query: "resources=PGPU:1,VCPU:1&required=in:CUSTOM_A,CUSTOM_X&required=CUSTOM_B",
+        after: None,
+        want: "03 02 /.",
+    },
+    Case {
+        rows: SIBLINGS,
+        query: "resources=PGPU:1,VCPU:1&required=in:CUSTOM_X,CUSTOM_Y",
+        after: None,
+        want: ".",
+    },
+    Case {
+        rows: SIBLINGS,
+        query: "resources=PGPU:1,VCPU:1&required=in:CUSTOM_A,CUSTOM_X&required=in:CUSTOM_B,CUSTOM_Y",
+        after: None,
+        want: "03 02 /.",
+    },
+    Case {
+        rows: SIBLINGS,
+        query: "resources=PGPU:1,VCPU:1&required=in:CUSTOM_A,CUSTOM_B&required=in:CUSTOM_Y",
+        after: None,
+        want: ".",
+    },
+    Case {
+        rows: SIBLINGS,
+        query: "resources1=VCPU:1&required1=in:CUSTOM_A,CUSTOM_B",
+        after: None,
+        want: "02 /.",
+    },
+    Case {
+        rows: SIBLINGS,
+        query: "resources1=VCPU:1&required1=in:CUSTOM_B",
+        after: None,
+        want: ".",
+    },
+    Case {
+        rows: SIBLINGS,
+        query: "resources1=VCPU:1&required1=in:CUSTOM_A&required1=in:CUSTOM_B",
+        after: None,
+        want: ".",
+    },
+    Case {
+        rows: SIBLINGS,
+        query: "resources=VCPU:1&required=CUSTOM_A&required=!CUSTOM_A",
+        after: None,
+        want: ".",
+    },
+];
+
 #[test]
 fn both_sources_give_the_candidates(rt: HostRuntime) -> Result<(), Fail> {
     for case in &CASES {
+        let got = gives(rt.alloc(), case.rows, case.query, case.after, 9)?;
+        assert_eq!(rt; got.as_str(), case.want, "{}", case.query);
+    }
+    Ok(())
+}
+
+#[test]
+fn both_sources_ask_for_one_trait_of_a_list(rt: HostRuntime) -> Result<(), Fail> {
+    for case in &LISTED {
         let got = gives(rt.alloc(), case.rows, case.query, case.after, 9)?;
         assert_eq!(rt; got.as_str(), case.want, "{}", case.query);
     }
@@ -446,7 +507,7 @@ struct Judged<'a> {
     verdict: Verdict,
 }
 
-static JUDGED: [Judged<'static>; 12] = [
+static JUDGED: [Judged<'static>; 14] = [
     Judged {
         rows: PAIR,
         query: "resources1=VCPU:5&resources2=VCPU:5&group_policy=none",
@@ -518,6 +579,18 @@ static JUDGED: [Judged<'static>; 12] = [
         query: "resources=VCPU:1,PGPU:1&required=CUSTOM_A,CUSTOM_X",
         ids: "@03,@02",
         verdict: Verdict::Broken(Rule::Collective),
+    },
+    Judged {
+        rows: SIBLINGS,
+        query: "resources=VCPU:1,PGPU:1&required=in:CUSTOM_X,CUSTOM_Y",
+        ids: "@03,@02",
+        verdict: Verdict::Broken(Rule::Collective),
+    },
+    Judged {
+        rows: SIBLINGS,
+        query: "resources1=VCPU:1&required1=in:CUSTOM_B",
+        ids: "@02",
+        verdict: Verdict::Broken(Rule::SlotTraits),
     },
 ];
 

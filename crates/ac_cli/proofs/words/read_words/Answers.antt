@@ -1,7 +1,12 @@
-use Rattle.std.proofs.Common.{inl, ◌≡◌, ◌∙◌, ap, ap₂, sym, refl, true, map, string_bytes, subst, List, []}
+use Rattle.std.proofs.Common.{inl, ◌≡◌, ◌∙◌, ap, ap₂, sym, refl, true, map, string_bytes, subst, List, [], ◌∷◌, IfErr}
+use Rattle.std.proofs.lemmas.Bool.{and_parts}
+use Rattle.std.proofs.lemmas.Result.{IfErr-weaker, on_ok_weaker}
+use Rattle.clap.specs.Kinds.{Kinds, or_else}
+use Rattle.clap.specs.Walk.{is_empty}
 use Rattle.clap.specs.Words.{App, Text, fault_of, is_simple, is_simple_and_free, subcommand_of, takes}
 use Rattle.clap.proofs.OnLiterals.{clap_on_literals}
-use Rattle.ac_cli.specs.Words.{IsComplete, Tells, faults, is_taken, named, program}
+use Rattle.clap.proofs.SimpleLemmas.{is_nil}
+use Rattle.ac_cli.specs.Words.{IsComplete, Tells, faults, is_taken, named, program, version_faults}
 use Rattle.ac_cli.specs.declared.words.WordFault.{WordFault}
 use Rattle.ac_cli.specs.declared.words.WordFault.TheVariants.{Refused, Help, NoMemory}
 use Rattle.ac_cli.proofs.EnteredCommand.{named-complete}
@@ -20,29 +25,13 @@ found-named : (a : App) (words : List Text) → a ≡ program → subcommand_of 
 unfolding named
 found-named a words e = ap₂ subcommand_of e refl
 
-fault-faults : (a : App) (words : List Text) → a ≡ program → fault_of a words ≡ faults words
+fault-program : (a : App) (words : List Text) → a ≡ program → fault_of a words ≡ fault_of program words
+fault-program a words e = ap₂ fault_of e refl
+
+-- where `clap` has no fault, that of the version is left
+version-left : (words : List Text) → fault_of program words ≡ [] → faults words ≡ version_faults (named words)
 unfolding faults
-fault-faults a words e = ap₂ fault_of e refl
-
-pub returns-in_ok-words_of-in-Ok-clause-faultless : goal.returns-in_ok-words_of-in-Ok-clause-faultless
-returns-in_ok-words_of-in-Ok-clause-faultless c =
-    let same = c.in_ok-grammar.ensures in
-    sym (fault-faults _ (map string_bytes c.args.words.now) same) ∙ c.in-Ok.ensures.kinds (ap is_simple_and_free same ∙ program_free)
-
-pub words_of-requires : goal.words_of-requires
-words_of-requires c =
-    let same = c.in_ok-grammar.ensures in
-    let words = map string_bytes c.args.words.now in
-    let none = sym (fault-faults _ words same) ∙ c.in-Ok.ensures.kinds (ap is_simple_and_free same ∙ program_free) in
-    let found = (c.in-Ok.ensures.matches (ap is_simple same ∙ program_simple)).1 ∙ found-named _ words same in
-    subst IsComplete (sym found) (named-complete words none)
-
-pub returns-in_ok-words_of-in-Ok-clause-entries : goal.returns-in_ok-words_of-in-Ok-clause-entries
-returns-in_ok-words_of-in-Ok-clause-entries c =
-    let same = c.in_ok-grammar.ensures in
-    let words = map string_bytes c.args.words.now in
-    let found = (c.in-Ok.ensures.matches (ap is_simple same ∙ program_simple)).1 ∙ found-named _ words same in
-    rw (← found) c.in_ok-words_of-in-Ok.ensures
+version-left words none = ap₂ or_else none refl
 
 -- what is told of no fault is want of memory
 told_nothing : (fault : WordFault) → Tells [] fault → fault ≡ NoMemory
@@ -50,14 +39,74 @@ told_nothing (Help text) t = absurd t
 told_nothing (Refused text) t = absurd t.2
 told_nothing NoMemory t = refl
 
+-- what is told of the faults of `clap` is told of them with the version's behind them
+tells-with : (kinds more : Kinds) (fault : WordFault) → Tells kinds fault → Tells (or_else kinds more) fault
+tells-with (kind ∷ kinds) more fault t = t
+tells-with [] more (Help text) t = absurd t
+tells-with [] more (Refused text) t = absurd t.2
+tells-with [] more NoMemory t = tt
+
+-- words that are taken have no fault of the version, and `clap` takes them
+taken-known : (words : List Text) → is_taken words ≡ true → version_faults (named words) ≡ []
+unfolding is_taken
+taken-known words taken = is_nil (version_faults (named words)) (and_parts (takes program words) (is_empty (version_faults (named words))) taken).1
+
+taken-takes : (words : List Text) → is_taken words ≡ true → takes program words ≡ true
+unfolding is_taken
+taken-takes words taken = (and_parts (takes program words) (is_empty (version_faults (named words))) taken).0
+
+-- ---- where `clap` finds a command
+
+pub words_of-requires : goal.words_of-requires
+words_of-requires c =
+    let same = c.in_ok-grammar.ensures in
+    let words = map string_bytes c.args.words.now in
+    let none = sym (fault-program _ words same) ∙ c.in-Ok.ensures.kinds (ap is_simple_and_free same ∙ program_free) in
+    let found = (c.in-Ok.ensures.matches (ap is_simple same ∙ program_simple)).1 ∙ found-named _ words same in
+    subst IsComplete (sym found) (named-complete words none)
+
+pub returns-in-Ok-clause-entries : goal.returns-in-Ok-clause-entries
+returns-in-Ok-clause-entries c =
+    let same = c.in_ok-grammar.ensures in
+    let words = map string_bytes c.args.words.now in
+    let found = (c.in-Ok.ensures.matches (ap is_simple same ∙ program_simple)).1 ∙ found-named _ words same in
+    rw (← found) c.words_of.ensures.entries
+
+pub returns-in-Ok-clause-faultless : goal.returns-in-Ok-clause-faultless
+returns-in-Ok-clause-faultless c =
+    let same = c.in_ok-grammar.ensures in
+    let words = map string_bytes c.args.words.now in
+    let none = sym (fault-program _ words same) ∙ c.in-Ok.ensures.kinds (ap is_simple_and_free same ∙ program_free) in
+    let found = (c.in-Ok.ensures.matches (ap is_simple same ∙ program_simple)).1 ∙ found-named _ words same in
+    on_ok_weaker c.words_of.result (λ known. version-left words none ∙ sym (ap version_faults found) ∙ known) c.words_of.ensures.known
+
+pub returns-in-Ok-clause-fault : goal.returns-in-Ok-clause-fault
+returns-in-Ok-clause-fault c =
+    let same = c.in_ok-grammar.ensures in
+    let words = map string_bytes c.args.words.now in
+    let none = sym (fault-program _ words same) ∙ c.in-Ok.ensures.kinds (ap is_simple_and_free same ∙ program_free) in
+    let found = (c.in-Ok.ensures.matches (ap is_simple same ∙ program_simple)).1 ∙ found-named _ words same in
+    subst (λ kinds. IfErr c.words_of.result (Tells kinds)) (ap version_faults found ∙ sym (version-left words none)) c.words_of.ensures.fault
+
+pub returns-in-Ok-clause-taken : goal.returns-in-Ok-clause-taken
+returns-in-Ok-clause-taken c = λ taken.
+    let same = c.in_ok-grammar.ensures in
+    let words = map string_bytes c.args.words.now in
+    let found = (c.in-Ok.ensures.matches (ap is_simple same ∙ program_simple)).1 ∙ found-named _ words same in
+    let told = subst (λ kinds. IfErr c.words_of.result (Tells kinds)) (ap version_faults found ∙ taken-known words taken) c.words_of.ensures.fault in
+    IfErr-weaker c.words_of.result (Tells []) _ told_nothing told
+
+-- ---- where it finds a fault
+
 pub returns-in_ok-fault_of-in-Err-clause-fault : goal.returns-in_ok-fault_of-in-Err-clause-fault
+unfolding faults
 returns-in_ok-fault_of-in-Err-clause-fault c =
     let same = c.in_ok-grammar.ensures in
     let words = map string_bytes c.args.words.now in
     let kinds = c.in-Err.ensures.kinds (ap is_simple_and_free same ∙ program_free) in
-    rw (← fault-faults _ words same) (c.in_ok-fault_of-in-Err.ensures _ kinds)
+    tells-with (fault_of program words) (version_faults (named words)) _ (rw (← fault-program _ words same) (c.in_ok-fault_of-in-Err.ensures _ kinds))
 
 pub returns-in_ok-fault_of-in-Err-clause-taken : goal.returns-in_ok-fault_of-in-Err-clause-taken
-unfolding is_taken
 returns-in_ok-fault_of-in-Err-clause-taken c = λ taken.
-    told_nothing _ (c.in_ok-fault_of-in-Err.ensures [] (inl (c.in-Err.ensures.passes (ap₂ takes c.in_ok-grammar.ensures refl ∙ taken))))
+    let takes_them = taken-takes (map string_bytes c.args.words.now) taken in
+    told_nothing _ (c.in_ok-fault_of-in-Err.ensures [] (inl (c.in-Err.ensures.passes (ap₂ takes c.in_ok-grammar.ensures refl ∙ takes_them))))

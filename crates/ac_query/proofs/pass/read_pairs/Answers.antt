@@ -21,11 +21,11 @@ loop-pair-init c =
     record {
       fits = omega (arith, ap length left, raw_pairs-fits c.args.text.now, c.requires);
       faults =
-          ap (λ ks. first_fault (pairs_conditions 1 (map string_bytes ks) (map pair_text (owned_pairs_left c.into_iter-pair-iterator.result)))) c.new-earlier.ensures.empty
-          ∙ ap (λ l. first_fault (pairs_conditions 1 [] (map pair_text l))) left;
+          ap (λ ks. first_fault (pairs_conditions c.args.version 1 (map string_bytes ks) (map pair_text (owned_pairs_left c.into_iter-pair-iterator.result)))) c.new-earlier.ensures.empty
+          ∙ ap (λ l. first_fault (pairs_conditions c.args.version 1 [] (map pair_text l))) left;
       asked =
-          ap (λ d. fold with_given d (given (map pair_text (owned_pairs_left c.into_iter-pair-iterator.result)))) c.new-draft.ensures
-          ∙ ap (λ l. fold with_given nothing (given (map pair_text l))) left;
+          ap (λ d. fold with_given d (given c.args.version (map pair_text (owned_pairs_left c.into_iter-pair-iterator.result)))) c.new-draft.ensures
+          ∙ ap (λ l. fold with_given nothing (given c.args.version (map pair_text l))) left;
     }
 
 pub loop-pair-preserved : goal.loop-pair-preserved
@@ -35,12 +35,12 @@ loop-pair-preserved c =
     record {
       fits = omega (arith, ap length step.2, c.loop-pair.invariant.fits);
       faults =
-          pass_goes_on (owned_pairs_left c.loop-pair.pair-iterator) (owned_pairs_left c.next.new.self) step.0 step.1 step.2
+          pass_goes_on c.args.version (owned_pairs_left c.loop-pair.pair-iterator) (owned_pairs_left c.next.new.self) step.0 step.1 step.2
           (string_bytes c.in_ok-name.name, c.as_str.result.now) step.3.0.2 value_is
           (c.loop-pair.number + 1) (texts_shown c.loop-pair.earlier) _ c.loop-pair.invariant.faults (texts_shown c.read_pair.new.earlier)
           c.in_ok-given.ensures.fine c.in_ok-given.ensures.earlier;
       asked =
-          adds_on (owned_pairs_left c.loop-pair.pair-iterator) (owned_pairs_left c.next.new.self) step.0 step.1 step.2
+          adds_on c.args.version (owned_pairs_left c.loop-pair.pair-iterator) (owned_pairs_left c.next.new.self) step.0 step.1 step.2
           (string_bytes c.in_ok-name.name, c.as_str.result.now) step.3.0.2 value_is
           (draft_shown c.loop-pair.draft) (draft_shown c.add.new.self) _ (given_shown c.in_ok-given.given) c.loop-pair.invariant.asked
           c.in_ok-given.ensures.value c.in_ok-add.ensures;
@@ -51,8 +51,8 @@ returns-in_err-given-clause-err c =
     let step = rw c.in_ok-name.was at c.in-Some.ensures.steps in
     let value_is = c.as_str.ensures.value ∙ step.3.1.2 in
     let told =
-    pass_stops (owned_pairs_left c.loop-pair.pair-iterator) (owned_pairs_left c.next.new.self) step.0 step.1 step.2
+    pass_stops c.args.version (owned_pairs_left c.loop-pair.pair-iterator) (owned_pairs_left c.next.new.self) step.0 step.1 step.2
     (string_bytes c.in_ok-name.name, c.as_str.result.now) step.3.0.2 value_is
     (c.loop-pair.number + 1) (texts_shown c.loop-pair.earlier) _ c.loop-pair.invariant.faults (fault_shown c.in_err-given.field-0.0)
     c.in_err-given.ensures.err in
-    err_is _ (λ e. IfSome (fault_shown e) (λ f. first_fault (pairs_conditions 1 [] (pairs_of c.args.text.now)) ≡ Some f)) _ c.from_residual-in_err-given.ensures.1 told
+    err_is _ (λ e. IfSome (fault_shown e) (λ f. first_fault (pairs_conditions c.args.version 1 [] (pairs_of c.args.text.now)) ≡ Some f)) _ c.from_residual-in_err-given.ensures.1 told

@@ -12,6 +12,6 @@ abbrev pub invariant-loop-pair : goal.invariant-loop-pair
 invariant-loop-pair l =
     record {
       fits : l.number + length (owned_pairs_left l.pair-iterator) ≤ 65536;
-      faults : first_fault (pairs_conditions (l.number + 1) (texts_shown l.earlier) (map pair_text (owned_pairs_left l.pair-iterator))) ≡ first_fault (pairs_conditions 1 [] (pairs_of l.fn.text));
-      asked : fold with_given (draft_shown l.draft) (given (map pair_text (owned_pairs_left l.pair-iterator))) ≡ gathered (pairs_of l.fn.text);
+      faults : first_fault (pairs_conditions l.fn.version (l.number + 1) (texts_shown l.earlier) (map pair_text (owned_pairs_left l.pair-iterator))) ≡ first_fault (pairs_conditions l.fn.version 1 [] (pairs_of l.fn.text));
+      asked : fold with_given (draft_shown l.draft) (given l.fn.version (map pair_text (owned_pairs_left l.pair-iterator))) ≡ gathered l.fn.version (pairs_of l.fn.text);
     }
