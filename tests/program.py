@@ -17,6 +17,7 @@ from concurrent.futures import ThreadPoolExecutor
 sys.dont_write_bytecode = True
 
 from cases import CHILD, ONE, SHARED, SMALL, SOME, Case, cuts, full, lines, tables
+from database import database_exports
 from export import exports
 from faults import drawn_queries, drawn_tables
 from large import LARGE, MOST_PROVIDERS, roots, vcpu
@@ -275,7 +276,8 @@ def main(*given):
     pages = [case for page in ('README.md', 'examples/README.md', 'docs/RULES.md', 'docs/FORMATS.md', 'docs/EXPORT.md')
              for case in shown(page)]
     chance = [*drawn(150), *drawn_tables(200), *drawn_queries(200)]
-    cases = [PAGES, *HELP, *WORDS, *FILES, *DEVICES, *GROWTHS, *SMALL, *pages, *rules, *exports(), *chance, *LARGE, FEW_BYTES, *cuts()]
+    cases = [PAGES, *HELP, *WORDS, *FILES, *DEVICES, *GROWTHS, *SMALL, *pages, *rules, *exports(), *database_exports(), *chance, *LARGE,
+             FEW_BYTES, *cuts()]
     cases = [case for case in cases if all(word in case.name for word in words)]
     failed = 0
     with ThreadPoolExecutor(max_workers=2) as pool:
