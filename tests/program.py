@@ -219,6 +219,7 @@ FEW_BYTES = Case('tokens: the first of 65536 roots, within 512 MiB', ['sh', '-c'
                  lines('P1'), tables={'providers': lambda: roots(MOST_PROVIDERS), 'inventories': lambda: vcpu(MOST_PROVIDERS)})
 
 PAGES = Case('the documents name what is there', ['sh', '-c', 'python3 -B tests/pages.py'])
+DRAWING = Case('a picture of a cloud is that of its tables', ['sh', '-c', 'python3 -B tests/drawing.py'])
 
 
 def reader_gone():
@@ -276,7 +277,7 @@ def main(*given):
     pages = [case for page in ('README.md', 'examples/README.md', 'docs/RULES.md', 'docs/FORMATS.md', 'docs/EXPORT.md')
              for case in shown(page)]
     chance = [*drawn(150), *drawn_tables(200), *drawn_queries(200)]
-    cases = [PAGES, *HELP, *WORDS, *FILES, *DEVICES, *GROWTHS, *SMALL, *pages, *rules, *exports(), *database_exports(), *chance, *LARGE,
+    cases = [PAGES, DRAWING, *HELP, *WORDS, *FILES, *DEVICES, *GROWTHS, *SMALL, *pages, *rules, *exports(), *database_exports(), *chance, *LARGE,
              FEW_BYTES, *cuts()]
     cases = [case for case in cases if all(word in case.name for word in words)]
     failed = 0
