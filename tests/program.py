@@ -190,15 +190,18 @@ def shown(page):
 
 
 def ruled(page):
-    """The examples of a page: a table in the notation of notation.py, and below it lines with a query and what it gives."""
+    """The examples of a page: a table in the notation of notation.py, and below it lines with a query and what it gives, or how it is refused.
+    Lines that begin with blanks are of something else."""
     text = contents(os.path.join(ROOT, page)).decode()
-    for table in re.finditer(r'^\| provider \|.*\n\|[-|]+\n((?:\|.*\n)+)\n((?:- `.*\n)+)', text, re.M):
+    for table in re.finditer(r'^\| provider \|.*\n\|[-|]+\n((?:\|.*\n)+)\n((?:- `.*\n(?:  .*\n)*)+)', text, re.M):
         cloud = '\n'.join(row.strip('|') for row in table[1].splitlines())
-        for line in table[2].splitlines():
+        for line in re.findall('^- .*', table[2], re.M):
             query, *names = re.findall(r'`([^`]*)`', line)
             words = {'tokens': [full(query)], 'verify': [full(query), full(names[0])] if names else []}
             if ', assignment `' in line:
                 yield Case(f'{page}: {line}', ['verify', *words['verify']], names[1] + '\n', status=status_of(names[1]), tables=tables(cloud))
+            elif ' is refused: `' in line:
+                yield Case(f'{page}: {line}', ['tokens', full(query)], err=names[0] + '\n', status=status_of(names[0]), tables=tables(cloud))
             else:
                 after = ['--after', full(names.pop(0))] if ' after `' in line else []
                 yield Case(f'{page}: {line}', ['tokens', *words['tokens'], *after], lines(*names), tables=tables(cloud))
@@ -270,7 +273,7 @@ def main(*given):
     if status == NOT_BUILT:
         print(f'FAILED to build the program:\n{said}\n0 passed, 1 failed')
         return 1
-    rules = list(ruled('docs/RULES.md'))
+    rules = [case for page in ('docs/RULES.md', 'docs/DIFFERENCES.md') for case in ruled(page)]
     if len({case.out for case in rules if case.out.startswith('no: rule')}) < 9:
         print('FAILED to find an example of each rule in docs/RULES.md\n0 passed, 1 failed')
         return 1

@@ -11,9 +11,12 @@ import json
 import os
 import random
 import re
+import shutil
 import subprocess
 import sys
 import tempfile
+import threading
+import time
 import urllib.error
 import urllib.parse
 import urllib.request
@@ -29,6 +32,8 @@ TABLES = 'providers', 'inventories', 'usages', 'traits', 'aggregates'
 VERSION = '1.36'
 GREATEST = 2147483647
 NUMBERS = 'total', 'reserved', 'min_unit', 'max_unit', 'step_size'
+SLOWLY = """#!/bin/sh
+while IFS= read -r line; do printf '%s\\n' "$line"; case $line in *';') sleep 0.3 ;; esac; done | """
 PAGE = os.path.join(ROOT, 'docs', 'DIFFERENCES.md')
 
 
@@ -155,7 +160,7 @@ def of_folder(folder):
     return cloud
 
 
-def drawn(hosts=40, seed=24):
+def drawn(hosts=24, seed=24):
     """A cloud of hosts, some with NUMA nodes and a network function, and of disks that some of them share. Names and ratios are odd at times."""
     chance = random.Random(seed)
     cloud = {name: [] for name in TABLES}
@@ -215,9 +220,9 @@ def asked(cloud):
             f'resources=VCPU:1&member_of={member}', f'resources=VCPU:1&member_of=in:{member},{other}', f'resources=VCPU:1&member_of=!{member}',
             f'resources1=VCPU:1&member_of1={member}', f'resources=VCPU:1&member_of=!in:{member},{other}', f'resources=VCPU:1&in_tree={inner}',
             f'resources1=VCPU:1,MEMORY_MB:256&in_tree1={inner}', 'resources=VCPU:1&root_required=COMPUTE_NODE',
-            'resources=VCPU:1&root_required=!COMPUTE_NODE', 'resources=SRIOV_NET_VF:1', numa, f'{numa}&resources=DISK_GB:20',
+            'resources=VCPU:1&root_required=!COMPUTE_NODE', 'resources=SRIOV_NET_VF:1', numa, f'{numa}&resources_DISK=DISK_GB:20&group_policy=none',
             'resources1=VCPU:2&resources2=VCPU:2&group_policy=none', 'resources1=VCPU:2&resources2=VCPU:2&group_policy=isolate',
-            'resources=DISK_GB:20&resources1=VCPU:1&resources2=VCPU:1&group_policy=isolate',
+            'resources1=DISK_GB:20&resources2=VCPU:1&resources3=VCPU:1&group_policy=isolate',
             f'{numa}&resources_NET=SRIOV_NET_VF:1&same_subtree=_CPU,_NET&group_policy=none',
             f'{numa}&resources_NET=SRIOV_NET_VF:1&group_policy=isolate',
             'resources_NET=SRIOV_NET_VF:1&required_NUMA=HW_NUMA_ROOT&same_subtree=_NET,_NUMA&group_policy=none',
@@ -230,6 +235,59 @@ def canonical(body):
                     sorted((suffix, sorted(set(providers))) for suffix, providers in one['mappings'].items()))
                    for one in body['allocation_requests'])
     return found, {provider: {**summary, 'traits': sorted(summary['traits'])} for provider, summary in body['provider_summaries'].items()}
+
+
+def names(query):
+    """The names of one's own that a query asks for, each with its kind."""
+    for name, value in urllib.parse.parse_qsl(query):
+        kind = 'resource_classes' if name.startswith('resources') else 'traits'
+        yield from ((kind, word) for word in re.findall(r'CUSTOM_\w+', value))
+
+
+def bare(query):
+    """The suffixes of groups that ask for no resources."""
+    pairs = dict(urllib.parse.parse_qsl(query))
+    every = {re.sub('^(required|member_of|in_tree)', '', name) for name in pairs if re.match('(required|member_of|in_tree).', name)}
+    return {suffix for suffix in every if 'resources' + suffix not in pairs}
+
+
+def short(text):
+    """A text with the UUIDs that notation.full writes out."""
+    return re.sub('00000000-0000-0000-0000-0000000000([0a])([0-9a-f])', lambda found: ('P' if found[1] == '0' else 'A') + found[2], text)
+
+
+def told(status, body, query):
+    """What the service answers, as docs/DIFFERENCES.md writes it: a text for each candidate, rising."""
+    if status != 200:
+        return [f'status {status}']
+    places = bare(query)
+    return sorted(short(', '.join([
+        *(f'{provider} {name}:{amount}' for provider, taken in sorted(one['allocations'].items())
+          for name, amount in sorted(taken['resources'].items())),
+        *(f'{suffix} at {provider}' for suffix, providers in sorted(one['mappings'].items()) if suffix in places for provider in providers)]))
+        for one in body['allocation_requests'])
+
+
+def answers(said):
+    """The answers that such a text of the page admits."""
+    spans = re.findall('`([^`]*)`', said)
+    if said.startswith('one of '):
+        return [*([span] for span in spans), *([[]] if said.endswith('nothing') else [])]
+    return [sorted(spans) or ([] if said == 'nothing' else [said])]
+
+
+def differences(database):
+    """The examples of docs/DIFFERENCES.md: a heading, the cloud, a query, what the service is to answer over this database, and which providers
+    its summaries are to lack."""
+    with open(PAGE, encoding='utf-8') as file:
+        page = file.read()
+    for part in re.split('^##+ ', page, flags=re.M)[1:]:
+        for table in re.finditer(r'^\| provider \|.*\n\|[-|]+\n((?:\|.*\n)+)\n((?:- `.*\n(?:  .*\n)+)+)', part, re.M):
+            cloud = tables_of('\n'.join(row.strip('|') for row in table[1].splitlines()))
+            for one in re.finditer(r'^- `([^`]*)`.*\n((?:  .*\n)+)', table[2], re.M):
+                said = dict(re.findall(r'^  - ([^:]*): (.*)$', one[2], re.M))
+                lacks = re.findall('`(.*?)`', said.get('missing in its summaries', ''))
+                yield part.splitlines()[0], cloud, full(one[1]), said.get(f'the service over {database}', said['the service']), lacks
 
 
 class Trial:
@@ -276,7 +334,7 @@ class Trial:
             status, body = self.service.candidates(query)
             code, out, err = self.ask('candidates', folder, query)
             if status != 200 or code:
-                self.say(False, f'{what}: {query}: the service {status} {body if status != 200 else ""}, the program {code} {err}')
+                self.say(False, f'{what}: {query}: the service {status}, the program {code} {err}')
                 continue
             mine, its = canonical(json.loads(out)), canonical(body)
             total += len(mine[0])
@@ -302,11 +360,68 @@ class Trial:
                 self.export(' '.join((what, *rounds)), folder, rounds)
 
 
+    def moving(self, exports=10):
+        """While the service moves what is used from one provider to another and back, each export from the database is of one moment: the column
+        `used` of the inventories, which another query fills, is that of the usages. The client gets its queries slowly, with moves between them."""
+        self.service.fill({name: read(text) for name, text in tables_of('P1 | | VCPU total 8\nP2 | | VCPU total 8').items()})
+        ended = threading.Event()
+        moves = []
+        writer = threading.Thread(target=self.move, args=(ended, moves))
+        writer.start()
+        with tempfile.TemporaryDirectory() as folder:
+            slow = os.path.join(folder, self.client[0])
+            with open(slow, 'w', encoding='utf-8') as file:
+                file.write(SLOWLY + f'exec {shutil.which(self.client[0])} "$@"\n')
+            os.chmod(slow, 0o700)
+            states = [self.state(slow) for _ in range(exports)]
+        ended.set()
+        writer.join()
+        torn = [one for one in states if one not in ((5, 0, 5, 0), (0, 5, 0, 5))]
+        self.say(not torn and len(moves) > exports, f'{exports} exports while {len(moves)} moves went on, {len(torn)} of them torn {torn[:2] or ""}'.rstrip())
+
+    def state(self, client):
+        """What is used of the two providers, by the inventories and by the usages of one export."""
+        with tempfile.TemporaryDirectory() as folder:
+            code, _, err = self.run(['tools/export-tables-from-database.sh', folder, client, *self.client[1:]])
+            if code:
+                return err
+            cloud = of_folder(folder)
+            return tuple(int(row[name]) for table, name in (('inventories', 'used'), ('usages', 'usage')) for row in cloud[table])
+
+    def move(self, ended, moves):
+        """One consumer's five processors, now from the one provider and now from the other."""
+        consumer = str(uuid.uuid4())
+        generation = None
+        while not ended.is_set():
+            body = {'allocations': {full('P1' if len(moves) % 2 else 'P2'): {'resources': {'VCPU': 5}}}, 'project_id': 'try', 'user_id': 'try',
+                    'consumer_generation': generation}
+            if self.service.ask('PUT', f'/allocations/{consumer}', body)[0] < 300:
+                moves.append(generation)
+            generation = self.service.do('GET', f'/allocations/{consumer}').get('consumer_generation')
+
+    def differ(self):
+        """The service answers as docs/DIFFERENCES.md says of it."""
+        filled = None
+        for heading, cloud, query, said, lacks in differences(self.name):
+            if cloud != filled:
+                self.service.fill({name: read(text) for name, text in cloud.items()})
+                filled = cloud
+            for kind, name in names(query):
+                self.service.name(kind, name)
+            status, body = self.service.candidates(query)
+            its = told(status, body, query)
+            still = its in answers(said) and not any(full(provider) in body['provider_summaries'] for provider in lacks)
+            self.say(still, f'{heading}: {short(query)}: ' + (
+                f'still so, {said}' if still else f'now {", ".join(f"`{one}`" for one in its) or "nothing"}, and not {said}'))
+
+
 def main(url, program, name, *client):
     trial = Trial(url, program, name, client)
     trial.cloud('the example cloud', of_folder(os.path.join(ROOT, 'examples', 'cloud')))
     trial.odd('odd ratios', odd_ratios())
     trial.cloud('a drawn cloud', drawn())
+    trial.moving()
+    trial.differ()
     trial.service.clear()
     print(f'{trial.passed} passed, {trial.failed} failed')
     return 1 if trial.failed else 0
