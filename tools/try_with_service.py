@@ -302,7 +302,9 @@ class Trial:
         print(f'{"ok    " if well else "FAILED"} {self.name}: {what}', flush=True)
 
     def run(self, words, **settings):
-        ran = subprocess.run(words, env={**os.environ, **settings}, cwd=ROOT, stdout=subprocess.PIPE, stderr=subprocess.PIPE, check=False)
+        """A command, which knows of no other cloud that the caller may have named by OS_* variables."""
+        known = {name: value for name, value in os.environ.items() if not name.startswith('OS_')}
+        ran = subprocess.run(words, env={**known, **settings}, cwd=ROOT, stdout=subprocess.PIPE, stderr=subprocess.PIPE, check=False)
         return ran.returncode, ran.stdout.decode(errors='replace'), ran.stderr.decode(errors='replace')
 
     def ask(self, command, folder, *words):
@@ -324,8 +326,8 @@ class Trial:
                 print('       only by the database:', dict(row))
             for row in [row for row in others if row not in rows][:3]:
                 print('       only by the client:', dict(row))
-        told = [sorted(line.partition(': ')[2] for line in text.splitlines()) for text in (first[2], second[2])]
-        self.say(told[0] == told[1], f'{what}: {len(told[0])} lines of rounded ratios, the same by both')
+        lines = [sorted(line.partition(': ')[2] for line in text.splitlines()) for text in (first[2], second[2])]
+        self.say(lines[0] == lines[1], f'{what}: {len(lines[0])} lines of rounded ratios, the same by both')
 
     def compare(self, what, folder, queries):
         """The program over exported tables answers as the service."""
@@ -377,7 +379,9 @@ class Trial:
         ended.set()
         writer.join()
         torn = [one for one in states if one not in ((5, 0, 5, 0), (0, 5, 0, 5))]
-        self.say(not torn and len(moves) > exports, f'{exports} exports while {len(moves)} moves went on, {len(torn)} of them torn {torn[:2] or ""}'.rstrip())
+        self.say(not torn and len(moves) > exports, f'{exports} exports while {len(moves)} moves went on, {len(torn)} of them torn')
+        for one in torn[:2]:
+            print('       torn:', one)
 
     def state(self, client):
         """What is used of the two providers, by the inventories and by the usages of one export."""
