@@ -11,6 +11,7 @@ EXAMPLE = os.path.join(os.path.dirname(HERE), 'examples', 'cloud')
 CHILD = '8c1d9a70-6e55-4f8f-8a0e-3f2f2f0a7702'
 FIVE = 'aggregates.csv\ninventories.csv\nproviders.csv\ntraits.csv\nusages.csv\n'
 SCRIPT = 'tools/export-tables.sh "$out"; echo $?; ls -A "$out"'
+NEEDED = 'dirname ls mkdir rm'  # what the script calls before it asks the client, and the test after it
 ROUNDING = 'tools/export-tables.sh --round-ratios "$out"; echo $?'
 # ratios as Python prints them, and what becomes of each where they are rounded
 RATIOS = {**dict.fromkeys(('1.1', '16.0', '0.0', '0.333333', '1e+16', '1234567.25', 'inf'), ''), '1e-05': 'written as 0.00001',
@@ -67,7 +68,8 @@ def exports():
     yield export('older tables stay where the client fails', 'echo old >"$out/usages.csv"; ' + SCRIPT + '; cat "$out/usages.csv"',
                  '1\nusages.csv\nold\n', f'{told}the client failed while it listed providers', 'The client said:',
                  'Unable to establish connection to http://placement', settings='BROKEN=0')
-    yield export('no client', 'PATH=/usr/bin:/bin; ' + SCRIPT, '1\n', told + 'there is no openstack client on the PATH')
+    alone = f'mkdir "$CLOUD/bin" && for name in {NEEDED}; do ln -s "$(command -v $name)" "$CLOUD/bin"; done; PATH=$CLOUD/bin; '
+    yield export('no client', alone + SCRIPT, '1\n', told + 'there is no openstack client on the PATH')
     yield export('no folder', 'tools/export-tables.sh; echo $?', '2\n', 'usage: tools/export-tables.sh [--round-ratios] OUTDIR')
     yield Case('check: the exported tables, with a ratio that is no ratio here', ['check', *(
         word for table in ('providers', 'inventories', 'usages', 'traits', 'aggregates')

@@ -17,6 +17,7 @@ from concurrent.futures import ThreadPoolExecutor
 sys.dont_write_bytecode = True
 
 from cases import CHILD, ONE, SHARED, SMALL, SOME, Case, cuts, full, lines, tables
+from database import database_exports
 from export import exports
 from faults import drawn_queries, drawn_tables
 from hostile import hostile
@@ -206,16 +207,19 @@ def shown(page):
 
 
 def ruled(page):
-    """The examples of a page: a table in the notation of notation.py, and below it lines with a query and what it gives."""
+    """The examples of a page: a table in the notation of notation.py, and below it lines with a query and what it gives, or how it is refused.
+    Lines that begin with blanks are of something else."""
     text = contents(os.path.join(ROOT, page)).decode()
-    for table in re.finditer(r'^\| provider \|.*\n\|[-|]+\n((?:\|.*\n)+)\n((?:- `.*\n)+)', text, re.M):
+    for table in re.finditer(r'^\| provider \|.*\n\|[-|]+\n((?:\|.*\n)+)\n((?:- `.*\n(?:  .*\n)*)+)', text, re.M):
         cloud = '\n'.join(row.strip('|') for row in table[1].splitlines())
-        for line in table[2].splitlines():
+        for line in re.findall('^- .*', table[2], re.M):
             query, *names = re.findall(r'`([^`]*)`', line)
             version = ['--microversion', '1.39'] if ' by 1.39' in line else []
             words = {'tokens': [full(query)], 'verify': [full(query), full(names[0])] if names else []}
             if ', assignment `' in line:
                 yield Case(f'{page}: {line}', ['verify', *words['verify'], *version], names[1] + '\n', status=status_of(names[1]), tables=tables(cloud))
+            elif ' is refused: `' in line:
+                yield Case(f'{page}: {line}', ['tokens', full(query), *version], err=names[0] + '\n', status=status_of(names[0]), tables=tables(cloud))
             else:
                 after = ['--after', full(names.pop(0))] if ' after `' in line else []
                 yield Case(f'{page}: {line}', ['tokens', *words['tokens'], *after, *version], lines(*names), tables=tables(cloud))
@@ -236,6 +240,7 @@ FEW_BYTES = Case('tokens: the first of 65536 roots, within 512 MiB', ['sh', '-c'
                  lines('P1'), tables={'providers': lambda: roots(MOST_PROVIDERS), 'inventories': lambda: vcpu(MOST_PROVIDERS)})
 
 PAGES = Case('the documents name what is there', ['sh', '-c', 'python3 -B tests/pages.py'])
+DRAWING = Case('a picture of a cloud is that of its tables', ['sh', '-c', 'python3 -B tests/drawing.py'])
 
 
 def reader_gone():
@@ -286,15 +291,15 @@ def main(*given):
     if status == NOT_BUILT:
         print(f'FAILED to build the program:\n{said}\n0 passed, 1 failed')
         return 1
-    rules = list(ruled('docs/RULES.md'))
+    rules = [case for page in ('docs/RULES.md', 'docs/DIFFERENCES.md') for case in ruled(page)]
     if len({case.out for case in rules if case.out.startswith('no: rule')}) < 9:
         print('FAILED to find an example of each rule in docs/RULES.md\n0 passed, 1 failed')
         return 1
     pages = [case for page in ('README.md', 'examples/README.md', 'docs/RULES.md', 'docs/FORMATS.md', 'docs/EXPORT.md')
              for case in shown(page)]
     chance = [*drawn(150), *drawn_tables(200), *drawn_queries(200)]
-    cases = [PAGES, *HELP, *WORDS, *FILES, *DEVICES, *GROWTHS, *REFUSALS, *SMALL, *pages, *rules, *exports(), *chance, *LARGE,
-             *hostile(PROGRAM), FEW_BYTES, *cuts()]
+    cases = [PAGES, DRAWING, *HELP, *WORDS, *FILES, *DEVICES, *GROWTHS, *REFUSALS, *SMALL, *pages, *rules, *exports(), *database_exports(), *chance,
+             *LARGE, *hostile(PROGRAM), FEW_BYTES, *cuts()]
     cases = [case for case in cases if all(word in case.name for word in words)]
     failed = 0
     with ThreadPoolExecutor(max_workers=2) as pool:

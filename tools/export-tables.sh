@@ -1,22 +1,15 @@
 #!/bin/sh
-# tools/export-tables.sh [--round-ratios] OUTDIR: writes the five tables of a cloud, as ac_cli reads them, into OUTDIR: providers.csv, inventories.csv,
-# usages.csv, traits.csv and aggregates.csv. It asks the openstack client, which finds the cloud by OS_* variables (docs/EXPORT.md).
+# tools/export-tables.sh [--round-ratios] OUTDIR: writes the five tables of a cloud, as ac_cli reads them, into OUTDIR: providers.csv,
+# inventories.csv, usages.csv, traits.csv and aggregates.csv. It asks the openstack client, which finds the cloud by OS_* variables (docs/EXPORT.md).
 # One process of the client makes all lists of a table, by commands on its standard input. Where the client fails, or a provider vanishes
 # in between, nothing is left in OUTDIR and the status is 1: the tables get their names when all of them are whole.
 # With --round-ratios, allocation ratios are written without an exponent and cut to six decimals, and each that was changed is told.
 
 set -eu
-export LC_ALL=C
+tool=export-tables
+usage='tools/export-tables.sh [--round-ratios] OUTDIR'
+. "$(dirname -- "$0")/exporting.sh"
 export OS_PLACEMENT_API_VERSION=1.29
-
-stop() {
-    echo "export-tables: $1" >&2
-    if test -s "$room/said"; then
-        echo 'The client said:' >&2
-        tail -n 5 "$room/said" >&2
-    fi
-    exit 1
-}
 
 # ask FILE: runs the commands on standard input in one process of the client. Its answer goes to that file.
 ask() {
@@ -48,46 +41,13 @@ table() {
     join "$1" "$2"
 }
 
-# round_ratios: the inventories with each ratio written out and cut to six decimals, and a line for each that was changed. A Python float
-# below 0.0001 is written as one digit, perhaps more behind a point, and an exponent.
-round_ratios() {
-    awk -F , -v OFS=, '
-        function digits(ratio,   parts, zeros) {
-            if (split(ratio, parts, "e-") == 1) return ratio
-            sub(/[.]/, "", parts[1])
-            while (length(zeros) < parts[2] - 1) zeros = zeros "0"
-            return "0." zeros parts[1]
-        }
-        NR == 1 { for (at = 1; at <= NF && $at != "\"allocation_ratio\""; at++); }
-        $at ~ /^[0-9]([.][0-9]+)?e-[0-9]+$/ || $at ~ /^[0-9]+[.][0-9][0-9][0-9][0-9][0-9][0-9][0-9]/ {
-            exact = digits($at)
-            kept = substr(exact, 1, index(exact, ".") + 6)
-            how = substr(exact, length(kept) + 1) ~ /^0*$/ ? "written as " : "rounded down to "
-            sub(/0+$/, "", kept)
-            sub(/[.]$/, ".0", kept)
-            told = "provider " $1 ", " $2 ": the ratio " $at " is " how kept
-            gsub(/"/, "", told)
-            print "export-tables: " told | "cat >&2"
-            $at = kept
-        }
-        { print }' "$room/inventories.csv" >"$room/rounded.csv"
-    mv -f -- "$room/rounded.csv" "$room/inventories.csv"
-}
-
 rounds=no
 if test "${1-}" = --round-ratios; then
     rounds=yes
     shift
 fi
-if test $# != 1 || test "${1#-}" != "$1"; then
-    echo 'usage: tools/export-tables.sh [--round-ratios] OUTDIR' >&2
-    exit 2
-fi
-mkdir -p -- "$1"
-room=$1/.export.$$
-mkdir -- "$room"
-trap 'rm -rf -- "$room"' EXIT
-trap 'exit 1' HUP INT TERM
+test $# = 1 || wrong_words
+begin "$1"
 command -v openstack >"$room/found" || stop 'there is no openstack client on the PATH'
 
 echo 'resource provider list -f csv' | ask providers.csv
@@ -107,6 +67,4 @@ echo 'resource provider list -f csv' | ask providers.again
 test $rounds = no || round_ratios
 cmp -s "$room/providers.csv" "$room/providers.again" ||
     echo 'export-tables: the cloud changed while it was listed (a provider, or its generation): the tables are not of one moment' >&2
-for name in providers inventories usages traits aggregates; do
-    mv -f -- "$room/$name.csv" "$1/$name.csv"
-done
+hand_over

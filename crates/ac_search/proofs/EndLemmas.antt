@@ -20,7 +20,7 @@ use Rattle.ac_search.proofs.ShorterLemmas.{among_all_shorter}
 use Rattle.ac_search.proofs.IdsLemmas.{between_by_ids}
 use Rattle.ac_search.proofs.SoughtLemmas.{low_at}
 use Rattle.ac_search.proofs.MoveLemmas.{path_low}
-use Rattle.ac_search.proofs.StepLemmas.{laws_in, search_same, same_then, bounded_then}
+use Rattle.ac_search.proofs.StepLemmas.{laws_in, search_same, bounded_then}
 
 -- how many fronts from c on there are
 unfoldable pub fronts_from : Search → List ℕ → ℕ

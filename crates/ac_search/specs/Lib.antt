@@ -20,3 +20,5 @@ pub mod WalkShown
 pub mod Steps
 pub mod Laws
 pub mod Ahead
+pub mod Loads
+pub mod Columns

@@ -3,7 +3,7 @@ ghost use Rattle.std.specs.Prelude.{◌≡◌, ⊤, IfErr, IfOk, None, OnOk, Som
 ghost use Rattle.clap.specs.Words.{first_of, found_of, rows_of, subcommand_rows_of};
 ghost use Rattle.ac_cli.specs.Words.{HasEntry, HasNeeded, IsComplete, IsMadeOf, Says, Tells, name_of, query_of, token_of, version_faults, version_kinds, version_named, version_of};
 
-use super::{Command, WordFault, Words, grammar};
+use super::{Command, WordFault, Words, fault_of, grammar};
 use ac_query::Version;
 use clap::ArgMatches;
 use clap::error::ErrorKind;
@@ -68,7 +68,7 @@ fn unknown_version(alloc: Global, text: &str) -> Result<WordFault, AllocError>
     )?;
     let mut command = grammar::program(alloc)?;
     let error = command.error(ErrorKind::InvalidValue, message.as_str())?;
-    Ok(WordFault::Refused(error.to_string(alloc)?))
+    fault_of(alloc, &error)
 }
 
 // The version that reads the query.

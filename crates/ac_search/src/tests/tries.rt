@@ -147,6 +147,42 @@ fn tries_no_other_tree(rt: HostRuntime) -> Result<(), Fail> {
     Ok(())
 }
 
+// A tree that can't host all groups is left at each choice of the first one: three times 3 is more than a host's 8, no
+// host has 4 three times in two times 7, three groups set apart want three hosts, and the trait of the third group stands
+// in another tree.
+#[test]
+fn tries_a_tree_that_lacks_room_at_its_first_choices_alone(rt: HostRuntime) -> Result<(), Fail> {
+    let alloc = rt.alloc();
+    let providers = repeated(alloc, 1, 20, "@#,@#,\n")?;
+    let inventories = repeated(alloc, 1, 20, FULL)?;
+    let rows = hosts(providers.as_str(), inventories.as_str(), "");
+    let query = "resources1=VCPU:3&resources2=VCPU:3&resources3=VCPU:3&group_policy=none";
+    let counts = probes(alloc, rows, query, None, 9)?;
+    assert!(rt; counts.as_slice() == [20].as_slice(), "sum");
+
+    let providers = "@01,@01,\n@02,@01,@01\n@03,@01,@01\n@04,@04,\n";
+    let inventories = repeated(alloc, 2, 3, "@#,VCPU,7,0,1,7,1,1.0\n")?;
+    let rows = hosts(providers, inventories.as_str(), "");
+    let query = "resources1=VCPU:4&resources2=VCPU:4&resources3=VCPU:4&group_policy=none";
+    let counts = probes(alloc, rows, query, None, 9)?;
+    assert!(rt; counts.as_slice() == [2].as_slice(), "pieces");
+    let query = "resources1=VCPU:1&resources2=VCPU:1&resources3=VCPU:1&group_policy=isolate";
+    let counts = probes(alloc, rows, query, None, 9)?;
+    assert!(rt; counts.as_slice() == [2].as_slice(), "apart");
+
+    let inventories = repeated(alloc, 2, 4, FULL)?;
+    let traits = "@04,CUSTOM_T\n";
+    let rows = Rows {
+        traits,
+        ..hosts(providers, inventories.as_str(), "")
+    };
+    let query =
+        "resources1=VCPU:1&required1=!CUSTOM_T&resources2=VCPU:1&resources3=VCPU:1&required3=CUSTOM_T&group_policy=none";
+    let counts = probes(alloc, rows, query, None, 9)?;
+    assert!(rt; counts.as_slice() == [2].as_slice(), "choice");
+    Ok(())
+}
+
 #[test]
 fn goes_to_the_last_of_many_lists(rt: HostRuntime) -> Result<(), Fail> {
     let alloc = rt.alloc();

@@ -1,6 +1,8 @@
-use Rattle.std.proofs.Common.{inl, ◌≡◌, ◌∙◌, ap, ap₂, sym, refl, true, map, string_bytes, subst, List, [], ◌∷◌, IfErr, arith}
+use Rattle.std.proofs.Common.{inl, ◌≡◌, ◌∙◌, ap, ap₂, sym, refl, true, map, string_bytes, subst, List, [], ◌∷◌, IfErr}
+use Rattle.std.proofs.lemmas.Bool.{and_parts}
 use Rattle.std.proofs.lemmas.Result.{IfErr-weaker, on_ok_weaker}
 use Rattle.clap.specs.Kinds.{Kinds, or_else}
+use Rattle.clap.specs.Walk.{is_empty}
 use Rattle.clap.specs.Words.{App, Text, fault_of, is_simple, is_simple_and_free, subcommand_of, takes}
 use Rattle.clap.proofs.OnLiterals.{clap_on_literals}
 use Rattle.clap.proofs.SimpleLemmas.{is_nil}
@@ -47,11 +49,11 @@ tells-with [] more NoMemory t = tt
 -- words that are taken have no fault of the version, and `clap` takes them
 taken-known : (words : List Text) → is_taken words ≡ true → version_faults (named words) ≡ []
 unfolding is_taken
-taken-known words taken = is_nil (version_faults (named words)) (grind arith)
+taken-known words taken = is_nil (version_faults (named words)) (and_parts (takes program words) (is_empty (version_faults (named words))) taken).1
 
 taken-takes : (words : List Text) → is_taken words ≡ true → takes program words ≡ true
 unfolding is_taken
-taken-takes words taken = grind arith
+taken-takes words taken = (and_parts (takes program words) (is_empty (version_faults (named words))) taken).0
 
 -- ---- where `clap` finds a command
 
@@ -76,7 +78,7 @@ returns-in-Ok-clause-faultless c =
     let words = map string_bytes c.args.words.now in
     let none = sym (fault-program _ words same) ∙ c.in-Ok.ensures.kinds (ap is_simple_and_free same ∙ program_free) in
     let found = (c.in-Ok.ensures.matches (ap is_simple same ∙ program_simple)).1 ∙ found-named _ words same in
-    on_ok_weaker c.words_of.result _ _ (λ known. version-left words none ∙ sym (ap version_faults found) ∙ known) c.words_of.ensures.known
+    on_ok_weaker c.words_of.result (λ known. version-left words none ∙ sym (ap version_faults found) ∙ known) c.words_of.ensures.known
 
 pub returns-in-Ok-clause-fault : goal.returns-in-Ok-clause-fault
 returns-in-Ok-clause-fault c =

@@ -1,8 +1,9 @@
-use Rattle.std.proofs.Common.{◌≡◌, ◌∙◌, Bool, List, length, map, ap, arith}
+use Rattle.std.proofs.Common.{◌≡◌, ◌∙◌, Bool, List, length, map, ap, arith, subst, sym}
 use Rattle.std.specs.List.{range_with_len}
 use Rattle.std.proofs.lemmas.List.{length-map, with_items_is}
 use Rattle.std.proofs.lemmas.List.FromFn.{length-range_with_len}
 use Rattle.ac_search.specs.Accounts.{providers_in, asked_in}
+use Rattle.ac_search.specs.Ahead.{AreRoots}
 use Rattle.ac_search.specs.Together.{takes_root}
 use Rattle.ac_search.specs.declared.ledger.Ledger.{Ledger}
 use Rattle.ac_search.proofs.RootLemmas.{takes_host}
@@ -13,16 +14,17 @@ many l taken is =
     let n = length (providers_in l) in
     ap length is ∙ (length-map (range_with_len 0 n) (takes_root (providers_in l) (asked_in l)) ∙ length-range_with_len 0 n)
 
-pub limit_all-requires-clause-may : goal.limit_all-requires-clause-may
-limit_all-requires-clause-may c = ap length c.deref_mut.ensures.value ∙ many c.args.ledger.now c.in_ok-may.may.items c.in_ok-may.ensures
-
 pub limit_all-requires-clause-hosts : goal.limit_all-requires-clause-hosts
 limit_all-requires-clause-hosts c =
     let l = c.args.ledger.now in
-    takes_host (providers_in l) (asked_in l) c.deref_mut.result.now (c.deref_mut.ensures.value ∙ c.in_ok-may.ensures)
+    record {
+      count = ap length c.deref_mut.ensures.value ∙ many l c.in_ok-may.may.items c.in_ok-may.ensures;
+      hosts = takes_host (providers_in l) (asked_in l) c.deref_mut.result.now (c.deref_mut.ensures.value ∙ c.in_ok-may.ensures);
+    }
 
-pub returns-clause-count : goal.returns-clause-count
-returns-clause-count c =
+pub returns : goal.returns
+returns c =
+    let l = c.args.ledger.now in
     let were = ap length c.deref_mut.ensures.value in
     let items = with_items_is c.in_ok-may.may c.limit_all.new.may (c.limit_all.auto.may ∙ omega (arith, were, c.in_ok-may.may.ok)) in
-    ap length items ∙ (c.limit_all.auto.may ∙ (were ∙ many c.args.ledger.now c.in_ok-may.may.items c.in_ok-may.ensures))
+    subst (AreRoots (providers_in l) (asked_in l)) (sym items) c.in_ok-limit_all.ensures

@@ -18,9 +18,12 @@ pub returns : goal.returns
 returns c =
     let l = c.args.ledger.now in
     if_ok _ _ c.limit.result
-    (λ _ is. slot_keeps l c.args.may.now c.limit.new.may c.args.choices.now c.in_ok-rooms.rooms.items (map ask_pair c.deref-2.result.now) c.args.s c.requires.slot c.requires.accounts c.requires.hosts
-    c.requires.choices
-    (ap (map ask_pair) c.deref-2.ensures.value ∙ asks_at l c.args.s c.index.result.now c.requires.slot c.index.ensures)
-    (rw c.deref.ensures.value at c.in_ok-rooms.ensures.rooms)
-    (rw c.deref-3.ensures.value at is))
+    (λ _ is. record {
+      count = c.limit.auto.may ∙ c.requires.hosts.count;
+      hosts = slot_keeps l c.args.may.now c.limit.new.may c.args.choices.now c.in_ok-rooms.rooms.items (map ask_pair c.deref-2.result.now) c.args.s c.requires.slot c.requires.empty c.requires.hosts.hosts
+          c.requires.choices
+          (ap (map ask_pair) c.deref-2.ensures.value ∙ asks_at l c.args.s c.index.result.now c.requires.slot c.index.ensures)
+          (rw c.deref.ensures.value at c.in_ok-rooms.ensures.rooms)
+          (rw c.deref-3.ensures.value at is);
+    })
     c.limit.ensures

@@ -1,10 +1,5 @@
-use Rattle.std.proofs.Common.{◌≡◌, length}
-use Rattle.ac_search.specs.Accounts.{providers_in, asked_in}
-use Rattle.ac_search.specs.Ahead.{AreHosts}
+use Rattle.ac_search.specs.Loads.{MayHost}
 use Rattle.ac_search.proofs.hosts.limit_slots.Given as goal
 
 abbrev pub invariant-loop-s : goal.invariant-loop-s
-invariant-loop-s l = record {
-  count : length l.may ≡ length (providers_in l.ledger);
-  hosts : AreHosts (providers_in l.ledger) (asked_in l.ledger) l.may;
-}
+invariant-loop-s l = MayHost l.ledger l.may

@@ -1,11 +1,11 @@
-use Rattle.std.proofs.Common.{◌≡◌, ◌∙◌, ℕ, List, [], ◌∷◌, ◌++◌, map, refl, sym, ap, subst, append-nil}
+use Rattle.std.proofs.Common.{◌≡◌, ◌∙◌, List, [], ◌∷◌, map, refl, sym, ap, subst, append-nil}
 use Rattle.std.specs.List.Sorted.{IsStrictlySortedBy}
 use Rattle.std.specs.Map.{keys_of}
 use Rattle.ac_base.specs.Names.{class_bytes}
 use Rattle.ac_base.specs.Texts.{text_cmp}
 use Rattle.ac_base.specs.declared.name.ClassName.{ClassName}
 use Rattle.ac_query.specs.declared.amount.Amount.{Amount}
-use Rattle.ac_query.specs.GroupsShown.{need_class, need_entry}
+use Rattle.ac_query.specs.GroupsShown.{need_entry}
 use Rattle.ac_query.specs.Shown.{need_shown, needs_shown}
 use Rattle.ac_query.proofs.NameSets.{rising_shown}
 use Rattle.ac_query.proofs.NeedSteps.{classes_kept}

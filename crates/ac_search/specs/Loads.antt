@@ -1,0 +1,71 @@
+-- What the providers of each root have together, and which marks of roots stay.
+use Rattle.std.specs.Prelude.{◌≡◌, ℕ, ◌+◌, ◌-◌, ◌/◌, ◌^◌, ◌<◌, ◌&&◌, if◌then◌else◌, Bool, true, false, nat_le, min, List, length, map, slice_index, slice_index_or}
+use Rattle.std.specs.Global.{Vec}
+use Rattle.ac_tables.specs.World.{Provider}
+use Rattle.ac_search.specs.Placed.{slot_at}
+use Rattle.ac_search.specs.QuerySearch.{choice_of, choices_of}
+use Rattle.ac_search.specs.Left.{ask_pair, wanted, left_in, row_of, has_each}
+use Rattle.ac_search.specs.Ahead.{load_in, load_of, hosts_of, AreRoots}
+use Rattle.ac_search.specs.Accounts.{providers_in, asked_in}
+use Rattle.ac_search.specs.declared.ledger.Ledger.{Ledger}
+use Rattle.ac_search.specs.declared.rooms.Ask.{Ask}
+use Rattle.ac_search.specs.declared.rooms.Room.{Room}
+
+-- a number of 64 bits is a load, or both are the greatest number or more
+abbrev pub IsLoad : ℕ → ℕ → Type 0
+IsLoad number load = min number (2 ^ 64 - 1) ≡ min load (2 ^ 64 - 1)
+
+-- an amount is added at each root of a list
+abbrev pub IsAdded : List ℕ → List ℕ → ℕ → List ℕ → Type 0
+IsAdded old roots amount new = (r : ℕ) → r < length old → IsLoad (slice_index new r) (slice_index old r + load_in (λ x. x) (λ _. amount) roots r)
+
+-- what the providers of a root have together, by the room of each
+abbrev pub load_at : List Provider → List ℕ → ℕ → ℕ
+load_at all rooms r = load_of (λ p. slice_index rooms p) (hosts_of all r)
+
+abbrev pub AreLoads : List Provider → List ℕ → List ℕ → Type 0
+AreLoads all rooms loads = (r : ℕ) → r < length all → IsLoad (slice_index loads r) (load_at all rooms r)
+
+-- the marks that stay: those of loads that reach what is wanted
+abbrev pub AreReaching : List Bool → List ℕ → ℕ → List Bool → Type 0
+AreReaching old loads wanted new = (r : ℕ) → r < length old → slice_index_or new r false ≡ (slice_index_or old r false && nat_le wanted (slice_index loads r))
+
+-- the marks that stay: those of roots whose providers have together what is wanted
+abbrev pub AreLimited : List Provider → List ℕ → ℕ → List Bool → List Bool → Type 0
+AreLimited all rooms wanted old new = (r : ℕ) → r < length all → slice_index_or new r false ≡ (slice_index_or old r false && nat_le wanted (load_at all rooms r))
+
+-- the marks of the roots that may host a candidate of a ledger's query
+abbrev pub MayHost : Ledger → List Bool → Type 0
+MayHost ledger may = AreRoots (providers_in ledger) (asked_in ledger) may
+
+-- the choices of a slot, and of all slots
+abbrev pub choice_in : Ledger → ℕ → List ℕ
+choice_in ledger s = choice_of (providers_in ledger) (asked_in ledger) (slot_at (asked_in ledger) s)
+
+abbrev pub choices_in : Ledger → List (List ℕ)
+choices_in ledger = choices_of (providers_in ledger) (asked_in ledger)
+
+-- each choice whose row has enough for what is asked has some room
+abbrev pub AreServing : List (Vec Room) → List ℕ → List Ask → List ℕ → Type 0
+AreServing rows choices asks rooms =
+    (j : ℕ) → j < length choices → has_each (row_of rows (slice_index choices j)) (map ask_pair asks) ≡ true → 0 < slice_index rooms (slice_index choices j)
+
+-- what is left of a class in each row
+abbrev pub IsColumn : List (Vec Room) → ℕ → List ℕ → Type 0
+IsColumn rows class rooms = (p : ℕ) → p < length rows → slice_index rooms p ≡ left_in (row_of rows p) class
+
+-- the pieces of an amount that each room has
+abbrev pub ArePieces : List ℕ → ℕ → List ℕ → Type 0
+ArePieces rooms amount pieces = (p : ℕ) → p < length rooms → slice_index pieces p ≡ slice_index rooms p / amount
+
+-- each room, but 1 at most
+abbrev pub AreOnes : List ℕ → List ℕ → Type 0
+AreOnes rooms ones = (p : ℕ) → p < length rooms → slice_index ones p ≡ min (slice_index rooms p) 1
+
+-- what the slots ask, by the numbers of classes
+abbrev pub pairs_of : List (Vec Ask) → List (List (ℕ × ℕ))
+pairs_of asks = map (λ (v : Vec Ask). map ask_pair v.items) asks
+
+-- 1 for asks of so much of a class or more
+abbrev pub is_much : ℕ → ℕ → List (ℕ × ℕ) → ℕ
+is_much class amount asks = if nat_le amount (wanted asks class) then 1 else 0

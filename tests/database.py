@@ -1,0 +1,72 @@
+"""tools/export-tables-from-database.sh over a file of SQLite with Placement's tables: by the client sqlite3, which is needed, and by a stand-in
+for mysql and psql (tests/client/mysql). tools/try-with-service.sh tries it over the service's own databases."""
+from __future__ import annotations
+
+from cases import Case
+from export import CLOUD, EXAMPLE, FIVE, HERE, RATIOS
+
+TOLD = 'export-tables-from-database: '
+TOOL = 'tools/export-tables-from-database.sh'
+ROW = '8c1d9a70-6e55-4f8f-8a0e-3f2f2f0a7702'
+
+
+def export(name, script, out, *said, settings='', cloud=CLOUD, before='true'):
+    """The script, where $out is a new folder and $base a file of SQLite with the cloud. What runs before may change the cloud in $CLOUD."""
+    begin = f'''out=$(mktemp -d) && trap 'rm -rf "$out" "$CLOUD"' EXIT && export CLOUD=$(mktemp -d) {settings} && cp {cloud}/*.csv "$CLOUD" &&
+        {{ {before}
+        }} && base=$CLOUD/base && python3 -B {HERE}/client/make_database.py "$CLOUD" "$base" && export PATH={HERE}/client:$PATH && '''
+    return Case(f'export from a database: {name}', ['sh', '-c', begin + script], out, ''.join(line + '\n' for line in said))
+
+
+def by(client, options=''):
+    return f'{TOOL} {options} "$out" {client} "$base"; echo $?; ls -A "$out"'
+
+
+def failed(name, settings, *said):
+    return export(name, by('mysql'), '1\n', *said, settings=settings)
+
+
+def rounded(provider, named):
+    return [f'{TOLD}provider {provider}, {name}: the ratio {ratio} is {RATIOS[ratio]}' for name, ratio in named.items()]
+
+
+def more_ratios(ratios):
+    """Commands that give one provider an inventory with each of these ratios, and no other."""
+    rows = ''.join(f'"{ROW}","R{at}",{ratio},1,1,0,1,1,0\n' for at, ratio in enumerate(ratios))
+    return f'''grep resource_class {CLOUD}/inventories.csv >"$CLOUD/inventories.csv"; head -n 1 {CLOUD}/usages.csv >"$CLOUD/usages.csv"
+        cat >>"$CLOUD/inventories.csv" <<'X'\n{rows}X\n'''
+
+
+def database_exports():
+    for client in 'sqlite3', 'psql':
+        yield export(f'the tables of the client, by {client}', f'{by(client)}; diff -r "$out" {CLOUD}', '0\n' + FIVE)
+        yield export(f'the example cloud, by {client}', f'{by(client)}; diff -r -x README.md "$out" {EXAMPLE}', '0\n' + FIVE, cloud=EXAMPLE)
+    yield export('ratios of single precision, by mysql',
+                 f'{by("mysql")}; sed "s/0.3333333333333333/0.333333/; s/0.30000000000000004/0.3/" {CLOUD}/inventories.csv '
+                 '>"$CLOUD/inventories.csv"; rm "$base"; diff -r "$out" "$CLOUD"', '0\n' + FIVE)
+    ratios = [ratio for ratio in RATIOS if ratio != 'inf'] + ['0.1', '123456.789', '9007199254740993.0', '1.7976931348623157e+308', '100.0']
+    for client in 'sqlite3', 'psql':
+        yield export(f'ratios as Python prints them, by {client}',
+                     f'{TOOL} "$out" {client} "$base"; tail -n +2 "$out/inventories.csv" | cut -d , -f 3',
+                     ''.join(repr(float(one)) + '\n' for one in ratios), before=more_ratios(ratios))
+    yield export('ratios are rounded where that is asked for', by('sqlite3', '--round-ratios') + '; cut -d , -f 3 "$out/inventories.csv"',
+                 '0\n' + FIVE + '"allocation_ratio"\n1.0\n0.00001\n1e+16\n0.0\n0.333333\n0.3\n16.0\n1.5\n',
+                 *rounded('5d3a1b1e-0c1f-4a4e-9a53-0f5b3a6f6b01', {'CUSTOM_TINY': '1e-05', 'CUSTOM_THIRD': '0.3333333333333333',
+                                                                   'CUSTOM_SUM': '0.30000000000000004'}))
+    yield export('a name with the end of a line', by('sqlite3') + '; diff "$out/providers.csv" "$CLOUD/providers.csv"', '0\n' + FIVE,
+                 before=f"""sed 's/"cn1"/"end\\nproviders, ""x""\\t|"/' {CLOUD}/providers.csv >"$CLOUD/providers.csv\"""")
+    yield export('the client has words of its own', f'cd "$CLOUD" && {HERE}/../{TOOL} "$out" sqlite3 -cmd ".timeout 1" base; echo $?', '0\n')
+    failure = TOLD + 'the client failed', 'The client said:', 'ERROR 2013 (HY000): Lost connection to server during query'
+    yield failed('the client fails at once', 'BROKEN=0', *failure)
+    yield failed('the client fails among the traits', 'BROKEN=20', *failure)
+    yield failed('the client ends too early', 'CUT=20', TOLD + 'the client ended before it had printed all tables')
+    yield failed('the client says something else', 'ODD=1', TOLD + 'the client printed a line that is no row of a table')
+    yield export('older tables stay where the client fails', f'echo old >"$out/usages.csv"; {by("mysql")}; cat "$out/usages.csv"',
+                 '1\nusages.csv\nold\n', *failure, settings='BROKEN=0')
+    yield export('no such file', f'{TOOL} "$out" sqlite3 "$out/none" 2>&1 | head -n 1; ls -A "$out"', TOLD + 'the client failed\n')
+    yield export('no providers', by('sqlite3'), '1\n', TOLD + 'the cloud has no providers',
+                 before='for table in "$CLOUD"/*.csv; do sed -i 2,\\$d "$table"; done')
+    yield export('no client', f'{TOOL} "$out" /nowhere/psql; echo $?; ls -A "$out"', '1\n', TOLD + 'there is no client /nowhere/psql on the PATH')
+    usage = 'usage: tools/export-tables-from-database.sh [--round-ratios] OUTDIR mysql|mariadb|psql|sqlite3 [ARG..]'
+    for name, words in ('no client is named', '"$out"'), ('another client', '"$out" oracle'), ('no folder', '--round-ratios'):
+        yield export(name, f'{TOOL} {words}; echo $?', '2\n', usage)

@@ -1,0 +1,64 @@
+# tools/exporting.sh: what the two exports share. They read it with `.`, after setting `tool`, their name in what they say, and `usage`,
+# their command line. Both gather the tables in a folder of their own within OUTDIR, `room`. OUTDIR gets them by `hand_over`, when all five are
+# whole; where the export fails before, it is as it was, and the status is 1.
+
+export LC_ALL=C
+
+# stop WHY: ends the export. What the client said last, in the room's file `said`, is told too.
+stop() {
+    echo "$tool: $1" >&2
+    if test -s "$room/said"; then
+        echo 'The client said:' >&2
+        tail -n 5 "$room/said" >&2
+    fi
+    exit 1
+}
+
+wrong_words() {
+    echo "usage: $usage" >&2
+    exit 2
+}
+
+# begin OUTDIR: the folder, and the room in it
+begin() {
+    test "${1#-}" = "$1" && test -n "$1" || wrong_words
+    mkdir -p -- "$1"
+    outdir=$1
+    room=$1/.export.$$
+    mkdir -- "$room"
+    trap 'rm -rf -- "$room"' EXIT
+    trap 'exit 1' HUP INT TERM
+}
+
+# hand_over: the five tables get their names
+hand_over() {
+    for name in providers inventories usages traits aggregates; do
+        mv -f -- "$room/$name.csv" "$outdir/$name.csv"
+    done
+}
+
+# round_ratios: the inventories with each ratio written out and cut to six decimals, and a line for each that was changed. A Python float
+# below 0.0001 is written as one digit, perhaps more behind a point, and an exponent.
+round_ratios() {
+    awk -F , -v OFS=, -v tool="$tool" '
+        function digits(ratio,   parts, zeros) {
+            if (split(ratio, parts, "e-") == 1) return ratio
+            sub(/[.]/, "", parts[1])
+            while (length(zeros) < parts[2] - 1) zeros = zeros "0"
+            return "0." zeros parts[1]
+        }
+        NR == 1 { for (at = 1; at <= NF && $at != "\"allocation_ratio\""; at++); }
+        $at ~ /^[0-9]([.][0-9]+)?e-[0-9]+$/ || $at ~ /^[0-9]+[.][0-9][0-9][0-9][0-9][0-9][0-9][0-9]/ {
+            exact = digits($at)
+            kept = substr(exact, 1, index(exact, ".") + 6)
+            how = substr(exact, length(kept) + 1) ~ /^0*$/ ? "written as " : "rounded down to "
+            sub(/0+$/, "", kept)
+            sub(/[.]$/, ".0", kept)
+            told = "provider " $1 ", " $2 ": the ratio " $at " is " how kept
+            gsub(/"/, "", told)
+            print tool ": " told | "cat >&2"
+            $at = kept
+        }
+        { print }' "$room/inventories.csv" >"$room/rounded.csv"
+    mv -f -- "$room/rounded.csv" "$room/inventories.csv"
+}

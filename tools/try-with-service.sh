@@ -1,0 +1,134 @@
+#!/bin/sh
+# tools/try-with-service.sh --yes [mariadb|postgresql|sqlite ..]: tries both exports and the program against Debian's packages of Placement, over
+# each of these databases, or all three. It is for root, on a machine of your choice, since it installs packages; without --yes it only says what it
+# would do. Databases and service live in a folder of their own under /tmp, are reached by sockets in it and by a port of 127.0.0.1, and are gone at
+# the end. What is tried stands in tools/try_with_service.py; the program is out/ac_cli, or what AC_CLI names. docs/EXPORT.md tells what it showed.
+
+set -eu
+export LC_ALL=C.UTF-8
+packages='python3-placement python3-openstackclient python3-osc-placement mariadb-server-core mariadb-client-core python3-pymysql
+    postgresql python3-psycopg2 sqlite3'
+
+cd -- "$(dirname -- "$0")/.."
+program=$(readlink -f -- "${AC_CLI:-out/ac_cli}" || :)
+
+stop() {
+    echo "try-with-service: $1" >&2
+    exit 1
+}
+
+missing() {
+    for package in $packages; do
+        test "$(dpkg-query -W -f='${db:Status-Status}' "$package" 2>/dev/null || :)" = installed || echo "$package"
+    done
+}
+
+# run LOG COMMAND..: starts a server
+run() {
+    log=$1
+    shift
+    "$@" >"$log" 2>&1 &
+    running="$! $running"
+}
+
+# end: ends what was started, the last one first
+end() {
+    for one in $running; do
+        kill "$one" 2>/dev/null || :
+        wait "$one" 2>/dev/null || :
+    done
+    running=
+}
+
+# until_ok COMMAND..: waits until it succeeds, at most a minute
+until_ok() {
+    tries=0
+    until "$@" >"$room/tried" 2>&1; do
+        tries=$((tries + 1))
+        test $tries -lt 60 || stop "not there after a minute: $* $(cat "$room/tried")"
+        sleep 1
+    done
+}
+
+# Each of the next three starts a database that is empty, and sets `connection`, as the service names it. `client` is then how its client opens it.
+mariadb_server() {
+    set -- --no-defaults --user=root --datadir="$room/mariadb"
+    mariadb-install-db "$@" --auth-root-authentication-method=normal --skip-test-db >"$room/install.log" 2>&1
+    run "$room/mariadb.log" mariadbd "$@" --socket="$room/mariadb.socket" --pid-file="$room/mariadb.pid" --skip-networking
+    until_ok mariadb --no-defaults --user=root --socket="$room/mariadb.socket" -e 'CREATE DATABASE placement CHARACTER SET utf8'
+    connection="mysql+pymysql://root@localhost/placement?unix_socket=$room/mariadb.socket"
+}
+
+postgresql_server() {
+    programs=$(ls -d /usr/lib/postgresql/*/bin | tail -n 1)
+    mkdir "$room/postgresql"
+    chown postgres "$room/postgresql"
+    set -- setpriv --reuid=postgres --regid=postgres --init-groups
+    "$@" "$programs/initdb" -A trust -U placement -D "$room/postgresql/data" >"$room/install.log" 2>&1
+    run "$room/postgresql.log" "$@" "$programs/postgres" -D "$room/postgresql/data" -c listen_addresses= \
+        -c unix_socket_directories="$room/postgresql"
+    until_ok createdb -h "$room/postgresql" -U placement placement
+    connection="postgresql+psycopg2://placement@/placement?host=$room/postgresql"
+}
+
+sqlite_server() {
+    connection="sqlite:///$room/placement.db"
+}
+
+# try DATABASE CLIENT [ARG..]: the service over the database of `connection`, and all that is tried
+try() {
+    database=$1
+    shift
+    mkdir "$room/$database.conf"
+    cat >"$room/$database.conf/placement.conf" <<X
+[api]
+auth_strategy = noauth2
+[placement_database]
+connection = $connection
+X
+    placement-manage --config-file "$room/$database.conf/placement.conf" db sync >"$room/sync.log" 2>&1 || stop "no schema: $(cat "$room/sync.log")"
+    port=$(python3 -c 'import socket; s = socket.socket(); s.bind(("127.0.0.1", 0)); print(s.getsockname()[1])')
+    run "$room/service.log" env OS_PLACEMENT_CONFIG_DIR="$room/$database.conf" placement-api --host 127.0.0.1 --port "$port"
+    until_ok python3 -c "import urllib.request; urllib.request.urlopen('http://127.0.0.1:$port/')"
+    python3 tools/try_with_service.py "http://127.0.0.1:$port" "$program" "$database" "$@" || failed=yes
+}
+
+wanted=
+told=no
+for word; do
+    case $word in
+    --yes) told=yes ;;
+    mariadb | postgresql | sqlite) wanted="$wanted $word" ;;
+    *) stop 'usage: tools/try-with-service.sh --yes [mariadb|postgresql|sqlite ..]' ;;
+    esac
+done
+if test $told = no; then
+    echo 'This installs packages of Debian as root, those of these that are missing:'
+    echo "   " $packages
+    echo "(that of PostgreSQL sets up a cluster of its own, which isn't used here). Then it starts databases and the service in a folder under"
+    echo '/tmp, fills them, asks them, and ends them. Nothing else of the machine is touched. With --yes it begins.'
+    exit 2
+fi
+test "$(id -u)" = 0 || stop 'this is for root'
+test -x "$program" || stop 'there is no program: build it by ./ac_cli, or name it by AC_CLI'
+lacking=$(missing)
+test -z "$lacking" || DEBIAN_FRONTEND=noninteractive apt-get install -y --no-install-recommends $lacking
+
+room=$(mktemp -d /tmp/try-with-service.XXXXXX)
+chmod 711 "$room"
+running=
+failed=no
+trap 'end; rm -rf -- "$room"' EXIT
+trap 'exit 1' HUP INT TERM
+
+dpkg-query -W -f='${Package} ${Version}\n' $packages
+for database in ${wanted:-mariadb postgresql sqlite}; do
+    "${database}_server"
+    case $database in
+    mariadb) try mariadb mariadb --no-defaults --user=root --socket="$room/mariadb.socket" placement ;;
+    postgresql) try postgresql psql -h "$room/postgresql" -U placement placement ;;
+    sqlite) try sqlite sqlite3 "$room/placement.db" ;;
+    esac
+    end
+done
+test $failed = no

@@ -1,0 +1,435 @@
+#!/usr/bin/env python3
+"""tools/try_with_service.py URL PROGRAM NAME CLIENT [ARG..]: tries the exports and the program PROGRAM against the service at URL, whose database
+is opened by CLIENT ARG... tools/try-with-service.sh starts that service and calls this. NAME is the name of the database in what is said.
+
+Clouds are put into the service by its API, exported in both ways, and asked for candidates, of the service and of the program. Last come the
+clouds and queries of docs/DIFFERENCES.md, where the service is to answer as that page says of it. The status is 0 only where all was so."""
+from __future__ import annotations
+
+import csv
+import json
+import os
+import random
+import re
+import shutil
+import subprocess
+import sys
+import tempfile
+import threading
+import time
+import urllib.error
+import urllib.parse
+import urllib.request
+import uuid
+
+ROOT = os.path.dirname(os.path.dirname(os.path.abspath(__file__)))
+sys.dont_write_bytecode = True
+sys.path.insert(0, os.path.join(ROOT, 'tests'))
+
+from notation import full, tables as tables_of  # noqa: E402
+
+TABLES = 'providers', 'inventories', 'usages', 'traits', 'aggregates'
+VERSION = '1.36'
+GREATEST = 2147483647
+NUMBERS = 'total', 'reserved', 'min_unit', 'max_unit', 'step_size'
+SLOWLY = """#!/bin/sh
+while IFS= read -r line; do printf '%s\\n' "$line"; case $line in *';') sleep 0.3 ;; esac; done | """
+PAGE = os.path.join(ROOT, 'docs', 'DIFFERENCES.md')
+
+
+class Refused(Exception):
+    """The service refused what a cloud needs."""
+
+
+class Service:
+    """The service's API, without a client."""
+
+    def __init__(self, url):
+        self.url = url
+
+    def ask(self, method, path, body=None):
+        """The status, and what came with it: of JSON, or as text."""
+        data = None if body is None else json.dumps(body).encode()
+        headers = {'X-Auth-Token': 'admin', 'OpenStack-API-Version': f'placement {VERSION}', 'Accept': 'application/json',
+                   'Content-Type': 'application/json'}
+        request = urllib.request.Request(self.url + path, data, headers, method=method)
+        try:
+            with urllib.request.urlopen(request) as answer:
+                status, text = answer.status, answer.read()
+        except urllib.error.HTTPError as fault:
+            status, text = fault.code, fault.read()
+        try:
+            return status, json.loads(text)
+        except ValueError:
+            return status, text.decode(errors='replace')
+
+    def do(self, method, path, body=None):
+        status, answer = self.ask(method, path, body)
+        if status >= 300:
+            raise Refused(f'{method} {path}: {status}: {answer}')
+        return answer
+
+    def candidates(self, query):
+        return self.ask('GET', '/allocation_candidates?' + query)
+
+    def clear(self):
+        """No providers are left."""
+        left = self.do('GET', '/resource_providers')['resource_providers']
+        for provider in left:
+            held = self.do('GET', f'/resource_providers/{provider["uuid"]}/allocations')
+            for consumer in held['allocations']:
+                self.do('DELETE', f'/allocations/{consumer}')
+        while left:
+            parents = {provider['parent_provider_uuid'] for provider in left}
+            for provider in left:
+                if provider['uuid'] not in parents:
+                    self.do('DELETE', f'/resource_providers/{provider["uuid"]}')
+            left = [provider for provider in left if provider['uuid'] in parents]
+
+    def name(self, kind, name):
+        """A name of one's own, to be known before it is used."""
+        if name.startswith('CUSTOM_'):
+            self.do('PUT', f'/{kind}/{name}')
+
+    def fill(self, cloud):
+        """The service has this cloud, and no other provider."""
+        self.clear()
+        generations = {}
+        for row in parents_first(cloud['providers']):
+            body = {'uuid': row['uuid'], 'name': row.get('name') or row['uuid']}
+            if row['parent_provider_uuid']:
+                body['parent_provider_uuid'] = row['parent_provider_uuid']
+            generations[row['uuid']] = self.do('POST', '/resource_providers', body)['generation']
+        for provider in generations:
+            self.give(provider, generations[provider], {name: [row for row in cloud.get(name, ()) if row['resource_provider'] == provider]
+                                                        for name in TABLES[1:]})
+
+    def give(self, provider, generation, has):
+        """One provider's inventories, usages, traits and aggregates."""
+        path = f'/resource_providers/{provider}'
+        for row in has['inventories']:
+            self.name('resource_classes', row['resource_class'])
+        for row in has['traits']:
+            self.name('traits', row['name'])
+        generation = self.put(f'{path}/traits', generation, 'traits', [row['name'] for row in has['traits']])
+        generation = self.put(f'{path}/aggregates', generation, 'aggregates', [row['uuid'] for row in has['aggregates']])
+        # More may be used than there is room for: it is taken while the inventories are wide, and then they get their own numbers.
+        wide = {'total': GREATEST, 'reserved': 0, 'min_unit': 1, 'max_unit': GREATEST, 'step_size': 1, 'allocation_ratio': 1.0}
+        generation = self.put(f'{path}/inventories', generation, 'inventories', {row['resource_class']: wide for row in has['inventories']})
+        for used in shares([(row['resource_class'], int(row['usage'])) for row in has['usages']]):
+            self.do('PUT', f'/allocations/{uuid.uuid4()}', {'allocations': {provider: {'resources': used}}, 'project_id': 'try', 'user_id': 'try',
+                                                           'consumer_generation': None})
+        generation = self.do('GET', path)['generation']
+        self.put(f'{path}/inventories', generation, 'inventories', {
+            row['resource_class']: {**{name: int(row[name]) for name in NUMBERS}, 'allocation_ratio': float(row['allocation_ratio'])}
+            for row in has['inventories']})
+
+    def put(self, path, generation, name, value):
+        if not value:
+            return generation
+        return self.do('PUT', path, {'resource_provider_generation': generation, name: value})['resource_provider_generation']
+
+
+def shares(used):
+    """What is used, as that of two consumers where it can be parted."""
+    for part in {name: amount // 2 for name, amount in used}, {name: amount - amount // 2 for name, amount in used}:
+        part = {name: amount for name, amount in part.items() if amount}
+        if part:
+            yield part
+
+
+def parents_first(providers):
+    done, left = {''}, list(providers)
+    while left:
+        for row in left:
+            if row['parent_provider_uuid'] in done:
+                done.add(row['uuid'])
+                yield row
+        left = [row for row in left if row['uuid'] not in done]
+
+
+def read(text):
+    return list(csv.DictReader(text.splitlines(keepends=True)))
+
+
+def of_folder(folder):
+    cloud = {}
+    for name in TABLES:
+        with open(os.path.join(folder, name + '.csv'), encoding='utf-8', newline='') as file:
+            cloud[name] = list(csv.DictReader(file))
+    return cloud
+
+
+def drawn(hosts=24, seed=24):
+    """A cloud of hosts, some with NUMA nodes and a network function, and of disks that some of them share. Names and ratios are odd at times."""
+    chance = random.Random(seed)
+    cloud = {name: [] for name in TABLES}
+    aggregates = [str(uuid.UUID(int=chance.getrandbits(128), version=4)) for _ in range(4)]
+
+    def put(name, parent, inventories, traits, member_of):
+        one = str(uuid.UUID(int=chance.getrandbits(128), version=4))
+        cloud['providers'].append({'uuid': one, 'name': name, 'parent_provider_uuid': parent})
+        for kind, total, reserved, step, ratio in inventories:
+            cloud['inventories'].append(dict(zip(('resource_provider', 'resource_class', *NUMBERS, 'allocation_ratio'),
+                                                 (one, kind, total, reserved, step, total, step, ratio))))
+            used = chance.randrange(0, int((total - reserved) * ratio) + 1, step) if chance.random() < 0.7 else 0
+            cloud['usages'] += [{'resource_provider': one, 'resource_class': kind, 'usage': used}] * (used > 0)
+        cloud['traits'] += [{'resource_provider': one, 'name': trait} for trait in traits]
+        cloud['aggregates'] += [{'resource_provider': one, 'uuid': member} for member in member_of]
+        return one
+
+    def computing(host):
+        return [('VCPU', chance.choice((4, 8, 16)), chance.choice((0, 2)), 1, chance.choice((1.0, 2.0, 4.0, 16.0, 1.5))),
+                ('MEMORY_MB', 16384, 512, 256, 1.0)]
+
+    for number in range(hosts):
+        nested = chance.random() < 0.4
+        name = chance.choice((f'host-{number}', f'host "{number}", rack é', f'two\nlines {number}'))
+        disk = [('DISK_GB', 500, 20, 1, chance.choice((1.0, 1.5)))] if chance.random() < 0.5 else []
+        root = put(name, '', disk + ([] if nested else computing(number)), ['COMPUTE_NODE', *chance.sample(['CUSTOM_GOLD', 'HW_CPU_X86_AVX2'], 1)],
+                   chance.sample(aggregates, chance.randint(0, 2)))
+        for node in range(2 if nested else 0):
+            below = put(f'host-{number}_NUMA{node}', root, computing(number), ['HW_NUMA_ROOT'], [])
+            if node == 0:
+                put(f'host-{number}_PF', below, [('SRIOV_NET_VF', 8, 0, 1, 1.0)], ['CUSTOM_PHYSNET_PUBLIC'], [])
+    for number, member in enumerate(aggregates[:3]):
+        put(f'disk-{number}', '', [('DISK_GB', 20000, 1000, 10, 1.5)], ['MISC_SHARES_VIA_AGGREGATE'], [member])
+    return cloud
+
+
+def odd_ratios():
+    """The cloud of tests/client with more ratios, as many as a float has kinds of."""
+    cloud = of_folder(os.path.join(ROOT, 'tests', 'client', 'cloud'))
+    chance = random.Random(24)
+    ratios = ['1.1', '0.1', '0.7', '1.15', '8.2', '0.333333', '1234567.25', '1000000.0', '2000000.0', '0.0001', '0.00012345678', '2.5e-05',
+              '9.87654e-05', '1e-07', '1e-30', '123456.789', '1.9999999999999998', '16777217.0', '1e15', '1e17', '3.3e38',
+              *(repr(chance.random() * 10 ** chance.randint(-6, 18)) for _ in range(60))]
+    like = cloud['inventories'][-1]
+    cloud['inventories'] += [{**like, 'resource_class': f'CUSTOM_R{at}', 'allocation_ratio': ratio} for at, ratio in enumerate(ratios)]
+    return cloud
+
+
+def asked(cloud):
+    """Queries over a cloud, of every parameter. None is of a kind that docs/DIFFERENCES.md names."""
+    member, other = sorted({row['uuid'] for row in cloud['aggregates']} | {str(uuid.uuid4())})[:2]
+    inner = next((row['uuid'] for row in cloud['providers'] if row['parent_provider_uuid']), cloud['providers'][0]['uuid'])
+    numa = 'resources_CPU=VCPU:2,MEMORY_MB:1024&required_CPU=HW_NUMA_ROOT'
+    return ['resources=VCPU:1', 'resources=VCPU:2,MEMORY_MB:512', 'resources=VCPU:2,MEMORY_MB:512,DISK_GB:20', 'resources=DISK_GB:20',
+            'resources=VCPU:4&required=COMPUTE_NODE', 'resources=VCPU:1,DISK_GB:20&required=COMPUTE_NODE', 'resources=VCPU:1&required=!COMPUTE_NODE',
+            'resources=VCPU:1,DISK_GB:20&required=MISC_SHARES_VIA_AGGREGATE', 'resources=VCPU:1,DISK_GB:20&required=!MISC_SHARES_VIA_AGGREGATE',
+            f'resources=VCPU:1&member_of={member}', f'resources=VCPU:1&member_of=in:{member},{other}', f'resources=VCPU:1&member_of=!{member}',
+            f'resources1=VCPU:1&member_of1={member}', f'resources=VCPU:1&member_of=!in:{member},{other}', f'resources=VCPU:1&in_tree={inner}',
+            f'resources1=VCPU:1,MEMORY_MB:256&in_tree1={inner}', 'resources=VCPU:1&root_required=COMPUTE_NODE',
+            'resources=VCPU:1&root_required=!COMPUTE_NODE', 'resources=SRIOV_NET_VF:1', numa, f'{numa}&resources_DISK=DISK_GB:20&group_policy=none',
+            'resources1=VCPU:2&resources2=VCPU:2&group_policy=none', 'resources1=VCPU:2&resources2=VCPU:2&group_policy=isolate',
+            'resources1=DISK_GB:20&resources2=VCPU:1&resources3=VCPU:1&group_policy=isolate',
+            f'{numa}&resources_NET=SRIOV_NET_VF:1&same_subtree=_CPU,_NET&group_policy=none',
+            f'{numa}&resources_NET=SRIOV_NET_VF:1&group_policy=isolate',
+            'resources_NET=SRIOV_NET_VF:1&required_NUMA=HW_NUMA_ROOT&same_subtree=_NET,_NUMA&group_policy=none',
+            'resources1=DISK_GB:20&resources2=VCPU:1&group_policy=none', 'resources=VCPU:100000']
+
+
+def canonical(body):
+    """The candidates without their order, and the summaries."""
+    found = sorted((sorted((provider, sorted(taken['resources'].items())) for provider, taken in one['allocations'].items()),
+                    sorted((suffix, sorted(set(providers))) for suffix, providers in one['mappings'].items()))
+                   for one in body['allocation_requests'])
+    return found, {provider: {**summary, 'traits': sorted(summary['traits'])} for provider, summary in body['provider_summaries'].items()}
+
+
+def names(query):
+    """The names of one's own that a query asks for, each with its kind."""
+    for name, value in urllib.parse.parse_qsl(query):
+        kind = 'resource_classes' if name.startswith('resources') else 'traits'
+        yield from ((kind, word) for word in re.findall(r'CUSTOM_\w+', value))
+
+
+def bare(query):
+    """The suffixes of groups that ask for no resources."""
+    pairs = dict(urllib.parse.parse_qsl(query))
+    every = {re.sub('^(required|member_of|in_tree)', '', name) for name in pairs if re.match('(required|member_of|in_tree).', name)}
+    return {suffix for suffix in every if 'resources' + suffix not in pairs}
+
+
+def short(text):
+    """A text with the UUIDs that notation.full writes out."""
+    return re.sub('00000000-0000-0000-0000-0000000000([0a])([0-9a-f])', lambda found: ('P' if found[1] == '0' else 'A') + found[2], text)
+
+
+def told(status, body, query):
+    """What the service answers, as docs/DIFFERENCES.md writes it: a text for each candidate, rising."""
+    if status != 200:
+        return [f'status {status}']
+    places = bare(query)
+    return sorted(short(', '.join([
+        *(f'{provider} {name}:{amount}' for provider, taken in sorted(one['allocations'].items())
+          for name, amount in sorted(taken['resources'].items())),
+        *(f'{suffix} at {provider}' for suffix, providers in sorted(one['mappings'].items()) if suffix in places for provider in providers)]))
+        for one in body['allocation_requests'])
+
+
+def answers(said):
+    """The answers that such a text of the page admits."""
+    spans = re.findall('`([^`]*)`', said)
+    if said.startswith('one of '):
+        return [*([span] for span in spans), *([[]] if said.endswith('nothing') else [])]
+    return [sorted(spans) or ([] if said == 'nothing' else [said])]
+
+
+def differences(database):
+    """The examples of docs/DIFFERENCES.md: a heading, the cloud, a query, what the service is to answer over this database, and which providers
+    its summaries are to lack."""
+    with open(PAGE, encoding='utf-8') as file:
+        page = file.read()
+    for part in re.split('^##+ ', page, flags=re.M)[1:]:
+        for table in re.finditer(r'^\| provider \|.*\n\|[-|]+\n((?:\|.*\n)+)\n((?:- `.*\n(?:  .*\n)+)+)', part, re.M):
+            cloud = tables_of('\n'.join(row.strip('|') for row in table[1].splitlines()))
+            for one in re.finditer(r'^- `([^`]*)`.*\n((?:  .*\n)+)', table[2], re.M):
+                said = dict(re.findall(r'^  - ([^:]*): (.*)$', one[2], re.M))
+                lacks = re.findall('`(.*?)`', said.get('missing in its summaries', ''))
+                yield part.splitlines()[0], cloud, full(one[1]), said.get(f'the service over {database}', said['the service']), lacks
+
+
+class Trial:
+    """What is tried over one service, and how it went."""
+
+    def __init__(self, url, program, name, client):
+        self.service, self.program, self.name, self.client = Service(url), program, name, client
+        self.url, self.passed, self.failed = url, 0, 0
+
+    def say(self, well, what):
+        self.passed, self.failed = self.passed + well, self.failed + (not well)
+        print(f'{"ok    " if well else "FAILED"} {self.name}: {what}', flush=True)
+
+    def run(self, words, **settings):
+        """A command, which knows of no other cloud that the caller may have named by OS_* variables."""
+        known = {name: value for name, value in os.environ.items() if not name.startswith('OS_')}
+        ran = subprocess.run(words, env={**known, **settings}, cwd=ROOT, stdout=subprocess.PIPE, stderr=subprocess.PIPE, check=False)
+        return ran.returncode, ran.stdout.decode(errors='replace'), ran.stderr.decode(errors='replace')
+
+    def ask(self, command, folder, *words):
+        return self.run([self.program, command, *words, *(f'--{name}={folder}/{name}.csv' for name in TABLES)])
+
+    def export(self, what, folder, rounds):
+        """Both exports give the same tables. They are left in the folder."""
+        other = os.path.join(folder, 'client')
+        first = self.run(['tools/export-tables-from-database.sh', *rounds, folder, *self.client])
+        second = self.run(['tools/export-tables.sh', *rounds, other], OS_AUTH_TYPE='admin_token', OS_ENDPOINT=self.url, OS_TOKEN='admin')
+        if first[0] or second[0]:
+            self.say(False, f'{what}: an export failed:\n{first[2]}{second[2]}')
+            return
+        left, right = of_folder(folder), of_folder(other)
+        for name in TABLES:
+            rows, others = ([sorted(row.items()) for row in cloud[name]] for cloud in (left, right))
+            self.say(sorted(rows) == sorted(others), f'{what}: {name}: {len(rows)} rows by the database, the same by the client')
+            for row in [row for row in rows if row not in others][:3]:
+                print('       only by the database:', dict(row))
+            for row in [row for row in others if row not in rows][:3]:
+                print('       only by the client:', dict(row))
+        lines = [sorted(line.partition(': ')[2] for line in text.splitlines()) for text in (first[2], second[2])]
+        self.say(lines[0] == lines[1], f'{what}: {len(lines[0])} lines of rounded ratios, the same by both')
+
+    def compare(self, what, folder, queries):
+        """The program over exported tables answers as the service."""
+        same, total = 0, 0
+        for query in queries:
+            status, body = self.service.candidates(query)
+            code, out, err = self.ask('candidates', folder, query)
+            if status != 200 or code:
+                self.say(False, f'{what}: {query}: the service {status}, the program {code} {err}')
+                continue
+            mine, its = canonical(json.loads(out)), canonical(body)
+            total += len(mine[0])
+            same += mine == its
+            if mine != its:
+                self.say(False, f'{what}: {query}: {len(its[0])} candidates of the service, {len(mine[0])} of the program, or other summaries')
+        self.say(same == len(queries), f'{what}: {same} of {len(queries)} queries have the same candidates and summaries, {total} candidates in all')
+
+    def cloud(self, what, cloud, *rounds):
+        """The service has this cloud; it is exported, and queries are asked of both."""
+        self.service.fill(cloud)
+        with tempfile.TemporaryDirectory() as folder:
+            self.export(what, folder, rounds)
+            code, out, err = self.ask('check', folder)
+            self.say(code == 0, f'{what}: the tables are accepted: {", ".join(out.splitlines())}{err}')
+            self.compare(what, folder, asked(cloud))
+
+    def odd(self, what, cloud):
+        """Ratios that aren't read here are exported all the same, as they are and rounded."""
+        self.service.fill(cloud)
+        for rounds in (), ('--round-ratios',):
+            with tempfile.TemporaryDirectory() as folder:
+                self.export(' '.join((what, *rounds)), folder, rounds)
+
+
+    def moving(self, exports=10):
+        """While the service moves what is used from one provider to another and back, each export from the database is of one moment: the column
+        `used` of the inventories, which another query fills, is that of the usages. The client gets its queries slowly, with moves between them."""
+        self.service.fill({name: read(text) for name, text in tables_of('P1 | | VCPU total 8\nP2 | | VCPU total 8').items()})
+        ended = threading.Event()
+        moves = []
+        writer = threading.Thread(target=self.move, args=(ended, moves))
+        writer.start()
+        with tempfile.TemporaryDirectory() as folder:
+            slow = os.path.join(folder, self.client[0])
+            with open(slow, 'w', encoding='utf-8') as file:
+                file.write(SLOWLY + f'exec {shutil.which(self.client[0])} "$@"\n')
+            os.chmod(slow, 0o700)
+            states = [self.state(slow) for _ in range(exports)]
+        ended.set()
+        writer.join()
+        torn = [one for one in states if one not in ((5, 0, 5, 0), (0, 5, 0, 5))]
+        self.say(not torn and len(moves) > exports, f'{exports} exports while {len(moves)} moves went on, {len(torn)} of them torn')
+        for one in torn[:2]:
+            print('       torn:', one)
+
+    def state(self, client):
+        """What is used of the two providers, by the inventories and by the usages of one export."""
+        with tempfile.TemporaryDirectory() as folder:
+            code, _, err = self.run(['tools/export-tables-from-database.sh', folder, client, *self.client[1:]])
+            if code:
+                return err
+            cloud = of_folder(folder)
+            return tuple(int(row[name]) for table, name in (('inventories', 'used'), ('usages', 'usage')) for row in cloud[table])
+
+    def move(self, ended, moves):
+        """One consumer's five processors, now from the one provider and now from the other."""
+        consumer = str(uuid.uuid4())
+        generation = None
+        while not ended.is_set():
+            body = {'allocations': {full('P1' if len(moves) % 2 else 'P2'): {'resources': {'VCPU': 5}}}, 'project_id': 'try', 'user_id': 'try',
+                    'consumer_generation': generation}
+            if self.service.ask('PUT', f'/allocations/{consumer}', body)[0] < 300:
+                moves.append(generation)
+            generation = self.service.do('GET', f'/allocations/{consumer}').get('consumer_generation')
+
+    def differ(self):
+        """The service answers as docs/DIFFERENCES.md says of it."""
+        filled = None
+        for heading, cloud, query, said, lacks in differences(self.name):
+            if cloud != filled:
+                self.service.fill({name: read(text) for name, text in cloud.items()})
+                filled = cloud
+            for kind, name in names(query):
+                self.service.name(kind, name)
+            status, body = self.service.candidates(query)
+            its = told(status, body, query)
+            still = its in answers(said) and not any(full(provider) in body['provider_summaries'] for provider in lacks)
+            self.say(still, f'{heading}: {short(query)}: ' + (
+                f'still so, {said}' if still else f'now {", ".join(f"`{one}`" for one in its) or "nothing"}, and not {said}'))
+
+
+def main(url, program, name, *client):
+    trial = Trial(url, program, name, client)
+    trial.cloud('the example cloud', of_folder(os.path.join(ROOT, 'examples', 'cloud')))
+    trial.odd('odd ratios', odd_ratios())
+    trial.cloud('a drawn cloud', drawn())
+    trial.moving()
+    trial.differ()
+    trial.service.clear()
+    print(f'{trial.passed} passed, {trial.failed} failed')
+    return 1 if trial.failed else 0
+
+
+if __name__ == '__main__':
+    sys.exit(main(*sys.argv[1:]))
