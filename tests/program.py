@@ -194,8 +194,6 @@ def shown(page):
     settings = ''.join(re.findall(r'^```sh\n(tables=.*\n)```$', text, re.M))
     for block in re.finditer(r'^```sh\n(\./ac_cli\b(?:.*\\\n)*.*)\n```\n(?:\n*```(?:text|json)\n((?:.*\n)*?)```$)?', text, re.M):
         command, says = block[1].replace('\\\n', ' '), block[2]
-        if '| jq' in command and not shutil.which('jq'):
-            continue
         shell = ['sh', '-c', f'{settings}exec 2>&1; {shlex.quote(LAUNCHER)}{command.removeprefix("./ac_cli")}']
         yield Case(f'{page}: {command}', shell, says, status=status_of(says or ''))
 
