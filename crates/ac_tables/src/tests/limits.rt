@@ -1,6 +1,6 @@
 //! Tables past what their forms allow, with ample memory: the fault is named, and isn't want of memory.
 use super::{ONE, VCPU, at, told};
-use crate::{Table, TableKind};
+use crate::{Table, TableFault, TableKind};
 use std::alloc::{AllocError, Global};
 use std::test::Fail;
 
@@ -14,30 +14,56 @@ fn repeated(alloc: Global, piece: &str, count: usize) -> Result<String, AllocErr
     Ok(text)
 }
 
+// The fault of an inventory of this class.
+fn of_inventory(alloc: Global, name: &str) -> Result<Option<TableFault>, AllocError> {
+    let rows = format!(in alloc;
+        "resource_provider,resource_class,total,reserved,min_unit,max_unit,step_size,allocation_ratio\n{P1},{name},8,0,1,8,1,1.0\n"
+    )?;
+    Ok(told(alloc, (ONE, rows.as_str(), None, None, None)))
+}
+
+// Of a usage of it.
+fn of_usage(alloc: Global, name: &str) -> Result<Option<TableFault>, AllocError> {
+    let rows = format!(in alloc; "resource_provider,resource_class,usage\n{P1},{name},1\n")?;
+    Ok(told(alloc, (ONE, VCPU, Some(rows.as_str()), None, None)))
+}
+
+// Of a trait of this name.
+fn of_trait(alloc: Global, name: &str) -> Result<Option<TableFault>, AllocError> {
+    let rows = format!(in alloc; "resource_provider,name\n{P1},{name}\n")?;
+    Ok(told(alloc, (ONE, VCPU, None, Some(rows.as_str()), None)))
+}
+
+#[test]
+fn names_of_255_characters(rt: HostRuntime) -> Result<(), Fail> {
+    let alloc = rt.alloc();
+    let name = repeated(alloc, "A", 255)?;
+    assert!(rt; of_inventory(alloc, name.as_str())?.is_none());
+    assert!(rt; of_usage(alloc, name.as_str())? == at(Table::Usages, 2, TableKind::NoInventory));
+    assert!(rt; of_trait(alloc, name.as_str())?.is_none());
+    Ok(())
+}
+
 #[test]
 fn long_names(rt: HostRuntime) -> Result<(), Fail> {
     let alloc = rt.alloc();
-    for (count, is_name) in [(255, true), (256, false), (300, false), (100_000, false)] {
+    for count in [256, 300, 100_000] {
         let name = repeated(alloc, "A", count)?;
-        let name = name.as_str();
-        let stocks = format!(in alloc;
-            "resource_provider,resource_class,total,reserved,min_unit,max_unit,step_size,allocation_ratio\n{P1},{name},8,0,1,8,1,1.0\n"
-        )?;
-        let usages = format!(in alloc; "resource_provider,resource_class,usage\n{P1},{name},1\n")?;
-        let marks = format!(in alloc; "resource_provider,name\n{P1},{name}\n")?;
-        let class = at(Table::Inventories, 2, TableKind::BadClass);
-        let got = told(alloc, (ONE, stocks.as_str(), None, None, None));
-        let want = if is_name { None } else { class };
-        assert!(rt; got == want, "inventories, {count}");
-        let class = at(Table::Usages, 2, TableKind::BadClass);
-        let none = at(Table::Usages, 2, TableKind::NoInventory);
-        let got = told(alloc, (ONE, VCPU, Some(usages.as_str()), None, None));
-        let want = if is_name { none } else { class };
-        assert!(rt; got == want, "usages, {count}");
-        let mark = at(Table::Traits, 2, TableKind::BadTrait);
-        let got = told(alloc, (ONE, VCPU, None, Some(marks.as_str()), None));
-        let want = if is_name { None } else { mark };
-        assert!(rt; got == want, "traits, {count}");
+        let got = of_inventory(alloc, name.as_str())?;
+        assert!(rt;
+            got == at(Table::Inventories, 2, TableKind::BadClass),
+            "inventories, {count}"
+        );
+        let got = of_usage(alloc, name.as_str())?;
+        assert!(rt;
+            got == at(Table::Usages, 2, TableKind::BadClass),
+            "usages, {count}"
+        );
+        let got = of_trait(alloc, name.as_str())?;
+        assert!(rt;
+            got == at(Table::Traits, 2, TableKind::BadTrait),
+            "traits, {count}"
+        );
     }
     Ok(())
 }
