@@ -56,34 +56,36 @@ fn interrupted(alloc: Global) -> Result<Vec<Turn>, AllocError> {
     Ok(turns)
 }
 
-fn check_case(
+// Each case answers so over devices with these turns.
+fn check_over(
     rt: &(impl Abort + AllocGlobal),
-    place: usize,
-    case: &Case,
-    turns: Turns,
+    cases: &[Case],
+    turns: Turns<'_>,
 ) -> Result<(), Fail> {
     let alloc = rt.alloc();
-    assert!(rt; case.command != Command::Verify || case.token.is_some());
-    let query = expanded(alloc, case.query)?;
-    let token = match case.token {
-        Some(token) => Some(expanded(alloc, token)?),
-        None => None,
-    };
-    let job = Job {
-        command: case.command,
-        query: query.as_str(),
-        version: case.version,
-        token: token.as_deref(),
-    };
-    let left = run_job(alloc, &case.rows, &job, turns)?;
-    let output = expanded(alloc, case.output)?;
-    assert_eq!(rt;
-        left.output.as_str(),
-        output.as_str(),
-        "output of case {place}"
-    );
-    assert_eq!(rt; left.line.as_str(), case.line, "line of case {place}");
-    assert_eq!(rt; left.status, case.status, "status of case {place}");
+    for (place, case) in cases.iter().enumerate() {
+        assert!(rt; case.command != Command::Verify || case.token.is_some());
+        let query = expanded(alloc, case.query)?;
+        let token = match case.token {
+            Some(token) => Some(expanded(alloc, token)?),
+            None => None,
+        };
+        let job = Job {
+            command: case.command,
+            query: query.as_str(),
+            version: case.version,
+            token: token.as_deref(),
+        };
+        let left = run_job(alloc, &case.rows, &job, turns)?;
+        let output = expanded(alloc, case.output)?;
+        assert_eq!(rt;
+            left.output.as_str(),
+            output.as_str(),
+            "output of case {place}"
+        );
+        assert_eq!(rt; left.line.as_str(), case.line, "line of case {place}");
+        assert_eq!(rt; left.status, case.status, "status of case {place}");
+    }
     Ok(())
 }
 
@@ -91,21 +93,14 @@ fn check_case(
 fn check(rt: &(impl Abort + AllocGlobal), cases: &[Case]) -> Result<(), Fail> {
     let one_byte = vec![in rt.alloc(); Turn::Up(1); MANY]?;
     let again = interrupted(rt.alloc())?;
-    let slow = [
-        SOUND,
-        alike(&one_byte),
-        alike(&again),
-        Turns {
-            is_gathered: true,
-            ..alike(&again)
-        },
-    ];
-    for turns in slow {
-        for (place, case) in cases.iter().enumerate() {
-            check_case(rt, place, case, turns)?;
-        }
-    }
-    Ok(())
+    check_over(rt, cases, SOUND)?;
+    check_over(rt, cases, alike(&one_byte))?;
+    check_over(rt, cases, alike(&again))?;
+    let gathered = Turns {
+        is_gathered: true,
+        ..alike(&again)
+    };
+    check_over(rt, cases, gathered)
 }
 
 #[test]

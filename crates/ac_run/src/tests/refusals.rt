@@ -1,6 +1,7 @@
 //! Runs with each growth refused in turn: the whole answer, or `out of memory` with status 7 and a first part of it.
 use super::{ONE, ONE_BODY, Rows, SOUND, expanded, run_over};
 use crate::job::Command;
+use std::alloc::{AllocError, Global};
 use std::process::Abort;
 
 // What a run is asked, and what it answers where memory suffices.
@@ -37,20 +38,23 @@ const PAIR: Case = Case {
     ..TOKENS
 };
 
+fn token_of(alloc: Global, case: Case) -> Result<Option<String>, AllocError> {
+    match case.token {
+        Some(token) => Ok(Some(expanded(alloc, token)?)),
+        None => Ok(None),
+    }
+}
+
 fn check(rt: &(impl Abort + AllocGlobal), case: Case) {
     let alloc = rt.alloc();
-    let Ok(token) = expanded(alloc, case.token.unwrap_or("")) else {
+    let Ok(token) = token_of(alloc, case) else {
         return;
     };
     let Ok(output) = expanded(alloc, case.output) else {
         return;
     };
-    let token = if case.token.is_some() || case.command == Command::Verify {
-        Some(token.as_str())
-    } else {
-        None
-    };
     assert!(rt; case.command != Command::Verify || token.is_some());
+    let token = token.as_deref();
     let Ok(left) = run_over(alloc, &case.rows, case.command, case.query, token, SOUND) else {
         return;
     };
