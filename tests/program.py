@@ -183,7 +183,7 @@ GROWTHS = [
 
 # The calls that take memory, each by itself.
 REFUSALS = [Case(f'each growth refused, in the tests of {crate}', ['sh', '-c', f'exec python3 -B tests/refusals.py {crate}'], SOME)
-            for crate in ('ac_base', 'ac_tables', 'ac_query', 'ac_search', 'ac_report', 'ac_run', 'ac_cli')]
+            for crate in ('ac_base', 'ac_tables', 'ac_query', 'ac_search', 'ac_report', 'ac_cli')]
 
 
 def status_of(text):

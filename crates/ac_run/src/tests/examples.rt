@@ -1,9 +1,7 @@
 //! Worked examples, with values worked out by hand.
-use super::{EMPTY, ONE, ONE_BODY, Rows, SOUND, Turns, alike, expanded, run_job};
-use crate::job::{Command, Job};
-use ac_base::Turn;
+use super::{EMPTY, ONE, Rows, SOUND, expanded, run_by};
+use crate::job::Command;
 use ac_query::Version;
-use std::alloc::{AllocError, Global};
 use std::process::Abort;
 use std::test::Fail;
 
@@ -43,25 +41,7 @@ const VERDICT: Case = Case {
     ..TOKENS
 };
 
-// More turns than any device of an example is called.
-const MANY: usize = 3000;
-
-// An interrupted call before each byte.
-fn interrupted(alloc: Global) -> Result<Vec<Turn>, AllocError> {
-    let mut turns = Vec::new(alloc);
-    for _ in 0..MANY {
-        turns.push(Turn::Again)?;
-        turns.push(Turn::Up(1))?;
-    }
-    Ok(turns)
-}
-
-// Each case answers so over devices with these turns.
-fn check_over(
-    rt: &(impl Abort + AllocGlobal),
-    cases: &[Case],
-    turns: Turns<'_>,
-) -> Result<(), Fail> {
+fn check(rt: &(impl Abort + AllocGlobal), cases: &[Case]) -> Result<(), Fail> {
     let alloc = rt.alloc();
     for (place, case) in cases.iter().enumerate() {
         assert!(rt; case.command != Command::Verify || case.token.is_some());
@@ -70,13 +50,15 @@ fn check_over(
             Some(token) => Some(expanded(alloc, token)?),
             None => None,
         };
-        let job = Job {
-            command: case.command,
-            query: query.as_str(),
-            version: case.version,
-            token: token.as_deref(),
-        };
-        let left = run_job(alloc, &case.rows, &job, turns)?;
+        let left = run_by(
+            alloc,
+            &case.rows,
+            case.version,
+            case.command,
+            query.as_str(),
+            token.as_deref(),
+            SOUND,
+        )?;
         let output = expanded(alloc, case.output)?;
         assert_eq!(rt;
             left.output.as_str(),
@@ -89,20 +71,6 @@ fn check_over(
     Ok(())
 }
 
-// The answer is the same where each call of a device moves one byte, and where one more is interrupted before it.
-fn check(rt: &(impl Abort + AllocGlobal), cases: &[Case]) -> Result<(), Fail> {
-    let one_byte = vec![in rt.alloc(); Turn::Up(1); MANY]?;
-    let again = interrupted(rt.alloc())?;
-    check_over(rt, cases, SOUND)?;
-    check_over(rt, cases, alike(&one_byte))?;
-    check_over(rt, cases, alike(&again))?;
-    let gathered = Turns {
-        is_gathered: true,
-        ..alike(&again)
-    };
-    check_over(rt, cases, gathered)
-}
-
 #[test]
 fn one_provider(rt: HostRuntime) -> Result<(), Fail> {
     check(
@@ -113,7 +81,9 @@ fn one_provider(rt: HostRuntime) -> Result<(), Fail> {
                 ..TOKENS
             },
             Case {
-                output: ONE_BODY,
+                output: "{\"allocation_requests\":[{\"allocations\":{\"@1\":{\"resources\":{\"VCPU\":2}}},\
+                    \"mappings\":{\"\":[\"@1\"]}}],\"provider_summaries\":{\"@1\":{\"parent_provider_uuid\":null,\
+                    \"resources\":{\"VCPU\":{\"capacity\":8,\"used\":0}},\"root_provider_uuid\":\"@1\",\"traits\":[]}}}\n",
                 ..BODY
             },
             Case {
