@@ -15,6 +15,13 @@ MEMORY = b'out of memory\n', 7
 MOST = 100000
 
 
+def refuser(folder):
+    """Makes the library that refuses a growth in this folder."""
+    library = os.path.join(folder, 'refuse.so')
+    subprocess.run(['cc', '-shared', '-fPIC', '-O', '-o', library, REFUSER], check=True)
+    return library
+
+
 def run(words, library, number):
     """What came on both streams, the status, and whether the growth of this number was refused."""
     read, write = os.pipe()
@@ -41,8 +48,7 @@ def main(*words):
         print('there is no C compiler, cc, to make tests/refuse.c with')
         return 1
     with tempfile.TemporaryDirectory() as folder:
-        library = os.path.join(folder, 'refuse.so')
-        subprocess.run(['cc', '-shared', '-fPIC', '-O', '-o', library, REFUSER], check=True)
+        library = refuser(folder)
         whole = run(words, library, 0)
         for number in range(1, MOST):
             ran = run(words, library, number)

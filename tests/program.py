@@ -8,7 +8,6 @@ from __future__ import annotations
 import os
 import re
 import shlex
-import shutil
 import subprocess
 import sys
 import tempfile
@@ -20,6 +19,7 @@ from cases import CHILD, ONE, SHARED, SMALL, SOME, Case, cuts, full, lines, tabl
 from database import database_exports
 from export import exports
 from faults import drawn_queries, drawn_tables
+from hostile import hostile
 from large import LARGE, MOST_PROVIDERS, roots, vcpu
 from model import drawn
 from notation import HEADERS, provider
@@ -181,23 +181,26 @@ GROWTHS = [
 ]
 
 
+# The calls that take memory, each by itself.
+REFUSALS = [Case(f'each growth refused, in the tests of {crate}', ['sh', '-c', f'exec python3 -B tests/refusals.py {crate}'], SOME)
+            for crate in ('ac_base', 'ac_tables', 'ac_query', 'ac_search', 'ac_report', 'ac_cli')]
+
+
 def status_of(text):
     """The status that comes with a text: an answer, or a fault line."""
     return next((status for start, status in STATUSES.items() if text.startswith(start)), 0)
 
 
 def shown(page):
-    """The commands that a page shows: a block `sh` with one call of ./ac_cli, and right after it a block `text` or `json` with
-    what it prints; without such a block it prints anything. A block that sets `tables` is for all of them."""
+    """The commands that a page shows: a block `sh` with one call of ./ac_cli, or of the page's function `ask`, and right after it a block `text` or
+    `json` with what it prints; without such a block it prints anything."""
     path = os.path.join(ROOT, page)
     text = contents(path).decode() if os.path.isfile(path) else ''
-    settings = ''.join(re.findall(r'^```sh\n(tables=.*\n)```$', text, re.M))
-    for block in re.finditer(r'^```sh\n(\./ac_cli\b(?:.*\\\n)*.*)\n```\n(?:\n*```(?:text|json)\n((?:.*\n)*?)```$)?', text, re.M):
+    asks = ''.join(re.findall(r'^```sh\n(ask\(\) \{\n(?: .*\n)*\}\n)```$', text, re.M)).replace('./ac_cli', shlex.quote(LAUNCHER))
+    for block in re.finditer(r'^```sh\n((?:\./ac_cli\b|ask )(?:.*\\\n)*.*)\n```\n(?:\n*```(?:text|json)\n((?:.*\n)*?)```$)?', text, re.M):
         command, says = block[1].replace('\\\n', ' '), block[2]
-        if '| jq' in command and not shutil.which('jq'):
-            continue
-        shell = ['sh', '-c', f'{settings}exec 2>&1; {shlex.quote(LAUNCHER)}{command.removeprefix("./ac_cli")}']
-        yield Case(f'{page}: {command}', shell, says, status=status_of(says or ''))
+        called = re.sub(r'^\./ac_cli', lambda _: shlex.quote(LAUNCHER), command)
+        yield Case(f'{page}: {command}', ['sh', '-c', f'{asks}exec 2>&1; {called}'], says, status=status_of(says or ''))
 
 
 def ruled(page):
@@ -276,7 +279,7 @@ def wrong(case):
     missing = [text for text in case.has if text not in out + err]
     if missing:
         return f'{missing[0]!r} is not said'
-    return None if status == case.status else f'status is {status}, and not {case.status}'
+    return None if status == case.status else f'status is {status}, and not {case.status}: {(err or out)[-300:]!r}'
 
 
 def main(*given):
@@ -292,8 +295,8 @@ def main(*given):
     pages = [case for page in ('README.md', 'examples/README.md', 'docs/RULES.md', 'docs/FORMATS.md', 'docs/EXPORT.md')
              for case in shown(page)]
     chance = [*drawn(150), *drawn_tables(200), *drawn_queries(200)]
-    cases = [PAGES, DRAWING, *HELP, *WORDS, *FILES, *DEVICES, *GROWTHS, *SMALL, *pages, *rules, *exports(), *database_exports(), *chance, *LARGE,
-             FEW_BYTES, *cuts()]
+    cases = [PAGES, DRAWING, *HELP, *WORDS, *FILES, *DEVICES, *GROWTHS, *REFUSALS, *SMALL, *pages, *rules, *exports(), *database_exports(), *chance,
+             *LARGE, *hostile(PROGRAM), FEW_BYTES, *cuts()]
     cases = [case for case in cases if all(word in case.name for word in words)]
     failed = 0
     with ThreadPoolExecutor(max_workers=2) as pool:

@@ -3,6 +3,7 @@ use crate::{ClassName, Inventory, Ratio, Suffix, TraitName};
 use std::test::Fail;
 
 mod devices;
+mod refusals;
 
 #[test]
 fn class_names(rt: HostRuntime) -> Result<(), Fail> {

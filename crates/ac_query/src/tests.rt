@@ -5,6 +5,9 @@ use ac_tables::{Cloud, Sources};
 use std::alloc::{AllocError, Global};
 use std::test::Fail;
 
+mod limits;
+mod refusals;
+
 /// The line of a fault by 1.36, or `accepted`.
 fn line(alloc: Global, text: &str) -> Result<String, AllocError> {
     line_by(alloc, text, Version::V136)

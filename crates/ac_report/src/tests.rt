@@ -14,6 +14,8 @@ use ac_tables::{Cloud, Sources};
 use std::alloc::{AllocError, Global};
 use std::test::Fail;
 
+mod refusals;
+
 // What stands before the last two digits of each UUID here; `@` in the texts below.
 const FRONT: &str = "00000000-0000-0000-0000-0000000000";
 
@@ -485,25 +487,5 @@ fn lists_are_taken_one_at_a_time(rt: HostRuntime) -> Result<(), Fail> {
             calls: 2
         }
     );
-    Ok(())
-}
-
-// Where a growth is refused, as each in turn by `rt try --test --fail-alloc N`, the sink has taken a first part of the body.
-#[test]
-fn refused_growths(rt: HostRuntime) -> Result<(), Fail> {
-    let alloc = rt.alloc();
-    let Ok(page) = run_writer(alloc, Writer::Page, ONE, "resources=VCPU:2", &[&[0]], &[]) else {
-        return Ok(());
-    };
-    let Ok(body) = expanded(alloc, BODY) else {
-        return Ok(());
-    };
-    match page.answer {
-        Ok(count) => assert!(rt; count == 1 && page.text == body),
-        Err(fault) => {
-            assert_eq!(rt; fault, PageFault::NoMemory);
-            assert!(rt; body.as_str().starts_with(page.text.as_str()));
-        }
-    }
     Ok(())
 }

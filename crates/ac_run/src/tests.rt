@@ -10,6 +10,7 @@ use ac_query::Version;
 use std::alloc::{AllocError, Global};
 
 mod crowded;
+mod cuts;
 mod devices;
 mod examples;
 
@@ -38,6 +39,12 @@ const ONE: Rows = Rows {
     inventories: "@1,VCPU,8,0,1,8,1,1.0\n",
     ..EMPTY
 };
+
+// The body of its candidates for two units.
+const ONE_BODY: &str =
+    "{\"allocation_requests\":[{\"allocations\":{\"@1\":{\"resources\":{\"VCPU\":2}}},\
+    \"mappings\":{\"\":[\"@1\"]}}],\"provider_summaries\":{\"@1\":{\"parent_provider_uuid\":null,\
+    \"resources\":{\"VCPU\":{\"capacity\":8,\"used\":0}},\"root_provider_uuid\":\"@1\",\"traits\":[]}}}\n";
 
 fn expanded(alloc: Global, text: &str) -> Result<String, AllocError> {
     text.replace(alloc, "@", "00000000-0000-0000-0000-00000000000")
@@ -94,18 +101,43 @@ fn texts_of(alloc: Global, rows: &Rows) -> Result<Texts, AllocError> {
 struct Turns<'a> {
     providers: &'a [Turn],
     inventories: &'a [Turn],
+    usages: &'a [Turn],
+    traits: &'a [Turn],
+    aggregates: &'a [Turn],
     out: &'a [Turn],
     err: &'a [Turn],
     is_gathered: bool,
+    // After how many bytes the table ends.
+    providers_end: usize,
+    inventories_end: usize,
 }
 
 const SOUND: Turns<'static> = Turns {
     providers: &[],
     inventories: &[],
+    usages: &[],
+    traits: &[],
+    aggregates: &[],
     out: &[],
     err: &[],
     is_gathered: false,
+    providers_end: usize::MAX,
+    inventories_end: usize::MAX,
 };
+
+// Every device goes by these turns.
+fn alike<'a>(turns: &'a [Turn]) -> Turns<'a> {
+    Turns {
+        providers: turns,
+        inventories: turns,
+        usages: turns,
+        traits: turns,
+        aggregates: turns,
+        out: turns,
+        err: turns,
+        ..SOUND
+    }
+}
 
 // What a run leaves.
 #[derive(Drop)]
@@ -122,16 +154,28 @@ fn text_of(alloc: Global, bytes: &[u8]) -> Result<String, AllocError> {
     }
 }
 
+// The bytes of a table that ends after so many.
+fn front(text: &String, end: usize) -> &[u8] {
+    let bytes = text.as_bytes();
+    &bytes[..end.min(bytes.len())]
+}
+
 // A run over the five tables.
 fn run_texts(alloc: Global, texts: &Texts, job: &Job<'_>, turns: Turns) -> Result<Left, AllocError>
     requires { HasToken job.now.command (option_map (λ token. token.now) job.now.token) }
 {
     let mut inputs = Inputs {
-        providers: MemFeed::new(texts.providers.as_bytes(), turns.providers),
-        inventories: MemFeed::new(texts.inventories.as_bytes(), turns.inventories),
-        usages: Some(MemFeed::new(texts.usages.as_bytes(), &[])),
-        traits: Some(MemFeed::new(texts.traits.as_bytes(), &[])),
-        aggregates: Some(MemFeed::new(texts.aggregates.as_bytes(), &[])),
+        providers: MemFeed::new(
+            front(&texts.providers, turns.providers_end),
+            turns.providers,
+        ),
+        inventories: MemFeed::new(
+            front(&texts.inventories, turns.inventories_end),
+            turns.inventories,
+        ),
+        usages: Some(MemFeed::new(texts.usages.as_bytes(), turns.usages)),
+        traits: Some(MemFeed::new(texts.traits.as_bytes(), turns.traits)),
+        aggregates: Some(MemFeed::new(texts.aggregates.as_bytes(), turns.aggregates)),
     };
     let mut out = MemSink::new(vec![in alloc; 0u8; 2000]?, turns.out);
     let mut err = MemSink::new(vec![in alloc; 0u8; 1000]?, turns.err);
@@ -160,19 +204,27 @@ fn run_over<'a>(
 ) -> Result<Left, AllocError>
     requires { HasToken command (option_map (λ token. token.now) token) }
 {
+    run_by(alloc, rows, Version::V136, command, query, token, turns)
+}
+
+// The same, by a version.
+fn run_by<'a>(
+    alloc: Global,
+    rows: &Rows,
+    version: Version,
+    command: Command,
+    query: &'a str,
+    token: Option<&'a str>,
+    turns: Turns,
+) -> Result<Left, AllocError>
+    requires { HasToken command (option_map (λ token. token.now) token) }
+{
+    let texts = texts_of(alloc, rows)?;
     let job = Job {
         command,
         query,
-        version: Version::V136,
+        version,
         token,
     };
-    run_job(alloc, rows, &job, turns)
-}
-
-// A run over the tables of these rows.
-fn run_job(alloc: Global, rows: &Rows, job: &Job<'_>, turns: Turns) -> Result<Left, AllocError>
-    requires { HasToken job.now.command (option_map (λ token. token.now) job.now.token) }
-{
-    let texts = texts_of(alloc, rows)?;
-    run_texts(alloc, &texts, job, turns)
+    run_texts(alloc, &texts, &job, turns)
 }

@@ -15,6 +15,7 @@ use ac_tables::{Cloud, Sources};
 use std::alloc::{AllocError, Global};
 
 mod candidates;
+mod refusals;
 mod tries;
 
 const LIMIT: usize = 67_108_864;

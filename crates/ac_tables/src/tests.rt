@@ -1,7 +1,13 @@
+//! Small clouds and large ones, and the first fault of tables.
 use crate::{Cloud, Counts, ReadFault, Sources, Table, TableFault, TableKind, drain};
 use ac_base::{ClassName, Id, MemFeed, TraitName, Turn};
 use std::alloc::{AllocError, Global};
 use std::test::Fail;
+
+mod draining;
+mod faults;
+mod limits;
+mod refusals;
 
 const LIMIT: usize = 67_108_864;
 
@@ -466,19 +472,4 @@ fn drains_no_more_than_the_limit(rt: HostRuntime) -> Result<(), Fail> {
         }
     }
     Ok(())
-}
-
-// Run with each growth refused in turn: the answer is whole, or want of memory.
-#[test]
-fn bears_a_refused_growth(rt: HostRuntime) {
-    let tables = (TREES, STOCKS, Some(USED), Some(MARKS), Some(GROUPS));
-    match read(rt.alloc(), tables) {
-        Ok(cloud) => assert!(rt; cloud.len() == 5 && cloud.counts().aggregates == 3, "whole"),
-        Err(fault) => assert!(rt; fault == TableFault::NoMemory, "want of memory"),
-    }
-    let mut feed = MemFeed::new(TREES.as_bytes(), &[]);
-    match drain(rt.alloc(), &mut feed) {
-        Ok(bytes) => assert!(rt; bytes.as_slice() == TREES.as_bytes(), "whole"),
-        Err(fault) => assert!(rt; fault == ReadFault::NoMemory, "want of memory"),
-    }
 }

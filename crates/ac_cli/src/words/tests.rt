@@ -4,6 +4,8 @@ use ac_query::Version;
 use std::alloc::{AllocError, Global};
 use std::test::Fail;
 
+mod refusals;
+
 // The words of `line`, parted at single blanks.
 fn words_of(alloc: Global, line: &str) -> Result<Vec<String>, AllocError> {
     let mut words = Vec::new(alloc);

@@ -1,6 +1,6 @@
 //! Worked examples, with values worked out by hand.
-use super::{EMPTY, ONE, Rows, SOUND, expanded, run_job};
-use crate::job::{Command, Job};
+use super::{EMPTY, ONE, Rows, SOUND, expanded, run_by};
+use crate::job::Command;
 use ac_query::Version;
 use std::process::Abort;
 use std::test::Fail;
@@ -50,13 +50,15 @@ fn check(rt: &(impl Abort + AllocGlobal), cases: &[Case]) -> Result<(), Fail> {
             Some(token) => Some(expanded(alloc, token)?),
             None => None,
         };
-        let job = Job {
-            command: case.command,
-            query: query.as_str(),
-            version: case.version,
-            token: token.as_deref(),
-        };
-        let left = run_job(alloc, &case.rows, &job, SOUND)?;
+        let left = run_by(
+            alloc,
+            &case.rows,
+            case.version,
+            case.command,
+            query.as_str(),
+            token.as_deref(),
+            SOUND,
+        )?;
         let output = expanded(alloc, case.output)?;
         assert_eq!(rt;
             left.output.as_str(),

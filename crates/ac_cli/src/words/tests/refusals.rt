@@ -1,0 +1,39 @@
+//! Words read with each growth refused in turn: what they say, or want of memory.
+use super::words_of;
+use crate::words::{Command, Job, Table, WordFault, read_words};
+use ac_query::Version;
+
+#[test]
+fn accepted(rt: HostRuntime) {
+    let line = "ac_cli tokens q --after t --microversion 1.39 --providers a --inventories b";
+    let Ok(given) = words_of(rt.alloc(), line) else {
+        return;
+    };
+    let job = Job {
+        command: Command::Tokens,
+        query: "q",
+        version: Version::V139,
+        token: Some("t"),
+    };
+    match read_words(rt.alloc(), given.as_slice()) {
+        Ok(words) => {
+            assert!(rt; words.job() == job);
+            assert_eq!(rt; words.path(Table::Providers), Some("a"));
+            assert_eq!(rt; words.path(Table::Inventories), Some("b"));
+        }
+        Err(fault) => assert!(rt; matches!(fault, WordFault::NoMemory)),
+    }
+}
+
+#[test]
+fn refused(rt: HostRuntime) {
+    let Ok(given) = words_of(rt.alloc(), "ac_cli tokens") else {
+        return;
+    };
+    match read_words(rt.alloc(), given.as_slice()) {
+        Ok(_words) => assert!(rt; false, "there is no query"),
+        Err(fault) => assert!(rt;
+            matches!(fault, WordFault::Refused(_)) || matches!(fault, WordFault::NoMemory)
+        ),
+    }
+}

@@ -1,0 +1,104 @@
+"""Tables, queries and tokens that are made to do harm. Each is answered within two seconds of processor time and 2 GiB of memory, or the program is
+ended by the system, and the case fails. Millions of columns are the exception: `csv` keeps two numbers for each field of a record, so they have twice
+the time and memory."""
+from __future__ import annotations
+
+from cases import Case, lines, tables
+from large import MOST_BYTES, MOST_PROVIDERS, ONE, QUERY_BYTES, chain, shuffled
+from notation import HEADERS, provider
+
+LIMITED = 'ulimit -v $((2097152 * {0})); ulimit -t $((2 * {0})); exec "$@"'
+SIXTY_MIB = 60 << 20
+MANY = 100000
+P1 = provider(1)
+
+
+def quoted(size, text='x'):
+    """One quoted field of so many bytes."""
+    return '"' + text * ((size - 2) // len(text)) + '"'
+
+
+def filled(front, text, end):
+    """A table of the most bytes: this over and over between the two."""
+    return front + text * ((MOST_BYTES - len(front) - len(end)) // len(text)) + end
+
+
+def columns(number, table):
+    """The columns of a table behind so many others."""
+    return ''.join(f'c{n},' for n in range(number)) + HEADERS[table]
+
+
+def wide(number, *ids):
+    """Providers of which each has so many other fields before its own."""
+    return columns(number, 'providers') + ''.join(',' * number + f'{id},{id},\n' for id in ids)
+
+
+# What is refused, or accepted with these counts, and by which table.
+TABLES = [
+    ('64 MiB in one quoted field', 'providers', lambda: quoted(MOST_BYTES), 'record 1: MissingColumn'),
+    ('64 MiB behind a quote that isn\'t closed', 'providers', lambda: quoted(MOST_BYTES + 1)[:-1], 'record 1: MissingColumn'),
+    ('64 MiB of quotes', 'providers', lambda: '"' * MOST_BYTES, 'record 1: MissingColumn'),
+    ('64 MiB of newlines in one quoted field', 'providers', lambda: quoted(MOST_BYTES, '\n'), 'record 1: MissingColumn'),
+    ('64 MiB of one field without quotes', 'providers', lambda: 'x' * MOST_BYTES, 'record 1: MissingColumn'),
+    ('a quoted name of 64 MiB', 'traits', lambda: filled(HEADERS['traits'] + f'{P1},"', 'A', '"\n'), 'record 2: BadTrait'),
+    ('a quoted UUID of 64 MiB', 'traits', lambda: filled(HEADERS['traits'] + '"', '0', '",A\n'), 'record 2: BadUuid'),
+    ('a field of 64 MiB that is passed over', 'traits',
+     lambda: filled(HEADERS['traits'].strip() + f',note\n{P1},A,"', ',\n', '"\n'), (1, 0, 0, 1, 0)),
+    ('64 MiB of newlines alone', 'providers', lambda: '\n' * MOST_BYTES, 'record 1: NoHeader'),
+    ('64 MiB of carriage returns', 'providers', lambda: '\r' * MOST_BYTES, 'record 1: NoHeader'),
+    ('100000 columns, and none that is needed', 'providers', lambda: ''.join(f'c{n},' for n in range(MANY)) + '\n', 'record 1: MissingColumn'),
+    ('100000 columns before the needed ones', 'providers', lambda: wide(MANY, P1), (1, 0, 0, 0, 0)),
+    ('100000 columns, and a needed one twice', 'providers', lambda: 'uuid,' + wide(MANY, P1), 'record 1: DoubleColumn'),
+    ('100000 columns, and a record without them', 'providers', lambda: wide(MANY) + f'{P1},{P1},\n', 'record 2: Width'),
+    ('100000 columns of 600 records', 'providers', lambda: wide(MANY, *map(provider, range(1, 601))), (600, 0, 0, 0, 0)),
+    ('60 MiB of commas', 'providers', lambda: ',' * SIXTY_MIB, 'record 1: MissingColumn'),
+    ('60 MiB of commas in a record', 'traits', lambda: HEADERS['traits'] + ',' * SIXTY_MIB, 'record 2: Width'),
+    ('64 MiB of commas', 'providers', lambda: ',' * MOST_BYTES, 'record 1: MissingColumn'),
+    ('a chain of 65536', 'providers', lambda: chain(MOST_PROVIDERS), (MOST_PROVIDERS, 0, 0, 0, 0)),
+    ('a chain of 65536, shuffled', 'providers', lambda: chain(MOST_PROVIDERS, order=shuffled), (MOST_PROVIDERS, 0, 0, 0, 0)),
+    ('a ring of 65536', 'providers', lambda: chain(MOST_PROVIDERS, top=provider(MOST_PROVIDERS)), 'record 2: ParentCycle'),
+]
+
+MILLIONS_OF_COLUMNS = '60 MiB of commas', '64 MiB of commas'
+
+# Queries of 65536 bytes, or nearly, and the line or the answer.
+QUERIES = [
+    ('20000 pairs of no parameter', ('a=&' * 20000).ljust(QUERY_BYTES, '&'), 'pair 1: UnknownParameter'),
+    ('20000 pairs, of which the first is accepted', ('limit=1&' + 'a=&' * 20000).ljust(QUERY_BYTES, '&'), 'pair 2: UnknownParameter'),
+    ('20000 pairs without a name', 'resources=VCPU:2&' + '=1&' * 20000, 'pair 2: UnknownParameter'),
+    ('65536 bytes between which no pair stands', '&' * QUERY_BYTES, 'NoResources'),
+    ('65536 signs of escapes', '%' * QUERY_BYTES, 'pair 1: UnknownParameter'),
+    ('a value of 21800 escapes', ('resources=' + '%41' * 21800).ljust(QUERY_BYTES, '&'), 'pair 1: BadValue'),
+    ('7000 classes of one group', 'resources=' + ','.join(f'C{n}:1' for n in range(7000)), 'TooManySlots'),
+    ('7000 classes, the last for the second time', 'resources=' + ','.join(f'C{n % 6999}:1' for n in range(7000)), 'pair 1: BadValue'),
+    ('9000 traits that nobody has', 'resources=VCPU:2&required=' + ','.join(f'C{n}' for n in range(9000)), None),
+    ('9000 traits, the last of them forbidden too', 'resources=VCPU:2&required=' + ','.join([*(f'C{n}' for n in range(9000)), '!C8999']),
+     'pair 2: Conflict'),
+    ('9000 suffixes in one list', 'resources1=VCPU:2&same_subtree=' + ','.join(str(n) for n in range(1, 9000)), 'group "10": UnknownSuffix'),
+    ('4366 lists of one subtree', ('resources1=VCPU:2&' + 'same_subtree=1&' * 4366).ljust(QUERY_BYTES, '&'), 'P1'),
+]
+
+TOKENS = [
+    ('131000 letters', 'z' * 131000, 'BadToken'),
+    ('130000 commas', ',' * 130000, 'BadToken'),
+    ('3500 UUIDs', ','.join([P1] * 3500), 'WrongLength'),
+    ('3500 UUIDs and a bad part', ','.join([P1] * 3500 + ['z']), 'BadToken'),
+]
+
+
+def hostile(program):
+    """The cases, run by this program."""
+    limited = ['sh', '-c', LIMITED.format(1), 'limited', program]
+    for name, table, made, says in TABLES:
+        counts = ''.join(f'{kind} {count}\n' for kind, count in zip(HEADERS, says)) if isinstance(says, tuple) else ''
+        line = '' if counts else f'{table}: {says}\n'
+        room = ['sh', '-c', LIMITED.format(2), 'limited', program] if name in MILLIONS_OF_COLUMNS else limited
+        yield Case(f'hostile table: {name}', [*room, 'check'], counts, line, 0 if counts else 3,
+                   {**ONE, 'inventories': HEADERS['inventories'], table: made})
+    for name, query, says in QUERIES:
+        accepted = says in (None, 'P1')
+        yield Case(f'hostile query: {name}', [*limited, 'tokens', query], lines('P1') if says == 'P1' else '',
+                   '' if accepted else f'query: {says}\n', 0 if accepted else 4, ONE)
+    for name, token, says in TOKENS:
+        for command in ['tokens', 'resources=VCPU:2', f'--after={token}'], ['verify', 'resources=VCPU:2', token]:
+            yield Case(f'hostile token: {name}, {command[0]}', [*limited, *command], '', f'token: {says}\n', 5, tables('P1 | | VCPU total 8'))

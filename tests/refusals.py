@@ -1,0 +1,68 @@
+#!/usr/bin/env python3
+"""tests/refusals.py CRATE: runs each test of the crate's modules `refusals` again and again. Each run is refused one growth of its memory, the first,
+the second and so on, until a run needs no more. Such a test makes one call that takes memory: it passes where the call answers as it does with ample
+memory, or says want of memory, and fails where it answers anything else. Says which growth made which test fail, or how many growths there were.
+
+The tests are those that were proved and built last, crates/CRATE/out/CRATE_tests: `rt ci` leaves them, and `rt test` makes them."""
+from __future__ import annotations
+
+import glob
+import os
+import shutil
+import subprocess
+import sys
+import tempfile
+
+from growths import MOST, refuser, run
+
+ROOT = os.path.dirname(os.path.dirname(os.path.abspath(__file__)))
+
+
+def missing(crate, program):
+    """What is missing for these runs, or None."""
+    if not shutil.which('cc'):
+        return 'there is no C compiler, cc, to make tests/refuse.c with'
+    if not os.path.isfile(program):
+        return f'there is no {os.path.relpath(program, ROOT)}: `rt test` in crates/{crate} makes it'
+    sources = glob.glob(os.path.join(ROOT, 'crates', crate, 'src', '**', '*.rt'), recursive=True)
+    if max(map(os.path.getmtime, sources)) > os.path.getmtime(program):
+        return f'{os.path.relpath(program, ROOT)} is older than its sources: `rt test` in crates/{crate} makes it anew'
+    return None
+
+
+def tests(program):
+    said = subprocess.run([program, '--list'], capture_output=True, text=True, check=True).stdout
+    names = [line.removesuffix(': test') for line in said.splitlines() if line.endswith(': test')]
+    return [name for name in names if '::refusals::' in name]
+
+
+def failed(program, name, library):
+    """The number of the growth without which the test fails, or None, and how many growths it has."""
+    for number in range(MOST):
+        _, err, status, refused = run([program, name], library, number)
+        if status != 0:
+            return f'{name} fails where growth {number} is refused: {err[-300:]!r}', number
+        if number > 0 and not refused:
+            return (None if number > 1 else f'{name} needs no memory'), number - 1
+    return f'{name} has no end', MOST
+
+
+def main(crate):
+    program = os.path.join(ROOT, 'crates', crate, 'out', f'{crate}_tests')
+    why = missing(crate, program)
+    if why:
+        print(why)
+        return 1
+    names = tests(program)
+    with tempfile.TemporaryDirectory() as folder:
+        library = refuser(folder)
+        found = [failed(program, name, library) for name in names]
+    for why, _ in found:
+        if why:
+            print(why)
+    print(f'{len(names)} tests, {sum(count for _, count in found)} growths, each refused once')
+    return 0 if names and not any(why for why, _ in found) else 1
+
+
+if __name__ == '__main__':
+    sys.exit(main(*sys.argv[1:]))
