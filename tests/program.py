@@ -52,6 +52,14 @@ def check(*tables):
     return over(['check'], *tables)
 
 
+def toolchain():
+    """The line by which the toolchain names itself."""
+    try:
+        return subprocess.run(['rt', 'version'], capture_output=True, text=True, check=True).stdout.strip()
+    except (OSError, subprocess.CalledProcessError):
+        return 'a toolchain that is missing: `rt version` says nothing'
+
+
 def refused(name, words, *says):
     return Case(f'refused command line: {name}', words, err=SOME, status=2, has=says)
 
@@ -74,6 +82,7 @@ HELP = [
       for name in COMMANDS if name != 'check'),
     *(Case(f'help of {name} tells --after', [name, '--help'], SOME, has=('--after', 'QUERY')) for name in ('candidates', 'tokens')),
     Case('help of verify tells both words', ['verify', '--help'], SOME, has=('QUERY', 'TOKEN')),
+    *(Case(f'version: {word}', [word], f'ac_cli 1.0.0, proved with {toolchain()}\n') for word in ('--version', '-V')),
 ]
 
 WORDS = [
@@ -183,7 +192,7 @@ GROWTHS = [
 
 # The calls that take memory, each by itself.
 REFUSALS = [Case(f'each growth refused, in the tests of {crate}', ['sh', '-c', f'exec python3 -B tests/refusals.py {crate}'], SOME)
-            for crate in ('ac_base', 'ac_tables', 'ac_query', 'ac_search', 'ac_report', 'ac_cli')]
+            for crate in ('ac_base', 'ac_tables', 'ac_query', 'ac_search', 'ac_report', 'ac_run', 'ac_cli')]
 
 
 def status_of(text):

@@ -13,6 +13,7 @@ mod crowded;
 mod cuts;
 mod devices;
 mod examples;
+mod refusals;
 
 // The rows of the tables. `@1` stands for the UUID that ends with 1.
 #[derive(Clone, Copy)]

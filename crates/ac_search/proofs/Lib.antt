@@ -5,6 +5,7 @@ pub mod PlacedLemmas
 pub mod SlotLemmas
 pub mod PlaceLemmas
 pub mod TogetherLemmas
+pub mod TraitLemmas
 pub mod AnchorLemmas
 pub mod FrontLemmas
 pub mod JudgeLemmas

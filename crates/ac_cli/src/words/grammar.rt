@@ -23,6 +23,9 @@ Example, at the top of the repository:
   ./ac_cli tokens 'resources=VCPU:2' \\
       --providers examples/providers.csv --inventories examples/inventories.csv";
 
+// The program's version, and that of the toolchain by which it is proved, as `rt version` prints it.
+const VERSION: &str = "1.0.0, proved with rattle-kit-13b logic dac8208d650f15bf";
+
 // A word that has to be given.
 fn word<'a>(alloc: Global, name: &'a str, shown: &'a str, help: &'a str) -> Arg<'a>
     ensures rule { rule_of result ≡ word_rule name.entry.now }
@@ -173,6 +176,7 @@ pub fn program<'a>(alloc: Global) -> Result<Command<'a>, AllocError>
     ensures { IfOk result (λ c. app_of c ≡ program) }
 {
     let command = Command::new(alloc, "ac_cli")
+        .version(VERSION)
         .about(
             "Finds allocation candidates in exported Placement tables; without words, in a sample",
         )

@@ -26,7 +26,7 @@ fn fault_of(alloc: Global, line: &str) -> Result<Option<WordFault>, AllocError> 
 fn help(alloc: Global, line: &str) -> Result<Option<String>, AllocError> {
     Ok(match fault_of(alloc, line)? {
         Some(WordFault::Help(text)) => Some(text),
-        Some(WordFault::Refused(_text)) => None,
+        Some(WordFault::Version(_text)) | Some(WordFault::Refused(_text)) => None,
         Some(WordFault::NoMemory) | None => None,
     })
 }
@@ -34,7 +34,7 @@ fn help(alloc: Global, line: &str) -> Result<Option<String>, AllocError> {
 fn refusal(alloc: Global, line: &str) -> Result<Option<String>, AllocError> {
     Ok(match fault_of(alloc, line)? {
         Some(WordFault::Refused(text)) => Some(text),
-        Some(WordFault::Help(_text)) => None,
+        Some(WordFault::Version(_text)) | Some(WordFault::Help(_text)) => None,
         Some(WordFault::NoMemory) | None => None,
     })
 }
