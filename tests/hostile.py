@@ -4,7 +4,7 @@ the time and memory."""
 from __future__ import annotations
 
 from cases import Case, lines, tables
-from large import MOST_BYTES, MOST_PROVIDERS, ONE, QUERY_BYTES, chain, shuffled
+from large import MOST_BYTES, MOST_PROVIDERS, ONE, QUERY_BYTES, chain, ids, roots, shuffled, vcpu
 from notation import HEADERS, provider
 
 LIMITED = 'ulimit -v $((2097152 * {0})); ulimit -t $((2 * {0})); exec "$@"'
@@ -78,6 +78,20 @@ QUERIES = [
     ('4366 lists of one subtree', ('resources1=VCPU:2&' + 'same_subtree=1&' * 4366).ljust(QUERY_BYTES, '&'), 'P1'),
 ]
 
+# 65536 providers with four traits each, and queries of 9000 others: whether there is a candidate.
+CROWD = {
+    'providers': lambda: roots(MOST_PROVIDERS),
+    'inventories': lambda: vcpu(MOST_PROVIDERS),
+    'traits': lambda: HEADERS['traits'] + ''.join(f'{id},CUSTOM_{letter}\n' for id in ids(MOST_PROVIDERS) for letter in 'ABDE'),
+}
+OTHERS = [f'C{n}' for n in range(9000)]
+CROWDED = [
+    ('that a group forbids', 'resources1=VCPU:2&limit=1&required1=' + ','.join(f'!{name}' for name in OTHERS), True),
+    ('of which a group asks for one', 'resources1=VCPU:2&required1=in:' + ','.join(OTHERS), False),
+    ('of which the group without a suffix asks for one', 'resources=VCPU:2&required=in:' + ','.join(OTHERS), False),
+    ('that a root may not have', 'resources=VCPU:2&limit=1&root_required=' + ','.join(f'!{name}' for name in OTHERS), True),
+]
+
 TOKENS = [
     ('131000 letters', 'z' * 131000, 'BadToken'),
     ('130000 commas', ',' * 130000, 'BadToken'),
@@ -99,6 +113,9 @@ def hostile(program):
         accepted = says in (None, 'P1')
         yield Case(f'hostile query: {name}', [*limited, 'tokens', query], lines('P1') if says == 'P1' else '',
                    '' if accepted else f'query: {says}\n', 0 if accepted else 4, ONE)
+    for name, query, is_found in CROWDED:
+        yield Case(f'hostile query: 9000 traits {name}, over 65536 providers', [*limited, 'tokens', query, '--microversion', '1.39'],
+                   lines('P1') if is_found else '', '', 0, CROWD)
     for name, token, says in TOKENS:
         for command in ['tokens', 'resources=VCPU:2', f'--after={token}'], ['verify', 'resources=VCPU:2', token]:
             yield Case(f'hostile token: {name}, {command[0]}', [*limited, *command], '', f'token: {says}\n', 5, tables('P1 | | VCPU total 8'))
