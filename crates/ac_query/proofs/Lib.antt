@@ -24,3 +24,4 @@ pub mod Choosing
 pub mod PositiveNeeds
 pub mod LongSuffixes
 pub mod Ordered
+pub mod ListItems

@@ -1,11 +1,12 @@
 -- Laws of the definitions.
-use Rattle.std.specs.Prelude.{◌≡◌, ℕ, ◌^◌, ◌<◌, List, [], ◌∷◌, Some, None}
+use Rattle.std.specs.Prelude.{◌≡◌, ℕ, ◌^◌, ◌<◌, List, [], ◌∷◌, Option, Some, None}
 use Rattle.std.specs.List.{AllByRecursion, slice_get}
+use Rattle.std.specs.Option.{option_and_then, option_map}
 use Rattle.std.specs.List.Sorted.{IsStrictlySortedBy}
-use Rattle.ac_base.specs.Texts.{text_cmp}
+use Rattle.ac_base.specs.Texts.{text_cmp, id_value, name_value, suffix_value}
 use Rattle.ac_query.specs.declared.version.Version.{Version}
-use Rattle.ac_query.specs.Texts.{has_text, in_byte_order}
-use Rattle.ac_query.specs.Values.{ids_value}
+use Rattle.ac_query.specs.Texts.{has_text, in_byte_order, items_of}
+use Rattle.ac_query.specs.Values.{ids_value, names_value, subtree_value}
 use Rattle.ac_query.specs.Asked.{Asked, slots_of}
 use Rattle.ac_query.specs.Asks.{Asks}
 use Rattle.ac_query.specs.Gathered.{asked_by}
@@ -27,6 +28,17 @@ abbrev pub OrderHolds : Type 0
 OrderHolds =
     (texts : List (List ℕ))
     → IsStrictlySortedBy text_cmp (in_byte_order texts) × ((t : List ℕ) → has_text (in_byte_order texts) t ≡ has_text texts t)
+
+-- the values of all texts, where each has one
+abbrev pub values_of : {X : Type 0} → (List ℕ → Option X) → List (List ℕ) → Option (List X)
+values_of value [] = Some []
+values_of value (t ∷ ts) = option_and_then (λ v. option_map (λ vs. v ∷ vs) (values_of value ts)) (value t)
+
+-- A list has a value where each of its items has one: names and suffixes in byte order, each once, ids as written.
+pub record ListsMean : Type 0 where
+  pub names : (text : List ℕ) → names_value text ≡ option_map in_byte_order (values_of name_value (items_of text))
+  pub suffixes : (text : List ℕ) → subtree_value text ≡ option_map in_byte_order (values_of suffix_value (items_of text))
+  pub ids : (text : List ℕ) → ids_value text ≡ values_of id_value (items_of text)
 
 -- The place of a slot is that of its group.
 abbrev pub SlotsNameGroups : Type 0

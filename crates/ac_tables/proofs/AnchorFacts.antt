@@ -63,9 +63,9 @@ and_any : {A : Type 0} (b : Bool) (g : A → Bool) (xs : List A) → (b && list_
 and_any true g xs = refl
 and_any false g xs = sym (any_none xs)
 
-swap : {Q A : Type 0} (f : Q → Bool) (g : Q → A → Bool) (qs : List Q) (xs : List A) → list_any (λ q. f q && list_any (g q) xs) qs ≡ list_any (λ x. list_any (λ q. f q && g q x) qs) xs
-swap f g [] xs = sym (any_none xs)
-swap f g (q ∷ qs) xs = ap₂ (λ b c. b || c) (and_any (f q) (g q) xs) (swap f g qs xs) ∙ sym (any_or (λ x. f q && g q x) (λ x. list_any (λ r. f r && g r x) qs) xs)
+pub any_swap : {Q A : Type 0} (f : Q → Bool) (g : Q → A → Bool) (qs : List Q) (xs : List A) → list_any (λ q. f q && list_any (g q) xs) qs ≡ list_any (λ x. list_any (λ q. f q && g q x) qs) xs
+any_swap f g [] xs = sym (any_none xs)
+any_swap f g (q ∷ qs) xs = ap₂ (λ b c. b || c) (and_any (f q) (g q) xs) (any_swap f g qs xs) ∙ sym (any_or (λ x. f q && g q x) (λ x. list_any (λ r. f r && g r x) qs) xs)
 
 alone : (x : ℕ) → IsStrictlySortedBy nat_cmp (x ∷ [])
 unfolding IsStrictlySortedBy
@@ -131,7 +131,7 @@ module _ (c : Cloud) where
       let hq : q < length c.ids.ids.items = omega (arith, below, size c) in
       ap₂ (λ a b. a && b) (same_root q r hq hr) (ap₂ (λ (l m : List ℕ). list_any (λ (a : ℕ). is_among a l) m) (at_place q hq) (at_place ix h)))
       ∙ ap (λ (n : ℕ). list_any (λ (q : ℕ). (get_or roots q 0 == r) && list_any (λ (a : ℕ). is_among a (get_or groups q [])) (get_or groups ix [])) (range_with_len 0 n)) sized
-      ∙ swap (λ (q : ℕ). get_or roots q 0 == r) (λ (q a : ℕ). is_among a (get_or groups q [])) (range_with_len 0 (length roots)) (get_or groups ix [])
+      ∙ any_swap (λ (q : ℕ). get_or roots q 0 == r) (λ (q a : ℕ). is_among a (get_or groups q [])) (range_with_len 0 (length roots)) (get_or groups ix [])
 
   -- where some aggregate joins, there is a root
   joined_root : (ids : List ℕ) (r : ℕ) → r < length c.ids.ids.items → is_joined roots groups ids r ≡ true → is_root (providers_of c) (id_at (providers_of c) r) ≡ true

@@ -2,7 +2,7 @@
 use Rattle.std.specs.Prelude.{◌≡◌, ◌<◌, ◌^◌, ℕ, true, false, List, length, Option}
 use Rattle.ac_tables.specs.CloudWorld.{providers_of}
 use Rattle.ac_tables.specs.Trees.{Above, IsRootOf, top, is_endless, is_in_chain}
-use Rattle.ac_tables.specs.World.{Provider, id_at}
+use Rattle.ac_tables.specs.World.{Provider, id_at, parent_of, root_of, is_above}
 use Rattle.ac_tables.specs.Tables.{Tables, world_stated}
 use Rattle.ac_tables.specs.declared.cloud.Cloud.{Cloud}
 
@@ -30,3 +30,14 @@ ProvidersInOrder = (t : Tables) → AreProviders (world_stated t).providers
 -- The providers of a cloud are in order.
 abbrev pub CloudInOrder : Type 0
 CloudInOrder = (cloud : Cloud) → AreProviders (providers_of cloud)
+
+-- In the tree of a provider its root is above it, and has no parent; no other is both. Who is above it is a relation by parents.
+pub record IsInTree (all : List Provider) (id : ℕ) : Type 0 where
+  pub root : IsRootOf (parent_of all) (root_of all id) id
+  pub only : (r : ℕ) → IsRootOf (parent_of all) r id → r ≡ root_of all id
+  pub above : (a : ℕ) → is_above all a id ≡ true → Above (parent_of all) a id
+  pub found : (a : ℕ) → Above (parent_of all) a id → is_above all a id ≡ true
+
+-- So it is of each provider of a cloud, since there every chain of parents ends.
+abbrev pub CloudIsForest : Type 0
+CloudIsForest = (cloud : Cloud) (ix : ℕ) → ix < length (providers_of cloud) → IsInTree (providers_of cloud) (id_at (providers_of cloud) ix)

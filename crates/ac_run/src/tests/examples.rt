@@ -1,5 +1,5 @@
 //! Worked examples, with values worked out by hand.
-use super::{EMPTY, ONE, Rows, SOUND, Turns, alike, expanded, run_by};
+use super::{EMPTY, ONE, Rows, SOUND, Turns, alike, expanded, expect_left, run_by};
 use crate::job::Command;
 use ac_base::Turn;
 use ac_query::Version;
@@ -67,13 +67,14 @@ fn check_over(
             turns,
         )?;
         let output = expanded(alloc, case.output)?;
-        assert_eq!(rt;
-            left.output.as_str(),
+        expect_left(
+            rt,
+            &left,
             output.as_str(),
-            "output of case {place}"
+            case.line,
+            case.status,
+            place,
         );
-        assert_eq!(rt; left.line.as_str(), case.line, "line of case {place}");
-        assert_eq!(rt; left.status, case.status, "status of case {place}");
     }
     Ok(())
 }

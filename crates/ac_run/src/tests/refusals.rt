@@ -1,5 +1,5 @@
 //! Runs with each growth refused in turn: the whole answer, or `out of memory` with status 7 and a first part of it.
-use super::{ONE, ONE_BODY, Rows, SOUND, expanded, run_over};
+use super::{ONE, ONE_BODY, Rows, SOUND, expanded, expect_left, run_over};
 use crate::job::Command;
 use std::alloc::{AllocError, Global};
 use std::process::Abort;
@@ -72,9 +72,7 @@ fn check(rt: &(impl Abort + AllocGlobal), case: Case) {
         assert_eq!(rt; left.line.as_str(), "out of memory\n");
         assert!(rt; output.as_str().starts_with(left.output.as_str()));
     } else {
-        assert_eq!(rt; left.line.as_str(), case.line);
-        assert_eq!(rt; left.output.as_str(), output.as_str());
-        assert_eq!(rt; left.status, case.status);
+        expect_left(rt, &left, output.as_str(), case.line, case.status, 0);
     }
 }
 
