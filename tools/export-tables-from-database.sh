@@ -14,6 +14,12 @@ tab=$(printf '\t')
 # queries HEX RATIO: the five queries. Each row begins with the name of its table, and the last row of all is `end`. HEX is how the database
 # writes the bytes of a text as hexadecimal digits, so that no name of a provider can break a row; RATIO how it writes a float with all its digits.
 queries() {
+    used='COALESCE((SELECT SUM(a.used) FROM allocations a
+            WHERE a.resource_provider_id = i.resource_provider_id AND a.resource_class_id = i.resource_class_id), 0)'
+    held='FROM inventories i
+    JOIN resource_providers p ON p.id = i.resource_provider_id
+    JOIN resource_classes c ON c.id = i.resource_class_id
+    ORDER BY p.id, i.id'
     cat <<X
 SELECT 'providers', p.uuid, $(echo "$1" | sed "s/@/COALESCE(p.name, '')/"), p.generation, root.uuid, COALESCE(parent.uuid, '')
     FROM resource_providers p
@@ -21,19 +27,11 @@ SELECT 'providers', p.uuid, $(echo "$1" | sed "s/@/COALESCE(p.name, '')/"), p.ge
     LEFT JOIN resource_providers parent ON parent.id = p.parent_provider_id
     ORDER BY p.id;
 SELECT 'inventories', p.uuid, c.name, $(echo "$2" | sed 's/@/i.allocation_ratio/'), i.min_unit, i.max_unit, i.reserved, i.step_size, i.total,
-        COALESCE((SELECT SUM(a.used) FROM allocations a
-            WHERE a.resource_provider_id = i.resource_provider_id AND a.resource_class_id = i.resource_class_id), 0)
-    FROM inventories i
-    JOIN resource_providers p ON p.id = i.resource_provider_id
-    JOIN resource_classes c ON c.id = i.resource_class_id
-    ORDER BY p.id, i.id;
+        $used
+    $held;
 SELECT 'usages', p.uuid, c.name,
-        COALESCE((SELECT SUM(a.used) FROM allocations a
-            WHERE a.resource_provider_id = i.resource_provider_id AND a.resource_class_id = i.resource_class_id), 0)
-    FROM inventories i
-    JOIN resource_providers p ON p.id = i.resource_provider_id
-    JOIN resource_classes c ON c.id = i.resource_class_id
-    ORDER BY p.id, i.id;
+        $used
+    $held;
 SELECT 'traits', p.uuid, t.name
     FROM resource_provider_traits h
     JOIN resource_providers p ON p.id = h.resource_provider_id
