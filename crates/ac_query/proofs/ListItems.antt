@@ -10,7 +10,7 @@ use Rattle.ac_query.specs.Laws.{ListsMean, values_of}
 
 module _ {X B : Type 0} (add : B → X → B) (value : List ℕ → Option X) where
   -- what is gathered, with a further item
-  step : Option B → List ℕ → Option B
+  abbrev step : Option B → List ℕ → Option B
   step gathered item = option_and_then (λ before. option_map (add before) (value item)) gathered
 
   stays_none : (items : List (List ℕ)) → fold step None items ≡ None

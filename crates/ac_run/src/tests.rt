@@ -150,14 +150,7 @@ struct Left {
 }
 
 // What a run is to leave; the number says which run it is.
-fn expect_left(
-    rt: &impl Abort,
-    left: &Left,
-    output: &str,
-    line: &str,
-    status: u8,
-    number: usize,
-) {
+fn expect_left(rt: &impl Abort, left: &Left, output: &str, line: &str, status: u8, number: usize) {
     assert_eq!(rt; left.output.as_str(), output, "output of run {number}");
     assert_eq!(rt; left.line.as_str(), line, "line of run {number}");
     assert_eq!(rt; left.status, status, "status of run {number}");

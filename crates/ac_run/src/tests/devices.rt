@@ -1,5 +1,7 @@
 //! Devices that fail.
-use super::{Left, ONE, ONE_BODY, SOUND, Texts, Turns, alike, expanded, expect_left, run_over, texts_of};
+use super::{
+    Left, ONE, ONE_BODY, SOUND, Texts, Turns, alike, expanded, expect_left, run_over, texts_of,
+};
 use crate::job::Command;
 use ac_base::Turn;
 use ac_tables::Table;

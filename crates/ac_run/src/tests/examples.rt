@@ -44,11 +44,7 @@ const VERDICT: Case = Case {
 };
 
 // Each case answers so over devices that go by these turns.
-fn check_over(
-    rt: &(impl Abort + AllocGlobal),
-    cases: &[Case],
-    turns: Turns,
-) -> Result<(), Fail> {
+fn check_over(rt: &(impl Abort + AllocGlobal), cases: &[Case], turns: Turns) -> Result<(), Fail> {
     let alloc = rt.alloc();
     for (place, case) in cases.iter().enumerate() {
         assert!(rt; case.command != Command::Verify || case.token.is_some());
@@ -67,14 +63,7 @@ fn check_over(
             turns,
         )?;
         let output = expanded(alloc, case.output)?;
-        expect_left(
-            rt,
-            &left,
-            output.as_str(),
-            case.line,
-            case.status,
-            place,
-        );
+        expect_left(rt, &left, output.as_str(), case.line, case.status, place);
     }
     Ok(())
 }
