@@ -112,7 +112,10 @@ fi
 test "$(id -u)" = 0 || stop 'this is for root'
 test -x "$program" || stop 'there is no program: build it by ./ac_cli, or name it by AC_CLI'
 lacking=$(missing)
-test -z "$lacking" || DEBIAN_FRONTEND=noninteractive apt-get install -y --no-install-recommends $lacking
+test -z "$lacking" || {
+    apt-get update
+    DEBIAN_FRONTEND=noninteractive apt-get install -y --no-install-recommends $lacking
+}
 
 room=$(mktemp -d /tmp/try-with-service.XXXXXX)
 chmod 711 "$room"
