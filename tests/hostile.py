@@ -4,7 +4,7 @@ the time and memory."""
 from __future__ import annotations
 
 from cases import Case, lines, tables
-from large import MOST_BYTES, MOST_PROVIDERS, ONE, QUERY_BYTES, chain, shuffled
+from large import MOST_BYTES, MOST_PROVIDERS, ONE, QUERY_BYTES, chain, ids, roots, shuffled, vcpu
 from notation import HEADERS, provider
 
 LIMITED = 'ulimit -v $((2097152 * {0})); ulimit -t $((2 * {0})); exec "$@"'
@@ -59,6 +59,14 @@ TABLES = [
     ('a ring of 65536', 'providers', lambda: chain(MOST_PROVIDERS, top=provider(MOST_PROVIDERS)), 'record 2: ParentCycle'),
 ]
 
+# One provider with so many classes, and as much used of each, in the other order.
+CLASSES = 200000
+OF_MANY_CLASSES = {
+    **ONE,
+    'inventories': lambda: HEADERS['inventories'] + ''.join(f'{P1},CUSTOM_{n},1,0,1,1,1,1.0\n' for n in range(CLASSES)),
+    'usages': lambda: HEADERS['usages'] + ''.join(f'{P1},CUSTOM_{n},1\n' for n in reversed(range(CLASSES))),
+}
+
 MILLIONS_OF_COLUMNS = '60 MiB of commas', '64 MiB of commas'
 
 # Queries of 65536 bytes, or nearly, and the line or the answer.
@@ -78,6 +86,20 @@ QUERIES = [
     ('4366 lists of one subtree', ('resources1=VCPU:2&' + 'same_subtree=1&' * 4366).ljust(QUERY_BYTES, '&'), 'P1'),
 ]
 
+# 65536 providers with four traits each, and queries of 9000 others: whether there is a candidate.
+CROWD = {
+    'providers': lambda: roots(MOST_PROVIDERS),
+    'inventories': lambda: vcpu(MOST_PROVIDERS),
+    'traits': lambda: HEADERS['traits'] + ''.join(f'{id},CUSTOM_{letter}\n' for id in ids(MOST_PROVIDERS) for letter in 'ABDE'),
+}
+OTHERS = [f'C{n}' for n in range(9000)]
+CROWDED = [
+    ('that a group forbids', 'resources1=VCPU:2&limit=1&required1=' + ','.join(f'!{name}' for name in OTHERS), True),
+    ('of which a group asks for one', 'resources1=VCPU:2&required1=in:' + ','.join(OTHERS), False),
+    ('of which the group without a suffix asks for one', 'resources=VCPU:2&required=in:' + ','.join(OTHERS), False),
+    ('that a root may not have', 'resources=VCPU:2&limit=1&root_required=' + ','.join(f'!{name}' for name in OTHERS), True),
+]
+
 TOKENS = [
     ('131000 letters', 'z' * 131000, 'BadToken'),
     ('130000 commas', ',' * 130000, 'BadToken'),
@@ -95,10 +117,15 @@ def hostile(program):
         room = ['sh', '-c', LIMITED.format(2), 'limited', program] if name in MILLIONS_OF_COLUMNS else limited
         yield Case(f'hostile table: {name}', [*room, 'check'], counts, line, 0 if counts else 3,
                    {**ONE, 'inventories': HEADERS['inventories'], table: made})
+    counts = f'providers 1\ninventories {CLASSES}\nusages {CLASSES}\ntraits 0\naggregates 0\n'
+    yield Case(f'hostile tables: {CLASSES} classes of one provider, each used', [*limited, 'check'], counts, tables=OF_MANY_CLASSES)
     for name, query, says in QUERIES:
         accepted = says in (None, 'P1')
         yield Case(f'hostile query: {name}', [*limited, 'tokens', query], lines('P1') if says == 'P1' else '',
                    '' if accepted else f'query: {says}\n', 0 if accepted else 4, ONE)
+    for name, query, is_found in CROWDED:
+        yield Case(f'hostile query: 9000 traits {name}, over 65536 providers', [*limited, 'tokens', query, '--microversion', '1.39'],
+                   lines('P1') if is_found else '', '', 0, CROWD)
     for name, token, says in TOKENS:
         for command in ['tokens', 'resources=VCPU:2', f'--after={token}'], ['verify', 'resources=VCPU:2', token]:
             yield Case(f'hostile token: {name}, {command[0]}', [*limited, *command], '', f'token: {says}\n', 5, tables('P1 | | VCPU total 8'))

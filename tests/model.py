@@ -131,6 +131,16 @@ def broken_by_one(provider, suffix, needs, query, cloud):
         yield 'Tree'
 
 
+def has_room(provider, needs):
+    """Whether a provider of these classes has room for a slot alone."""
+    return all(amount <= has.max_unit and has.used + amount <= has.capacity() for name, amount in needs.items() for has in [provider.has[name]])
+
+
+def takes(root, query):
+    """Whether a root has what the query asks of it."""
+    return query.root_required <= root.traits and not query.root_forbidden & root.traits
+
+
 def broken_by_all(placed, query, cloud):
     """The rules that an assignment breaks as a whole. It is a list of providers, suffixes and amounts."""
     together = set().union(*(provider.traits for provider, suffix, _ in placed if not suffix))
@@ -149,8 +159,7 @@ def broken_by_all(placed, query, cloud):
         near = [provider for provider, suffix, _ in placed if suffix in listed]
         if not any(all(any(top is step for step in other.above()) for other in near) for top in near):
             yield 'Subtree'
-    if not any(root.root() is root and query.root_required <= root.traits and not query.root_forbidden & root.traits
-               and all(available(provider, root, cloud) for provider, _, _ in placed) for root in cloud):
+    if not any(root.root() is root and takes(root, query) and all(available(provider, root, cloud) for provider, _, _ in placed) for root in cloud):
         yield 'Anchor'
 
 
@@ -159,6 +168,32 @@ def judgement(assignment, query, cloud):
     placed = [(provider, suffix, needs) for provider, (suffix, needs) in zip(assignment, query.slots())]
     broken = [*(rule for one in placed for rule in broken_by_one(*one, query, cloud)), *broken_by_all(placed, query, cloud)]
     return min((RULES.index(rule) + 1 for rule in broken), default=0)
+
+
+def serving(suffix, needs, query, cloud):
+    """The providers that a slot leaves, rule by rule, and at last those that have room for it alone."""
+    left = cloud
+    for rule in RULES[:4]:
+        left = [provider for provider in left if rule not in broken_by_one(provider, suffix, needs, query, cloud)]
+        yield left
+    yield [provider for provider in left if has_room(provider, needs)]
+
+
+def explanation(found, query, cloud):
+    told, served = [], []
+    for number, (suffix, needs) in enumerate(query.slots(), 1):
+        *_, last = left = list(serving(suffix, needs, query, cloud))
+        served.append(last)
+        units, traits, aggregates, tree, room = map(len, left)
+        classes = ','.join(f'{name}:{needs[name]}' for name in sorted(needs))
+        told.append(f'slot {number} "{suffix}"{" " * bool(needs)}{classes}: units {units} of {len(cloud)}, traits {traits}, aggregates {aggregates}, '
+                    f'tree {tree}, room {room}')
+    roots = [root for root in cloud if root.root() is root]
+    taken = [root for root in roots if takes(root, query)]
+    whole = [root for root in taken if all(any(available(provider, root, cloud) for provider in last) for last in served)]
+    told.append(f'trees {len(roots)}: root traits {len(taken)}, each slot {len(whole)}')
+    told.append(f'candidates: {"some" if found else "none"}')
+    return ''.join(line + '\n' for line in told)
 
 
 def request(assignment, query):
@@ -237,7 +272,7 @@ def names(assignment):
 
 
 def drawn(number, seed=1):
-    """So many clouds, each with a query, and what the four commands say of it. Every third may be without a candidate."""
+    """So many clouds, each with a query, and what the commands say of it. Every third may be without a candidate."""
     chance = random.Random(seed)
     n = 0
     while n < number:
@@ -264,4 +299,5 @@ def asked(name, chance, cloud, query, every, judged):
     yield Case(f'{name}: tokens', ['tokens', text, *version], lines(*map(names, found)), tables=made)
     yield Case(f'{name}: candidates', ['candidates', text, *version], full(body(found, query, cloud)), tables=made)
     yield Case(f'{name}: candidates after a token', ['candidates', text + '&limit=2', *after, *version], full(body(later, query, cloud)), tables=made)
+    yield Case(f'{name}: explain', ['explain', text, *version], explanation(found, query, cloud), status=0 if found else 1, tables=made)
     yield Case(f'{name}: verify', ['verify', text, full(names(every[one])), *version], line, status=1 if rule else 0, tables=made)

@@ -33,7 +33,7 @@ PROVIDERS = os.path.join(EXAMPLES, 'providers.csv')
 INVENTORIES = os.path.join(EXAMPLES, 'inventories.csv')
 NO_FILE = os.path.join(EXAMPLES, 'no_such_file.csv')
 ONE_HOST = '2b7d9e54-61c8-4f03-8a9d-c4e1b05f3a27\n'
-COMMANDS = 'check', 'candidates', 'tokens', 'verify'
+COMMANDS = 'check', 'candidates', 'tokens', 'verify', 'explain'
 STATUSES = {'no: rule': 1, 'unknown provider': 1, 'query': 4, 'token': 5, 'output': 6, 'out of memory': 7,
             **dict.fromkeys(('providers:', 'inventories:', 'usages:', 'traits:', 'aggregates:'), 3)}
 NOT_BUILT = 70
@@ -50,6 +50,14 @@ def tokens(query, *tables):
 
 def check(*tables):
     return over(['check'], *tables)
+
+
+def toolchain():
+    """The line by which the toolchain names itself."""
+    try:
+        return subprocess.run(['rt', 'version'], capture_output=True, text=True, check=True).stdout.strip()
+    except (OSError, subprocess.CalledProcessError):
+        return 'a toolchain that is missing: `rt version` says nothing'
 
 
 def refused(name, words, *says):
@@ -74,6 +82,7 @@ HELP = [
       for name in COMMANDS if name != 'check'),
     *(Case(f'help of {name} tells --after', [name, '--help'], SOME, has=('--after', 'QUERY')) for name in ('candidates', 'tokens')),
     Case('help of verify tells both words', ['verify', '--help'], SOME, has=('QUERY', 'TOKEN')),
+    *(Case(f'version: {word}', [word], f'ac_cli 1.0.0, proved with {toolchain()}\n') for word in ('--version', '-V')),
 ]
 
 WORDS = [
@@ -87,6 +96,9 @@ WORDS = [
     refused('a query for check', over(['check', 'resources=VCPU:2'])),
     refused('a token for check', check() + ['--after', ONE_HOST.strip()]),
     refused('--after for verify', over(['verify', 'resources=VCPU:2', ONE_HOST.strip(), '--after', ONE_HOST.strip()])),
+    refused('no query to explain', over(['explain'])),
+    refused('a token to explain', over(['explain', 'resources=VCPU:2', ONE_HOST.strip()])),
+    refused('--after for explain', over(['explain', 'resources=VCPU:2', '--after', ONE_HOST.strip()]), '--after'),
     refused('--after without a token', tokens('resources=VCPU:2') + ['--after']),
     refused('no inventories', ['tokens', 'resources=VCPU:2', '--providers', PROVIDERS], '--inventories <FILE>', 'Usage: ac_cli tokens'),
     refused('no providers', ['check', '--inventories', INVENTORIES]),
@@ -101,7 +113,6 @@ WORDS = [
     refused('help is not asked by a value', [*tokens('resources=VCPU:2'), '--microversion', '--help']),
     Case('the microversion that is the default', [*tokens('resources=VCPU:12'), '--microversion', '1.36'], ONE_HOST),
     Case('the later microversion, before the query', over(['tokens', '--microversion=1.39', 'resources=VCPU:12']), ONE_HOST),
-    refused('a version', ['--version']),
     refused('an option twice', [*tokens('resources=VCPU:2'), '--providers', PROVIDERS], '--providers'),
     refused('a query that looks like an option', tokens('-resources=VCPU:2')),
     refused('a word that is no UTF-8', tokens(b'resources=\xff')),
@@ -147,6 +158,7 @@ DEVICES = [
     to_full('tokens', tokens('resources=VCPU:2')),
     to_full('candidates', over(['candidates', 'resources=VCPU:2'])),
     to_full('verify', over(['verify', 'resources=VCPU:2', ONE_HOST.strip()])),
+    to_full('explain', over(['explain', 'resources=VCPU:2'])),
     Case('a full device: nothing to write', tokens('resources=DISK_GB:3000'), to='/dev/full'),
     Case('a pipe that nobody reads: tokens', tokens('resources=VCPU:2'), err='output: WriteFailed\n', status=6, closed=True),
     Case('a pipe that nobody reads: candidates', over(['candidates', 'resources=VCPU:2']), err='output: WriteFailed\n', status=6, closed=True),
@@ -175,6 +187,8 @@ GROWTHS = [
     growing('candidates after one', ['candidates', DISK + '&limit=1', '--after', 'P9,P1'], SHARED),
     growing('verify', ['verify', FIVES, 'P1,P2'], CHILD),
     growing('verify, an unknown provider', ['verify', FIVES, 'P1,P7'], CHILD),
+    growing('explain', ['explain', DISK], SHARED),
+    growing('explain, no candidate', ['explain', FIVES], ONE),
     growing('check of a usage without an inventory', ['check'], ONE, usages=HEADERS['usages'] + f'{provider(1)},MEMORY_MB,1\n'),
     growing('a refused query', ['tokens', 'resources1=VCPU:1&same_subtree=1,2'], ONE),
     growing('a refused token', ['tokens', FIVES, '--after', 'P1'], CHILD),
@@ -183,11 +197,13 @@ GROWTHS = [
 
 # The calls that take memory, each by itself.
 REFUSALS = [Case(f'each growth refused, in the tests of {crate}', ['sh', '-c', f'exec python3 -B tests/refusals.py {crate}'], SOME)
-            for crate in ('ac_base', 'ac_tables', 'ac_query', 'ac_search', 'ac_report', 'ac_cli')]
+            for crate in ('ac_base', 'ac_tables', 'ac_query', 'ac_search', 'ac_report', 'ac_run', 'ac_cli')]
 
 
 def status_of(text):
     """The status that comes with a text: an answer, or a fault line."""
+    if text.endswith('candidates: none\n'):
+        return 1
     return next((status for start, status in STATUSES.items() if text.startswith(start)), 0)
 
 
@@ -215,6 +231,9 @@ def ruled(page):
             words = {'tokens': [full(query)], 'verify': [full(query), full(names[0])] if names else []}
             if ', assignment `' in line:
                 yield Case(f'{page}: {line}', ['verify', *words['verify'], *version], names[1] + '\n', status=status_of(names[1]), tables=tables(cloud))
+            elif ' is explained by `' in line:
+                says = ''.join(name + '\n' for name in names)
+                yield Case(f'{page}: {line}', ['explain', full(query), *version], says, status=status_of(says), tables=tables(cloud))
             elif ' is refused: `' in line:
                 yield Case(f'{page}: {line}', ['tokens', full(query), *version], err=names[0] + '\n', status=status_of(names[0]), tables=tables(cloud))
             else:

@@ -1,3 +1,4 @@
+//! Feeds and sinks: where bytes come from and where they go.
 ghost use Rattle.std.specs.Prelude.{◌≡◌, ℕ, ◌<◌, List, Option, length};
 ghost use Rattle.ac_base.specs.Devices.{PullGives, PushTakes, failures_after_pull, failures_after_push, is_pull_failure, is_push_failure};
 

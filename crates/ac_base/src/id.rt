@@ -1,3 +1,4 @@
+//! UUIDs as numbers.
 ghost use Rattle.std.specs.Prelude.{◌≡◌, ℕ};
 ghost use Rattle.ac_base.specs.Texts.{id_value, id_text};
 

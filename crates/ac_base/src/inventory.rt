@@ -1,3 +1,4 @@
+//! Inventories, and what they leave for a request.
 ghost use Rattle.std.specs.Prelude.{◌≡◌, ◌≤◌};
 ghost use Rattle.ac_base.specs.Quantities.{capacity, units, checked_stock};
 

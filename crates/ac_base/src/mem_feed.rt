@@ -1,3 +1,4 @@
+//! A feed of bytes in memory, whose calls go as they are told.
 ghost use Rattle.std.specs.Prelude.{◌≡◌, ◌<◌, Some, length};
 ghost use Rattle.ac_base.specs.Devices.{PullGives, failures_after_pull};
 ghost use Rattle.ac_base.specs.Memory.{next_turn, later_turns, feed_answer};

@@ -1,3 +1,4 @@
+//! A sink over bytes in memory, whose calls go as they are told.
 ghost use Rattle.std.specs.Prelude.{◌≡◌, ◌+◌, ◌≤◌, Some, [], take, length, vec_len};
 ghost use Rattle.ac_base.specs.Devices.{PushTakes, failures_after_push};
 ghost use Rattle.ac_base.specs.Memory.{next_turn, later_turns, sink_answer};

@@ -1,3 +1,4 @@
+//! Names of resource classes and of traits, and suffixes of request groups.
 ghost use Rattle.std.specs.Prelude.{IsTrue};
 ghost use Rattle.ac_base.specs.Texts.{is_name, is_suffix};
 ghost use Rattle.std.specs.Rc.{rc_str_bytes};

@@ -4,7 +4,7 @@ use Rattle.std.specs.Prelude.{◌&&◌, ◌||◌, ⊤, find, if◌then◌else◌
 use Rattle.std.specs.List.{fold, list_all, list_any}
 use Rattle.std.specs.Option.{option_map, option_map_or}
 use Rattle.std.specs.Str.{bytes_eq}
-use Rattle.std.proofs.lemmas.Bool.{cases_Bool}
+use Rattle.std.proofs.lemmas.Bool.{and_parts, cases_Bool}
 use Rattle.std.proofs.lemmas.Slice.Eq.{bytes_eq-Decides}
 use Rattle.clap.specs.Facts.{explicit_source}
 use Rattle.clap.specs.Faults.{check_fault, defaults_fault, entered_fault, fault_of, level_fault, other_fault, settle_fault, step_fault, turn_fault, walk_fault, word_fault}
@@ -18,7 +18,7 @@ use Rattle.clap.proofs.OnLiterals.{clap_on_literals}
 use Rattle.ac_cli.specs.Words.{HasEntry, IsComplete, name_of, named, program, query_of, token_of}
 use Rattle.ac_run.specs.Jobs.{HasToken}
 use Rattle.ac_run.specs.declared.job.Command.{Command}
-use Rattle.ac_run.specs.declared.job.Command.TheVariants.{Check, Candidates, Tokens, Verify}
+use Rattle.ac_run.specs.declared.job.Command.TheVariants.{Check, Candidates, Tokens, Verify, Explain}
 use Rattle.ac_cli.proofs.FilledRows.{Filled, HasValue, asks_or_takes, first_free, then_free}
 use Rattle.ac_cli.proofs.FilledWalk.{keeps-defaults, keeps-settled, keeps-walk}
 
@@ -190,7 +190,7 @@ serves command s = bytes_eq s.name (name_of command) && (needs_words command s &
     && (needs (codes "providers") s && needs (codes "inventories") s)))
 
 abbrev is_served : Shape → Bool
-is_served s = serves Check s || (serves Candidates s || (serves Tokens s || serves Verify s))
+is_served s = serves Check s || (serves Candidates s || (serves Tokens s || (serves Verify s || serves Explain s)))
 
 abbrev ServedOption : Option Shape → Type 0
 ServedOption None = ⊤
@@ -202,6 +202,7 @@ words-given : (command : Command) (s : Shape) (words : List Text) → list_all a
 words-given Check s words kept n e = (refl, tt)
 words-given Candidates s words kept n e = (level-entry s words (codes "query") kept n e, tt)
 words-given Tokens s words kept n e = (level-entry s words (codes "query") kept n e, tt)
+words-given Explain s words kept n e = (level-entry s words (codes "query") kept n e, tt)
 words-given Verify s words kept n e =
     let query : needs (codes "query") s ≡ true = grind arith in
     let token : needs (codes "token") s ≡ true = grind arith in
@@ -234,7 +235,10 @@ level-complete s words k e = elim (cases_Bool (serves Check s)) [
     | inl t ↦ command-complete Candidates s words t e
     | inr no_candidates ↦ elim (cases_Bool (serves Tokens s)) [
       | inl t ↦ command-complete Tokens s words t e
-      | inr no_tokens ↦ command-complete Verify s words (rw (no_check, no_candidates, no_tokens) at k) e
+      | inr no_tokens ↦ elim (cases_Bool (serves Verify s)) [
+        | inl t ↦ command-complete Verify s words t e
+        | inr no_verify ↦ command-complete Explain s words (rw (no_check, no_candidates, no_tokens, no_verify) at k) e
+      ]
     ]
   ]
 ]
@@ -252,15 +256,15 @@ served-find : (word : Text) (subs : List Shape) → bytes_eq word (codes "help")
     → ServedOption (find (λ s. answers_to word (label_of s)) subs)
 served-find word [] n k = tt
 served-find word (s ∷ subs) n k =
-    let others : list_all (λ s. is_help s || is_served s) subs ≡ true = grind arith in
+    let parts = and_parts (is_help s || is_served s) (list_all (λ s. is_help s || is_served s) subs) k in
     elim (cases_Bool (answers_to word (label_of s))) [
       | inl t ↦
           let served : is_served s ≡ true = elim (cases_Bool (is_help s)) [
             | inl help ↦ absurd (no-answer s word help n t)
-            | inr other ↦ grind arith
+            | inr other ↦ rw other at parts.0
           ] in
           rw t served
-      | inr t ↦ rw t (served-find word subs n others)
+      | inr t ↦ rw t (served-find word subs n parts.1)
     ]
 
 shape-complete : (words : List Text) (o : Option Shape) → ServedOption o → is_some (option_map (λ s. rows_at s words) o) ≡ true

@@ -3,7 +3,7 @@ use Rattle.std.specs.Prelude.{◌≡◌, ◌≢◌, ◌<◌, ◌≤◌, ◌⊎�
 use Rattle.std.specs.Io.KnownBytes.{Appends, append_known}
 use Rattle.clap.specs.Words.{IsAmong, Kinds, Row, Text}
 use Rattle.clap.specs.declared.error.kind.ErrorKind.{ErrorKind}
-use Rattle.clap.specs.declared.error.kind.ErrorKind.TheVariants.{DisplayHelp}
+use Rattle.clap.specs.declared.error.kind.ErrorKind.TheVariants.{DisplayHelp, DisplayVersion}
 use Rattle.ac_base.specs.Devices.{Rises, TakesPart}
 use Rattle.ac_base.specs.Gathered.{IsFirstPart}
 use Rattle.ac_tables.specs.declared.fault.Table.{Table}
@@ -101,16 +101,17 @@ IsShown text s given =
     ((given ≡ 0) × Appends s.out_old s.out_new text × (s.err_new ≡ s.err_old))
     ⊎ ((given ≡ 6) × Rises s.out_before s.out_after × TakesPart s.out_old s.out_new text × IsLine s output_line)
 
--- The words ask for help, and a text was shown.
+-- The words ask for help or for the version, and a text was shown.
 pub record IsHelped (kinds : Kinds) (s : Streams) (given : ℕ) : Type 0 where
-  pub asked : IsAmong DisplayHelp kinds
+  pub asked : IsAmong DisplayHelp kinds ⊎ IsAmong DisplayVersion kinds
   pub text : List ℕ
   pub shown : IsShown text s given
 
--- The words have a fault that is no call for help, and a text was told.
+-- The words have a fault that is no call for help or for the version, and a text was told.
 pub record IsMisworded (kinds : Kinds) (s : Streams) (given : ℕ) : Type 0 where
   pub kind : ErrorKind
-  pub apart : kind ≢ DisplayHelp
+  pub no_help : kind ≢ DisplayHelp
+  pub no_version : kind ≢ DisplayVersion
   pub among : IsAmong kind kinds
   pub text : List ℕ
   pub told : IsTold s text 2 given

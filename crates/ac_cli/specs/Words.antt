@@ -5,16 +5,17 @@ use Rattle.clap.specs.Kinds.{or_else}
 use Rattle.clap.specs.Walk.{is_empty}
 use Rattle.clap.specs.Words.{App, IsAmong, Kinds, Row, Rule, Text, fault_of, first_of, new_app, new_rule, subcommand_of, takes, with_rule, with_subcommand}
 use Rattle.clap.specs.declared.error.kind.ErrorKind.{ErrorKind}
-use Rattle.clap.specs.declared.error.kind.ErrorKind.TheVariants.{DisplayHelp, InvalidValue}
+use Rattle.clap.specs.declared.error.kind.ErrorKind.TheVariants.{DisplayHelp, DisplayVersion, InvalidValue}
 use Rattle.ac_tables.specs.declared.fault.Table.{Table}
 use Rattle.ac_tables.specs.declared.fault.Table.TheVariants.{Providers, Inventories, Usages, Traits, Aggregates}
 use Rattle.ac_query.specs.declared.version.Version.{Version}
 use Rattle.ac_query.specs.declared.version.Version.TheVariants.{V136, V139}
 use Rattle.ac_run.specs.Jobs.{HasToken}
 use Rattle.ac_run.specs.declared.job.Command.{Command}
-use Rattle.ac_run.specs.declared.job.Command.TheVariants.{Check, Candidates, Tokens, Verify}
+use Rattle.ac_run.specs.declared.job.Command.TheVariants.{Check, Candidates, Tokens, Verify, Explain}
 use Rattle.ac_cli.specs.declared.words.WordFault.{WordFault}
 use Rattle.ac_cli.specs.declared.words.WordFault.TheVariants.{Refused, Help, NoMemory}
+use Rattle.ac_cli.specs.declared.words.WordFault.TheVariants as fault
 
 -- ---- what `clap` is told
 
@@ -54,13 +55,17 @@ search_app name = with_rule (with_options (query_app name)) (option_rule (codes 
 abbrev pub verify_app : App
 verify_app = with_options (with_rule (query_app (codes "verify")) (word_rule (codes "token")))
 
-abbrev pub needs_command : App → App
-needs_command app = record app { top = record app.top { subcommand_required = true } }
+abbrev pub explain_app : App
+explain_app = with_options (query_app (codes "explain"))
+
+-- what has a version, and needs one of its own commands
+abbrev pub as_program : App → App
+as_program app = record app { top = record app.top { has_version = true; subcommand_required = true } }
 
 abbrev pub program : App
 program =
-    with_subcommand (with_subcommand (with_subcommand (with_subcommand (needs_command (new_app (codes "ac_cli")))
-    check_app.top) (search_app (codes "candidates")).top) (search_app (codes "tokens")).top) verify_app.top
+    with_subcommand (with_subcommand (with_subcommand (with_subcommand (with_subcommand (as_program (new_app (codes "ac_cli")))
+    check_app.top) (search_app (codes "candidates")).top) (search_app (codes "tokens")).top) verify_app.top) explain_app.top
 
 -- ---- what it states of the words
 
@@ -115,15 +120,17 @@ name_of Check = codes "check"
 name_of Candidates = codes "candidates"
 name_of Tokens = codes "tokens"
 name_of Verify = codes "verify"
+name_of Explain = codes "explain"
 
 -- the query of a command: a check has the empty one
 abbrev pub query_of : Command → List Row → Option Text
 query_of Check rows = Some []
 query_of _ rows = first_of (codes "query") rows
 
--- the token of a command: to be judged, or to begin after
+-- the token of a command: to be judged, or to begin after; a check and an explanation have none
 abbrev pub token_of : Command → List Row → Option Text
 token_of Check rows = None
+token_of Explain rows = None
 token_of Verify rows = first_of (codes "token") rows
 token_of _ rows = first_of (codes "after") rows
 
@@ -172,8 +179,9 @@ path_of line Usages = line.usages
 path_of line Traits = line.traits
 path_of line Aggregates = line.aggregates
 
--- the answer for words with these kinds of fault: help where it is among them
+-- the answer for words with these kinds of fault: help, or the version, where it is among them
 abbrev pub Tells : Kinds → WordFault → Type 0
 Tells kinds (Help text) = IsAmong DisplayHelp kinds
-Tells kinds (Refused text) = (kind : ErrorKind) × (kind ≢ DisplayHelp) × IsAmong kind kinds
+Tells kinds (fault.Version text) = IsAmong DisplayVersion kinds
+Tells kinds (Refused text) = (kind : ErrorKind) × (kind ≢ DisplayHelp) × (kind ≢ DisplayVersion) × IsAmong kind kinds
 Tells kinds NoMemory = ⊤

@@ -73,6 +73,7 @@ fn answer_words<H: Host + AllocGlobal, W: Sink + Drop, E: Sink>(
     match read_words(host.alloc(), given) {
         Ok(words) => answer_line(host, &words, out, err),
         Err(WordFault::Help(text)) => show(text.as_str(), out, err),
+        Err(WordFault::Version(text)) => show(text.as_str(), out, err),
         Err(WordFault::Refused(text)) => {
             tell_text(err, text.as_bytes());
             (2, out)

@@ -81,6 +81,8 @@ pub enum WordFault {
     Refused(String),
     /// They ask for help: `clap`'s text of it.
     Help(String),
+    /// They ask for the version: the program's, and the toolchain's by which it is proved.
+    Version(String),
     /// A growth was refused.
     NoMemory,
 }
@@ -100,6 +102,7 @@ fn fault_of(alloc: Global, error: &clap::Error) -> Result<WordFault, AllocError>
     match error.kind() {
         ErrorKind::OutOfMemory => Ok(WordFault::NoMemory),
         ErrorKind::DisplayHelp => Ok(WordFault::Help(error.to_string(alloc)?)),
+        ErrorKind::DisplayVersion => Ok(WordFault::Version(error.to_string(alloc)?)),
         _ => Ok(WordFault::Refused(error.to_string(alloc)?)),
     }
 }

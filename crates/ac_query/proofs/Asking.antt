@@ -1,17 +1,16 @@
 -- Where no pair has a fault, exactly one record is what the pairs ask for.
-use Rattle.std.proofs.Common.{◌≡◌, ◌||◌, append_assoc, ℕ, suc, Bool, true, false, List, [], ◌∷◌, ◌++◌, map, Option, Some, None, refl, sym, ap, ap₂, ◌∙◌, subst}
+use Rattle.std.proofs.Common.{◌≡◌, ℕ, suc, List, [], ◌∷◌, ◌++◌, map, Option, Some, None, refl, sym, ap, ap₂, ◌∙◌, subst}
 use Rattle.std.specs.List.{fold, filter_map, slice_get, AllByRecursion}
 use Rattle.std.specs.List.Sorted.{IsStrictlySortedBy}
 use Rattle.std.specs.Map.{keys_of}
-use Rattle.std.specs.BTreeSet.{insert_key}
 use Rattle.std.proofs.lemmas.Cmp.{nat_list_cmp_total, eq_by_cmp_equiv}
-use Rattle.std.proofs.lemmas.List.{map-append, append-nil}
+use Rattle.std.proofs.lemmas.List.{map-append}
 use Rattle.std.proofs.lemmas.Map.Entries.{lookup_from_place}
 use Rattle.std.proofs.lemmas.Map.Keys.{IsDistinct-from_sorted}
 use Rattle.ac_base.specs.Texts.{text_cmp}
+use Rattle.ac_tables.proofs.OrderFacts.{name_rising}
 use Rattle.ac_tables.proofs.SortedSets.{rising_sorted}
 use Rattle.ac_query.specs.declared.version.Version.{Version}
-use Rattle.ac_query.specs.Texts.{has_text, in_order_with}
 use Rattle.ac_query.specs.Values.{Part, Given}
 use Rattle.ac_query.specs.Pairs.{given}
 use Rattle.ac_query.specs.Asked.{Group, Asked}
@@ -19,32 +18,12 @@ use Rattle.ac_query.specs.Asks.{IsTold, needs_in, tree_in, AsksOfGroup, parts_of
 use Rattle.ac_query.specs.Gathered.{empty_group, nothing, with_part, plain_groups, of_suffix, as_asked, gathered, asked_by}
 use Rattle.ac_query.specs.Faults.{first_fault, pairs_conditions}
 use Rattle.ac_query.specs.Laws.{AsksOnce, OrderHolds}
-use Rattle.std.specs.Str.{bytes_eq}
-use Rattle.ac_query.proofs.Earlier.{has_text-insert}
 use Rattle.ac_query.proofs.Once.{policy_once, limit_once, needs_once, tree_once}
 use Rattle.ac_query.proofs.Gathering.{told_from_short, group_asks, policy_latest, limit_latest, subtrees_all, root_required_all, root_forbidden_all, grown_all, grown_there, plain_grown, suffixes_all, found_grown}
 
 -- ---- texts in byte order
--- whether a text is among some, or among others
-has_text-append : (xs ys : List (List ℕ)) (t : List ℕ) → has_text (xs ++ ys) t ≡ has_text xs t || has_text ys t
-has_text-append [] ys t = refl
-has_text-append (x ∷ xs) ys t = ap (λ b. bytes_eq t x || b) (has_text-append xs ys t) ∙ assoc (bytes_eq t x) (has_text xs t) (has_text ys t)
-  where
-    assoc : (a b c : Bool) → a || (b || c) ≡ (a || b) || c
-    assoc true b c = refl
-    assoc false b c = refl
-
-order_has : (ks more : List (List ℕ)) (t : List ℕ) → has_text (in_order_with ks more) t ≡ has_text (ks ++ more) t
-order_has ks [] t = ap (λ l. has_text l t) (sym (append-nil ks))
-order_has ks (x ∷ more) t =
-    order_has (insert_key text_cmp ks x) more t
-    ∙ has_text-append (insert_key text_cmp ks x) more t
-    ∙ ap (λ b. b || has_text more t) (has_text-insert ks x t)
-    ∙ sym (has_text-append (ks ++ x ∷ []) more t)
-    ∙ ap (λ l. has_text l t) (append_assoc ks (x ∷ []) more)
-
 pub order_holds : OrderHolds
-order_holds texts = (rising_sorted nat_list_cmp_total texts, order_has [] texts)
+order_holds texts = (rising_sorted nat_list_cmp_total texts, λ t. name_rising t texts)
 
 -- ---- all of a list
 all_from_places : {X : Type 0} (P : X → Type 0) (xs : List X) → ((i : ℕ) (x : X) → slice_get xs i ≡ Some x → P x) → AllByRecursion P xs

@@ -31,7 +31,7 @@ has_text-push (n ∷ names) name x = ap (λ b. bytes_eq x n || b) (has_text-push
     assoc true b c = refl
     assoc false b c = refl
 
-pub has_text-insert : (names : List (List ℕ)) (name x : List ℕ) → has_text (insert_key text_cmp names name) x ≡ has_text (names ++ name ∷ []) x
+has_text-insert : (names : List (List ℕ)) (name x : List ℕ) → has_text (insert_key text_cmp names name) x ≡ has_text (names ++ name ∷ []) x
 has_text-insert [] name x = refl
 has_text-insert (n ∷ names) name x = by_order (text_cmp name n) refl (has_text-insert names name x)
   where

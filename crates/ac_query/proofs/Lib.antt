@@ -24,3 +24,5 @@ pub mod Choosing
 pub mod PositiveNeeds
 pub mod LongSuffixes
 pub mod Ordered
+pub mod NeedItems
+pub mod ListItems

@@ -1,11 +1,13 @@
 -- How many slots a query without a fault has.
-use Rattle.std.proofs.Common.{◌≡◌, ℕ, ◌+◌, ◌<◌, ◌≤◌, Bool, true, false, not, ◌||◌, nat_lt, List, [], ◌∷◌, ◌++◌, length, length-append, map, filter, is_none, ◌&&◌, Option, Some, None, sum_by, refl, ◌∙◌, arith, if◌then◌else◌}
+use Rattle.std.proofs.Common.{◌≡◌, ℕ, ◌+◌, ◌<◌, ◌≤◌, Bool, true, false, not, ◌||◌, nat_lt, List, [], ◌∷◌, ◌++◌, length, length-append, map, filter, is_none, ◌&&◌, Option, Some, None, sum_by, refl, sym, subst, ◌∙◌, arith, if◌then◌else◌}
 use Rattle.std.proofs.lemmas.Bool.Decides.{nat_tests}
 use Rattle.std.proofs.lemmas.List.{length-map}
-use Rattle.std.proofs.lemmas.List.Sums.{sum_by-cons}
+use Rattle.std.proofs.lemmas.List.Sums.{sum_by-cons, sum_by-append}
 use Rattle.std.specs.List.{list_any}
-use Rattle.ac_query.specs.Asked.{Group, Asked, class_slot, group_slots, slots_from}
+use Rattle.ac_query.specs.declared.query.Query.{Query}
+use Rattle.ac_query.specs.Asked.{Group, Asked, Slot, class_slot, group_slots, slots_from, slots_of}
 use Rattle.ac_query.specs.Faults.{Fault, no_resources, first_fault, has_resources, listed_suffixes, group_condition, suffix_condition, needs_policy, slot_count, entry_count, is_too_large, asked_conditions}
+use Rattle.ac_query.specs.QueriesShown.{asked_of}
 use Rattle.ac_query.proofs.Once.{second_part}
 
 -- the slots of a group
@@ -72,3 +74,22 @@ module _ (a : Asked) (fine : first_fault (asked_conditions a) ≡ None) where
   few_entries =
       let few : nat_lt 256 (sum_by entry_count a.groups) ≡ false = neither_later _ _ not_too_large in
       grind (arith, nat_tests)
+
+-- ---- what all slots of a query need
+one_each : (i : ℕ) (g : Group) (needs : List (List ℕ × ℕ)) → sum_by (λ slot. length slot.needs) (map (class_slot i g) needs) ≡ length needs
+one_each i g [] = refl
+one_each i g (need ∷ needs) = omega (arith, one_each i g needs, sum_by-cons (λ (slot : Slot). length slot.needs) (class_slot i g need) (map (class_slot i g) needs))
+
+needs_of_group : (i : ℕ) (g : Option (List ℕ) × Group) → sum_by (λ slot. length slot.needs) (group_slots i g) ≡ entry_count g
+needs_of_group i (None, g) = one_each i g g.needs
+needs_of_group i (Some s, g) = omega (arith)
+
+needs_of_groups : (i : ℕ) (gs : List (Option (List ℕ) × Group)) → sum_by (λ slot. length slot.needs) (slots_from i gs) ≡ sum_by entry_count gs
+needs_of_groups i [] = refl
+needs_of_groups i (g ∷ gs) =
+    sum_by-append (λ (slot : Slot). length slot.needs) (group_slots i g) (slots_from (i + 1) gs)
+    ∙ (omega (arith, needs_of_group i g, needs_of_groups (i + 1) gs, sum_by-cons entry_count g gs))
+
+-- the slots of a query need at most 256 classes together
+pub few_needs : (query : Query) → sum_by (λ slot. length slot.needs) (slots_of (asked_of query)) ≤ 256
+few_needs query = subst (λ (n : ℕ). n ≤ 256) (sym (needs_of_groups 0 (asked_of query).groups)) query.few_entries

@@ -1,3 +1,4 @@
+//! An amount that is asked for.
 ghost use Rattle.std.specs.Prelude.{◌<◌, ◌≤◌};
 
 /// How much of a class is asked for: 1 to 2147483647.

@@ -1,3 +1,4 @@
+//! What is checked once all pairs of a query are read.
 ghost use Rattle.std.specs.Prelude.{◌≡◌, ℕ, ◌+◌, ◌<◌, ◌^◌, ◌&&◌, if◌then◌else◌, None, Some, List, IfOk, IfErr, IfSome, OnOk, map, length, filter, nat_lt, sum_by, is_none};
 ghost use Rattle.std.specs.List.{list_any, flat_map};
 ghost use Rattle.std.specs.Option.{option_map};

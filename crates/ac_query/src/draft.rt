@@ -1,3 +1,4 @@
+//! What is asked so far, pair by pair.
 ghost use Rattle.std.specs.Prelude.{◌≡◌, OnOk, IfOk, Some, None};
 ghost use Rattle.std.specs.Option.{option_map};
 ghost use Rattle.ac_base.specs.Names.{suffix_bytes};

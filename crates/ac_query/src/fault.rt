@@ -1,3 +1,4 @@
+//! Why a query is refused.
 use ac_base::{NoMemory, Suffix};
 use std::alloc::{AllocError, AllocFailed};
 

@@ -1,3 +1,4 @@
+//! What one pair of a query gives.
 ghost use Rattle.std.specs.Prelude.{◌≡◌, IfOk};
 ghost use Rattle.std.specs.Option.{option_map};
 ghost use Rattle.ac_base.specs.Names.{suffix_bytes};

@@ -1,7 +1,7 @@
 //! Request groups: what each needs of one provider, or of several.
 ghost use Rattle.std.specs.Prelude.{map};
 ghost use Rattle.std.specs.List.Sorted.{IsStrictlySortedBy};
-ghost use Rattle.ac_base.specs.Names.{class_bytes};
+ghost use Rattle.ac_base.specs.Names.{class_bytes, trait_bytes};
 ghost use Rattle.ac_base.specs.Texts.{text_cmp};
 ghost use Rattle.std.proofs.Props.{props};
 
@@ -21,6 +21,7 @@ pub struct Need {
 #[derive(Debug, Drop)]
 pub struct AnyOf {
     pub(crate) names: Vec<TraitName>,
+    ghost rising: { IsStrictlySortedBy text_cmp (map trait_bytes names.items) } by { Prim.hlevel props },
 }
 
 /// One `member_of`: one of the aggregates is to be the provider's, or none.
@@ -40,5 +41,7 @@ pub struct Group {
     pub(crate) any_of: Vec<AnyOf>,
     pub(crate) member_of: Vec<AggregateRule>,
     pub(crate) in_tree: Option<Id>,
-    ghost rising: { IsStrictlySortedBy text_cmp (map (λ need. class_bytes need.class) needs.items) } by { Prim.hlevel props },
+    ghost needs_rising: { IsStrictlySortedBy text_cmp (map (λ need. class_bytes need.class) needs.items) } by { Prim.hlevel props },
+    ghost required_rising: { IsStrictlySortedBy text_cmp (map trait_bytes required.items) } by { Prim.hlevel props },
+    ghost forbidden_rising: { IsStrictlySortedBy text_cmp (map trait_bytes forbidden.items) } by { Prim.hlevel props },
 }

@@ -1,6 +1,6 @@
 //! Laws of the definitions. Each function does nothing: its contract is the law.
 ghost use Rattle.ac_query.specs.InOrder.{QueryInOrder};
-ghost use Rattle.ac_query.specs.Laws.{AsksOnce, OrderHolds, SlotsNameGroups, TokenReads};
+ghost use Rattle.ac_query.specs.Laws.{AsksOnce, ListsMean, OrderHolds, SlotsNameGroups, TokenReads};
 
 /// Where no pair has a fault, exactly one record is what the pairs ask for, and it is the one that is gathered.
 pub fn asks_once()
@@ -10,6 +10,12 @@ pub fn asks_once()
 /// Texts in byte order rise, and are those that they were made of.
 pub fn order_holds()
     ensures { OrderHolds }
+{}
+
+/// A list has a value where each of its items has one: names, suffixes, and the traits that are required and those that are forbidden in byte
+/// order, each once; ids as written; amounts by class, where no class stands twice.
+pub fn lists_mean()
+    ensures { ListsMean }
 {}
 
 /// The text of ids is read as these ids, in order.

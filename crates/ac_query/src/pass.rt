@@ -1,3 +1,4 @@
+//! The pairs of a query, read one after another.
 ghost use Rattle.std.specs.Prelude.{◌≡◌, ◌≤◌, [], None, Some, IfOk, IfErr, IfSome, OnOk, length};
 ghost use Rattle.std.specs.BTreeSet.{insert_key};
 ghost use Rattle.std.specs.String.{string_bytes};

@@ -1,3 +1,4 @@
+//! A slot of a query.
 ghost use Rattle.std.specs.Prelude.{◌≡◌};
 ghost use Rattle.ac_query.specs.SlotsShown.{slot_group};
 

@@ -1,3 +1,4 @@
+//! Tokens: a place in the order of candidates.
 ghost use Rattle.std.specs.Prelude.{◌≡◌, None, Some, IfOk, IfErr, IfSome, OnOk};
 ghost use Rattle.ac_query.specs.Values.{ids_value};
 ghost use Rattle.ac_query.specs.QueriesShown.{asked_of};

@@ -1,5 +1,8 @@
+//! Traits that are required or forbidden.
 ghost use Rattle.std.specs.Prelude.{◌≡◌, IfOk, OnOk, map};
+ghost use Rattle.std.specs.List.Sorted.{IsStrictlySortedBy};
 ghost use Rattle.ac_base.specs.Names.{trait_bytes};
+ghost use Rattle.ac_base.specs.Texts.{text_cmp};
 ghost use Rattle.ac_query.specs.Texts.{in_order_with};
 ghost use Rattle.ac_query.specs.Values.{no_traits, is_conflicting};
 ghost use Rattle.ac_query.specs.Gathered.{joined_traits};
@@ -31,8 +34,10 @@ pub(crate) fn names_in_order(
     alloc: Global,
     names: BTreeSet<TraitName>,
 ) -> Result<Vec<TraitName>, NoMemory>
-    ensures { IfOk result (λ list. map trait_bytes list.items ≡ names_shown names) }
+    ensures names { IfOk result (λ list. map trait_bytes list.items ≡ names_shown names) }
+    ensures rising { IfOk result (λ list. IsStrictlySortedBy text_cmp (map trait_bytes list.items)) }
 {
+    let _count = names.len();
     let mut list = Vec::new(alloc);
     for name in names {
         list.push(name)?;

@@ -1,3 +1,4 @@
+//! The values of parameters.
 ghost use Rattle.std.specs.Prelude.{◌≡◌, IfOk, Some, None, if◌then◌else◌};
 ghost use Rattle.std.specs.Option.{option_map};
 ghost use Rattle.ac_query.specs.Values.{amount_value, need_value, with_need_item, needs_value, with_name, with_trait_item, traits_value, with_name_item, names_value, with_id_item, ids_value, aggregates_value, rule_value, with_suffix_item, subtree_value, policy_value};

@@ -1,3 +1,4 @@
+//! The text of a token.
 ghost use Rattle.std.specs.Prelude.{◌≡◌, ◌++◌, IfOk, OnOk};
 ghost use Rattle.std.specs.String.{string_bytes};
 ghost use Rattle.ac_base.specs.Texts.{id_text};

@@ -10,7 +10,8 @@ use Rattle.ac_tables.specs.Sorted.{rising}
 use Rattle.ac_query.specs.InOrder.{AreApart, AreSuffixed}
 use Rattle.ac_report.specs.Trees.{hosts}
 use Rattle.ac_report.proofs.Rows.{not_eq}
-use Rattle.ac_report.proofs.Gathering.{bytes_eq_sym, bytes_eq_refl}
+use Rattle.ac_tables.specs.RecordLaws.{eq_turned}
+use Rattle.ac_report.proofs.Gathering.{bytes_eq_refl}
 
 -- the groups from place i on have slots of their own places
 hosts_before : (i k : ℕ) (gs : List (Option (List ℕ) × Group)) (t : List ℕ) → AreSuffixed gs → k < i → hosts (placed (slots_from i gs) t) k ≡ []
@@ -67,7 +68,7 @@ sum_absent i g (need ∷ needs) (p ∷ t) ix c h = by (nat_eq p ix) (bytes_eq ne
 
 apart_turned : (c : List ℕ) (needs : List (List ℕ × ℕ)) → AllByRecursion (λ s. bytes_eq c s ≡ false) (map (λ need. need.0) needs) → AllByRecursion (λ need. bytes_eq need.0 c ≡ false) needs
 apart_turned c [] h = tt
-apart_turned c (need ∷ needs) h = (bytes_eq_sym need.0 c ∙ h.0, apart_turned c needs h.1)
+apart_turned c (need ∷ needs) h = (eq_turned need.0 c ∙ h.0, apart_turned c needs h.1)
 
 -- the head's share of its own class
 head_sum : (i : ℕ) (g : Group) (need : List ℕ × ℕ) (needs : List (List ℕ × ℕ)) (p : ℕ) (t : List ℕ) (ix : ℕ) → AllByRecursion (λ s. bytes_eq need.0 s ≡ false) (map (λ need. need.0) needs)

@@ -11,8 +11,9 @@ use Rattle.ac_tables.specs.World.{Provider}
 use Rattle.ac_tables.specs.Sorted.{rising}
 use Rattle.ac_report.specs.Trees.{gathered, gives, needs_on, provider_text, sum, allocation}
 use Rattle.ac_report.proofs.Finding.{find, find_put, onto, AreTold}
-use Rattle.ac_report.proofs.Gathering.{Named, bytes_eq_sym, bytes_eq_refl, sum_on_is}
-use Rattle.ac_report.proofs.Rows.{any_rising}
+use Rattle.ac_tables.specs.RecordLaws.{eq_turned}
+use Rattle.ac_report.proofs.Gathering.{Named, bytes_eq_refl, sum_on_is}
+use Rattle.ac_tables.proofs.KinFacts.{member_rising}
 use Rattle.ac_report.proofs.Serving.{needs_none}
 
 abbrev pub here : List Provider → List Placed → ℕ → Named
@@ -83,7 +84,7 @@ pub taken_of : (all : List Provider) → AreTold all → (xs : List Placed) (t :
 taken_of all told xs t ix e h a =
     find_rows all told xs ix (filter (λ ix. gives xs ix) (rising nat_cmp t)) no_members h a
     ∙ ap (λ b. if b then Some (allocation xs ix) else None)
-    (any_kept (λ ix. gives xs ix) ix (rising nat_cmp t) ∙ ap (λ b. gives xs ix && b) (any_rising ix t) ∙ giver_listed xs t ix e)
+    (any_kept (λ ix. gives xs ix) ix (rising nat_cmp t) ∙ ap (λ b. gives xs ix && b) (member_rising ix t) ∙ giver_listed xs t ix e)
 
 -- ---- sums of classes
 
@@ -114,7 +115,7 @@ amount_absent c (need ∷ needs) h = by (bytes_eq c need.0) refl h (amount_absen
         → (if bytes_eq need.0 c then need.1 else 0) + amount_of needs c ≡ 0
     by true e h more = absurd (cc)
     by false e h more =
-        let other : bytes_eq need.0 c ≡ false = bytes_eq_sym need.0 c ∙ sym e in
+        let other : bytes_eq need.0 c ≡ false = eq_turned need.0 c ∙ sym e in
         let rest : 0 + amount_of needs c ≡ 0 = let m = more h in omega (arith, m) in
         ap (λ b. (if b then need.1 else 0) + amount_of needs c) other ∙ rest
 

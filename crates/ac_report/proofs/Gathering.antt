@@ -2,11 +2,11 @@
 use Rattle.std.proofs.Common.{◌≡◌, ℕ, zero, suc, ◌+◌, ◌<◌, ◌≤◌, List, [], ◌∷◌, ◌++◌, take, map, fold, length, get_or, refl, sym, ap, ◌∙◌, Bool, true, false, if◌then◌else◌, add_assoc, append_assoc, codes, arith}
 use Rattle.std.specs.Prelude.{bytes_eq, nat_eq}
 use Rattle.std.specs.Borrow.{Bor}
-use Rattle.std.specs.Bool.{Decides}
-use Rattle.std.proofs.lemmas.Slice.Eq.{bytes_eq-Decides}
 use Rattle.std.proofs.lemmas.List.{take_all, map-append}
+use Rattle.std.proofs.lemmas.Slice.Eq.{bytes_eq-Decides}
 use Rattle.serde_json.specs.Data.{Data, Members, no_members, member, put, number, unsigned, object}
 use Rattle.ac_query.specs.declared.group.Need.{Need}
+use Rattle.ac_tables.specs.RecordLaws.{eq_turned}
 use Rattle.ac_search.specs.Placed.{Placed}
 use Rattle.ac_search.specs.Together.{amount_of, sum_on}
 use Rattle.ac_report.specs.Parts.{need_at, sum_at, sums_of, allocation_of}
@@ -45,15 +45,6 @@ gathered_map f g xs i h = ap (λ l. gathered (map (λ x. f (g x)) l)) (take_all 
 
 -- ---- sums
 
-same_answer : (a b : Bool) (P Q : Type 0) → Decides a P → Decides b Q → (P → Q) → (Q → P) → a ≡ b
-same_answer true true P Q p q to from = refl
-same_answer true false P Q p q to from = sym (q.1 (to (p.0 refl)))
-same_answer false true P Q p q to from = p.1 (from (q.0 refl))
-same_answer false false P Q p q to from = refl
-
-pub bytes_eq_sym : (xs ys : List ℕ) → bytes_eq xs ys ≡ bytes_eq ys xs
-bytes_eq_sym xs ys = same_answer (bytes_eq xs ys) (bytes_eq ys xs) (xs ≡ ys) (ys ≡ xs) (bytes_eq-Decides xs ys) (bytes_eq-Decides ys xs) sym sym
-
 sum_from : (q : List ℕ) (ns : List (Bor Need)) (a : ℕ)
     → fold (λ a n. a + (if bytes_eq q (need_at n).0 then (need_at n).1 else 0)) a ns ≡ a + amount_of (map need_at ns) q
 sum_from q [] a = omega arith
@@ -61,7 +52,7 @@ sum_from q (n ∷ ns) a =
     let here = λ (b : Bool). if b then (need_at n).1 else 0 in
     sum_from q ns (a + here (bytes_eq q (need_at n).0))
     ∙ add_assoc a (here (bytes_eq q (need_at n).0)) (amount_of (map need_at ns) q)
-    ∙ ap (λ b. a + (here b + amount_of (map need_at ns) q)) (bytes_eq_sym q (need_at n).0)
+    ∙ ap (λ b. a + (here b + amount_of (map need_at ns) q)) (eq_turned q (need_at n).0)
 
 pub sum_at_is : (q : List ℕ) (ns : List (Bor Need)) → sum_at q ns ≡ amount_of (map need_at ns) q
 sum_at_is q ns = let e = sum_from q ns 0 in omega (arith, e)

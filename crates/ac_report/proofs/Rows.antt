@@ -64,19 +64,6 @@ not_eq k p apart = not_true (nat_eq k p) (λ (e : nat_eq k p ≡ true). apart (e
 missed : (p k : ℕ) (ks : List ℕ) → (k ≡ p → ⊥) → list_any (λ q. nat_eq q p) ks ≡ false → list_any (λ q. nat_eq q p) (k ∷ ks) ≡ false
 missed p k ks apart h = ap (λ b. b || list_any (λ q. nat_eq q p) ks) (not_eq k p apart) ∙ h
 
-twice : (a b : Bool) → a || (a || b) ≡ a || b
-twice true b = refl
-twice false b = refl
-
-turned : (a b c : Bool) → a || (b || c) ≡ b || (a || c)
-turned true true c = refl
-turned true false c = refl
-turned false b c = refl
-
-grouped : (a b c : Bool) → a || (b || c) ≡ (a || b) || c
-grouped true b c = refl
-grouped false b c = refl
-
 -- ---- with something at each number
 
 module _ {V : Type 0} where
@@ -120,30 +107,3 @@ module _ {V : Type 0} where
   pub row_look : (f : ℕ → V) (p : ℕ) (d : V) (ks : List ℕ) → (list_any (λ q. nat_eq q p) ks ≡ false → f p ≡ d) → unwrap_or (lookup (is_at (nat_cmp p)) (map (at f) ks)) d ≡ f p
   row_look f p d [] none = sym (none refl)
   row_look f p d (k ∷ ks) none = look_by f p d (nat_cmp p k) k ks refl none (row_look f p d ks)
-
--- ---- which numbers are there
-
-any_by : (p q : ℕ) (o : Ordering) (k : ℕ) (ks : List ℕ) → o ≡ nat_cmp p k → list_any (λ x. nat_eq x q) (insert_key nat_cmp ks p) ≡ nat_eq p q || list_any (λ x. nat_eq x q) ks
-    → list_any (λ x. nat_eq x q) (match_ordering o (p ∷ k ∷ ks) (k ∷ ks) (k ∷ insert_key nat_cmp ks p)) ≡ nat_eq p q || (nat_eq k q || list_any (λ x. nat_eq x q) ks)
-any_by p q Less k ks e more = refl
-any_by p q Equal k ks e more = sym (ap (λ x. nat_eq x q || (nat_eq k q || list_any (λ x. nat_eq x q) ks)) (ranked p k Equal e) ∙ twice (nat_eq k q) (list_any (λ x. nat_eq x q) ks))
-any_by p q Greater k ks e more = ap (λ b. nat_eq k q || b) more ∙ turned (nat_eq k q) (nat_eq p q) (list_any (λ x. nat_eq x q) ks)
-
-any_insert : (p q : ℕ) (ks : List ℕ) → list_any (λ x. nat_eq x q) (insert_key nat_cmp ks p) ≡ nat_eq p q || list_any (λ x. nat_eq x q) ks
-any_insert p q [] = refl
-any_insert p q (k ∷ ks) = any_by p q (nat_cmp p k) k ks refl (any_insert p q ks)
-
-any_fold : (q : ℕ) (done xs : List ℕ) → list_any (λ x. nat_eq x q) (fold (insert_key nat_cmp) done xs) ≡ list_any (λ x. nat_eq x q) xs || list_any (λ x. nat_eq x q) done
-any_fold q done [] = refl
-any_fold q done (x ∷ xs) =
-    any_fold q (insert_key nat_cmp done x) xs
-    ∙ ap (λ b. list_any (λ x. nat_eq x q) xs || b) (any_insert x q done)
-    ∙ turned (list_any (λ x. nat_eq x q) xs) (nat_eq x q) (list_any (λ x. nat_eq x q) done)
-    ∙ grouped (nat_eq x q) (list_any (λ x. nat_eq x q) xs) (list_any (λ x. nat_eq x q) done)
-
-or_false : (b : Bool) → b || false ≡ b
-or_false true = refl
-or_false false = refl
-
-pub any_rising : (q : ℕ) (xs : List ℕ) → list_any (λ x. nat_eq x q) (rising nat_cmp xs) ≡ list_any (λ x. nat_eq x q) xs
-any_rising q xs = any_fold q [] xs ∙ or_false (list_any (λ x. nat_eq x q) xs)

@@ -1,6 +1,6 @@
 -- What a list gives to groups and asks of providers, slot by slot.
-use Rattle.std.proofs.Common.{◌≡◌, ◌≢◌, ◌⊎◌, inl, inr, ℕ, zero, suc, ◌+◌, ◌<◌, ◌≤◌, List, [], ◌∷◌, ◌++◌, take, map, fold, length, get_or, refl, sym, ap, ◌∙◌, Bool, true, false, not, ◌||◌, eqb, Option, Some, None, append-nil, nat_cmp, if◌then◌else◌, Vec, Global, arith}
-use Rattle.std.specs.Prelude.{nat_eq, unwrap_or, slice_get}
+use Rattle.std.proofs.Common.{◌≡◌, ◌≢◌, ◌⊎◌, inl, inr, ℕ, zero, suc, ◌+◌, ◌<◌, ◌≤◌, List, [], ◌∷◌, ◌++◌, take, map, fold, length, get_or, refl, sym, ap, ◌∙◌, Bool, true, false, not, ◌||◌, eqb, Option, Some, None, append-nil, nat_cmp, if◌then◌else◌, sum_by, length-append, Vec, Global, arith}
+use Rattle.std.specs.Prelude.{◌==◌, nat_eq, unwrap_or, slice_get}
 use Rattle.std.specs.Borrow.{Bor}
 use Rattle.std.specs.BTreeMap.{insert_entry, is_at}
 use Rattle.std.specs.BTreeSet.{BTreeSet, insert_key}
@@ -9,6 +9,7 @@ use Rattle.std.specs.Map.{lookup}
 use Rattle.std.specs.Option.{option_map}
 use Rattle.std.proofs.Math.ListN.{set}
 use Rattle.std.proofs.lemmas.List.{get_or-set_same, get_or-set_other, take_more, map-append}
+use Rattle.std.proofs.lemmas.List.Sums.{sum_by-cons}
 use Rattle.std.proofs.lemmas.Bool.{eq-eqb}
 use Rattle.std.proofs.lemmas.Bool.Decides.{eqb_tells}
 use Rattle.std.proofs.lemmas.Grind.{flat_map-append}
@@ -16,7 +17,10 @@ use Rattle.std.proofs.lemmas.Option.{slice_get-get_or}
 use Rattle.ac_base.proofs.ShownKeys.{insert_shown, lookup_shown}
 use Rattle.ac_query.specs.declared.group.Need.{Need}
 use Rattle.ac_query.specs.Asked.{Asked, Slot, Group, slots_of, slots_from, group_slots}
-use Rattle.ac_search.specs.Placed.{Placed, placed}
+use Rattle.ac_query.specs.declared.query.Query.{Query}
+use Rattle.ac_query.specs.QueriesShown.{asked_of}
+use Rattle.ac_query.proofs.SlotCounts.{few_needs}
+use Rattle.ac_search.specs.Placed.{Placed, assigned, placed}
 use Rattle.ac_tables.specs.Sorted.{rising}
 use Rattle.ac_report.specs.Parts.{AreHosts, need_at, row, row_shown, with_needs}
 use Rattle.serde_json.specs.Data.{Data, Members, no_members, put}
@@ -24,7 +28,8 @@ use Rattle.std.proofs.lemmas.Map.Views.{All-insert_key}
 use Rattle.ac_tables.specs.World.{Provider}
 use Rattle.ac_search.specs.Together.{is_empty}
 use Rattle.ac_report.specs.Trees.{gathered, gives, hosts, needs_on, mapping, mappings_from}
-use Rattle.ac_report.proofs.Rows.{row_insert, row_look, rising_push, rising_sorted, any_rising, not_eq}
+use Rattle.ac_report.proofs.Rows.{row_insert, row_look, rising_push, rising_sorted, not_eq}
+use Rattle.ac_tables.proofs.KinFacts.{member_rising}
 
 -- ---- slots and their providers
 
@@ -40,6 +45,21 @@ placed_at [] t i d e h k = absurd (omega arith)
 placed_at (s ∷ ss) [] i d e h k = absurd (omega arith)
 placed_at (s ∷ ss) (p ∷ t) zero d e h k = refl
 placed_at (s ∷ ss) (p ∷ t) (suc i) d e h k = placed_at ss t i d e (omega arith) (omega arith)
+
+-- what is needed of a provider is part of what all slots need
+few_on : (ss : List Slot) (t : List ℕ) (p : ℕ) → length (needs_on (placed ss t) p) ≤ sum_by (λ s. length s.needs) ss
+few_on [] t p = omega arith
+few_on (s ∷ ss) [] p = omega arith
+few_on (s ∷ ss) (q ∷ t) p = by_provider (q == p) (few_on ss t p)
+  where
+    by_provider : (b : Bool) → length (needs_on (placed ss t) p) ≤ sum_by (λ s. length s.needs) ss
+        → length ((if b then s.needs else []) ++ needs_on (placed ss t) p) ≤ sum_by (λ s. length s.needs) (s ∷ ss)
+    by_provider true more = omega (arith, length-append s.needs (needs_on (placed ss t) p), sum_by-cons (λ (s : Slot). length s.needs) s ss, more)
+    by_provider false more = omega (arith, sum_by-cons (λ (s : Slot). length s.needs) s ss, more)
+
+-- a query needs at most 256 classes of a provider
+pub few_served : (query : Query) (list : List ℕ) (p : ℕ) → length (needs_on (assigned (asked_of query) list) p) ≤ 256
+few_served query list p = let most = few_needs query in let here = few_on (slots_of (asked_of query)) list p in omega (arith, most, here)
 
 -- items that are shown the same
 pub shown_at : {X Y Z : Type 0} (f : X → Z) (g : Y → Z) (xs : List X) (ys : List Y) (i : ℕ) (d : X) (e : Y) → map f xs ≡ map g ys → i < length ys → f (get_or xs i d) ≡ g (get_or ys i e)
@@ -190,7 +210,7 @@ needs_step xs list i x old new providers k is put inv =
     ∙ rising_push here p in
     let rows : old ≡ map (row before) (rising nat_cmp here) = inv ∙ ap (λ l. map (row before) (rising nat_cmp l)) seen in
     let had : unwrap_or (lookup (is_at (nat_cmp p)) old) [] ≡ needs_on before p =
-    ap (λ l. unwrap_or (lookup (is_at (nat_cmp p)) l) []) rows ∙ row_look (needs_on before) p [] (rising nat_cmp here) (λ h. needs_none before p (sym (any_rising p here) ∙ h)) in
+    ap (λ l. unwrap_or (lookup (is_at (nat_cmp p)) l) []) rows ∙ row_look (needs_on before) p [] (rising nat_cmp here) (λ h. needs_none before p (sym (member_rising p here) ∙ h)) in
     let new_needs : needs_on (take (i + 1) xs) p ≡ needs_on before p ++ x.slot.needs =
     ap (λ l. needs_on l p) now ∙ needs_push before x p ∙ ap (λ b. needs_on before p ++ (if b then x.slot.needs else [])) (eq-eqb p p refl) in
     let kept : (q : ℕ) → (q ≡ p → ⊥) → needs_on (take (i + 1) xs) q ≡ needs_on before q =

@@ -1,3 +1,4 @@
+//! Why a page was not written whole.
 use ac_base::{NoMemory, WriteFailed};
 use std::alloc::AllocError;
 use thiserror::Error;

@@ -1,3 +1,4 @@
+//! A page as lines: the token of each candidate.
 ghost use Rattle.std.specs.Prelude.{◌≡◌, ◌≤◌, ◌<◌, ◌++◌, ◌↔◌, OnOk, OnErr, IfOk, Err, IsTrue, Some, length, min};
 ghost use Rattle.std.specs.List.{All};
 ghost use Rattle.std.specs.Io.KnownBytes.{Appends};

@@ -1,3 +1,4 @@
+//! A page as a body of JSON: allocation requests, and the summaries of their trees.
 ghost use Rattle.std.specs.Prelude.{◌≡◌, ◌≤◌, ◌<◌, ◌++◌, ◌||◌, ℕ, List, [], false, IfOk, OnOk, OnErr, Err, length, map, min, slice_index_or};
 ghost use Rattle.std.specs.List.{All};
 ghost use Rattle.std.specs.Io.KnownBytes.{Appends};

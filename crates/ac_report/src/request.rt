@@ -1,4 +1,5 @@
-ghost use Rattle.std.specs.Prelude.{◌≡◌, ◌<◌, ◌++◌, ℕ, List, [], IfOk, OnOk, map, length, string_bytes, unwrap_or};
+//! The allocation request of a candidate, as JSON.
+ghost use Rattle.std.specs.Prelude.{◌≡◌, ◌<◌, ◌≤◌, ◌++◌, ℕ, List, [], IfOk, OnOk, map, length, string_bytes, unwrap_or};
 ghost use Rattle.std.specs.BTreeMap.{get_by};
 ghost use Rattle.std.specs.Cmp.Lexicographic.{slice_cmp};
 ghost use Rattle.std.specs.List.{All};
@@ -136,13 +137,14 @@ fn needs_by_provider<'a>(
 
 // The sum of the amounts of each class. A query has at most 256 needs, so each sum fits.
 fn totals_of<'a>(alloc: Global, needs: &[&'a Need]) -> Result<BTreeMap<&'a str, u64>, AllocError>
+    requires { length needs.now ≤ 256 }
     ensures { IfOk result (λ m. (q : List ℕ) → unwrap_or (get_by (λ k. slice_cmp nat_cmp q k.now) m) 0 ≡ sum_at q needs.now) }
 {
     let mut totals = BTreeMap::new(alloc);
     for need in needs {
         let class = need.class().text();
-        let total = total_at(&totals, class).checked_add(u64::from(need.amount()));
-        totals.insert(class, total.ok_or(AllocError)?)?;
+        let total = total_at(&totals, class) + u64::from(need.amount());
+        totals.insert(class, total)?;
     }
     Ok(totals)
 }
@@ -155,6 +157,7 @@ fn total_at(totals: &BTreeMap<&str, u64>, class: &str) -> u64
 
 // Each class, with the sum of its amounts.
 fn sums_value(alloc: Global, needs: &[&Need]) -> Result<Value, AllocError>
+    requires { length needs.now ≤ 256 }
     ensures { IfOk result (λ v. view v ≡ sums_of (map need_at needs.now)) }
 {
     let totals = totals_of(alloc, needs)?;
@@ -170,6 +173,7 @@ fn sums_value(alloc: Global, needs: &[&Need]) -> Result<Value, AllocError>
 // What is taken of a provider.
 #[tactic(auto, unfolding(crate::specs::Parts::allocation_of))]
 fn allocation_value(alloc: Global, needs: &[&Need]) -> Result<Value, AllocError>
+    requires { length needs.now ≤ 256 }
     ensures { IfOk result (λ v. view v ≡ allocation_of (map need_at needs.now)) }
 {
     let sums = sums_value(alloc, needs)?;

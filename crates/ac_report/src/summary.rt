@@ -1,3 +1,4 @@
+//! The summary of a provider, as JSON.
 ghost use Rattle.std.specs.Prelude.{◌≡◌, ◌<◌, IfOk, map, length, string_bytes};
 ghost use Rattle.serde_json.specs.View.{view};
 ghost use Rattle.ac_base.specs.Names.{trait_bytes};

@@ -1,5 +1,7 @@
 pub mod DecimalSteps
 pub mod PiecesWritten
+pub mod SlotsWritten
+pub mod FirstFound
 pub mod Drained
 pub mod FewBytes
 pub mod Assignments

@@ -4,7 +4,7 @@ use Rattle.std.specs.Io.KnownBytes.{Keeps}
 use Rattle.ac_query.specs.Asked.{Asked}
 use Rattle.ac_tables.specs.World.{World}
 use Rattle.ac_base.proofs.Leaving.{part_none}
-use Rattle.ac_run.specs.Answer.{Says, Task, answer_in, page_body, page_lines, past_query, verdict_line}
+use Rattle.ac_run.specs.Answer.{Says, Task, answer_in, explanation, page_body, page_lines, past_query, verdict_line}
 use Rattle.ac_run.specs.Jobs.{ExplainsWanted}
 use Rattle.ac_run.specs.Run.{ExplainsOutcome}
 use Rattle.ac_run.specs.declared.refusal.Refusal.{Refusal}
@@ -44,6 +44,9 @@ module _ (given : Command) (task : Task) (world : World) (s : Option (List ℕ))
   pub explains_verify : given ≡ command.Verify → ExplainsWanted task refusal → ExplainsOutcome (answer_in given task world) s s rose refusal
   explains_verify is h = explains command.Verify (verdict_line world.providers) is refl h
 
+  pub explains_explain : given ≡ command.Explain → ExplainsWanted task refusal → ExplainsOutcome (answer_in given task world) s s rose refusal
+  explains_explain is h = explains command.Explain (explanation world.providers) is refl h
+
 -- ---- what is said of a query and a token that were read is the answer of their command
 
 module _ (given : Command) (task : Task) (world : World) (asked : Asked) (ids : Option (List ℕ)) (said : (say : Says) → past_query say task ≡ say asked ids) where
@@ -55,3 +58,6 @@ module _ (given : Command) (task : Task) (world : World) (asked : Asked) (ids : 
 
   pub said_verdict : {list : List ℕ} → ids ≡ Some list → given ≡ command.Verify → verdict_line world.providers asked (Some list) ≡ answer_in given task world
   said_verdict e is = sym (ap (λ k. answer_in k task world) is ∙ said (verdict_line world.providers) ∙ ap (verdict_line world.providers asked) e)
+
+  pub said_explanation : given ≡ command.Explain → explanation world.providers asked ids ≡ answer_in given task world
+  said_explanation is = sym (ap (λ k. answer_in k task world) is ∙ said (explanation world.providers))

@@ -22,6 +22,7 @@ use Rattle.ac_search.specs.Judge.{judge}
 use Rattle.ac_search.specs.Pages.{page}
 use Rattle.ac_report.specs.Texts.{body, lines}
 use Rattle.ac_run.specs.Outputs.{counts, verdict_status, verdict_text}
+use Rattle.ac_run.specs.Explanation.{explanation_status, explanation_text, has_candidate}
 use Rattle.ac_run.specs.Feeds.{Bytes, too_large}
 use Rattle.ac_run.specs.Lines.{too_large_line, record_line, query_line, token_line, memory_line}
 use Rattle.ac_run.specs.declared.job.Command.{Command}
@@ -86,6 +87,9 @@ page_lines all asked ids = written (lines all (page all asked ids asked.limit)) 
 abbrev pub verdict_line : List Provider → Says
 verdict_line all asked ids = verdict_on all asked (option_and_then (places_of all) ids)
 
+abbrev pub explanation : List Provider → Says
+explanation all asked ids = written (explanation_text all asked (has_candidate all asked)) (explanation_status (has_candidate all asked))
+
 -- what is said, unless the token is refused
 abbrev pub past_token : Says → Option (List ℕ) → Asked → Outcome
 past_token say token asked = told (token_refusal asked token) (λ f. refused (token_line f) 5) (say asked (ids_given token))
@@ -101,6 +105,7 @@ answer_in command.Check task world = written (counts world.sizes) 0
 answer_in command.Candidates task world = past_query (page_body world.providers) task
 answer_in command.Tokens task world = past_query (page_lines world.providers) task
 answer_in command.Verify task world = past_query (verdict_line world.providers) task
+answer_in command.Explain task world = past_query (explanation world.providers) task
 
 abbrev pub table_refused : TableFault → Outcome
 table_refused (fault.At t row kind) = refused (record_line t row kind) 3

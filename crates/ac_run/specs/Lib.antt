@@ -6,6 +6,7 @@ pub mod Feeds
 pub mod Draining
 pub mod Asking
 pub mod Outputs
+pub mod Explanation
 pub mod Answer
 pub mod Run
 pub mod Jobs

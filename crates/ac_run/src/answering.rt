@@ -7,19 +7,20 @@ ghost use Rattle.ac_tables.specs.CloudWorld.{providers_of, world_of};
 ghost use Rattle.ac_query.specs.Asked.{slots_of};
 ghost use Rattle.ac_query.specs.QueriesShown.{asked_of};
 ghost use Rattle.ac_query.specs.Tokens.{ids_of};
-ghost use Rattle.ac_run.specs.Answer.{page_body, page_lines, tables_in, verdict_line, written};
+ghost use Rattle.ac_run.specs.Answer.{explanation, page_body, page_lines, tables_in, verdict_line, written};
 ghost use Rattle.ac_run.specs.Outputs.{counts};
 ghost use Rattle.ac_run.specs.Draining.{texts_shown};
 ghost use Rattle.ac_run.specs.Feeds.{too_large};
 ghost use Rattle.ac_run.specs.Run.{ExplainsOutcome, ExplainsTables, IsWritten};
 
 use crate::draining::Texts;
+use crate::explanation::{explanation_status, has_candidate, push_explanation};
 use crate::outputs::{push_counts, verdict_status, verdict_text};
 use crate::refusal::Refusal;
 use ac_base::{NoMemory, Sink, push_all};
 use ac_query::{Query, Token};
 use ac_report::{PageFault, write_page, write_tokens};
-use ac_search::{Walk, verify};
+use ac_search::{Walk, tree_counts, verify};
 use ac_tables::{Cloud, Sources, TableFault};
 use std::alloc::Global;
 
@@ -33,12 +34,12 @@ fn slice_of(text: &Option<Vec<u8>>) -> Option<&[u8]>
     }
 }
 
-// The cloud of the tables' texts.
-pub fn read_cloud(alloc: Global, texts: &Texts) -> Result<Cloud, Refusal>
-    requires { too_large (texts_shown texts.now) ≡ None }
-    ensures fine { OnOk result (tables_fault (tables_in (texts_shown texts.now)) ≡ None) }
-    ensures world { IfOk result (λ cloud. world_of cloud ≡ world_stated (tables_in (texts_shown texts.now))) }
-    ensures fault { IfErr result (ExplainsTables (tables_fault (tables_in (texts_shown texts.now)))) }
+// The cloud of the tables' texts, which are given back with that.
+pub fn read_cloud(alloc: Global, texts: Texts) -> Result<Cloud, Refusal>
+    requires { too_large (texts_shown texts) ≡ None }
+    ensures fine { OnOk result (tables_fault (tables_in (texts_shown texts)) ≡ None) }
+    ensures world { IfOk result (λ cloud. world_of cloud ≡ world_stated (tables_in (texts_shown texts))) }
+    ensures fault { IfErr result (ExplainsTables (tables_fault (tables_in (texts_shown texts)))) }
 {
     let sources = Sources {
         providers: &texts.providers,
@@ -148,5 +149,34 @@ pub fn write_verdict<W: Sink>(
         }
         Ok(None) => push_text(out, b"unknown provider\n", 1),
         Err(NoMemory) => Err(Refusal::NoMemory),
+    }
+}
+
+// How far a query comes, and whether it has a candidate.
+#[tactic(auto, unfolding(crate::specs::Explanation::explanation_text))]
+pub fn write_explanation<W: Sink>(
+    alloc: Global,
+    cloud: &Cloud,
+    query: &Query,
+    out: &mut W,
+) -> Result<u8, Refusal>
+    ensures few { IfOk result (λ status. status ≤ 1) }
+    ensures ok { IfOk result (IsWritten
+        (explanation (providers_of cloud.now) (asked_of query.now) None)
+        (W.taken out.old) (W.taken out.new)) }
+    ensures fault { IfErr result (ExplainsOutcome
+        (explanation (providers_of cloud.now) (asked_of query.now) None)
+        (W.taken out.old) (W.taken out.new) (Rises (W.failures out.old) (W.failures out.new))) }
+    ensures failures { W.failures out.old ≤ W.failures out.new }
+{
+    let Ok(found) = has_candidate(alloc, cloud, query) else {
+        return Err(Refusal::NoMemory);
+    };
+    let Ok(trees) = tree_counts(alloc, cloud, query) else {
+        return Err(Refusal::NoMemory);
+    };
+    match push_explanation(out, cloud, query, &trees, found) {
+        Ok(()) => Ok(explanation_status(found)),
+        Err(_) => Err(Refusal::Output),
     }
 }

@@ -1,3 +1,4 @@
+//! The decimal digits of a number, made without memory.
 ghost use Rattle.std.specs.Prelude.{◌≡◌, ◌≤◌};
 ghost use Rattle.std.specs.Fmt.{decimal};
 

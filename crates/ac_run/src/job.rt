@@ -12,6 +12,8 @@ pub enum Command {
     Tokens,
     /// Writes whether a token is a candidate.
     Verify,
+    /// Writes how many providers and roots come how far, and whether there is a candidate.
+    Explain,
 }
 
 /// What is to be done, and for which query, version and token.
@@ -22,7 +24,7 @@ pub struct Job<'a> {
     pub query: &'a str,
     /// The microversion of the API by which the query is read; `V136` for `Check`, where it says nothing.
     pub version: Version,
-    /// For `Verify` the token to judge, which is there; for `Candidates` and `Tokens` the one to begin after; none for `Check`.
+    /// For `Verify` the token to judge, which is there; for `Candidates` and `Tokens` the one to begin after; none for `Check` and `Explain`.
     pub token: Option<&'a str>,
 }
 

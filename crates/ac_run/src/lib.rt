@@ -7,6 +7,7 @@ mod answering;
 mod asking;
 mod digits;
 mod draining;
+mod explanation;
 pub mod gathered;
 pub mod job;
 mod outputs;

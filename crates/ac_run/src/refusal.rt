@@ -1,3 +1,4 @@
+//! Why a run has no answer, and the names of tables and faults.
 ghost use Rattle.std.specs.Prelude.{◌≡◌};
 ghost use Rattle.ac_run.specs.Lines.{table_name, kind_name};
 

@@ -15,7 +15,9 @@ ghost use Rattle.ac_run.specs.Run.{Explains, ExplainsOutcome, FailsOr, IsAnswere
 ghost use Rattle.ac_run.specs.Jobs.{HasToken};
 ghost use Rattle.ac_run.specs.Writing.{TakesLine};
 
-use crate::answering::{read_cloud, write_body, write_counts, write_lines, write_verdict};
+use crate::answering::{
+    read_cloud, write_body, write_counts, write_explanation, write_lines, write_verdict,
+};
 use crate::asking::{read_query, read_token};
 use crate::draining::read_tables;
 use crate::job::{Command, Inputs, Job};
@@ -46,7 +48,7 @@ fn read_wanted(alloc: Global, job: &Job) -> Result<Wanted, Refusal>
 }
 
 // The answer over a cloud.
-#[tactic(auto, using(crate::proofs::WantedSaid::explains_candidates, crate::proofs::WantedSaid::explains_tokens, crate::proofs::WantedSaid::explains_verify))]
+#[tactic(auto, using(crate::proofs::WantedSaid::explains_candidates, crate::proofs::WantedSaid::explains_tokens, crate::proofs::WantedSaid::explains_verify, crate::proofs::WantedSaid::explains_explain))]
 fn answer_over<W: Sink>(alloc: Global, cloud: &Cloud, job: &Job, out: &mut W) -> Result<u8, Refusal>
     requires { HasToken job.now.command (option_map (λ token. token.now) job.now.token) }
     ensures few { IfOk result (λ status. status ≤ 1) }
@@ -71,6 +73,10 @@ fn answer_over<W: Sink>(alloc: Global, cloud: &Cloud, job: &Job, out: &mut W) ->
                 None => unreachable!(),
             }
         }
+        Command::Explain => {
+            let wanted = read_wanted(alloc, job)?;
+            write_explanation(alloc, cloud, &wanted.query, out)
+        }
     }
 }
 
@@ -91,7 +97,7 @@ fn attempt<R: Feed, W: Sink>(
         Ok(texts) => texts,
         Err(refusal) => return Err(refusal),
     };
-    let cloud = match read_cloud(alloc, &texts) {
+    let cloud = match read_cloud(alloc, texts) {
         Ok(cloud) => cloud,
         Err(refusal) => return Err(refusal),
     };
@@ -103,7 +109,7 @@ fn attempt<R: Feed, W: Sink>(
 
 /// Runs a job: reads the tables in their order, then the query, then the token, and writes the answer. Answers the status.
 ///
-/// 0: written; 1: the verdict is no candidate; 3: a table or its reading refused; 4: the query refused; 5: the token
+/// 0: written; 1: the verdict is no candidate, or there is none to explain; 3: a table or its reading refused; 4: the query refused; 5: the token
 /// refused; 6: the output failed; 7: want of memory. With 3 to 7 a line on the error sink says so.
 pub fn run<R: Feed, W: Sink, E: Sink>(
     alloc: Global,

@@ -8,11 +8,13 @@ use crate::running::run;
 use ac_base::{MemFeed, MemSink, Turn};
 use ac_query::Version;
 use std::alloc::{AllocError, Global};
+use std::process::Abort;
 
 mod crowded;
 mod cuts;
 mod devices;
 mod examples;
+mod refusals;
 
 // The rows of the tables. `@1` stands for the UUID that ends with 1.
 #[derive(Clone, Copy)]
@@ -145,6 +147,13 @@ struct Left {
     output: String,
     line: String,
     status: u8,
+}
+
+// What a run is to leave; the number says which run it is.
+fn expect_left(rt: &impl Abort, left: &Left, output: &str, line: &str, status: u8, number: usize) {
+    assert_eq!(rt; left.output.as_str(), output, "output of run {number}");
+    assert_eq!(rt; left.line.as_str(), line, "line of run {number}");
+    assert_eq!(rt; left.status, status, "status of run {number}");
 }
 
 fn text_of(alloc: Global, bytes: &[u8]) -> Result<String, AllocError> {

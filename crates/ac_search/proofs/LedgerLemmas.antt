@@ -75,7 +75,7 @@ group_rises i (Some s) g h = (h, tt)
 slots_rise : (i : ℕ) (gs : List rust.Group) → Each Rises (slots_from i (map group_entry gs))
 slots_rise i [] = tt
 slots_rise i (g ∷ gs) = each_append Rises (group_slots i (group_entry g)) (slots_from (i + 1) (map group_entry gs))
-    (group_rises i (suffix_of g) (group_asked g) (subst (IsStrictlySortedBy text_cmp) (sym (classes_kept g.needs.items)) g.rising)) (slots_rise (i + 1) gs)
+    (group_rises i (suffix_of g) (group_asked g) (subst (IsStrictlySortedBy text_cmp) (sym (classes_kept g.needs.items)) g.needs_rising)) (slots_rise (i + 1) gs)
 
 pub slot_rises : (query : Query) (s : ℕ) → s < length (slots_of (asked_of query)) → Rises (slot_at (asked_of query) s)
 slot_rises query s h = each_at Rises (slots_of (asked_of query)) s no_slot (slots_rise 0 query.groups.items) h

@@ -5,6 +5,7 @@ pub mod PlacedLemmas
 pub mod SlotLemmas
 pub mod PlaceLemmas
 pub mod TogetherLemmas
+pub mod TraitLemmas
 pub mod AnchorLemmas
 pub mod FrontLemmas
 pub mod JudgeLemmas
@@ -43,4 +44,6 @@ pub mod CountLemmas
 pub mod BearLemmas
 pub mod HostLemmas
 pub mod RootLemmas
+pub mod ExplainedLemmas
 mod Literals
+mod PartLemmas

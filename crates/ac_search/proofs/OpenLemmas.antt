@@ -51,7 +51,7 @@ pub each_choice : (all : List Provider) (asked : Asked) (slot : Slot)
 unfolding choice_of
 each_choice all asked slot = each_filter (λ p. p < length all) (test all asked slot) (range_with_len 0 (length all)) (each_range 0 (length all) (length all) (omega arith))
 
-filter_few : {X : Type 0} (f : X → Bool) (xs : List X) → length (filter f xs) ≤ length xs
+pub filter_few : {X : Type 0} (f : X → Bool) (xs : List X) → length (filter f xs) ≤ length xs
 filter_few f [] = omega arith
 filter_few f (x ∷ xs) = let more = filter_few f xs in elim (cases_Bool (f x)) [ inl e ↦ rw e (omega arith) | inr e ↦ rw e (omega arith) ]
 

@@ -1,24 +1,27 @@
 -- A walk passes over choices that lead to no open list: no try is made, and nothing that is left is lost.
-use Rattle.std.proofs.Common.{◌≡◌, ℕ, ◌+◌, ◌<◌, ◌≤◌, ◌-◌, zero, suc, Bool, true, false, List, [], ◌∷◌, ◌++◌, length, take, set, None, Some, refl, sym, ◌∙◌, subst, arith, get_or-set_same, slice_index_or, length-append, length-take-le}
+use Rattle.std.proofs.Common.{◌≡◌, ℕ, ◌+◌, ◌<◌, ◌≤◌, ◌-◌, zero, suc, Bool, true, false, List, [], ◌∷◌, ◌++◌, length, take, set, inl, inr, None, Some, refl, sym, ap, ◌∙◌, subst, arith, get_or-set_same, slice_index_or, length-append, length-take-le}
 use Rattle.std.specs.List.{slice_index}
+use Rattle.std.specs.Global.{Vec}
+use Rattle.std.proofs.lemmas.Bool.{cases_order}
 use Rattle.std.proofs.lemmas.List.{set-set, get_or_default}
-use Rattle.ac_tables.specs.World.{Provider, is_available_at}
+use Rattle.ac_tables.specs.World.{Provider, is_available_at, anchors_of}
 use Rattle.ac_search.specs.Accounts.{providers_in, asked_in}
-use Rattle.ac_search.specs.Keys.{IsHome}
+use Rattle.ac_search.specs.Keys.{is_there}
 use Rattle.ac_search.specs.Trees.{IsByTree}
 use Rattle.ac_search.specs.declared.trees.ByTree.{ByTree}
 use Rattle.ac_search.specs.Order.{lex_lt}
-use Rattle.ac_search.specs.Search.{Search, choices_at, next_at, next_front, left_from, IsDead, IsSound}
+use Rattle.ac_search.specs.Search.{Search, choices_at, next_at, next_front, left_from, IsDead, AllDead, IsSound}
 use Rattle.ac_search.specs.WalkShown.{search_in, front_in}
 use Rattle.ac_search.specs.Steps.{Passes, StepGives, Goes, Gives, Ends}
 use Rattle.ac_search.specs.declared.walk.Walk.{Walk}
 use Rattle.ac_search.specs.declared.walk.Step.{Step}
 use Rattle.ac_search.specs.declared.walk.Step.TheVariants.{Given, Went, Ended}
-use Rattle.ac_search.proofs.OrderLemmas.{lex_trans, lex_irrefl}
+use Rattle.ac_search.proofs.OrderLemmas.{lex_trans}
 use Rattle.ac_search.proofs.FrontOrder.{lex_le_trans}
-use Rattle.ac_search.proofs.SoughtLemmas.{IsSearch}
+use Rattle.ac_search.proofs.SoughtLemmas.{IsSearch, low_at}
 use Rattle.ac_search.proofs.MoveLemmas.{sound_next, forward_next}
 use Rattle.ac_search.proofs.TryLemmas.{left_dead, closed_dead}
+use Rattle.ac_search.proofs.KeptLemmas.{kept_choices}
 use Rattle.ac_search.proofs.StepLemmas.{laws_in, same_then, bounded_then}
 use Rattle.ac_search.proofs.TreeLemmas.{elsewhere_closed}
 
@@ -84,9 +87,21 @@ step_passed Given w u v a b = gives_passed w u v a b
 step_passed Went w u v a b = goes_passed w u v a b
 step_passed Ended w u v a b = ends_passed w u v a b
 
--- where nothing is passed over
-pub passes_none : (w : Walk) → Passes w w
-passes_none w = record { same = record { cloud = refl; query = refl; after = refl; least = refl }; left = refl; up = lex_irrefl (front_in w); probes = refl }
+-- ---- Choices that are read
+
+-- how many there are
+pub choices_many : (w : Walk) (v : Vec ℕ) → v ≡ slice_index_or w.choices.items w.depth v → length v.items ≡ length (choices_at (search_in w) w.depth)
+choices_many w v is = ap length (kept_choices (search_in w) (laws_in w) w.choices.items w.depth v w.listed w.sound.within is)
+
+-- the choice that was read
+pub choice_read : (w : Walk) (i p : ℕ) (v : Vec ℕ) → i < length (choices_at (search_in w) w.depth) → v ≡ slice_index_or w.choices.items w.depth v → p ≡ slice_index_or v.items i p → p ≡ next_at (search_in w) w.depth i
+choice_read w i p v among of is =
+    let m = search_in w in
+    let kept = kept_choices m (laws_in w) w.choices.items w.depth v w.listed w.sound.within of in
+    is ∙ (get_or_default v.items i p m.count (omega (arith, among, ap length kept)) ∙ ap (λ (xs : List ℕ). slice_index_or xs i m.count) kept)
+
+pub choice_low : (w : Walk) (i p : ℕ) → i < length (choices_at (search_in w) w.depth) → p ≡ next_at (search_in w) w.depth i → p < length (providers_in w.ledger)
+choice_low w i p among is = omega (arith, is, low_at (search_in w) (laws_in w) w.depth i w.sound.within among)
 
 -- ---- Choices of other trees
 
@@ -97,25 +112,38 @@ tree_at w b is =
     subst (IsByTree (providers_in w.ledger) (slice_index_or (search_in w).choices w.depth [])) (sym is)
     (w.by_tree.each w.depth b (omega (arith, (laws_in w).slots, w.sound.within)))
 
--- what isn't available at the root to which its path is bound leads on to no open list
-pub others_closed : (w : Walk) (root i : ℕ) → IsHome (providers_in w.ledger) (take w.depth w.path.items) root → i < length (choices_at (search_in w) w.depth)
-    → is_available_at (providers_in w.ledger) (slice_index (choices_at (search_in w) w.depth) i) root ≡ false
+-- what isn't available where a provider of its path is leads on to no open list
+others_closed : (w : Walk) (b i : ℕ) → is_there (take w.depth w.path.items) b ≡ true → i < length (choices_at (search_in w) w.depth)
+    → ((r : ℕ) → is_there (anchors_of (providers_in w.ledger) b) r ≡ true → r < length (providers_in w.ledger) → is_available_at (providers_in w.ledger) (slice_index (choices_at (search_in w) w.depth) i) r ≡ false)
     → (search_in w).is_open (take w.depth w.path.items ++ next_at (search_in w) w.depth i ∷ []) ≡ false
-others_closed w root i home inside away =
+others_closed w b i there inside away =
     let m = search_in w in
     let q = take w.depth w.path.items in
     let p = next_at m w.depth i in
     let same : slice_index (choices_at m w.depth) i ≡ p = get_or_default (choices_at m w.depth) i 0 m.count inside in
-    elsewhere_closed (providers_in w.ledger) (asked_in w.ledger) q p root home (subst (λ (r : ℕ). is_available_at (providers_in w.ledger) r root ≡ false) same away)
+    elsewhere_closed (providers_in w.ledger) (asked_in w.ledger) q b p there (λ r home low. subst (λ (x : ℕ). is_available_at (providers_in w.ledger) x r ≡ false) same (away r home low))
     (omega (arith, length-append q (p ∷ []), length-take-le w.depth w.path.items (omega (arith, w.sound.path_len, w.sound.within)), w.sound.within))
 
--- it stands at the next place that its tree has
-pub stands_next : (w : Walk) (root place next : ℕ) (b : ByTree) → IsHome (providers_in w.ledger) (take w.depth w.path.items) root → place ≡ slice_index w.places.items w.depth
-    → b ≡ slice_index_or w.trees.items w.depth b → place < next → next ≤ length b.keys.items
-    → ((all : List Provider) (choices : List ℕ) → IsByTree all choices b → root < length all → (i : ℕ) → place ≤ i → i < next → is_available_at all (slice_index choices i) root ≡ false)
-    → StandsAt (search_in w) w.least.items w.path.items w.places.items w.depth next w.probes
-stands_next w root place next b home is of later within passed =
+-- so the places before the next one of these trees lead to nothing
+pub beside_dead : (w : Walk) (b from next : ℕ) (t : ByTree) → is_there (take w.depth w.path.items) b ≡ true → t ≡ slice_index_or w.trees.items w.depth t → next ≤ t.count
+    → ((all : List Provider) (choices : List ℕ) → IsByTree all choices t → (r i : ℕ) → is_there (anchors_of (providers_in w.ledger) b) r ≡ true → r < length all → from ≤ i → i < next → is_available_at all (slice_index choices i) r ≡ false)
+    → AllDead (search_in w) (take w.depth w.path.items) w.depth from next
+beside_dead w b from next t there of within passed i above less =
     let m = search_in w in
-    let tree = tree_at w b of in
-    passes_over m (laws_in w) w.least.items w.path.items w.places.items w.depth w.seeking w.probes (next - suc place) next w.sound (omega (arith, later, is)) (omega (arith, within, tree.count))
-    (λ i from less. closed_dead m (laws_in w) (take w.depth w.path.items ++ next_at m w.depth i ∷ []) (others_closed w root i home (omega (arith, less, within, tree.count)) (passed (providers_in w.ledger) (choices_at m w.depth) tree home.provider i (omega (arith, from, is)) less)))
+    let tree = tree_at w t of in
+    closed_dead m (laws_in w) (take w.depth w.path.items ++ next_at m w.depth i ∷ [])
+    (others_closed w b i there (omega (arith, less, within, tree.count)) (λ r home low. passed (providers_in w.ledger) (choices_at m w.depth) tree r i home low above less))
+
+-- some places and then some more
+pub dead_then : (m : Search) (q : List ℕ) (d from at to : ℕ) → AllDead m q d from at → IsDead m (q ++ next_at m d at ∷ []) → AllDead m q d (at + 1) to → AllDead m q d from to
+dead_then m q d from at to before here behind i above less = elim (cases_order i at) [
+  | inl e ↦ subst (λ (j : ℕ). IsDead m (q ++ next_at m d j ∷ [])) (sym e) here
+  | inr o ↦ elim o [ inl l ↦ before i above l | inr g ↦ behind i (omega (arith, g)) less ]
+]
+
+-- it stands behind places that lead to nothing
+pub stands_behind : (w : Walk) (next : ℕ) → slice_index w.places.items w.depth < next → next ≤ length (choices_at (search_in w) w.depth)
+    → AllDead (search_in w) (take w.depth w.path.items) w.depth (slice_index w.places.items w.depth) next
+    → StandsAt (search_in w) w.least.items w.path.items w.places.items w.depth next w.probes
+stands_behind w next later within dead =
+    passes_over (search_in w) (laws_in w) w.least.items w.path.items w.places.items w.depth w.seeking w.probes (next - suc (slice_index w.places.items w.depth)) next w.sound (omega (arith, later)) within dead

@@ -22,3 +22,7 @@ pub mod Laws
 pub mod Ahead
 pub mod Loads
 pub mod Columns
+pub mod Explained
+pub mod ExplainedShown
+pub mod Parts
+pub mod Families

@@ -57,6 +57,10 @@ choices_at m d = slice_index_or m.choices d []
 abbrev pub next_at : Search → ℕ → ℕ → ℕ
 next_at m d j = slice_index_or (choices_at m d) j m.count
 
+-- nothing is wanted that goes on from q by a choice of depth d from one place on, up to another
+abbrev pub AllDead : Search → List ℕ → ℕ → ℕ → ℕ → Type 0
+AllDead m q d from to = (i : ℕ) → from ≤ i → i < to → IsDead m (q ++ next_at m d i ∷ [])
+
 -- the front that is tried next
 abbrev pub next_front : Search → List ℕ → List ℕ → ℕ → List ℕ
 next_front m path places d = take d path ++ next_at m d (slice_index places d) ∷ []

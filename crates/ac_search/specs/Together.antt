@@ -7,7 +7,7 @@ use Rattle.ac_base.specs.Quantities.{Stock, capacity}
 use Rattle.ac_query.specs.Asked.{Asked, Group, Slot, is_isolated, lists_suffix}
 use Rattle.ac_tables.specs.World.{Provider, provider_at, id_at, used_of, has_trait, is_root, is_above, is_available_at}
 use Rattle.ac_search.specs.Placed.{Placed}
-use Rattle.ac_search.specs.Own.{stock_of, has_all, has_none}
+use Rattle.ac_search.specs.Own.{stock_of, has_all, has_any, has_none}
 
 -- ---- Collective
 
@@ -21,7 +21,7 @@ is_brought all xs name = list_any (λ x. brings all name x) xs
 
 -- some unsuffixed slot's provider has one of these traits
 abbrev pub is_one_brought : List Provider → List Placed → List (List ℕ) → Bool
-is_one_brought all xs names = list_any (λ name. is_brought all xs name) names
+is_one_brought all xs names = list_any (λ x. is_none x.slot.suffix && has_any (provider_at all x.provider) names) xs
 
 -- each required trait of a group is had by the provider of some unsuffixed slot, and of each any-of list one is
 abbrev pub are_brought : List Provider → List Placed → Group → Bool

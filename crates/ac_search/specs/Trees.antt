@@ -1,14 +1,14 @@
 -- The choices of slots by tree.
 use Rattle.std.specs.Prelude.{◌≡◌, ℕ, ◌<◌, true, List, [], length, slice_index, slice_index_or}
-use Rattle.ac_tables.specs.World.{Provider}
-use Rattle.ac_search.specs.Keys.{key_of, IsTreeOf, is_there}
+use Rattle.ac_tables.specs.World.{Provider, is_available_at}
+use Rattle.ac_search.specs.Keys.{IsUnder}
 use Rattle.ac_search.specs.declared.trees.ByTree.{ByTree}
 
--- each choice has its place in its tree
+-- each choice has its place in each tree in which it is available, or in the one past all others
 pub record IsByTree (all : List Provider) (choices : List ℕ) (trees : ByTree) : Type 0 where
-  pub sharing : trees.sharing ≡ length all
-  pub count : length trees.keys.items ≡ length choices
-  pub placed : (i tree : ℕ) → i < length choices → IsTreeOf all (slice_index choices i) tree → is_there trees.keys.items (key_of tree i) ≡ true
+  pub wide : trees.wide ≡ length all
+  pub count : trees.count ≡ length choices
+  pub placed : (i r : ℕ) → i < length choices → r < length all → is_available_at all (slice_index choices i) r ≡ true → IsUnder trees.keys.items (length all) r i
 
 pub record AreByTree (all : List Provider) (choices : List (List ℕ)) (trees : List ByTree) : Type 0 where
   pub count : length trees ≡ length choices

@@ -16,7 +16,7 @@ use crate::slots::count_slots;
 use ac_base::NoMemory;
 use ac_tables::Cloud;
 use column::Column;
-use loads::limit;
+pub(crate) use loads::limit;
 use std::alloc::Global;
 
 // How many steps all counts may take together.

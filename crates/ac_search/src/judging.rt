@@ -1,3 +1,4 @@
+//! The verdict on one list of providers.
 ghost use Rattle.std.specs.Prelude.{◌≡◌, ◌<◌, length};
 ghost use Rattle.std.specs.List.{All};
 ghost use Rattle.ac_tables.specs.CloudWorld.{providers_of};

@@ -1,4 +1,5 @@
-//! Which lists of providers are candidates: the nine rules, the verdict on one list, and the sources of all candidates.
+//! Which lists of providers are candidates: the nine rules, the verdict on one list, the sources of all candidates, and how many
+//! providers and roots come how far.
 //!
 //! It knows nothing of the texts of tables and queries, nor of what is printed.
 #![tactic(auto)]
@@ -7,6 +8,8 @@ mod after;
 mod anchor;
 mod choices;
 mod each;
+mod explaining;
+mod families;
 mod hosts;
 mod judging;
 pub mod laws;
@@ -17,9 +20,10 @@ mod marks;
 mod odometer;
 mod open;
 mod own;
+mod parts;
 pub mod plain;
 mod rooms;
-mod slots;
+pub mod slots;
 pub mod source;
 mod sums;
 #[cfg(test)]
@@ -29,6 +33,7 @@ pub mod verdict;
 pub mod walk;
 mod whole;
 
+pub use explaining::{SlotCounts, TreeCounts, slot_counts, tree_counts};
 pub use judging::verify;
 pub use plain::Plain;
 pub use source::Source;

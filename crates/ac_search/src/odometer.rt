@@ -1,3 +1,4 @@
+//! Lists of numbers counted up, as an odometer counts.
 ghost use Rattle.std.specs.Prelude.{◌≡◌, Some, None};
 ghost use Rattle.std.specs.Bool.{MatchBool};
 ghost use Rattle.ac_search.specs.Odometer.{start, successor};

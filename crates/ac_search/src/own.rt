@@ -2,7 +2,10 @@
 
 ghost use Rattle.std.specs.Prelude.{◌≡◌, ◌<◌, length, map};
 ghost use Rattle.std.specs.List.{list_any};
+ghost use Rattle.std.specs.List.Sorted.{IsStrictlySortedBy};
+ghost use Rattle.std.specs.Str.{bytes_eq};
 ghost use Rattle.ac_base.specs.Names.{trait_bytes};
+ghost use Rattle.ac_base.specs.Texts.{text_cmp};
 ghost use Rattle.ac_tables.specs.World.{provider_at};
 ghost use Rattle.ac_tables.specs.CloudWorld.{providers_of};
 ghost use Rattle.ac_query.specs.Asked.{slots_of};
@@ -55,21 +58,38 @@ pub(crate) fn has_all(cloud: &Cloud, ix: u32, names: &[TraitName]) -> bool
     true
 }
 
-/// Whether the provider has none of these traits.
-pub(crate) fn has_none(cloud: &Cloud, ix: u32, names: &[TraitName]) -> bool
-    requires { ix < length (providers_of cloud.now) }
-    ensures { result ≡ has_none (provider_at (providers_of cloud.now) ix) (map trait_bytes names.now) }
+// Whether a trait is one of these, which rise.
+fn is_among(name: &TraitName, names: &[TraitName]) -> bool
+    requires { IsStrictlySortedBy text_cmp (map trait_bytes names.now) }
+    ensures { result ≡ list_any (bytes_eq (trait_bytes name.now)) (map trait_bytes names.now) }
 {
-    for name in names {
-        if cloud.has_trait(ix, name) {
-            return false;
-        }
-    }
-    true
+    names.binary_search(name).is_ok()
 }
 
-// Whether the provider has one of these traits.
-fn has_any(cloud: &Cloud, ix: u32, names: &[TraitName]) -> bool
+// Whether one of the traits is one of these, which rise.
+fn is_one_among(traits: &[TraitName], names: &[TraitName]) -> bool
+    requires { IsStrictlySortedBy text_cmp (map trait_bytes names.now) }
+    ensures { result ≡ list_any (λ t. list_any (bytes_eq t) (map trait_bytes names.now)) (map trait_bytes traits.now) }
+{
+    for name in traits {
+        if is_among(name, names) {
+            return true;
+        }
+    }
+    false
+}
+
+// Whether the provider has one of these traits, which rise: each of its own is looked up among them.
+fn has_any_of_many(cloud: &Cloud, ix: u32, names: &[TraitName]) -> bool
+    requires provider { ix < length (providers_of cloud.now) }
+    requires rising { IsStrictlySortedBy text_cmp (map trait_bytes names.now) }
+    ensures { result ≡ has_any (provider_at (providers_of cloud.now) ix) (map trait_bytes names.now) }
+{
+    is_one_among(cloud.traits(ix), names)
+}
+
+// Whether the provider has one of these traits: each is looked up among its own.
+fn has_any_of_few(cloud: &Cloud, ix: u32, names: &[TraitName]) -> bool
     requires { ix < length (providers_of cloud.now) }
     ensures { result ≡ has_any (provider_at (providers_of cloud.now) ix) (map trait_bytes names.now) }
 {
@@ -79,6 +99,28 @@ fn has_any(cloud: &Cloud, ix: u32, names: &[TraitName]) -> bool
         }
     }
     false
+}
+
+/// Whether the provider has one of these traits, which rise: what there is less of is gone through.
+pub(crate) fn has_any(cloud: &Cloud, ix: u32, names: &[TraitName]) -> bool
+    requires provider { ix < length (providers_of cloud.now) }
+    requires rising { IsStrictlySortedBy text_cmp (map trait_bytes names.now) }
+    ensures { result ≡ has_any (provider_at (providers_of cloud.now) ix) (map trait_bytes names.now) }
+{
+    if cloud.traits(ix).len() < names.len() {
+        has_any_of_many(cloud, ix, names)
+    } else {
+        has_any_of_few(cloud, ix, names)
+    }
+}
+
+/// Whether the provider has none of these traits, which rise.
+pub(crate) fn has_none(cloud: &Cloud, ix: u32, names: &[TraitName]) -> bool
+    requires provider { ix < length (providers_of cloud.now) }
+    requires rising { IsStrictlySortedBy text_cmp (map trait_bytes names.now) }
+    ensures { result ≡ has_none (provider_at (providers_of cloud.now) ix) (map trait_bytes names.now) }
+{
+    !has_any(cloud, ix, names)
 }
 
 // Whether of each of these lists the provider has a trait.

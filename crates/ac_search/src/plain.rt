@@ -1,3 +1,4 @@
+//! The plain source, to compare the walk with: it goes through all lists and judges each.
 ghost use Rattle.std.specs.Prelude.{◌≡◌, ◌<◌, ◌&&◌, length, [], ◌∷◌, IfOk};
 ghost use Rattle.std.specs.Bool.{MatchBool};
 ghost use Rattle.std.specs.Option.{option_map};

@@ -11,7 +11,7 @@ ghost use Rattle.ac_search.specs.Together.{is_set_apart};
 use ac_query::{Group, Need, Query};
 
 /// How many slots there are.
-pub(crate) fn count_slots(query: &Query) -> usize
+pub fn count_slots(query: &Query) -> usize
     ensures count { result ≡ length (slots_of (asked_of query.now)) }
     ensures some { 0 < result }
     ensures few { result ≤ 64 }
@@ -29,7 +29,7 @@ fn place_at(query: &Query, s: usize) -> usize
 }
 
 /// The group of a slot.
-pub(crate) fn group_at(query: &Query, s: usize) -> &Group
+pub fn group_at(query: &Query, s: usize) -> &Group
     requires { s < length (slots_of (asked_of query.now)) }
     ensures { group_entry result.now ≡ ((slot_at (asked_of query.now) s).suffix, (slot_at (asked_of query.now) s).group) }
 {
@@ -37,7 +37,7 @@ pub(crate) fn group_at(query: &Query, s: usize) -> &Group
 }
 
 /// What a slot needs.
-pub(crate) fn needs_at(query: &Query, s: usize) -> &[Need]
+pub fn needs_at(query: &Query, s: usize) -> &[Need]
     requires { s < length (slots_of (asked_of query.now)) }
     ensures { map need_entry result.now ≡ (slot_at (asked_of query.now) s).needs }
 {

@@ -1,3 +1,4 @@
+//! What gives lists of providers, one after another.
 ghost use Rattle.std.specs.Prelude.{◌≡◌, ℕ, List, Option, ⊤};
 ghost use Rattle.std.specs.Borrow.{sem};
 ghost use Rattle.std.specs.Option.{option_copied};

@@ -15,7 +15,9 @@ use ac_tables::{Cloud, Sources};
 use std::alloc::{AllocError, Global};
 
 mod candidates;
+mod explained;
 mod refusals;
+mod tight;
 mod tries;
 
 const LIMIT: usize = 67_108_864;

@@ -1,37 +1,44 @@
-//! The choices of a slot by tree, so that a path that is bound to one tree passes over those of the others.
+//! The choices of a slot by tree, so that a path that is bound to a few trees passes over those of the others.
 
-ghost use Rattle.std.specs.Prelude.{◌≡◌, ◌≢◌, ◌+◌, ◌*◌, ◌<◌, ◌≤◌, ◌^◌, ◌||◌, ℕ, List, [], true, false, length, map, IfOk, MatchOption, slice_index, slice_index_or};
-ghost use Rattle.std.specs.List.{All};
+ghost use Rattle.std.specs.Prelude.{◌≡◌, ◌+◌, ◌*◌, ◌<◌, ◌≤◌, ◌^◌, ◌++◌, ◌||◌, ℕ, List, [], true, false, length, map, IfOk, MatchOption, slice_index, slice_index_or};
+ghost use Rattle.std.specs.List.{All, list_any};
 ghost use Rattle.ac_tables.specs.CloudWorld.{providers_of};
 ghost use Rattle.ac_tables.specs.World.{Provider, is_available_at, anchors_of};
-ghost use Rattle.ac_search.specs.Keys.{key_of, is_there, IsTreeOf, IsLeastFrom, IsNextIn, IsHome};
+ghost use Rattle.ac_search.specs.Keys.{key_of, is_there, IsUnder, IsLeastFrom, IsNextIn};
 
 use ac_base::NoMemory;
 use ac_tables::Cloud;
 use std::alloc::Global;
 
-/// The places of a slot's choices by tree. Those that share stand in one tree of their own, past all others.
+// How many pairs of a choice and a tree in which it is available are kept for a slot.
+const MOST_PAIRS: u64 = 1 << 18;
+// To how many trees a path is bound at the most.
+const FEW: usize = 8;
+
+/// The places of a slot's choices by tree: each choice stands in each tree in which it is available. Where that would be
+/// too many pairs, those of several trees stand in one tree of their own, past all others.
 #[derive(Drop)]
 pub(crate) struct ByTree {
-    // For each choice its tree and its place as one number; rising.
+    // For each choice the number of each of its trees, which is the place of its root, and its place as one number; rising.
     keys: Vec<u64>,
-    // The number of the tree of those that share; each other one has the place of its root.
-    sharing: u32,
+    // How many choices there are.
+    count: usize,
+    // The number of the tree of those whose trees aren't told apart.
+    wide: u32,
     ghost rising: { (i j : ℕ) → i ≤ j → j < length keys.items → slice_index keys.items i ≤ slice_index keys.items j },
-    ghost few: { length keys.items ≤ 65536 },
-    ghost last: { sharing ≤ 65536 },
+    ghost few: { count ≤ 65536 },
+    ghost last: { wide ≤ 65536 },
 }
 
-// The number of the tree in which a choice stands.
-fn tree_of(cloud: &Cloud, ix: u32) -> u32
-    requires { ix < length (providers_of cloud.now) }
-    ensures { IsTreeOf (providers_of cloud.now) ix result }
+// Of how many trees a choice may be, to be kept in each: of any number, or of one.
+fn most_trees(cloud: &Cloud, choices: &[u32]) -> usize
+    requires { All (λ p. p < length (providers_of cloud.now)) choices.now }
 {
-    if cloud.shares(ix) {
-        cloud.len()
-    } else {
-        cloud.root(ix)
+    let mut pairs = 0u64;
+    for ix in choices {
+        pairs = pairs.saturating_add(cloud.anchors(*ix).len() as u64);
     }
+    if pairs <= MOST_PAIRS { usize::MAX } else { 1 }
 }
 
 // A tree and a place as one number, so that places are in order tree by tree.
@@ -40,6 +47,38 @@ fn key(tree: u32, place: usize) -> u64
     ensures { result ≡ key_of tree place }
 {
     u64::from(tree) * 4_294_967_296 + place as u64
+}
+
+// Adds a place under each of some trees.
+fn push_keys(keys: &mut Vec<u64>, trees: &[u32], place: usize) -> Result<(), NoMemory>
+    requires { place < 2 ^ 32 }
+    ensures { IfOk result (λ _. keys.new.items ≡ keys.old.items ++ map (λ r. key_of r place) trees.now) }
+{
+    for tree in trees {
+        keys.push(key(*tree, place))?;
+    }
+    Ok(())
+}
+
+// Adds the place of a choice under each of its trees, or under the one past all others where they are more than so many.
+fn push_choice(
+    keys: &mut Vec<u64>,
+    cloud: &Cloud,
+    ix: u32,
+    place: usize,
+    most: usize,
+) -> Result<(), NoMemory>
+    requires choice { ix < length (providers_of cloud.now) }
+    requires place { place < 2 ^ 32 }
+    ensures kept { IfOk result (λ _. (x : ℕ) → is_there keys.old.items x ≡ true → is_there keys.new.items x ≡ true) }
+    ensures placed { IfOk result (λ _. (r : ℕ) → r < length (providers_of cloud.now) → is_available_at (providers_of cloud.now) ix r ≡ true → IsUnder keys.new.items (length (providers_of cloud.now)) r place) }
+{
+    let trees = cloud.anchors(ix);
+    if trees.len() <= most {
+        push_keys(keys, trees, place)
+    } else {
+        Ok(keys.push(key(cloud.len(), place))?)
+    }
 }
 
 // The least of some numbers from a bound on; the greatest of all where there is none.
@@ -62,14 +101,16 @@ impl ByTree {
         requires providers { All (λ p. p < length (providers_of cloud.now)) choices.now }
         ensures { IfOk result (λ trees. IsByTree (providers_of cloud.now) choices.now trees) }
     {
+        let most = most_trees(cloud, choices);
         let mut keys = Vec::new(alloc);
         for (place, ix) in choices.iter().enumerate() {
-            keys.push(key(tree_of(cloud, *ix), place))?;
+            push_choice(&mut keys, cloud, *ix, place, most)?;
         }
         keys.sort_unstable();
         Ok(ByTree {
             keys,
-            sharing: cloud.len(),
+            count: choices.len(),
+            wide: cloud.len(),
         })
     }
 
@@ -92,36 +133,45 @@ impl ByTree {
 
     // The least place from one on in a tree; past the end where there is none.
     fn next_in(&self, tree: u32, from: usize) -> usize
-        requires { from ≤ length self.now.keys.items }
-        ensures { IsNextIn self.now.keys.items tree from result }
+        requires { from ≤ self.now.count }
+        ensures { IsNextIn self.now.keys.items self.now.count tree from result }
     {
         let least = least_from(&self.keys, key(tree, from)) - key(tree, 0);
-        least.min(self.keys.len() as u64) as usize
+        least.min(self.count as u64) as usize
     }
 
-    /// The least place from one on whose choice may be available in the tree of a root; past the end where there is none.
-    pub(crate) fn next(&self, root: u32, from: usize) -> usize
-        requires { from ≤ length self.now.keys.items }
+    /// The least place from one on whose choice may be available in one of some trees; past the end where there is none.
+    pub(crate) fn next(&self, trees: &[u32], from: usize) -> usize
+        requires { from ≤ self.now.count }
         ensures kept { from ≤ result }
-        ensures within { result ≤ length self.now.keys.items }
-        ensures there { result < length self.now.keys.items → (is_there self.now.keys.items (key_of root result) || is_there self.now.keys.items (key_of self.now.sharing result)) ≡ true }
-        ensures passed { (all : List Provider) (choices : List ℕ) → IsByTree all choices self.now → root < length all → (i : ℕ) → from ≤ i → i < result → is_available_at all (slice_index choices i) root ≡ false }
+        ensures within { result ≤ self.now.count }
+        ensures there { result < self.now.count → (is_there self.now.keys.items (key_of self.now.wide result) || list_any (λ r. is_there self.now.keys.items (key_of r result)) trees.now) ≡ true }
+        ensures passed { (all : List Provider) (choices : List ℕ) → IsByTree all choices self.now → (r i : ℕ) → is_there trees.now r ≡ true → r < length all → from ≤ i → i < result → is_available_at all (slice_index choices i) r ≡ false }
     {
-        self.next_in(root, from)
-            .min(self.next_in(self.sharing, from))
+        let mut least = self.next_in(self.wide, from);
+        for tree in trees {
+            least = least.min(self.next_in(*tree, from));
+        }
+        least
     }
 }
 
-/// The one root at which the providers of a front can be available together, where one of them is available at one root alone.
-pub(crate) fn home_of(cloud: &Cloud, front: &[u32]) -> Option<u32>
+/// The provider of a front that is available in the fewest trees, where these are few.
+pub(crate) fn bound_by(cloud: &Cloud, front: &[u32]) -> Option<u32>
     requires { All (λ p. p < length (providers_of cloud.now)) front.now }
-    ensures { MatchOption result ((i : ℕ) → i < length front.now → length (anchors_of (providers_of cloud.now) (slice_index front.now i)) ≢ 1) (λ root. IsHome (providers_of cloud.now) front.now root) }
+    ensures { MatchOption result ((i : ℕ) → i < length front.now → 8 < length (anchors_of (providers_of cloud.now) (slice_index front.now i))) (λ p. is_there front.now p ≡ true) }
 {
+    let mut best = None;
+    let mut least = FEW + 1;
     for ix in front {
-        let roots = cloud.anchors(*ix);
-        if roots.len() == 1 {
-            return Some(roots[0]);
+        let trees = cloud.anchors(*ix).len();
+        if trees == 1 {
+            return Some(*ix);
+        }
+        if trees < least {
+            best = Some(*ix);
+            least = trees;
         }
     }
-    None
+    best
 }

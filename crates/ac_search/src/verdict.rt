@@ -1,3 +1,4 @@
+//! The rules of a candidate, and what is said of a list.
 /// The rules of a candidate, in their order.
 #[derive(Clone, Copy, Debug, PartialEq, Eq)]
 pub enum Rule {

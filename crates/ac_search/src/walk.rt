@@ -1,4 +1,5 @@
-ghost use Rattle.std.specs.Prelude.{◌≡◌, ◌+◌, ◌<◌, ◌≤◌, ◌++◌, ◌∷◌, [], length, map, take, true, false, suc, MatchOption, IsTrue, IfOk, ◌↔◌, slice_index, slice_set};
+//! The walk: candidates found slot by slot, leaving a path as soon as it can hold none.
+ghost use Rattle.std.specs.Prelude.{◌≡◌, ◌+◌, ◌<◌, ◌≤◌, ◌++◌, ◌∷◌, [], length, map, take, true, false, suc, MatchOption, IsTrue, IfOk, IfSome, ◌↔◌, slice_index, slice_set};
 ghost use Rattle.std.specs.Bool.{MatchBool};
 ghost use Rattle.std.specs.Option.{option_map};
 ghost use Rattle.ac_base.specs.Devices.{one_more};
@@ -9,12 +10,15 @@ ghost use Rattle.ac_query.specs.Tokens as tokens;
 ghost use Rattle.ac_search.specs.Accounts.{providers_in, asked_in, Accounts};
 ghost use Rattle.ac_search.specs.Judge.{is_open};
 ghost use Rattle.ac_search.specs.Pages.{rest};
-ghost use Rattle.ac_search.specs.Search.{IsDead, IsSound, IsStart, Enters, HasAt, least_at, choices_at, next_at};
+ghost use Rattle.ac_search.specs.Search.{IsDead, AllDead, IsSound, IsStart, Enters, HasAt, least_at, choices_at, next_at};
 ghost use Rattle.ac_search.specs.QuerySearch.{choices_of, search_of, completes, least_of};
+ghost use Rattle.ac_search.specs.Keys.{is_there};
 ghost use Rattle.ac_search.specs.Trees.{AreByTree};
 ghost use Rattle.ac_search.specs.Ahead.{AreRoots};
+ghost use Rattle.ac_search.specs.Families.{AreFamilies};
 
 use crate::choices::all_choices;
+use crate::families::Family;
 use crate::hosts::host_roots;
 use crate::least::least_of;
 use crate::ledger::Ledger;
@@ -22,7 +26,7 @@ use crate::marks::has_full;
 use crate::open::completes;
 use crate::slots::count_slots;
 use crate::source::Source;
-use crate::trees::{ByTree, home_of};
+use crate::trees::{ByTree, bound_by};
 use ac_base::{Id, NoMemory};
 use ac_query::{Query, Token};
 use ac_tables::Cloud;
@@ -53,6 +57,8 @@ pub struct Walk<'a> {
     trees: Vec<ByTree>,
     // The roots that may host a candidate.
     hosts: Vec<bool>,
+    // The lists of `same_subtree`.
+    families: Vec<Family>,
     // The providers so far, as many as the depth says, and where each stands among the choices of its slot.
     path: Vec<u32>,
     places: Vec<usize>,
@@ -64,6 +70,7 @@ pub struct Walk<'a> {
     ghost listed: { map (λ v. v.items) choices.items ≡ choices_of (providers_in ledger) (asked_in ledger) },
     ghost by_tree: { AreByTree (providers_in ledger) (choices_of (providers_in ledger) (asked_in ledger)) trees.items },
     ghost hosting: { AreRoots (providers_in ledger) (asked_in ledger) hosts.items },
+    ghost grouped: { AreFamilies (providers_in ledger) (asked_in ledger) families.items },
     ghost sound: { IsSound (search_of (providers_in ledger) (asked_in ledger)) least.items path.items places.items depth seeking probes },
     ghost accounted: { Accounts ledger (take depth path.items) },
 }
@@ -93,6 +100,7 @@ impl<'a> Walk<'a> {
         let trees = ByTree::of_slots(alloc, cloud, &choices)?;
         let ledger = Ledger::new(alloc, cloud, query)?;
         let hosts = host_roots(alloc, &ledger, &choices)?;
+        let families = Family::of_query(alloc, cloud, query, &choices)?;
         let path = vec![in alloc; 0u32; width]?;
         let mut places = vec![in alloc; 0usize; width]?;
         places[0] = start_of(&choices[0], &least, 0);
@@ -103,6 +111,7 @@ impl<'a> Walk<'a> {
             choices,
             trees,
             hosts,
+            families,
             path,
             places,
             depth: 0,
@@ -142,16 +151,6 @@ impl<'a> Walk<'a> {
         self.path[self.depth] = provider;
     }
 
-    // Whether some root that may host a candidate has all of the path and the provider that is put behind it.
-    fn keeps_host(&self) -> bool
-        requires among { slice_index self.now.places.items self.now.depth < length (choices_at (search_in self.now) self.now.depth) }
-        requires put { slice_index self.now.path.items self.now.depth ≡ next_at (search_in self.now) self.now.depth (slice_index self.now.places.items self.now.depth) }
-        ensures { result ≡ false → IsDead (search_in self.now) (take (suc self.now.depth) self.now.path.items) }
-    {
-        let roots = self.ledger.cloud.anchors(self.path[self.depth]);
-        has_full(&self.ledger.hits, &self.hosts, roots, self.depth)
-    }
-
     // Whether the path is open with the provider that is put behind it; where it says no, no candidate goes on from there.
     fn stays_open(&self) -> bool
         requires among { slice_index self.now.places.items self.now.depth < length (choices_at (search_in self.now) self.now.depth) }
@@ -161,7 +160,6 @@ impl<'a> Walk<'a> {
     {
         self.ledger
             .admits(&self.path[..self.depth], self.path[self.depth])
-            && self.keeps_host()
     }
 
     // Whether the whole path meets what isn't asked of its fronts.
@@ -278,18 +276,74 @@ impl<'a> Walk<'a> {
         Step::Went
     }
 
-    // Passes over choices that can't be available in the one tree to which the path is bound.
+    // Whether some root that may host a candidate has all of the path, and a choice of the slot too.
+    fn has_host(&self, place: usize) -> bool
+        requires among { place < length (choices_at (search_in self.now) self.now.depth) }
+        ensures { result ≡ false → IsDead (search_in self.now) (take self.now.depth self.now.path.items ++ next_at (search_in self.now) self.now.depth place ∷ []) }
+    {
+        let roots = self.ledger.cloud.anchors(self.choices[self.depth][place]);
+        has_full(&self.ledger.hits, &self.hosts, roots, self.depth)
+    }
+
+    // Whether a choice of the slot can stand with the path as the lists of `same_subtree` ask.
+    fn has_kin(&self, place: usize) -> bool
+        requires among { place < length (choices_at (search_in self.now) self.now.depth) }
+        ensures { result ≡ false → IsDead (search_in self.now) (take self.now.depth self.now.path.items ++ next_at (search_in self.now) self.now.depth place ∷ []) }
+    {
+        let provider = self.choices[self.depth][place];
+        for family in &self.families {
+            if !family.admits(&self.path[..self.depth], provider) {
+                return false;
+            }
+        }
+        true
+    }
+
+    // Whether a choice of the slot may stand behind the path, as far as roots and lists of `same_subtree` go.
+    fn may_follow(&self, place: usize) -> bool
+        requires among { place < length (choices_at (search_in self.now) self.now.depth) }
+        ensures { result ≡ false → IsDead (search_in self.now) (take self.now.depth self.now.path.items ++ next_at (search_in self.now) self.now.depth place ∷ []) }
+    {
+        self.has_host(place) && self.has_kin(place)
+    }
+
+    // The least place from one on whose choice may be available where a provider of the path is; past the end where there is none.
+    fn place_beside(&self, provider: Option<u32>, from: usize) -> usize
+        requires path { IfSome provider (λ p. is_there (take self.now.depth self.now.path.items) p ≡ true) }
+        requires from { from ≤ length (choices_at (search_in self.now) self.now.depth) }
+        ensures from { from ≤ result }
+        ensures within { result ≤ length (choices_at (search_in self.now) self.now.depth) }
+        ensures dead { AllDead (search_in self.now) (take self.now.depth self.now.path.items) self.now.depth from result }
+    {
+        match provider {
+            Some(ix) => self.trees[self.depth].next(self.ledger.cloud.anchors(ix), from),
+            None => from,
+        }
+    }
+
+    // The least place from the one that is next on whose choice may follow; past the end where there is none.
+    fn next_place(&self) -> usize
+        ensures from { slice_index self.now.places.items self.now.depth ≤ result }
+        ensures within { result ≤ length (choices_at (search_in self.now) self.now.depth) }
+        ensures dead { AllDead (search_in self.now) (take self.now.depth self.now.path.items) self.now.depth (slice_index self.now.places.items self.now.depth) result }
+    {
+        let end = self.choices[self.depth].len();
+        let provider = bound_by(self.ledger.cloud, &self.path[..self.depth]);
+        let mut place = self.place_beside(provider, self.places[self.depth]);
+        while place < end && !self.may_follow(place) {
+            place = self.place_beside(provider, place + 1);
+        }
+        place
+    }
+
+    // Passes over choices that can't follow.
     fn pass(&mut self)
         ensures { Passes self.old self.new }
     {
-        let depth = self.depth;
-        if let Some(root) = home_of(self.ledger.cloud, &self.path[..depth]) {
-            let place = self.places[depth];
-            let next = self.trees[depth].next(root, place);
-            if next > place {
-                self.places[depth] = next;
-                self.seeking = false;
-            }
+        let next = self.next_place();
+        if next > self.places[self.depth] {
+            self.places[self.depth] = next;
+            self.seeking = false;
         }
     }
 

@@ -2,7 +2,9 @@
 
 ghost use Rattle.std.specs.Prelude.{◌≡◌, ◌<◌, ◌≤◌, ◌&&◌, ◌+◌, length, map, drop, get_or, [], slice_index};
 ghost use Rattle.std.specs.List.{All, list_all, list_any};
+ghost use Rattle.std.specs.List.Sorted.{IsStrictlySortedBy};
 ghost use Rattle.ac_base.specs.Names.{trait_bytes};
+ghost use Rattle.ac_base.specs.Texts.{text_cmp};
 ghost use Rattle.ac_tables.specs.CloudWorld.{providers_of};
 ghost use Rattle.ac_query.specs.Asked.{slots_of};
 ghost use Rattle.ac_query.specs.GroupsShown.{any_of_shown, group_asked};
@@ -10,6 +12,7 @@ ghost use Rattle.ac_query.specs.QueriesShown.{asked_of};
 ghost use Rattle.ac_search.specs.Placed.{placed, assigned, placed_at};
 ghost use Rattle.ac_search.specs.Together.{is_brought, is_one_brought, are_brought, collective, are_apart, all_apart, isolate, listed, is_top, subtree};
 
+use crate::own::has_any;
 use crate::slots::{is_listed, is_set_apart, is_suffixed};
 use ac_base::TraitName;
 use ac_query::{AnyOf, Group, Query};
@@ -44,14 +47,16 @@ fn are_all_brought(cloud: &Cloud, query: &Query, list: &[u32], names: &[TraitNam
     true
 }
 
-// Whether one of these traits is brought.
+// Whether one of these traits, which rise, is brought.
+#[tactic(auto, using(crate::proofs::PlacedLemmas::placed_more, crate::proofs::PlacedLemmas::placed_end))]
 fn is_one_brought(cloud: &Cloud, query: &Query, list: &[u32], names: &[TraitName]) -> bool
     requires slots { length list.now ≤ length (slots_of (asked_of query.now)) }
     requires providers { All (λ p. p < length (providers_of cloud.now)) list.now }
+    requires rising { IsStrictlySortedBy text_cmp (map trait_bytes names.now) }
     ensures { result ≡ is_one_brought (providers_of cloud.now) (assigned (asked_of query.now) list.now) (map trait_bytes names.now) }
 {
-    for name in names {
-        if is_brought(cloud, query, list, name) {
+    for (s, ix) in list.iter().enumerate() {
+        if !is_suffixed(query, s) && has_any(cloud, *ix, names) {
             return true;
         }
     }

@@ -9,7 +9,7 @@ use Rattle.ac_tables.specs.World.{id_at, parent_of}
 use Rattle.ac_tables.specs.CloudWorld.{providers_of}
 use Rattle.ac_tables.specs.declared.cloud.Cloud.{Cloud}
 use Rattle.ac_tables.proofs.Rising.{rising_apart}
-use Rattle.ac_tables.proofs.CloudFacts.{id_here, parent_here}
+use Rattle.ac_tables.proofs.CloudFacts.{id_here, parent_here, parts}
 
 equal : (a b : ℕ) → a ≡ b → (a == b) ≡ true
 equal a b e = search (arith, rules)
@@ -75,7 +75,7 @@ chain_places c (suc k) a b ha hb = elim (cases_Bool (b == a)) [
         chain_ends (parent_of (providers_of c)) (suc k) (id_at (providers_of c) a) (id_at (providers_of c) b) (same_test c b a hb ha ∙ ne) (parent_here c b hb ∙ ap (option_map (λ j. get_or c.ids.ids.items j 0)) e)
         ∙ sym (chain_ends (parent_in c.parents.items) (suc k) a b ne e)
     by_parent (Some q) e ne rest =
-        let hq : q < length c.ids.ids.items = c.within b q hb e in
+        let hq : q < length c.ids.ids.items = (parts c).within b q hb e in
         let up : parent_of (providers_of c) (id_at (providers_of c) b) ≡ Some (id_at (providers_of c) q) =
         parent_here c b hb ∙ ap (option_map (λ j. get_or c.ids.ids.items j 0)) e ∙ ap (λ (x : ℕ). Some x) (sym (id_here c q hq)) in
         chain_goes (parent_of (providers_of c)) k (id_at (providers_of c) a) (id_at (providers_of c) b) (id_at (providers_of c) q) (same_test c b a hb ha ∙ ne) up

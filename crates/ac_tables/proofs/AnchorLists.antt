@@ -13,7 +13,7 @@ use Rattle.std.proofs.lemmas.List.FromFn.{get_or-range_with_len, length-range_wi
 use Rattle.std.specs.BTreeMap.{BTreeMap}
 use Rattle.ac_tables.specs.Places.{ArePlaces}
 use Rattle.ac_tables.proofs.SearchFacts.{no_any, any_same}
-use Rattle.ac_tables.specs.Anchors.{is_met, is_among, meets_at, meets, is_joined, joined, list_of, AreJoined}
+use Rattle.ac_tables.specs.Anchors.{is_met, is_among, meets_at, meets, is_joined, joined, list_of, AreAsked}
 
 -- the provider at a place, where it has a list
 pub some_place : (places : List (Option ℕ)) (i : ℕ) (Q : ℕ → Type 0) → i < length places → Q i
@@ -133,11 +133,11 @@ last_is [] o = refl
 last_is (p ∷ places) o = last_is places o
 
 -- one more provider
-pub joined_more : (roots : List ℕ) (aggregates : List (List ℕ)) (lists more : List (Vec ℕ)) (places : List (Option ℕ)) (o : Option ℕ) → AreJoined roots aggregates lists places
+pub joined_more : (roots : List ℕ) (aggregates asked : List (List ℕ)) (lists more : List (Vec ℕ)) (places : List (Option ℕ)) (o : Option ℕ) → AreAsked roots aggregates asked lists places
     → length lists ≤ length more → ((k : ℕ) → k < length lists → list_of more k ≡ list_of lists k)
-    → ((k : ℕ) → o ≡ Some k → (k < length more) × (list_of more k ≡ joined roots aggregates (get_or aggregates (length places) [])))
-    → AreJoined roots aggregates more (places ++ o ∷ [])
-joined_more roots aggregates lists more places o before rest stay new = λ (j k : ℕ) inside is.
+    → ((k : ℕ) → o ≡ Some k → (k < length more) × (list_of more k ≡ joined roots aggregates (get_or asked (length places) [])))
+    → AreAsked roots aggregates asked more (places ++ o ∷ [])
+joined_more roots aggregates asked lists more places o before rest stay new = λ (j k : ℕ) inside is.
     elim (before_or_last j (length places) (omega (arith, inside, length-append places (o ∷ [])))) [
       | inl less ↦
           let old = before j k less (sym (get_or_append_left places (o ∷ []) None j less) ∙ is) in
@@ -148,18 +148,18 @@ joined_more roots aggregates lists more places o before rest stay new = λ (j k 
     ]
 
 -- one more that has a list, and one that has none
-pub joined_some : (roots : List ℕ) (aggregates : List (List ℕ)) (lists more : List (Vec ℕ)) (places : List (Option ℕ)) (place : ℕ) (ids : List ℕ) → AreJoined roots aggregates lists places
+pub joined_some : (roots : List ℕ) (aggregates asked : List (List ℕ)) (lists more : List (Vec ℕ)) (places : List (Option ℕ)) (place : ℕ) (ids : List ℕ) → AreAsked roots aggregates asked lists places
     → length lists ≤ length more → ((k : ℕ) → k < length lists → list_of more k ≡ list_of lists k) → place < length more → list_of more place ≡ joined roots aggregates ids
-    → ids ≡ get_or aggregates (length places) [] → AreJoined roots aggregates more (places ++ Some place ∷ [])
-joined_some roots aggregates lists more places place ids before rest stay inside here is_ids =
-    joined_more roots aggregates lists more places (Some place) before rest stay
+    → ids ≡ get_or asked (length places) [] → AreAsked roots aggregates asked more (places ++ Some place ∷ [])
+joined_some roots aggregates asked lists more places place ids before rest stay inside here is_ids =
+    joined_more roots aggregates asked lists more places (Some place) before rest stay
     (λ (k : ℕ) (e : Some place ≡ Some k).
     let same : place ≡ k = ap (λ o. unwrap_or o 0) e in
     (subst (λ (m : ℕ). m < length more) same inside, ap (list_of more) (sym same) ∙ here ∙ ap (joined roots aggregates) is_ids))
 
-pub joined_none : (roots : List ℕ) (aggregates : List (List ℕ)) (lists : List (Vec ℕ)) (places : List (Option ℕ)) → AreJoined roots aggregates lists places → AreJoined roots aggregates lists (places ++ None ∷ [])
-joined_none roots aggregates lists places before =
-    joined_more roots aggregates lists lists places None before (omega arith) (λ (k : ℕ) (h : k < length lists). refl) (λ (k : ℕ) (e : None ≡ Some k). absurd (cc))
+pub joined_none : (roots : List ℕ) (aggregates asked : List (List ℕ)) (lists : List (Vec ℕ)) (places : List (Option ℕ)) → AreAsked roots aggregates asked lists places → AreAsked roots aggregates asked lists (places ++ None ∷ [])
+joined_none roots aggregates asked lists places before =
+    joined_more roots aggregates asked lists lists places None before (omega arith) (λ (k : ℕ) (h : k < length lists). refl) (λ (k : ℕ) (e : None ≡ Some k). absurd (cc))
 
 -- whether it has one
 pub marked_more : (places : List (Option ℕ)) (o : Option ℕ) (f : ℕ → Bool) (n : ℕ) → length places ≡ n → ((j : ℕ) → j < n → is_some (get_or places j None) ≡ f j) → is_some o ≡ f n
@@ -171,3 +171,14 @@ marked_more places o f n size before here j h = elim (before_or_last j n h) [
 
 pub length_more : (places : List (Option ℕ)) (o : Option ℕ) (n : ℕ) → length places ≡ n → length (places ++ o ∷ []) ≡ n + 1
 length_more places o n size = omega (arith, length-append places (o ∷ []), size)
+
+-- one more item of a list that is known place by place
+pub each_more : {X : Type 0} (d : X) (xs : List X) (x : X) (f : ℕ → X) (n : ℕ) → length xs ≡ n → ((j : ℕ) → j < n → get_or xs j d ≡ f j) → x ≡ f n → (j : ℕ) → j < n + 1 → get_or (xs ++ x ∷ []) j d ≡ f j
+each_more {X} d xs x f n size before here j h = elim (before_or_last j n h) [
+  | inl less ↦ get_or_append_left xs (x ∷ []) d j (omega (arith, less, size)) ∙ before j less
+  | inr e ↦ ap (λ (i : ℕ). get_or (xs ++ x ∷ []) i d) (e ∙ sym size) ∙ end xs ∙ here ∙ ap f (sym e)
+]
+  where
+    end : (ys : List X) → get_or (ys ++ x ∷ []) (length ys) d ≡ x
+    end [] = refl
+    end (y ∷ ys) = end ys

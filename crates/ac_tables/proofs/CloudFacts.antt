@@ -5,20 +5,26 @@ use Rattle.std.specs.Option.{option_map}
 use Rattle.std.proofs.lemmas.List.{get_or-map}
 use Rattle.ac_tables.specs.Places.{parent_in, rank}
 use Rattle.ac_tables.specs.World.{provider_at, id_at, place_of, parent_of, root_of}
-use Rattle.ac_tables.specs.Lists.{held_list, name_list, id_list}
+use Rattle.ac_base.specs.Names.{trait_bytes}
+use Rattle.ac_tables.specs.Entries.{entry_pair}
+use Rattle.ac_tables.specs.ListsOf.{lists_of}
+use Rattle.ac_tables.specs.Numbered.{numbered_at}
+use Rattle.ac_tables.specs.CloudParts.{AreParts, BelongTogether}
 use Rattle.ac_tables.specs.CloudWorld.{providers_of}
 use Rattle.ac_tables.specs.declared.cloud.Cloud.{Cloud}
-use Rattle.ac_tables.specs.declared.ordered.EntryList.{EntryList}
-use Rattle.ac_tables.specs.declared.ordered.TraitList.{TraitList}
-use Rattle.ac_tables.specs.declared.ordered.AggregateList.{AggregateList}
 use Rattle.ac_tables.proofs.WorldFacts.{numbered_size, numbered_here, numbered_place, numbered_parent, numbered_root}
 
 module _ (c : Cloud) where
   abbrev ids : List ℕ
   ids = c.ids.ids.items
 
+  pub parts : AreParts ids c.parents.items c.roots.items (lists_of c.entries) (lists_of c.traits) (lists_of c.aggregates) c.sharing.items c.anchors c.visits
+  unfolding BelongTogether
+  parts = c.whole
+
   pub size : length (providers_of c) ≡ length c.ids.ids.items
-  size = numbered_size ids c.parents.items (map held_list c.entries.items) (map name_list c.traits.items) (map id_list c.aggregates.items)
+  unfolding providers_of
+  size = numbered_size ids c.parents.items (map (map entry_pair) (lists_of c.entries)) (map (map trait_bytes) (lists_of c.traits)) (lists_of c.aggregates)
 
   pub inside : (ix : ℕ) → ix < length (providers_of c) → ix < length c.ids.ids.items
   inside ix h = omega (arith, h, size)
@@ -27,49 +33,52 @@ module _ (c : Cloud) where
   outside ix h = omega (arith, h, size)
 
   pub id_here : (ix : ℕ) → ix < length c.ids.ids.items → id_at (providers_of c) ix ≡ get_or c.ids.ids.items ix 0
-  id_here ix h = ap (λ p. p.id) (numbered_here ids c.parents.items (map held_list c.entries.items) (map name_list c.traits.items) (map id_list c.aggregates.items) ix h)
+  unfolding providers_of
+  id_here ix h = ap (λ p. p.id) (numbered_here ids c.parents.items (map (map entry_pair) (lists_of c.entries)) (map (map trait_bytes) (lists_of c.traits)) (lists_of c.aggregates) ix h)
 
   pub place_here : (id : ℕ) → place_of (providers_of c) id ≡ rank c.ids.ids.items id
-  place_here id = numbered_place ids c.parents.items (map held_list c.entries.items) (map name_list c.traits.items) (map id_list c.aggregates.items) id
+  unfolding providers_of
+  place_here id = numbered_place ids c.parents.items (map (map entry_pair) (lists_of c.entries)) (map (map trait_bytes) (lists_of c.traits)) (lists_of c.aggregates) id
 
   pub parent_here : (ix : ℕ) → ix < length c.ids.ids.items → parent_of (providers_of c) (id_at (providers_of c) ix) ≡ option_map (λ j. get_or c.ids.ids.items j 0) (parent_in c.parents.items ix)
+  unfolding providers_of
   parent_here ix h =
       ap (parent_of (providers_of c)) (id_here ix h)
-      ∙ numbered_parent ids c.parents.items (map held_list c.entries.items) (map name_list c.traits.items) (map id_list c.aggregates.items) c.ids.rising ix h
+      ∙ numbered_parent ids c.parents.items (map (map entry_pair) (lists_of c.entries)) (map (map trait_bytes) (lists_of c.traits)) (lists_of c.aggregates) c.ids.rising ix h
 
   pub root_inside : (ix : ℕ) → ix < length c.ids.ids.items → get_or c.roots.items ix 0 < length c.ids.ids.items
   root_inside ix h =
-      let r = numbered_root ids c.parents.items (map held_list c.entries.items) (map name_list c.traits.items) (map id_list c.aggregates.items) c.ids.rising c.within ix h in
-      subst (λ (j : ℕ). j < length ids) (sym (c.rooted ix h)) r.0
+      let r = numbered_root ids c.parents.items (map (map entry_pair) (lists_of c.entries)) (map (map trait_bytes) (lists_of c.traits)) (lists_of c.aggregates) c.ids.rising parts.within ix h in
+      subst (λ (j : ℕ). j < length ids) (sym (parts.rooted ix h)) r.0
 
   pub root_here : (ix : ℕ) → ix < length c.ids.ids.items → id_at (providers_of c) (get_or c.roots.items ix 0) ≡ root_of (providers_of c) (id_at (providers_of c) ix)
+  unfolding providers_of
   root_here ix h =
-      let r = numbered_root ids c.parents.items (map held_list c.entries.items) (map name_list c.traits.items) (map id_list c.aggregates.items) c.ids.rising c.within ix h in
+      let r = numbered_root ids c.parents.items (map (map entry_pair) (lists_of c.entries)) (map (map trait_bytes) (lists_of c.traits)) (lists_of c.aggregates) c.ids.rising parts.within ix h in
       id_here (get_or c.roots.items ix 0) (root_inside ix h)
-      ∙ ap (λ (j : ℕ). get_or ids j 0) (c.rooted ix h) ∙ sym r.1 ∙ ap (root_of (providers_of c)) (sym (id_here ix h))
+      ∙ ap (λ (j : ℕ). get_or ids j 0) (parts.rooted ix h) ∙ sym r.1 ∙ ap (root_of (providers_of c)) (sym (id_here ix h))
 
-  pub holdings_here : (ix : ℕ) (v : EntryList) → ix < length c.ids.ids.items → v ≡ get_or c.entries.items ix v → held_list v ≡ (provider_at (providers_of c) ix).holdings
-  holdings_here ix v h e =
-      let k : ix < length c.entries.items = omega (arith, h, c.with_entries) in
-      ap held_list e ∙ sym (get_or-map held_list c.entries.items ix v [] k)
-      ∙ sym (ap (λ p. p.holdings) (numbered_here ids c.parents.items (map held_list c.entries.items) (map name_list c.traits.items) (map id_list c.aggregates.items) ix h))
+  at_place : (ix : ℕ) → ix < length c.ids.ids.items → provider_at (providers_of c) ix ≡ numbered_at ids c.parents.items (map (map entry_pair) (lists_of c.entries)) (map (map trait_bytes) (lists_of c.traits)) (lists_of c.aggregates) ix
+  unfolding providers_of
+  at_place ix h = numbered_here ids c.parents.items (map (map entry_pair) (lists_of c.entries)) (map (map trait_bytes) (lists_of c.traits)) (lists_of c.aggregates) ix h
 
-  pub traits_here : (ix : ℕ) (v : TraitList) → ix < length c.ids.ids.items → v ≡ get_or c.traits.items ix v → name_list v ≡ (provider_at (providers_of c) ix).traits
-  traits_here ix v h e =
-      let k : ix < length c.traits.items = omega (arith, h, c.with_traits) in
-      ap name_list e ∙ sym (get_or-map name_list c.traits.items ix v [] k)
-      ∙ sym (ap (λ p. p.traits) (numbered_here ids c.parents.items (map held_list c.entries.items) (map name_list c.traits.items) (map id_list c.aggregates.items) ix h))
+  pub holdings_here : (ix : ℕ) → ix < length c.ids.ids.items → map entry_pair (get_or (lists_of c.entries) ix []) ≡ (provider_at (providers_of c) ix).holdings
+  holdings_here ix h =
+      let k : ix < length (lists_of c.entries) = omega (arith, h, parts.with_entries) in
+      sym (get_or-map (map entry_pair) (lists_of c.entries) ix [] [] k) ∙ sym (ap (λ p. p.holdings) (at_place ix h))
 
-  pub aggregates_here : (ix : ℕ) (v : AggregateList) → ix < length c.ids.ids.items → v ≡ get_or c.aggregates.items ix v → id_list v ≡ (provider_at (providers_of c) ix).aggregates
-  aggregates_here ix v h e =
-      let k : ix < length c.aggregates.items = omega (arith, h, c.with_aggregates) in
-      ap id_list e ∙ sym (get_or-map id_list c.aggregates.items ix v [] k)
-      ∙ sym (ap (λ p. p.aggregates) (numbered_here ids c.parents.items (map held_list c.entries.items) (map name_list c.traits.items) (map id_list c.aggregates.items) ix h))
+  pub traits_here : (ix : ℕ) → ix < length c.ids.ids.items → map trait_bytes (get_or (lists_of c.traits) ix []) ≡ (provider_at (providers_of c) ix).traits
+  traits_here ix h =
+      let k : ix < length (lists_of c.traits) = omega (arith, h, parts.with_traits) in
+      sym (get_or-map (map trait_bytes) (lists_of c.traits) ix [] [] k) ∙ sym (ap (λ p. p.traits) (at_place ix h))
+
+  pub aggregates_here : (ix : ℕ) → ix < length c.ids.ids.items → get_or (lists_of c.aggregates) ix [] ≡ (provider_at (providers_of c) ix).aggregates
+  aggregates_here ix h = sym (ap (λ p. p.aggregates) (at_place ix h))
 
   names_same : (ix : ℕ) (o : Option ℕ) → ix < length c.ids.ids.items → parent_in c.parents.items ix ≡ o
       → (option_map (id_at (providers_of c)) o ≡ option_map (λ j. get_or c.ids.ids.items j 0) o) × IfSome o (λ j. j < length (providers_of c))
   names_same ix None h e = (refl, tt)
-  names_same ix (Some j) h e = let k = c.within ix j h e in (ap (λ (x : ℕ). Some x) (id_here j k), outside j k)
+  names_same ix (Some j) h e = let k = parts.within ix j h e in (ap (λ (x : ℕ). Some x) (id_here j k), outside j k)
 
   pub parent_is : (ix : ℕ) (o : Option ℕ) → ix < length c.ids.ids.items → o ≡ parent_in c.parents.items ix
       → (option_map (id_at (providers_of c)) o ≡ parent_of (providers_of c) (id_at (providers_of c) ix)) × IfSome o (λ j. j < length (providers_of c))

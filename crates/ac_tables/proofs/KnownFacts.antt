@@ -1,13 +1,10 @@
 -- Whether a provider is there, and the checks of the records of traits and aggregates.
 use Rattle.std.proofs.Common.{◌≡◌, ◌∙◌, ℕ, true, false, List, Some, None, refl, sym, ap}
-use Rattle.ac_base.specs.Names.{trait_bytes}
 use Rattle.ac_tables.specs.Checks.{Row, first_failing, TellsKind}
-use Rattle.ac_tables.specs.Columns.{id_in, text_in}
+use Rattle.ac_tables.specs.Columns.{id_in}
 use Rattle.ac_tables.specs.InventoryTable.{provider_name, is_one_of, known_checks}
-use Rattle.ac_tables.specs.TraitTable.{Mark, name_name, mark_in, mark_field_checks, mark_checks}
+use Rattle.ac_tables.specs.TraitTable.{Mark, mark_field_checks, mark_checks}
 use Rattle.ac_tables.specs.AggregateTable.{Membership, membership_in, membership_field_checks, membership_checks}
-use Rattle.ac_tables.specs.Gathered.{mark_of}
-use Rattle.ac_tables.specs.declared.mark.MarkRow.{MarkRow}
 use Rattle.ac_tables.specs.declared.fault.TableKind.{TableKind}
 use Rattle.ac_tables.specs.declared.fault.TableKind.TheVariants as kind
 use Rattle.ac_tables.specs.declared.fault.RecordFault.{RecordFault}
@@ -20,11 +17,6 @@ unknown ids id absent = rw absent refl
 pub known : (ids : List ℕ) (id : ℕ) → is_one_of ids id ≡ true → first_failing (known_checks ids id) ≡ None
 unfolding known_checks
 known ids id there = rw there refl
-
--- what was read is what the record says
-pub mark_same : (header row : Row) (m : MarkRow) → m.provider ≡ id_in header provider_name row → trait_bytes m.name ≡ text_in header name_name row → mark_of m ≡ mark_in header row
-unfolding mark_in
-mark_same header row m e1 e2 = cc
 
 pub mark_fields_tell : (ids : List ℕ) (header : Row) (said : List Mark) (row : Row) (e : RecordFault) → TellsKind (first_failing (mark_field_checks header row)) e
     → TellsKind (first_failing (mark_checks ids header said row)) e

@@ -1,12 +1,15 @@
 -- Chains of parents, and lists that lead up.
-use Rattle.std.proofs.Common.{◌≡◌, ◌∙◌, ℕ, zero, suc, true, false, List, [], ◌∷◌, Option, Some, None, refl, sym, ap, arith, inl, inr, ◌⊎◌}
+use Rattle.std.proofs.Common.{◌≡◌, ◌<◌, ◌∙◌, ℕ, zero, suc, true, false, List, [], ◌∷◌, Option, Some, None, refl, sym, ap, arith, inl, inr, ◌⊎◌, get_or, length}
 use Rattle.std.specs.Prelude.{◌==◌}
-use Rattle.std.specs.Option.{is_some, unwrap_or}
+use Rattle.std.specs.Option.{is_some, option_map, unwrap_or}
 use Rattle.std.proofs.lemmas.Bool.{cases_Bool, false≢true}
-use Rattle.ac_tables.specs.Trees.{LeadsUp, Above, up, climb, top, is_in_chain}
-use Rattle.ac_tables.specs.Laws.{ChainIsAbove, TopIsRoot}
+use Rattle.ac_tables.specs.Trees.{LeadsUp, Above, up, climb, top, is_endless, is_in_chain}
+use Rattle.ac_tables.specs.World.{id_at, parent_of, root_of}
+use Rattle.ac_tables.specs.CloudWorld.{providers_of}
+use Rattle.ac_tables.specs.Laws.{ChainIsAbove, CloudIsForest, TopIsRoot}
 use Rattle.ac_tables.proofs.PlaceTrees.{above_climb}
 use Rattle.ac_tables.proofs.AncestorFacts.{chain_here, chain_ends, chain_goes, chain_last}
+use Rattle.ac_tables.proofs.CloudFacts.{inside, parent_here, root_here, root_inside, parts}
 
 some_or_none : (o : Option ℕ) → ((q : ℕ) × (o ≡ Some q)) ⊎ (o ≡ None)
 some_or_none None = inr refl
@@ -65,3 +68,20 @@ only_top parent (suc k) p r (q ∷ path) ends leads none =
 pub top_is_root : TopIsRoot
 top_is_root parent count p ends =
     (record { above = above_climb parent count p; ends = none_is (parent (top parent count p)) ends }, λ r root. only_top parent count p r root.above.0 ends root.above.1 root.ends)
+
+pub cloud_is_forest : CloudIsForest
+cloud_is_forest c ix h =
+    let all = providers_of c in
+    let id = id_at all ix in
+    let k : ix < length c.ids.ids.items = inside c ix h in
+    let none : parent_of all (root_of all id) ≡ None =
+    ap (parent_of all) (sym (root_here c ix k)) ∙ parent_here c (get_or c.roots.items ix 0) (root_inside c ix k)
+    ∙ ap (option_map (λ j. get_or c.ids.ids.items j 0)) ((parts c).ends ix k) in
+    let ends : is_endless (parent_of all) (length all) id ≡ false = ap is_some none in
+    let tops = top_is_root (parent_of all) (length all) id ends in
+    record {
+      root = tops.0;
+      only = tops.1;
+      above = λ a. (chain_is_above (parent_of all) (length all) a id ends).0;
+      found = λ a. (chain_is_above (parent_of all) (length all) a id ends).1;
+    }

@@ -5,7 +5,7 @@ use Rattle.std.proofs.lemmas.Cmp.{nat_cmp_total}
 use Rattle.std.proofs.lemmas.List.{get_or-map, length-map}
 use Rattle.ac_tables.specs.Checks.{Row}
 use Rattle.ac_tables.specs.CloudWorld.{providers_of}
-use Rattle.ac_tables.specs.Gathered.{IsRising}
+use Rattle.ac_tables.specs.RisingIds.{IsRising}
 use Rattle.ac_tables.specs.Laws.{AreProviders, ProvidersInOrder, CloudInOrder}
 use Rattle.ac_tables.specs.ProviderTable.{listed_of}
 use Rattle.ac_tables.specs.Tables.{ids_of, gathered, world_stated}

@@ -8,7 +8,7 @@ use Rattle.std.specs.List.Sorted.{IsBinarySearchResult, IsStrictlySortedBy}
 use Rattle.std.proofs.lemmas.Bool.{cases_Bool, cases_eq}
 use Rattle.std.proofs.lemmas.List.Sorted.{searched}
 use Rattle.std.proofs.lemmas.Map.Keys.{below_from_sorted}
-use Rattle.ac_tables.specs.Gathered.{IsRising}
+use Rattle.ac_tables.specs.RisingIds.{IsRising}
 use Rattle.ac_tables.specs.InventoryTable.{is_one_of}
 use Rattle.ac_tables.specs.Places.{rank}
 

@@ -1,6 +1,6 @@
 -- Binary search in a list whose keys rise.
 use Rattle.std.proofs.Common.{◌≡◌, ◌∙◌, ◌<◌, ◌≤◌, ◌+◌, ℕ, zero, suc, Bool, true, false, List, [], ◌∷◌, map, length, get_or, Some, None, refl, sym, ap, ap₂, arith, rules, Ordering, inl, inr, ◌⊎◌}
-use Rattle.std.specs.Prelude.{Result, Ok, Err, is_ok, ◌==◌, MatchResult, ◌||◌}
+use Rattle.std.specs.Prelude.{Result, Ok, Err, is_ok, ◌==◌, MatchResult, ◌||◌, if◌then◌else◌}
 use Rattle.std.specs.declared.cmp.Ordering.TheVariants.{Less, Equal, Greater}
 use Rattle.std.specs.Ordering.{is_lt, is_eq, ordering_reverse, nat_cmp}
 use Rattle.std.specs.Cmp.{IsTotalOrder}
@@ -12,6 +12,11 @@ use Rattle.std.proofs.lemmas.List.Folds.{list_any_at}
 use Rattle.std.proofs.lemmas.List.Sorted.{searchable_from_sorted}
 use Rattle.std.proofs.lemmas.Map.Keys.{Less-from_sorted}
 use Rattle.std.proofs.lemmas.Cmp.{alike_right}
+
+-- looking up by equal tests
+pub lookup_same : {K X : Type 0} (p q : K → Bool) (same : (k : K) → p k ≡ q k) (es : List (K × X)) → lookup p es ≡ lookup q es
+lookup_same p q same [] = refl
+lookup_same p q same (e ∷ es) = ap₂ (λ b o. if b then Some e.1 else o) (same e.0) (lookup_same p q same es)
 
 less_back : (p q : Ordering) → q ≡ ordering_reverse p → p ≡ Less → is_lt q ≡ false
 less_back Less Greater e h = refl

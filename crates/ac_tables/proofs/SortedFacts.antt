@@ -45,29 +45,30 @@ found_first : {X : Type 0} (b : Bool) (v : X) (o : Option X) → is_some (if b t
 found_first true v o = refl
 found_first false v o = refl
 
-again : (b c : Bool) → (b || c) ≡ (b || (b || c))
+pub again : (b c : Bool) → (b || c) ≡ (b || (b || c))
 again true c = refl
 again false c = refl
 
-swapped : (a b c : Bool) → (a || (b || c)) ≡ (b || (a || c))
+pub swapped : (a b c : Bool) → (a || (b || c)) ≡ (b || (a || c))
 swapped true true c = refl
 swapped true false c = refl
 swapped false b c = refl
 
-or_assoc : (a b c : Bool) → (a || (b || c)) ≡ ((a || b) || c)
+pub or_assoc : (a b c : Bool) → (a || (b || c)) ≡ ((a || b) || c)
 or_assoc true b c = refl
 or_assoc false b c = refl
 
-or_false : (b : Bool) → (b || false) ≡ b
+pub or_false : (b : Bool) → (b || false) ≡ b
 or_false true = refl
 or_false false = refl
 
--- a key is found after an insertion where it is the new one, or was there
+-- whether a key is found
 module _ {X : Type 0} (q : List ℕ) where
   abbrev is_there : TextMap X → Bool
   is_there es = is_some (lookup (is_at (text_cmp q)) es)
 
-  there_after : (es : TextMap X) (k : List ℕ) (v : X) → is_there (insert_entry text_cmp es k v) ≡ (is_at (text_cmp q) k || is_there es)
+  -- a key is there after an insertion where it is the new one, or was there
+  pub there_after : (es : TextMap X) (k : List ℕ) (v : X) → is_there (insert_entry text_cmp es k v) ≡ (is_at (text_cmp q) k || is_there es)
   there_after [] k v = found_first (is_at (text_cmp q) k) v None
   there_after (e ∷ es) k v = by_order (text_cmp k e.0) refl (there_after es k v)
     where

@@ -2,7 +2,6 @@
 use Rattle.std.proofs.Common.{◌≡◌, ◌<◌, ◌+◌, ◌∙◌, ℕ, List, [], ◌∷◌, map, length, get_or, refl, sym, ap, ap₂, arith}
 use Rattle.std.specs.Option.{option_and_then}
 use Rattle.std.specs.List.{sum_by, fold}
-use Rattle.std.specs.BTreeSet.{BTreeSet}
 use Rattle.std.proofs.lemmas.List.{get_or-map}
 use Rattle.ac_base.specs.Quantities.{Stock}
 use Rattle.ac_tables.specs.Sorted.{TextMap}
@@ -14,11 +13,12 @@ use Rattle.ac_tables.specs.TraitTable.{marks_of}
 use Rattle.ac_tables.specs.AggregateTable.{memberships_of}
 use Rattle.ac_tables.specs.Kin.{AreKin}
 use Rattle.ac_tables.specs.World.{Provider, Sizes}
-use Rattle.ac_tables.specs.Lists.{zip_used}
+use Rattle.ac_tables.specs.EntryLists.{with_used_lists}
 use Rattle.ac_tables.specs.Numbered.{numbered_at, numbered}
 use Rattle.ac_tables.specs.Tables.{Tables, stocks_of, amounts_of, names_of, aggregates_of, with_used, gathered}
 use Rattle.ac_tables.proofs.BuildFacts.{agree}
-use Rattle.ac_tables.proofs.GatherLists.{zip_maps, by_places}
+use Rattle.ac_tables.proofs.JoinFacts.{zip_maps}
+use Rattle.ac_tables.proofs.ListFacts.{by_places}
 
 same_provider : (p q : Provider) → p.id ≡ q.id → p.parent ≡ q.parent → p.holdings ≡ q.holdings → p.traits ≡ q.traits → p.aggregates ≡ q.aggregates → p ≡ q
 same_provider p q e1 e2 e3 e4 e5 = λ i. record { id = e1 i; parent = e2 i; holdings = e3 i; traits = e4 i; aggregates = e5 i }
@@ -26,16 +26,16 @@ same_provider p q e1 e2 e3 e4 e5 = λ i. record { id = e1 i; parent = e2 i; hold
 pub stated : (t : Tables) (ids : List ℕ) (us : List (TextMap ℕ)) (ss : List (TextMap Stock)) (ns : List (List (List ℕ))) (gs : List (List ℕ)) → AreKin ids (listed_of t.providers)
     → us ≡ map (amounts_of (usages_of t.usages)) ids → ss ≡ map (stocks_of (holdings_of t.inventories)) ids → ns ≡ map (names_of (marks_of t.traits)) ids
     → gs ≡ map (aggregates_of (memberships_of t.aggregates)) ids
-    → numbered ids (map (λ id. option_and_then (rank ids) (listed_parent (listed_of t.providers) id)) ids) (zip_used us ss) ns gs ≡ map (gathered t) ids
+    → numbered ids (map (λ id. option_and_then (rank ids) (listed_parent (listed_of t.providers) id)) ids) (with_used_lists us ss) ns gs ≡ map (gathered t) ids
 unfolding numbered
 stated t ids us ss ns gs kin eu es en ea =
     let parents = map (λ id. option_and_then (rank ids) (listed_parent (listed_of t.providers) id)) ids in
-    let held : zip_used us ss ≡ map (λ id. with_used (amounts_of (usages_of t.usages) id) (stocks_of (holdings_of t.inventories) id)) ids =
-    ap₂ zip_used eu es ∙ zip_maps (amounts_of (usages_of t.usages)) (stocks_of (holdings_of t.inventories)) ids in
-    by_places (numbered_at ids parents (zip_used us ss) ns gs) (gathered t) 0 ids
+    let held : with_used_lists us ss ≡ map (λ id. with_used (amounts_of (usages_of t.usages) id) (stocks_of (holdings_of t.inventories) id)) ids =
+    ap₂ with_used_lists eu es ∙ zip_maps (amounts_of (usages_of t.usages)) (stocks_of (holdings_of t.inventories)) ids in
+    by_places (numbered_at ids parents (with_used_lists us ss) ns gs) (gathered t) 0 ids
     (λ (i : ℕ) (h : i < length ids).
-    ap (numbered_at ids parents (zip_used us ss) ns gs) (omega arith)
-    ∙ same_provider (numbered_at ids parents (zip_used us ss) ns gs i) (gathered t (get_or ids i 0)) refl
+    ap (numbered_at ids parents (with_used_lists us ss) ns gs) (omega arith)
+    ∙ same_provider (numbered_at ids parents (with_used_lists us ss) ns gs i) (gathered t (get_or ids i 0)) refl
     (sym (agree ids (listed_of t.providers) kin parents refl i h))
     (ap (λ l. get_or l i []) held ∙ get_or-map (λ id. with_used (amounts_of (usages_of t.usages) id) (stocks_of (holdings_of t.inventories) id)) ids i 0 [] h)
     (ap (λ l. get_or l i []) en ∙ get_or-map (names_of (marks_of t.traits)) ids i 0 [] h)
@@ -45,15 +45,15 @@ sum_map : {A B : Type 0} (f : B → ℕ) (g : A → B) (k : ℕ) (xs : List A) �
 sum_map f g k [] = refl
 sum_map f g k (x ∷ xs) = sum_map f g (k + f (g x)) xs
 
--- how many keys there are in all sets
-pub counted : {K L : Type 0} (show : BTreeSet K → List L) (same : (s : BTreeSet K) → length (show s) ≡ length s.keys) (sets : List (BTreeSet K)) (gather : ℕ → List L) (ids : List ℕ) → map show sets ≡ map gather ids
-    → sum_by (λ s. length s.keys) sets ≡ sum_by (λ id. length (gather id)) ids
-counted show same sets gather ids e = same_sums show same 0 sets ∙ sym (sum_map length show 0 sets) ∙ ap (sum_by length) e ∙ sum_map length gather 0 ids
+-- how many items there are in all lists
+pub counted : {X Y : Type 0} (show : List X → List Y) (same : (l : List X) → length (show l) ≡ length l) (lists : List (List X)) (gather : ℕ → List Y) (ids : List ℕ) → map show lists ≡ map gather ids
+    → sum_by length lists ≡ sum_by (λ id. length (gather id)) ids
+counted show same lists gather ids e = same_sums show same 0 lists ∙ sym (sum_map length show 0 lists) ∙ ap (sum_by length) e ∙ sum_map length gather 0 ids
   where
-    same_sums : {K L : Type 0} (show : BTreeSet K → List L) (same : (s : BTreeSet K) → length (show s) ≡ length s.keys) (k : ℕ) (sets : List (BTreeSet K))
-        → fold (λ a s. a + length s.keys) k sets ≡ fold (λ a s. a + length (show s)) k sets
+    same_sums : {X Y : Type 0} (show : List X → List Y) (same : (l : List X) → length (show l) ≡ length l) (k : ℕ) (lists : List (List X))
+        → fold (λ a l. a + length l) k lists ≡ fold (λ a l. a + length (show l)) k lists
     same_sums show same k [] = refl
-    same_sums show same k (s ∷ sets) = ap (λ (n : ℕ). fold (λ a x. a + length x.keys) (k + n) sets) (sym (same s)) ∙ same_sums show same (k + length (show s)) sets
+    same_sums show same k (l ∷ lists) = ap (λ (n : ℕ). fold (λ a x. a + length x) (k + n) lists) (sym (same l)) ∙ same_sums show same (k + length (show l)) lists
 
 pub same_sizes : (a b : Sizes) → a.providers ≡ b.providers → a.inventories ≡ b.inventories → a.usages ≡ b.usages → a.traits ≡ b.traits → a.aggregates ≡ b.aggregates → a ≡ b
 same_sizes a b e1 e2 e3 e4 e5 = λ i. record { providers = e1 i; inventories = e2 i; usages = e3 i; traits = e4 i; aggregates = e5 i }

@@ -8,7 +8,7 @@ use Rattle.std.proofs.lemmas.List.{length-map}
 use Rattle.ac_tables.specs.Sorted.{TextMap}
 use Rattle.ac_tables.specs.Trees.{top}
 use Rattle.ac_tables.specs.Places.{rank, parent_in, AreWithin}
-use Rattle.ac_tables.specs.Gathered.{IsRising}
+use Rattle.ac_tables.specs.RisingIds.{IsRising}
 use Rattle.ac_tables.specs.World.{Held, Provider, no_provider, provider_at, is_provider, place_of, parent_of, root_of}
 use Rattle.ac_tables.specs.Numbered.{numbered_at, numbered}
 use Rattle.ac_tables.proofs.Rising.{rank_at}

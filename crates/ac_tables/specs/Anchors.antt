@@ -1,10 +1,12 @@
 -- The roots of the trees that aggregates join, by places.
-use Rattle.std.specs.Prelude.{◌≡◌, ◌<◌, ℕ, Bool, ◌&&◌, ◌==◌, false, List, [], ◌∷◌, map, length, get_or, Option, Some, None}
+use Rattle.std.specs.Prelude.{◌≡◌, ◌<◌, ℕ, Bool, ◌&&◌, ◌==◌, false, not, if◌then◌else◌, codes, List, [], ◌∷◌, map, length, get_or, Option, Some, None}
 use Rattle.std.specs.Global.{Vec}
 use Rattle.std.specs.List.{list_any, filter, range_with_len}
 use Rattle.std.specs.Ordering.{nat_cmp}
 use Rattle.std.specs.BTreeMap.{BTreeMap, get}
-use Rattle.ac_tables.specs.declared.ordered.TraitList.{TraitList}
+use Rattle.std.specs.Str.{bytes_eq}
+use Rattle.ac_base.specs.Names.{trait_bytes}
+use Rattle.ac_base.specs.declared.name.TraitName.{TraitName}
 
 -- the roots of an aggregate, where some were gathered
 abbrev pub roots_in : Option (Vec ℕ) → List ℕ
@@ -48,10 +50,38 @@ list_items list = list.items
 abbrev pub list_of : List (Vec ℕ) → ℕ → List ℕ
 list_of lists k = get_or (map list_items lists) k []
 
+-- the lists of those providers that have one are those of the aggregates that were asked
+abbrev pub AreAsked : List ℕ → List (List ℕ) → List (List ℕ) → List (Vec ℕ) → List (Option ℕ) → Type 0
+AreAsked roots aggregates asked lists places = (j k : ℕ) → j < length places → get_or places j None ≡ Some k → (k < length lists) × (list_of lists k ≡ joined roots aggregates (get_or asked j []))
+
 -- the lists of those providers that have one are those of their aggregates
 abbrev pub AreJoined : List ℕ → List (List ℕ) → List (Vec ℕ) → List (Option ℕ) → Type 0
-AreJoined roots aggregates lists places = (j k : ℕ) → j < length places → get_or places j None ≡ Some k → (k < length lists) × (list_of lists k ≡ joined roots aggregates (get_or aggregates j []))
+AreJoined roots aggregates lists places = AreAsked roots aggregates aggregates lists places
+
+-- an aggregate of these roots is of one tree
+abbrev pub is_lone : List ℕ → Bool
+is_lone roots = length roots == 1
+
+-- the aggregates among these that are of several trees
+abbrev pub wide : BTreeMap ℕ (Vec ℕ) → List ℕ → List ℕ
+wide groups ids = filter (λ a. not (is_lone (roots_in (get nat_cmp groups a)))) ids
+
+-- the aggregates of a provider, where it shares
+abbrev pub shared_ids : Bool → List ℕ → List ℕ
+shared_ids shares ids = if shares then ids else []
+
+-- those of the provider at a place through which it may share with another tree
+abbrev pub asked_at : BTreeMap ℕ (Vec ℕ) → List Bool → List (List ℕ) → ℕ → List ℕ
+asked_at groups sharing aggregates j = wide groups (shared_ids (get_or sharing j false) (get_or aggregates j []))
 
 -- the provider at a place shares through some aggregate
-abbrev pub is_marked : List TraitList → List (List ℕ) → ℕ → Bool
-is_marked traits aggregates j = is_joining (get_or (map (λ t. t.shares) traits) j false) (get_or aggregates j [])
+abbrev pub is_marked : List Bool → List (List ℕ) → ℕ → Bool
+is_marked sharing aggregates j = is_joining (get_or sharing j false) (get_or aggregates j [])
+
+-- a provider of these traits shares what it has
+abbrev pub shares_by : List TraitName → Bool
+shares_by names = list_any (λ name. bytes_eq (codes "MISC_SHARES_VIA_AGGREGATE") (trait_bytes name)) names
+
+-- the aggregates of a provider join no tree but its own
+abbrev pub IsAlone : List ℕ → List (List ℕ) → ℕ → Type 0
+IsAlone roots aggregates j = joined roots aggregates (get_or aggregates j []) ≡ get_or roots j 0 ∷ []

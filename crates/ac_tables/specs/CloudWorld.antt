@@ -1,7 +1,9 @@
 -- The world that a cloud stands for.
 use Rattle.std.specs.Prelude.{List, map}
 use Rattle.ac_tables.specs.World.{Provider, Sizes, World}
-use Rattle.ac_tables.specs.Lists.{held_list, name_list, id_list}
+use Rattle.ac_base.specs.Names.{trait_bytes}
+use Rattle.ac_tables.specs.Entries.{entry_pair}
+use Rattle.ac_tables.specs.ListsOf.{lists_of}
 use Rattle.ac_tables.specs.Numbered.{numbered}
 use Rattle.ac_tables.specs.declared.cloud.Cloud.{Cloud}
 use Rattle.ac_tables.specs.declared.cloud.Counts.{Counts}
@@ -11,8 +13,8 @@ abbrev pub sizes_of : Counts → Sizes
 sizes_of c = record { providers = c.providers; inventories = c.inventories; usages = c.usages; traits = c.traits; aggregates = c.aggregates }
 
 -- the providers of a cloud, in the order of their ids
-abbrev pub providers_of : Cloud → List Provider
-providers_of cloud = numbered cloud.ids.ids.items cloud.parents.items (map held_list cloud.entries.items) (map name_list cloud.traits.items) (map id_list cloud.aggregates.items)
+unfoldable pub providers_of : Cloud → List Provider
+providers_of cloud = numbered cloud.ids.ids.items cloud.parents.items (map (map entry_pair) (lists_of cloud.entries)) (map (map trait_bytes) (lists_of cloud.traits)) (lists_of cloud.aggregates)
 
 -- the world of a cloud
 abbrev pub world_of : Cloud → World

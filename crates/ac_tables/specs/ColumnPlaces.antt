@@ -7,11 +7,11 @@ use Rattle.ac_tables.specs.ProviderTable.{uuid_name, root_name, parent_name}
 use Rattle.ac_tables.specs.InventoryTable.{provider_name, class_name, total_name, reserved_name, min_unit_name, max_unit_name, step_size_name, ratio_name}
 use Rattle.ac_tables.specs.UsageTable.{usage_name}
 use Rattle.ac_tables.specs.TraitTable.{name_name}
-use Rattle.ac_tables.specs.declared.usage.UsageColumns.{UsageColumns}
-use Rattle.ac_tables.specs.declared.mark.MarkColumns.{MarkColumns}
-use Rattle.ac_tables.specs.declared.membership.MembershipColumns.{MembershipColumns}
-use Rattle.ac_tables.specs.declared.holding.HoldingColumns.{HoldingColumns}
-use Rattle.ac_tables.specs.declared.listed.ListedColumns.{ListedColumns}
+use Rattle.ac_tables.specs.declared.tables.usage_record.UsageColumns.{UsageColumns}
+use Rattle.ac_tables.specs.declared.tables.trait_record.MarkColumns.{MarkColumns}
+use Rattle.ac_tables.specs.declared.tables.aggregate_record.MembershipColumns.{MembershipColumns}
+use Rattle.ac_tables.specs.declared.tables.inventory_record.HoldingColumns.{HoldingColumns}
+use Rattle.ac_tables.specs.declared.tables.provider_record.ListedColumns.{ListedColumns}
 
 -- the place of a column that is there
 abbrev pub place_in : Row → List ℕ → ℕ

@@ -2,7 +2,7 @@
 use Rattle.std.specs.Prelude.{ℕ, List}
 use Rattle.ac_base.specs.Names.{class_bytes}
 use Rattle.ac_tables.specs.World.{Held}
-use Rattle.ac_tables.specs.declared.entry.Entry.{Entry}
+use Rattle.ac_tables.specs.declared.cloud.entry.Entry.{Entry}
 
 -- its class
 abbrev pub entry_class : Entry → List ℕ

@@ -1,21 +1,32 @@
 //! The cloud that accepted tables state.
-ghost use Rattle.std.specs.Prelude.{◌==◌, ◌≡◌, ◌<◌, ℕ, Option, None, Some, map, length, get_or, IfSome};
-ghost use Rattle.std.specs.Option.{is_some, option_map, option_copied};
+
+pub(crate) mod ancestry;
+pub(crate) mod anchors;
+pub(crate) mod build;
+pub(crate) mod draft;
+pub(crate) mod entries;
+pub mod entry;
+pub(crate) mod kept_lists;
+pub(crate) mod lookups;
+pub(crate) mod parents;
+pub(crate) mod provider_index;
+pub(crate) mod roots;
+pub(crate) mod roots_by_aggregate;
+
+ghost use Rattle.std.specs.Prelude.{◌≡◌, ◌<◌, Some, None, map, length, IfSome};
+ghost use Rattle.std.specs.Option.{option_map, option_copied};
 ghost use Rattle.ac_base.specs.Names.{class_bytes, trait_bytes};
-ghost use Rattle.ac_tables.specs.Trees.{top};
-ghost use Rattle.ac_tables.specs.Places.{parent_in, AreWithin};
-ghost use Rattle.ac_tables.specs.Anchors.{is_marked, AreJoined};
-ghost use Rattle.ac_tables.specs.Lists.{id_list};
-ghost use Rattle.ac_tables.specs.Visits.{IsWalk};
-ghost use Rattle.std.proofs.Props.{props};
+ghost use Rattle.ac_tables.specs.CloudParts.{BelongTogether, BelongTogether-prop};
+ghost use Rattle.ac_tables.specs.ListsOf.{lists_of};
 ghost use Rattle.ac_tables.specs.Entries.{entry_pair, entry_held};
 ghost use Rattle.ac_tables.specs.World.{provider_at, id_at, place_of, parent_of, root_of, is_above, held_of, used_of, has_trait, is_member, shares, is_available_at, anchors_of};
 
-use crate::anchors::Anchors;
-use crate::entry::Entry;
-use crate::ids::Ids;
-use crate::ordered::{AggregateList, EntryList, TraitList};
-use crate::visits::Visits;
+use crate::cloud::ancestry::Visits;
+use crate::cloud::anchors::Anchors;
+use crate::cloud::entry::Entry;
+use crate::cloud::lookups::{find_entry, has_id, has_name};
+use crate::cloud::provider_index::Ids;
+use crate::reader::lists::Lists;
 use ac_base::{ClassName, Id, Inventory, TraitName};
 
 /// How much the tables tell.
@@ -39,29 +50,18 @@ pub struct Cloud {
     pub(crate) ids: Ids,
     pub(crate) parents: Vec<Option<u32>>,
     pub(crate) roots: Vec<u32>,
-    pub(crate) entries: Vec<EntryList>,
-    pub(crate) traits: Vec<TraitList>,
-    pub(crate) aggregates: Vec<AggregateList>,
+    pub(crate) entries: Lists<Entry>,
+    pub(crate) traits: Lists<TraitName>,
+    pub(crate) aggregates: Lists<Id>,
+    pub(crate) sharing: Vec<bool>,
     pub(crate) anchors: Anchors,
     pub(crate) visits: Option<Visits>,
     pub(crate) counts: Counts,
-    ghost with_parents: { length parents.items ≡ length ids.ids.items },
-    ghost with_roots: { length roots.items ≡ length ids.ids.items },
-    ghost with_entries: { length entries.items ≡ length ids.ids.items },
-    ghost with_traits: { length traits.items ≡ length ids.ids.items },
-    ghost with_aggregates: { length aggregates.items ≡ length ids.ids.items },
-    ghost within: { AreWithin (length ids.ids.items) parents.items },
-    ghost rooted: { (i : ℕ) → i < length ids.ids.items → get_or roots.items i 0 ≡ top (parent_in parents.items) (length ids.ids.items) i },
-    ghost with_anchors: { length anchors.places.items ≡ length ids.ids.items },
-    ghost joined: { AreJoined roots.items (map id_list aggregates.items) anchors.lists.items anchors.places.items },
-    ghost marked: { (j : ℕ) → j < length ids.ids.items → is_some (get_or anchors.places.items j None) ≡ is_marked traits.items (map id_list aggregates.items) j },
-    ghost visited: { IfSome visits (λ v. IsWalk parents.items v.entered.items v.left.items) } by { Prim.hlevel props },
-    ghost ends: { (i : ℕ) → i < length ids.ids.items → parent_in parents.items (get_or roots.items i 0) ≡ None },
+    ghost whole: { BelongTogether ids.ids.items parents.items roots.items (lists_of entries) (lists_of traits) (lists_of aggregates) sharing.items anchors visits } by { BelongTogether-prop ids.ids.items parents.items roots.items (lists_of entries) (lists_of traits) (lists_of aggregates) sharing.items anchors visits },
 }
 
 impl Cloud {
     ghost use Rattle.ac_tables.specs.CloudWorld.{providers_of, world_of, sizes_of};
-    ghost use Rattle.ac_tables.specs.Lists.{id_list};
 
     /// How many providers there are.
     pub fn len(&self) -> u32
@@ -119,7 +119,7 @@ impl Cloud {
         requires { ix < length (providers_of self.now) }
         ensures { map entry_pair result.now ≡ (provider_at (providers_of self.now) ix).holdings }
     {
-        self.entries[ix as usize].entries.as_slice()
+        self.entries.of(ix as usize)
     }
 
     /// A provider's traits in byte order, each once.
@@ -127,7 +127,7 @@ impl Cloud {
         requires { ix < length (providers_of self.now) }
         ensures { map trait_bytes result.now ≡ (provider_at (providers_of self.now) ix).traits }
     {
-        self.traits[ix as usize].names.as_slice()
+        self.traits.of(ix as usize)
     }
 
     // Where a class stands among a provider's entries.
@@ -135,7 +135,7 @@ impl Cloud {
         requires { ix < length (providers_of self.now) }
         ensures { option_map entry_held (option_copied result) ≡ held_of (provider_at (providers_of self.now) ix) (class_bytes class.now) }
     {
-        self.entries[ix as usize].find(class)
+        find_entry(self.entries.of(ix as usize), class)
     }
 
     /// A provider's inventory of a class, where it has one.
@@ -165,7 +165,7 @@ impl Cloud {
         requires { ix < length (providers_of self.now) }
         ensures { result ≡ has_trait (provider_at (providers_of self.now) ix) (trait_bytes name.now) }
     {
-        self.traits[ix as usize].has(name)
+        has_name(self.traits.of(ix as usize), name)
     }
 
     // A provider's aggregates, rising.
@@ -173,7 +173,7 @@ impl Cloud {
         requires { ix < length (providers_of self.now) }
         ensures { result.now ≡ (provider_at (providers_of self.now) ix).aggregates }
     {
-        self.aggregates[ix as usize].ids.as_slice()
+        self.aggregates.of(ix as usize)
     }
 
     /// Whether a provider itself belongs to an aggregate.
@@ -181,7 +181,7 @@ impl Cloud {
         requires { ix < length (providers_of self.now) }
         ensures { result ≡ is_member (provider_at (providers_of self.now) ix) aggregate }
     {
-        self.aggregates[ix as usize].has(aggregate)
+        has_id(self.aggregates.of(ix as usize), aggregate)
     }
 
     // Whether the parents of `b` lead to `a`.
@@ -220,7 +220,7 @@ impl Cloud {
         requires { ix < length (providers_of self.now) }
         ensures { result ≡ shares (provider_at (providers_of self.now) ix) }
     {
-        self.traits[ix as usize].shares
+        self.sharing[ix as usize]
     }
 
     /// Whether a provider is available in the tree of a root: it is of the tree, or shares with one of its providers.

@@ -1,5 +1,5 @@
 //! Laws of the definitions. Each function does nothing: its contract is the law.
-ghost use Rattle.ac_tables.specs.Laws.{ChainIsAbove, CloudInOrder, ProvidersInOrder, TopIsRoot};
+ghost use Rattle.ac_tables.specs.Laws.{ChainIsAbove, CloudInOrder, CloudIsForest, OrderHolds, ProvidersInOrder, TopIsRoot};
 
 /// Where a chain of parents ends, it holds just the providers that are above: a list of parents leads to them.
 pub fn chain_is_above()
@@ -19,4 +19,15 @@ pub fn providers_in_order()
 /// So do the providers of each cloud.
 pub fn cloud_in_order()
     ensures { CloudInOrder }
+{}
+
+/// In each cloud every chain of parents ends. So the root of a provider is above it and has no parent, no other provider is both, and the chain of
+/// its parents holds just those that are above it.
+pub fn cloud_is_forest()
+    ensures { CloudIsForest }
+{}
+
+/// What is gathered in order, of ids, of names or by class, rises, and is just what it was gathered of.
+pub fn order_holds()
+    ensures { OrderHolds }
 {}

@@ -3,41 +3,16 @@
 //! It knows nothing of queries or of searches.
 #![tactic(auto)]
 
-mod aggregates;
-mod anchors;
-mod build;
-mod climbing;
 pub mod cloud;
-mod columns;
-mod draft;
-pub mod entry;
 pub mod fault;
-mod fields;
-mod forest;
-mod groups;
-mod holding;
-mod ids;
-mod inventories;
-mod kept;
 pub mod laws;
-mod listed;
-mod lists;
-mod mark;
-mod membership;
-mod numbered;
-mod ordered;
-mod providers;
 pub mod read;
+mod reader;
 pub mod reading;
-mod roll;
-mod rows;
-mod traits;
-mod usage;
-mod usages;
-mod visits;
+mod tables;
 
+pub use cloud::entry::Entry;
 pub use cloud::{Cloud, Counts};
-pub use entry::Entry;
 pub use fault::{Table, TableFault, TableKind};
 pub use read::Sources;
 pub use reading::{ReadFault, drain};

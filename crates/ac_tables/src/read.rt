@@ -4,14 +4,14 @@ ghost use Rattle.ac_tables.specs.Checks.{Tells};
 ghost use Rattle.ac_tables.specs.Tables.{tables_fault, world_stated};
 ghost use Rattle.ac_tables.specs.SourceText.{text_or};
 
-use crate::aggregates::read_aggregates;
-use crate::build::Parts;
+use crate::cloud::build::Parts;
 use crate::cloud::{Cloud, Counts};
 use crate::fault::TableFault;
-use crate::inventories::read_inventories;
-use crate::providers::read_providers;
-use crate::traits::read_traits;
-use crate::usages::read_usages;
+use crate::tables::aggregates::read_aggregates;
+use crate::tables::inventories::Inventories;
+use crate::tables::providers::read_providers;
+use crate::tables::traits::read_traits;
+use crate::tables::usages::read_usages;
 use std::alloc::Global;
 
 /// The texts of the tables. A table that isn't there is its header alone.
@@ -59,35 +59,34 @@ impl Cloud {
             Err(fault) => return Err(fault),
         };
         let ids = roll.ids(alloc)?;
-        let (inventories, inventory_count) = match read_inventories(alloc, &ids, src.inventories) {
-            Ok(read) => read,
+        let inventories = match Inventories::read(alloc, ids, src.inventories) {
+            Ok(inventories) => inventories,
             Err(fault) => return Err(fault),
         };
         let text = text_or(src.usages, USAGES_HEADER);
-        let (usages, usage_count) = match read_usages(alloc, &ids, &inventories, text) {
-            Ok(read) => read,
+        let usages = match read_usages(alloc, &inventories, text) {
+            Ok(usages) => usages,
             Err(fault) => return Err(fault),
         };
         let text = text_or(src.traits, TRAITS_HEADER);
-        let traits = match read_traits(alloc, &ids, text) {
+        let traits = match read_traits(alloc, &inventories.ids, text) {
             Ok(traits) => traits,
             Err(fault) => return Err(fault),
         };
         let text = text_or(src.aggregates, AGGREGATES_HEADER);
-        let aggregates = match read_aggregates(alloc, &ids, text) {
+        let aggregates = match read_aggregates(alloc, &inventories.ids, text) {
             Ok(aggregates) => aggregates,
             Err(fault) => return Err(fault),
         };
         let counts = Counts {
-            providers: ids.len() as u32,
-            inventories: inventory_count,
-            usages: usage_count,
-            traits: traits.count,
-            aggregates: aggregates.count,
+            providers: inventories.ids.len() as u32,
+            inventories: inventories.rows.count() as u32,
+            usages: usages.count() as u32,
+            traits: traits.count() as u32,
+            aggregates: aggregates.count() as u32,
         };
         let parts = Parts {
             roll,
-            ids,
             inventories,
             usages,
             traits,

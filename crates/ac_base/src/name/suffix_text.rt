@@ -1,3 +1,4 @@
+//! Suffixes of request groups, read and written.
 ghost use Rattle.std.specs.Prelude.{◌≡◌, IfOk};
 ghost use Rattle.std.specs.Option.{option_map};
 ghost use Rattle.ac_base.specs.Texts.{suffix_value};

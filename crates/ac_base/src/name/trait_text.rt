@@ -1,3 +1,4 @@
+//! Names of traits, read and written.
 ghost use Rattle.std.specs.Prelude.{◌≡◌, IfOk};
 ghost use Rattle.std.specs.Option.{option_map};
 ghost use Rattle.ac_base.specs.Texts.{name_value};

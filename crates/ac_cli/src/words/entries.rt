@@ -44,7 +44,9 @@ fn query(alloc: Global, command: Command, entries: &ArgMatches<'_>) -> Result<St
 {
     match command {
         Command::Check => Ok(String::new(alloc)),
-        Command::Candidates | Command::Tokens | Command::Verify => needed(alloc, entries, "query"),
+        Command::Candidates | Command::Tokens | Command::Verify | Command::Explain => {
+            needed(alloc, entries, "query")
+        }
     }
 }
 
@@ -92,7 +94,7 @@ fn token(
     ensures { IfOk result (λ copy. token_of command (rows_of (found_of entries.now)) ≡ option_map string_bytes copy) }
 {
     match command {
-        Command::Check => Ok(None),
+        Command::Check | Command::Explain => Ok(None),
         Command::Candidates | Command::Tokens => copied(alloc, entries, "after"),
         Command::Verify => copied(alloc, entries, "token"),
     }
@@ -108,6 +110,7 @@ fn chosen<'m, 'a>(matches: &'m ArgMatches<'a>) -> (Command, &'m ArgMatches<'a>)
         Some(("candidates", entries)) => (Command::Candidates, entries),
         Some(("tokens", entries)) => (Command::Tokens, entries),
         Some(("verify", entries)) => (Command::Verify, entries),
+        Some(("explain", entries)) => (Command::Explain, entries),
         _ => unreachable!(),
     }
 }

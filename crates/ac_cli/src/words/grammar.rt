@@ -2,7 +2,7 @@
 ghost use Rattle.std.specs.Prelude.{◌≡◌, IfOk, false};
 ghost use Rattle.clap.specs.Words.{app_of, rule_of};
 ghost use Rattle.clap.specs.declared.builder.command.Command.TheViews.{out-Command as fields_of};
-ghost use Rattle.ac_cli.specs.Words.{check_app, needed_rule, option_rule, program, query_app, search_app, verify_app, with_options, with_tables, word_rule};
+ghost use Rattle.ac_cli.specs.Words.{check_app, explain_app, needed_rule, option_rule, program, query_app, search_app, verify_app, with_options, with_tables, word_rule};
 
 use clap::{Arg, Command};
 use std::alloc::{AllocError, Global};
@@ -11,7 +11,7 @@ use std::alloc::{AllocError, Global};
 const AFTER_HELP: &str = "\
 Exit status:
   0  written
-  1  `verify` says no
+  1  `verify` says no, or `explain` finds no candidate
   2  the command line was refused
   3  a table was refused, or could not be read
   4  the query was refused
@@ -22,6 +22,9 @@ Exit status:
 Example, at the top of the repository:
   ./ac_cli tokens 'resources=VCPU:2' \\
       --providers examples/providers.csv --inventories examples/inventories.csv";
+
+// The program's version, and that of the toolchain by which it is proved, as `rt version` prints it.
+const VERSION: &str = "1.0.0, proved with rattle-kit-13b logic dac8208d650f15bf";
 
 // A word that has to be given.
 fn word<'a>(alloc: Global, name: &'a str, shown: &'a str, help: &'a str) -> Arg<'a>
@@ -168,11 +171,24 @@ fn verify<'a>(alloc: Global) -> Result<Command<'a>, AllocError>
     add_options(alloc, command)
 }
 
+fn explain<'a>(alloc: Global) -> Result<Command<'a>, AllocError>
+    ensures app { IfOk result (λ c. app_of c ≡ explain_app) }
+    ensures local { IfOk result (λ c. (fields_of c).has_globals ≡ false) }
+{
+    let command = with_query(
+        alloc,
+        "explain",
+        "Writes how many providers and trees meet a query, rule by rule: why nothing is found",
+    )?;
+    add_options(alloc, command)
+}
+
 // The whole command line.
 pub fn program<'a>(alloc: Global) -> Result<Command<'a>, AllocError>
     ensures { IfOk result (λ c. app_of c ≡ program) }
 {
     let command = Command::new(alloc, "ac_cli")
+        .version(VERSION)
         .about(
             "Finds allocation candidates in exported Placement tables; without words, in a sample",
         )
@@ -190,5 +206,6 @@ pub fn program<'a>(alloc: Global) -> Result<Command<'a>, AllocError>
         "Writes the candidates for a query, one a line: the UUIDs of their providers",
     )?)?;
     let command = command.subcommand(verify(alloc)?)?;
+    let command = command.subcommand(explain(alloc)?)?;
     Ok(command)
 }

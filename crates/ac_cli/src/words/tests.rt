@@ -26,7 +26,7 @@ fn fault_of(alloc: Global, line: &str) -> Result<Option<WordFault>, AllocError> 
 fn help(alloc: Global, line: &str) -> Result<Option<String>, AllocError> {
     Ok(match fault_of(alloc, line)? {
         Some(WordFault::Help(text)) => Some(text),
-        Some(WordFault::Refused(_text)) => None,
+        Some(WordFault::Version(_text)) | Some(WordFault::Refused(_text)) => None,
         Some(WordFault::NoMemory) | None => None,
     })
 }
@@ -34,7 +34,7 @@ fn help(alloc: Global, line: &str) -> Result<Option<String>, AllocError> {
 fn refusal(alloc: Global, line: &str) -> Result<Option<String>, AllocError> {
     Ok(match fault_of(alloc, line)? {
         Some(WordFault::Refused(text)) => Some(text),
-        Some(WordFault::Help(_text)) => None,
+        Some(WordFault::Version(_text)) | Some(WordFault::Help(_text)) => None,
         Some(WordFault::NoMemory) | None => None,
     })
 }
@@ -128,6 +128,21 @@ fn verify(rt: HostRuntime) -> Result<(), Fail> {
     for line in lines.as_slice() {
         assert!(rt;
             asks(rt.alloc(), line, Command::Verify, "q", Some("t"))?,
+            "{line}"
+        );
+    }
+    Ok(())
+}
+
+#[test]
+fn explain(rt: HostRuntime) -> Result<(), Fail> {
+    let lines = [
+        "ac_cli explain q --providers a --inventories b",
+        "ac_cli explain --inventories=b --traits c --providers=a q",
+    ];
+    for line in lines.as_slice() {
+        assert!(rt;
+            asks(rt.alloc(), line, Command::Explain, "q", None)?,
             "{line}"
         );
     }
@@ -274,11 +289,13 @@ fn help_is_answered(rt: HostRuntime) -> Result<(), Fail> {
         "ac_cli tokens -h",
         "ac_cli help verify",
         "ac_cli verify q --help",
+        "ac_cli help explain",
+        "ac_cli explain --help",
     ];
     let told = [
         "Exit status:",
         "  0  written",
-        "  1  `verify` says no",
+        "  1  `verify` says no, or `explain` finds no candidate",
         "  2  the command line was refused",
         "  3  a table was refused, or could not be read",
         "  4  the query was refused",
@@ -317,6 +334,7 @@ fn help_tells_the_commands(rt: HostRuntime) -> Result<(), Fail> {
         "  candidates  Writes the candidates for a query as JSON, with summaries of their providers",
         "  tokens      Writes the candidates for a query, one a line: the UUIDs of their providers",
         "  verify      Writes whether a token is a candidate for a query, or which rule refuses it",
+        "  explain     Writes how many providers and trees meet a query, rule by rule: why nothing is found",
     ];
     assert!(rt; tells(rt.alloc(), "ac_cli --help", told.as_slice())?);
     Ok(())
@@ -351,6 +369,7 @@ fn help_tells_the_options(rt: HostRuntime) -> Result<(), Fail> {
         "ac_cli help candidates",
         "ac_cli help tokens",
         "ac_cli help verify",
+        "ac_cli help explain",
     ];
     for line in commands.as_slice() {
         assert!(rt; tells(rt.alloc(), line, options.as_slice())?, "{line}");
@@ -369,9 +388,13 @@ fn help_tells_the_usage(rt: HostRuntime) -> Result<(), Fail> {
     let verify = [
         "Usage: ac_cli verify [OPTIONS] --providers <FILE> --inventories <FILE> <QUERY> <TOKEN>",
     ];
+    let explain = [
+        "Usage: ac_cli explain [OPTIONS] --providers <FILE> --inventories <FILE> <QUERY>",
+    ];
     assert!(rt; tells(rt.alloc(), "ac_cli help check", check.as_slice())?);
     assert!(rt; tells(rt.alloc(), "ac_cli help tokens", tokens.as_slice())?);
     assert!(rt; tells(rt.alloc(), "ac_cli help verify", verify.as_slice())?);
+    assert!(rt; tells(rt.alloc(), "ac_cli help explain", explain.as_slice())?);
     Ok(())
 }
 
@@ -381,7 +404,6 @@ fn other_words_are_refused(rt: HostRuntime) -> Result<(), Fail> {
         "ac_cli",
         "ac_cli other",
         "ac_cli help other",
-        "ac_cli --version",
         "ac_cli --providers a tokens q --inventories b",
         "ac_cli check",
         "ac_cli check --providers a",
@@ -404,6 +426,9 @@ fn other_words_are_refused(rt: HostRuntime) -> Result<(), Fail> {
         "ac_cli verify q -t --providers a --inventories b",
         "ac_cli verify q t t --providers a --inventories b",
         "ac_cli verify q t --providers a --inventories b --after t",
+        "ac_cli explain --providers a --inventories b",
+        "ac_cli explain q t --providers a --inventories b",
+        "ac_cli explain q --providers a --inventories b --after t",
     ];
     for line in lines.as_slice() {
         assert!(rt; refusal(rt.alloc(), line)?.is_some(), "{line}");

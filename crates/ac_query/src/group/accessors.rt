@@ -29,7 +29,8 @@ impl Need {
 impl AnyOf {
     /// The traits, in byte order, each once.
     pub fn names(&self) -> &[TraitName]
-        ensures { map trait_bytes result.now ≡ any_of_shown self.now }
+        ensures names { map trait_bytes result.now ≡ any_of_shown self.now }
+        ensures rising { IsStrictlySortedBy text_cmp (map trait_bytes result.now) }
     {
         self.names.as_slice()
     }
@@ -69,14 +70,16 @@ impl Group {
 
     /// The traits that it requires, in byte order, each once.
     pub fn required(&self) -> &[TraitName]
-        ensures { map trait_bytes result.now ≡ (group_asked self.now).required }
+        ensures names { map trait_bytes result.now ≡ (group_asked self.now).required }
+        ensures rising { IsStrictlySortedBy text_cmp (map trait_bytes result.now) }
     {
         self.required.as_slice()
     }
 
     /// The traits that it forbids, in byte order, each once.
     pub fn forbidden(&self) -> &[TraitName]
-        ensures { map trait_bytes result.now ≡ (group_asked self.now).forbidden }
+        ensures names { map trait_bytes result.now ≡ (group_asked self.now).forbidden }
+        ensures rising { IsStrictlySortedBy text_cmp (map trait_bytes result.now) }
     {
         self.forbidden.as_slice()
     }

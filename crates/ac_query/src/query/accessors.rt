@@ -1,3 +1,4 @@
+//! What a query tells of itself.
 ghost use Rattle.std.specs.Prelude.{◌≡◌, ◌<◌, ◌≤◌, map, length, sum_by, Some, IsSome};
 ghost use Rattle.std.specs.List.{slice_get};
 ghost use Rattle.std.specs.List.Sorted.{IsStrictlySortedBy};
@@ -73,14 +74,16 @@ impl Query {
 
     /// The traits that a root is to have, in byte order, each once.
     pub fn root_required(&self) -> &[TraitName]
-        ensures { map trait_bytes result.now ≡ (asked_of self.now).root_required }
+        ensures names { map trait_bytes result.now ≡ (asked_of self.now).root_required }
+        ensures rising { IsStrictlySortedBy text_cmp (map trait_bytes result.now) }
     {
         self.root_required.as_slice()
     }
 
     /// The traits that a root may not have, in byte order, each once.
     pub fn root_forbidden(&self) -> &[TraitName]
-        ensures { map trait_bytes result.now ≡ (asked_of self.now).root_forbidden }
+        ensures names { map trait_bytes result.now ≡ (asked_of self.now).root_forbidden }
+        ensures rising { IsStrictlySortedBy text_cmp (map trait_bytes result.now) }
     {
         self.root_forbidden.as_slice()
     }

@@ -1,5 +1,5 @@
 //! Many groups over hosts that are full.
-use super::{Left, SOUND, run_texts, texts_under_headers};
+use super::{Left, SOUND, expect_left, run_texts, texts_under_headers};
 use crate::job::{Command, Job};
 use ac_query::Version;
 use std::alloc::{AllocError, Global};
@@ -55,8 +55,6 @@ fn left_of_full_hosts(alloc: Global) -> Result<Left, AllocError> {
 #[test]
 fn sixty_four_groups_over_full_hosts(rt: HostRuntime) -> Result<(), Fail> {
     let left = left_of_full_hosts(rt.alloc())?;
-    assert_eq!(rt; left.output.as_str(), "");
-    assert_eq!(rt; left.line.as_str(), "");
-    assert_eq!(rt; left.status, 0);
+    expect_left(&rt, &left, "", "", 0, 0);
     Ok(())
 }

@@ -1,5 +1,5 @@
 //! The tables of one provider, cut off after each byte.
-use super::{ONE, SOUND, Turns, expanded, run_over};
+use super::{ONE, SOUND, Turns, expanded, expect_left, run_over};
 use crate::job::Command;
 use std::process::Abort;
 use std::test::Fail;
@@ -56,10 +56,8 @@ fn check(
         turns,
     )?;
     let output = expanded(alloc, output)?;
-    assert_eq!(rt; left.output.as_str(), output.as_str(), "cut after {length}");
-    assert_eq!(rt; left.line.as_str(), line, "cut after {length}");
     let status = if line.is_empty() { 0 } else { 3 };
-    assert_eq!(rt; left.status, status, "cut after {length}");
+    expect_left(rt, &left, output.as_str(), line, status, length);
     Ok(())
 }
 

@@ -1,5 +1,7 @@
 //! Devices that fail.
-use super::{ONE, ONE_BODY, SOUND, Texts, Turns, alike, expanded, run_over, texts_of};
+use super::{
+    Left, ONE, ONE_BODY, SOUND, Texts, Turns, alike, expanded, expect_left, run_over, texts_of,
+};
 use crate::job::Command;
 use ac_base::Turn;
 use ac_tables::Table;
@@ -15,9 +17,7 @@ fn a_feed_that_fails_is_not_at_its_end(rt: HostRuntime) -> Result<(), Fail> {
         ..SOUND
     };
     let left = run_over(rt.alloc(), &ONE, Command::Tokens, QUERY, None, turns)?;
-    assert_eq!(rt; left.output.as_str(), "");
-    assert_eq!(rt; left.line.as_str(), "inventories: Unreadable\n");
-    assert_eq!(rt; left.status, 3);
+    expect_left(&rt, &left, "", "inventories: Unreadable\n", 3, 0);
     Ok(())
 }
 
@@ -28,9 +28,7 @@ fn a_sink_that_fails_keeps_what_it_took(rt: HostRuntime) -> Result<(), Fail> {
         ..SOUND
     };
     let left = run_over(rt.alloc(), &ONE, Command::Candidates, QUERY, None, turns)?;
-    assert_eq!(rt; left.output.as_str(), "{\"allocati");
-    assert_eq!(rt; left.line.as_str(), "output: WriteFailed\n");
-    assert_eq!(rt; left.status, 6);
+    expect_left(&rt, &left, "{\"allocati", "output: WriteFailed\n", 6, 0);
     Ok(())
 }
 
@@ -41,9 +39,7 @@ fn an_error_sink_that_fails_leaves_the_status(rt: HostRuntime) -> Result<(), Fai
         ..SOUND
     };
     let left = run_over(rt.alloc(), &ONE, Command::Tokens, "", None, turns)?;
-    assert_eq!(rt; left.output.as_str(), "");
-    assert_eq!(rt; left.line.as_str(), "query");
-    assert_eq!(rt; left.status, 4);
+    expect_left(&rt, &left, "", "query", 4, 0);
     Ok(())
 }
 
@@ -59,24 +55,21 @@ fn patience(rt: HostRuntime) -> Result<(), Fail> {
         ..SOUND
     };
     let left = run_over(alloc, &ONE, Command::Tokens, QUERY, None, borne)?;
-    assert_eq!(rt; left.status, 0);
-    assert_eq!(rt; left.output.as_str(), expanded(alloc, "@1\n")?.as_str());
+    expect_left(&rt, &left, expanded(alloc, "@1\n")?.as_str(), "", 0, 0);
 
     let feed = Turns {
         providers: &once_more,
         ..SOUND
     };
     let left = run_over(alloc, &ONE, Command::Tokens, QUERY, None, feed)?;
-    assert_eq!(rt; left.status, 3);
-    assert_eq!(rt; left.line.as_str(), "providers: Unreadable\n");
+    expect_left(&rt, &left, "", "providers: Unreadable\n", 3, 1);
 
     let sink = Turns {
         out: &once_more,
         ..SOUND
     };
     let left = run_over(alloc, &ONE, Command::Tokens, QUERY, None, sink)?;
-    assert_eq!(rt; left.status, 6);
-    assert_eq!(rt; left.output.as_str(), "");
+    expect_left(&rt, &left, "", "output: WriteFailed\n", 6, 2);
     Ok(())
 }
 
@@ -91,8 +84,7 @@ fn patience_of_a_gathered_output(rt: HostRuntime) -> Result<(), Fail> {
         ..SOUND
     };
     let left = run_over(alloc, &ONE, Command::Tokens, QUERY, None, borne)?;
-    assert_eq!(rt; left.status, 0);
-    assert_eq!(rt; left.output.as_str(), expanded(alloc, "@1\n")?.as_str());
+    expect_left(&rt, &left, expanded(alloc, "@1\n")?.as_str(), "", 0, 0);
 
     let once_more = [Turn::Again; 1001];
     let sink = Turns {
@@ -101,9 +93,7 @@ fn patience_of_a_gathered_output(rt: HostRuntime) -> Result<(), Fail> {
         ..SOUND
     };
     let left = run_over(alloc, &ONE, Command::Tokens, QUERY, None, sink)?;
-    assert_eq!(rt; left.status, 6);
-    assert_eq!(rt; left.output.as_str(), "");
-    assert_eq!(rt; left.line.as_str(), "output: WriteFailed\n");
+    expect_left(&rt, &left, "", "output: WriteFailed\n", 6, 1);
     Ok(())
 }
 
@@ -114,8 +104,7 @@ fn a_byte_sets_the_count_of_interrupted_calls_back(rt: HostRuntime) -> Result<()
     let mut again = [Turn::Again; 2001];
     again[1000] = Turn::Up(1);
     let left = run_over(alloc, &ONE, Command::Tokens, QUERY, None, alike(&again))?;
-    assert_eq!(rt; left.status, 0);
-    assert_eq!(rt; left.output.as_str(), expanded(alloc, "@1\n")?.as_str());
+    expect_left(&rt, &left, expanded(alloc, "@1\n")?.as_str(), "", 0, 0);
 
     let mut once_more = [Turn::Again; 2002];
     once_more[1000] = Turn::Up(1);
@@ -124,16 +113,14 @@ fn a_byte_sets_the_count_of_interrupted_calls_back(rt: HostRuntime) -> Result<()
         ..SOUND
     };
     let left = run_over(alloc, &ONE, Command::Tokens, QUERY, None, feed)?;
-    assert_eq!(rt; left.status, 3);
-    assert_eq!(rt; left.line.as_str(), "traits: Unreadable\n");
+    expect_left(&rt, &left, "", "traits: Unreadable\n", 3, 1);
 
     let sink = Turns {
         out: &once_more,
         ..SOUND
     };
     let left = run_over(alloc, &ONE, Command::Tokens, QUERY, None, sink)?;
-    assert_eq!(rt; left.status, 6);
-    assert_eq!(rt; left.output.as_str(), "0");
+    expect_left(&rt, &left, "0", "output: WriteFailed\n", 6, 2);
     Ok(())
 }
 
@@ -182,9 +169,7 @@ fn check_feed(rt: &(impl Abort + AllocGlobal), table: Table, line: &str) -> Resu
         turns.push(Turn::Failed)?;
         let failing = feed_of(table, &turns);
         let left = run_over(alloc, &ONE, Command::Check, "", None, failing)?;
-        assert_eq!(rt; left.output.as_str(), "", "call {call}");
-        assert_eq!(rt; left.line.as_str(), line, "call {call}");
-        assert_eq!(rt; left.status, 3, "call {call}");
+        expect_left(rt, &left, "", line, 3, call);
         let _failed = turns.pop();
         turns.push(Turn::Up(1))?;
     }
@@ -204,6 +189,13 @@ fn each_call_of_a_feed_fails(rt: HostRuntime) -> Result<(), Fail> {
     check_feed(&rt, Table::Aggregates, "aggregates: Unreadable\n")
 }
 
+// A run whose output failed: it has taken so much of the body.
+fn expect_part(rt: &impl Abort, left: &Left, body: &str, call: usize) {
+    assert!(rt; body.starts_with(left.output.as_str()), "call {call}");
+    assert_eq!(rt; left.line.as_str(), "output: WriteFailed\n");
+    assert_eq!(rt; left.status, 6);
+}
+
 // Each call of the output fails in turn, where each takes a byte: it has taken one byte a call before.
 #[test]
 fn each_call_of_the_output_fails(rt: HostRuntime) -> Result<(), Fail> {
@@ -218,12 +210,7 @@ fn each_call_of_the_output_fails(rt: HostRuntime) -> Result<(), Fail> {
         };
         let left = run_over(alloc, &ONE, Command::Candidates, QUERY, None, failing)?;
         assert_eq!(rt; left.output.len(), call);
-        assert!(rt;
-            body.as_str().starts_with(left.output.as_str()),
-            "call {call}"
-        );
-        assert_eq!(rt; left.line.as_str(), "output: WriteFailed\n");
-        assert_eq!(rt; left.status, 6);
+        expect_part(&rt, &left, body.as_str(), call);
         let _failed = turns.pop();
         turns.push(Turn::Up(1))?;
     }
@@ -233,8 +220,7 @@ fn each_call_of_the_output_fails(rt: HostRuntime) -> Result<(), Fail> {
         ..SOUND
     };
     let left = run_over(alloc, &ONE, Command::Candidates, QUERY, None, never)?;
-    assert_eq!(rt; left.output.as_str(), body.as_str());
-    assert_eq!(rt; left.status, 0);
+    expect_left(&rt, &left, body.as_str(), "", 0, body.len());
     Ok(())
 }
 
@@ -252,17 +238,12 @@ fn each_whole_piece_of_the_output_fails(rt: HostRuntime) -> Result<(), Fail> {
             ..SOUND
         };
         let left = run_over(alloc, &ONE, Command::Candidates, QUERY, None, failing)?;
-        assert!(rt;
-            body.as_str().starts_with(left.output.as_str()),
-            "call {call}"
-        );
         assert!(rt; left.output.len() > taken || call == 0, "call {call}");
         taken = left.output.len();
         if left.status == 0 {
             break;
         }
-        assert_eq!(rt; left.line.as_str(), "output: WriteFailed\n");
-        assert_eq!(rt; left.status, 6);
+        expect_part(&rt, &left, body.as_str(), call);
         let _failed = turns.pop();
         turns.push(Turn::Up(usize::MAX))?;
     }
@@ -281,17 +262,14 @@ fn a_sink_that_takes_nothing_has_failed(rt: HostRuntime) -> Result<(), Fail> {
             ..SOUND
         };
         let left = run_over(alloc, &ONE, Command::Candidates, QUERY, None, at_once)?;
-        assert_eq!(rt; left.output.as_str(), "");
-        assert_eq!(rt; left.line.as_str(), "output: WriteFailed\n");
-        assert_eq!(rt; left.status, 6);
+        expect_left(&rt, &left, "", "output: WriteFailed\n", 6, 0);
         let later = Turns {
             out: &[Turn::Up(5), Turn::Up(0)],
             is_gathered,
             ..SOUND
         };
         let left = run_over(alloc, &ONE, Command::Candidates, QUERY, None, later)?;
-        assert_eq!(rt; left.output.as_str(), "{\"all");
-        assert_eq!(rt; left.status, 6);
+        expect_left(&rt, &left, "{\"all", "output: WriteFailed\n", 6, 1);
     }
     Ok(())
 }
@@ -314,9 +292,7 @@ fn an_error_sink_that_takes_nothing_leaves_the_status(rt: HostRuntime) -> Result
             ..SOUND
         };
         let left = run_over(alloc, &ONE, Command::Tokens, query, None, turns)?;
-        assert_eq!(rt; left.output.as_str(), "");
-        assert_eq!(rt; left.line.as_str(), "");
-        assert_eq!(rt; left.status, status);
+        expect_left(&rt, &left, "", "", status, usize::from(status));
     }
     Ok(())
 }

@@ -1,9 +1,13 @@
 //! Worked examples, with values worked out by hand.
-use super::{EMPTY, ONE, Rows, SOUND, expanded, run_by};
+use super::{EMPTY, ONE, Rows, alike, expanded, expect_left, run_by};
 use crate::job::Command;
+use ac_base::Turn;
 use ac_query::Version;
+use std::alloc::{AllocError, Global};
 use std::process::Abort;
 use std::test::Fail;
+
+mod explained;
 
 // What a run is asked, and what it answers. In all texts `@1` stands for the UUID that ends with 1.
 #[derive(Clone, Copy)]
@@ -41,7 +45,8 @@ const VERDICT: Case = Case {
     ..TOKENS
 };
 
-fn check(rt: &(impl Abort + AllocGlobal), cases: &[Case]) -> Result<(), Fail> {
+// Each case answers so over devices that all go by these turns.
+fn check_over(rt: &(impl Abort + AllocGlobal), cases: &[Case], turns: &[Turn]) -> Result<(), Fail> {
     let alloc = rt.alloc();
     for (place, case) in cases.iter().enumerate() {
         assert!(rt; case.command != Command::Verify || case.token.is_some());
@@ -57,18 +62,34 @@ fn check(rt: &(impl Abort + AllocGlobal), cases: &[Case]) -> Result<(), Fail> {
             case.command,
             query.as_str(),
             token.as_deref(),
-            SOUND,
+            alike(turns),
         )?;
         let output = expanded(alloc, case.output)?;
-        assert_eq!(rt;
-            left.output.as_str(),
-            output.as_str(),
-            "output of case {place}"
-        );
-        assert_eq!(rt; left.line.as_str(), case.line, "line of case {place}");
-        assert_eq!(rt; left.status, case.status, "status of case {place}");
+        expect_left(rt, &left, output.as_str(), case.line, case.status, place);
     }
     Ok(())
+}
+
+// More calls than a device of an example gets.
+const MANY: usize = 2500;
+
+// Each call moves a byte, and one more is interrupted before it.
+fn interrupted(alloc: Global) -> Result<Vec<Turn>, AllocError> {
+    let mut turns = Vec::new(alloc);
+    for _ in 0..MANY {
+        turns.push(Turn::Again)?;
+        turns.push(Turn::Up(1))?;
+    }
+    Ok(turns)
+}
+
+// The answers are the same where each call of a device moves one byte, and where one is interrupted before each.
+fn check(rt: &(impl Abort + AllocGlobal), cases: &[Case]) -> Result<(), Fail> {
+    check_over(rt, cases, &[])?;
+    let one_byte = vec![in rt.alloc(); Turn::Up(1); MANY]?;
+    check_over(rt, cases, one_byte.as_slice())?;
+    let again = interrupted(rt.alloc())?;
+    check_over(rt, cases, again.as_slice())
 }
 
 #[test]

@@ -1,5 +1,6 @@
-//! The two sources, made with each of their growths refused in turn: all candidates, or want of memory. What a source gives takes none.
+//! What takes memory, made with each of its growths refused in turn: all candidates, the counts of trees, or want of memory. What a source gives takes none.
 use super::{PAIR, cloud_of, query_of};
+use crate::explaining::{TreeCounts, tree_counts};
 use crate::plain::Plain;
 use crate::source::Source;
 use crate::walk::Walk;
@@ -53,6 +54,23 @@ fn walk(rt: HostRuntime) {
     };
     match Walk::new(rt.alloc(), &cloud, &query, Some(&token)) {
         Ok(mut walk) => gives_both(&rt, &mut walk),
+        Err(fault) => assert_eq!(rt; fault, NoMemory),
+    }
+}
+
+#[test]
+fn counts(rt: HostRuntime) {
+    let Ok(Some((cloud, query, _token))) = given(rt.alloc()) else {
+        return;
+    };
+    // Both slots fit 01 and 02, which are one tree.
+    let want = TreeCounts {
+        roots: 1,
+        root_traits: 1,
+        each_slot: 1,
+    };
+    match tree_counts(rt.alloc(), &cloud, &query) {
+        Ok(counts) => assert_eq!(rt; counts, want),
         Err(fault) => assert_eq!(rt; fault, NoMemory),
     }
 }

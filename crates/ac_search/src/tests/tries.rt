@@ -121,7 +121,7 @@ fn tries_nothing_without_a_root(rt: HostRuntime) -> Result<(), Fail> {
 }
 
 #[test]
-fn tries_each_full_root_once(rt: HostRuntime) -> Result<(), Fail> {
+fn tries_no_full_root(rt: HostRuntime) -> Result<(), Fail> {
     let alloc = rt.alloc();
     let providers = repeated(alloc, 1, 20, "@#,@#,\n")?;
     let inventories = repeated(alloc, 1, 20, FULL)?;
@@ -130,7 +130,7 @@ fn tries_each_full_root_once(rt: HostRuntime) -> Result<(), Fail> {
     let mut query = repeated(alloc, 1, 64, "resources#=VCPU:1&")?;
     query.push_str("group_policy=none")?;
     let counts = probes(alloc, rows, query.as_str(), None, 9)?;
-    assert!(rt; counts.as_slice() == [20].as_slice());
+    assert!(rt; counts.as_slice() == [0].as_slice());
     Ok(())
 }
 
@@ -147,28 +147,28 @@ fn tries_no_other_tree(rt: HostRuntime) -> Result<(), Fail> {
     Ok(())
 }
 
-// A tree that can't host all groups is left at each choice of the first one: three times 3 is more than a host's 8, no
-// host has 4 three times in two times 7, three groups set apart want three hosts, and the trait of the third group stands
-// in another tree.
+// A tree that can't host all groups isn't tried: 5 and 4 are more than a host's 8, though each
+// of them fits and 4 fits twice; two times 7 don't hold 4 three times; three groups set apart want three hosts; and the
+// trait of the third group stands in another tree.
 #[test]
-fn tries_a_tree_that_lacks_room_at_its_first_choices_alone(rt: HostRuntime) -> Result<(), Fail> {
+fn tries_no_tree_that_lacks_room(rt: HostRuntime) -> Result<(), Fail> {
     let alloc = rt.alloc();
     let providers = repeated(alloc, 1, 20, "@#,@#,\n")?;
     let inventories = repeated(alloc, 1, 20, FULL)?;
     let rows = hosts(providers.as_str(), inventories.as_str(), "");
-    let query = "resources1=VCPU:3&resources2=VCPU:3&resources3=VCPU:3&group_policy=none";
+    let query = "resources1=VCPU:5&resources2=VCPU:4&group_policy=none";
     let counts = probes(alloc, rows, query, None, 9)?;
-    assert!(rt; counts.as_slice() == [20].as_slice(), "sum");
+    assert!(rt; counts.as_slice() == [0].as_slice(), "sum");
 
     let providers = "@01,@01,\n@02,@01,@01\n@03,@01,@01\n@04,@04,\n";
     let inventories = repeated(alloc, 2, 3, "@#,VCPU,7,0,1,7,1,1.0\n")?;
     let rows = hosts(providers, inventories.as_str(), "");
     let query = "resources1=VCPU:4&resources2=VCPU:4&resources3=VCPU:4&group_policy=none";
     let counts = probes(alloc, rows, query, None, 9)?;
-    assert!(rt; counts.as_slice() == [2].as_slice(), "pieces");
+    assert!(rt; counts.as_slice() == [0].as_slice(), "pieces");
     let query = "resources1=VCPU:1&resources2=VCPU:1&resources3=VCPU:1&group_policy=isolate";
     let counts = probes(alloc, rows, query, None, 9)?;
-    assert!(rt; counts.as_slice() == [2].as_slice(), "apart");
+    assert!(rt; counts.as_slice() == [0].as_slice(), "apart");
 
     let inventories = repeated(alloc, 2, 4, FULL)?;
     let traits = "@04,CUSTOM_T\n";
@@ -179,7 +179,60 @@ fn tries_a_tree_that_lacks_room_at_its_first_choices_alone(rt: HostRuntime) -> R
     let query =
         "resources1=VCPU:1&required1=!CUSTOM_T&resources2=VCPU:1&resources3=VCPU:1&required3=CUSTOM_T&group_policy=none";
     let counts = probes(alloc, rows, query, None, 9)?;
-    assert!(rt; counts.as_slice() == [2].as_slice(), "choice");
+    assert!(rt; counts.as_slice() == [0].as_slice(), "choice");
+    Ok(())
+}
+
+// Ten disks, each shared by two of twenty hosts: each disk is tried, and behind it the two hosts alone. For a second disk
+// only the first one is tried again, and behind it the hosts.
+#[test]
+fn tries_only_where_a_disk_is_shared(rt: HostRuntime) -> Result<(), Fail> {
+    let alloc = rt.alloc();
+    let providers = repeated(alloc, 1, 30, "@#,@#,\n")?;
+    let mut inventories = repeated(alloc, 1, 20, FULL)?;
+    inventories.push_str(repeated(alloc, 21, 30, "@#,DISK_GB,8,0,1,8,1,1.0\n")?.as_str())?;
+    let traits = repeated(alloc, 21, 30, "@#,MISC_SHARES_VIA_AGGREGATE\n")?;
+    let mut aggregates = repeated(alloc, 21, 30, "@#,@#\n")?;
+    for disk in 1..=10 {
+        let shared = repeated(alloc, 20 + disk, 20 + disk, ",@#\n")?;
+        for host in 2 * disk - 1..=2 * disk {
+            aggregates.push_str(repeated(alloc, host, host, "@#")?.as_str())?;
+            aggregates.push_str(shared.as_str())?;
+        }
+    }
+    let rows = Rows {
+        traits: traits.as_str(),
+        aggregates: aggregates.as_str(),
+        ..hosts(providers.as_str(), inventories.as_str(), "")
+    };
+    let mut one = probes(alloc, rows, "resources=DISK_GB:1,VCPU:1", None, 99)?;
+    assert_eq!(rt; one.len(), 21);
+    assert_eq!(rt; one.pop().unwrap_or(0), 10 + 20);
+    let query = "resources1=DISK_GB:1&resources2=DISK_GB:1&resources3=VCPU:1&group_policy=none";
+    let mut two = probes(alloc, rows, query, None, 99)?;
+    assert_eq!(rt; two.len(), 21);
+    assert_eq!(rt; two.pop().unwrap_or(0), 10 + 10 + 20);
+    Ok(())
+}
+
+// Four nodes under a root; the first two have a function each. No node is tried without a function below it, and behind a node
+// its own function alone; the same where functions come first, and the node that is above is a later slot's.
+#[test]
+fn tries_only_below_a_top_of_its_list(rt: HostRuntime) -> Result<(), Fail> {
+    let alloc = rt.alloc();
+    let providers =
+        "@01,@01,\n@02,@01,@01\n@03,@01,@01\n@04,@01,@01\n@05,@01,@01\n@06,@01,@02\n@07,@01,@03\n";
+    let mut inventories = repeated(alloc, 2, 5, FULL)?;
+    inventories.push_str(repeated(alloc, 6, 7, "@#,SRIOV_NET_VF,1,0,1,1,1,1.0\n")?.as_str())?;
+    let rows = hosts(providers, inventories.as_str(), "");
+    let query =
+        "resources_A=VCPU:1&resources_B=SRIOV_NET_VF:1&same_subtree=_A,_B&group_policy=isolate";
+    let nodes = probes(alloc, rows, query, None, 9)?;
+    assert!(rt; nodes.as_slice() == [2, 4, 4].as_slice(), "nodes");
+    let query =
+        "resources_B=VCPU:1&resources_A=SRIOV_NET_VF:1&same_subtree=_A,_B&group_policy=isolate";
+    let functions = probes(alloc, rows, query, None, 9)?;
+    assert!(rt; functions.as_slice() == [2, 4, 4].as_slice(), "functions");
     Ok(())
 }
 

@@ -9,6 +9,7 @@ use Rattle.clap.proofs.SimpleLemmas.{is_nil}
 use Rattle.ac_cli.specs.Words.{IsComplete, Tells, faults, is_taken, named, program, version_faults}
 use Rattle.ac_cli.specs.declared.words.WordFault.{WordFault}
 use Rattle.ac_cli.specs.declared.words.WordFault.TheVariants.{Refused, Help, NoMemory}
+use Rattle.ac_cli.specs.declared.words.WordFault.TheVariants as fault
 use Rattle.ac_cli.proofs.EnteredCommand.{named-complete}
 use Rattle.ac_cli.proofs.words.read_words.Goals as goal
 
@@ -34,16 +35,18 @@ unfolding faults
 version-left words none = ap₂ or_else none refl
 
 -- what is told of no fault is want of memory
-told_nothing : (fault : WordFault) → Tells [] fault → fault ≡ NoMemory
+told_nothing : (f : WordFault) → Tells [] f → f ≡ NoMemory
 told_nothing (Help text) t = absurd t
-told_nothing (Refused text) t = absurd t.2
+told_nothing (fault.Version text) t = absurd t
+told_nothing (Refused text) t = absurd t.3
 told_nothing NoMemory t = refl
 
 -- what is told of the faults of `clap` is told of them with the version's behind them
-tells-with : (kinds more : Kinds) (fault : WordFault) → Tells kinds fault → Tells (or_else kinds more) fault
-tells-with (kind ∷ kinds) more fault t = t
+tells-with : (kinds more : Kinds) (f : WordFault) → Tells kinds f → Tells (or_else kinds more) f
+tells-with (kind ∷ kinds) more f t = t
 tells-with [] more (Help text) t = absurd t
-tells-with [] more (Refused text) t = absurd t.2
+tells-with [] more (fault.Version text) t = absurd t
+tells-with [] more (Refused text) t = absurd t.3
 tells-with [] more NoMemory t = tt
 
 -- words that are taken have no fault of the version, and `clap` takes them

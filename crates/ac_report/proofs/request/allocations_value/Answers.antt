@@ -1,6 +1,7 @@
-use Rattle.std.proofs.Common.{◌≡◌, ◌∙◌, ◌<◌, ◌∷◌, [], refl, ℕ, List, Bool, true, sym, ap, subst, map, length, rules}
+use Rattle.std.proofs.Common.{◌≡◌, ◌∙◌, ◌<◌, ◌∷◌, [], refl, ℕ, List, Bool, true, sym, ap, subst, map, length, rules, arith}
 use Rattle.std.specs.List.{AllByRecursion, filter}
 use Rattle.std.specs.Ordering.{nat_cmp}
+use Rattle.std.proofs.lemmas.List.{length-map}
 use Rattle.serde_json.specs.Data.{object}
 use Rattle.serde_json.specs.View.{view, members_view}
 use Rattle.serde_json.proofs.Views.{view-Object}
@@ -12,7 +13,7 @@ use Rattle.ac_report.specs.Parts.{need_at, allocation_of}
 use Rattle.ac_tables.specs.CloudWorld.{providers_of}
 use Rattle.ac_report.specs.Trees.{gathered, gives, needs_on, provider_text, allocation, allocations}
 use Rattle.ac_report.proofs.Gathering.{put_same, allocation_is}
-use Rattle.ac_report.proofs.Serving.{Needs, IsRow, Named, gathered_onto, all_rising, keys_of_rows, rows_are, kept_step, gives_is}
+use Rattle.ac_report.proofs.Serving.{Needs, IsRow, Named, gathered_onto, all_rising, few_served, keys_of_rows, rows_are, kept_step, gives_is}
 use Rattle.ac_report.proofs.request.allocations_value.Goals as goal
 
 pub loop-provider-init : goal.loop-provider-init
@@ -69,3 +70,16 @@ returns c =
     let end : c.loop-provider.provider-iterator ≡ [] = search rules in
     view-Object c.loop-provider.members
     ∙ ap object (ap (λ es. gathered_onto before (map F (filter (λ ix. gives xs ix) (map (λ e. e.0) es)))) (sym end) ∙ c.loop-provider.invariant.members)
+
+pub allocation_value-requires : goal.allocation_value-requires
+allocation_value-requires c =
+    let all = providers_of c.args.cloud.now in
+    let xs = assigned (asked_of c.args.query.now) c.args.list.now in
+    let p = c.in-Some.provider.now in
+    let here : ℕ × Needs = (p, c.in-Some.needs.now) in
+    let is : c.loop-provider.provider-iterator ≡ here ∷ c.next.new.self = search rules in
+    let rows = subst (λ (es : List (ℕ × Needs)). AllByRecursion (IsRow (length all) xs) es) is c.loop-provider.invariant.rows in
+    let told : map need_at c.deref.result.now ≡ needs_on xs p = ap (map need_at) c.deref.ensures.value ∙ rows.0.0 in
+    let count = length-map c.deref.result.now need_at in
+    let same = ap length told in
+    omega (arith, few_served c.args.query.now c.args.list.now p, count, same)

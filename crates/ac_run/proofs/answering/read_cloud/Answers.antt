@@ -4,4 +4,4 @@ use Rattle.ac_run.proofs.answering.read_cloud.Goals as goal
 
 pub read-requires : goal.read-requires
 read-requires c =
-    are_few (texts_shown c.args.texts.now) _ c.requires c.deref.ensures.value c.deref-2.ensures.value c.slice_of.ensures c.slice_of-2.ensures c.slice_of-3.ensures
+    are_few (texts_shown c.args.texts) _ c.requires c.deref.ensures.value c.deref-2.ensures.value c.slice_of.ensures c.slice_of-2.ensures c.slice_of-3.ensures

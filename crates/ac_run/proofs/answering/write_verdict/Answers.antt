@@ -1,11 +1,12 @@
-use Rattle.std.proofs.Common.{◌∙◌, ◌<◌, length, sym, ap, subst, IfOk}
+use Rattle.std.proofs.Common.{◌∙◌, ◌<◌, ℕ, List, [], Option, Some, None, append-nil, length, refl, sym, ap, subst, IfOk}
 use Rattle.std.specs.List.{All}
 use Rattle.std.specs.Option.{option_map}
 use Rattle.std.proofs.lemmas.List.Elements.{All-from_recursion}
+use Rattle.ac_base.specs.Devices.{TakesPart}
 use Rattle.ac_query.specs.QueriesShown.{asked_of}
 use Rattle.ac_query.specs.Tokens.{ids_of}
 use Rattle.ac_tables.specs.CloudWorld.{providers_of}
-use Rattle.ac_run.specs.Answer.{verdict_on}
+use Rattle.ac_run.specs.Answer.{verdict_line, verdict_on}
 use Rattle.ac_run.specs.Run.{IsWritten}
 use Rattle.ac_run.proofs.Assignments.{located}
 use Rattle.ac_run.proofs.answering.write_verdict.Goals as goal
@@ -28,3 +29,11 @@ returns-in-Ok-None-clause-ok g c =
     (λ places. IfOk c.push_text-in-Ok-None.result
     (IsWritten (verdict_on (providers_of c.args.cloud.now) (asked_of c.args.query.now) places) (g.W.Sink.taken c.args.out.now) (g.W.Sink.taken c.push_text-in-Ok-None.new.out)))
     (ap (λ found. option_map (λ list. list.items) found) (sym c.in-Ok-None.field-0-is) ∙ c.in-Ok-None.ensures) c.push_text-in-Ok-None.ensures.ok
+
+-- a sink that was not asked has taken nothing of any text
+nothing : (taken : Option (List ℕ)) (bytes : List ℕ) → TakesPart taken taken bytes
+nothing None bytes = tt
+nothing (Some xs) bytes = ([], bytes, refl, sym (append-nil xs))
+
+pub returns-in-Err-clause-fault : goal.returns-in-Err-clause-fault
+returns-in-Err-clause-fault g c = nothing (g.W.Sink.taken c.args.out.now) (verdict_line (providers_of c.args.cloud.now) (asked_of c.args.query.now) (Some (ids_of c.args.token.now))).output

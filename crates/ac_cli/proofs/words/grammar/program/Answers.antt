@@ -1,14 +1,17 @@
-use Rattle.std.proofs.Common.{◌≡◌, ◌∙◌, ap, ap₂, codes, rules}
+use Rattle.std.proofs.Common.{◌≡◌, ◌∙◌, ap, ap₂, codes}
 use Rattle.clap.specs.Words.{App, app_of, new_app, with_subcommand}
-use Rattle.ac_cli.specs.Words.{needs_command}
+use Rattle.ac_cli.specs.Words.{as_program}
 use Rattle.ac_cli.proofs.words.grammar.program.Goals as goal
 
 pub returns : goal.returns
 returns c =
     let top : App → _ = λ a. a.top in
-    let plain : app_of c.subcommand_required-command.result ≡ needs_command (new_app (codes "ac_cli")) = search rules in
+    let plain : app_of c.subcommand_required-command.result ≡ as_program (new_app (codes "ac_cli")) =
+    rw (c.subcommand_required-command.ensures, c.after_help.ensures, c.about.ensures, c.version.ensures)
+    (ap as_program c.new.ensures.app) in
+    c.in_ok-command-5.ensures.shape c.in_ok-explain.ensures.local ∙ ap₂ with_subcommand (
     c.in_ok-command-4.ensures.shape c.in_ok-verify.ensures.local ∙ ap₂ with_subcommand (
     c.in_ok-command-3.ensures.shape c.in_ok-search-2.ensures.local ∙ ap₂ with_subcommand (
     c.in_ok-command-2.ensures.shape c.in_ok-search.ensures.local ∙ ap₂ with_subcommand (
     c.in_ok-command.ensures.shape c.in_ok-check.ensures.local ∙ ap₂ with_subcommand plain (ap top c.in_ok-check.ensures.app))
-    (ap top c.in_ok-search.ensures.app)) (ap top c.in_ok-search-2.ensures.app)) (ap top c.in_ok-verify.ensures.app)
+    (ap top c.in_ok-search.ensures.app)) (ap top c.in_ok-search-2.ensures.app)) (ap top c.in_ok-verify.ensures.app)) (ap top c.in_ok-explain.ensures.app)

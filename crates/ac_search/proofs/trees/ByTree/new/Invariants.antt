@@ -1,10 +1,9 @@
-use Rattle.std.proofs.Common.{◌≡◌, ◌<◌, ℕ, length, slice_index}
+use Rattle.std.proofs.Common.{◌≡◌, ◌<◌, ℕ, true, length, slice_index}
 use Rattle.ac_tables.specs.CloudWorld.{providers_of}
-use Rattle.ac_search.specs.Keys.{key_of, IsTreeOf}
+use Rattle.ac_tables.specs.World.{is_available_at}
+use Rattle.ac_search.specs.Keys.{IsUnder}
 use Rattle.ac_search.proofs.trees.ByTree.new.Given as goal
 
 abbrev pub invariant-loop-place : goal.invariant-loop-place
-invariant-loop-place l = record {
-  count : length l.keys.items ≡ l.place;
-  placed : (i tree : ℕ) → i < l.place → IsTreeOf (providers_of l.cloud) (slice_index l.choices i) tree → slice_index l.keys.items i ≡ key_of tree i;
-}
+invariant-loop-place l = (i r : ℕ) → i < l.place → r < length (providers_of l.cloud) → is_available_at (providers_of l.cloud) (slice_index l.choices i) r ≡ true
+    → IsUnder l.keys.items (length (providers_of l.cloud)) r i

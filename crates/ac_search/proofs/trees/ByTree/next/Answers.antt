@@ -1,14 +1,43 @@
-use Rattle.std.proofs.Common.{◌≡◌, ◌<◌, ℕ, true, inl, inr, length, slice_index, subst, sym, arith}
-use Rattle.std.proofs.lemmas.Bool.{false_from_ne_true}
+use Rattle.std.proofs.Common.{◌≡◌, ◌∙◌, ◌||◌, ℕ, true, take, inl, inr, slice_index, sym, arith, subst}
+use Rattle.std.specs.List.{list_any}
+use Rattle.std.specs.Prelude.{◌==◌}
+use Rattle.std.proofs.lemmas.Bool.{cases_lt, cases_eq, ne_eqb}
+use Rattle.std.proofs.lemmas.List.Folds.{list_any_more}
 use Rattle.ac_search.specs.Keys.{key_of, is_there}
-use Rattle.ac_search.proofs.TreeLemmas.{in_trees}
+use Rattle.ac_search.proofs.TreeLemmas.{or_right, or_none, or_more}
 use Rattle.ac_search.proofs.trees.ByTree.next.Goals as goal
 
-pub returns-clause-passed : goal.returns-clause-passed
-returns-clause-passed c = λ all choices b low i from less.
+pub loop-tree-preserved : goal.loop-tree-preserved
+loop-tree-preserved c =
     let keys = c.args.self.now.keys.items in
-    let inside : i < length choices = omega (arith, less, c.min.ensures, c.next_in.ensures.within, b.count) in
-    false_from_ne_true _ (λ here. elim (in_trees all (slice_index choices i) c.args.root low here) [
-      | inl g ↦ omega (arith, c.next_in.ensures.passed i from (b.placed i c.args.root inside g), less, c.min.ensures)
-      | inr g ↦ omega (arith, c.next_in-2.ensures.passed i from (subst (λ (n : ℕ). is_there keys (key_of n i) ≡ true) (sym b.sharing) (b.placed i (length all) inside g)), less, c.min.ensures)
-    ])
+    let trees = c.args.trees.now in
+    let j = c.loop-tree.tree-index in
+    let tree = slice_index trees j in
+    let was = c.loop-tree.invariant in
+    let least = c.min-least.result in
+    let test = λ (x : ℕ). is_there keys (key_of x least) in
+    record {
+      kept = omega (arith, was.kept, c.next_in.ensures.kept, c.min-least.ensures);
+      within = omega (arith, was.within, c.next_in.ensures.within, c.min-least.ensures);
+      there = λ h.
+          rw (list_any_more test trees j 0 c.loop-tree-test.true)
+          (elim (cases_lt c.next_in.result c.loop-tree.least) [
+            | inl l ↦
+                let is : c.next_in.result ≡ least = omega (arith, c.min-least.ensures, l) in
+                let here : is_there keys (key_of tree least) ≡ true = subst (λ (i : ℕ). is_there keys (key_of tree i) ≡ true) is (c.next_in.ensures.there (omega (arith, is, h))) in
+                or_right _ _ (or_right _ _ here)
+            | inr g ↦
+                let is : c.loop-tree.least ≡ least = omega (arith, c.min-least.ensures, g) in
+                let here : is_there keys (key_of c.args.self.now.wide least) || list_any test (take j trees) ≡ true =
+                subst (λ (i : ℕ). is_there keys (key_of c.args.self.now.wide i) || list_any (λ x. is_there keys (key_of x i)) (take j trees) ≡ true) is (was.there (omega (arith, is, h))) in
+                or_more (is_there keys (key_of c.args.self.now.wide least)) (list_any test (take j trees)) (is_there keys (key_of tree least)) here
+          ]);
+      wide = λ i from m. omega (arith, was.wide i from m, c.min-least.ensures);
+      passed = λ r i m from k. elim (cases_eq tree r) [
+        | inl e ↦ omega (arith, c.next_in.ensures.passed i from (subst (λ (x : ℕ). is_there keys (key_of x i) ≡ true) (sym e) k), c.min-least.ensures)
+        | inr e ↦
+            let other = ne_eqb tree r e in
+            let both : is_there (take j trees) r || (tree == r) ≡ true = sym (list_any_more (λ y. y == r) trees j 0 c.loop-tree-test.true) ∙ m in
+            omega (arith, was.passed r i (or_none _ (rw other at both)) from k, c.min-least.ensures)
+      ];
+    }

@@ -30,13 +30,13 @@ same_open : (w : Walk) (result : Bool) (list : List ℕ) (p : ℕ) → IsPut w �
     → result ≡ is_open (providers_in w.ledger) (asked_in w.ledger) (take (suc w.depth) w.path.items)
 same_open w result list p put same is e = e ∙ ap (is_open (providers_in w.ledger) (asked_in w.ledger)) (sym (front_put w list p same is))
 
-pub returns-then-admits-clause-opens : goal.returns-then-admits-clause-opens
-returns-then-admits-clause-opens c _ =
+pub returns-clause-opens : goal.returns-clause-opens
+returns-clause-opens c h =
     let w = c.args.self.now in
-    sym (same_open w c.admits.result c.deref.result.now c.index.result.now (record { among = c.requires.among; put = c.requires.put }) c.deref.ensures.value c.index.ensures c.admits.ensures) ∙ c.if-admits.true
+    sym (same_open w c.admits.result c.deref.result.now c.index.result.now (record { among = c.requires.among; put = c.requires.put }) c.deref.ensures.value c.index.ensures c.admits.ensures) ∙ h
 
-pub returns-else-admits-clause-dead : goal.returns-else-admits-clause-dead
-returns-else-admits-clause-dead c _ =
+pub returns-clause-dead : goal.returns-clause-dead
+returns-clause-dead c h =
     let w = c.args.self.now in
     closed_dead (search_in w) (laws_in w) (take (suc w.depth) w.path.items)
-    (sym (same_open w c.admits.result c.deref.result.now c.index.result.now (record { among = c.requires.among; put = c.requires.put }) c.deref.ensures.value c.index.ensures c.admits.ensures) ∙ c.if-admits.false)
+    (sym (same_open w c.admits.result c.deref.result.now c.index.result.now (record { among = c.requires.among; put = c.requires.put }) c.deref.ensures.value c.index.ensures c.admits.ensures) ∙ h)

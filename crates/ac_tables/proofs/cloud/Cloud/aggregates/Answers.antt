@@ -1,9 +1,10 @@
-use Rattle.std.proofs.Common.{◌∙◌, arith}
-use Rattle.ac_tables.proofs.CloudFacts.{inside, aggregates_here}
+use Rattle.std.proofs.Common.{◌∙◌, arith, ap, map, sym, subst, List, ℕ, get_or, []}
+use Rattle.ac_tables.proofs.CloudFacts.{inside, aggregates_here, parts}
+use Rattle.ac_tables.specs.ListsOf.{lists_of}
 use Rattle.ac_tables.proofs.cloud.Cloud.aggregates.Goals as goal
 
-pub index-requires : goal.index-requires
-index-requires c = omega (arith, inside c.args.self.now c.args.ix c.requires, c.args.self.now.aggregates.ok.0, c.args.self.now.with_aggregates)
+pub of-requires : goal.of-requires
+of-requires c = omega (arith, inside c.args.self.now c.args.ix c.requires, (parts c.args.self.now).with_aggregates)
 
 pub returns : goal.returns
-returns c = c.as_slice.ensures.value ∙ aggregates_here c.args.self.now c.args.ix c.index.result.now (inside c.args.self.now c.args.ix c.requires) c.index.ensures
+returns c = c.of.ensures ∙ aggregates_here c.args.self.now c.args.ix (inside c.args.self.now c.args.ix c.requires)

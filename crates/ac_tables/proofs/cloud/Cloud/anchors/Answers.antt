@@ -1,46 +1,51 @@
-use Rattle.std.proofs.Common.{◌≡◌, ◌∙◌, ◌<◌, ◌+◌, ◌-◌, ℕ, List, Some, None, [], length, get_or, take, drop, drop-cons, sym, ap, arith}
+use Rattle.std.proofs.Common.{◌≡◌, ◌∙◌, ◌<◌, ◌+◌, ◌-◌, ℕ, List, Some, None, [], length, get_or, take, drop, drop-cons, sym, ap, arith, inl, inr}
 use Rattle.std.specs.Option.{is_some}
 use Rattle.std.proofs.lemmas.List.{get_or-map, get_or_read}
-use Rattle.ac_tables.specs.Anchors.{list_items}
-use Rattle.ac_tables.proofs.CloudFacts.{inside}
+use Rattle.std.proofs.lemmas.Bool.{cases_Bool}
+use Rattle.ac_tables.specs.ListsOf.{lists_of}
+use Rattle.ac_tables.specs.Anchors.{list_items, is_marked}
+use Rattle.ac_tables.proofs.CloudFacts.{inside, parts}
 use Rattle.ac_tables.proofs.AnchorFacts.{anchors_alone, anchors_joined}
 use Rattle.ac_tables.proofs.cloud.Cloud.anchors.Goals as goal
 
 pub index-requires : goal.index-requires
-index-requires c = omega (arith, inside c.args.self.now c.args.ix c.requires, c.args.self.now.anchors.places.ok.0, c.args.self.now.with_anchors)
+index-requires c = omega (arith, inside c.args.self.now c.args.ix c.requires, c.args.self.now.anchors.places.ok.0, (parts c.args.self.now).with_anchors)
 
 pub index-requires-in-Some : goal.index-requires-in-Some
 index-requires-in-Some c =
     let cloud = c.args.self.now in
     let places = cloud.anchors.places.items in
-    let k : c.args.ix < length places = omega (arith, inside cloud c.args.ix c.requires, cloud.with_anchors) in
-    let list = cloud.joined c.args.ix c.in-Some.place k (sym (get_or_read places _ _ k c.index.ensures None) ∙ c.in-Some.is) in
+    let k : c.args.ix < length places = omega (arith, inside cloud c.args.ix c.requires, (parts cloud).with_anchors) in
+    let list = (parts cloud).joined c.args.ix c.in-Some.place k (sym (get_or_read places _ _ k c.index.ensures None) ∙ c.in-Some.is) in
     omega (arith, list.0, cloud.anchors.lists.ok.0)
 
 pub slice_bounds-result-end : goal.slice_bounds-result-end
-slice_bounds-result-end c = omega (arith, inside c.args.self.now c.args.ix c.requires, c.args.self.now.with_roots, ap length c.deref.ensures.value)
+slice_bounds-result-end c = omega (arith, inside c.args.self.now c.args.ix c.requires, (parts c.args.self.now).with_roots, ap length c.deref.ensures.value)
 
 pub returns-in-Some : goal.returns-in-Some
 returns-in-Some c =
     let cloud = c.args.self.now in
     let places = cloud.anchors.places.items in
     let h = inside cloud c.args.ix c.requires in
-    let k : c.args.ix < length places = omega (arith, h, cloud.with_anchors) in
+    let k : c.args.ix < length places = omega (arith, h, (parts cloud).with_anchors) in
     let here : get_or places c.args.ix None ≡ Some c.in-Some.place = sym (get_or_read places _ _ k c.index.ensures None) ∙ c.in-Some.is in
-    let list = cloud.joined c.args.ix c.in-Some.place k here in
+    let list = (parts cloud).joined c.args.ix c.in-Some.place k here in
     c.as_slice.ensures.value ∙ ap list_items c.index-in-Some.ensures ∙ sym (get_or-map list_items cloud.anchors.lists.items c.in-Some.place c.index-in-Some.result.now [] list.0)
-    ∙ list.1 ∙ anchors_joined cloud c.args.ix h (sym (cloud.marked c.args.ix h) ∙ ap is_some here)
+    ∙ list.1 ∙ anchors_joined cloud c.args.ix h ((parts cloud).marked c.args.ix h (ap is_some here))
 
 pub returns-in-None : goal.returns-in-None
 returns-in-None c =
     let cloud = c.args.self.now in
     let places = cloud.anchors.places.items in
     let h = inside cloud c.args.ix c.requires in
-    let k : c.args.ix < length places = omega (arith, h, cloud.with_anchors) in
+    let k : c.args.ix < length places = omega (arith, h, (parts cloud).with_anchors) in
     let here : get_or places c.args.ix None ≡ None = sym (get_or_read places _ _ k c.index.ensures None) ∙ c.in-None.is in
     let one : c.args.ix + 1 - c.args.ix ≡ 1 = omega arith in
-    let room : c.args.ix < length cloud.roots.items = omega (arith, h, cloud.with_roots) in
+    let room : c.args.ix < length cloud.roots.items = omega (arith, h, (parts cloud).with_roots) in
     ap (λ (n : ℕ). take n (drop c.args.ix c.deref.result.now)) one
     ∙ ap (λ (l : List ℕ). take 1 (drop c.args.ix l)) c.deref.ensures.value
     ∙ ap (λ (l : List ℕ). take 1 l) (drop-cons cloud.roots.items c.args.ix 0 room)
-    ∙ anchors_alone cloud c.args.ix h (sym (cloud.marked c.args.ix h) ∙ ap is_some here)
+    ∙ elim (cases_Bool (is_marked cloud.sharing.items (lists_of cloud.aggregates) c.args.ix)) [
+      | inl marked ↦ sym ((parts cloud).alone c.args.ix h (ap is_some here) marked) ∙ anchors_joined cloud c.args.ix h marked
+      | inr not ↦ anchors_alone cloud c.args.ix h not
+    ]

@@ -1,103 +1,94 @@
-use Rattle.std.proofs.Common.{◌≡◌, ◌<◌, ◌∙◌, ℕ, List, [], get_or, length, map, sym, ap, subst, arith}
+use Rattle.std.proofs.Common.{◌≡◌, ◌<◌, ◌∙◌, ℕ, Bool, false, List, [], get_or, length, map, sym, ap, subst, arith}
 use Rattle.ac_tables.specs.Trees.{top}
 use Rattle.ac_tables.specs.Places.{parent_in, AreParents, ArePlaces}
-use Rattle.std.proofs.lemmas.List.{length-map}
-use Rattle.ac_tables.specs.Gathered.{by_class, trait_texts, ids_in}
-use Rattle.ac_tables.specs.Lists.{held_list, name_list, id_list, zip_used}
+use Rattle.std.proofs.lemmas.List.{length-map, get_or-map}
+use Rattle.std.specs.List.Sorted.{IsStrictlySortedBy}
+use Rattle.ac_base.specs.Texts.{text_cmp}
+use Rattle.ac_tables.specs.Anchors.{shares_by}
+use Rattle.ac_tables.specs.CloudParts.{BelongTogether}
+use Rattle.ac_tables.specs.declared.tables.inventories.Inventories.{Inventories}
+use Rattle.ac_tables.specs.Entries.{entry_pair}
+use Rattle.ac_tables.specs.InventoryRows.{class_pair}
+use Rattle.ac_tables.specs.ListsOf.{lists_of}
 use Rattle.ac_tables.proofs.WorldFacts.{numbered_root}
 use Rattle.ac_tables.proofs.BuildFacts.{same_size, are_within, are_parents, chains_end}
-use Rattle.ac_tables.proofs.GatherLists.{zip_size}
+use Rattle.ac_tables.proofs.JoinFacts.{zip_size, entries_rise}
+use Rattle.ac_tables.proofs.ListFacts.{lists_size}
 use Rattle.ac_tables.proofs.cloud.Cloud.build.Goals as goal
+
+rows_size : (own : Inventories) → length (lists_of own.rows) ≡ length own.ids.ids.items
+rows_size own = omega (arith, lists_size own.rows.items.items own.rows.starts.items, own.started.sized)
 
 pub find_tops-requires-clause-known : goal.find_tops-requires-clause-known
 find_tops-requires-clause-known c =
-    subst AreParents (sym c.deref.ensures.value) (are_parents c.args.parts.ids.ids.items c.args.parts.roll.rows.items c.requires.kin c.in_ok-parents.parents.items c.in_ok-parents.ensures)
-
-pub invariant_of-result-clause-with_parents : goal.invariant_of-result-clause-with_parents
-invariant_of-result-clause-with_parents c = same_size c.args.parts.ids.ids.items c.args.parts.roll.rows.items c.requires.kin c.in_ok-parents.parents.items c.in_ok-parents.ensures
-
-pub invariant_of-result-clause-with_roots : goal.invariant_of-result-clause-with_roots
-invariant_of-result-clause-with_roots c =
-    c.in_ok-roots.ensures.length ∙ ap length c.deref.ensures.value ∙ same_size c.args.parts.ids.ids.items c.args.parts.roll.rows.items c.requires.kin c.in_ok-parents.parents.items c.in_ok-parents.ensures
-
-pub invariant_of-result-clause-with_entries : goal.invariant_of-result-clause-with_entries
-invariant_of-result-clause-with_entries c =
-    let usages = c.args.parts.usages.maps.items in
-    let stocks = c.args.parts.inventories.maps.items in
-    sym (length-map c.in_ok-entries.entries.items held_list) ∙ ap length c.in_ok-entries.ensures
-    ∙ ap (λ l. length (zip_used (map by_class l) (map by_class stocks))) c.deref-2.ensures.value
-    ∙ zip_size (map by_class usages) (map by_class stocks)
-    (length-map usages by_class ∙ c.requires.usages ∙ sym c.requires.inventories ∙ sym (length-map stocks by_class))
-    ∙ length-map stocks by_class ∙ c.requires.inventories
-
-pub invariant_of-result-clause-with_traits : goal.invariant_of-result-clause-with_traits
-invariant_of-result-clause-with_traits c =
-    sym (length-map c.in_ok-traits.traits.items name_list) ∙ ap length c.in_ok-traits.ensures ∙ length-map c.args.parts.traits.sets.items trait_texts ∙ c.requires.traits
-
-pub invariant_of-result-clause-with_aggregates : goal.invariant_of-result-clause-with_aggregates
-invariant_of-result-clause-with_aggregates c =
-    sym (length-map c.in_ok-aggregates.aggregates.items id_list) ∙ ap length c.in_ok-aggregates.ensures
-    ∙ ap (λ l. length (map ids_in l)) c.deref-3.ensures.value ∙ length-map c.args.parts.aggregates.sets.items ids_in ∙ c.requires.aggregates
-
-pub invariant_of-result-clause-within : goal.invariant_of-result-clause-within
-invariant_of-result-clause-within c = are_within c.args.parts.ids.ids.items c.args.parts.roll.rows.items c.requires.kin c.in_ok-parents.parents.items c.in_ok-parents.ensures
-
-pub invariant_of-result-clause-rooted : goal.invariant_of-result-clause-rooted
-invariant_of-result-clause-rooted c = λ i h.
-    let size = same_size c.args.parts.ids.ids.items c.args.parts.roll.rows.items c.requires.kin c.in_ok-parents.parents.items c.in_ok-parents.ensures in
-    let tops = rw c.deref.ensures.value at c.in_ok-roots.ensures.tops in
-    tops i (omega (arith, h, size)) ∙ ap (λ (n : ℕ). top (parent_in c.in_ok-parents.parents.items) n i) size
-
-pub invariant_of-result-clause-ends : goal.invariant_of-result-clause-ends
-invariant_of-result-clause-ends c = λ i h.
-    let size = same_size c.args.parts.ids.ids.items c.args.parts.roll.rows.items c.requires.kin c.in_ok-parents.parents.items c.in_ok-parents.ensures in
-    let tops = rw c.deref.ensures.value at c.in_ok-roots.ensures.tops in
-    ap (parent_in c.in_ok-parents.parents.items) (tops i (omega (arith, h, size)) ∙ ap (λ (n : ℕ). top (parent_in c.in_ok-parents.parents.items) n i) size)
-    ∙ chains_end c.args.parts.ids.ids.items c.args.parts.roll.rows.items c.requires.kin c.in_ok-parents.parents.items c.in_ok-parents.ensures i h
+    subst AreParents (sym c.deref.ensures.value) (are_parents c.args.parts.inventories.ids.ids.items c.args.parts.roll.rows.items c.requires.kin c.in_ok-parents.parents.items c.in_ok-parents.ensures)
 
 pub find_anchors-requires-clause-inside : goal.find_anchors-requires-clause-inside
 find_anchors-requires-clause-inside c =
-    let ids = c.args.parts.ids.ids.items in
+    let ids = c.args.parts.inventories.ids.ids.items in
     let parents = c.in_ok-parents.parents.items in
     let size = same_size ids c.args.parts.roll.rows.items c.requires.kin parents c.in_ok-parents.ensures in
     let within = are_within ids c.args.parts.roll.rows.items c.requires.kin parents c.in_ok-parents.ensures in
     let tops = rw c.deref.ensures.value at c.in_ok-roots.ensures.tops in
     let sized : length c.in_ok-roots.roots.items ≡ length ids = c.in_ok-roots.ensures.length ∙ ap length c.deref.ensures.value ∙ size in
-    subst (λ (l : List ℕ). ArePlaces (length l) l) (sym c.deref-4.ensures.value)
+    subst (λ (l : List ℕ). ArePlaces (length l) l) (sym c.deref-2.ensures.value)
     (λ (i : ℕ) (h : i < length c.in_ok-roots.roots.items).
     let inside : i < length ids = omega (arith, h, sized) in
-    let r = numbered_root ids parents [] [] [] c.args.parts.ids.rising within i inside in
+    let r = numbered_root ids parents [] [] [] c.args.parts.inventories.ids.rising within i inside in
     let e : get_or c.in_ok-roots.roots.items i 0 ≡ top (parent_in parents) (length ids) i = tops i (omega (arith, inside, size)) ∙ ap (λ (n : ℕ). top (parent_in parents) n i) size in
     omega (arith, e, r.0, sized))
 
-pub find_anchors-requires-clause-traits : goal.find_anchors-requires-clause-traits
-find_anchors-requires-clause-traits c =
-    let size = same_size c.args.parts.ids.ids.items c.args.parts.roll.rows.items c.requires.kin c.in_ok-parents.parents.items c.in_ok-parents.ensures in
-    ap length c.deref-5.ensures.value
-    ∙ sym (length-map c.in_ok-traits.traits.items name_list) ∙ ap length c.in_ok-traits.ensures ∙ length-map c.args.parts.traits.sets.items trait_texts ∙ c.requires.traits
-    ∙ sym (ap length c.deref-4.ensures.value ∙ c.in_ok-roots.ensures.length ∙ ap length c.deref.ensures.value ∙ size)
+pub find_anchors-requires-clause-sharing : goal.find_anchors-requires-clause-sharing
+find_anchors-requires-clause-sharing c =
+    ap length c.deref-3.ensures.value ∙ ap length c.in_ok-sharing.ensures ∙ length-map (lists_of c.args.parts.traits) shares_by ∙ c.requires.traits
+    ∙ sym (ap length c.deref-2.ensures.value ∙ c.in_ok-roots.ensures.length ∙ ap length c.deref.ensures.value ∙ same_size c.args.parts.inventories.ids.ids.items c.args.parts.roll.rows.items c.requires.kin c.in_ok-parents.parents.items c.in_ok-parents.ensures)
 
 pub find_anchors-requires-clause-aggregates : goal.find_anchors-requires-clause-aggregates
-find_anchors-requires-clause-aggregates c =
-    let size = same_size c.args.parts.ids.ids.items c.args.parts.roll.rows.items c.requires.kin c.in_ok-parents.parents.items c.in_ok-parents.ensures in
-    ap length c.deref-6.ensures.value
-    ∙ sym (length-map c.in_ok-aggregates.aggregates.items id_list) ∙ ap length c.in_ok-aggregates.ensures
-    ∙ ap (λ l. length (map ids_in l)) c.deref-3.ensures.value ∙ length-map c.args.parts.aggregates.sets.items ids_in ∙ c.requires.aggregates
-    ∙ sym (ap length c.deref-4.ensures.value ∙ c.in_ok-roots.ensures.length ∙ ap length c.deref.ensures.value ∙ size)
-
-pub invariant_of-result-clause-joined : goal.invariant_of-result-clause-joined
-invariant_of-result-clause-joined c = rw (c.deref-4.ensures.value, c.deref-6.ensures.value) at c.in_ok-anchors.ensures.joined
-
-pub invariant_of-result-clause-marked : goal.invariant_of-result-clause-marked
-invariant_of-result-clause-marked c = λ (j : ℕ) h.
-    let size = same_size c.args.parts.ids.ids.items c.args.parts.roll.rows.items c.requires.kin c.in_ok-parents.parents.items c.in_ok-parents.ensures in
-    let marked = rw (c.deref-4.ensures.value, c.deref-5.ensures.value, c.deref-6.ensures.value) at c.in_ok-anchors.ensures.marked in
-    let sized : length c.in_ok-roots.roots.items ≡ length c.args.parts.ids.ids.items = c.in_ok-roots.ensures.length ∙ ap length c.deref.ensures.value ∙ size in
-    marked j (omega (arith, h, sized))
+find_anchors-requires-clause-aggregates c = c.requires.aggregates ∙ sym (ap length c.deref-2.ensures.value ∙ c.in_ok-roots.ensures.length ∙ ap length c.deref.ensures.value ∙ same_size c.args.parts.inventories.ids.ids.items c.args.parts.roll.rows.items c.requires.kin c.in_ok-parents.parents.items c.in_ok-parents.ensures)
 
 pub walk-requires-clause-known : goal.walk-requires-clause-known
 walk-requires-clause-known c =
-    subst AreParents (sym c.deref-7.ensures.value) (are_parents c.args.parts.ids.ids.items c.args.parts.roll.rows.items c.requires.kin c.in_ok-parents.parents.items c.in_ok-parents.ensures)
+    subst AreParents (sym c.deref-4.ensures.value) (are_parents c.args.parts.inventories.ids.ids.items c.args.parts.roll.rows.items c.requires.kin c.in_ok-parents.parents.items c.in_ok-parents.ensures)
 
-pub invariant_of-result-clause-visited : goal.invariant_of-result-clause-visited
-invariant_of-result-clause-visited c = rw c.deref-7.ensures.value at c.in_ok-visits.ensures
+pub invariant_of-result : goal.invariant_of-result
+unfolding BelongTogether
+invariant_of-result c =
+    let ids = c.args.parts.inventories.ids.ids.items in
+    let listed = c.args.parts.roll.rows.items in
+    let parents = c.in_ok-parents.parents.items in
+    let size : length parents ≡ length ids = same_size ids listed c.requires.kin parents c.in_ok-parents.ensures in
+    let sized : length c.in_ok-roots.roots.items ≡ length ids = c.in_ok-roots.ensures.length ∙ ap length c.deref.ensures.value ∙ size in
+    let tops = rw c.deref.ensures.value at c.in_ok-roots.ensures.tops in
+    let used = lists_of c.args.parts.usages in
+    let rows = lists_of c.args.parts.inventories.rows in
+    let all : length rows ≡ length ids = rows_size c.args.parts.inventories in
+    let marked = rw (c.deref-2.ensures.value, c.deref-3.ensures.value) at c.in_ok-anchors.ensures.marked in
+    let alone = rw (c.deref-2.ensures.value, c.deref-3.ensures.value) at c.in_ok-anchors.ensures.alone in
+    record {
+      whole = record {
+        with_parents = size;
+        with_roots = sized;
+        with_entries =
+            sym (length-map (lists_of c.in_ok-entries.entries) (map entry_pair)) ∙ ap length c.in_ok-entries.ensures
+            ∙ zip_size (map (map class_pair) used) (map (map class_pair) rows)
+            (length-map used (map class_pair) ∙ c.requires.usages ∙ sym all ∙ sym (length-map rows (map class_pair)))
+            ∙ length-map rows (map class_pair) ∙ all;
+        with_traits = c.requires.traits;
+        with_aggregates = c.requires.aggregates;
+        with_sharing = ap length c.in_ok-sharing.ensures ∙ length-map (lists_of c.args.parts.traits) shares_by ∙ c.requires.traits;
+        with_anchors = c.in_ok-anchors.ensures.length ∙ ap length c.deref-2.ensures.value ∙ sized;
+        classes_rise = entries_rise (IsStrictlySortedBy text_cmp) (lists_of c.in_ok-entries.entries) (map (map class_pair) used) rows c.in_ok-entries.ensures c.requires.classes_rise;
+        names_rise = c.requires.names_rise;
+        aggregates_rise = c.requires.aggregates_rise;
+        within = are_within ids listed c.requires.kin parents c.in_ok-parents.ensures;
+        rooted = λ (i : ℕ) h. tops i (omega (arith, h, size)) ∙ ap (λ (n : ℕ). top (parent_in parents) n i) size;
+        ends = λ (i : ℕ) h.
+            ap (parent_in parents) (tops i (omega (arith, h, size)) ∙ ap (λ (n : ℕ). top (parent_in parents) n i) size)
+            ∙ chains_end ids listed c.requires.kin parents c.in_ok-parents.ensures i h;
+        visited = rw c.deref-4.ensures.value at c.in_ok-visits.ensures;
+        shared = λ (i : ℕ) h. ap (λ (l : List Bool). get_or l i false) c.in_ok-sharing.ensures ∙ get_or-map shares_by (lists_of c.args.parts.traits) i [] false (omega (arith, h, c.requires.traits));
+        joined = rw c.deref-2.ensures.value at c.in_ok-anchors.ensures.joined;
+        marked = λ (j : ℕ) h. marked j (omega (arith, h, sized));
+        alone = λ (j : ℕ) h. alone j (omega (arith, h, sized));
+      };
+    }

@@ -1,14 +1,24 @@
-use Rattle.std.proofs.Common.{◌∙◌, ap, arith}
+use Rattle.std.proofs.Common.{◌∙◌, arith, ap, map, sym, subst, List, ℕ, get_or, []}
+use Rattle.std.specs.List.Sorted.{IsStrictlySortedBy}
 use Rattle.std.specs.Map.{lookup}
 use Rattle.std.specs.Str.{bytes_eq}
 use Rattle.ac_base.specs.Names.{class_bytes}
-use Rattle.ac_tables.proofs.CloudFacts.{inside, holdings_here}
+use Rattle.ac_base.specs.Texts.{text_cmp}
+use Rattle.ac_tables.specs.Entries.{entry_class, entry_pair}
+use Rattle.ac_tables.specs.declared.cloud.entry.Entry.{Entry}
+use Rattle.ac_tables.proofs.CloudFacts.{inside, holdings_here, parts}
+use Rattle.ac_tables.specs.ListsOf.{lists_of}
 use Rattle.ac_tables.proofs.cloud.Cloud.find_entry.Goals as goal
 
-pub index-requires : goal.index-requires
-index-requires c = omega (arith, inside c.args.self.now c.args.ix c.requires, c.args.self.now.entries.ok.0, c.args.self.now.with_entries)
+pub of-requires : goal.of-requires
+of-requires c = omega (arith, inside c.args.self.now c.args.ix c.requires, (parts c.args.self.now).with_entries)
+
+pub find_entry-requires : goal.find_entry-requires
+find_entry-requires c =
+    let cloud = c.args.self.now in
+    subst (λ (es : List Entry). IsStrictlySortedBy text_cmp (map entry_class es)) (sym c.of.ensures) ((parts cloud).classes_rise c.args.ix [] (omega (arith, inside cloud c.args.ix c.requires, (parts cloud).with_entries)))
 
 pub returns : goal.returns
 returns c =
-    c.find.ensures
-    ∙ ap (lookup (bytes_eq (class_bytes c.args.class.now))) (holdings_here c.args.self.now c.args.ix c.index.result.now (inside c.args.self.now c.args.ix c.requires) c.index.ensures)
+    c.find_entry.ensures
+    ∙ ap (lookup (bytes_eq (class_bytes c.args.class.now))) (ap (map entry_pair) c.of.ensures ∙ holdings_here c.args.self.now c.args.ix (inside c.args.self.now c.args.ix c.requires))

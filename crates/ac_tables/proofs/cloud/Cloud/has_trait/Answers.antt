@@ -1,14 +1,23 @@
-use Rattle.std.proofs.Common.{◌∙◌, ap, arith}
+use Rattle.std.proofs.Common.{◌∙◌, arith, ap, map, sym, subst, List, ℕ, get_or, []}
 use Rattle.std.specs.List.{list_any}
+use Rattle.std.specs.List.Sorted.{IsStrictlySortedBy}
 use Rattle.std.specs.Str.{bytes_eq}
 use Rattle.ac_base.specs.Names.{trait_bytes}
-use Rattle.ac_tables.proofs.CloudFacts.{inside, traits_here}
+use Rattle.ac_base.specs.Texts.{text_cmp}
+use Rattle.ac_base.specs.declared.name.TraitName.{TraitName}
+use Rattle.ac_tables.proofs.CloudFacts.{inside, traits_here, parts}
+use Rattle.ac_tables.specs.ListsOf.{lists_of}
 use Rattle.ac_tables.proofs.cloud.Cloud.has_trait.Goals as goal
 
-pub index-requires : goal.index-requires
-index-requires c = omega (arith, inside c.args.self.now c.args.ix c.requires, c.args.self.now.traits.ok.0, c.args.self.now.with_traits)
+pub of-requires : goal.of-requires
+of-requires c = omega (arith, inside c.args.self.now c.args.ix c.requires, (parts c.args.self.now).with_traits)
+
+pub has_name-requires : goal.has_name-requires
+has_name-requires c =
+    let cloud = c.args.self.now in
+    subst (λ (names : List TraitName). IsStrictlySortedBy text_cmp (map trait_bytes names)) (sym c.of.ensures) ((parts cloud).names_rise c.args.ix [] (omega (arith, inside cloud c.args.ix c.requires, (parts cloud).with_traits)))
 
 pub returns : goal.returns
 returns c =
-    c.has.ensures
-    ∙ ap (list_any (bytes_eq (trait_bytes c.args.name.now))) (traits_here c.args.self.now c.args.ix c.index.result.now (inside c.args.self.now c.args.ix c.requires) c.index.ensures)
+    c.has_name.ensures
+    ∙ ap (list_any (bytes_eq (trait_bytes c.args.name.now))) (ap (map trait_bytes) c.of.ensures ∙ traits_here c.args.self.now c.args.ix (inside c.args.self.now c.args.ix c.requires))

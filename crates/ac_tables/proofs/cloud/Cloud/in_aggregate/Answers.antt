@@ -1,13 +1,21 @@
-use Rattle.std.proofs.Common.{◌∙◌, ap, ℕ, arith}
+use Rattle.std.proofs.Common.{◌∙◌, arith, ap, map, sym, subst, List, ℕ, get_or, []}
 use Rattle.std.specs.Prelude.{◌==◌}
 use Rattle.std.specs.List.{list_any}
-use Rattle.ac_tables.proofs.CloudFacts.{inside, aggregates_here}
+use Rattle.std.specs.List.Sorted.{IsStrictlySortedBy}
+use Rattle.std.specs.Ordering.{nat_cmp}
+use Rattle.ac_tables.proofs.CloudFacts.{inside, aggregates_here, parts}
+use Rattle.ac_tables.specs.ListsOf.{lists_of}
 use Rattle.ac_tables.proofs.cloud.Cloud.in_aggregate.Goals as goal
 
-pub index-requires : goal.index-requires
-index-requires c = omega (arith, inside c.args.self.now c.args.ix c.requires, c.args.self.now.aggregates.ok.0, c.args.self.now.with_aggregates)
+pub of-requires : goal.of-requires
+of-requires c = omega (arith, inside c.args.self.now c.args.ix c.requires, (parts c.args.self.now).with_aggregates)
+
+pub has_id-requires : goal.has_id-requires
+has_id-requires c =
+    let cloud = c.args.self.now in
+    subst (IsStrictlySortedBy nat_cmp) (sym c.of.ensures) ((parts cloud).aggregates_rise c.args.ix [] (omega (arith, inside cloud c.args.ix c.requires, (parts cloud).with_aggregates)))
 
 pub returns : goal.returns
 returns c =
-    c.has.ensures
-    ∙ ap (list_any (λ (a : ℕ). a == c.args.aggregate)) (aggregates_here c.args.self.now c.args.ix c.index.result.now (inside c.args.self.now c.args.ix c.requires) c.index.ensures)
+    c.has_id.ensures
+    ∙ ap (list_any (λ (a : ℕ). a == c.args.aggregate)) (c.of.ensures ∙ aggregates_here c.args.self.now c.args.ix (inside c.args.self.now c.args.ix c.requires))

@@ -4,12 +4,12 @@ use Rattle.std.proofs.lemmas.List.{get_or_read}
 use Rattle.ac_tables.specs.Trees.{is_in_chain}
 use Rattle.ac_tables.specs.World.{id_at, parent_of}
 use Rattle.ac_tables.specs.CloudWorld.{providers_of}
-use Rattle.ac_tables.proofs.CloudFacts.{size, inside, parent_is}
+use Rattle.ac_tables.proofs.CloudFacts.{size, inside, parent_is, parts}
 use Rattle.ac_tables.proofs.AncestorFacts.{chain_here, chain_ends, chain_goes, chain_last, same_test, some_name, no_name, some_inside}
 use Rattle.ac_tables.proofs.cloud.Cloud.leads_to.Goals as goal
 
 pub index-requires : goal.index-requires
-index-requires c = omega (arith, inside c.args.self.now c.loop-step.at c.loop-step.invariant.0, c.args.self.now.parents.ok.0, c.args.self.now.with_parents)
+index-requires c = omega (arith, inside c.args.self.now c.loop-step.at c.loop-step.invariant.0, c.args.self.now.parents.ok.0, (parts c.args.self.now).with_parents)
 
 pub returns-then-at-a : goal.returns-then-at-a
 returns-then-at-a c =
@@ -21,7 +21,7 @@ pub returns-in-None : goal.returns-in-None
 returns-in-None c =
     let all = providers_of c.args.self.now in
     let h = inside c.args.self.now c.loop-step.at c.loop-step.invariant.0 in
-    let k : c.loop-step.at < length c.args.self.now.parents.items = omega (arith, h, c.args.self.now.with_parents) in
+    let k : c.loop-step.at < length c.args.self.now.parents.items = omega (arith, h, (parts c.args.self.now).with_parents) in
     let p = parent_is c.args.self.now c.loop-step.at c.index.result.now h (get_or_read c.args.self.now.parents.items _ _ k c.index.ensures None) in
     let apart : (c.loop-step.at == c.args.a) ≡ false = search (arith, rules, c.if-at-a.false) in
     sym (chain_ends (parent_of all) (length all - c.loop-step._step) (id_at all c.args.a) (id_at all c.loop-step.at)
@@ -32,7 +32,7 @@ pub loop-step-preserved : goal.loop-step-preserved
 loop-step-preserved c =
     let all = providers_of c.args.self.now in
     let h = inside c.args.self.now c.loop-step.at c.loop-step.invariant.0 in
-    let k : c.loop-step.at < length c.args.self.now.parents.items = omega (arith, h, c.args.self.now.with_parents) in
+    let k : c.loop-step.at < length c.args.self.now.parents.items = omega (arith, h, (parts c.args.self.now).with_parents) in
     let p = parent_is c.args.self.now c.loop-step.at c.index.result.now h (get_or_read c.args.self.now.parents.items _ _ k c.index.ensures None) in
     let apart : (c.loop-step.at == c.args.a) ≡ false = search (arith, rules, c.if-at-a.false) in
     let left : length all - c.loop-step._step ≡ suc (length all - (c.loop-step._step + 1)) = omega (arith, c.loop-step-test.true, c.len-step-end.ensures.value, size c.args.self.now) in (

@@ -11,12 +11,16 @@ use Rattle.ac_tables.specs.InventoryTable.{holdings_of, inventories_fault}
 use Rattle.ac_tables.specs.UsageTable.{usages_of, usages_fault}
 use Rattle.ac_tables.specs.TraitTable.{marks_of, traits_fault}
 use Rattle.ac_tables.specs.AggregateTable.{memberships_of, aggregates_fault}
-use Rattle.ac_tables.specs.Tables.{ids_of, amounts_of, names_of, aggregates_of, world_stated, gathered}
+use Rattle.ac_tables.specs.Tables.{ids_of, stocks_of, amounts_of, names_of, aggregates_of, world_stated, gathered}
 use Rattle.std.specs.Option.{option_and_then}
 use Rattle.ac_tables.specs.Places.{rank}
 use Rattle.ac_tables.specs.Kin.{AreKin}
-use Rattle.ac_tables.specs.Gathered.{by_class, trait_texts, ids_in}
-use Rattle.ac_tables.specs.Lists.{zip_used}
+use Rattle.ac_tables.specs.InventoryRows.{class_pair}
+use Rattle.ac_tables.specs.EntryLists.{with_used_lists}
+use Rattle.ac_tables.specs.ListsOf.{lists_of}
+use Rattle.ac_tables.proofs.SearchFacts.{map_itself}
+use Rattle.ac_tables.proofs.RiseFacts.{said_here, stocks_rise, amounts_rise, names_rise, aggregates_rise}
+use Rattle.std.proofs.lemmas.List.Sorted.{length_permutation}
 use Rattle.ac_tables.specs.Numbered.{numbered}
 use Rattle.ac_tables.specs.CloudWorld.{sizes_of}
 use Rattle.ac_tables.proofs.StatedWorld.{stated, counted, same_sizes}
@@ -28,14 +32,14 @@ use Rattle.ac_tables.proofs.cloud.Cloud.read.Goals as goal
 pub returns-in-Err-clause-fault : goal.returns-in-Err-clause-fault
 returns-in-Err-clause-fault c = tells_providers (tables_of c.args.src.now) c.in-Err.fault c.in-Err.ensures.fault
 
-pub returns-in-Err-read_inventories-clause-fault : goal.returns-in-Err-read_inventories-clause-fault
+pub returns-in-Err-read-clause-fault : goal.returns-in-Err-read-clause-fault
 unfolding ids_of
-returns-in-Err-read_inventories-clause-fault c =
+returns-in-Err-read-clause-fault c =
     let t = tables_of c.args.src.now in
     let ok = c.in-Ok.ensures.ok in
     let all : c.in_ok-ids.ids.ids.items ≡ ids_of t.providers = c.in_ok-ids.ensures.ids ∙ ap (λ (rows : List Listed). rising nat_cmp (map (λ p. p.id) rows)) ok.0 in
-    tells_inventories t c.in-Err-read_inventories.fault ok.1
-    (subst (λ (l : List ℕ). Tells (inventories_fault l t.inventories) c.in-Err-read_inventories.fault) all c.in-Err-read_inventories.ensures.fault)
+    tells_inventories t c.in-Err-read.fault ok.1
+    (subst (λ (l : List ℕ). Tells (inventories_fault l t.inventories) c.in-Err-read.fault) all c.in-Err-read.ensures.err)
 
 pub returns-in-Err-read_usages-clause-fault : goal.returns-in-Err-read_usages-clause-fault
 unfolding ids_of
@@ -43,13 +47,14 @@ returns-in-Err-read_usages-clause-fault c =
     let t = tables_of c.args.src.now in
     let ok = c.in-Ok.ensures.ok in
     let all : c.in_ok-ids.ids.ids.items ≡ ids_of t.providers = c.in_ok-ids.ensures.ids ∙ ap (λ (rows : List Listed). rising nat_cmp (map (λ p. p.id) rows)) ok.0 in
-    let i = ap (λ (l : List ℕ). inventories_fault l t.inventories) (sym all) ∙ c.in-Ok-read_inventories.ensures.ok in
-    let stocks = c.in-Ok-read_inventories.ensures.gathered in
+    let i = ap (λ (l : List ℕ). inventories_fault l t.inventories) (sym all) ∙ c.in-Ok-read.ensures.ok in
+    let own : c.in-Ok-read.inventories.ids.ids.items ≡ ids_of t.providers = c.in-Ok-read.ensures.ids ∙ all in
+    let said = said_here c.in-Ok-read.inventories c.in_ok-ids.ids.ids.items (holdings_of t.inventories) c.in-Ok-read.ensures.ids c.in-Ok-read.ensures.said in
     let usage_rows = ap records_of c.text_or-text.ensures ∙ usage_text c.args.src.now.usages in
     tells_usages t c.in-Err-read_usages.fault ok.1 i
-    (subst (λ (l : List ℕ). Tells (usages_fault l (holdings_of t.inventories) t.usages) c.in-Err-read_usages.fault) all
-    (subst (λ (rows : List Row). Tells (usages_fault c.in_ok-ids.ids.ids.items (holdings_of t.inventories) rows) c.in-Err-read_usages.fault) usage_rows
-    (c.in-Err-read_usages.ensures.fault (holdings_of t.inventories) stocks)))
+    (subst (λ (l : List ℕ). Tells (usages_fault l (holdings_of t.inventories) t.usages) c.in-Err-read_usages.fault) own
+    (subst (λ (rows : List Row). Tells (usages_fault c.in-Ok-read.inventories.ids.ids.items (holdings_of t.inventories) rows) c.in-Err-read_usages.fault) usage_rows
+    (c.in-Err-read_usages.ensures.err (holdings_of t.inventories) said)))
 
 pub returns-in-Err-read_traits-clause-fault : goal.returns-in-Err-read_traits-clause-fault
 unfolding ids_of
@@ -57,14 +62,15 @@ returns-in-Err-read_traits-clause-fault c =
     let t = tables_of c.args.src.now in
     let ok = c.in-Ok.ensures.ok in
     let all : c.in_ok-ids.ids.ids.items ≡ ids_of t.providers = c.in_ok-ids.ensures.ids ∙ ap (λ (rows : List Listed). rising nat_cmp (map (λ p. p.id) rows)) ok.0 in
-    let i = ap (λ (l : List ℕ). inventories_fault l t.inventories) (sym all) ∙ c.in-Ok-read_inventories.ensures.ok in
-    let stocks = c.in-Ok-read_inventories.ensures.gathered in
+    let i = ap (λ (l : List ℕ). inventories_fault l t.inventories) (sym all) ∙ c.in-Ok-read.ensures.ok in
+    let own : c.in-Ok-read.inventories.ids.ids.items ≡ ids_of t.providers = c.in-Ok-read.ensures.ids ∙ all in
+    let said = said_here c.in-Ok-read.inventories c.in_ok-ids.ids.ids.items (holdings_of t.inventories) c.in-Ok-read.ensures.ids c.in-Ok-read.ensures.said in
     let usage_rows = ap records_of c.text_or-text.ensures ∙ usage_text c.args.src.now.usages in
-    let u = ap₂ (λ (l : List ℕ) (rows : List Row). usages_fault l (holdings_of t.inventories) rows) (sym all) (sym usage_rows) ∙ c.in-Ok-read_usages.ensures.ok (holdings_of t.inventories) stocks in
+    let u = ap₂ (λ (l : List ℕ) (rows : List Row). usages_fault l (holdings_of t.inventories) rows) (sym own) (sym usage_rows) ∙ c.in-Ok-read_usages.ensures.ok (holdings_of t.inventories) said in
     let trait_rows = ap records_of c.text_or-text-2.ensures ∙ trait_text c.args.src.now.traits in
     tells_traits t c.in-Err-read_traits.fault ok.1 i u
-    (subst (λ (l : List ℕ). Tells (traits_fault l t.traits) c.in-Err-read_traits.fault) all
-    (subst (λ (rows : List Row). Tells (traits_fault c.in_ok-ids.ids.ids.items rows) c.in-Err-read_traits.fault) trait_rows c.in-Err-read_traits.ensures.fault))
+    (subst (λ (l : List ℕ). Tells (traits_fault l t.traits) c.in-Err-read_traits.fault) own
+    (subst (λ (rows : List Row). Tells (traits_fault c.in-Ok-read.inventories.ids.ids.items rows) c.in-Err-read_traits.fault) trait_rows c.in-Err-read_traits.ensures.err))
 
 pub returns-in-Err-read_aggregates-clause-fault : goal.returns-in-Err-read_aggregates-clause-fault
 unfolding ids_of
@@ -72,16 +78,17 @@ returns-in-Err-read_aggregates-clause-fault c =
     let t = tables_of c.args.src.now in
     let ok = c.in-Ok.ensures.ok in
     let all : c.in_ok-ids.ids.ids.items ≡ ids_of t.providers = c.in_ok-ids.ensures.ids ∙ ap (λ (rows : List Listed). rising nat_cmp (map (λ p. p.id) rows)) ok.0 in
-    let i = ap (λ (l : List ℕ). inventories_fault l t.inventories) (sym all) ∙ c.in-Ok-read_inventories.ensures.ok in
-    let stocks = c.in-Ok-read_inventories.ensures.gathered in
+    let i = ap (λ (l : List ℕ). inventories_fault l t.inventories) (sym all) ∙ c.in-Ok-read.ensures.ok in
+    let own : c.in-Ok-read.inventories.ids.ids.items ≡ ids_of t.providers = c.in-Ok-read.ensures.ids ∙ all in
+    let said = said_here c.in-Ok-read.inventories c.in_ok-ids.ids.ids.items (holdings_of t.inventories) c.in-Ok-read.ensures.ids c.in-Ok-read.ensures.said in
     let usage_rows = ap records_of c.text_or-text.ensures ∙ usage_text c.args.src.now.usages in
-    let u = ap₂ (λ (l : List ℕ) (rows : List Row). usages_fault l (holdings_of t.inventories) rows) (sym all) (sym usage_rows) ∙ c.in-Ok-read_usages.ensures.ok (holdings_of t.inventories) stocks in
+    let u = ap₂ (λ (l : List ℕ) (rows : List Row). usages_fault l (holdings_of t.inventories) rows) (sym own) (sym usage_rows) ∙ c.in-Ok-read_usages.ensures.ok (holdings_of t.inventories) said in
     let trait_rows = ap records_of c.text_or-text-2.ensures ∙ trait_text c.args.src.now.traits in
-    let m = ap₂ (λ (l : List ℕ) (rows : List Row). traits_fault l rows) (sym all) (sym trait_rows) ∙ c.in-Ok-read_traits.ensures.ok in
+    let m = ap₂ (λ (l : List ℕ) (rows : List Row). traits_fault l rows) (sym own) (sym trait_rows) ∙ c.in-Ok-read_traits.ensures.ok in
     let aggregate_rows = ap records_of c.text_or-text-3.ensures ∙ aggregate_text c.args.src.now.aggregates in
     tells_aggregates t c.in-Err-read_aggregates.fault ok.1 i u m
-    (subst (λ (l : List ℕ). Tells (aggregates_fault l t.aggregates) c.in-Err-read_aggregates.fault) all
-    (subst (λ (rows : List Row). Tells (aggregates_fault c.in_ok-ids.ids.ids.items rows) c.in-Err-read_aggregates.fault) aggregate_rows c.in-Err-read_aggregates.ensures.fault))
+    (subst (λ (l : List ℕ). Tells (aggregates_fault l t.aggregates) c.in-Err-read_aggregates.fault) own
+    (subst (λ (rows : List Row). Tells (aggregates_fault c.in-Ok-read.inventories.ids.ids.items rows) c.in-Err-read_aggregates.fault) aggregate_rows c.in-Err-read_aggregates.ensures.err))
 
 pub returns-clause-ok : goal.returns-clause-ok
 unfolding ids_of
@@ -89,54 +96,89 @@ returns-clause-ok c =
     let t = tables_of c.args.src.now in
     let ok = c.in-Ok.ensures.ok in
     let all : c.in_ok-ids.ids.ids.items ≡ ids_of t.providers = c.in_ok-ids.ensures.ids ∙ ap (λ (rows : List Listed). rising nat_cmp (map (λ p. p.id) rows)) ok.0 in
-    let i = ap (λ (l : List ℕ). inventories_fault l t.inventories) (sym all) ∙ c.in-Ok-read_inventories.ensures.ok in
-    let stocks = c.in-Ok-read_inventories.ensures.gathered in
+    let i = ap (λ (l : List ℕ). inventories_fault l t.inventories) (sym all) ∙ c.in-Ok-read.ensures.ok in
+    let own : c.in-Ok-read.inventories.ids.ids.items ≡ ids_of t.providers = c.in-Ok-read.ensures.ids ∙ all in
+    let said = said_here c.in-Ok-read.inventories c.in_ok-ids.ids.ids.items (holdings_of t.inventories) c.in-Ok-read.ensures.ids c.in-Ok-read.ensures.said in
     let usage_rows = ap records_of c.text_or-text.ensures ∙ usage_text c.args.src.now.usages in
-    let u = ap₂ (λ (l : List ℕ) (rows : List Row). usages_fault l (holdings_of t.inventories) rows) (sym all) (sym usage_rows) ∙ c.in-Ok-read_usages.ensures.ok (holdings_of t.inventories) stocks in
+    let u = ap₂ (λ (l : List ℕ) (rows : List Row). usages_fault l (holdings_of t.inventories) rows) (sym own) (sym usage_rows) ∙ c.in-Ok-read_usages.ensures.ok (holdings_of t.inventories) said in
     let trait_rows = ap records_of c.text_or-text-2.ensures ∙ trait_text c.args.src.now.traits in
-    let m = ap₂ (λ (l : List ℕ) (rows : List Row). traits_fault l rows) (sym all) (sym trait_rows) ∙ c.in-Ok-read_traits.ensures.ok in
+    let m = ap₂ (λ (l : List ℕ) (rows : List Row). traits_fault l rows) (sym own) (sym trait_rows) ∙ c.in-Ok-read_traits.ensures.ok in
     let aggregate_rows = ap records_of c.text_or-text-3.ensures ∙ aggregate_text c.args.src.now.aggregates in
-    let a = ap₂ (λ (l : List ℕ) (rows : List Row). aggregates_fault l rows) (sym all) (sym aggregate_rows) ∙ c.in-Ok-read_aggregates.ensures.ok in
+    let a = ap₂ (λ (l : List ℕ) (rows : List Row). aggregates_fault l rows) (sym own) (sym aggregate_rows) ∙ c.in-Ok-read_aggregates.ensures.ok in
     none_at_all t ok.1 i u m a
 
 pub build-requires-clause-kin : goal.build-requires-clause-kin
 build-requires-clause-kin c =
     let ok = c.in-Ok.ensures.ok in
-    kin_of (records_of c.args.src.now.providers.now) c.in-Ok.roll.rows.items c.in_ok-ids.ids.ids.items ok.0 c.in_ok-ids.ensures.ids c.in_ok-ids.ensures.count c.in-Ok.roll.distinct ok.1
+    subst (λ (l : List ℕ). AreKin l c.in-Ok.roll.rows.items) (sym c.in-Ok-read.ensures.ids)
+    (kin_of (records_of c.args.src.now.providers.now) c.in-Ok.roll.rows.items c.in_ok-ids.ids.ids.items ok.0 c.in_ok-ids.ensures.ids c.in_ok-ids.ensures.count c.in-Ok.roll.distinct ok.1)
+
+pub build-requires-clause-usages : goal.build-requires-clause-usages
+build-requires-clause-usages c =
+    let ids = c.in-Ok-read.inventories.ids.ids.items in
+    sym (length-map (lists_of c.in-Ok-read_usages.usages) (map class_pair)) ∙ ap length c.in-Ok-read_usages.ensures.value ∙ length-map ids _
+
+pub build-requires-clause-traits : goal.build-requires-clause-traits
+build-requires-clause-traits c =
+    let ids = c.in-Ok-read.inventories.ids.ids.items in
+    sym (length-map (lists_of c.in-Ok-read_traits.traits) (map trait_bytes)) ∙ ap length c.in-Ok-read_traits.ensures.value ∙ length-map ids _
+
+pub build-requires-clause-aggregates : goal.build-requires-clause-aggregates
+build-requires-clause-aggregates c =
+    let ids = c.in-Ok-read.inventories.ids.ids.items in
+    ap length c.in-Ok-read_aggregates.ensures.value ∙ length-map ids _
+
+pub build-requires-clause-classes_rise : goal.build-requires-clause-classes_rise
+build-requires-clause-classes_rise c =
+    stocks_rise _ c.in_ok-ids.ids.ids.items (lists_of c.in-Ok-read.inventories.rows) c.in-Ok-read.ensures.value
+
+pub build-requires-clause-used_rise : goal.build-requires-clause-used_rise
+build-requires-clause-used_rise c =
+    amounts_rise _ c.in-Ok-read.inventories.ids.ids.items (lists_of c.in-Ok-read_usages.usages) c.in-Ok-read_usages.ensures.value
+
+pub build-requires-clause-names_rise : goal.build-requires-clause-names_rise
+build-requires-clause-names_rise c =
+    names_rise _ c.in-Ok-read.inventories.ids.ids.items (lists_of c.in-Ok-read_traits.traits) c.in-Ok-read_traits.ensures.value
+
+pub build-requires-clause-aggregates_rise : goal.build-requires-clause-aggregates_rise
+build-requires-clause-aggregates_rise c =
+    aggregates_rise _ c.in-Ok-read.inventories.ids.ids.items (lists_of c.in-Ok-read_aggregates.aggregates) c.in-Ok-read_aggregates.ensures.value
 
 pub returns-clause-world : goal.returns-clause-world
 unfolding ids_of world_stated
 returns-clause-world c =
     let t = tables_of c.args.src.now in
     let ok = c.in-Ok.ensures.ok in
-    let ids = c.in_ok-ids.ids.ids.items in
-    let all : ids ≡ ids_of t.providers = c.in_ok-ids.ensures.ids ∙ ap (λ (rows : List Listed). rising nat_cmp (map (λ p. p.id) rows)) ok.0 in
+    let ids = c.in-Ok-read.inventories.ids.ids.items in
+    let first = c.in_ok-ids.ids.ids.items in
+    let same : ids ≡ first = c.in-Ok-read.ensures.ids in
+    let all : ids ≡ ids_of t.providers = same ∙ c.in_ok-ids.ensures.ids ∙ ap (λ (rows : List Listed). rising nat_cmp (map (λ p. p.id) rows)) ok.0 in
     let usage_rows = ap records_of c.text_or-text.ensures ∙ usage_text c.args.src.now.usages in
     let trait_rows = ap records_of c.text_or-text-2.ensures ∙ trait_text c.args.src.now.traits in
     let aggregate_rows = ap records_of c.text_or-text-3.ensures ∙ aggregate_text c.args.src.now.aggregates in
-    let stocks = c.in-Ok-read_inventories.ensures.gathered in
-    let amounts = c.in-Ok-read_usages.ensures.gathered (holdings_of t.inventories) stocks in
-    let usages = amounts.each ∙ ap (λ (rows : List Row). map (amounts_of (usages_of rows)) ids) usage_rows in
-    let names = c.in-Ok-read_traits.ensures.gathered.each ∙ ap (λ (rows : List Row). map (names_of (marks_of rows)) ids) trait_rows in
-    let aggregates = c.in-Ok-read_aggregates.ensures.gathered.each ∙ ap (λ (rows : List Row). map (aggregates_of (memberships_of rows)) ids) aggregate_rows in
-    let kin = kin_of (records_of c.args.src.now.providers.now) c.in-Ok.roll.rows.items ids ok.0 c.in_ok-ids.ensures.ids c.in_ok-ids.ensures.count c.in-Ok.roll.distinct ok.1 in
-    let us = map by_class c.in-Ok-read_usages.read.0.maps.items in
-    let ss = map by_class c.in-Ok-read_inventories.read.0.maps.items in
-    let ns = map trait_texts c.in-Ok-read_traits.traits.sets.items in
-    let gs = map ids_in c.in-Ok-read_aggregates.aggregates.sets.items in
+    let stocks = c.in-Ok-read.ensures.value ∙ ap (map (stocks_of (holdings_of t.inventories))) (sym same) in
+    let usages = c.in-Ok-read_usages.ensures.value ∙ ap (λ (rows : List Row). map (amounts_of (usages_of rows)) ids) usage_rows in
+    let names = c.in-Ok-read_traits.ensures.value ∙ ap (λ (rows : List Row). map (names_of (marks_of rows)) ids) trait_rows in
+    let aggregates = c.in-Ok-read_aggregates.ensures.value ∙ ap (λ (rows : List Row). map (aggregates_of (memberships_of rows)) ids) aggregate_rows in
+    let kin = subst (λ (l : List ℕ). AreKin l c.in-Ok.roll.rows.items) (sym same)
+    (kin_of (records_of c.args.src.now.providers.now) c.in-Ok.roll.rows.items first ok.0 c.in_ok-ids.ensures.ids c.in_ok-ids.ensures.count c.in-Ok.roll.distinct ok.1) in
+    let us = map (map class_pair) (lists_of c.in-Ok-read_usages.usages) in
+    let ss = map (map class_pair) (lists_of c.in-Ok-read.inventories.rows) in
+    let ns = map (map trait_bytes) (lists_of c.in-Ok-read_traits.traits) in
+    let gs = lists_of c.in-Ok-read_aggregates.aggregates in
     let providers =
     c.in_ok-build.ensures.providers
-    ∙ ap (λ (rows : List Listed). numbered ids (map (λ id. option_and_then (rank ids) (listed_parent rows id)) ids) (zip_used us ss) ns gs) ok.0
-    ∙ stated t ids us ss ns gs (subst (AreKin ids) ok.0 kin) usages stocks.each names aggregates
+    ∙ ap (λ (rows : List Listed). numbered ids (map (λ id. option_and_then (rank ids) (listed_parent rows id)) ids) (with_used_lists us ss) ns gs) ok.0
+    ∙ stated t ids us ss ns gs (subst (AreKin ids) ok.0 kin) usages stocks names aggregates
     ∙ ap (map (gathered t)) all in
     let s1 = c.len.ensures.value ∙ ap length all in
-    let s2 = c.in-Ok-read_inventories.ensures.count in
-    let s3 = c.in-Ok-read_usages.ensures.count ∙ ap (λ (rows : List Row). length (usages_of rows)) usage_rows in
-    let s4 = c.in-Ok-read_traits.traits.counted
-    ∙ counted trait_texts (λ s. length-map s.keys trait_bytes) c.in-Ok-read_traits.traits.sets.items (names_of (marks_of t.traits)) ids names
+    let s2 = c.count.ensures.items ∙ sym (length-map c.in-Ok-read.inventories.rows.items.items _) ∙ length_permutation _ _ c.in-Ok-read.ensures.said in
+    let s3 = c.count-2.ensures.items ∙ c.in-Ok-read_usages.ensures.count ∙ ap (λ (rows : List Row). length (usages_of rows)) usage_rows in
+    let s4 = c.count-3.ensures.sum
+    ∙ counted (map trait_bytes) (λ l. length-map l trait_bytes) (lists_of c.in-Ok-read_traits.traits) (names_of (marks_of t.traits)) ids names
     ∙ ap (sum_by (λ id. length (names_of (marks_of t.traits) id))) all in
-    let s5 = c.in-Ok-read_aggregates.aggregates.counted
-    ∙ counted ids_in (λ s. refl) c.in-Ok-read_aggregates.aggregates.sets.items (aggregates_of (memberships_of t.aggregates)) ids aggregates
+    let s5 = c.count-4.ensures.sum
+    ∙ counted (λ (l : List ℕ). l) (λ l. refl) (lists_of c.in-Ok-read_aggregates.aggregates) (aggregates_of (memberships_of t.aggregates)) ids (map_itself gs ∙ aggregates)
     ∙ ap (sum_by (λ id. length (aggregates_of (memberships_of t.aggregates) id))) all in
     let sizes = ap sizes_of c.in_ok-build.ensures.counts ∙ same_sizes (sizes_of _) (world_stated t).sizes s1 s2 s3 s4 s5 in
     λ i. record { providers = providers i; sizes = sizes i }

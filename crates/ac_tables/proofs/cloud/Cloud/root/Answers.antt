@@ -3,21 +3,21 @@ use Rattle.std.proofs.Common.{subst}
 use Rattle.std.proofs.lemmas.List.{get_or_read}
 use Rattle.ac_tables.specs.World.{id_at}
 use Rattle.ac_tables.specs.CloudWorld.{providers_of}
-use Rattle.ac_tables.proofs.CloudFacts.{inside, outside, root_inside, root_here}
+use Rattle.ac_tables.proofs.CloudFacts.{inside, outside, root_inside, root_here, parts}
 use Rattle.ac_tables.proofs.cloud.Cloud.root.Goals as goal
 
 pub index-requires : goal.index-requires
-index-requires c = omega (arith, inside c.args.self.now c.args.ix c.requires, c.args.self.now.roots.ok.0, c.args.self.now.with_roots)
+index-requires c = omega (arith, inside c.args.self.now c.args.ix c.requires, c.args.self.now.roots.ok.0, (parts c.args.self.now).with_roots)
 
 pub returns-clause-id : goal.returns-clause-id
 returns-clause-id c =
     let h = inside c.args.self.now c.args.ix c.requires in
-    let k : c.args.ix < length c.args.self.now.roots.items = omega (arith, h, c.args.self.now.with_roots) in
+    let k : c.args.ix < length c.args.self.now.roots.items = omega (arith, h, (parts c.args.self.now).with_roots) in
     ap (id_at (providers_of c.args.self.now)) (get_or_read c.args.self.now.roots.items _ _ k c.index.ensures 0) ∙ root_here c.args.self.now c.args.ix h
 
 pub returns-clause-inside : goal.returns-clause-inside
 returns-clause-inside c =
     let h = inside c.args.self.now c.args.ix c.requires in
-    let k : c.args.ix < length c.args.self.now.roots.items = omega (arith, h, c.args.self.now.with_roots) in
+    let k : c.args.ix < length c.args.self.now.roots.items = omega (arith, h, (parts c.args.self.now).with_roots) in
     subst (λ (j : ℕ). j < length (providers_of c.args.self.now)) (sym (get_or_read c.args.self.now.roots.items _ _ k c.index.ensures 0))
     (outside c.args.self.now _ (root_inside c.args.self.now c.args.ix h))

@@ -1,14 +1,13 @@
-use Rattle.std.proofs.Common.{◌∙◌, ap, arith}
-use Rattle.std.specs.Prelude.{codes}
-use Rattle.std.specs.List.{list_any}
-use Rattle.std.specs.Str.{bytes_eq}
-use Rattle.ac_tables.proofs.CloudFacts.{inside, traits_here}
+use Rattle.std.proofs.Common.{◌∙◌, sym, arith, false}
+use Rattle.std.proofs.lemmas.List.{get_or_read}
+use Rattle.ac_tables.proofs.CloudFacts.{inside, parts}
+use Rattle.ac_tables.proofs.AnchorFacts.{shares_here}
 use Rattle.ac_tables.proofs.cloud.Cloud.shares.Goals as goal
 
 pub index-requires : goal.index-requires
-index-requires c = omega (arith, inside c.args.self.now c.args.ix c.requires, c.args.self.now.traits.ok.0, c.args.self.now.with_traits)
+index-requires c = omega (arith, inside c.args.self.now c.args.ix c.requires, c.args.self.now.sharing.ok.0, (parts c.args.self.now).with_sharing)
 
 pub returns : goal.returns
 returns c =
-    c.index.result.now.marked
-    ∙ ap (list_any (bytes_eq (codes "MISC_SHARES_VIA_AGGREGATE"))) (traits_here c.args.self.now c.args.ix c.index.result.now (inside c.args.self.now c.args.ix c.requires) c.index.ensures)
+    let cloud = c.args.self.now in
+    get_or_read cloud.sharing.items c.args.ix _ (omega (arith, inside cloud c.args.ix c.requires, (parts cloud).with_sharing)) c.index.ensures false ∙ sym (shares_here cloud c.args.ix (inside cloud c.args.ix c.requires))

@@ -1,11 +1,11 @@
-use Rattle.std.proofs.Common.{◌∙◌, ap, arith}
-use Rattle.std.proofs.Common.{map}
+use Rattle.std.proofs.Common.{◌∙◌, arith, ap, map, sym, subst, List, ℕ, get_or, []}
 use Rattle.ac_base.specs.Names.{trait_bytes}
-use Rattle.ac_tables.proofs.CloudFacts.{inside, traits_here}
+use Rattle.ac_tables.proofs.CloudFacts.{inside, traits_here, parts}
+use Rattle.ac_tables.specs.ListsOf.{lists_of}
 use Rattle.ac_tables.proofs.cloud.Cloud.traits.Goals as goal
 
-pub index-requires : goal.index-requires
-index-requires c = omega (arith, inside c.args.self.now c.args.ix c.requires, c.args.self.now.traits.ok.0, c.args.self.now.with_traits)
+pub of-requires : goal.of-requires
+of-requires c = omega (arith, inside c.args.self.now c.args.ix c.requires, (parts c.args.self.now).with_traits)
 
 pub returns : goal.returns
-returns c = ap (map trait_bytes) c.as_slice.ensures.value ∙ traits_here c.args.self.now c.args.ix c.index.result.now (inside c.args.self.now c.args.ix c.requires) c.index.ensures
+returns c = ap (map trait_bytes) c.of.ensures ∙ traits_here c.args.self.now c.args.ix (inside c.args.self.now c.args.ix c.requires)

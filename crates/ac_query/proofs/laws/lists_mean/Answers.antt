@@ -1,0 +1,5 @@
+use Rattle.ac_query.proofs.ListItems.{lists_mean}
+use Rattle.ac_query.proofs.laws.lists_mean.Goals as goal
+
+pub returns : goal.returns
+returns c = lists_mean

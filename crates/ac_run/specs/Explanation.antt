@@ -1,0 +1,63 @@
+-- The text of an explanation: a line for each slot, one for the trees, and whether there is a candidate.
+use Rattle.std.specs.Prelude.{ℕ, ◌+◌, Bool, true, false, not, List, [], ◌∷◌, ◌++◌, length, codes}
+use Rattle.std.specs.Fmt.{decimal}
+use Rattle.std.specs.List.{flat_map, range_with_len}
+use Rattle.ac_query.specs.Asked.{Asked, Slot, slots_of}
+use Rattle.ac_tables.specs.World.{Provider}
+use Rattle.ac_search.specs.Explained.{SlotCounts, TreeCounts, slot_counts, tree_counts}
+use Rattle.ac_search.specs.Pages.{candidates}
+use Rattle.ac_search.specs.Placed.{slot_at}
+use Rattle.ac_search.specs.Together.{is_empty}
+use Rattle.ac_run.specs.Lines.{newline, printed, said}
+
+-- ---- A slot
+
+-- a class with its amount, behind a mark
+unfoldable pub need_text : List ℕ → List ℕ × ℕ → List ℕ
+need_text mark need = said (mark ∷ need.0 ∷ codes ":" ∷ decimal need.1 ∷ [])
+
+-- classes with their amounts: the first behind a blank, each further one behind a comma
+abbrev pub needs_text : List (List ℕ × ℕ) → List ℕ
+needs_text [] = []
+needs_text (need ∷ needs) = need_text (codes " ") need ++ flat_map (λ need. need_text (codes ",") need) needs
+
+-- a slot by its number and the suffix of its group
+unfoldable pub slot_name : ℕ → Slot → List ℕ
+slot_name number slot = said (codes "slot " ∷ decimal number ∷ codes " \"" ∷ printed slot.suffix ∷ codes "\"" ∷ [])
+
+-- how many of all providers meet what it asks
+unfoldable pub slot_counted : ℕ → SlotCounts → List ℕ
+slot_counted providers c =
+    said
+    (codes ": units " ∷ decimal c.units ∷ codes " of " ∷ decimal providers ∷ codes ", traits " ∷ decimal c.traits ∷ codes ", aggregates " ∷ decimal c.aggregates
+    ∷ codes ", tree " ∷ decimal c.tree ∷ codes ", room " ∷ decimal c.room ∷ newline ∷ [])
+
+abbrev pub slot_line : List Provider → ℕ → Slot → List ℕ
+slot_line all number slot = slot_name number slot ++ (needs_text slot.needs ++ slot_counted (length all) (slot_counts all slot))
+
+-- a line for each slot, numbered from 1
+abbrev pub slot_lines : List Provider → Asked → List ℕ
+slot_lines all asked = flat_map (λ s. slot_line all (s + 1) (slot_at asked s)) (range_with_len 0 (length (slots_of asked)))
+
+-- ---- The trees, and candidates
+
+unfoldable pub trees_line : TreeCounts → List ℕ
+trees_line c =
+    said
+    (codes "trees " ∷ decimal c.roots ∷ codes ": root traits " ∷ decimal c.root_traits ∷ codes ", each slot " ∷ decimal c.each_slot ∷ newline ∷ [])
+
+abbrev pub has_candidate : List Provider → Asked → Bool
+has_candidate all asked = not (is_empty (candidates all asked))
+
+unfoldable pub candidates_line : Bool → List ℕ
+candidates_line true = codes "candidates: some\n"
+candidates_line false = codes "candidates: none\n"
+
+-- ---- The explanation
+
+unfoldable pub explanation_text : List Provider → Asked → Bool → List ℕ
+explanation_text all asked found = slot_lines all asked ++ (trees_line (tree_counts all asked) ++ candidates_line found)
+
+abbrev pub explanation_status : Bool → ℕ
+explanation_status true = 0
+explanation_status false = 1

@@ -1,0 +1,236 @@
+//! How far a query comes, told without memory: a line for each slot, one for the trees, and whether there is a candidate.
+ghost use Rattle.std.specs.Prelude.{◌≡◌, ◌+◌, ◌<◌, ◌≤◌, ◌++◌, IfOk, OnErr, OnOk, length, map};
+ghost use Rattle.std.specs.Io.KnownBytes.{Appends};
+ghost use Rattle.ac_base.specs.Devices.{Rises, TakesPart};
+ghost use Rattle.ac_tables.specs.CloudWorld.{providers_of};
+ghost use Rattle.ac_query.specs.Asked.{slots_of};
+ghost use Rattle.ac_query.specs.GroupsShown.{need_entry, suffix_of};
+ghost use Rattle.ac_query.specs.QueriesShown.{asked_of};
+ghost use Rattle.ac_search.specs.ExplainedShown.{slot_counted as slot_shown, trees_counted as trees_shown};
+ghost use Rattle.ac_search.specs.Placed.{slot_at};
+ghost use Rattle.ac_run.specs.Explanation.{candidates_line, explanation_status, has_candidate, need_text, needs_text, slot_counted, slot_line, slot_lines, slot_name, trees_line};
+ghost use Rattle.ac_run.specs.Lines.{printed};
+
+use crate::digits::Digits;
+use crate::pieces::push_pieces;
+use ac_base::{NoMemory, Sink, WriteFailed, push_all};
+use ac_query::{Group, Need, Query};
+use ac_search::slots::{count_slots, group_at, needs_at};
+use ac_search::{SlotCounts, Source, TreeCounts, Walk, slot_counts};
+use ac_tables::Cloud;
+use std::alloc::Global;
+
+// A class with its amount, behind a mark.
+#[tactic(auto, unfolding(crate::specs::Explanation::need_text))]
+fn push_need<W: Sink>(out: &mut W, mark: &[u8], need: &Need) -> Result<(), WriteFailed>
+    ensures ok { OnOk result (Appends (W.taken out.old) (W.taken out.new)
+        (need_text mark.now (need_entry need.now))) }
+    ensures part { OnErr result (TakesPart (W.taken out.old) (W.taken out.new)
+        (need_text mark.now (need_entry need.now))) }
+    ensures rises { OnErr result (Rises (W.failures out.old) (W.failures out.new)) }
+    ensures failures { W.failures out.old ≤ W.failures out.new }
+{
+    push_pieces(
+        out,
+        &[
+            mark,
+            need.class().text().as_bytes(),
+            b":",
+            Digits::of(need.amount()).as_bytes(),
+        ],
+    )
+}
+
+// All classes of a slot.
+fn push_needs<W: Sink>(out: &mut W, needs: &[Need]) -> Result<(), WriteFailed>
+    ensures ok { OnOk result (Appends (W.taken out.old) (W.taken out.new)
+        (needs_text (map need_entry needs.now))) }
+    ensures part { OnErr result (TakesPart (W.taken out.old) (W.taken out.new)
+        (needs_text (map need_entry needs.now))) }
+    ensures rises { OnErr result (Rises (W.failures out.old) (W.failures out.new)) }
+    ensures failures { W.failures out.old ≤ W.failures out.new }
+{
+    let Some((first, others)) = needs.split_first() else {
+        return Ok(());
+    };
+    push_need(out, b" ", first)?;
+    for need in others {
+        push_need(out, b",", need)?;
+    }
+    Ok(())
+}
+
+// The suffix of a group; the unsuffixed one has the empty text.
+fn suffix_text(group: &Group) -> &str
+    ensures { result.now ≡ printed (suffix_of group.now) }
+{
+    match group.suffix() {
+        Some(suffix) => suffix.text(),
+        None => "",
+    }
+}
+
+// A slot by its number and the suffix of its group.
+#[tactic(auto, unfolding(crate::specs::Explanation::slot_name))]
+fn push_name<W: Sink>(out: &mut W, query: &Query, s: usize) -> Result<(), WriteFailed>
+    requires { s < length (slots_of (asked_of query.now)) }
+    ensures ok { OnOk result (Appends (W.taken out.old) (W.taken out.new)
+        (slot_name (s + 1) (slot_at (asked_of query.now) s))) }
+    ensures part { OnErr result (TakesPart (W.taken out.old) (W.taken out.new)
+        (slot_name (s + 1) (slot_at (asked_of query.now) s))) }
+    ensures rises { OnErr result (Rises (W.failures out.old) (W.failures out.new)) }
+    ensures failures { W.failures out.old ≤ W.failures out.new }
+{
+    push_pieces(
+        out,
+        &[
+            b"slot ",
+            Digits::of(s as u32 + 1).as_bytes(),
+            b" \"",
+            suffix_text(group_at(query, s)).as_bytes(),
+            b"\"",
+        ],
+    )
+}
+
+// How many of all providers meet what a slot asks.
+#[tactic(auto, unfolding(crate::specs::Explanation::slot_counted))]
+fn push_counts<W: Sink>(out: &mut W, providers: u32, counts: &SlotCounts) -> Result<(), WriteFailed>
+    ensures ok { OnOk result (Appends (W.taken out.old) (W.taken out.new)
+        (slot_counted providers (slot_shown counts.now))) }
+    ensures part { OnErr result (TakesPart (W.taken out.old) (W.taken out.new)
+        (slot_counted providers (slot_shown counts.now))) }
+    ensures rises { OnErr result (Rises (W.failures out.old) (W.failures out.new)) }
+    ensures failures { W.failures out.old ≤ W.failures out.new }
+{
+    push_pieces(
+        out,
+        &[
+            b": units ",
+            Digits::of(counts.units).as_bytes(),
+            b" of ",
+            Digits::of(providers).as_bytes(),
+            b", traits ",
+            Digits::of(counts.traits).as_bytes(),
+            b", aggregates ",
+            Digits::of(counts.aggregates).as_bytes(),
+            b", tree ",
+            Digits::of(counts.tree).as_bytes(),
+            b", room ",
+            Digits::of(counts.room).as_bytes(),
+            b"\n",
+        ],
+    )
+}
+
+// The line of a slot.
+#[tactic(auto, using(ac_base::proofs::Leaving::appends_both, ac_base::proofs::Leaving::part_of_first, ac_base::proofs::Leaving::part_of_second))]
+fn push_slot<W: Sink>(
+    out: &mut W,
+    cloud: &Cloud,
+    query: &Query,
+    s: usize,
+) -> Result<(), WriteFailed>
+    requires { s < length (slots_of (asked_of query.now)) }
+    ensures ok { OnOk result (Appends (W.taken out.old) (W.taken out.new)
+        (slot_line (providers_of cloud.now) (s + 1) (slot_at (asked_of query.now) s))) }
+    ensures part { OnErr result (TakesPart (W.taken out.old) (W.taken out.new)
+        (slot_line (providers_of cloud.now) (s + 1) (slot_at (asked_of query.now) s))) }
+    ensures rises { OnErr result (Rises (W.failures out.old) (W.failures out.new)) }
+    ensures failures { W.failures out.old ≤ W.failures out.new }
+{
+    push_name(out, query, s)?;
+    push_needs(out, needs_at(query, s))?;
+    push_counts(out, cloud.len(), &slot_counts(cloud, query, s))
+}
+
+// The lines of all slots.
+fn push_slots<W: Sink>(out: &mut W, cloud: &Cloud, query: &Query) -> Result<(), WriteFailed>
+    ensures ok { OnOk result (Appends (W.taken out.old) (W.taken out.new)
+        (slot_lines (providers_of cloud.now) (asked_of query.now))) }
+    ensures part { OnErr result (TakesPart (W.taken out.old) (W.taken out.new)
+        (slot_lines (providers_of cloud.now) (asked_of query.now))) }
+    ensures rises { OnErr result (Rises (W.failures out.old) (W.failures out.new)) }
+    ensures failures { W.failures out.old ≤ W.failures out.new }
+{
+    for s in 0..count_slots(query) {
+        push_slot(out, cloud, query, s)?;
+    }
+    Ok(())
+}
+
+// The line of the trees.
+#[tactic(auto, unfolding(crate::specs::Explanation::trees_line))]
+fn push_trees<W: Sink>(out: &mut W, counts: &TreeCounts) -> Result<(), WriteFailed>
+    ensures ok { OnOk result (Appends (W.taken out.old) (W.taken out.new)
+        (trees_line (trees_shown counts.now))) }
+    ensures part { OnErr result (TakesPart (W.taken out.old) (W.taken out.new)
+        (trees_line (trees_shown counts.now))) }
+    ensures rises { OnErr result (Rises (W.failures out.old) (W.failures out.new)) }
+    ensures failures { W.failures out.old ≤ W.failures out.new }
+{
+    push_pieces(
+        out,
+        &[
+            b"trees ",
+            Digits::of(counts.roots).as_bytes(),
+            b": root traits ",
+            Digits::of(counts.root_traits).as_bytes(),
+            b", each slot ",
+            Digits::of(counts.each_slot).as_bytes(),
+            b"\n",
+        ],
+    )
+}
+
+// The line that says whether there is a candidate.
+#[tactic(auto, unfolding(crate::specs::Explanation::candidates_line))]
+fn candidates_line(found: bool) -> &'static [u8]
+    ensures { result.now ≡ candidates_line found }
+{
+    if found {
+        b"candidates: some\n"
+    } else {
+        b"candidates: none\n"
+    }
+}
+
+/// Pushes an explanation: the lines of the slots, that of the trees by their counts, and whether a candidate was found.
+#[tactic(auto, using(ac_base::proofs::Leaving::appends_both, ac_base::proofs::Leaving::part_of_first, ac_base::proofs::Leaving::part_of_second))]
+pub fn push_explanation<W: Sink>(
+    out: &mut W,
+    cloud: &Cloud,
+    query: &Query,
+    trees: &TreeCounts,
+    found: bool,
+) -> Result<(), WriteFailed>
+    ensures ok { OnOk result (Appends (W.taken out.old) (W.taken out.new)
+        (slot_lines (providers_of cloud.now) (asked_of query.now)
+        ++ (trees_line (trees_shown trees.now) ++ candidates_line found))) }
+    ensures part { OnErr result (TakesPart (W.taken out.old) (W.taken out.new)
+        (slot_lines (providers_of cloud.now) (asked_of query.now)
+        ++ (trees_line (trees_shown trees.now) ++ candidates_line found))) }
+    ensures rises { OnErr result (Rises (W.failures out.old) (W.failures out.new)) }
+    ensures failures { W.failures out.old ≤ W.failures out.new }
+{
+    push_slots(out, cloud, query)?;
+    push_trees(out, trees)?;
+    push_all(out, candidates_line(found))
+}
+
+/// Whether there is a candidate.
+pub fn has_candidate(alloc: Global, cloud: &Cloud, query: &Query) -> Result<bool, NoMemory>
+    ensures { IfOk result (λ found.
+        found ≡ has_candidate (providers_of cloud.now) (asked_of query.now)) }
+{
+    let mut walk = Walk::new(alloc, cloud, query, None)?;
+    Ok(walk.next().is_some())
+}
+
+/// 0 where a candidate was found, 1 where there is none.
+pub fn explanation_status(found: bool) -> u8
+    ensures said { result ≡ explanation_status found }
+    ensures few { result ≤ 1 }
+{
+    if found { 0 } else { 1 }
+}

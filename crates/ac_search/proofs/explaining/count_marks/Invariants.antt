@@ -1,0 +1,6 @@
+use Rattle.std.proofs.Common.{◌≡◌, take}
+use Rattle.ac_search.specs.ExplainedShown.{marked}
+use Rattle.ac_search.proofs.explaining.count_marks.Given as goal
+
+abbrev pub invariant-loop-mark : goal.invariant-loop-mark
+invariant-loop-mark l = l.count ≡ marked (take l.mark-index l.marks)

@@ -1,0 +1,14 @@
+use Rattle.std.proofs.Common.{ℕ, arith}
+use Rattle.std.specs.Prelude.{if◌then◌else◌}
+use Rattle.std.proofs.lemmas.Grind.{common_steps}
+use Rattle.ac_query.specs.QueriesShown.{asked_of}
+use Rattle.ac_tables.specs.CloudWorld.{providers_of}
+use Rattle.ac_search.specs.Placed.{placed_at}
+use Rattle.ac_search.specs.Explained.{meets_room}
+use Rattle.ac_search.proofs.OpenLemmas.{map_range_more}
+use Rattle.ac_search.proofs.explaining.serving.Goals as goal
+
+pub loop-ix-preserved : goal.loop-ix-preserved
+loop-ix-preserved c =
+    let serves = λ (p : ℕ). meets_room (providers_of c.args.cloud.now) (placed_at (asked_of c.args.query.now) c.args.s p) in
+    rw (map_range_more {X = ℕ} (λ p. if serves p then 1 else 0) c.loop-ix.ix) (grind (arith, common_steps))

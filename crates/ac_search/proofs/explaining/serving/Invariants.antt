@@ -1,0 +1,11 @@
+use Rattle.std.proofs.Common.{◌≡◌, map}
+use Rattle.std.specs.Prelude.{if◌then◌else◌}
+use Rattle.std.specs.List.{range_with_len}
+use Rattle.ac_query.specs.QueriesShown.{asked_of}
+use Rattle.ac_tables.specs.CloudWorld.{providers_of}
+use Rattle.ac_search.specs.Placed.{placed_at}
+use Rattle.ac_search.specs.Explained.{meets_room}
+use Rattle.ac_search.proofs.explaining.serving.Given as goal
+
+abbrev pub invariant-loop-ix : goal.invariant-loop-ix
+invariant-loop-ix l = l.serving.items ≡ map (λ p. if meets_room (providers_of l.cloud) (placed_at (asked_of l.query) l.s p) then 1 else 0) (range_with_len 0 l.ix)

@@ -1,0 +1,22 @@
+use Rattle.std.proofs.Common.{◌<◌, ℕ, List, length, take, sym, subst, arith}
+use Rattle.std.specs.List.{All}
+use Rattle.std.proofs.lemmas.List.Elements.{All-from_recursion}
+use Rattle.ac_search.specs.Accounts.{providers_in}
+use Rattle.ac_search.specs.WalkShown.{search_in}
+use Rattle.ac_search.proofs.MoveLemmas.{path_low}
+use Rattle.ac_search.proofs.StepLemmas.{laws_in}
+use Rattle.ac_search.proofs.PassLemmas.{choices_many}
+use Rattle.ac_search.proofs.walk.Walk.next_place.Goals as goal
+
+pub bound_by-provider-requires : goal.bound_by-provider-requires
+bound_by-provider-requires c =
+    let w = c.args.self.now in
+    subst (λ (l : List ℕ). All (λ p. p < length (providers_in w.ledger)) (take w.depth l)) (sym c.deref.ensures.value)
+    (All-from_recursion (λ p. p < length (providers_in w.ledger)) (take w.depth w.path.items)
+    (path_low (search_in w) (laws_in w) w.least.items w.path.items w.places.items w.depth w.seeking w.probes w.sound))
+
+pub may_follow-requires : goal.may_follow-requires
+may_follow-requires c = record { among = omega (arith, choices_many c.args.self.now c.index.result.now c.index.ensures, c.loop-place-test.true, c.len-end.ensures) }
+
+pub place_beside-place-requires-in-loop-place-clause-from : goal.place_beside-place-requires-in-loop-place-clause-from
+place_beside-place-requires-in-loop-place-clause-from c = omega (arith, choices_many c.args.self.now c.index.result.now c.index.ensures, c.loop-place-test.true, c.len-end.ensures)

@@ -1,0 +1,206 @@
+//! How far a query comes: of each slot how many providers meet its rules, one after another, and how many roots have one
+//! for each slot.
+
+ghost use Rattle.std.specs.Prelude.{◌≡◌, ◌<◌, ◌^◌, IfOk, [], length};
+ghost use Rattle.ac_tables.specs.World.{id_at, is_root, provider_at};
+ghost use Rattle.ac_tables.specs.CloudWorld.{providers_of};
+ghost use Rattle.ac_query.specs.Asked.{slots_of};
+ghost use Rattle.ac_query.specs.GroupsShown.{need_entry};
+ghost use Rattle.ac_query.specs.QueriesShown.{asked_of};
+ghost use Rattle.ac_search.specs.Placed.{placed_at, slot_at};
+ghost use Rattle.ac_search.specs.Together.{holds};
+ghost use Rattle.ac_search.specs.Explained.{count_of, has_room_alone, meets_room, slot_counts, tree_counts};
+ghost use Rattle.ac_search.specs.ExplainedShown.{marked, served, served_roots, slot_counted, trees_counted};
+
+use crate::hosts::limit;
+use crate::marks::taken_roots;
+use crate::open::fits_slot;
+use crate::own::{has_aggregates, has_slot_traits, has_units, is_in_tree};
+use crate::slots::{count_slots, needs_at};
+use crate::sums::room_at;
+use ac_base::NoMemory;
+use ac_query::{Need, Query};
+use ac_tables::Cloud;
+use std::alloc::Global;
+
+/// How many providers meet what a slot asks. Each number counts those that meet all that stands before it, too.
+#[derive(Clone, Copy, Debug, PartialEq, Eq)]
+pub struct SlotCounts {
+    /// Units: they have inventories whose units admit the slot's amounts.
+    pub units: u32,
+    /// SlotTraits.
+    pub traits: u32,
+    /// Aggregates.
+    pub aggregates: u32,
+    /// Tree.
+    pub tree: u32,
+    /// They have room for what the slot alone asks.
+    pub room: u32,
+}
+
+/// How many roots a query comes to.
+#[derive(Clone, Copy, Debug, PartialEq, Eq)]
+pub struct TreeCounts {
+    /// All roots.
+    pub roots: u32,
+    /// Those that have what the query asks of a root.
+    pub root_traits: u32,
+    /// Of these, those in whose trees each slot has a provider available that meets its rules and has room for it.
+    pub each_slot: u32,
+}
+
+// Whether a provider has room for an amount of a class.
+fn has_room_of(cloud: &Cloud, ix: u32, need: &Need) -> bool
+    requires { ix < length (providers_of cloud.now) }
+    ensures { result ≡ holds (provider_at (providers_of cloud.now) ix)
+        (need_entry need.now).0 (need_entry need.now).1 }
+{
+    match room_at(cloud, ix, need.class()) {
+        Some(room) => u64::from(need.amount()) <= room,
+        None => false,
+    }
+}
+
+// Whether a provider has room for what a slot alone asks.
+#[tactic(auto, unfolding(crate::specs::Explained::has_room_alone))]
+fn has_room_alone(cloud: &Cloud, query: &Query, s: usize, ix: u32) -> bool
+    requires slot { s < length (slots_of (asked_of query.now)) }
+    requires provider { ix < length (providers_of cloud.now) }
+    ensures { result
+        ≡ has_room_alone (providers_of cloud.now) (placed_at (asked_of query.now) s ix) }
+{
+    for need in needs_at(query, s) {
+        if !has_room_of(cloud, ix, need) {
+            return false;
+        }
+    }
+    true
+}
+
+/// How many providers meet what a slot asks. It takes no memory.
+pub fn slot_counts(cloud: &Cloud, query: &Query, s: usize) -> SlotCounts
+    requires { s < length (slots_of (asked_of query.now)) }
+    ensures { slot_counted result
+        ≡ slot_counts (providers_of cloud.now) (slot_at (asked_of query.now) s) }
+{
+    let mut units = 0;
+    let mut traits = 0;
+    let mut aggregates = 0;
+    let mut tree = 0;
+    let mut room = 0;
+    for ix in 0..cloud.len() {
+        if !has_units(cloud, query, s, ix) {
+            continue;
+        }
+        units += 1;
+        if !has_slot_traits(cloud, query, s, ix) {
+            continue;
+        }
+        traits += 1;
+        if !has_aggregates(cloud, query, s, ix) {
+            continue;
+        }
+        aggregates += 1;
+        if !is_in_tree(cloud, query, s, ix) {
+            continue;
+        }
+        tree += 1;
+        if !has_room_alone(cloud, query, s, ix) {
+            continue;
+        }
+        room += 1;
+    }
+    SlotCounts {
+        units,
+        traits,
+        aggregates,
+        tree,
+        room,
+    }
+}
+
+// Whether a provider meets all that a slot asks, room included.
+#[tactic(auto, unfolding(crate::specs::QuerySearch::fits))]
+fn serves(cloud: &Cloud, query: &Query, s: usize, ix: u32) -> bool
+    requires slot { s < length (slots_of (asked_of query.now)) }
+    requires provider { ix < length (providers_of cloud.now) }
+    ensures { result ≡ meets_room (providers_of cloud.now) (placed_at (asked_of query.now) s ix) }
+{
+    fits_slot(cloud, query, s, ix) && has_room_alone(cloud, query, s, ix)
+}
+
+// 1 for each provider that does, and else 0.
+fn serving(alloc: Global, cloud: &Cloud, query: &Query, s: usize) -> Result<Vec<u64>, NoMemory>
+    requires { s < length (slots_of (asked_of query.now)) }
+    ensures { IfOk result (λ serving.
+        serving.items ≡ served (providers_of cloud.now) (slot_at (asked_of query.now) s)) }
+{
+    let mut serving = Vec::new(alloc);
+    for ix in 0..cloud.len() {
+        serving.push(u64::from(serves(cloud, query, s, ix)))?;
+    }
+    Ok(serving)
+}
+
+// Leaves the roots at which some slot has no provider.
+fn limit_slots(
+    alloc: Global,
+    cloud: &Cloud,
+    query: &Query,
+    marks: &mut [bool],
+) -> Result<(), NoMemory>
+    requires { marks.old ≡ served_roots (providers_of cloud.now) (asked_of query.now) [] }
+    ensures { IfOk result (λ _. marks.new
+        ≡ served_roots (providers_of cloud.now) (asked_of query.now) (slots_of (asked_of query.now))) }
+{
+    for s in 0..count_slots(query) {
+        let serving = serving(alloc, cloud, query, s)?;
+        limit(alloc, cloud, marks, &serving, 1)?;
+    }
+    Ok(())
+}
+
+// How many roots there are.
+fn count_roots(cloud: &Cloud) -> u32
+    ensures { result ≡ count_of (providers_of cloud.now)
+        (λ r. is_root (providers_of cloud.now) (id_at (providers_of cloud.now) r)) }
+{
+    let mut count = 0;
+    for ix in 0..cloud.len() {
+        if cloud.available(ix, ix) {
+            count += 1;
+        }
+    }
+    count
+}
+
+// How many marks are set.
+fn count_marks(marks: &[bool]) -> u32
+    requires { length marks.now < 2 ^ 32 }
+    ensures { result ≡ marked marks.now }
+{
+    let mut count = 0;
+    for mark in marks {
+        if *mark {
+            count += 1;
+        }
+    }
+    count
+}
+
+/// How many roots there are, how many of them the query takes, and at how many of these each slot has a provider.
+pub fn tree_counts(alloc: Global, cloud: &Cloud, query: &Query) -> Result<TreeCounts, NoMemory>
+    ensures { IfOk result (λ counts.
+        trees_counted counts ≡ tree_counts (providers_of cloud.now) (asked_of query.now)) }
+{
+    let mut marks = taken_roots(alloc, cloud, query)?;
+    let roots = count_roots(cloud);
+    let root_traits = count_marks(&marks);
+    limit_slots(alloc, cloud, query, &mut marks)?;
+    let each_slot = count_marks(&marks);
+    Ok(TreeCounts {
+        roots,
+        root_traits,
+        each_slot,
+    })
+}

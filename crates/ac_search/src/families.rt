@@ -1,0 +1,119 @@
+//! The lists of `same_subtree`: which slots each names, and in which parts of the forest their providers stand together.
+
+ghost use Rattle.std.specs.Prelude.{◌≡◌, ◌<◌, ◌≤◌, ◌++◌, ◌∷◌, ℕ, List, [], true, false, length, map, get_or, slice_index_or, IfOk};
+ghost use Rattle.std.specs.List.{All};
+ghost use Rattle.ac_query.specs.Asked.{Asked, slots_of, lists_suffix};
+ghost use Rattle.ac_query.specs.QueriesShown.{asked_of};
+ghost use Rattle.ac_tables.specs.CloudWorld.{providers_of};
+ghost use Rattle.ac_tables.specs.World.{Provider};
+ghost use Rattle.ac_search.specs.Placed.{slot_at};
+ghost use Rattle.ac_search.specs.QuerySearch.{choices_of, search_of};
+ghost use Rattle.ac_search.specs.Search.{IsDead};
+
+use crate::parts::parts_of;
+use crate::slots::{count_slots, is_listed};
+use ac_base::NoMemory;
+use ac_query::Query;
+use ac_tables::Cloud;
+use std::alloc::Global;
+
+// How many lists are looked at ahead; further ones are judged when all slots have a provider, as all are.
+const MOST: usize = 16;
+
+/// A list of `same_subtree`.
+#[derive(Drop)]
+pub(crate) struct Family {
+    // For each slot whether the list names it.
+    named: Vec<bool>,
+    // The first one that is named.
+    first: usize,
+    // For each provider its part.
+    parts: Vec<u32>,
+}
+
+// For each slot whether a list names it.
+fn named_slots(alloc: Global, query: &Query, k: usize) -> Result<Vec<bool>, NoMemory>
+    requires { k < length (asked_of query.now).subtrees }
+    ensures { IfOk result (λ named. named.items ≡ map (λ s. lists_suffix (get_or (asked_of query.now).subtrees k []) s.suffix) (slots_of (asked_of query.now))) }
+{
+    let mut named = Vec::new(alloc);
+    for s in 0..count_slots(query) {
+        named.push(is_listed(query, k, s))?;
+    }
+    Ok(named)
+}
+
+// The first place that is marked; past the end where there is none.
+fn first_marked(marks: &[bool]) -> usize
+    ensures { result < length marks.now → slice_index_or marks.now result false ≡ true }
+{
+    for (place, mark) in marks.iter().enumerate() {
+        if *mark {
+            return place;
+        }
+    }
+    marks.len()
+}
+
+impl Family {
+    ghost use Rattle.ac_search.specs.Families.{IsFamily, AreFamilies};
+
+    // The list at a place.
+    fn new(
+        alloc: Global,
+        cloud: &Cloud,
+        query: &Query,
+        k: usize,
+        choices: &[Vec<u32>],
+    ) -> Result<Family, NoMemory>
+        requires list { k < length (asked_of query.now).subtrees }
+        requires choices { map (λ v. v.items) choices.now ≡ choices_of (providers_of cloud.now) (asked_of query.now) }
+        ensures { IfOk result (λ family. IsFamily (providers_of cloud.now) (asked_of query.now) (get_or (asked_of query.now).subtrees k []) family) }
+    {
+        let parts = parts_of(alloc, cloud, query, k, choices)?;
+        let named = named_slots(alloc, query, k)?;
+        let first = first_marked(&named);
+        Ok(Family {
+            named,
+            first,
+            parts,
+        })
+    }
+
+    /// The first lists of a query.
+    pub(crate) fn of_query(
+        alloc: Global,
+        cloud: &Cloud,
+        query: &Query,
+        choices: &[Vec<u32>],
+    ) -> Result<Vec<Family>, NoMemory>
+        requires { map (λ v. v.items) choices.now ≡ choices_of (providers_of cloud.now) (asked_of query.now) }
+        ensures { IfOk result (λ families. AreFamilies (providers_of cloud.now) (asked_of query.now) families.items) }
+    {
+        let mut families = Vec::new(alloc);
+        for k in 0..query.subtrees().min(MOST) {
+            families.push(Family::new(alloc, cloud, query, k, choices)?)?;
+        }
+        Ok(families)
+    }
+
+    /// Whether a provider behind a front can stand with those of the front that the list names; where it says no, no
+    /// candidate goes on from there.
+    pub(crate) fn admits(&self, front: &[u32], ix: u32) -> bool
+        requires slots { length front.now < length self.now.named.items }
+        requires front { All (λ p. p < length self.now.parts.items) front.now }
+        requires provider { ix < length self.now.parts.items }
+        ensures { (all : List Provider) (asked : Asked) (names : List (List ℕ)) → IsFamily all asked names self.now → result ≡ false → IsDead (search_of all asked) (front.now ++ ix ∷ []) }
+    {
+        let s = front.len();
+        if !self.named[s] {
+            return true;
+        }
+        let part = self.parts[ix as usize];
+        if self.first < s {
+            let other = self.parts[front[self.first] as usize];
+            return part == other;
+        }
+        (part as usize) < self.parts.len()
+    }
+}

@@ -1,9 +1,0 @@
-use Rattle.std.proofs.Common.{map}
-use Rattle.ac_tables.specs.Lists.{id_list}
-use Rattle.ac_tables.proofs.AnchorLists.{joined_list}
-use Rattle.ac_tables.proofs.anchors.Members.join.Goals as goal
-
-pub returns : goal.returns
-returns c =
-    let members = c.args.self.now in
-    joined_list members.roots.now (map id_list members.aggregates.now) members.inside members.groups.map c.args.ids.now c.in_ok-list.list.items members.gathered c.in_ok-list.ensures.rising c.in_ok-list.ensures.roots

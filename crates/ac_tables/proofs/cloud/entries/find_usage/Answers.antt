@@ -1,0 +1,33 @@
+use Rattle.std.proofs.Common.{◌∙◌, ℕ, List, map, sym, ap, rules, Some}
+use Rattle.std.specs.Ordering.{is_eq}
+use Rattle.std.specs.Str.{bytes_eq}
+use Rattle.std.proofs.lemmas.Cmp.{nat_list_cmp_total}
+use Rattle.std.proofs.lemmas.Fn.{always_returns_same}
+use Rattle.std.proofs.lemmas.Map.Text.{is_eq-slice_cmp}
+use Rattle.ac_base.specs.Texts.{text_cmp}
+use Rattle.ac_base.specs.Names.{class_bytes}
+use Rattle.ac_base.specs.declared.name.ClassName.{ClassName}
+use Rattle.ac_tables.specs.declared.reader.row.TableRow.{TableRow}
+use Rattle.ac_tables.proofs.SearchFacts.{lookup_same, found, found_value, missed_value}
+use Rattle.ac_tables.proofs.cloud.entries.find_usage.Goals as goal
+
+pub returns-in-Ok : goal.returns-in-Ok
+returns-in-Ok c =
+    let rows = c.args.usages.now in
+    let class = class_bytes c.args.class.now in
+    let key = λ (r : TableRow ClassName ℕ). class_bytes r.key in
+    let value = λ (r : TableRow ClassName ℕ). r.value in
+    let place = found key nat_list_cmp_total rows class c.binary_search_by.result c.requires c.binary_search_by.ensures.bound (c.binary_search_by.ensures.position (λ (r : TableRow ClassName ℕ). text_cmp (class_bytes r.key) class) (always_returns_same _ _ _ (λ a r g called. (search rules, search rules)))) in
+    ap (λ (r : TableRow ClassName ℕ). Some r.value) c.index-usages-place.is
+    ∙ sym (found_value key nat_list_cmp_total value rows class c.in-Ok.place c.index-usages-place.result c.requires (rw c.in-Ok.is at place))
+    ∙ lookup_same (λ k. is_eq (text_cmp class k)) (bytes_eq class) (λ k. is_eq-slice_cmp class k) (map (λ (r : TableRow ClassName ℕ). (class_bytes r.key, r.value)) rows)
+
+pub returns-in-Err : goal.returns-in-Err
+returns-in-Err c =
+    let rows = c.args.usages.now in
+    let class = class_bytes c.args.class.now in
+    let key = λ (r : TableRow ClassName ℕ). class_bytes r.key in
+    let value = λ (r : TableRow ClassName ℕ). r.value in
+    let place = found key nat_list_cmp_total rows class c.binary_search_by.result c.requires c.binary_search_by.ensures.bound (c.binary_search_by.ensures.position (λ (r : TableRow ClassName ℕ). text_cmp (class_bytes r.key) class) (always_returns_same _ _ _ (λ a r g called. (search rules, search rules)))) in
+    sym (missed_value key nat_list_cmp_total value rows class c.in-Err.field-0 (rw c.in-Err.is at place))
+    ∙ lookup_same (λ k. is_eq (text_cmp class k)) (bytes_eq class) (λ k. is_eq-slice_cmp class k) (map (λ (r : TableRow ClassName ℕ). (class_bytes r.key, r.value)) rows)

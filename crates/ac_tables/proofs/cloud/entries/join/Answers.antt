@@ -1,0 +1,11 @@
+use Rattle.std.proofs.Common.{◌∙◌, map, ap}
+use Rattle.ac_tables.specs.Entries.{entry_pair}
+use Rattle.ac_tables.specs.ListBounds.{lists_in}
+use Rattle.ac_tables.specs.ListsOf.{lists_of}
+use Rattle.ac_tables.proofs.JoinFacts.{joined_lists}
+use Rattle.ac_tables.proofs.cloud.entries.join.Goals as goal
+
+pub returns : goal.returns
+returns c =
+    ap (λ l. map (map entry_pair) (lists_in l c.args.inventories.starts.items)) c.in_ok-items.ensures
+    ∙ joined_lists (lists_of c.args.usages.now) c.args.inventories.items.items c.args.inventories.starts.items c.requires.started

@@ -1,0 +1,12 @@
+use Rattle.std.proofs.Common.{◌<◌, ◌∙◌, ℕ, [], map, length, refl, sym, arith}
+use Rattle.ac_tables.specs.ListsOf.{lists_of}
+use Rattle.ac_tables.specs.Anchors.{is_met}
+use Rattle.ac_tables.proofs.GroupFacts.{meets_more}
+use Rattle.ac_tables.proofs.cloud.roots_by_aggregate.Groups.gather.Goals as goal
+
+pub loop-place-preserved : goal.loop-place-preserved
+loop-place-preserved c = λ (a r : ℕ).
+    let aggregates = lists_of c.args.aggregates.now in
+    meets_more c.args.roots.now aggregates c.loop-place.place a r _ c.of.result.now (is_met c.loop-place.groups.map a r) _ refl
+    c.of.ensures
+    (c.in_ok-groups.ensures a r) (c.loop-place.invariant a r)

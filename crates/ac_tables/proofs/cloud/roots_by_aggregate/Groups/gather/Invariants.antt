@@ -1,0 +1,7 @@
+use Rattle.std.proofs.Common.{◌≡◌, ℕ, map}
+use Rattle.ac_tables.specs.Anchors.{is_met, meets}
+use Rattle.ac_tables.specs.ListsOf.{lists_of}
+use Rattle.ac_tables.proofs.cloud.roots_by_aggregate.Groups.gather.Given as goal
+
+abbrev pub invariant-loop-place : goal.invariant-loop-place
+invariant-loop-place l = (a r : ℕ) → is_met l.groups.map a r ≡ meets l.roots (lists_of l.aggregates) l.place a r

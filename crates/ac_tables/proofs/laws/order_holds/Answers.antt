@@ -1,0 +1,5 @@
+use Rattle.ac_tables.proofs.OrderFacts.{order_holds}
+use Rattle.ac_tables.proofs.laws.order_holds.Goals as goal
+
+pub returns : goal.returns
+returns c = order_holds

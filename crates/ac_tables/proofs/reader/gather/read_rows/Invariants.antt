@@ -1,0 +1,16 @@
+use Rattle.std.proofs.Common.{◌≡◌, length}
+use Rattle.csv.specs.Records.{fields_of}
+use Rattle.ac_tables.specs.Rows.{IsReading, rows_left}
+use Rattle.ac_tables.specs.TableRows.{IsReadSoFar}
+use Rattle.ac_tables.proofs.reader.gather.read_rows.Given as goal
+
+abbrev pub invariant-loop-rows : goal.invariant-loop-rows
+invariant-loop-rows g l =
+    record {
+      reading : IsReading l.reader;
+      placed : l.columns ≡ g.T.Record.places (fields_of l.header);
+      so_far : IsReadSoFar (g.T.Record.says (fields_of l.header)) (g.T.Record.alone l.beside (fields_of l.header)) (g.T.Record.shown l.beside) (g.T.Record.count l.beside) (rows_left l.fn.reader) (rows_left l.reader) l.number l.rows.items;
+    }
+
+abbrev pub decreases-loop-rows : goal.decreases-loop-rows
+decreases-loop-rows g l = length (rows_left l.reader)

@@ -1,0 +1,6 @@
+use Rattle.std.proofs.Common.{sym, ◌∙◌, arith}
+use Rattle.ac_tables.proofs.ListFacts.{lists_size}
+use Rattle.ac_tables.proofs.reader.lists.Lists.len.Goals as goal
+
+pub returns : goal.returns
+returns g c = omega (arith, c.len.ensures, lists_size c.args.self.now.items.items c.args.self.now.starts.items)

@@ -1,0 +1,9 @@
+use Rattle.ac_tables.proofs.ListFacts.{bounds, split_lists}
+use Rattle.ac_tables.proofs.reader.split.split.Goals as goal
+
+pub invariant_of-result : goal.invariant_of-result
+invariant_of-result g c =
+    record { bounds = bounds c.args.count c.args.rows.items c.in_ok-starts.starts.items (rw c.deref.ensures.value at c.in_ok-starts.ensures) c.requires.inside }
+
+pub returns-clause-lists : goal.returns-clause-lists
+returns-clause-lists g c = split_lists c.args.count c.args.rows.items c.in_ok-starts.starts.items (rw c.deref.ensures.value at c.in_ok-starts.ensures)

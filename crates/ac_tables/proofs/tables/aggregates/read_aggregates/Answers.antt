@@ -1,0 +1,56 @@
+use Rattle.std.proofs.Common.{◌≡◌, ◌∙◌, ◌<◌, ℕ, false, List, map, length, get_or, refl, sym, ap, subst, arith}
+use Rattle.std.specs.declared.cmp.Ordering.{Ordering}
+use Rattle.std.specs.Ordering.{nat_cmp}
+use Rattle.std.specs.List.{All, dedup}
+use Rattle.std.specs.List.Sorted.{IsNonDecreasingBy}
+use Rattle.std.proofs.lemmas.Cmp.{nat_cmp_total}
+use Rattle.std.proofs.lemmas.List.Filters.{All-dedup}
+use Rattle.std.proofs.lemmas.Map.Lookups.{exact_unsigned}
+use Rattle.ac_tables.specs.TableRows.{row_ties}
+use Rattle.ac_tables.specs.declared.reader.row.TableRow.{TableRow}
+use Rattle.ac_tables.specs.AggregateTable.{Membership, memberships_of, aggregates_fault}
+use Rattle.ac_tables.specs.Rows.{records_of}
+use Rattle.ac_tables.specs.Tables.{aggregates_of}
+use Rattle.ac_tables.specs.RecordLaws.{same_place}
+use Rattle.ac_tables.proofs.ProviderSets.{shown_set, once_sorted}
+use Rattle.ac_tables.proofs.ListFacts.{of_each}
+use Rattle.ac_tables.proofs.tables.aggregates.read_aggregates.Goals as goal
+
+abbrev membership_shown : List ℕ → ℕ → ℕ → Unit {0} → Membership
+membership_shown ids place key value = record { provider = get_or ids place 0; aggregate = key }
+
+pub split-requires-clause-sorted : goal.split-requires-clause-sorted
+split-requires-clause-sorted c =
+    subst (IsNonDecreasingBy (λ (r : TableRow ℕ (Unit {0})). r.place)) (sym c.keep_first.ensures.value) (once_sorted nat_cmp nat_cmp_total c.in-Ok.rows.items c.in-Ok.ensures.rows.sorted)
+
+pub split-requires-clause-inside : goal.split-requires-clause-inside
+split-requires-clause-inside c =
+    let ids = c.args.ids.now.ids.items in
+    subst (λ (n : ℕ). All (λ (r : TableRow ℕ (Unit {0})). r.place < n) c.keep_first.new.rows.items) (sym c.len.ensures.value)
+    (subst (All (λ (r : TableRow ℕ (Unit {0})). r.place < length ids)) (sym c.keep_first.ensures.value) (All-dedup (row_ties nat_cmp) (λ r. r.place < length ids) c.in-Ok.rows.items c.in-Ok.ensures.rows.inside))
+
+pub returns-clause-value : goal.returns-clause-value
+unfolding aggregates_of
+returns-clause-value c =
+    let ids = c.args.ids.now.ids.items in
+    let said = memberships_of (records_of c.args.text.now) in
+    c.in_ok-keys_of.ensures.lists
+    ∙ of_each (dedup (row_ties nat_cmp) c.in-Ok.rows.items) (map (λ r. r.key)) (aggregates_of said) ids _
+    (rw (sym c.keep_first.ensures.value, sym c.len.ensures.value) c.in_ok-rows.ensures.lists) (λ p h.
+    shown_set nat_cmp nat_cmp_total nat_cmp nat_cmp_total exact_unsigned (λ (k : ℕ). k) (λ a b. refl)
+    (membership_shown ids) (length ids) false said c.in-Ok.rows.items c.in-Ok.ensures.rows (λ (v : Membership). v.provider) (λ (v : Membership). v.aggregate) p (get_or ids p 0)
+    (λ r inside. same_place ids c.args.ids.now.rising r.place p inside h)
+    (λ r. refl))
+
+pub returns-in-Err-clause-err : goal.returns-in-Err-clause-err
+unfolding aggregates_fault
+returns-in-Err-clause-err c = c.in-Err.ensures.fault
+
+pub returns-clause-ok : goal.returns-clause-ok
+unfolding aggregates_fault
+returns-clause-ok c = c.in-Ok.ensures.ok
+
+pub returns-clause-few : goal.returns-clause-few
+returns-clause-few c =
+    let few = c.in-Ok.ensures.few in
+    omega (arith, few, c.keep_first.ensures.few, ap length c.in_ok-rows.ensures.rows, c.in_ok-keys_of.ensures.count)

@@ -1,0 +1,28 @@
+use Rattle.std.proofs.Common.{◌∙◌, ◌<◌, ◌==◌, map, length, ap, sym, subst}
+use Rattle.std.specs.List.{All, filter, range_with_len}
+use Rattle.std.proofs.lemmas.Cmp.{nat_list_cmp_total}
+use Rattle.std.specs.Cmp.{on_total}
+use Rattle.ac_base.specs.Names.{class_bytes}
+use Rattle.ac_base.specs.Quantities.{Stock}
+use Rattle.ac_base.specs.Texts.{text_cmp}
+use Rattle.ac_base.specs.declared.name.ClassName.{ClassName}
+use Rattle.ac_tables.specs.declared.reader.row.TableRow.{TableRow}
+use Rattle.ac_tables.proofs.InventoryLists.{stocks_here}
+use Rattle.ac_tables.proofs.RiseFacts.{stocks_rise}
+use Rattle.ac_tables.proofs.RowPlaces.{places_rise}
+use Rattle.ac_tables.proofs.tables.inventories.Inventories.new.Goals as goal
+
+pub split-requires-clause-sorted : goal.split-requires-clause-sorted
+split-requires-clause-sorted c =
+    places_rise (λ a b. text_cmp (class_bytes a) (class_bytes b)) (on_total class_bytes nat_list_cmp_total) c.args.rows.items c.requires.1.sorted
+
+pub invariant_of-result-clause-inside : goal.invariant_of-result-clause-inside
+invariant_of-result-clause-inside c =
+    subst (All (λ (r : TableRow ClassName Stock). r.place < length c.args.ids.ids.items)) (sym c.in_ok-rows.ensures.rows) c.requires.1.inside
+
+pub invariant_of-result-clause-rise : goal.invariant_of-result-clause-rise
+invariant_of-result-clause-rise c =
+    let ids = c.args.ids.ids.items in
+    let lists = c.in_ok-rows.ensures.lists
+    ∙ ap (λ n. map (λ p. filter (λ (r : TableRow ClassName Stock). r.place == p) c.args.rows.items) (range_with_len 0 n)) c.len.ensures.value in
+    stocks_rise c.requires.0 ids _ (stocks_here ids c.args.ids.rising c.requires.0 c.args.rows.items c.requires.1 _ lists)

@@ -1,0 +1,38 @@
+//! What a provider has of one resource class.
+ghost use Rattle.std.specs.Prelude.{◌≡◌};
+ghost use Rattle.ac_base.specs.Names.{class_bytes};
+
+use ac_base::{ClassName, Inventory};
+
+/// What a provider has of one resource class, and how much of it is used.
+#[derive(Debug, Drop, PartialEq, Eq)]
+pub struct Entry {
+    pub(crate) class: ClassName,
+    pub(crate) inventory: Inventory,
+    pub(crate) used: u32,
+}
+
+impl Entry {
+    ghost use Rattle.ac_tables.specs.Entries.{entry_class, entry_held};
+
+    /// The resource class.
+    pub fn class(&self) -> &ClassName
+        ensures { class_bytes result.now ≡ entry_class self.now }
+    {
+        &self.class
+    }
+
+    /// The inventory.
+    pub fn inventory(&self) -> &Inventory
+        ensures { result.now ≡ (entry_held self.now).stock }
+    {
+        &self.inventory
+    }
+
+    /// How much of it is used, 0 where the usages tell nothing of it; it may be more than the capacity.
+    pub fn used(&self) -> u32
+        ensures { result ≡ (entry_held self.now).used }
+    {
+        self.used
+    }
+}

@@ -1,0 +1,12 @@
+//! Reading any table: its records, its header, its rows in order.
+
+pub(crate) mod fields;
+pub(crate) mod gather;
+pub(crate) mod header;
+pub(crate) mod lists;
+pub(crate) mod record;
+pub(crate) mod record_error;
+pub(crate) mod records;
+pub(crate) mod row;
+pub(crate) mod split;
+pub(crate) mod starts;

@@ -1,0 +1,50 @@
+//! Rows in order, made into a list for each provider.
+ghost use Rattle.std.specs.Prelude.{◌≡◌, ◌≤◌, ◌<◌, ◌==◌, map, length, IfOk};
+ghost use Rattle.std.specs.List.{All, filter, range_with_len};
+ghost use Rattle.std.specs.List.Sorted.{IsNonDecreasingBy};
+ghost use Rattle.ac_tables.specs.TableRows.{AreStarts};
+ghost use Rattle.ac_tables.specs.ListsOf.{lists_of};
+
+use crate::reader::lists::Lists;
+use crate::reader::row::TableRow;
+use crate::reader::starts::find_starts;
+use std::alloc::{AllocError, Global};
+
+// Rows in the order of their providers, as a list for each.
+pub(crate) fn split<K: Drop, X: Drop>(
+    alloc: Global,
+    count: usize,
+    rows: Vec<TableRow<K, X>>,
+) -> Result<Lists<TableRow<K, X>>, AllocError>
+    requires few { count ≤ 65536 }
+    requires sorted { IsNonDecreasingBy (λ (r : TableRow K X). r.place) rows.items }
+    requires inside { All (λ r. r.place < count) rows.items }
+    ensures rows { IfOk result (λ lists. lists.items.items ≡ rows.items) }
+    ensures starts { IfOk result (λ lists. AreStarts count rows.items lists.starts.items) }
+    ensures lists { IfOk result (λ lists. lists_of lists ≡ map (λ p. filter (λ r. r.place == p) rows.items) (range_with_len 0 count)) }
+{
+    let starts = find_starts(alloc, count as u32, &rows)?;
+    Ok(Lists {
+        items: rows,
+        starts,
+    })
+}
+
+fn take_keys<K: Drop>(alloc: Global, rows: Vec<TableRow<K, ()>>) -> Result<Vec<K>, AllocError>
+    ensures { IfOk result (λ keys. keys.items ≡ map (λ (r : TableRow K _). r.key) rows.items) }
+{
+    rows.into_iter().map(|row| row.key).collect(alloc)
+}
+
+// The keys of rows.
+pub(crate) fn keys_of<K: Drop>(
+    alloc: Global,
+    rows: Lists<TableRow<K, ()>>,
+) -> Result<Lists<K>, AllocError>
+    ensures lists { IfOk result (λ keys. lists_of keys ≡ map (map (λ r. r.key)) (lists_of rows)) }
+    ensures count { IfOk result (λ keys. length keys.items.items ≡ length rows.items.items) }
+{
+    let Lists { items, starts } = rows;
+    let items = take_keys(alloc, items)?;
+    Ok(Lists { items, starts })
+}

@@ -1,0 +1,220 @@
+//! A record of the table of inventories.
+ghost use Rattle.std.specs.Prelude.{◌≡◌, None, IfOk, IfErr, ◌++◌, ◌==◌, true, length, get_or};
+ghost use Rattle.csv.specs.Records.{fields_of};
+ghost use Rattle.ac_base.specs.Names.{class_bytes};
+ghost use Rattle.ac_tables.specs.Checks.{first_failing, unless, TellsKind};
+ghost use Rattle.ac_tables.specs.Columns.{id_in, text_in};
+ghost use Rattle.ac_tables.specs.InventoryTable.{provider_name, class_name, stock_in, stock_checks, holding_field_checks, Holding, inventory_columns, holding_in, holding_checks, known_checks, is_holding};
+ghost use Rattle.ac_tables.specs.ColumnPlaces.{holding_places};
+ghost use Rattle.ac_tables.specs.RecordLaws.{holdings_keyed, holdings_apart};
+ghost use Rattle.ac_tables.specs.declared.fault.Table.TheVariants as table;
+
+use crate::cloud::provider_index::Ids;
+use crate::fault::{RecordFault, Table, TableKind};
+use crate::reader::fields::{read_class, read_owner};
+use crate::reader::header::column_at;
+use crate::reader::record::{Record, Seen};
+use crate::reader::records::text_at;
+use ac_base::{ClassName, Id, Inventory, Names, Ratio, read_count};
+use csv::ByteRecord;
+
+const INVENTORY_COLUMNS: [&[u8]; 8] = [
+    b"resource_provider",
+    b"resource_class",
+    b"total",
+    b"reserved",
+    b"min_unit",
+    b"max_unit",
+    b"step_size",
+    b"allocation_ratio",
+];
+
+// Where the columns stand.
+#[derive(Clone, Copy, Debug, PartialEq, Eq)]
+pub(crate) struct HoldingColumns {
+    provider: usize,
+    class: usize,
+    total: usize,
+    reserved: usize,
+    min_unit: usize,
+    max_unit: usize,
+    step_size: usize,
+    ratio: usize,
+}
+
+impl HoldingColumns {
+    ghost use Rattle.ac_tables.specs.ColumnPlaces.{holding_places};
+
+    #[tactic(auto, unfolding(crate::specs::ColumnPlaces::holding_places, crate::specs::InventoryTable::provider_name, crate::specs::InventoryTable::class_name, crate::specs::InventoryTable::total_name, crate::specs::InventoryTable::reserved_name, crate::specs::InventoryTable::min_unit_name, crate::specs::InventoryTable::max_unit_name, crate::specs::InventoryTable::step_size_name, crate::specs::InventoryTable::ratio_name))]
+    pub(crate) fn of(header: &ByteRecord) -> HoldingColumns
+        ensures { result ≡ holding_places (fields_of header.now) }
+    {
+        HoldingColumns {
+            provider: column_at(header, b"resource_provider"),
+            class: column_at(header, b"resource_class"),
+            total: column_at(header, b"total"),
+            reserved: column_at(header, b"reserved"),
+            min_unit: column_at(header, b"min_unit"),
+            max_unit: column_at(header, b"max_unit"),
+            step_size: column_at(header, b"step_size"),
+            ratio: column_at(header, b"allocation_ratio"),
+        }
+    }
+}
+
+// What a record says.
+#[derive(Debug, Drop, PartialEq, Eq)]
+pub(crate) struct HoldingRow {
+    pub(crate) provider: Id,
+    pub(crate) class: ClassName,
+    pub(crate) inventory: Inventory,
+}
+
+impl HoldingRow {
+    ghost use Rattle.ac_tables.specs.ColumnPlaces.{holding_places};
+
+    // The inventory of a record, or the first fault of its fields.
+    #[tactic(auto, unfolding(crate::specs::ColumnPlaces::holding_places, crate::specs::InventoryTable::stock_in, crate::specs::InventoryTable::stock_checks))]
+    fn read_inventory(
+        header: &ByteRecord,
+        columns: HoldingColumns,
+        row: &ByteRecord,
+    ) -> Result<Inventory, TableKind>
+        requires { columns ≡ holding_places (fields_of header.now) }
+        ensures { result ≡ unless (first_failing (stock_checks (fields_of header.now) (fields_of row.now))) (stock_in (fields_of header.now) (fields_of row.now)) }
+    {
+        let Some(total) = read_count(text_at(row, columns.total)) else {
+            return Err(TableKind::BadNumber);
+        };
+        let Some(reserved) = read_count(text_at(row, columns.reserved)) else {
+            return Err(TableKind::BadNumber);
+        };
+        let Some(min_unit) = read_count(text_at(row, columns.min_unit)) else {
+            return Err(TableKind::BadNumber);
+        };
+        let Some(max_unit) = read_count(text_at(row, columns.max_unit)) else {
+            return Err(TableKind::BadNumber);
+        };
+        let Some(step_size) = read_count(text_at(row, columns.step_size)) else {
+            return Err(TableKind::BadNumber);
+        };
+        let Some(ratio) = Ratio::read(text_at(row, columns.ratio)) else {
+            return Err(TableKind::BadRatio);
+        };
+        if step_size == 0 {
+            return Err(TableKind::ZeroStep);
+        }
+        if reserved > total {
+            return Err(TableKind::ReservedOverTotal);
+        }
+        match Inventory::new(total, reserved, min_unit, max_unit, step_size, ratio) {
+            Some(inventory) => Ok(inventory),
+            None => unreachable!(),
+        }
+    }
+
+    // What a record says, or the first fault of its fields.
+    #[tactic(auto, unfolding(crate::specs::ColumnPlaces::holding_places))]
+    pub(crate) fn read(
+        names: &mut Names,
+        header: &ByteRecord,
+        columns: HoldingColumns,
+        row: &ByteRecord,
+    ) -> Result<HoldingRow, RecordFault>
+        requires { columns ≡ holding_places (fields_of header.now) }
+        ensures ok { IfOk result (λ _. first_failing (holding_field_checks (fields_of header.now) (fields_of row.now)) ≡ None) }
+        ensures provider { IfOk result (λ h. h.provider ≡ id_in (fields_of header.now) provider_name (fields_of row.now)) }
+        ensures class { IfOk result (λ h. class_bytes h.class ≡ text_in (fields_of header.now) class_name (fields_of row.now)) }
+        ensures inventory { IfOk result (λ h. h.inventory ≡ stock_in (fields_of header.now) (fields_of row.now)) }
+        ensures fault { IfErr result (λ e. TellsKind (first_failing (holding_field_checks (fields_of header.now) (fields_of row.now))) e) }
+    {
+        let provider = match read_owner(names, header, columns.provider, row) {
+            Ok(provider) => provider,
+            Err(kind) => return Err(RecordFault::Kind(kind)),
+        };
+        let class = match read_class(names, header, columns.class, row) {
+            Ok(class) => class,
+            Err(fault) => return Err(fault),
+        };
+        match HoldingRow::read_inventory(header, columns, row) {
+            Ok(inventory) => Ok(HoldingRow {
+                provider,
+                class,
+                inventory,
+            }),
+            Err(kind) => Err(RecordFault::Kind(kind)),
+        }
+    }
+}
+
+// The table of inventories.
+pub(crate) struct InventoryTable;
+
+impl Record for InventoryTable {
+    type Beside = Ids;
+
+    type Columns = HoldingColumns;
+
+    type Key = ClassName;
+
+    type Value = Inventory;
+
+    const TABLE: Table = Table::Inventories;
+
+    ghost TABLE = { table.Inventories };
+
+    ghost NAMES = { inventory_columns };
+
+    const UNIQUE: bool = true;
+
+    ghost UNIQUE = { true };
+
+    ghost Said = { Holding };
+
+    ghost says = { holding_in };
+
+    ghost checks = { λ ids. holding_checks ids.ids.items };
+
+    ghost alone = { λ ids header row. holding_field_checks header row ++ known_checks ids.ids.items (id_in header provider_name row) };
+
+    ghost same = { λ v h. is_holding v.provider v.class h };
+
+    ghost count = { λ ids. length ids.ids.items };
+
+    ghost shown = { λ ids place key value. record { provider = get_or ids.ids.items place 0; class = class_bytes key; stock = value } };
+
+    ghost places = { holding_places };
+
+    #[tactic(auto, unfolding(crate::specs::InventoryTable::inventory_columns, crate::specs::InventoryTable::provider_name, crate::specs::InventoryTable::class_name, crate::specs::InventoryTable::total_name, crate::specs::InventoryTable::reserved_name, crate::specs::InventoryTable::min_unit_name, crate::specs::InventoryTable::max_unit_name, crate::specs::InventoryTable::step_size_name, crate::specs::InventoryTable::ratio_name))]
+    fn names() -> &'static [&'static [u8]] {
+        &INVENTORY_COLUMNS
+    }
+
+    fn columns(header: &ByteRecord) -> HoldingColumns {
+        HoldingColumns::of(header)
+    }
+
+    fn read(
+        seen: &mut Seen,
+        ids: &Ids,
+        header: &ByteRecord,
+        columns: HoldingColumns,
+        row: &ByteRecord,
+    ) -> Result<(u32, ClassName, Inventory), RecordFault> {
+        let holding = match HoldingRow::read(&mut seen.names, header, columns, row) {
+            Ok(holding) => holding,
+            Err(fault) => return Err(fault),
+        };
+        match ids.find_near(seen.place, holding.provider) {
+            Some(place) => {
+                seen.place = place;
+                Ok((place as u32, holding.class, holding.inventory))
+            }
+            None => Err(RecordFault::Kind(TableKind::UnknownProvider)),
+        }
+    }
+
+    ghost keyed = { λ ids header. holdings_keyed ids.ids.items header };
+
+    ghost apart = { λ ids. holdings_apart ids.ids.items ids.rising };
+}
