@@ -176,12 +176,7 @@ fn is_assignment(cloud: &Cloud, query: &Query, list: &[u32]) -> bool
 fn are_assignments(cloud: &Cloud, query: &Query, lists: &[&[u32]]) -> bool
     ensures { OnTrue result (All (IsAssignment (providers_of cloud.now) (asked_of query.now)) (map (λ list. list.now) lists.now)) }
 {
-    for list in lists {
-        if !is_assignment(cloud, query, list) {
-            return false;
-        }
-    }
-    true
+    lists.iter().all(|list| is_assignment(cloud, query, list))
 }
 
 #[derive(Clone, Copy)]
