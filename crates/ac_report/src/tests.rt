@@ -176,7 +176,12 @@ fn is_assignment(cloud: &Cloud, query: &Query, list: &[u32]) -> bool
 fn are_assignments(cloud: &Cloud, query: &Query, lists: &[&[u32]]) -> bool
     ensures { OnTrue result (All (IsAssignment (providers_of cloud.now) (asked_of query.now)) (map (λ list. list.now) lists.now)) }
 {
-    lists.iter().all(|list| is_assignment(cloud, query, list))
+    for list in lists {
+        if !is_assignment(cloud, query, list) {
+            return false;
+        }
+    }
+    true
 }
 
 #[derive(Clone, Copy)]
