@@ -9,7 +9,7 @@ ghost use Rattle.ac_report.specs.Pages.{IsAssignment};
 use crate::{PageFault, request_text, summary_text, write_page, write_tokens};
 use ac_base::{MemSink, Turn};
 use ac_query::{Query, Version};
-use ac_search::Source;
+use ac_rules::Source;
 use ac_tables::{Cloud, Sources};
 use std::alloc::{AllocError, Global};
 use std::test::Fail;
@@ -176,7 +176,12 @@ fn is_assignment(cloud: &Cloud, query: &Query, list: &[u32]) -> bool
 fn are_assignments(cloud: &Cloud, query: &Query, lists: &[&[u32]]) -> bool
     ensures { OnTrue result (All (IsAssignment (providers_of cloud.now) (asked_of query.now)) (map (λ list. list.now) lists.now)) }
 {
-    lists.iter().all(|list| is_assignment(cloud, query, list))
+    for list in lists {
+        if !is_assignment(cloud, query, list) {
+            return false;
+        }
+    }
+    true
 }
 
 #[derive(Clone, Copy)]
