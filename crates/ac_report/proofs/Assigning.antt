@@ -12,8 +12,8 @@ use Rattle.ac_query.specs.Asked.{Asked, Slot, Group, slots_of, slots_from, class
 use Rattle.ac_query.specs.Gathered.{asked_by}
 use Rattle.ac_query.specs.InOrder.{AreNeeds, IsFirstPlain}
 use Rattle.ac_query.proofs.Ordered.{query_in_order}
-use Rattle.ac_search.specs.Placed.{Placed, placed, assigned}
-use Rattle.ac_search.specs.Together.{sum_on}
+use Rattle.ac_rules.specs.Placed.{Placed, placed, assigned}
+use Rattle.ac_rules.specs.Together.{sum_on}
 use Rattle.ac_tables.specs.Laws.{AreProviders}
 use Rattle.ac_tables.specs.Tables.{world_stated}
 use Rattle.ac_tables.specs.World.{Provider}

@@ -4,8 +4,8 @@ use Rattle.std.specs.Prelude.{nat_eq, bytes_eq}
 use Rattle.std.specs.List.{AllByRecursion, filter}
 use Rattle.std.proofs.lemmas.Bool.{eqb-true, eq-eqb}
 use Rattle.ac_query.specs.Asked.{Group, slots_from, class_slot, suffix_slot}
-use Rattle.ac_search.specs.Placed.{Placed, placed}
-use Rattle.ac_search.specs.Together.{amount_of, sum_on}
+use Rattle.ac_rules.specs.Placed.{Placed, placed}
+use Rattle.ac_rules.specs.Together.{amount_of, sum_on}
 use Rattle.ac_tables.specs.Sorted.{rising}
 use Rattle.ac_query.specs.InOrder.{AreApart, AreSuffixed}
 use Rattle.ac_report.specs.Trees.{hosts}

@@ -11,7 +11,7 @@ use Rattle.serde_json.specs.Data.{Data, Members, no_members, member, put, string
 use Rattle.serde_json.specs.View.{items_of}
 use Rattle.ac_base.specs.Texts.{text_cmp}
 use Rattle.ac_query.specs.Asked.{Group}
-use Rattle.ac_search.specs.Placed.{Placed}
+use Rattle.ac_rules.specs.Placed.{Placed}
 use Rattle.ac_tables.specs.World.{Provider}
 use Rattle.ac_tables.specs.Sorted.{rising}
 use Rattle.ac_query.specs.InOrder.{group_name, AreApart}

@@ -5,8 +5,8 @@ use Rattle.std.specs.List.{All, filter, list_any}
 use Rattle.std.proofs.lemmas.Slice.Eq.{bytes_eq-Decides}
 use Rattle.std.proofs.lemmas.Bool.Decides.{eqb_tells}
 use Rattle.serde_json.specs.Data.{Data, Members, no_members, put, number, unsigned}
-use Rattle.ac_search.specs.Placed.{Placed}
-use Rattle.ac_search.specs.Together.{amount_of, sum_on, is_empty}
+use Rattle.ac_rules.specs.Placed.{Placed}
+use Rattle.ac_rules.specs.Together.{amount_of, sum_on, is_empty}
 use Rattle.ac_tables.specs.World.{Provider}
 use Rattle.ac_tables.specs.Sorted.{rising}
 use Rattle.ac_report.specs.Trees.{gathered, gives, needs_on, provider_text, sum, allocation}

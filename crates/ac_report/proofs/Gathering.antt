@@ -7,8 +7,8 @@ use Rattle.std.proofs.lemmas.Slice.Eq.{bytes_eq-Decides}
 use Rattle.serde_json.specs.Data.{Data, Members, no_members, member, put, number, unsigned, object}
 use Rattle.ac_query.specs.declared.group.Need.{Need}
 use Rattle.ac_tables.specs.RecordLaws.{eq_turned}
-use Rattle.ac_search.specs.Placed.{Placed}
-use Rattle.ac_search.specs.Together.{amount_of, sum_on}
+use Rattle.ac_rules.specs.Placed.{Placed}
+use Rattle.ac_rules.specs.Together.{amount_of, sum_on}
 use Rattle.ac_report.specs.Parts.{need_at, sum_at, sums_of, allocation_of}
 use Rattle.ac_report.specs.Trees.{gathered, needs_on, sum, allocation}
 

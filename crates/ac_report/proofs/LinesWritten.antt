@@ -6,8 +6,8 @@ use Rattle.std.specs.List.{flat_map, join_with_byte}
 use Rattle.std.specs.Io.KnownBytes.{Appends}
 use Rattle.ac_base.specs.Texts.{id_text}
 use Rattle.ac_query.specs.Tokens.{ids_text}
-use Rattle.ac_search.specs.Lists.{head_of, tail_of}
-use Rattle.ac_search.specs.Pages.{cut, ids_of}
+use Rattle.ac_rules.specs.Lists.{head_of, tail_of}
+use Rattle.ac_rules.specs.Pages.{cut, ids_of}
 use Rattle.ac_tables.specs.World.{Provider}
 use Rattle.ac_report.specs.Trees.{provider_text}
 use Rattle.ac_report.specs.Texts.{line, lines}

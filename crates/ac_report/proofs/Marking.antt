@@ -7,9 +7,9 @@ use Rattle.std.proofs.lemmas.Bool.Decides.{eqb_tells}
 use Rattle.std.proofs.lemmas.Cmp.{ranked}
 use Rattle.std.proofs.lemmas.List.{get_or-set_same, get_or-set_other, take_more}
 use Rattle.ac_tables.specs.World.{Provider, id_at, root_of}
-use Rattle.ac_search.specs.Laws.{AreInOrder}
-use Rattle.ac_search.specs.Lists.{head_of, tail_of}
-use Rattle.ac_search.specs.Pages.{cut}
+use Rattle.ac_rules.specs.Laws.{AreInOrder}
+use Rattle.ac_rules.specs.Lists.{head_of, tail_of}
+use Rattle.ac_rules.specs.Pages.{cut}
 use Rattle.ac_report.specs.Marks.{has_root}
 use Rattle.ac_report.specs.Texts.{meets_root}
 use Rattle.ac_report.proofs.Paging.{after, counted, IsRoom, cut_step}

@@ -3,8 +3,8 @@ use Rattle.std.proofs.Common.{◌≡◌, ℕ, zero, suc, min, ◌≤◌, ◌-◌
 use Rattle.std.specs.Prelude.{⊤}
 use Rattle.std.specs.List.{All}
 use Rattle.std.proofs.lemmas.List.{take-append-drop}
-use Rattle.ac_search.specs.Lists.{head_of, tail_of}
-use Rattle.ac_search.specs.Pages.{cut}
+use Rattle.ac_rules.specs.Lists.{head_of, tail_of}
+use Rattle.ac_rules.specs.Pages.{cut}
 use Rattle.ac_report.specs.Pages.{behind, LosesSome, IsWithin}
 
 -- how many more are wanted, after so many

@@ -10,7 +10,7 @@ use Rattle.serde_json.specs.declared.value.Value.{Value}
 use Rattle.ac_base.specs.Texts.{text_cmp}
 use Rattle.ac_tables.specs.World.{Held, Provider, provider_at, id_at, parent_of}
 use Rattle.ac_query.specs.Asked.{Group, Asked}
-use Rattle.ac_search.specs.Placed.{Placed, assigned}
+use Rattle.ac_rules.specs.Placed.{Placed, assigned}
 use Rattle.ac_tables.specs.Sorted.{rising}
 use Rattle.ac_report.specs.Trees.{gathered, texts, id_or_null, holding, holdings, summary, needs_on, sum, allocation, gives, allocations, provider_text, mapping, mappings_from, mappings, request}
 

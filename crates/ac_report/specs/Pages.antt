@@ -4,7 +4,7 @@ use Rattle.std.specs.Io.KnownBytes.{Appends}
 use Rattle.std.specs.Prelude.{◌≡◌, ℕ, ◌≤◌, List, [], ◌++◌, drop, length, Option, Some, None, ⊤}
 use Rattle.ac_tables.specs.World.{Provider}
 use Rattle.ac_query.specs.Asked.{Asked, slots_of}
-use Rattle.ac_search.specs.Lists.{IsListBelow}
+use Rattle.ac_rules.specs.Lists.{IsListBelow}
 
 -- a list of one provider for each slot
 abbrev pub IsAssignment : List Provider → Asked → List ℕ → Type 0

@@ -7,7 +7,7 @@ use Rattle.serde_json.specs.Written.{compact_text, comma_if}
 use Rattle.ac_tables.specs.World.{Provider, id_at, root_of}
 use Rattle.ac_query.specs.Asked.{Asked}
 use Rattle.ac_query.specs.Tokens.{ids_text}
-use Rattle.ac_search.specs.Pages.{ids_of}
+use Rattle.ac_rules.specs.Pages.{ids_of}
 use Rattle.ac_report.specs.Trees.{gathered, provider_text, summary, request}
 
 -- the text of a request

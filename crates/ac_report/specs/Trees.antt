@@ -10,8 +10,8 @@ use Rattle.ac_tables.specs.Sorted.{rising}
 use Rattle.ac_tables.specs.World.{Held, Provider, provider_at, id_at, parent_of, root_of}
 use Rattle.ac_query.specs.Asked.{Group, Asked}
 use Rattle.ac_query.specs.InOrder.{group_name}
-use Rattle.ac_search.specs.Placed.{Placed, assigned}
-use Rattle.ac_search.specs.Together.{sum_on, is_empty}
+use Rattle.ac_rules.specs.Placed.{Placed, assigned}
+use Rattle.ac_rules.specs.Together.{sum_on, is_empty}
 
 -- the members of an object, in byte order of their names; of several of one name the last counts
 abbrev pub gathered : List (List ℕ × Data) → Members

@@ -5,7 +5,7 @@ ghost use Rattle.std.specs.Io.KnownBytes.{Appends};
 ghost use Rattle.ac_base.specs.Devices.{Rises, TakesPart};
 ghost use Rattle.ac_query.specs.QueriesShown.{asked_of};
 ghost use Rattle.ac_query.specs.Tokens.{ids_text};
-ghost use Rattle.ac_search.specs.Pages.{cut, ids_of};
+ghost use Rattle.ac_rules.specs.Pages.{cut, ids_of};
 ghost use Rattle.ac_tables.specs.CloudWorld.{providers_of};
 ghost use Rattle.ac_report.specs.Texts.{line, lines};
 ghost use Rattle.ac_report.specs.Pages.{IsAssignment, LosesSome, TakesWhole, behind};
@@ -13,7 +13,7 @@ ghost use Rattle.ac_report.specs.Pages.{IsAssignment, LosesSome, TakesWhole, beh
 use crate::fault::PageFault;
 use ac_base::{NoMemory, Sink, push_all};
 use ac_query::Query;
-use ac_search::Source;
+use ac_rules::Source;
 use ac_tables::Cloud;
 use std::alloc::Global;
 

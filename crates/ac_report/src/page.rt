@@ -7,7 +7,7 @@ ghost use Rattle.ac_base.specs.Devices.{Rises, TakesPart};
 ghost use Rattle.ac_tables.specs.CloudWorld.{providers_of};
 ghost use Rattle.ac_tables.specs.World.{id_at};
 ghost use Rattle.ac_query.specs.QueriesShown.{asked_of};
-ghost use Rattle.ac_search.specs.Pages.{cut};
+ghost use Rattle.ac_rules.specs.Pages.{cut};
 ghost use Rattle.ac_report.specs.Marks.{IsMarked, has_root, requests_text, summaries_text};
 ghost use Rattle.ac_report.specs.Pages.{IsAssignment, LosesSome, TakesWhole, behind};
 ghost use Rattle.ac_report.specs.Texts.{body, head_text, meets_root, middle_text, pieces, request_text, summarized, summary_piece, tail_text, with_commas};
@@ -18,7 +18,7 @@ use crate::request::request_text;
 use crate::summary::summary_piece;
 use ac_base::{Sink, WriteFailed, push_all};
 use ac_query::Query;
-use ac_search::Source;
+use ac_rules::Source;
 use ac_tables::Cloud;
 use std::alloc::{AllocError, Global};
 

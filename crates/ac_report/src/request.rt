@@ -8,7 +8,7 @@ ghost use Rattle.serde_json.specs.View.{view};
 ghost use Rattle.ac_query.specs.Asked.{slots_of};
 ghost use Rattle.ac_query.specs.GroupsShown.{need_entry, group_entry};
 ghost use Rattle.ac_query.specs.QueriesShown.{asked_of};
-ghost use Rattle.ac_search.specs.Placed.{assigned};
+ghost use Rattle.ac_rules.specs.Placed.{assigned};
 ghost use Rattle.ac_tables.specs.CloudWorld.{providers_of};
 ghost use Rattle.ac_report.specs.Pages.{IsAssignment};
 ghost use Rattle.ac_query.specs.InOrder.{group_name};

@@ -9,7 +9,7 @@ ghost use Rattle.ac_report.specs.Pages.{IsAssignment};
 use crate::{PageFault, request_text, summary_text, write_page, write_tokens};
 use ac_base::{MemSink, Turn};
 use ac_query::{Query, Version};
-use ac_search::Source;
+use ac_rules::Source;
 use ac_tables::{Cloud, Sources};
 use std::alloc::{AllocError, Global};
 use std::test::Fail;

@@ -5,12 +5,12 @@ use Rattle.std.specs.List.{All, AllByRecursion as Each, filter}
 use Rattle.std.proofs.lemmas.List.Elements.{All-from_recursion}
 use Rattle.ac_query.specs.Asked.{Asked, slots_of}
 use Rattle.ac_report.specs.Pages.{IsAssignment}
-use Rattle.ac_search.proofs.Elements.{each_filter, each_weaker}
-use Rattle.ac_search.proofs.ListLemmas.{each_all_lists}
-use Rattle.ac_search.specs.Judge.{is_candidate}
-use Rattle.ac_search.specs.Lists.{all_lists}
-use Rattle.ac_search.specs.Pages.{candidates, is_after, rest}
-use Rattle.ac_search.proofs.PlaceLemmas.{found_within}
+use Rattle.ac_rules.proofs.Elements.{each_filter, each_weaker}
+use Rattle.ac_rules.proofs.ListLemmas.{each_all_lists}
+use Rattle.ac_rules.specs.Judge.{is_candidate}
+use Rattle.ac_rules.specs.Lists.{all_lists}
+use Rattle.ac_rules.specs.Pages.{candidates, is_after, rest}
+use Rattle.ac_rules.proofs.PlaceLemmas.{found_within}
 use Rattle.ac_query.specs.Located.{places_of}
 use Rattle.ac_tables.specs.World.{Provider, place_of}
 

@@ -3,10 +3,10 @@ use Rattle.std.proofs.Common.{Bor, ◌≡◌, ◌∙◌, ℕ, List, [], ◌∷�
 use Rattle.std.specs.Prelude.{not}
 use Rattle.std.specs.Option.{is_some, option_copied}
 use Rattle.ac_query.specs.Asked.{Asked}
-use Rattle.ac_search.proofs.Elements.{each_all, filter_all}
-use Rattle.ac_search.specs.Lists.{head_of}
-use Rattle.ac_search.specs.Pages.{candidates, is_after, rest}
-use Rattle.ac_search.specs.Together.{is_empty}
+use Rattle.ac_rules.proofs.Elements.{each_all, filter_all}
+use Rattle.ac_rules.specs.Lists.{head_of}
+use Rattle.ac_rules.specs.Pages.{candidates, is_after, rest}
+use Rattle.ac_rules.specs.Together.{is_empty}
 use Rattle.ac_tables.specs.World.{Provider}
 use Rattle.ac_run.specs.Explanation.{has_candidate}
 

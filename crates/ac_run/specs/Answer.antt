@@ -18,8 +18,8 @@ use Rattle.ac_query.specs.Pairs.{pairs_of}
 use Rattle.ac_query.specs.Tokens.{token_fault}
 use Rattle.ac_query.specs.Values.{ids_value}
 use Rattle.ac_query.specs.declared.token.TokenFault.{TokenFault}
-use Rattle.ac_search.specs.Judge.{judge}
-use Rattle.ac_search.specs.Pages.{page}
+use Rattle.ac_rules.specs.Judge.{judge}
+use Rattle.ac_rules.specs.Pages.{page}
 use Rattle.ac_report.specs.Texts.{body, lines}
 use Rattle.ac_run.specs.Outputs.{counts, verdict_status, verdict_text}
 use Rattle.ac_run.specs.Explanation.{explanation_status, explanation_text, has_candidate}

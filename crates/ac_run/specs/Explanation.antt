@@ -5,9 +5,9 @@ use Rattle.std.specs.List.{flat_map, range_with_len}
 use Rattle.ac_query.specs.Asked.{Asked, Slot, slots_of}
 use Rattle.ac_tables.specs.World.{Provider}
 use Rattle.ac_search.specs.Explained.{SlotCounts, TreeCounts, slot_counts, tree_counts}
-use Rattle.ac_search.specs.Pages.{candidates}
-use Rattle.ac_search.specs.Placed.{slot_at}
-use Rattle.ac_search.specs.Together.{is_empty}
+use Rattle.ac_rules.specs.Pages.{candidates}
+use Rattle.ac_rules.specs.Placed.{slot_at}
+use Rattle.ac_rules.specs.Together.{is_empty}
 use Rattle.ac_run.specs.Lines.{newline, printed, said}
 
 -- ---- A slot

@@ -2,10 +2,10 @@
 use Rattle.std.specs.Prelude.{ℕ, List, [], ◌∷◌, codes}
 use Rattle.std.specs.Fmt.{decimal}
 use Rattle.ac_tables.specs.World.{Sizes}
-use Rattle.ac_search.specs.declared.verdict.Rule.{Rule}
-use Rattle.ac_search.specs.declared.verdict.Rule.TheVariants as rule
-use Rattle.ac_search.specs.declared.verdict.Verdict.{Verdict}
-use Rattle.ac_search.specs.declared.verdict.Verdict.TheVariants as verdict
+use Rattle.ac_rules.specs.declared.verdict.Rule.{Rule}
+use Rattle.ac_rules.specs.declared.verdict.Rule.TheVariants as rule
+use Rattle.ac_rules.specs.declared.verdict.Verdict.{Verdict}
+use Rattle.ac_rules.specs.declared.verdict.Verdict.TheVariants as verdict
 use Rattle.ac_run.specs.Lines.{said, newline}
 
 -- the sizes of what the tables state

@@ -20,7 +20,8 @@ use crate::refusal::Refusal;
 use ac_base::{NoMemory, Sink, push_all};
 use ac_query::{Query, Token};
 use ac_report::{PageFault, write_page, write_tokens};
-use ac_search::{Walk, tree_counts, verify};
+use ac_rules::verify;
+use ac_search::{Walk, tree_counts};
 use ac_tables::{Cloud, Sources, TableFault};
 use std::alloc::Global;
 

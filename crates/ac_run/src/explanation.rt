@@ -7,7 +7,7 @@ ghost use Rattle.ac_query.specs.Asked.{slots_of};
 ghost use Rattle.ac_query.specs.GroupsShown.{need_entry, suffix_of};
 ghost use Rattle.ac_query.specs.QueriesShown.{asked_of};
 ghost use Rattle.ac_search.specs.ExplainedShown.{slot_counted as slot_shown, trees_counted as trees_shown};
-ghost use Rattle.ac_search.specs.Placed.{slot_at};
+ghost use Rattle.ac_rules.specs.Placed.{slot_at};
 ghost use Rattle.ac_run.specs.Explanation.{candidates_line, explanation_status, has_candidate, need_text, needs_text, slot_counted, slot_line, slot_lines, slot_name, trees_line};
 ghost use Rattle.ac_run.specs.Lines.{printed};
 
@@ -15,8 +15,9 @@ use crate::digits::Digits;
 use crate::pieces::push_pieces;
 use ac_base::{NoMemory, Sink, WriteFailed, push_all};
 use ac_query::{Group, Need, Query};
-use ac_search::slots::{count_slots, group_at, needs_at};
-use ac_search::{SlotCounts, Source, TreeCounts, Walk, slot_counts};
+use ac_rules::Source;
+use ac_rules::slots::{count_slots, group_at, needs_at};
+use ac_search::{SlotCounts, TreeCounts, Walk, slot_counts};
 use ac_tables::Cloud;
 use std::alloc::Global;
 

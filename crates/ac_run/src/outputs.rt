@@ -7,7 +7,7 @@ ghost use Rattle.ac_run.specs.Writing.{Pushes};
 use crate::digits::Digits;
 use crate::pieces::push_pieces;
 use ac_base::{Sink, WriteFailed};
-use ac_search::{Rule, Verdict};
+use ac_rules::{Rule, Verdict};
 use ac_tables::Counts;
 
 #[tactic(auto, unfolding(crate::specs::Outputs::broken_line))]

@@ -5,7 +5,7 @@ use Rattle.std.proofs.lemmas.Bool.{cases_lt, false≢true}
 use Rattle.std.proofs.lemmas.Bool.Decides.{nat_tests}
 use Rattle.std.proofs.Math.Nat.{mul-le-mul_left}
 use Rattle.ac_search.specs.Search.{Search, all_shorter, sought, choices_at, next_at, next_front, from, left_from, is_met, met, least_at, IsStart, Enters, IsSound}
-use Rattle.ac_search.proofs.Elements.{each_all, each_both, each_weaker, filter_all, count_more}
+use Rattle.ac_rules.proofs.Elements.{each_all, each_both, each_weaker, filter_all, count_more}
 use Rattle.ac_search.proofs.FrontOrder.{lex_one}
 use Rattle.ac_search.proofs.ShorterLemmas.{among_all_shorter}
 use Rattle.ac_search.proofs.SoughtLemmas.{IsSearch, IsSought, each_sought}

@@ -3,9 +3,9 @@ use Rattle.std.proofs.Common.{◌≡◌, ℕ, ◌+◌, ◌<◌, ◌≤◌, true,
 use Rattle.std.specs.List.{filter}
 use Rattle.std.proofs.lemmas.Bool.{and_parts, and_from, not_from_false, not-true, false_from_ne_true, false≢true}
 use Rattle.std.proofs.lemmas.List.{take-append-le}
-use Rattle.ac_search.specs.Order.{lex_lt}
+use Rattle.ac_rules.specs.Order.{lex_lt}
 use Rattle.ac_search.specs.Search.{Search, all_shorter, is_up_to, is_between, between, is_met, met}
-use Rattle.ac_search.proofs.Elements.{each_weaker, count_less}
+use Rattle.ac_rules.proofs.Elements.{each_weaker, count_less}
 use Rattle.ac_search.proofs.FrontOrder.{lex_low_more, lex_high_more, lex_cut}
 use Rattle.ac_search.proofs.ShorterLemmas.{each_all_shorter, length-below}
 use Rattle.ac_search.proofs.SoughtLemmas.{IsSearch}

@@ -3,11 +3,11 @@ use Rattle.std.proofs.Common.{◌≡◌, ℕ, ◌+◌, ◌<◌, ◌≤◌, true,
 use Rattle.std.specs.List.{filter, AllByRecursion as Each}
 use Rattle.std.proofs.lemmas.Bool.{cases_Bool, cases_eq}
 use Rattle.std.proofs.lemmas.Bool.Decides.{nat_tests}
-use Rattle.ac_search.specs.Order.{lex_lt}
-use Rattle.ac_search.specs.Lists.{IsRising}
+use Rattle.ac_rules.specs.Order.{lex_lt}
+use Rattle.ac_rules.specs.Lists.{IsRising}
 use Rattle.ac_search.specs.Search.{from}
-use Rattle.ac_search.proofs.Elements.{Among, each_weaker, each_among, filter_agree}
-use Rattle.ac_search.proofs.OrderLemmas.{lex_irrefl, lex_total, lex_asym}
+use Rattle.ac_rules.proofs.Elements.{Among, each_weaker, each_among, filter_agree}
+use Rattle.ac_rules.proofs.OrderLemmas.{lex_irrefl, lex_total, lex_asym}
 use Rattle.ac_search.proofs.FrontOrder.{lex_append, lex_one, branch, Leaves}
 
 -- bounds that no list lies between leave the same

@@ -8,14 +8,14 @@ use Rattle.ac_base.specs.Devices.{Rises}
 use Rattle.ac_query.specs.QueriesShown.{asked_of}
 use Rattle.ac_tables.specs.CloudWorld.{providers_of}
 use Rattle.ac_tables.proofs.ProvidersStated.{cloud_in_order}
-use Rattle.ac_search.specs.Order.{lex_lt}
+use Rattle.ac_rules.specs.Order.{lex_lt}
 use Rattle.ac_search.specs.Search.{Search, all_shorter, choices_at, next_at, from, between}
 use Rattle.ac_search.specs.QuerySearch.{open_between}
 use Rattle.ac_search.specs.WalkShown.{cloud_in, query_in, token_in, search_in, front_in, left_of, IsSame, Tries}
 use Rattle.ac_search.specs.Steps.{Goes, Gives, Ends, IsBounded, Advances, Finishes}
 use Rattle.ac_search.specs.declared.walk.Walk.{Walk}
-use Rattle.ac_search.proofs.Elements.{each_append, each_weaker, each_all, count_more}
-use Rattle.ac_search.proofs.OrderLemmas.{lex_irrefl, lex_trans}
+use Rattle.ac_rules.proofs.Elements.{each_append, each_weaker, each_all, count_more}
+use Rattle.ac_rules.proofs.OrderLemmas.{lex_irrefl, lex_trans}
 use Rattle.ac_search.proofs.ShorterLemmas.{among_all_shorter}
 use Rattle.ac_search.proofs.IdsLemmas.{between_by_ids}
 use Rattle.ac_search.proofs.SoughtLemmas.{low_at}

@@ -4,10 +4,10 @@ use Rattle.std.specs.List.{AllByRecursion as Each}
 use Rattle.std.proofs.lemmas.Bool.{cases_lt, lt-ltb, le-ltb, false≢true}
 use Rattle.std.proofs.lemmas.Bool.Decides.{nat_tests}
 use Rattle.std.proofs.lemmas.List.{get_or_default, take_at}
-use Rattle.ac_search.specs.Order.{lex_lt}
+use Rattle.ac_rules.specs.Order.{lex_lt}
 use Rattle.ac_search.specs.Search.{Search, sought, choices_at, next_at, least_at, IsStart, Enters}
-use Rattle.ac_search.proofs.Elements.{each_weaker}
-use Rattle.ac_search.proofs.OrderLemmas.{lex_asym, lex_trans}
+use Rattle.ac_rules.proofs.Elements.{each_weaker}
+use Rattle.ac_rules.proofs.OrderLemmas.{lex_asym, lex_trans}
 use Rattle.ac_search.proofs.FrontOrder.{lex_append, lex_one, lex_longer, lex_cut_after}
 use Rattle.ac_search.proofs.SoughtLemmas.{IsSearch, IsSought, each_sought, choice_in, least_from}
 

@@ -14,8 +14,8 @@ use Rattle.ac_search.specs.Ahead.{load_of, hosts_of}
 use Rattle.ac_search.specs.Explained.{count_below, in_slot, is_served, meets_room}
 use Rattle.ac_search.specs.ExplainedShown.{marked, served, served_roots}
 use Rattle.ac_search.specs.Loads.{AreLimited}
-use Rattle.ac_search.specs.Placed.{no_slot, slot_at}
-use Rattle.ac_search.specs.Together.{takes_root}
+use Rattle.ac_rules.specs.Placed.{no_slot, slot_at}
+use Rattle.ac_rules.specs.Together.{takes_root}
 use Rattle.ac_search.proofs.OpenLemmas.{choice_more, filter_few}
 use Rattle.ac_search.proofs.RootLemmas.{hosts_low}
 

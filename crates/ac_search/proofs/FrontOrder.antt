@@ -2,8 +2,8 @@
 use Rattle.std.proofs.Common.{◌≡◌, ℕ, ◌≤◌, true, false, List, [], ◌∷◌, ◌++◌, ◌⊎◌, inl, inr, length, take, refl, sym, ◌∙◌, subst, nat_lt, arith}
 use Rattle.std.proofs.lemmas.Bool.{cases_eq, cases_Bool, true_from_ne_false, false≢true}
 use Rattle.std.proofs.lemmas.Bool.Decides.{nat_tests}
-use Rattle.ac_search.specs.Order.{lex_lt}
-use Rattle.ac_search.proofs.OrderLemmas.{lex_trans, lex_total}
+use Rattle.ac_rules.specs.Order.{lex_lt}
+use Rattle.ac_rules.proofs.OrderLemmas.{lex_trans, lex_total}
 
 pub lex_append : (q u w : List ℕ) → lex_lt (q ++ u) (q ++ w) ≡ lex_lt u w
 lex_append [] u w = refl

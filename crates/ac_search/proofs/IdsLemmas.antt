@@ -4,13 +4,13 @@ use Rattle.std.specs.List.{flat_map, range_with_len, AllByRecursion as Each}
 use Rattle.std.proofs.lemmas.Bool.{cases_Bool}
 use Rattle.ac_query.specs.Asked.{Asked, slots_of}
 use Rattle.ac_tables.specs.World.{Provider}
-use Rattle.ac_search.specs.Order.{lex_lt}
-use Rattle.ac_search.specs.Judge.{is_open}
-use Rattle.ac_search.specs.Laws.{AreInOrder}
+use Rattle.ac_rules.specs.Order.{lex_lt}
+use Rattle.ac_rules.specs.Judge.{is_open}
+use Rattle.ac_rules.specs.Laws.{AreInOrder}
 use Rattle.ac_search.specs.Search.{below, is_up_to, is_between, between}
 use Rattle.ac_search.specs.QuerySearch.{search_of, least_of, is_from, open_between}
-use Rattle.ac_search.proofs.Elements.{each_append}
-use Rattle.ac_search.proofs.AnchorLemmas.{each_range}
+use Rattle.ac_rules.proofs.Elements.{each_append}
+use Rattle.ac_rules.proofs.AnchorLemmas.{each_range}
 use Rattle.ac_search.proofs.LeastLemmas.{before_least, cut_nil}
 
 -- two tests that agree on lists of fewer than k numbers below n

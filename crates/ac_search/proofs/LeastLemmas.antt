@@ -4,15 +4,15 @@ use Rattle.std.specs.List.{AllByRecursion as Each}
 use Rattle.std.proofs.lemmas.Bool.{cases_lt, cases_eq, cases_order, cases_Bool, lt-ltb, le-ltb, eq-eqb, ne_eqb}
 use Rattle.std.proofs.lemmas.Bool.Decides.{nat_tests}
 use Rattle.ac_tables.specs.World.{Provider, id_at}
-use Rattle.ac_search.specs.Order.{lex_lt}
-use Rattle.ac_search.specs.Pages.{ids_of}
-use Rattle.ac_search.specs.Laws.{AreInOrder}
+use Rattle.ac_rules.specs.Order.{lex_lt}
+use Rattle.ac_rules.specs.Pages.{ids_of}
+use Rattle.ac_rules.specs.Laws.{AreInOrder}
 use Rattle.ac_search.specs.QuerySearch.{rank_of, is_known, least_after}
-use Rattle.ac_search.proofs.OrderLemmas.{lex_nil}
-use Rattle.ac_search.proofs.Elements.{filter_agree, each_weaker}
-use Rattle.ac_search.proofs.RestLemmas.{IsChosen, each_candidate}
+use Rattle.ac_rules.proofs.OrderLemmas.{lex_nil}
+use Rattle.ac_rules.proofs.Elements.{filter_agree, each_weaker}
+use Rattle.ac_rules.proofs.RestLemmas.{IsChosen, each_candidate}
 use Rattle.ac_search.specs.Search.{sought}
-use Rattle.ac_search.specs.Pages.{is_after, candidates, rest}
+use Rattle.ac_rules.specs.Pages.{is_after, candidates, rest}
 use Rattle.ac_search.specs.QuerySearch.{least_of, search_of}
 use Rattle.ac_query.specs.Asked.{Asked, slots_of}
 use Rattle.std.proofs.lemmas.List.Elements.{recursion_from_All}

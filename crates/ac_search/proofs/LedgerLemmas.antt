@@ -19,21 +19,21 @@ use Rattle.ac_query.specs.declared.group.Need.{Need}
 use Rattle.ac_query.specs.declared.group.Group as rust
 use Rattle.ac_query.specs.declared.query.Query.{Query}
 use Rattle.ac_tables.specs.World.{Provider, is_available_at, anchors_of}
-use Rattle.ac_search.specs.Placed.{placed, placed_at, slot_at, no_slot, assigned}
-use Rattle.ac_search.specs.Together.{sum_on, sums, isolate, takes_root}
-use Rattle.ac_search.specs.Judge.{is_open}
+use Rattle.ac_rules.specs.Placed.{placed, placed_at, slot_at, no_slot, assigned}
+use Rattle.ac_rules.specs.Together.{sum_on, sums, isolate, takes_root}
+use Rattle.ac_rules.specs.Judge.{is_open}
 use Rattle.ac_search.specs.QuerySearch.{fits}
-use Rattle.ac_search.specs.Laws.{AskAmounts}
+use Rattle.ac_rules.specs.Laws.{AskAmounts}
 use Rattle.ac_search.specs.Left.{place_of, IsKnown, IsThere, AreRows, AreLeft, ask_pair, numbered, wanted, left_in, suffices, room_on, row_of}
 use Rattle.ac_search.specs.Marks.{needs_own, marks_at, times, AreMarks, AreHits}
 use Rattle.ac_search.specs.Accounts.{providers_in, asked_in, texts_in, Accounts}
 use Rattle.ac_search.specs.declared.rooms.Ask.{Ask}
 use Rattle.ac_search.specs.declared.rooms.Room.{Room}
 use Rattle.ac_search.specs.declared.ledger.Ledger.{Ledger}
-use Rattle.ac_search.proofs.Elements.{each_append, each_map, each_weaker}
-use Rattle.ac_search.proofs.SlotLemmas.{each_at}
-use Rattle.ac_search.proofs.PlacedLemmas.{placed_none}
-use Rattle.ac_search.proofs.FrontLemmas.{Opens, open_parts}
+use Rattle.ac_rules.proofs.Elements.{each_append, each_map, each_weaker}
+use Rattle.ac_rules.proofs.SlotLemmas.{each_at}
+use Rattle.ac_rules.proofs.PlacedLemmas.{placed_none}
+use Rattle.ac_rules.proofs.FrontLemmas.{Opens, open_parts}
 use Rattle.ac_search.proofs.OpenLemmas.{placed_next, open_together, front_open}
 use Rattle.ac_search.proofs.RoomLemmas.{there_left}
 use Rattle.ac_search.proofs.LeftLemmas.{sums_next, sum_here, wanted_is, wanted_fits, wanted_class}

@@ -15,14 +15,14 @@ use Rattle.ac_base.specs.Texts.{text_cmp}
 use Rattle.ac_query.specs.InOrder.{AreApart}
 use Rattle.ac_query.proofs.PositiveNeeds.{apart_from_sorted}
 use Rattle.ac_tables.specs.World.{Provider, provider_at, used_of}
-use Rattle.ac_search.specs.Own.{stock_of}
-use Rattle.ac_search.specs.Room.{room_in}
-use Rattle.ac_search.specs.Placed.{Placed}
-use Rattle.ac_search.specs.Together.{amount_of, sum_on, has_room, holds, sums}
-use Rattle.ac_search.specs.Laws.{AskAmounts, IsFull}
+use Rattle.ac_rules.specs.Own.{stock_of}
+use Rattle.ac_rules.specs.Room.{room_in}
+use Rattle.ac_rules.specs.Placed.{Placed}
+use Rattle.ac_rules.specs.Together.{amount_of, sum_on, has_room, holds, sums}
+use Rattle.ac_rules.specs.Laws.{AskAmounts, IsFull}
 use Rattle.ac_search.specs.Left.{place_of, IsKnown, numbered, wanted, left_in, has_each, suffices, room_on, row_of, Takes, AreLeft}
 use Rattle.ac_search.specs.declared.rooms.Room.{Room}
-use Rattle.ac_search.proofs.FullLemmas.{sums_say_full}
+use Rattle.ac_rules.proofs.FullLemmas.{sums_say_full}
 
 -- a class that is known stands at its place
 pub known_at : (classes : List (List ℕ)) (c : List ℕ) → IsKnown classes c → slice_index_or classes (place_of classes c) [] ≡ c

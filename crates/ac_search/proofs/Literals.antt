@@ -3,12 +3,12 @@ use Rattle.std.proofs.Common.{◌≡◌, ℕ, Bool, true, false, List, [], ◌�
 use Rattle.ac_query.specs.Asked.{Asked, Group}
 use Rattle.ac_query.specs.Values.{AggregateRule}
 use Rattle.ac_tables.specs.World.{Provider, Held}
-use Rattle.ac_search.specs.Own.{units_fit, traits_fit, meets_rule, aggregates_fit, tree_fits}
-use Rattle.ac_search.specs.Together.{is_brought, collective, holds_sums, sums, is_set_apart, are_apart, isolate, is_top, subtree, takes_root, hosts_all, anchor}
-use Rattle.ac_search.specs.Judge.{tests, judge, is_candidate}
-use Rattle.ac_search.specs.Pages.{candidates, rest}
-use Rattle.ac_search.specs.declared.verdict.Rule.TheVariants.{Sums, Aggregates, Anchor}
-use Rattle.ac_search.specs.declared.verdict.Verdict.TheVariants.{Broken}
+use Rattle.ac_rules.specs.Own.{units_fit, traits_fit, meets_rule, aggregates_fit, tree_fits}
+use Rattle.ac_rules.specs.Together.{is_brought, collective, holds_sums, sums, is_set_apart, are_apart, isolate, is_top, subtree, takes_root, hosts_all, anchor}
+use Rattle.ac_rules.specs.Judge.{tests, judge, is_candidate}
+use Rattle.ac_rules.specs.Pages.{candidates, rest}
+use Rattle.ac_rules.specs.declared.verdict.Rule.TheVariants.{Sums, Aggregates, Anchor}
+use Rattle.ac_rules.specs.declared.verdict.Verdict.TheVariants.{Broken}
 
 vcpu : List ℕ
 vcpu = codes "VCPU"

@@ -7,11 +7,11 @@ use Rattle.std.proofs.lemmas.Bool.Decides.{nat_tests}
 use Rattle.std.proofs.lemmas.List.Folds.{list_all-append}
 use Rattle.ac_query.specs.Asked.{Asked, Slot, is_isolated}
 use Rattle.ac_tables.specs.World.{Provider, is_available_at, anchors_of}
-use Rattle.ac_search.specs.Placed.{Placed, placed}
-use Rattle.ac_search.specs.Together.{is_set_apart, are_apart, all_apart, isolate, takes_root, anchor}
+use Rattle.ac_rules.specs.Placed.{Placed, placed}
+use Rattle.ac_rules.specs.Together.{is_set_apart, are_apart, all_apart, isolate, takes_root, anchor}
 use Rattle.ac_search.specs.Marks.{needs_own, marks_at, times, hits_at, AreHits}
-use Rattle.ac_search.proofs.AnchorLemmas.{anchors_list, anchor_list, any_filter, any_agree, each_range}
-use Rattle.ac_search.proofs.Elements.{each_filter, each_weaker}
+use Rattle.ac_rules.proofs.AnchorLemmas.{anchors_list, anchor_list, any_filter, any_agree, each_range}
+use Rattle.ac_rules.proofs.Elements.{each_filter, each_weaker}
 
 -- ---- Marks
 

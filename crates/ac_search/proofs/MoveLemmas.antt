@@ -5,10 +5,10 @@ use Rattle.std.proofs.lemmas.Bool.{cases_eq, cases_Bool, and_parts, and_from, fa
 use Rattle.std.proofs.lemmas.Bool.Decides.{nat_tests}
 use Rattle.std.proofs.lemmas.List.{take-set, take_more, get_or_past}
 use Rattle.std.proofs.Math.Nat.{mul-le-mul_left}
-use Rattle.ac_search.specs.Order.{lex_lt}
+use Rattle.ac_rules.specs.Order.{lex_lt}
 use Rattle.ac_search.specs.Search.{Search, all_shorter, sought, choices_at, next_at, next_front, left_from, is_met, met, behind, IsSound, Enters}
-use Rattle.ac_search.proofs.Elements.{Among, each_weaker, each_all, each_both, each_append, count_less, count_more}
-use Rattle.ac_search.proofs.OrderLemmas.{lex_asym, lex_trans, lex_irrefl}
+use Rattle.ac_rules.proofs.Elements.{Among, each_weaker, each_all, each_both, each_append, count_less, count_more}
+use Rattle.ac_rules.proofs.OrderLemmas.{lex_asym, lex_trans, lex_irrefl}
 use Rattle.ac_search.proofs.FrontOrder.{lex_append, lex_one, lex_longer, lex_le_trans, lex_uncut, lex_cut_after}
 use Rattle.ac_search.proofs.ShorterLemmas.{among_all_shorter}
 use Rattle.ac_search.proofs.BoundLemmas.{skip_left, push_left, pop_left, after_left, head_from}

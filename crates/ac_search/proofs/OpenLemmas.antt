@@ -10,16 +10,16 @@ use Rattle.std.proofs.lemmas.List.Elements.{filter-append}
 use Rattle.std.proofs.Common.{cond, add-one}
 use Rattle.ac_query.specs.Asked.{Asked, Slot, slots_of}
 use Rattle.ac_tables.specs.World.{Provider}
-use Rattle.ac_search.specs.Placed.{Placed, placed, placed_at, slot_at, no_slot, assigned}
-use Rattle.ac_search.specs.Own.{units_fit, traits_fit, aggregates_fit, tree_fits}
-use Rattle.ac_search.specs.Together.{sums, isolate, anchor}
-use Rattle.ac_search.specs.Judge.{tests, is_candidate, is_open, is_open_at}
+use Rattle.ac_rules.specs.Placed.{Placed, placed, placed_at, slot_at, no_slot, assigned}
+use Rattle.ac_rules.specs.Own.{units_fit, traits_fit, aggregates_fit, tree_fits}
+use Rattle.ac_rules.specs.Together.{sums, isolate, anchor}
+use Rattle.ac_rules.specs.Judge.{tests, is_candidate, is_open, is_open_at}
 use Rattle.ac_search.specs.Search.{choices_at}
 use Rattle.ac_search.specs.QuerySearch.{fits, choice_of, completes, search_of}
-use Rattle.ac_search.proofs.Elements.{Among, each_filter, each_weaker, each_all, among_filter, filter_none}
-use Rattle.ac_search.proofs.ListLemmas.{among_range}
-use Rattle.ac_search.proofs.PlacedLemmas.{placed_append, placed_none}
-use Rattle.ac_search.proofs.FrontLemmas.{all_weaker, Opens, open_parts, opens, open_front, prefix_open}
+use Rattle.ac_rules.proofs.Elements.{Among, each_filter, each_weaker, each_all, among_filter, filter_none}
+use Rattle.ac_rules.proofs.ListLemmas.{among_range}
+use Rattle.ac_rules.proofs.PlacedLemmas.{placed_append, placed_none}
+use Rattle.ac_rules.proofs.FrontLemmas.{all_weaker, Opens, open_parts, opens, open_front, prefix_open}
 use Rattle.ac_search.proofs.SoughtLemmas.{IsSearch}
 
 -- a slot at a depth, and its choices

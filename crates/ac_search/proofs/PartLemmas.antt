@@ -12,19 +12,19 @@ use Rattle.std.proofs.lemmas.List.Elements.{recursion_from_All}
 use Rattle.ac_query.specs.Asked.{Asked, Slot, slots_of, lists_suffix}
 use Rattle.ac_tables.specs.Trees.{chain}
 use Rattle.ac_tables.specs.World.{Provider, id_at, parent_of, is_above}
-use Rattle.ac_search.specs.Laws.{AreInOrder}
-use Rattle.ac_search.specs.Lists.{IsListBelow}
-use Rattle.ac_search.specs.Order.{lex_lt}
-use Rattle.ac_search.specs.Placed.{Placed, placed, slot_at, no_slot, assigned}
-use Rattle.ac_search.specs.Together.{listed, is_top, subtree}
-use Rattle.ac_search.specs.Judge.{tests, all_hold, is_candidate}
+use Rattle.ac_rules.specs.Laws.{AreInOrder}
+use Rattle.ac_rules.specs.Lists.{IsListBelow}
+use Rattle.ac_rules.specs.Order.{lex_lt}
+use Rattle.ac_rules.specs.Placed.{Placed, placed, slot_at, no_slot, assigned}
+use Rattle.ac_rules.specs.Together.{listed, is_top, subtree}
+use Rattle.ac_rules.specs.Judge.{tests, all_hold, is_candidate}
 use Rattle.ac_search.specs.Keys.{is_there}
 use Rattle.ac_search.specs.Search.{choices_at}
 use Rattle.ac_search.specs.QuerySearch.{choice_of, choices_of, search_of}
 use Rattle.ac_search.specs.Parts.{IsNamed, AreParts, AreTops, AreLinked, KeepSeen}
-use Rattle.ac_search.proofs.Elements.{Among}
+use Rattle.ac_rules.proofs.Elements.{Among}
 use Rattle.ac_search.proofs.KeptLemmas.{kept_choices}
-use Rattle.ac_search.proofs.SlotLemmas.{each_at}
+use Rattle.ac_rules.proofs.SlotLemmas.{each_at}
 use Rattle.ac_search.proofs.SoughtLemmas.{IsSought, choice_in, place_of}
 use Rattle.ac_search.proofs.OpenLemmas.{choices_here, is_search}
 use Rattle.ac_search.proofs.TreeLemmas.{all_there, or_left, or_right}

@@ -9,14 +9,14 @@ use Rattle.ac_search.specs.Accounts.{providers_in, asked_in}
 use Rattle.ac_search.specs.Keys.{is_there}
 use Rattle.ac_search.specs.Trees.{IsByTree}
 use Rattle.ac_search.specs.declared.trees.ByTree.{ByTree}
-use Rattle.ac_search.specs.Order.{lex_lt}
+use Rattle.ac_rules.specs.Order.{lex_lt}
 use Rattle.ac_search.specs.Search.{Search, choices_at, next_at, next_front, left_from, IsDead, AllDead, IsSound}
 use Rattle.ac_search.specs.WalkShown.{search_in, front_in}
 use Rattle.ac_search.specs.Steps.{Passes, StepGives, Goes, Gives, Ends}
 use Rattle.ac_search.specs.declared.walk.Walk.{Walk}
 use Rattle.ac_search.specs.declared.walk.Step.{Step}
 use Rattle.ac_search.specs.declared.walk.Step.TheVariants.{Given, Went, Ended}
-use Rattle.ac_search.proofs.OrderLemmas.{lex_trans}
+use Rattle.ac_rules.proofs.OrderLemmas.{lex_trans}
 use Rattle.ac_search.proofs.FrontOrder.{lex_le_trans}
 use Rattle.ac_search.proofs.SoughtLemmas.{IsSearch, low_at}
 use Rattle.ac_search.proofs.MoveLemmas.{sound_next, forward_next}

@@ -7,13 +7,13 @@ use Rattle.std.proofs.lemmas.List.Elements.{All-from_recursion}
 use Rattle.ac_query.specs.Asked.{slots_of}
 use Rattle.ac_query.specs.QueriesShown.{asked_of}
 use Rattle.ac_tables.specs.CloudWorld.{providers_of}
-use Rattle.ac_search.specs.Placed.{placed_at, slot_at, assigned}
-use Rattle.ac_search.specs.Judge.{is_open}
+use Rattle.ac_rules.specs.Placed.{placed_at, slot_at, assigned}
+use Rattle.ac_rules.specs.Judge.{is_open}
 use Rattle.ac_search.specs.Search.{choices_at, next_at}
 use Rattle.ac_search.specs.QuerySearch.{fits}
 use Rattle.ac_search.specs.WalkShown.{search_in}
 use Rattle.ac_search.specs.declared.walk.Walk.{Walk}
-use Rattle.ac_search.proofs.SlotLemmas.{each_at}
+use Rattle.ac_rules.proofs.SlotLemmas.{each_at}
 use Rattle.ac_search.proofs.OpenLemmas.{choices_here, each_choice, fits_placed, is_search}
 use Rattle.ac_search.proofs.MoveLemmas.{each_front, front_back}
 

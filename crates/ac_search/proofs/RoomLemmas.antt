@@ -8,7 +8,7 @@ use Rattle.std.proofs.lemmas.Simd.{map-map}
 use Rattle.ac_search.specs.Left.{ask_pair, room_pair, wanted, place_in, IsThere, left_in}
 use Rattle.ac_search.specs.declared.rooms.Ask.{Ask}
 use Rattle.ac_search.specs.declared.rooms.Room.{Room}
-use Rattle.ac_search.proofs.Elements.{each_append, each_weaker}
+use Rattle.ac_rules.proofs.Elements.{each_append, each_weaker}
 
 -- the classes of a row
 abbrev pub classes_in : List (ℕ × ℕ) → List ℕ

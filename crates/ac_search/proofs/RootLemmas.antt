@@ -15,19 +15,19 @@ use Rattle.ac_query.specs.Asked.{Asked, Slot, slots_of}
 use Rattle.ac_tables.specs.World.{Provider, provider_at, is_available_at, anchors_of}
 use Rattle.ac_search.specs.Marks.{AreHits, needs_own}
 use Rattle.ac_search.specs.Search.{IsDead}
-use Rattle.ac_search.specs.Placed.{Placed, placed, slot_at, no_slot, assigned}
-use Rattle.ac_search.specs.Together.{amount_of, sum_on, holds, takes_root, hosts_all, anchor}
-use Rattle.ac_search.specs.Judge.{is_open}
+use Rattle.ac_rules.specs.Placed.{Placed, placed, slot_at, no_slot, assigned}
+use Rattle.ac_rules.specs.Together.{amount_of, sum_on, holds, takes_root, hosts_all, anchor}
+use Rattle.ac_rules.specs.Judge.{is_open}
 use Rattle.ac_search.specs.QuerySearch.{fits, choice_of, search_of}
 use Rattle.ac_search.specs.Left.{ask_pair, numbered, wanted, left_in, place_of, IsKnown, row_of, has_each}
 use Rattle.ac_search.specs.Accounts.{providers_in, asked_in, texts_in, Accounts}
 use Rattle.ac_search.specs.Ahead.{load_of, hosts_of, IsHosted, left_on, asks_much, lone_much, serves, AreHosts, AreRoots}
 use Rattle.ac_search.specs.declared.ledger.Ledger.{Ledger}
 use Rattle.ac_search.specs.declared.rooms.Ask.{Ask}
-use Rattle.ac_search.proofs.Elements.{Among, each_weaker, each_filter, each_both, each_among}
-use Rattle.ac_search.proofs.AnchorLemmas.{each_range, hosts_list, any_filter}
+use Rattle.ac_rules.proofs.Elements.{Among, each_weaker, each_filter, each_both, each_among}
+use Rattle.ac_rules.proofs.AnchorLemmas.{each_range, hosts_list, any_filter}
 use Rattle.ac_search.proofs.MarkLemmas.{all_hit}
-use Rattle.ac_search.proofs.FrontLemmas.{Opens}
+use Rattle.ac_rules.proofs.FrontLemmas.{Opens}
 use Rattle.ac_search.proofs.LeftLemmas.{each_suffices, wanted_is, holds_less}
 use Rattle.ac_search.proofs.OpenLemmas.{among_choice, each_choice, front_open}
 use Rattle.ac_search.proofs.SoughtLemmas.{place_of as place_of_choice}

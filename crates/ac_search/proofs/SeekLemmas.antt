@@ -3,10 +3,10 @@ use Rattle.std.proofs.Common.{◌≡◌, ℕ, ◌+◌, ◌<◌, suc, Bool, true,
 use Rattle.std.specs.List.{slice_index}
 use Rattle.std.proofs.lemmas.Bool.{cases_Bool, cases_lt}
 use Rattle.std.proofs.lemmas.List.{take_more, get_or_push}
-use Rattle.ac_search.specs.Order.{lex_lt}
+use Rattle.ac_rules.specs.Order.{lex_lt}
 use Rattle.ac_search.specs.Search.{Search, choices_at, next_at, next_front, HasAt, IsSound}
 use Rattle.ac_search.proofs.FrontOrder.{lex_uncut}
-use Rattle.ac_search.proofs.OrderLemmas.{lex_total}
+use Rattle.ac_rules.proofs.OrderLemmas.{lex_total}
 
 -- the path goes past x by p, unless it stays a front of x
 pub passed_by : (m : Search) (x path places : List ℕ) (d : ℕ) (seeking : Bool) (probes p : ℕ) → IsSound m x path places d seeking probes → slice_index places d < length (choices_at m d) → p ≡ next_at m d (slice_index places d)

@@ -3,8 +3,8 @@ use Rattle.std.proofs.Common.{◌≡◌, ℕ, ◌<◌, zero, suc, Bool, true, fa
 use Rattle.std.specs.List.{flat_map, filter, range_with_len, AllByRecursion as Each}
 use Rattle.std.proofs.lemmas.Bool.{cases_Bool, false≢true, false_from_ne_true}
 use Rattle.ac_search.specs.Search.{all_shorter, below}
-use Rattle.ac_search.proofs.Elements.{Among, each_all, each_weaker, among_map, among_flat_map, filter_agree, filter_none}
-use Rattle.ac_search.proofs.ListLemmas.{among_range, each_under}
+use Rattle.ac_rules.proofs.Elements.{Among, each_all, each_weaker, among_map, among_flat_map, filter_agree, filter_none}
+use Rattle.ac_rules.proofs.ListLemmas.{among_range, each_under}
 
 pub among_all_shorter : (n h : ℕ) (t : List ℕ) → length t < h → Each (λ p. p < n) t → Among (all_shorter n h) t
 among_all_shorter n zero t e b = absurd (omega arith)

@@ -4,12 +4,12 @@ use Rattle.std.specs.List.{filter, AllPairs, AllByRecursion as Each}
 use Rattle.std.proofs.lemmas.Bool.{cases_lt, cases_eq, not-true, not_from_false}
 use Rattle.std.proofs.lemmas.List.{get_or_past}
 use Rattle.std.proofs.lemmas.List.Elements.{All-from_recursion, recursion_from_All}
-use Rattle.ac_search.specs.Order.{lex_lt}
-use Rattle.ac_search.specs.Lists.{all_lists, IsListBelow, IsRising}
+use Rattle.ac_rules.specs.Order.{lex_lt}
+use Rattle.ac_rules.specs.Lists.{all_lists, IsListBelow, IsRising}
 use Rattle.ac_search.specs.Search.{Search, sought, choices_at, next_at}
-use Rattle.ac_search.proofs.Elements.{Among, each_filter, each_weaker, among_filter}
-use Rattle.ac_search.proofs.SlotLemmas.{each_at}
-use Rattle.ac_search.proofs.ListLemmas.{rising_all_lists, rising_filter, each_all_lists, among_all_lists}
+use Rattle.ac_rules.proofs.Elements.{Among, each_filter, each_weaker, among_filter}
+use Rattle.ac_rules.proofs.SlotLemmas.{each_at}
+use Rattle.ac_rules.proofs.ListLemmas.{rising_all_lists, rising_filter, each_all_lists, among_all_lists}
 
 -- What makes a walk find all that is wanted. The choices of a slot rise, and have each number that leads to an open list.
 -- A front of an open list is open, and so is a wanted list.

@@ -9,7 +9,7 @@ use Rattle.ac_query.specs.QueriesShown.{asked_of}
 use Rattle.ac_tables.specs.CloudWorld.{providers_of}
 use Rattle.ac_tables.specs.declared.cloud.Cloud.{Cloud}
 use Rattle.ac_tables.proofs.CloudFacts.{size}
-use Rattle.ac_search.specs.Order.{lex_lt}
+use Rattle.ac_rules.specs.Order.{lex_lt}
 use Rattle.ac_search.specs.Search.{Search, choices_at, next_at, next_front, left_from, between}
 use Rattle.ac_search.specs.WalkShown.{search_in, front_in, left_of, IsSame}
 use Rattle.ac_search.specs.Steps.{Goes, Gives, IsBounded}

@@ -6,14 +6,14 @@ use Rattle.std.proofs.lemmas.Bool.{cases_Bool, cases_eq, and_parts, eq-eqb, ne_e
 use Rattle.std.proofs.lemmas.List.Folds.{list_all-append, list_any-append, list_any_at}
 use Rattle.ac_query.specs.Asked.{Asked, slots_of}
 use Rattle.ac_tables.specs.World.{Provider, is_available_at, anchors_of}
-use Rattle.ac_search.specs.Placed.{assigned}
-use Rattle.ac_search.specs.Together.{takes_root}
-use Rattle.ac_search.specs.Judge.{is_open}
+use Rattle.ac_rules.specs.Placed.{assigned}
+use Rattle.ac_rules.specs.Together.{takes_root}
+use Rattle.ac_rules.specs.Judge.{is_open}
 use Rattle.ac_search.specs.Keys.{key_of, is_there, IsUnder}
-use Rattle.ac_search.proofs.Elements.{Among, among_filter}
-use Rattle.ac_search.proofs.ListLemmas.{among_range}
-use Rattle.ac_search.proofs.AnchorLemmas.{anchors_list, anchor_list, each_range}
-use Rattle.ac_search.proofs.FrontLemmas.{Opens, open_parts}
+use Rattle.ac_rules.proofs.Elements.{Among, among_filter}
+use Rattle.ac_rules.proofs.ListLemmas.{among_range}
+use Rattle.ac_rules.proofs.AnchorLemmas.{anchors_list, anchor_list, each_range}
+use Rattle.ac_rules.proofs.FrontLemmas.{Opens, open_parts}
 
 -- ---- Numbers that are there
 

@@ -6,9 +6,9 @@ use Rattle.std.proofs.lemmas.Bool.Decides.{nat_tests}
 use Rattle.std.proofs.lemmas.List.{get_or_past}
 use Rattle.std.proofs.lemmas.List.Elements.{All-from_recursion}
 use Rattle.std.proofs.Math.Nat.{mul-le-mul_left}
-use Rattle.ac_search.specs.Lists.{IsListBelow}
+use Rattle.ac_rules.specs.Lists.{IsListBelow}
 use Rattle.ac_search.specs.Search.{Search, IsDead, sought, between, choices_at, next_at, next_front, from, left_from, IsSound}
-use Rattle.ac_search.proofs.Elements.{each_weaker, each_append, filter_none}
+use Rattle.ac_rules.proofs.Elements.{each_weaker, each_append, filter_none}
 use Rattle.ac_search.proofs.FrontOrder.{lex_one}
 use Rattle.ac_search.proofs.SoughtLemmas.{IsSearch, IsSought, each_sought, low_at}
 use Rattle.ac_search.proofs.MoveLemmas.{left_next, left_given, front_back, path_low}

@@ -5,7 +5,7 @@ use Rattle.ac_query.specs.Asked.{Asked}
 use Rattle.ac_query.specs.QueriesShown.{asked_of}
 use Rattle.ac_tables.specs.World.{Provider}
 use Rattle.ac_tables.specs.CloudWorld.{providers_of}
-use Rattle.ac_search.specs.Placed.{assigned}
+use Rattle.ac_rules.specs.Placed.{assigned}
 use Rattle.ac_search.specs.Left.{AreLeft}
 use Rattle.ac_search.specs.Marks.{AreMarks, AreHits}
 use Rattle.ac_search.specs.declared.ledger.Ledger.{Ledger}

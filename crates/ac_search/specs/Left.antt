@@ -5,10 +5,10 @@ use Rattle.std.specs.List.{list_all}
 use Rattle.std.specs.Str.{bytes_eq}
 use Rattle.std.specs.Global.{Vec}
 use Rattle.ac_tables.specs.World.{Provider, provider_at, used_of}
-use Rattle.ac_search.specs.Own.{stock_of}
-use Rattle.ac_search.specs.Room.{room_in}
-use Rattle.ac_search.specs.Placed.{Placed}
-use Rattle.ac_search.specs.Together.{sum_on}
+use Rattle.ac_rules.specs.Own.{stock_of}
+use Rattle.ac_rules.specs.Room.{room_in}
+use Rattle.ac_rules.specs.Placed.{Placed}
+use Rattle.ac_rules.specs.Together.{sum_on}
 use Rattle.ac_search.specs.declared.rooms.Ask.{Ask}
 use Rattle.ac_search.specs.declared.rooms.Room.{Room}
 

@@ -2,8 +2,8 @@
 use Rattle.std.specs.Prelude.{◌≡◌, ℕ, ◌+◌, ◌<◌, Bool, ◌&&◌, ◌==◌, if◌then◌else◌, List, [], ◌∷◌, length, slice_index}
 use Rattle.ac_query.specs.Asked.{Asked, Slot, is_isolated}
 use Rattle.ac_tables.specs.World.{Provider, is_available_at}
-use Rattle.ac_search.specs.Placed.{Placed}
-use Rattle.ac_search.specs.Together.{is_set_apart}
+use Rattle.ac_rules.specs.Placed.{Placed}
+use Rattle.ac_rules.specs.Together.{is_set_apart}
 
 -- a slot that needs a provider for itself among its like
 abbrev pub needs_own : Asked → Slot → Bool

@@ -3,9 +3,9 @@ use Rattle.std.specs.Prelude.{◌≡◌, ℕ, ◌<◌, Bool, true, List, length,
 use Rattle.std.specs.Option.{option_map}
 use Rattle.ac_query.specs.Asked.{Asked, slots_of, lists_suffix}
 use Rattle.ac_tables.specs.World.{Provider, id_at, parent_of}
-use Rattle.ac_search.specs.Lists.{IsListBelow}
-use Rattle.ac_search.specs.Placed.{slot_at}
-use Rattle.ac_search.specs.Judge.{is_candidate}
+use Rattle.ac_rules.specs.Lists.{IsListBelow}
+use Rattle.ac_rules.specs.Placed.{slot_at}
+use Rattle.ac_rules.specs.Judge.{is_candidate}
 use Rattle.ac_search.specs.QuerySearch.{choice_of}
 
 -- a list of names names a slot

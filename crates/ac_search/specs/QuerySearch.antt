@@ -3,12 +3,12 @@ use Rattle.std.specs.Prelude.{ℕ, ◌+◌, ◌&&◌, ◌==◌, zero, suc, Bool,
 use Rattle.std.specs.List.{filter, range_with_len}
 use Rattle.ac_query.specs.Asked.{Asked, Slot, slots_of}
 use Rattle.ac_tables.specs.World.{Provider, id_at}
-use Rattle.ac_search.specs.Placed.{Placed, assigned}
-use Rattle.ac_search.specs.Own.{units_fit, traits_fit, aggregates_fit, tree_fits}
-use Rattle.ac_search.specs.Together.{collective, subtree}
-use Rattle.ac_search.specs.Judge.{is_candidate, is_open}
-use Rattle.ac_search.specs.Order.{lex_lt}
-use Rattle.ac_search.specs.Pages.{ids_of}
+use Rattle.ac_rules.specs.Placed.{Placed, assigned}
+use Rattle.ac_rules.specs.Own.{units_fit, traits_fit, aggregates_fit, tree_fits}
+use Rattle.ac_rules.specs.Together.{collective, subtree}
+use Rattle.ac_rules.specs.Judge.{is_candidate, is_open}
+use Rattle.ac_rules.specs.Order.{lex_lt}
+use Rattle.ac_rules.specs.Pages.{ids_of}
 use Rattle.ac_search.specs.Search.{Search, below, is_up_to}
 
 -- the rules of a slot alone

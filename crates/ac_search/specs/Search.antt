@@ -2,8 +2,8 @@
 -- looks for, and what a walk through it keeps true by its path and its places.
 use Rattle.std.specs.Prelude.{◌≡◌, ℕ, ◌+◌, ◌-◌, ◌*◌, ◌<◌, ◌≤◌, zero, suc, Bool, true, false, not, ◌&&◌, nat_lt, cond, if◌then◌else◌, List, [], ◌∷◌, ◌++◌, map, length, take, slice_index, slice_index_or, Option, None, Some}
 use Rattle.std.specs.List.{filter, flat_map, range_with_len, AllByRecursion}
-use Rattle.ac_search.specs.Order.{lex_lt}
-use Rattle.ac_search.specs.Lists.{all_lists, IsListBelow}
+use Rattle.ac_rules.specs.Order.{lex_lt}
+use Rattle.ac_rules.specs.Lists.{all_lists, IsListBelow}
 
 -- The numbers are below `count`, and there are `width` slots. A slot has some of the numbers as its choices. Some lists
 -- are open, and some lists of a number for each slot are wanted.

@@ -1,7 +1,7 @@
 -- What one step of a walk does.
 use Rattle.std.specs.Prelude.{◌≡◌, ℕ, ◌*◌, ◌≤◌, true, false, List, [], ◌∷◌, length, Option, None, Some}
 use Rattle.ac_base.specs.Devices.{Rises}
-use Rattle.ac_search.specs.Order.{lex_lt}
+use Rattle.ac_rules.specs.Order.{lex_lt}
 use Rattle.ac_search.specs.Search.{between}
 use Rattle.ac_search.specs.WalkShown.{search_in, front_in, left_of, IsSame, Tries}
 use Rattle.ac_search.specs.declared.walk.Walk.{Walk}

@@ -4,14 +4,14 @@ ghost use Rattle.std.specs.Prelude.{◌≡◌, ◌<◌, ◌&&◌, IfOk, [], leng
 ghost use Rattle.ac_tables.specs.CloudWorld.{providers_of};
 ghost use Rattle.ac_query.specs.Asked.{slots_of};
 ghost use Rattle.ac_query.specs.QueriesShown.{asked_of};
-ghost use Rattle.ac_search.specs.Placed.{slot_at, placed_at};
-ghost use Rattle.ac_search.specs.Judge.{is_open};
+ghost use Rattle.ac_rules.specs.Placed.{slot_at, placed_at};
+ghost use Rattle.ac_rules.specs.Judge.{is_open};
 ghost use Rattle.ac_search.specs.QuerySearch.{fits, choice_of, choices_of};
 
 use crate::open::{fits_slot, is_open};
-use crate::slots::count_slots;
 use ac_base::NoMemory;
 use ac_query::Query;
+use ac_rules::slots::count_slots;
 use ac_tables::Cloud;
 use std::alloc::Global;
 

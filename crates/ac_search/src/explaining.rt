@@ -7,19 +7,19 @@ ghost use Rattle.ac_tables.specs.CloudWorld.{providers_of};
 ghost use Rattle.ac_query.specs.Asked.{slots_of};
 ghost use Rattle.ac_query.specs.GroupsShown.{need_entry};
 ghost use Rattle.ac_query.specs.QueriesShown.{asked_of};
-ghost use Rattle.ac_search.specs.Placed.{placed_at, slot_at};
-ghost use Rattle.ac_search.specs.Together.{holds};
+ghost use Rattle.ac_rules.specs.Placed.{placed_at, slot_at};
+ghost use Rattle.ac_rules.specs.Together.{holds};
 ghost use Rattle.ac_search.specs.Explained.{count_of, has_room_alone, meets_room, slot_counts, tree_counts};
 ghost use Rattle.ac_search.specs.ExplainedShown.{marked, served, served_roots, slot_counted, trees_counted};
 
 use crate::hosts::limit;
 use crate::marks::taken_roots;
 use crate::open::fits_slot;
-use crate::own::{has_aggregates, has_slot_traits, has_units, is_in_tree};
-use crate::slots::{count_slots, needs_at};
-use crate::sums::room_at;
 use ac_base::NoMemory;
 use ac_query::{Need, Query};
+use ac_rules::own::{has_aggregates, has_slot_traits, has_units, is_in_tree};
+use ac_rules::slots::{count_slots, needs_at};
+use ac_rules::sums::room_at;
 use ac_tables::Cloud;
 use std::alloc::Global;
 

@@ -6,14 +6,14 @@ ghost use Rattle.ac_query.specs.Asked.{Asked, slots_of, lists_suffix};
 ghost use Rattle.ac_query.specs.QueriesShown.{asked_of};
 ghost use Rattle.ac_tables.specs.CloudWorld.{providers_of};
 ghost use Rattle.ac_tables.specs.World.{Provider};
-ghost use Rattle.ac_search.specs.Placed.{slot_at};
+ghost use Rattle.ac_rules.specs.Placed.{slot_at};
 ghost use Rattle.ac_search.specs.QuerySearch.{choices_of, search_of};
 ghost use Rattle.ac_search.specs.Search.{IsDead};
 
 use crate::parts::parts_of;
-use crate::slots::{count_slots, is_listed};
 use ac_base::NoMemory;
 use ac_query::Query;
+use ac_rules::slots::{count_slots, is_listed};
 use ac_tables::Cloud;
 use std::alloc::Global;
 

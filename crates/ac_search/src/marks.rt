@@ -6,14 +6,14 @@ ghost use Rattle.std.specs.List.{All, list_any, range_with_len};
 ghost use Rattle.ac_tables.specs.CloudWorld.{providers_of};
 ghost use Rattle.ac_query.specs.Asked.{slots_of};
 ghost use Rattle.ac_query.specs.QueriesShown.{asked_of};
-ghost use Rattle.ac_search.specs.Placed.{slot_at};
-ghost use Rattle.ac_search.specs.Together.{takes_root};
+ghost use Rattle.ac_rules.specs.Placed.{slot_at};
+ghost use Rattle.ac_rules.specs.Together.{takes_root};
 ghost use Rattle.ac_search.specs.Marks.{needs_own, times};
 
-use crate::anchor::takes_root;
-use crate::slots::{count_slots, is_set_apart};
 use ac_base::NoMemory;
 use ac_query::Query;
+use ac_rules::anchor::takes_root;
+use ac_rules::slots::{count_slots, is_set_apart};
 use ac_tables::Cloud;
 use std::alloc::Global;
 

@@ -5,15 +5,15 @@ ghost use Rattle.std.specs.List.{All, list_all};
 ghost use Rattle.ac_tables.specs.CloudWorld.{providers_of};
 ghost use Rattle.ac_query.specs.Asked.{slots_of};
 ghost use Rattle.ac_query.specs.QueriesShown.{asked_of};
-ghost use Rattle.ac_search.specs.Placed.{placed_at, assigned};
-ghost use Rattle.ac_search.specs.Judge.{is_open};
+ghost use Rattle.ac_rules.specs.Placed.{placed_at, assigned};
+ghost use Rattle.ac_rules.specs.Judge.{is_open};
 ghost use Rattle.ac_search.specs.QuerySearch.{fits, completes};
 
-use crate::anchor::has_anchor;
-use crate::own::{has_aggregates, has_slot_traits, has_units, is_in_tree};
-use crate::sums::have_room;
-use crate::whole::{are_collective, are_isolated, have_tops};
 use ac_query::Query;
+use ac_rules::anchor::has_anchor;
+use ac_rules::own::{has_aggregates, has_slot_traits, has_units, is_in_tree};
+use ac_rules::sums::have_room;
+use ac_rules::whole::{are_collective, are_isolated, have_tops};
 use ac_tables::Cloud;
 
 /// Whether a provider meets the rules of a slot alone.

@@ -6,13 +6,13 @@ ghost use Rattle.std.specs.List.{All};
 ghost use Rattle.ac_query.specs.Asked.{slots_of, lists_suffix};
 ghost use Rattle.ac_query.specs.QueriesShown.{asked_of};
 ghost use Rattle.ac_tables.specs.CloudWorld.{providers_of};
-ghost use Rattle.ac_search.specs.Placed.{slot_at};
+ghost use Rattle.ac_rules.specs.Placed.{slot_at};
 ghost use Rattle.ac_search.specs.Parts.{AreParts, AreTops, AreMarked, IsLinked, AreLinked, KeepSeen};
 ghost use Rattle.ac_search.specs.QuerySearch.{choice_of, choices_of};
 
-use crate::slots::{count_slots, is_listed};
 use ac_base::NoMemory;
 use ac_query::Query;
+use ac_rules::slots::{count_slots, is_listed};
 use ac_tables::Cloud;
 use std::alloc::Global;
 

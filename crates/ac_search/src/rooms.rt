@@ -7,13 +7,13 @@ ghost use Rattle.ac_tables.specs.CloudWorld.{providers_of};
 ghost use Rattle.ac_query.specs.Asked.{slots_of};
 ghost use Rattle.ac_query.specs.GroupsShown.{need_entry};
 ghost use Rattle.ac_query.specs.QueriesShown.{asked_of};
-ghost use Rattle.ac_search.specs.Placed.{slot_at};
+ghost use Rattle.ac_rules.specs.Placed.{slot_at};
 ghost use Rattle.ac_search.specs.Left.{place_of, IsKnown, ask_pair, room_pair, numbered, wanted, place_in, left_in, IsThere, has_each, IsRow, AreRows, row_of, Takes, IsShape};
 
-use crate::slots::{count_slots, needs_at};
-use crate::sums::room_at;
 use ac_base::{ClassName, NoMemory};
 use ac_query::{Need, Query};
+use ac_rules::slots::{count_slots, needs_at};
+use ac_rules::sums::room_at;
 use ac_tables::Cloud;
 use std::alloc::Global;
 

@@ -3,14 +3,14 @@ ghost use Rattle.std.specs.Prelude.{◌<◌, length, IfOk};
 ghost use Rattle.std.specs.List.{All};
 ghost use Rattle.ac_tables.specs.CloudWorld.{providers_of};
 
-use crate::plain::Plain;
-use crate::slots::count_slots;
-use crate::source::Source;
-use crate::verdict::Verdict;
-use crate::verify;
 use crate::walk::Walk;
 use ac_base::Id;
 use ac_query::{Query, Token, Version};
+use ac_rules::plain::Plain;
+use ac_rules::slots::count_slots;
+use ac_rules::source::Source;
+use ac_rules::verdict::Verdict;
+use ac_rules::verify;
 use ac_tables::{Cloud, Sources};
 use std::alloc::{AllocError, Global};
 

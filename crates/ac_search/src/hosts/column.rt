@@ -7,13 +7,13 @@ ghost use Rattle.ac_search.specs.Accounts.{providers_in, asked_in, texts_in, Acc
 ghost use Rattle.ac_search.specs.Ahead.{load_of};
 ghost use Rattle.ac_search.specs.Left.{wanted, place_of, IsKnown};
 ghost use Rattle.ac_search.specs.Loads.{IsColumn, ArePieces, AreOnes, MayHost, pairs_of, is_much};
-ghost use Rattle.ac_search.specs.Placed.{slot_at};
+ghost use Rattle.ac_rules.specs.Placed.{slot_at};
 
 use super::loads::limit;
 use crate::ledger::Ledger;
 use crate::rooms::{Ask, Room, left_in, number_of, wanted};
-use crate::slots::count_slots;
 use ac_base::{ClassName, NoMemory};
+use ac_rules::slots::count_slots;
 use std::alloc::Global;
 
 /// What is left of a class at each provider, beside the ledger of an empty path.

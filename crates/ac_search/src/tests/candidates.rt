@@ -1,6 +1,6 @@
 //! The candidates of queries in small clouds, by both sources, and verdicts on one list.
 use super::{NONE, PAIR, Rows, gives, verdict_of};
-use crate::verdict::{Rule, Verdict};
+use ac_rules::verdict::{Rule, Verdict};
 use std::test::Fail;
 
 // One provider with eight units of a class.

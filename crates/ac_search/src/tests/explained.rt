@@ -1,7 +1,7 @@
 //! What an explanation counts in small clouds, with the hand count beside each number.
 use super::{NONE, Rows, cloud_of, query_of};
 use crate::explaining::{SlotCounts, TreeCounts, slot_counts, tree_counts};
-use crate::slots::count_slots;
+use ac_rules::slots::count_slots;
 use std::alloc::{AllocError, Global};
 
 // One provider more falls out at each stage: 01 has no inventory, and 02 admits no less than five; 03 has no trait; 04 is in

@@ -1,11 +1,11 @@
 //! What takes memory, made with each of its growths refused in turn: all candidates, the counts of trees, or want of memory. What a source gives takes none.
 use super::{PAIR, cloud_of, query_of};
 use crate::explaining::{TreeCounts, tree_counts};
-use crate::plain::Plain;
-use crate::source::Source;
 use crate::walk::Walk;
 use ac_base::NoMemory;
 use ac_query::{Query, Token};
+use ac_rules::plain::Plain;
+use ac_rules::source::Source;
 use ac_tables::Cloud;
 use std::alloc::{AllocError, Global};
 use std::process::Abort;

@@ -1,7 +1,7 @@
 //! How often a walk tries, counted by hand.
 use super::{PAIR, Rows, cloud_of, ends, expanded, query_of, token_of};
-use crate::source::Source;
 use crate::walk::Walk;
+use ac_rules::source::Source;
 use ac_tables::Cloud;
 use std::alloc::{AllocError, Global};
 use std::test::Fail;

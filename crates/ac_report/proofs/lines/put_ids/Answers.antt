@@ -2,7 +2,7 @@ use Rattle.std.proofs.Common.{◌≡◌, ◌∙◌, ◌<◌, ◌++◌, ◌∷◌
 use Rattle.std.specs.List.{All}
 use Rattle.std.proofs.lemmas.List.{take_all}
 use Rattle.ac_query.specs.Tokens.{ids_text}
-use Rattle.ac_search.specs.Pages.{ids_of}
+use Rattle.ac_rules.specs.Pages.{ids_of}
 use Rattle.ac_tables.specs.CloudWorld.{providers_of}
 use Rattle.ac_report.specs.Trees.{provider_text}
 use Rattle.ac_report.proofs.LinesWritten.{behind_commas, ids_behind, behind_more}

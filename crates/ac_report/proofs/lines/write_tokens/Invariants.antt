@@ -1,7 +1,7 @@
 use Rattle.std.proofs.Common.{◌≡◌, ◌≤◌, ◌+◌, min, length}
 use Rattle.std.specs.List.{All}
 use Rattle.ac_query.specs.QueriesShown.{asked_of}
-use Rattle.ac_search.specs.Pages.{cut}
+use Rattle.ac_rules.specs.Pages.{cut}
 use Rattle.ac_tables.specs.CloudWorld.{providers_of}
 use Rattle.ac_report.specs.Texts.{line, lines}
 use Rattle.ac_report.specs.Pages.{IsAssignment, behind}

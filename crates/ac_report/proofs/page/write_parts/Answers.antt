@@ -1,7 +1,7 @@
 use Rattle.std.proofs.Common.{sym, subst, rules, map, List, [], ◌∷◌, ◌++◌, ℕ, false}
 use Rattle.std.specs.Io.KnownBytes.{Appends}
 use Rattle.ac_query.specs.QueriesShown.{asked_of}
-use Rattle.ac_search.specs.Pages.{cut}
+use Rattle.ac_rules.specs.Pages.{cut}
 use Rattle.ac_tables.specs.CloudWorld.{providers_of}
 use Rattle.ac_tables.proofs.ProvidersStated.{cloud_in_order}
 use Rattle.ac_report.specs.Marks.{requests_text, summaries_text}

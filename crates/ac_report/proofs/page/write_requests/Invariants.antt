@@ -1,7 +1,7 @@
 use Rattle.std.proofs.Common.{◌≡◌, ◌<◌, ◌≤◌, ◌+◌, ◌||◌, min, length, map, ℕ, false, get_or}
 use Rattle.std.specs.List.{All, list_any}
 use Rattle.ac_query.specs.QueriesShown.{asked_of}
-use Rattle.ac_search.specs.Pages.{cut}
+use Rattle.ac_rules.specs.Pages.{cut}
 use Rattle.ac_tables.specs.CloudWorld.{providers_of}
 use Rattle.ac_tables.specs.World.{id_at}
 use Rattle.ac_report.specs.Marks.{requests_text}

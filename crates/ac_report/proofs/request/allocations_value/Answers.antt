@@ -6,7 +6,7 @@ use Rattle.serde_json.specs.Data.{object}
 use Rattle.serde_json.specs.View.{view, members_view}
 use Rattle.serde_json.proofs.Views.{view-Object}
 use Rattle.ac_query.specs.QueriesShown.{asked_of}
-use Rattle.ac_search.specs.Placed.{assigned}
+use Rattle.ac_rules.specs.Placed.{assigned}
 use Rattle.ac_tables.specs.Sorted.{rising}
 use Rattle.ac_base.specs.Texts.{id_text}
 use Rattle.ac_report.specs.Parts.{need_at, allocation_of}

@@ -5,7 +5,7 @@ use Rattle.std.proofs.lemmas.List.{length-set, take_all}
 use Rattle.ac_query.specs.Asked.{slots_of}
 use Rattle.ac_query.specs.QueriesShown.{asked_of}
 use Rattle.ac_query.specs.SlotsShown.{slot_group}
-use Rattle.ac_search.specs.Placed.{placed, assigned}
+use Rattle.ac_rules.specs.Placed.{placed, assigned}
 use Rattle.ac_tables.specs.Sorted.{rising}
 use Rattle.ac_report.specs.Trees.{hosts}
 use Rattle.ac_report.proofs.Serving.{no_slot, place_there, placed_in, placed_in_is, placed_long, hosts_step, shown_at}

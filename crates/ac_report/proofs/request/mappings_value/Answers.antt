@@ -9,7 +9,7 @@ use Rattle.serde_json.proofs.Views.{view-Object}
 use Rattle.ac_query.specs.Asked.{slots_of}
 use Rattle.ac_query.specs.GroupsShown.{group_entry}
 use Rattle.ac_query.specs.QueriesShown.{asked_of}
-use Rattle.ac_search.specs.Placed.{assigned}
+use Rattle.ac_rules.specs.Placed.{assigned}
 use Rattle.ac_tables.specs.Sorted.{rising}
 use Rattle.ac_tables.specs.CloudWorld.{providers_of}
 use Rattle.ac_query.specs.InOrder.{group_name}

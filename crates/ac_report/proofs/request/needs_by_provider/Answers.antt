@@ -3,7 +3,7 @@ use Rattle.std.specs.Ordering.{nat_cmp}
 use Rattle.std.proofs.lemmas.List.{take_all}
 use Rattle.ac_query.specs.Asked.{slots_of}
 use Rattle.ac_query.specs.QueriesShown.{asked_of}
-use Rattle.ac_search.specs.Placed.{placed, assigned}
+use Rattle.ac_rules.specs.Placed.{placed, assigned}
 use Rattle.ac_tables.specs.Sorted.{rising}
 use Rattle.ac_query.specs.GroupsShown.{need_entry}
 use Rattle.ac_report.specs.Parts.{row, row_shown, with_needs}

@@ -8,7 +8,7 @@ use Rattle.serde_json.specs.Data.{Data, number, unsigned, object, put}
 use Rattle.serde_json.specs.View.{view, members_view}
 use Rattle.serde_json.proofs.Views.{view-Object}
 use Rattle.ac_query.specs.declared.group.Need.{Need}
-use Rattle.ac_search.specs.Together.{amount_of}
+use Rattle.ac_rules.specs.Together.{amount_of}
 use Rattle.ac_report.specs.Parts.{need_at, sums_of}
 use Rattle.ac_report.specs.Trees.{gathered}
 use Rattle.ac_report.proofs.Gathering.{put_same, gathered_more, gathered_map, sum_at_is}

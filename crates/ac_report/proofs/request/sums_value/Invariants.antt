@@ -1,7 +1,7 @@
 use Rattle.std.proofs.Common.{◌≡◌, map, take}
 use Rattle.serde_json.specs.Data.{number, unsigned}
 use Rattle.serde_json.specs.View.{members_view}
-use Rattle.ac_search.specs.Together.{amount_of}
+use Rattle.ac_rules.specs.Together.{amount_of}
 use Rattle.ac_report.specs.Parts.{need_at}
 use Rattle.ac_report.specs.Trees.{gathered}
 use Rattle.ac_report.proofs.request.sums_value.Given as goal

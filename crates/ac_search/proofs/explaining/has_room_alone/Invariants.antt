@@ -3,7 +3,7 @@ use Rattle.std.specs.List.{list_all}
 use Rattle.ac_tables.specs.World.{provider_at}
 use Rattle.ac_query.specs.GroupsShown.{need_entry}
 use Rattle.ac_tables.specs.CloudWorld.{providers_of}
-use Rattle.ac_search.specs.Together.{holds}
+use Rattle.ac_rules.specs.Together.{holds}
 use Rattle.ac_search.proofs.explaining.has_room_alone.Given as goal
 
 abbrev pub invariant-loop-need : goal.invariant-loop-need

@@ -7,7 +7,7 @@ use Rattle.ac_tables.specs.CloudWorld.{providers_of}
 use Rattle.ac_query.specs.Asked.{slots_of}
 use Rattle.ac_search.specs.Explained.{is_served}
 use Rattle.ac_search.specs.ExplainedShown.{marked}
-use Rattle.ac_search.specs.Together.{takes_root}
+use Rattle.ac_rules.specs.Together.{takes_root}
 use Rattle.ac_search.proofs.ExplainedLemmas.{marked_map, served_none}
 use Rattle.ac_search.proofs.StepLemmas.{few_providers}
 use Rattle.ac_search.proofs.explaining.tree_counts.Goals as goal

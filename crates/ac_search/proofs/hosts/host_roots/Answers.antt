@@ -4,7 +4,7 @@ use Rattle.std.proofs.lemmas.List.{length-map, with_items_is}
 use Rattle.std.proofs.lemmas.List.FromFn.{length-range_with_len}
 use Rattle.ac_search.specs.Accounts.{providers_in, asked_in}
 use Rattle.ac_search.specs.Ahead.{AreRoots}
-use Rattle.ac_search.specs.Together.{takes_root}
+use Rattle.ac_rules.specs.Together.{takes_root}
 use Rattle.ac_search.specs.declared.ledger.Ledger.{Ledger}
 use Rattle.ac_search.proofs.RootLemmas.{takes_host}
 use Rattle.ac_search.proofs.hosts.host_roots.Goals as goal

@@ -3,7 +3,7 @@ use Rattle.std.specs.List.{All}
 use Rattle.ac_search.specs.Left.{ask_pair}
 use Rattle.ac_search.proofs.LedgerLemmas.{asks_at}
 use Rattle.ac_search.specs.Accounts.{providers_in, asked_in}
-use Rattle.ac_search.specs.Placed.{slot_at}
+use Rattle.ac_rules.specs.Placed.{slot_at}
 use Rattle.ac_search.proofs.RootLemmas.{if_ok, slot_keeps, choice_low}
 use Rattle.ac_search.proofs.hosts.limit_slot.Goals as goal
 

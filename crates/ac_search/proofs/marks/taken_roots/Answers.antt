@@ -2,7 +2,7 @@ use Rattle.std.proofs.Common.{arith}
 use Rattle.std.proofs.lemmas.Grind.{common_steps}
 use Rattle.ac_query.specs.QueriesShown.{asked_of}
 use Rattle.ac_tables.specs.CloudWorld.{providers_of}
-use Rattle.ac_search.specs.Together.{takes_root}
+use Rattle.ac_rules.specs.Together.{takes_root}
 use Rattle.ac_search.proofs.OpenLemmas.{map_range_more}
 use Rattle.ac_search.proofs.marks.taken_roots.Goals as goal
 

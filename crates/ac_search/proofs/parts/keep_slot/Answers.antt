@@ -3,7 +3,7 @@ use Rattle.std.specs.List.{All}
 use Rattle.ac_query.specs.QueriesShown.{asked_of}
 use Rattle.ac_tables.specs.CloudWorld.{providers_of}
 use Rattle.ac_search.specs.Parts.{KeepSeen}
-use Rattle.ac_search.specs.Placed.{slot_at}
+use Rattle.ac_rules.specs.Placed.{slot_at}
 use Rattle.ac_search.proofs.RootLemmas.{if_ok, choice_low}
 use Rattle.ac_search.proofs.PartLemmas.{seen_parts}
 use Rattle.ac_search.proofs.parts.keep_slot.Goals as goal

@@ -5,7 +5,7 @@ use Rattle.std.proofs.lemmas.List.{with_items_is}
 use Rattle.ac_query.specs.Asked.{slots_of, lists_suffix}
 use Rattle.ac_query.specs.QueriesShown.{asked_of}
 use Rattle.ac_tables.specs.CloudWorld.{providers_of}
-use Rattle.ac_search.specs.Placed.{slot_at}
+use Rattle.ac_rules.specs.Placed.{slot_at}
 use Rattle.ac_search.specs.QuerySearch.{choice_of}
 use Rattle.ac_search.proofs.PartLemmas.{slot_choices}
 use Rattle.ac_search.proofs.RootLemmas.{choice_low}

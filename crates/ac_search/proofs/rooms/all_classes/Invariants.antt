@@ -2,7 +2,7 @@ use Rattle.std.proofs.Common.{ℕ, ◌<◌, map}
 use Rattle.std.specs.List.{AllByRecursion}
 use Rattle.ac_base.specs.Names.{class_bytes}
 use Rattle.ac_query.specs.QueriesShown.{asked_of}
-use Rattle.ac_search.specs.Placed.{slot_at}
+use Rattle.ac_rules.specs.Placed.{slot_at}
 use Rattle.ac_search.specs.Left.{IsKnown}
 use Rattle.ac_search.proofs.rooms.all_classes.Given as goal
 

@@ -3,7 +3,7 @@ use Rattle.std.specs.List.{AllByRecursion}
 use Rattle.ac_base.specs.Names.{class_bytes}
 use Rattle.ac_query.specs.GroupsShown.{need_entry}
 use Rattle.ac_search.specs.Left.{IsKnown}
-use Rattle.ac_search.proofs.Elements.{each_take, each_weaker}
+use Rattle.ac_rules.proofs.Elements.{each_take, each_weaker}
 use Rattle.ac_search.proofs.rooms.with_classes.Goals as goal
 
 pub loop-need-preserved : goal.loop-need-preserved

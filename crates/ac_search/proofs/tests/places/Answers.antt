@@ -2,7 +2,7 @@ use Rattle.std.proofs.Common.{◌<◌, length, sym, subst}
 use Rattle.std.specs.List.{All}
 use Rattle.std.proofs.lemmas.List.Elements.{All-push}
 use Rattle.ac_tables.specs.CloudWorld.{providers_of}
-use Rattle.ac_search.proofs.PlaceLemmas.{found_within}
+use Rattle.ac_rules.proofs.PlaceLemmas.{found_within}
 use Rattle.ac_search.proofs.tests.places.Goals as goal
 
 pub loop-piece-preserved : goal.loop-piece-preserved

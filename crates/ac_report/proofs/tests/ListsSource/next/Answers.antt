@@ -1,7 +1,7 @@
 use Rattle.std.proofs.Common.{◌≡◌, ◌+◌, ◌<◌, ℕ, List, Some, length, refl, sym, ap, map, drop, get_or, arith}
 use Rattle.std.proofs.lemmas.List.{drop_more}
 use Rattle.std.specs.Borrow.{Bor}
-use Rattle.ac_search.specs.Lists.{head_of, tail_of}
+use Rattle.ac_rules.specs.Lists.{head_of, tail_of}
 use Rattle.ac_report.proofs.tests.ListsSource.next.Goals as goal
 
 -- the first list that is left, and those behind it

@@ -1,11 +1,11 @@
 use Rattle.std.proofs.Common.{◌≡◌, ◌<◌, ◌∙◌, List, ℕ, map, length, ap, sym, subst, arith}
 use Rattle.std.specs.List.{All}
 use Rattle.std.proofs.lemmas.List.{with_items_is}
-use Rattle.ac_search.specs.Placed.{placed_at, assigned, slot_at}
+use Rattle.ac_rules.specs.Placed.{placed_at, assigned, slot_at}
 use Rattle.ac_search.specs.Left.{ask_pair, numbered, place_of, row_of, Takes, AreLeft}
 use Rattle.ac_search.specs.Marks.{AreMarks, AreHits}
 use Rattle.ac_search.specs.Accounts.{providers_in, asked_in, texts_in}
-use Rattle.ac_search.proofs.AnchorLemmas.{anchors_within}
+use Rattle.ac_rules.proofs.AnchorLemmas.{anchors_within}
 use Rattle.ac_search.proofs.OpenLemmas.{placed_next}
 use Rattle.ac_search.proofs.RoomLemmas.{there_same}
 use Rattle.ac_search.proofs.LeftLemmas.{left_less}

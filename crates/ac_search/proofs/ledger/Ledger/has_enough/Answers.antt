@@ -1,5 +1,5 @@
 use Rattle.std.proofs.Common.{◌≡◌, ◌∙◌, map, ap, ap₂, arith}
-use Rattle.ac_search.specs.Placed.{slot_at}
+use Rattle.ac_rules.specs.Placed.{slot_at}
 use Rattle.ac_search.specs.Accounts.{asked_in, texts_in}
 use Rattle.ac_search.specs.Left.{ask_pair, room_pair, row_of, has_each}
 use Rattle.ac_search.proofs.RowLemmas.{row_is}

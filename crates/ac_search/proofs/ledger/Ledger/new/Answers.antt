@@ -3,7 +3,7 @@ use Rattle.std.proofs.lemmas.List.Elements.{All-from_recursion}
 use Rattle.ac_base.specs.Names.{class_bytes}
 use Rattle.ac_query.specs.QueriesShown.{asked_of}
 use Rattle.ac_tables.specs.CloudWorld.{providers_of}
-use Rattle.ac_search.specs.Placed.{slot_at}
+use Rattle.ac_rules.specs.Placed.{slot_at}
 use Rattle.ac_search.specs.Left.{IsKnown}
 use Rattle.ac_search.proofs.LedgerLemmas.{left_none, there_made, marks_empty, hits_empty}
 use Rattle.ac_search.proofs.ledger.Ledger.new.Goals as goal

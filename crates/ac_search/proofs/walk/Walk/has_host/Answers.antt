@@ -6,7 +6,7 @@ use Rattle.ac_search.specs.Accounts.{providers_in, asked_in}
 use Rattle.ac_search.specs.Search.{IsDead}
 use Rattle.ac_search.specs.WalkShown.{search_in}
 use Rattle.ac_search.specs.declared.walk.Walk.{Walk}
-use Rattle.ac_search.proofs.AnchorLemmas.{anchors_within}
+use Rattle.ac_rules.proofs.AnchorLemmas.{anchors_within}
 use Rattle.ac_search.proofs.PassLemmas.{choice_read, choice_low, choices_many}
 use Rattle.ac_search.proofs.RootLemmas.{root_dead}
 use Rattle.ac_search.proofs.walk.Walk.has_host.Goals as goal

@@ -1,5 +1,5 @@
 use Rattle.std.proofs.Common.{◌≡◌, ℕ, ◌+◌, suc, true, List, refl, arith, sym, subst}
-use Rattle.ac_search.specs.Judge.{is_open}
+use Rattle.ac_rules.specs.Judge.{is_open}
 use Rattle.ac_search.specs.Accounts.{providers_in, asked_in, Accounts}
 use Rattle.ac_search.specs.WalkShown.{search_in}
 use Rattle.ac_search.proofs.MoveLemmas.{sound_place, left_place, forward_place, front_back}

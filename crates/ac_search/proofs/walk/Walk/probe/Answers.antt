@@ -2,7 +2,7 @@ use Rattle.std.proofs.Common.{◌≡◌, ℕ, ◌<◌, suc, Bool, true, false, L
 use Rattle.std.specs.List.{slice_index}
 use Rattle.ac_query.specs.QueriesShown.{asked_of}
 use Rattle.ac_tables.specs.CloudWorld.{providers_of}
-use Rattle.ac_search.specs.Judge.{is_open}
+use Rattle.ac_rules.specs.Judge.{is_open}
 use Rattle.ac_search.specs.Search.{Search, IsDead, choices_at, next_at, left_from}
 use Rattle.ac_search.specs.QuerySearch.{completes}
 use Rattle.ac_search.specs.WalkShown.{search_in, front_in, IsSame}

@@ -1,7 +1,7 @@
 use Rattle.std.proofs.Common.{◌≡◌, suc, true, Bool, List, [], ◌∷◌, ◌++◌, ℕ, take, ap, sym, ◌∙◌, subst, slice_index_or}
 use Rattle.std.specs.List.{list_all}
-use Rattle.ac_search.specs.Placed.{assigned}
-use Rattle.ac_search.specs.Judge.{is_open}
+use Rattle.ac_rules.specs.Placed.{assigned}
+use Rattle.ac_rules.specs.Judge.{is_open}
 use Rattle.ac_search.specs.QuerySearch.{fits}
 use Rattle.ac_search.specs.Accounts.{providers_in, asked_in}
 use Rattle.ac_search.specs.WalkShown.{search_in}

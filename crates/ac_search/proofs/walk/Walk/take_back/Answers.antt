@@ -1,6 +1,6 @@
 use Rattle.std.proofs.Common.{◌≡◌, ℕ, ◌+◌, ◌-◌, ◌<◌, suc, true, slice_index, set, arith, sym, ◌∙◌, subst, refl}
 use Rattle.std.proofs.lemmas.List.{get_or_default}
-use Rattle.ac_search.specs.Order.{lex_lt}
+use Rattle.ac_rules.specs.Order.{lex_lt}
 use Rattle.ac_search.specs.Search.{IsSound, next_front, left_from}
 use Rattle.ac_search.specs.WalkShown.{search_in}
 use Rattle.ac_search.specs.declared.walk.Walk.{Walk}

@@ -1,0 +1,104 @@
+-- Roots, and the anchors of one provider of a list.
+use Rattle.std.proofs.Common.{◌≡◌, ◌&&◌, ℕ, ◌+◌, ◌<◌, ◌≤◌, zero, suc, Bool, true, false, List, [], ◌∷◌, length, inl, inr, Option, None, Some, refl, sym, ap, ◌∙◌, arith, slice_get}
+use Rattle.std.specs.List.{list_all, list_any, filter, range_with_len, All, AllByRecursion as Each}
+use Rattle.std.specs.Option.{is_some, is_none}
+use Rattle.std.proofs.lemmas.Bool.{cases_Bool, and_parts, eq-eqb, false≢true}
+use Rattle.std.proofs.lemmas.List.Elements.{All-from_recursion}
+use Rattle.ac_tables.specs.Trees.{up, climb}
+use Rattle.ac_tables.specs.World.{Provider, id_at, place_of, parent_of, root_of, is_root, is_available_at, anchors_of}
+use Rattle.ac_query.specs.Asked.{Asked, Slot}
+use Rattle.ac_rules.specs.Placed.{placed}
+use Rattle.ac_rules.specs.Together.{takes_root, hosts_all, anchor}
+use Rattle.ac_rules.proofs.Elements.{each_weaker, each_filter}
+
+-- who has no parent stays
+stays : (parent : ℕ → Option ℕ) (k p : ℕ) → parent p ≡ None → climb (up parent) k p ≡ p
+stays parent zero p h = refl
+stays parent (suc k) p h = rw h (stays parent k p h)
+
+none_is : (o : Option ℕ) → is_none o ≡ true → o ≡ None
+none_is None h = refl
+none_is (Some x) h = absurd (false≢true h)
+
+own_root : (all : List Provider) (id : ℕ) → is_root all id ≡ true → root_of all id ≡ id
+own_root all id h =
+    stays (parent_of all) (length all) id (none_is (parent_of all id) (and_parts (is_some (place_of all id)) (is_none (parent_of all id)) h).1)
+
+-- a provider is available in its own tree exactly where it is a root
+pub available_itself : (all : List Provider) (r : ℕ) → is_available_at all r r ≡ is_root all (id_at all r)
+available_itself all r = elim (cases_Bool (is_root all (id_at all r))) [
+  | inl e ↦ let same = eq-eqb (root_of all (id_at all r)) (id_at all r) (own_root all (id_at all r) e) in rw (e, same) refl
+  | inr e ↦ rw e refl
+]
+
+-- a test of those that pass another
+pub any_filter : (f g : ℕ → Bool) (zs : List ℕ) → list_any f (filter g zs) ≡ list_any (λ z. g z && f z) zs
+any_filter f g [] = refl
+any_filter f g (z ∷ zs) = elim (cases_Bool (g z)) [
+  | inl e ↦ rw (e, any_filter f g zs) refl
+  | inr e ↦ rw (e, any_filter f g zs) refl
+]
+
+pub any_agree : (f g : ℕ → Bool) → ((z : ℕ) → f z ≡ g z) → (zs : List ℕ) → list_any f zs ≡ list_any g zs
+any_agree f g same [] = refl
+any_agree f g same (z ∷ zs) = rw (same z, any_agree f g same zs) refl
+
+once : (g t h : Bool) → g && (t && (g && h)) ≡ t && (g && h)
+once false false h = refl
+once false true h = refl
+once true t h = refl
+
+-- each provider of the list is available there
+pub hosts_list : (all : List Provider) (ss : List Slot) (t : List ℕ) (r : ℕ) → length t ≤ length ss
+    → hosts_all all (placed ss t) r ≡ list_all (λ p. is_available_at all p r) t
+unfolding hosts_all
+hosts_list all [] [] r h = refl
+hosts_list all [] (p ∷ t) r h = absurd (omega arith)
+hosts_list all (s ∷ ss) [] r h = refl
+hosts_list all (s ∷ ss) (p ∷ t) r h = ap (λ more. is_available_at all p r && more) (hosts_list all ss t r (omega arith))
+
+abbrev pub anchors_list : List Provider → Asked → List ℕ → ℕ → Bool
+anchors_list all asked t r = takes_root all asked r && list_all (λ p. is_available_at all p r) t
+
+pub anchor_list : (all : List Provider) (asked : Asked) (ss : List Slot) (t : List ℕ) → length t ≤ length ss
+    → anchor all asked (placed ss t) ≡ list_any (λ r. anchors_list all asked t r) (range_with_len 0 (length all))
+unfolding anchor
+anchor_list all asked ss t h =
+    any_agree (λ r. takes_root all asked r && hosts_all all (placed ss t) r) (λ r. anchors_list all asked t r)
+    (λ r. ap (λ b. takes_root all asked r && b) (hosts_list all ss t r h)) (range_with_len 0 (length all))
+
+-- no provider asks for any root that is taken
+pub anchor_none : (all : List Provider) (asked : Asked) (ss : List Slot) (t : List ℕ) → None ≡ slice_get t 0
+    → list_any (λ r. takes_root all asked r) (range_with_len 0 (length all)) ≡ anchor all asked (placed ss t)
+anchor_none all asked ss (p ∷ t) h = absurd (let other : None ≡ Some p = h in cc)
+anchor_none all asked ss [] h =
+    let t : List ℕ = [] in
+    let short : length t ≤ length ss = omega arith in
+    let none : (r : ℕ) → takes_root all asked r ≡ anchors_list all asked t r = λ r. and_true (takes_root all asked r) in
+    any_agree (λ r. takes_root all asked r) (λ r. anchors_list all asked t r) none (range_with_len 0 (length all)) ∙ sym (anchor_list all asked ss t short)
+  where
+    and_true : (b : Bool) → b ≡ b && true
+    and_true true = refl
+    and_true false = refl
+
+-- the anchors of the first provider are enough to look at
+pub anchor_first : (all : List Provider) (asked : Asked) (ss : List Slot) (t : List ℕ) (p : ℕ) → Some p ≡ slice_get t 0 → length t ≤ length ss
+    → list_any (λ r. anchors_list all asked t r) (anchors_of all p) ≡ anchor all asked (placed ss t)
+anchor_first all asked ss [] p e h = absurd (let other : Some p ≡ None = e in cc)
+anchor_first all asked ss (q ∷ more) p e h =
+    let t = q ∷ more in
+    let same : q ≡ p = let both : Some p ≡ Some q = e in cc in
+    any_filter (λ r. anchors_list all asked t r) (is_available_at all p) (range_with_len 0 (length all))
+    ∙ (any_agree (λ r. is_available_at all p r && anchors_list all asked t r) (λ r. anchors_list all asked t r)
+    (λ r. rw same (once (is_available_at all p r) (takes_root all asked r) (list_all (λ q. is_available_at all q r) more))) (range_with_len 0 (length all))
+    ∙ sym (anchor_list all asked ss t h))
+
+pub each_range : (a n m : ℕ) → a + n ≤ m → Each (λ r. r < m) (range_with_len a n)
+each_range a zero m h = tt
+each_range a (suc n) m h = (omega arith, each_range (a + 1) n m (omega arith))
+
+-- anchors are providers
+pub anchors_within : (all : List Provider) (p : ℕ) → All (λ r. r < length all) (anchors_of all p)
+anchors_within all p = All-from_recursion (λ r. r < length all) (anchors_of all p)
+    (each_weaker _ (λ r. r < length all) (anchors_of all p) (λ r h. h.1)
+    (each_filter (λ r. r < length all) (is_available_at all p) (range_with_len 0 (length all)) (each_range 0 (length all) (length all) (omega arith))))

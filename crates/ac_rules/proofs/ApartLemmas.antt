@@ -1,0 +1,50 @@
+-- Isolate, tested slot after slot, says it of every two.
+use Rattle.std.proofs.Common.{inl, inr, ◌≡◌, ◌≢◌, ℕ, ◌<◌, zero, suc, Bool, true, List, [], ◌∷◌, length, slice_index_or, refl, arith}
+use Rattle.std.specs.List.{list_all}
+use Rattle.std.proofs.lemmas.Bool.{cases_Bool, and_parts, and_from, eq-eqb, ne_eqb, false≢true}
+use Rattle.ac_rules.specs.Placed.{Placed}
+use Rattle.ac_rules.specs.Together.{is_set_apart, are_apart, all_apart, isolate}
+use Rattle.ac_rules.specs.Laws.{StandApart, IsolateSaysApart}
+
+all_at : (f : Placed → Bool) (d : Placed) (xs : List Placed) (j : ℕ) → list_all f xs ≡ true → j < length xs → f (slice_index_or xs j d) ≡ true
+all_at f d [] j h k = absurd (omega arith)
+all_at f d (x ∷ xs) zero h k = (and_parts (f x) (list_all f xs) h).0
+all_at f d (x ∷ xs) (suc j) h k = all_at f d xs j (and_parts (f x) (list_all f xs) h).1 (omega arith)
+
+all_from : (f : Placed → Bool) (d : Placed) (xs : List Placed) → ((j : ℕ) → j < length xs → f (slice_index_or xs j d) ≡ true) → list_all f xs ≡ true
+all_from f d [] h = refl
+all_from f d (x ∷ xs) h = and_from (f x) (list_all f xs) (h zero (omega arith)) (all_from f d xs (λ j k. h (suc j) (omega arith)))
+
+differ : (x y : Placed) → are_apart x y ≡ true → is_set_apart x.slot ≡ true → is_set_apart y.slot ≡ true → x.provider ≢ y.provider
+unfolding are_apart
+differ x y h s t e = let same = eq-eqb x.provider y.provider e in false≢true (rw (s, t, same) at h)
+
+apart_of : (x y : Placed) → (is_set_apart x.slot ≡ true → is_set_apart y.slot ≡ true → x.provider ≢ y.provider) → are_apart x y ≡ true
+unfolding are_apart
+apart_of x y h = elim (cases_Bool (is_set_apart x.slot)) [
+  | inl s ↦ elim (cases_Bool (is_set_apart y.slot)) [
+    | inl t ↦ rw (s, t, ne_eqb x.provider y.provider (h s t)) refl
+    | inr t ↦ rw (s, t) refl
+  ]
+  | inr s ↦ rw s refl
+]
+
+apart_sound : (xs : List Placed) → all_apart xs ≡ true → StandApart xs
+apart_sound [] h i j d l k = absurd (omega arith)
+apart_sound (x ∷ xs) h i zero d l k = absurd (omega arith)
+apart_sound (x ∷ xs) h zero (suc j) d l k =
+    let both = and_parts (list_all (λ y. are_apart x y) xs) (all_apart xs) h in
+    differ x (slice_index_or xs j d) (all_at (λ y. are_apart x y) d xs j both.0 (omega arith))
+apart_sound (x ∷ xs) h (suc i) (suc j) d l k =
+    let both = and_parts (list_all (λ y. are_apart x y) xs) (all_apart xs) h in
+    apart_sound xs both.1 i j d (omega arith) (omega arith)
+
+apart_whole : (xs : List Placed) → StandApart xs → all_apart xs ≡ true
+apart_whole [] h = refl
+apart_whole (x ∷ xs) h = and_from (list_all (λ y. are_apart x y) xs) (all_apart xs)
+    (all_from (λ y. are_apart x y) x xs (λ j k. apart_of x (slice_index_or xs j x) (h zero (suc j) x (omega arith) (omega arith))))
+    (apart_whole xs (λ i j d l k. h (suc i) (suc j) d (omega arith) (omega arith)))
+
+pub isolate_says_apart : IsolateSaysApart
+unfolding isolate
+isolate_says_apart asked xs e = (λ h. apart_sound xs (rw e at h), λ h. rw e (apart_whole xs h))

@@ -1,0 +1,64 @@
+-- The order of lists is strict and total.
+use Rattle.std.proofs.Common.{drop, length, nat_lt, length-drop, ◌≤◌, ◌≡◌, ℕ, ◌<◌, true, false, List, [], ◌∷◌, map, refl, sym, ap, ◌∙◌, arith, inl, inr}
+use Rattle.std.specs.List.{AllByRecursion as Each}
+use Rattle.std.proofs.lemmas.Bool.{cases_order, false_from_ne_true, false≢true}
+use Rattle.std.proofs.lemmas.Bool.Decides.{nat_tests}
+use Rattle.std.proofs.lemmas.List.{drop_all}
+use Rattle.ac_rules.specs.Order.{lex_lt}
+
+pub lex_irrefl : (xs : List ℕ) → lex_lt xs xs ≡ false
+lex_irrefl [] = refl
+lex_irrefl (x ∷ xs) = grind (arith, nat_tests, lex_irrefl xs)
+
+pub lex_trans : (xs ys zs : List ℕ) → lex_lt xs ys ≡ true → lex_lt ys zs ≡ true → lex_lt xs zs ≡ true
+lex_trans [] [] zs h k = cc
+lex_trans [] (y ∷ ys) [] h k = cc
+lex_trans [] (y ∷ ys) (z ∷ zs) h k = refl
+lex_trans (x ∷ xs) [] zs h k = cc
+lex_trans (x ∷ xs) (y ∷ ys) [] h k = cc
+lex_trans (x ∷ xs) (y ∷ ys) (z ∷ zs) h k = grind (arith, nat_tests, lex_trans xs ys zs)
+
+pub lex_total : (xs ys : List ℕ) → lex_lt xs ys ≡ false → lex_lt ys xs ≡ false → xs ≡ ys
+lex_total [] [] h k = refl
+lex_total [] (y ∷ ys) h k = cc
+lex_total (x ∷ xs) [] h k = cc
+lex_total (x ∷ xs) (y ∷ ys) h k = grind (arith, nat_tests, lex_total xs ys)
+
+-- not both ways
+pub lex_asym : (xs ys : List ℕ) → lex_lt xs ys ≡ true → lex_lt ys xs ≡ false
+lex_asym xs ys h = false_from_ne_true _ (λ k. false≢true (sym (lex_irrefl xs) ∙ lex_trans xs ys xs h k))
+
+pub lex_nil : (xs : List ℕ) → lex_lt xs [] ≡ false
+lex_nil [] = refl
+lex_nil (x ∷ xs) = refl
+
+-- where f rises on the items, the lists of its values are ordered alike
+pub lex_map : (f : ℕ → ℕ) (n : ℕ) → ((p q : ℕ) → p < q → q < n → f p < f q) → (xs ys : List ℕ) → Each (λ p. p < n) xs → Each (λ p. p < n) ys
+    → lex_lt (map f xs) (map f ys) ≡ lex_lt xs ys
+lex_map f n rises [] [] h k = refl
+lex_map f n rises [] (y ∷ ys) h k = refl
+lex_map f n rises (x ∷ xs) [] h k = refl
+lex_map f n rises (x ∷ xs) (y ∷ ys) h k =
+    let more = lex_map f n rises xs ys h.1 k.1 in
+    let below : x < n = h.0 in
+    let below' : y < n = k.0 in
+    elim (cases_order x y) [
+      | inl e ↦ let same : f x ≡ f y = ap f e in grind (arith, nat_tests)
+      | inr o ↦ elim o [
+        | inl l ↦ let less = rises x y l below' in grind (arith, nat_tests)
+        | inr g ↦ let less = rises y x g below in grind (arith, nat_tests)
+      ]
+    ]
+
+before_any : (f : ℕ → ℕ) (ys : List ℕ) → lex_lt [] (map f ys) ≡ nat_lt 0 (length ys)
+before_any f [] = refl
+before_any f (y ∷ ys) = grind (arith, nat_tests)
+
+-- where the first list ends, the longer one is after it
+pub lex_end : (f : ℕ → ℕ) (xs ys : List ℕ) (i : ℕ) → length xs ≤ i → i ≤ length xs → i ≤ length ys
+    → nat_lt (length xs) (length ys) ≡ lex_lt (drop i xs) (map f (drop i ys))
+lex_end f xs ys i past h k =
+    let size = length-drop i ys in
+    let first : lex_lt [] (map f (drop i ys)) ≡ nat_lt 0 (length (drop i ys)) = before_any f (drop i ys) in
+    let test : nat_lt (length xs) (length ys) ≡ nat_lt 0 (length (drop i ys)) = grind (arith, nat_tests) in
+    rw (drop_all i xs past) (test ∙ sym first)

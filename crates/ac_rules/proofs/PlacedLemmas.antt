@@ -1,0 +1,33 @@
+-- Slots with their providers, one after another.
+use Rattle.std.proofs.Common.{◌≡◌, ℕ, ◌+◌, ◌-◌, ◌<◌, ◌≤◌, suc, List, [], ◌∷◌, ◌++◌, length, drop, refl, ap, arith, slice_index, slice_index_or}
+use Rattle.std.specs.List.{range_with_len}
+use Rattle.std.proofs.lemmas.List.{drop_more, drop_all}
+use Rattle.ac_query.specs.Asked.{Slot}
+use Rattle.ac_rules.specs.Placed.{placed}
+
+-- from place i on: the slot there with its provider, and then the rest
+pub placed_more : (ss : List Slot) (t : List ℕ) (i : ℕ) (d : Slot) → i < length t → i < length ss
+    → placed (drop i ss) (drop i t) ≡ record { slot = slice_index_or ss i d; provider = slice_index t i } ∷ placed (drop (i + 1) ss) (drop (i + 1) t)
+placed_more ss t i d h k = rw (drop_more ss i d k, drop_more t i 0 h)
+
+-- the front of a list goes to the front of the slots
+pub placed_append : (ss : List Slot) (q v : List ℕ) → placed ss (q ++ v) ≡ placed ss q ++ placed (drop (length q) ss) v
+placed_append [] [] v = refl
+placed_append [] (p ∷ q) v = refl
+placed_append (s ∷ ss) [] v = refl
+placed_append (s ∷ ss) (p ∷ q) v = ap (λ xs. record { slot = s; provider = p } ∷ xs) (placed_append ss q v)
+
+pub placed_none : (ss : List Slot) → placed ss [] ≡ []
+placed_none [] = refl
+placed_none (s ∷ ss) = refl
+
+-- nothing is left past the end
+pub placed_end : (ss : List Slot) (t : List ℕ) (i : ℕ) → length t ≤ i → placed (drop i ss) (drop i t) ≡ []
+placed_end ss t i h = rw (drop_all i t h) (placed_none (drop i ss))
+
+-- the numbers from k on below n: k, and then the rest
+pub range_more : (n k : ℕ) → k < n → range_with_len k (n - k) ≡ k ∷ range_with_len (k + 1) (n - (k + 1))
+range_more n k h = let less : n - k ≡ suc (n - (k + 1)) = omega arith in ap (range_with_len k) less
+
+pub range_end : (n k : ℕ) → n ≤ k → range_with_len k (n - k) ≡ []
+range_end n k h = let none : n - k ≡ 0 = omega arith in ap (range_with_len k) none

@@ -1,0 +1,12 @@
+pub mod Order
+pub mod Lists
+pub mod Placed
+pub mod Own
+pub mod Together
+pub mod Room
+pub mod Judge
+pub mod Pages
+pub mod Odometer
+pub mod ListsShown
+pub mod PlainShown
+pub mod Laws

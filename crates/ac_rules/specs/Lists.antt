@@ -1,0 +1,28 @@
+-- Lists of numbers: all of them, in order, and the first of some.
+use Rattle.std.specs.Prelude.{◌≡◌, ◌<◌, ℕ, zero, suc, true, List, [], ◌∷◌, map, length, Option, Some, None, ⊤}
+use Rattle.std.specs.List.{flat_map, range_with_len, All, AllByRecursion}
+use Rattle.ac_rules.specs.Order.{lex_lt}
+
+-- the first item, and those behind it
+abbrev pub head_of : {X : Type 0} → List X → Option X
+head_of [] = None
+head_of (x ∷ xs) = Some x
+
+abbrev pub tail_of : {X : Type 0} → List X → List X
+tail_of [] = []
+tail_of (x ∷ xs) = xs
+
+-- the lists of k numbers below n, in order
+abbrev pub all_lists : ℕ → ℕ → List (List ℕ)
+all_lists n zero = [] ∷ []
+all_lists n (suc k) = flat_map (λ first. map (λ t. first ∷ t) (all_lists n k)) (range_with_len 0 n)
+
+-- a list of k numbers below n
+pub record IsListBelow (n k : ℕ) (t : List ℕ) : Type 0 where
+  pub long : length t ≡ k
+  pub below : All (λ p. p < n) t
+
+-- each list is before all later ones
+abbrev pub IsRising : List (List ℕ) → Type 0
+IsRising [] = ⊤
+IsRising (x ∷ xs) = AllByRecursion (λ y. lex_lt x y ≡ true) xs × IsRising xs

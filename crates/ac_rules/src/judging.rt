@@ -1,0 +1,66 @@
+//! The verdict on one list of providers.
+ghost use Rattle.std.specs.Prelude.{◌≡◌, ◌<◌, length};
+ghost use Rattle.std.specs.List.{All};
+ghost use Rattle.ac_tables.specs.CloudWorld.{providers_of};
+ghost use Rattle.ac_query.specs.Asked.{slots_of};
+ghost use Rattle.ac_query.specs.QueriesShown.{asked_of};
+ghost use Rattle.ac_rules.specs.Judge.{judge, is_candidate};
+
+use crate::anchor::has_anchor;
+use crate::each::{all_are_in_trees, all_have_aggregates, all_have_traits, all_have_units};
+use crate::sums::have_room;
+use crate::verdict::{Rule, Verdict};
+use crate::whole::{are_collective, are_isolated, have_tops};
+use ac_query::Query;
+use ac_tables::Cloud;
+
+/// The verdict on one list of providers, a place for each slot: the first rule, in their order, that it breaks at any
+/// place. It takes no memory.
+#[tactic(auto, unfolding(crate::specs::Judge::judge, crate::specs::Judge::tests))]
+pub fn verify(cloud: &Cloud, query: &Query, list: &[u32]) -> Verdict
+    requires slots { length list.now ≡ length (slots_of (asked_of query.now)) }
+    requires providers { All (λ p. p < length (providers_of cloud.now)) list.now }
+    ensures { result ≡ judge (providers_of cloud.now) (asked_of query.now) list.now }
+{
+    if !all_have_units(cloud, query, list) {
+        return Verdict::Broken(Rule::Units);
+    }
+    if !all_have_traits(cloud, query, list) {
+        return Verdict::Broken(Rule::SlotTraits);
+    }
+    if !all_have_aggregates(cloud, query, list) {
+        return Verdict::Broken(Rule::Aggregates);
+    }
+    if !all_are_in_trees(cloud, query, list) {
+        return Verdict::Broken(Rule::Tree);
+    }
+    if !are_collective(cloud, query, list) {
+        return Verdict::Broken(Rule::Collective);
+    }
+    if !have_room(cloud, query, list) {
+        return Verdict::Broken(Rule::Sums);
+    }
+    if !are_isolated(query, list) {
+        return Verdict::Broken(Rule::Isolate);
+    }
+    if !have_tops(cloud, query, list) {
+        return Verdict::Broken(Rule::Subtree);
+    }
+    if !has_anchor(cloud, query, list) {
+        return Verdict::Broken(Rule::Anchor);
+    }
+    Verdict::Candidate
+}
+
+/// Whether a list of providers is a candidate.
+#[tactic(auto, using(crate::proofs::JudgeLemmas::judged_candidate, crate::proofs::JudgeLemmas::judged_broken))]
+pub fn is_candidate(cloud: &Cloud, query: &Query, list: &[u32]) -> bool
+    requires slots { length list.now ≡ length (slots_of (asked_of query.now)) }
+    requires providers { All (λ p. p < length (providers_of cloud.now)) list.now }
+    ensures { result ≡ is_candidate (providers_of cloud.now) (asked_of query.now) list.now }
+{
+    match verify(cloud, query, list) {
+        Verdict::Candidate => true,
+        Verdict::Broken(_) => false,
+    }
+}

@@ -1,0 +1,36 @@
+//! What holds of candidates and of their pages: each function's contract is a law, and no program calls it.
+
+ghost use Rattle.std.specs.Prelude.{List};
+ghost use Rattle.ac_query.specs.Asked.{Asked};
+ghost use Rattle.ac_tables.specs.World.{Provider};
+ghost use Rattle.ac_rules.specs.Laws.{AreInOrder, PrefixOpen, PagesJoin, RestBegins, JudgesCandidates, SumsSayFull, IsolateSaysApart};
+
+/// Each front of a candidate is open, so a search that leaves what isn't open loses none.
+pub fn prefix_open()
+    ensures { PrefixOpen }
+{}
+
+/// A page, and the one that goes on after its last list, are one page.
+pub fn pages_join()
+    ensures { PagesJoin }
+{}
+
+/// The candidates rise strictly by their ids, and what is left after a list of ids begins with the least candidate after it.
+pub fn rest_begins()
+    ensures { (all : List Provider) → AreInOrder all → (asked : Asked) → RestBegins all asked }
+{}
+
+/// The verdict is that no rule is broken exactly where a list is a candidate.
+pub fn judges_candidates()
+    ensures { JudgesCandidates }
+{}
+
+/// Sums is kept exactly where, wherever slots ask anything of a class on a provider, it has room for their sum.
+pub fn sums_say_full()
+    ensures { SumsSayFull }
+{}
+
+/// Isolate, where it is asked for, is kept exactly where every two suffixed slots with classes have different providers.
+pub fn isolate_says_apart()
+    ensures { IsolateSaysApart }
+{}
