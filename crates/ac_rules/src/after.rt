@@ -10,7 +10,7 @@ use ac_base::Id;
 use ac_tables::Cloud;
 
 /// Whether the ids of a list of providers are after these.
-pub fn is_after(cloud: &Cloud, ids: &[Id], list: &[u32]) -> bool
+pub(crate) fn is_after(cloud: &Cloud, ids: &[Id], list: &[u32]) -> bool
     requires { All (λ p. p < length (providers_of cloud.now)) list.now }
     ensures { result ≡ lex_lt ids.now (ids_of (providers_of cloud.now) list.now) }
 {

@@ -14,7 +14,7 @@ use ac_tables::Cloud;
 
 /// Units, of every slot.
 #[tactic(auto, using(crate::proofs::PlacedLemmas::placed_more, crate::proofs::PlacedLemmas::placed_end))]
-pub fn all_have_units(cloud: &Cloud, query: &Query, list: &[u32]) -> bool
+pub(crate) fn all_have_units(cloud: &Cloud, query: &Query, list: &[u32]) -> bool
     requires slots { length list.now ≤ length (slots_of (asked_of query.now)) }
     requires providers { All (λ p. p < length (providers_of cloud.now)) list.now }
     ensures { result ≡ list_all (λ x. units_fit (providers_of cloud.now) x) (assigned (asked_of query.now) list.now) }
@@ -29,7 +29,7 @@ pub fn all_have_units(cloud: &Cloud, query: &Query, list: &[u32]) -> bool
 
 /// SlotTraits, of every slot.
 #[tactic(auto, using(crate::proofs::PlacedLemmas::placed_more, crate::proofs::PlacedLemmas::placed_end))]
-pub fn all_have_traits(cloud: &Cloud, query: &Query, list: &[u32]) -> bool
+pub(crate) fn all_have_traits(cloud: &Cloud, query: &Query, list: &[u32]) -> bool
     requires slots { length list.now ≤ length (slots_of (asked_of query.now)) }
     requires providers { All (λ p. p < length (providers_of cloud.now)) list.now }
     ensures { result ≡ list_all (λ x. traits_fit (providers_of cloud.now) x) (assigned (asked_of query.now) list.now) }
@@ -44,7 +44,7 @@ pub fn all_have_traits(cloud: &Cloud, query: &Query, list: &[u32]) -> bool
 
 /// Aggregates, of every slot.
 #[tactic(auto, using(crate::proofs::PlacedLemmas::placed_more, crate::proofs::PlacedLemmas::placed_end))]
-pub fn all_have_aggregates(cloud: &Cloud, query: &Query, list: &[u32]) -> bool
+pub(crate) fn all_have_aggregates(cloud: &Cloud, query: &Query, list: &[u32]) -> bool
     requires slots { length list.now ≤ length (slots_of (asked_of query.now)) }
     requires providers { All (λ p. p < length (providers_of cloud.now)) list.now }
     ensures { result ≡ list_all (λ x. aggregates_fit (providers_of cloud.now) x) (assigned (asked_of query.now) list.now) }
@@ -59,7 +59,7 @@ pub fn all_have_aggregates(cloud: &Cloud, query: &Query, list: &[u32]) -> bool
 
 /// Tree, of every slot.
 #[tactic(auto, using(crate::proofs::PlacedLemmas::placed_more, crate::proofs::PlacedLemmas::placed_end))]
-pub fn all_are_in_trees(cloud: &Cloud, query: &Query, list: &[u32]) -> bool
+pub(crate) fn all_are_in_trees(cloud: &Cloud, query: &Query, list: &[u32]) -> bool
     requires slots { length list.now ≤ length (slots_of (asked_of query.now)) }
     requires providers { All (λ p. p < length (providers_of cloud.now)) list.now }
     ensures { result ≡ list_all (λ x. tree_fits (providers_of cloud.now) x) (assigned (asked_of query.now) list.now) }

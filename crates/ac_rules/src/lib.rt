@@ -4,9 +4,9 @@
 //! It knows nothing of the texts of tables and queries, nor of what is printed, nor of how a search avoids lists.
 #![tactic(auto)]
 
-pub mod after;
+mod after;
 pub mod anchor;
-pub mod each;
+mod each;
 pub mod judging;
 pub mod laws;
 mod lists;

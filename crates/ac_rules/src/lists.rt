@@ -11,7 +11,7 @@ use std::alloc::Global;
 
 /// Goes through all lists of so many numbers below a bound, in order.
 #[derive(Drop)]
-pub struct AllLists {
+pub(crate) struct AllLists {
     list: Vec<u32>,
     bound: u32,
     stage: Stage,
@@ -22,7 +22,7 @@ impl AllLists {
     ghost use Rattle.ac_rules.specs.ListsShown.{list_of, bound_of, lists_left};
 
     /// Begins with the first list. It takes all its memory here.
-    pub fn new(alloc: Global, width: usize, bound: u32) -> Result<AllLists, NoMemory>
+    pub(crate) fn new(alloc: Global, width: usize, bound: u32) -> Result<AllLists, NoMemory>
         ensures left { IfOk result (λ lists. lists_left lists ≡ all_lists bound width) }
         ensures bound { IfOk result (λ lists. bound_of lists ≡ bound) }
         ensures width { IfOk result (λ lists. length (list_of lists) ≡ width) }
@@ -33,7 +33,7 @@ impl AllLists {
     }
 
     /// Goes on to the next list, where there is one.
-    pub fn step(&mut self) -> bool
+    pub(crate) fn step(&mut self) -> bool
         ensures given { MatchBool result (lists_left self.old ≡ list_of self.new ∷ lists_left self.new) ((lists_left self.old ≡ []) × (lists_left self.new ≡ [])) }
         ensures below { OnTrue result (All (λ p. p < bound_of self.new) (list_of self.new)) }
         ensures bound { bound_of self.new ≡ bound_of self.old }
@@ -56,7 +56,7 @@ impl AllLists {
     }
 
     /// The list that it has come to.
-    pub fn list(&self) -> &[u32]
+    pub(crate) fn list(&self) -> &[u32]
         ensures { result.now ≡ list_of self.now }
     {
         self.list.as_slice()

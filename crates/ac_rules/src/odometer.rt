@@ -5,7 +5,7 @@ ghost use Rattle.ac_rules.specs.Odometer.{start, successor};
 
 /// Where a walk through all lists stands.
 #[derive(Clone, Copy, Debug, PartialEq, Eq)]
-pub enum Stage {
+pub(crate) enum Stage {
     /// Its list is the next to be given.
     Fresh,
     /// Its list was given last.
@@ -15,7 +15,7 @@ pub enum Stage {
 }
 
 /// Where a walk through the lists of so many numbers below a bound begins: at its end where there are none.
-pub fn start(width: usize, bound: u32) -> Stage
+pub(crate) fn start(width: usize, bound: u32) -> Stage
     ensures { result ≡ start bound width }
 {
     if bound == 0 && width > 0 {
@@ -26,7 +26,7 @@ pub fn start(width: usize, bound: u32) -> Stage
 }
 
 /// Sets a list to the next one of as many numbers below a bound, where there is one.
-pub fn count_up(list: &mut [u32], bound: u32) -> bool
+pub(crate) fn count_up(list: &mut [u32], bound: u32) -> bool
     ensures { MatchBool result (successor bound list.old ≡ Some list.new) (successor bound list.old ≡ None) }
 {
     let mut place = list.len();

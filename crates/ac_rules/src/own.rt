@@ -46,7 +46,7 @@ pub fn has_units(cloud: &Cloud, query: &Query, s: usize, ix: u32) -> bool
 }
 
 /// Whether the provider has all of these traits.
-pub fn has_all(cloud: &Cloud, ix: u32, names: &[TraitName]) -> bool
+pub(crate) fn has_all(cloud: &Cloud, ix: u32, names: &[TraitName]) -> bool
     requires { ix < length (providers_of cloud.now) }
     ensures { result ≡ has_all (provider_at (providers_of cloud.now) ix) (map trait_bytes names.now) }
 {
@@ -102,7 +102,7 @@ fn has_any_of_few(cloud: &Cloud, ix: u32, names: &[TraitName]) -> bool
 }
 
 /// Whether the provider has one of these traits, which rise: what there is less of is gone through.
-pub fn has_any(cloud: &Cloud, ix: u32, names: &[TraitName]) -> bool
+pub(crate) fn has_any(cloud: &Cloud, ix: u32, names: &[TraitName]) -> bool
     requires provider { ix < length (providers_of cloud.now) }
     requires rising { IsStrictlySortedBy text_cmp (map trait_bytes names.now) }
     ensures { result ≡ has_any (provider_at (providers_of cloud.now) ix) (map trait_bytes names.now) }
@@ -115,7 +115,7 @@ pub fn has_any(cloud: &Cloud, ix: u32, names: &[TraitName]) -> bool
 }
 
 /// Whether the provider has none of these traits, which rise.
-pub fn has_none(cloud: &Cloud, ix: u32, names: &[TraitName]) -> bool
+pub(crate) fn has_none(cloud: &Cloud, ix: u32, names: &[TraitName]) -> bool
     requires provider { ix < length (providers_of cloud.now) }
     requires rising { IsStrictlySortedBy text_cmp (map trait_bytes names.now) }
     ensures { result ≡ has_none (provider_at (providers_of cloud.now) ix) (map trait_bytes names.now) }
