@@ -195,9 +195,10 @@ linked_parts all order asked k tops parts h size marked links = record {
 
 -- ---- Parts in which each slot has a choice
 
-pub seen_parts : (all : List Provider) (asked : Asked) (names : List (List ℕ)) (old new : List ℕ) (s : ℕ) → IsNamed asked names s → AreParts all asked names old
-    → KeepSeen old (choice_of all asked (slot_at asked s)) new → AreParts all asked names new
-seen_parts all asked names old new s named was keeps = record {
+pub seen_parts : (all : List Provider) (asked : Asked) (names : List (List ℕ)) (old new : List ℕ) (s : ℕ) (serves : ℕ → Bool) → IsNamed asked names s → AreParts all asked names old
+    → ((t : List ℕ) → IsListBelow (length all) (length (slots_of asked)) t → is_candidate all asked t ≡ true → serves (slice_index t s) ≡ true)
+    → KeepSeen old (choice_of all asked (slot_at asked s)) serves new → AreParts all asked names new
+seen_parts all asked names old new s serves named was served keeps = record {
   count = keeps.count ∙ was.count;
   within = λ t u list candidate other. omega (arith, stays t u list candidate other, was.within t u list candidate other);
   one = λ t u v list candidate other third. stays t u list candidate other ∙ (was.one t u v list candidate other third ∙ sym (stays t v list candidate third));
@@ -206,4 +207,4 @@ seen_parts all asked names old new s named was keeps = record {
     stays : (t : List ℕ) (u : ℕ) → IsListBelow (length all) (length (slots_of asked)) t → is_candidate all asked t ≡ true → IsNamed asked names u → slice_index new (slice_index t u) ≡ slice_index old (slice_index t u)
     stays t u list candidate other =
         let place = place_of (choice_of all asked (slot_at asked s)) (slice_index t s) (choice_there all asked t s list candidate named.0) in
-        keeps.kept (slice_index t u) place.0 (omega (arith, each_low all asked t u list other.0, was.count)) place.1 (ap (slice_index old) (place.2 0) ∙ was.one t s u list candidate named other)
+        keeps.kept (slice_index t u) place.0 (omega (arith, each_low all asked t u list other.0, was.count)) place.1 (subst (λ (x : ℕ). serves x ≡ true) (sym (place.2 0)) (served t list candidate)) (ap (slice_index old) (place.2 0) ∙ was.one t s u list candidate named other)

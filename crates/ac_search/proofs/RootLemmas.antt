@@ -8,7 +8,7 @@ use Rattle.std.proofs.lemmas.Slice.Eq.{bytes_eq-Decides}
 use Rattle.std.proofs.lemmas.Bool.{cases_Bool, and_parts, and_from, false≢true, false_from_ne_true}
 use Rattle.std.proofs.lemmas.List.Folds.{list_all-append}
 use Rattle.std.proofs.lemmas.List.{get_or-map, take_more}
-use Rattle.std.proofs.lemmas.List.Elements.{All-from_recursion}
+use Rattle.std.proofs.lemmas.List.Elements.{All-from_recursion, recursion_from_All}
 use Rattle.std.proofs.lemmas.List.FromFn.{length-range_with_len, get_or-range_with_len}
 use Rattle.std.proofs.lemmas.Bool.Decides.{nat_tests}
 use Rattle.ac_query.specs.Asked.{Asked, Slot, slots_of}
@@ -17,7 +17,8 @@ use Rattle.ac_search.specs.Marks.{AreHits, needs_own}
 use Rattle.ac_search.specs.Search.{IsDead}
 use Rattle.ac_rules.specs.Placed.{Placed, placed, slot_at, no_slot, assigned}
 use Rattle.ac_rules.specs.Together.{amount_of, sum_on, holds, takes_root, hosts_all, anchor}
-use Rattle.ac_rules.specs.Judge.{is_open}
+use Rattle.ac_rules.specs.Judge.{is_open, is_candidate}
+use Rattle.ac_rules.specs.Lists.{IsListBelow}
 use Rattle.ac_search.specs.QuerySearch.{fits, choice_of, search_of}
 use Rattle.ac_search.specs.Left.{ask_pair, numbered, wanted, left_in, place_of, IsKnown, row_of, has_each}
 use Rattle.ac_search.specs.Accounts.{providers_in, asked_in, texts_in, Accounts}
@@ -28,6 +29,7 @@ use Rattle.ac_rules.proofs.Elements.{Among, each_weaker, each_filter, each_both,
 use Rattle.ac_rules.proofs.AnchorLemmas.{each_range, hosts_list, any_filter}
 use Rattle.ac_search.proofs.MarkLemmas.{all_hit}
 use Rattle.ac_rules.proofs.FrontLemmas.{Opens}
+use Rattle.ac_rules.proofs.SlotLemmas.{each_at}
 use Rattle.ac_search.proofs.LeftLemmas.{each_suffices, wanted_is, holds_less}
 use Rattle.ac_search.proofs.OpenLemmas.{among_choice, each_choice, front_open}
 use Rattle.ac_search.proofs.SoughtLemmas.{place_of as place_of_choice}
@@ -162,6 +164,25 @@ served_fits : (l : Ledger) (slot : Slot) (p : ℕ) → serves (providers_in l) (
 unfolding serves
 served_fits l slot p h = and_parts _ _ h
 
+-- the row of a provider that serves a slot has enough for it
+pub row_serves : (l : Ledger) (s p : ℕ) (asks : List (ℕ × ℕ)) → s < length (slots_of (asked_in l)) → Accounts l [] → p < length (providers_in l) → serves (providers_in l) (asked_in l) [] (slot_at (asked_in l) s) p ≡ true
+    → asks ≡ map (numbered (texts_in l)) (slot_at (asked_in l) s).needs → has_each (row_of l.rows.items p) asks ≡ true
+row_serves l s p asks h accounts low serve want =
+    let slot = slot_at (asked_in l) s in
+    let both = served_fits l slot p serve in
+    subst (λ (ns : List (ℕ × ℕ)). has_each (row_of l.rows.items p) ns ≡ true) (sym want)
+    (each_suffices (texts_in l) (row_of l.rows.items p) slot.needs (known_in l s h) (slot_rises l.query.now s h) ∙ holds_suffice l p slot.needs slot.needs low accounts (known_in l s h) (known_in l s h) both.1)
+
+-- so does that of a candidate's provider
+pub candidate_row : (l : Ledger) (s : ℕ) (asks : List (ℕ × ℕ)) → s < length (slots_of (asked_in l)) → Accounts l [] → asks ≡ map (numbered (texts_in l)) (slot_at (asked_in l) s).needs
+    → (t : List ℕ) → IsListBelow (length (providers_in l)) (length (slots_of (asked_in l))) t → is_candidate (providers_in l) (asked_in l) t ≡ true → has_each (row_of l.rows.items (slice_index t s)) asks ≡ true
+candidate_row l s asks h accounts want t list candidate =
+    let all = providers_in l in
+    let asked = asked_in l in
+    let serve = each_serves all asked [] t (candidate_open all asked t candidate) in
+    let low : slice_index t s < length all = each_at (λ p. p < length all) t s 0 (recursion_from_All (λ p. p < length all) t list.below) (omega (arith, h, list.long)) in
+    row_serves l s (slice_index t s) asks h accounts low (placed_holds (λ slot p. serves all asked [] slot p ≡ true) (slots_of asked) t s list.long h serve) want
+
 -- at a root at which a candidate stands some choice of a slot serves it
 pub slot_hosted : (l : Ledger) (r : ℕ) (t : List ℕ) (s : ℕ) (choices rooms : List ℕ) (asks : List (ℕ × ℕ)) → s < length (slots_of (asked_in l)) → Accounts l [] → IsHosted (providers_in l) (asked_in l) r t
     → choices ≡ choice_of (providers_in l) (asked_in l) (slot_at (asked_in l) s) → asks ≡ map (numbered (texts_in l)) (slot_at (asked_in l) s).needs
@@ -179,8 +200,7 @@ slot_hosted l r t s choices rooms asks h accounts hosted are want some =
     let there : Among choices p = subst (λ (xs : List ℕ). Among xs p) (sym are) (among_choice all asked slot p low begins both.0) in
     let at = place_of_choice choices p there in
     let is : slice_index choices at.0 ≡ p = at.2 0 in
-    let row : has_each (row_of l.rows.items p) asks ≡ true = subst (λ (ns : List (ℕ × ℕ)). has_each (row_of l.rows.items p) ns ≡ true) (sym want)
-    (each_suffices (texts_in l) (row_of l.rows.items p) slot.needs (known_in l s h) (slot_rises l.query.now s h) ∙ holds_suffice l p slot.needs slot.needs low accounts (known_in l s h) (known_in l s h) both.1) in
+    let row = row_serves l s p asks h accounts low served.serves want in
     let here = subst (λ (x : ℕ). 0 < slice_index rooms x) is (some at.0 at.1 (subst (λ (x : ℕ). has_each (row_of l.rows.items x) asks ≡ true) (sym is) row)) in
     let reach = among_load (λ p. slice_index rooms p) (hosts_of all r) p served.host in
     omega (arith, here, reach)

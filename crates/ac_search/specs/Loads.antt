@@ -1,5 +1,5 @@
 -- What the providers of each root have together, and which marks of roots stay.
-use Rattle.std.specs.Prelude.{◌≡◌, ℕ, ◌+◌, ◌-◌, ◌/◌, ◌^◌, ◌<◌, ◌&&◌, if◌then◌else◌, Bool, true, false, nat_le, min, List, length, map, slice_index, slice_index_or}
+use Rattle.std.specs.Prelude.{◌≡◌, ℕ, ◌+◌, ◌-◌, ◌/◌, ◌^◌, ◌<◌, ◌&&◌, if◌then◌else◌, Bool, true, false, nat_le, min, List, [], length, map, get_or, slice_index, slice_index_or}
 use Rattle.std.specs.Global.{Vec}
 use Rattle.ac_tables.specs.World.{Provider}
 use Rattle.ac_rules.specs.Placed.{slot_at}
@@ -7,6 +7,7 @@ use Rattle.ac_search.specs.QuerySearch.{choice_of, choices_of}
 use Rattle.ac_search.specs.Left.{ask_pair, wanted, left_in, row_of, has_each}
 use Rattle.ac_search.specs.Ahead.{load_in, load_of, hosts_of, AreRoots}
 use Rattle.ac_search.specs.Accounts.{providers_in, asked_in}
+use Rattle.ac_search.specs.Parts.{AreParts}
 use Rattle.ac_search.specs.declared.ledger.Ledger.{Ledger}
 use Rattle.ac_search.specs.declared.rooms.Ask.{Ask}
 use Rattle.ac_search.specs.declared.rooms.Room.{Room}
@@ -44,6 +45,10 @@ choice_in ledger s = choice_of (providers_in ledger) (asked_in ledger) (slot_at 
 
 abbrev pub choices_in : Ledger → List (List ℕ)
 choices_in ledger = choices_of (providers_in ledger) (asked_in ledger)
+
+-- the parts of the list at a place
+abbrev pub ArePartsIn : Ledger → ℕ → List ℕ → Type 0
+ArePartsIn ledger k parts = AreParts (providers_in ledger) (asked_in ledger) (get_or (asked_in ledger).subtrees k []) parts
 
 -- each choice whose row has enough for what is asked has some room
 abbrev pub AreServing : List (Vec Room) → List ℕ → List Ask → List ℕ → Type 0

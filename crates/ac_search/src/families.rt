@@ -4,17 +4,18 @@ ghost use Rattle.std.specs.Prelude.{◌≡◌, ◌<◌, ◌≤◌, ◌++◌, ◌
 ghost use Rattle.std.specs.List.{All};
 ghost use Rattle.ac_query.specs.Asked.{Asked, slots_of, lists_suffix};
 ghost use Rattle.ac_query.specs.QueriesShown.{asked_of};
-ghost use Rattle.ac_tables.specs.CloudWorld.{providers_of};
 ghost use Rattle.ac_tables.specs.World.{Provider};
 ghost use Rattle.ac_rules.specs.Placed.{slot_at};
-ghost use Rattle.ac_search.specs.QuerySearch.{choices_of, search_of};
+ghost use Rattle.ac_search.specs.Accounts.{providers_in, asked_in, Accounts};
+ghost use Rattle.ac_search.specs.Loads.{choices_in};
+ghost use Rattle.ac_search.specs.QuerySearch.{search_of};
 ghost use Rattle.ac_search.specs.Search.{IsDead};
 
+use crate::ledger::Ledger;
 use crate::parts::parts_of;
 use ac_base::NoMemory;
 use ac_query::Query;
 use ac_rules::slots::{count_slots, is_listed};
-use ac_tables::Cloud;
 use std::alloc::Global;
 
 // How many lists are looked at ahead; further ones are judged when all slots have a provider, as all are.
@@ -61,17 +62,17 @@ impl Family {
     // The list at a place.
     fn new(
         alloc: Global,
-        cloud: &Cloud,
-        query: &Query,
+        ledger: &Ledger,
         k: usize,
         choices: &[Vec<u32>],
     ) -> Result<Family, NoMemory>
-        requires list { k < length (asked_of query.now).subtrees }
-        requires choices { map (λ v. v.items) choices.now ≡ choices_of (providers_of cloud.now) (asked_of query.now) }
-        ensures { IfOk result (λ family. IsFamily (providers_of cloud.now) (asked_of query.now) (get_or (asked_of query.now).subtrees k []) family) }
+        requires list { k < length (asked_in ledger.now).subtrees }
+        requires choices { map (λ v. v.items) choices.now ≡ choices_in ledger.now }
+        requires empty { Accounts ledger.now [] }
+        ensures { IfOk result (λ family. IsFamily (providers_in ledger.now) (asked_in ledger.now) (get_or (asked_in ledger.now).subtrees k []) family) }
     {
-        let parts = parts_of(alloc, cloud, query, k, choices)?;
-        let named = named_slots(alloc, query, k)?;
+        let parts = parts_of(alloc, ledger, k, choices)?;
+        let named = named_slots(alloc, ledger.query, k)?;
         let first = first_marked(&named);
         Ok(Family {
             named,
@@ -80,19 +81,19 @@ impl Family {
         })
     }
 
-    /// The first lists of a query.
+    /// The first lists of a ledger's query.
     pub(crate) fn of_query(
         alloc: Global,
-        cloud: &Cloud,
-        query: &Query,
+        ledger: &Ledger,
         choices: &[Vec<u32>],
     ) -> Result<Vec<Family>, NoMemory>
-        requires { map (λ v. v.items) choices.now ≡ choices_of (providers_of cloud.now) (asked_of query.now) }
-        ensures { IfOk result (λ families. AreFamilies (providers_of cloud.now) (asked_of query.now) families.items) }
+        requires choices { map (λ v. v.items) choices.now ≡ choices_in ledger.now }
+        requires empty { Accounts ledger.now [] }
+        ensures { IfOk result (λ families. AreFamilies (providers_in ledger.now) (asked_in ledger.now) families.items) }
     {
         let mut families = Vec::new(alloc);
-        for k in 0..query.subtrees().min(MOST) {
-            families.push(Family::new(alloc, cloud, query, k, choices)?)?;
+        for k in 0..ledger.query.subtrees().min(MOST) {
+            families.push(Family::new(alloc, ledger, k, choices)?)?;
         }
         Ok(families)
     }

@@ -100,7 +100,7 @@ impl<'a> Walk<'a> {
         let trees = ByTree::of_slots(alloc, cloud, &choices)?;
         let ledger = Ledger::new(alloc, cloud, query)?;
         let hosts = host_roots(alloc, &ledger, &choices)?;
-        let families = Family::of_query(alloc, cloud, query, &choices)?;
+        let families = Family::of_query(alloc, &ledger, &choices)?;
         let path = vec![in alloc; 0u32; width]?;
         let mut places = vec![in alloc; 0usize; width]?;
         places[0] = start_of(&choices[0], &least, 0);

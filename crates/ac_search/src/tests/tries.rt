@@ -236,6 +236,25 @@ fn tries_only_below_a_top_of_its_list(rt: HostRuntime) -> Result<(), Fail> {
     Ok(())
 }
 
+// Two nodes of one host, each with a function: the first function is used up, so its node isn't tried either.
+#[test]
+fn tries_no_node_whose_function_is_used_up(rt: HostRuntime) -> Result<(), Fail> {
+    let alloc = rt.alloc();
+    let rows = hosts(
+        "@01,@01,\n@02,@01,@01\n@03,@01,@01\n@04,@01,@02\n@05,@01,@03\n",
+        "@02,VCPU,8,0,1,8,1,1.0\n@03,VCPU,8,0,1,8,1,1.0\n@04,SRIOV_NET_VF,1,0,1,1,1,1.0\n@05,SRIOV_NET_VF,1,0,1,1,1,1.0\n",
+        "@04,SRIOV_NET_VF,1\n",
+    );
+    let query =
+        "resources_A=VCPU:1&resources_B=SRIOV_NET_VF:1&same_subtree=_A,_B&group_policy=isolate";
+    let left = probes(alloc, rows, query, None, 9)?;
+    assert!(rt;
+        left.as_slice() == [2, 2].as_slice(),
+        "a node and its function"
+    );
+    Ok(())
+}
+
 #[test]
 fn goes_to_the_last_of_many_lists(rt: HostRuntime) -> Result<(), Fail> {
     let alloc = rt.alloc();

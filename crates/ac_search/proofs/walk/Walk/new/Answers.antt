@@ -53,7 +53,7 @@ invariant_of-result c =
       by_tree = rw (c.in_ok-ledger.ensures.cloud, c.in_ok-ledger.ensures.query) (rw (lists_are c.in_ok-choices.choices.items c.deref.result.now (search_of (providers_of c.args.cloud.now) (asked_of c.args.query.now)).choices c.deref.ensures.value c.in_ok-choices.ensures) at c.in_ok-trees.ensures);
       resumed = rw (c.in_ok-ledger.ensures.cloud, c.in_ok-ledger.ensures.query, ← width, c.in_ok-after.ensures) c.in_ok-least.ensures;
       hosting = c.in_ok-hosts.ensures;
-      grouped = rw (c.in_ok-ledger.ensures.cloud, c.in_ok-ledger.ensures.query) c.in_ok-families.ensures;
+      grouped = c.in_ok-families.ensures;
       accounted = c.in_ok-ledger.ensures.accounts;
       sound = rw (c.in_ok-ledger.ensures.cloud, c.in_ok-ledger.ensures.query) (sound_new m laws c.in_ok-least.least.items c.in_ok-path.path.items c.in_ok-places.places.items c.start_of.result
           (omega (arith, ap length c.in_ok-least.ensures))
