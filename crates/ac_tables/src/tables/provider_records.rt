@@ -141,13 +141,12 @@ impl Roll {
             mut rows,
             mut places,
         } = self;
-        if places.contains_key(&row.id) {
+        if places.insert(row.id, rows.len() as u32)?.is_some() {
             return Err(RecordFault::Kind(TableKind::Duplicate));
         }
         if rows.len() >= MOST_PROVIDERS {
             return Err(RecordFault::Kind(TableKind::TooManyProviders));
         }
-        places.insert(row.id, rows.len() as u32)?;
         rows.push(row)?;
         Ok(Roll { rows, places })
     }

@@ -1,4 +1,5 @@
 use Rattle.std.proofs.Common.{◌≡◌, ◌<◌, ◌^◌, ◌∙◌, sym, ℕ, Some, List, subst, ap}
+use Rattle.std.specs.Prelude.{is_some}
 use Rattle.std.specs.Ordering.{nat_cmp}
 use Rattle.std.specs.BTreeMap.{keys}
 use Rattle.std.proofs.lemmas.List.Elements.{All-push}
@@ -16,13 +17,13 @@ invariant_of-result-clause-found c =
     let h = c.in_ok-insert.ensures.updates in
     rw c.in_ok-push.ensures.items
     (found_more_at c.args.self.places c.insert.new.self c.args.self.rows.items c.args.row c.row.inside.id (ap (λ (r : Listed). r.id) c.row.view_is) c.args.self.found
-    (sym c.contains_key.ensures ∙ c.if-contains_key.false) (h.1 ∙ ap (λ (n : ℕ). Some n) (c.len-2.ensures ∙ c.args.self.rows.ok.0)) h.2)
+    (ap (λ o. is_some o) (sym c.in_ok-insert.ensures.old) ∙ (sym c.is_some.ensures ∙ c.if-is_some.false)) (h.1 ∙ ap (λ (n : ℕ). Some n) (c.len.ensures ∙ c.args.self.rows.ok.0)) h.2)
 
 pub invariant_of-result-clause-distinct : goal.invariant_of-result-clause-distinct
 invariant_of-result-clause-distinct c =
     subst AreDistinct (sym c.in_ok-push.ensures.items)
     (distinct_more_at c.args.self.places c.args.self.rows.items c.args.row c.row.inside.id (ap (λ (r : Listed). r.id) c.row.view_is) c.args.self.found
-    (sym c.contains_key.ensures ∙ c.if-contains_key.false) c.args.self.distinct)
+    (ap (λ o. is_some o) (sym c.in_ok-insert.ensures.old) ∙ (sym c.is_some.ensures ∙ c.if-is_some.false)) c.args.self.distinct)
 
 pub invariant_of-result-clause-ordered : goal.invariant_of-result-clause-ordered
 invariant_of-result-clause-ordered c =
