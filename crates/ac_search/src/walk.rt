@@ -315,10 +315,14 @@ impl<'a> Walk<'a> {
         ensures within { result ≤ length (choices_at (search_in self.now) self.now.depth) }
         ensures dead { AllDead (search_in self.now) (take self.now.depth self.now.path.items) self.now.depth from result }
     {
-        match provider {
+        let mut place = match provider {
             Some(ix) => self.trees[self.depth].next(self.ledger.cloud.anchors(ix), from),
             None => from,
+        };
+        for family in &self.families {
+            place = family.next(&self.path[..self.depth], place);
         }
+        place
     }
 
     // The least place from the one that is next on whose choice may follow; past the end where there is none.
