@@ -187,8 +187,8 @@ impl Family {
         if !self.named[s] || self.first >= s {
             return from;
         }
-        match &self.places[s] {
-            Some(places) if from <= places.len() => {
+        match self.places.get(s) {
+            Some(Some(places)) if from <= places.len() => {
                 places.next_in(self.parts[front[self.first] as usize], from)
             }
             _ => from,
