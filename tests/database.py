@@ -64,6 +64,7 @@ def database_exports():
     yield export('older tables stay where the client fails', f'echo old >"$out/usages.csv"; {by("mysql")}; cat "$out/usages.csv"',
                  '1\nusages.csv\nold\n', *failure, settings='BROKEN=0')
     yield export('no such file', f'{TOOL} "$out" sqlite3 "$out/none" 2>&1 | head -n 1; ls -A "$out"', TOLD + 'the client failed\n')
+    yield export('nobody reads what it says', f'{TOOL} "$out" sqlite3 "$out/none" 2>&1 | true; ls -A "$out"', '')
     yield export('no providers', by('sqlite3'), '1\n', TOLD + 'the cloud has no providers',
                  before='for table in "$CLOUD"/*.csv; do sed -i 2,\\$d "$table"; done')
     yield export('no client', f'{TOOL} "$out" /nowhere/psql; echo $?; ls -A "$out"', '1\n', TOLD + 'there is no client /nowhere/psql on the PATH')

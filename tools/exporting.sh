@@ -27,7 +27,7 @@ begin() {
     room=$1/.export.$$
     mkdir -- "$room"
     trap 'rm -rf -- "$room"' EXIT
-    trap 'exit 1' HUP INT TERM
+    trap 'exit 1' HUP INT PIPE TERM
 }
 
 # hand_over: the five tables get their names
