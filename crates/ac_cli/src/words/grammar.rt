@@ -24,7 +24,7 @@ Example, at the top of the repository:
       --providers examples/providers.csv --inventories examples/inventories.csv";
 
 // The program's version, and that of the toolchain by which it is proved, as `rt version` prints it.
-const VERSION: &str = "1.0.0, proved with rattle-kit-13b logic dac8208d650f15bf";
+const VERSION: &str = "1.0.0, proved with rattle-kit-13f logic dac8208d650f15bf";
 
 // A word that has to be given.
 fn word<'a>(alloc: Global, name: &'a str, shown: &'a str, help: &'a str) -> Arg<'a>
