@@ -15,8 +15,6 @@ mod parameter;
 mod pass;
 pub mod query;
 pub mod slot;
-#[cfg(test)]
-mod tests;
 pub mod token;
 mod traits;
 mod values;

@@ -10,8 +10,6 @@ pub mod lines;
 pub mod page;
 pub mod request;
 pub mod summary;
-#[cfg(test)]
-mod tests;
 
 pub use fault::PageFault;
 pub use lines::write_tokens;

@@ -21,6 +21,3 @@ pub use job::{Command, Inputs, Job};
 pub use refusal::Refusal;
 pub use running::run;
 pub use telling::tell;
-
-#[cfg(test)]
-mod tests;

@@ -15,8 +15,6 @@ mod marks;
 mod open;
 mod parts;
 mod rooms;
-#[cfg(test)]
-mod tests;
 mod trees;
 pub mod walk;
 

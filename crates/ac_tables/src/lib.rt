@@ -16,6 +16,3 @@ pub use cloud::{Cloud, Counts};
 pub use fault::{Table, TableFault, TableKind};
 pub use read::Sources;
 pub use reading::{ReadFault, drain};
-
-#[cfg(test)]
-mod tests;

@@ -1,0 +1,237 @@
+//! Runs over devices in memory.
+ghost use Rattle.std.specs.Option.{option_map};
+ghost use Rattle.ac_run.specs.Jobs.{HasToken};
+
+use ac_base::{MemFeed, MemSink, Turn};
+use ac_query::Version;
+use ac_run::{Command, Inputs, Job, run, run_gathered};
+use std::alloc::{AllocError, Global};
+use std::process::Abort;
+
+mod crowded;
+mod cuts;
+mod devices;
+mod examples;
+mod refusals;
+
+// The rows of the tables. `@1` stands for the UUID that ends with 1.
+#[derive(Clone, Copy)]
+struct Rows {
+    providers: &'static str,
+    inventories: &'static str,
+    usages: &'static str,
+    traits: &'static str,
+    aggregates: &'static str,
+}
+
+// Tables of headers alone.
+const EMPTY: Rows = Rows {
+    providers: "",
+    inventories: "",
+    usages: "",
+    traits: "",
+    aggregates: "",
+};
+
+// One provider with eight units of a class.
+const ONE: Rows = Rows {
+    providers: "@1,@1,\n",
+    inventories: "@1,VCPU,8,0,1,8,1,1.0\n",
+    ..EMPTY
+};
+
+// The body of its candidates for two units.
+const ONE_BODY: &str =
+    "{\"allocation_requests\":[{\"allocations\":{\"@1\":{\"resources\":{\"VCPU\":2}}},\
+    \"mappings\":{\"\":[\"@1\"]}}],\"provider_summaries\":{\"@1\":{\"parent_provider_uuid\":null,\
+    \"resources\":{\"VCPU\":{\"capacity\":8,\"used\":0}},\"root_provider_uuid\":\"@1\",\"traits\":[]}}}\n";
+
+fn expanded(alloc: Global, text: &str) -> Result<String, AllocError> {
+    text.replace(alloc, "@", "00000000-0000-0000-0000-00000000000")
+}
+
+// The texts of the tables.
+#[derive(Drop)]
+struct Texts {
+    providers: String,
+    inventories: String,
+    usages: String,
+    traits: String,
+    aggregates: String,
+}
+
+// Each table's rows under its header.
+fn texts_under_headers(
+    alloc: Global,
+    providers: &str,
+    inventories: &str,
+    usages: &str,
+    traits: &str,
+    aggregates: &str,
+) -> Result<Texts, AllocError> {
+    Ok(Texts {
+        providers: format!(in alloc; "uuid,root_provider_uuid,parent_provider_uuid\n{providers}")?,
+        inventories: format!(in alloc;
+            "resource_provider,resource_class,total,reserved,min_unit,max_unit,step_size,allocation_ratio\n{inventories}"
+        )?,
+        usages: format!(in alloc; "resource_provider,resource_class,usage\n{usages}")?,
+        traits: format!(in alloc; "resource_provider,name\n{traits}")?,
+        aggregates: format!(in alloc; "resource_provider,uuid\n{aggregates}")?,
+    })
+}
+
+fn texts_of(alloc: Global, rows: &Rows) -> Result<Texts, AllocError> {
+    let providers = expanded(alloc, rows.providers)?;
+    let inventories = expanded(alloc, rows.inventories)?;
+    let usages = expanded(alloc, rows.usages)?;
+    let traits = expanded(alloc, rows.traits)?;
+    let aggregates = expanded(alloc, rows.aggregates)?;
+    texts_under_headers(
+        alloc,
+        providers.as_str(),
+        inventories.as_str(),
+        usages.as_str(),
+        traits.as_str(),
+        aggregates.as_str(),
+    )
+}
+
+// How the devices of a run go.
+#[derive(Clone, Copy)]
+struct Turns<'a> {
+    providers: &'a [Turn],
+    inventories: &'a [Turn],
+    usages: &'a [Turn],
+    traits: &'a [Turn],
+    aggregates: &'a [Turn],
+    out: &'a [Turn],
+    err: &'a [Turn],
+    is_gathered: bool,
+    // After how many bytes the table ends.
+    providers_end: usize,
+    inventories_end: usize,
+}
+
+const SOUND: Turns<'static> = Turns {
+    providers: &[],
+    inventories: &[],
+    usages: &[],
+    traits: &[],
+    aggregates: &[],
+    out: &[],
+    err: &[],
+    is_gathered: false,
+    providers_end: usize::MAX,
+    inventories_end: usize::MAX,
+};
+
+// Every device goes by these turns.
+fn alike<'a>(turns: &'a [Turn]) -> Turns<'a> {
+    Turns {
+        providers: turns,
+        inventories: turns,
+        usages: turns,
+        traits: turns,
+        aggregates: turns,
+        out: turns,
+        err: turns,
+        ..SOUND
+    }
+}
+
+// What a run leaves.
+#[derive(Drop)]
+struct Left {
+    output: String,
+    line: String,
+    status: u8,
+}
+
+// What a run is to leave; the number says which run it is.
+fn expect_left(rt: &impl Abort, left: &Left, output: &str, line: &str, status: u8, number: usize) {
+    assert_eq!(rt; left.output.as_str(), output, "output of run {number}");
+    assert_eq!(rt; left.line.as_str(), line, "line of run {number}");
+    assert_eq!(rt; left.status, status, "status of run {number}");
+}
+
+fn text_of(alloc: Global, bytes: &[u8]) -> Result<String, AllocError> {
+    match std::str::from_utf8(bytes) {
+        Ok(text) => String::from_str(alloc, text),
+        Err(_) => String::from_str(alloc, "no text"),
+    }
+}
+
+// The bytes of a table that ends after so many.
+fn front(text: &String, end: usize) -> &[u8] {
+    let bytes = text.as_bytes();
+    &bytes[..end.min(bytes.len())]
+}
+
+// A run over the five tables.
+fn run_texts(alloc: Global, texts: &Texts, job: &Job<'_>, turns: Turns) -> Result<Left, AllocError>
+    requires { HasToken job.now.command (option_map (λ token. token.now) job.now.token) }
+{
+    let mut inputs = Inputs {
+        providers: MemFeed::new(
+            front(&texts.providers, turns.providers_end),
+            turns.providers,
+        ),
+        inventories: MemFeed::new(
+            front(&texts.inventories, turns.inventories_end),
+            turns.inventories,
+        ),
+        usages: Some(MemFeed::new(texts.usages.as_bytes(), turns.usages)),
+        traits: Some(MemFeed::new(texts.traits.as_bytes(), turns.traits)),
+        aggregates: Some(MemFeed::new(texts.aggregates.as_bytes(), turns.aggregates)),
+    };
+    let mut out = MemSink::new(vec![in alloc; 0u8; 2000]?, turns.out);
+    let mut err = MemSink::new(vec![in alloc; 0u8; 1000]?, turns.err);
+    let status = if turns.is_gathered {
+        let (status, gathered) = run_gathered(alloc, job, &mut inputs, out, &mut err);
+        out = gathered;
+        status
+    } else {
+        run(alloc, job, &mut inputs, &mut out, &mut err)
+    };
+    Ok(Left {
+        output: text_of(alloc, out.taken())?,
+        line: text_of(alloc, err.taken())?,
+        status,
+    })
+}
+
+// A run by 1.36 over the tables of these rows.
+fn run_over<'a>(
+    alloc: Global,
+    rows: &Rows,
+    command: Command,
+    query: &'a str,
+    token: Option<&'a str>,
+    turns: Turns,
+) -> Result<Left, AllocError>
+    requires { HasToken command (option_map (λ token. token.now) token) }
+{
+    run_by(alloc, rows, Version::V136, command, query, token, turns)
+}
+
+// The same, by a version.
+fn run_by<'a>(
+    alloc: Global,
+    rows: &Rows,
+    version: Version,
+    command: Command,
+    query: &'a str,
+    token: Option<&'a str>,
+    turns: Turns,
+) -> Result<Left, AllocError>
+    requires { HasToken command (option_map (λ token. token.now) token) }
+{
+    let texts = texts_of(alloc, rows)?;
+    let job = Job {
+        command,
+        query,
+        version,
+        token,
+    };
+    run_texts(alloc, &texts, &job, turns)
+}

@@ -1,0 +1,206 @@
+//! Explanations of the smallest clouds: one for each way in which a query finds nothing, with the hand count beside each.
+use super::{Case, NODES, OLD, TOKENS, UNDER_A_NODE, check};
+use crate::run::{ONE, Rows};
+use ac_run::Command;
+use std::test::Fail;
+
+// Of one provider with eight units, which has nothing beside them.
+const NONE: Case = Case {
+    command: Command::Explain,
+    status: 1,
+    ..TOKENS
+};
+
+const SOME: Case = Case { status: 0, ..NONE };
+
+// Nothing is missing.
+const FOUND: &[Case] = &[
+    Case {
+        output: "slot 1 \"\" VCPU:2: units 1 of 1, traits 1, aggregates 1, tree 1, room 1\n\
+                    trees 1: root traits 1, each slot 1\n\
+                    candidates: some\n",
+        ..SOME
+    },
+    // Two of four providers are nodes; only the fourth, below one of them, has the class.
+    Case {
+        rows: NODES,
+        query: UNDER_A_NODE,
+        output: "slot 1 \"_NUMA\": units 4 of 4, traits 2, aggregates 2, tree 2, room 2\n\
+                    slot 2 \"_PF\" VCPU:1: units 1 of 4, traits 1, aggregates 1, tree 1, room 1\n\
+                    trees 1: root traits 1, each slot 1\n\
+                    candidates: some\n",
+        ..SOME
+    },
+    // A group with two classes is one slot; one without a suffix has a slot for each.
+    Case {
+        rows: Rows {
+            inventories: "@1,VCPU,8,0,1,8,1,1.0\n@1,MEMORY_MB,9,0,1,9,1,1.0\n",
+            ..ONE
+        },
+        query: "resources=VCPU:1,MEMORY_MB:2&resources_A=VCPU:3,MEMORY_MB:4",
+        output: "slot 1 \"\" MEMORY_MB:2: units 1 of 1, traits 1, aggregates 1, tree 1, room 1\n\
+                    slot 2 \"\" VCPU:1: units 1 of 1, traits 1, aggregates 1, tree 1, room 1\n\
+                    slot 3 \"_A\" MEMORY_MB:4,VCPU:3: units 1 of 1, traits 1, aggregates 1, tree 1, room 1\n\
+                    trees 1: root traits 1, each slot 1\n\
+                    candidates: some\n",
+        ..SOME
+    },
+];
+
+#[test]
+fn found(rt: HostRuntime) -> Result<(), Fail> {
+    check(&rt, FOUND)
+}
+
+// A slot that nobody fits: the number that is the first 0 says what is missing.
+const A_SLOT_ALONE: &[Case] = &[
+    // No inventory admits nine units.
+    Case {
+        query: "resources=VCPU:9",
+        output: "slot 1 \"\" VCPU:9: units 0 of 1, traits 0, aggregates 0, tree 0, room 0\n\
+                    trees 1: root traits 1, each slot 0\n\
+                    candidates: none\n",
+        ..NONE
+    },
+    // The provider has no trait.
+    Case {
+        query: "resources_A=VCPU:2&required_A=CUSTOM_A",
+        output: "slot 1 \"_A\" VCPU:2: units 1 of 1, traits 0, aggregates 0, tree 0, room 0\n\
+                    trees 1: root traits 1, each slot 0\n\
+                    candidates: none\n",
+        ..NONE
+    },
+    // It is in no aggregate.
+    Case {
+        query: "resources=VCPU:2&member_of=@a",
+        output: "slot 1 \"\" VCPU:2: units 1 of 1, traits 1, aggregates 0, tree 0, room 0\n\
+                    trees 1: root traits 1, each slot 0\n\
+                    candidates: none\n",
+        ..NONE
+    },
+    // The first has the units, and the second is the tree that is named.
+    Case {
+        rows: Rows {
+            providers: "@1,@1,\n@2,@2,\n",
+            ..ONE
+        },
+        query: "resources=VCPU:2&in_tree=@2",
+        output: "slot 1 \"\" VCPU:2: units 1 of 2, traits 1, aggregates 1, tree 0, room 0\n\
+                    trees 2: root traits 2, each slot 0\n\
+                    candidates: none\n",
+        ..NONE
+    },
+    // Seven of eight units are used.
+    Case {
+        rows: Rows {
+            usages: "@1,VCPU,7\n",
+            ..ONE
+        },
+        output: "slot 1 \"\" VCPU:2: units 1 of 1, traits 1, aggregates 1, tree 1, room 0\n\
+                    trees 1: root traits 1, each slot 0\n\
+                    candidates: none\n",
+        ..NONE
+    },
+];
+
+#[test]
+fn a_slot_alone(rt: HostRuntime) -> Result<(), Fail> {
+    check(&rt, A_SLOT_ALONE)
+}
+
+// Each slot has a provider, and no tree has one for all of them.
+const NO_TREE: &[Case] = &[
+    // The root has no trait.
+    Case {
+        query: "resources=VCPU:2&root_required=CUSTOM_R",
+        output: "slot 1 \"\" VCPU:2: units 1 of 1, traits 1, aggregates 1, tree 1, room 1\n\
+                    trees 1: root traits 0, each slot 0\n\
+                    candidates: none\n",
+        ..NONE
+    },
+    // The second and the third have the units, each in a tree of its own; the first tree has a forbidden trait at its root.
+    Case {
+        rows: OLD,
+        query: "resources=VCPU:1&in_tree=@1&root_required=!CUSTOM_OLD",
+        output: "slot 1 \"\" VCPU:1: units 2 of 3, traits 2, aggregates 2, tree 1, room 1\n\
+                    trees 2: root traits 1, each slot 0\n\
+                    candidates: none\n",
+        ..NONE
+    },
+    // Each of two trees has one of the classes.
+    Case {
+        rows: Rows {
+            providers: "@1,@1,\n@2,@2,\n",
+            inventories: "@1,VCPU,8,0,1,8,1,1.0\n@2,DISK_GB,9,0,1,9,1,1.0\n",
+            ..ONE
+        },
+        query: "resources=DISK_GB:1,VCPU:1",
+        output: "slot 1 \"\" DISK_GB:1: units 1 of 2, traits 1, aggregates 1, tree 1, room 1\n\
+                    slot 2 \"\" VCPU:1: units 1 of 2, traits 1, aggregates 1, tree 1, room 1\n\
+                    trees 2: root traits 2, each slot 0\n\
+                    candidates: none\n",
+        ..NONE
+    },
+];
+
+#[test]
+fn no_tree(rt: HostRuntime) -> Result<(), Fail> {
+    check(&rt, NO_TREE)
+}
+
+// A tree has a provider for each slot, but not for all slots together.
+const NOT_TOGETHER: &[Case] = &[
+    // Two groups want providers of their own.
+    Case {
+        query: "resources_A=VCPU:1&resources_B=VCPU:1&group_policy=isolate",
+        output: "slot 1 \"_A\" VCPU:1: units 1 of 1, traits 1, aggregates 1, tree 1, room 1\n\
+                    slot 2 \"_B\" VCPU:1: units 1 of 1, traits 1, aggregates 1, tree 1, room 1\n\
+                    trees 1: root traits 1, each slot 1\n\
+                    candidates: none\n",
+        ..NONE
+    },
+    // Five units and five more are more than eight.
+    Case {
+        query: "resources_A=VCPU:5&resources_B=VCPU:5&group_policy=none",
+        output: "slot 1 \"_A\" VCPU:5: units 1 of 1, traits 1, aggregates 1, tree 1, room 1\n\
+                    slot 2 \"_B\" VCPU:5: units 1 of 1, traits 1, aggregates 1, tree 1, room 1\n\
+                    trees 1: root traits 1, each slot 1\n\
+                    candidates: none\n",
+        ..NONE
+    },
+    // The trait that the group without a suffix requires is asked of all its providers together.
+    Case {
+        query: "resources=VCPU:2&required=CUSTOM_A",
+        output: "slot 1 \"\" VCPU:2: units 1 of 1, traits 1, aggregates 1, tree 1, room 1\n\
+                    trees 1: root traits 1, each slot 1\n\
+                    candidates: none\n",
+        ..NONE
+    },
+];
+
+#[test]
+fn not_together(rt: HostRuntime) -> Result<(), Fail> {
+    check(&rt, NOT_TOGETHER)
+}
+
+// The limit of a query says nothing, and a token that is refused is told.
+const BESIDE: &[Case] = &[
+    Case {
+        query: "resources=VCPU:2&limit=1",
+        output: "slot 1 \"\" VCPU:2: units 1 of 1, traits 1, aggregates 1, tree 1, room 1\n\
+                    trees 1: root traits 1, each slot 1\n\
+                    candidates: some\n",
+        ..SOME
+    },
+    Case {
+        token: Some("@1,@1"),
+        line: "token: WrongLength\n",
+        status: 5,
+        ..NONE
+    },
+];
+
+#[test]
+fn beside(rt: HostRuntime) -> Result<(), Fail> {
+    check(&rt, BESIDE)
+}

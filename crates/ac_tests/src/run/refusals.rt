@@ -1,0 +1,152 @@
+//! Runs with each growth refused in turn: the whole answer, or `out of memory` with status 7 and a first part of it.
+use super::{Left, ONE, ONE_BODY, Rows, SOUND, expanded, expect_left, run_over};
+use ac_run::Command;
+use std::alloc::{AllocError, Global};
+use std::process::Abort;
+
+// What a run is asked, and what it answers where memory suffices.
+#[derive(Clone, Copy)]
+struct Case {
+    rows: Rows,
+    command: Command,
+    query: &'static str,
+    token: Option<&'static str>,
+    output: &'static str,
+    line: &'static str,
+    status: u8,
+}
+
+const TOKENS: Case = Case {
+    rows: ONE,
+    command: Command::Tokens,
+    query: "resources=VCPU:2",
+    token: None,
+    output: "@1\n",
+    line: "",
+    status: 0,
+};
+
+// A parent and its child, with eight units each, and a group for each.
+const PAIR: Case = Case {
+    rows: Rows {
+        providers: "@1,@1,\n@2,@1,@1\n",
+        inventories: "@1,VCPU,8,0,1,8,1,1.0\n@2,VCPU,8,0,1,8,1,1.0\n",
+        ..ONE
+    },
+    command: Command::Verify,
+    query: "resources1=VCPU:5&resources2=VCPU:5&group_policy=none",
+    ..TOKENS
+};
+
+fn left_by(rt: &(impl Abort + AllocGlobal), case: &Case) -> Result<Left, AllocError> {
+    let alloc = rt.alloc();
+    assert!(rt; case.command != Command::Verify || case.token.is_some());
+    let query = expanded(alloc, case.query)?;
+    let token = match case.token {
+        Some(token) => Some(expanded(alloc, token)?),
+        None => None,
+    };
+    let left = run_over(
+        alloc,
+        &case.rows,
+        case.command,
+        query.as_str(),
+        token.as_deref(),
+        SOUND,
+    )?;
+    Ok(left)
+}
+
+fn check(rt: &(impl Abort + AllocGlobal), case: Case) {
+    let Ok(output) = expanded(rt.alloc(), case.output) else {
+        return;
+    };
+    let Ok(left) = left_by(rt, &case) else {
+        return;
+    };
+    if left.status == 7 {
+        assert!(rt; left.line.as_str() == "out of memory\n");
+        assert!(rt; output.as_str().starts_with(left.output.as_str()));
+    } else {
+        expect_left(rt, &left, output.as_str(), case.line, case.status, 0);
+    }
+}
+
+#[test]
+fn answers_of_one_provider(rt: HostRuntime) {
+    check(&rt, TOKENS);
+    let body = Case {
+        command: Command::Candidates,
+        output: ONE_BODY,
+        ..TOKENS
+    };
+    check(&rt, body);
+    let counts = Case {
+        command: Command::Check,
+        output: "providers 1\ninventories 1\nusages 0\ntraits 0\naggregates 0\n",
+        ..TOKENS
+    };
+    check(&rt, counts);
+}
+
+#[test]
+fn explanations(rt: HostRuntime) {
+    let one = Case {
+        command: Command::Explain,
+        output: "slot 1 \"\" VCPU:2: units 1 of 1, traits 1, aggregates 1, tree 1, room 1\n\
+            trees 1: root traits 1, each slot 1\n\
+            candidates: some\n",
+        ..TOKENS
+    };
+    check(&rt, one);
+}
+
+#[test]
+fn verdicts(rt: HostRuntime) {
+    let candidate = Case {
+        token: Some("@1,@2"),
+        output: "candidate\n",
+        ..PAIR
+    };
+    check(&rt, candidate);
+    let unknown = Case {
+        token: Some("@1,@7"),
+        output: "unknown provider\n",
+        status: 1,
+        ..PAIR
+    };
+    check(&rt, unknown);
+}
+
+#[test]
+fn faults(rt: HostRuntime) {
+    let usage = Case {
+        rows: Rows {
+            usages: "@1,MEMORY_MB,1\n",
+            ..ONE
+        },
+        command: Command::Check,
+        output: "",
+        line: "usages: record 2: NoInventory\n",
+        status: 3,
+        ..TOKENS
+    };
+    check(&rt, usage);
+    let suffix = Case {
+        query: "resources1=VCPU:1&same_subtree=1,2",
+        output: "",
+        line: "query: group \"2\": UnknownSuffix\n",
+        status: 4,
+        ..TOKENS
+    };
+    check(&rt, suffix);
+    let token = Case {
+        command: Command::Tokens,
+        token: Some("@1"),
+        output: "",
+        line: "token: WrongLength\n",
+        status: 5,
+        ..PAIR
+    };
+    check(&rt, token);
+}

@@ -1,0 +1,137 @@
+//! What an explanation counts in small clouds, with the hand count beside each number.
+use crate::clouds::{NONE, Rows, cloud_of, query_of};
+use ac_rules::slots::count_slots;
+use ac_search::{SlotCounts, TreeCounts, slot_counts, tree_counts};
+use std::alloc::{AllocError, Global};
+
+// One provider more falls out at each stage: 01 has no inventory, and 02 admits no less than five; 03 has no trait; 04 is in
+// no aggregate; 05 is in another tree; of the eight units of 06 five are used, and of those of 07 four.
+const STAGES: Rows<'static> = Rows {
+    providers: "@01,@01,\n@02,@01,@01\n@03,@01,@01\n@04,@01,@01\n@05,@05,\n@06,@01,@01\n@07,@01,@01\n",
+    inventories: "@02,VCPU,8,0,5,8,1,1.0\n@03,VCPU,8,0,1,8,1,1.0\n@04,VCPU,8,0,1,8,1,1.0\n@05,VCPU,8,0,1,8,1,1.0\n@06,VCPU,8,0,1,8,1,1.0\n@07,VCPU,8,0,1,8,1,1.0\n",
+    usages: "@06,VCPU,5\n@07,VCPU,4\n",
+    traits: "@04,CUSTOM_A\n@05,CUSTOM_A\n@06,CUSTOM_A\n@07,CUSTOM_A\n",
+    aggregates: "@05,@a1\n@06,@a1\n@07,@a1\n",
+    ..NONE
+};
+
+// 01 and 03 have what is asked of the root, 05 and the sharing 09 don't. The disk of 09 reaches the tree of 01 by its child 02.
+const TREES: Rows<'static> = Rows {
+    providers: "@01,@01,\n@02,@01,@01\n@03,@03,\n@05,@05,\n@09,@09,\n",
+    inventories: "@01,VCPU,8,0,1,8,1,1.0\n@03,VCPU,8,0,1,8,1,1.0\n@05,VCPU,8,0,1,8,1,1.0\n@05,DISK_GB,9,0,1,9,1,1.0\n@09,DISK_GB,9,0,1,9,1,1.0\n",
+    traits: "@01,CUSTOM_R\n@03,CUSTOM_R\n@09,MISC_SHARES_VIA_AGGREGATE\n",
+    aggregates: "@02,@a1\n@09,@a1\n",
+    ..NONE
+};
+
+fn counts_slot(
+    alloc: Global,
+    rows: Rows,
+    query: &str,
+    s: usize,
+) -> Result<Option<SlotCounts>, AllocError> {
+    let Some(cloud) = cloud_of(alloc, rows)? else {
+        return Ok(None);
+    };
+    let Some(query) = query_of(alloc, query)? else {
+        return Ok(None);
+    };
+    if s < count_slots(&query) {
+        Ok(Some(slot_counts(&cloud, &query, s)))
+    } else {
+        Ok(None)
+    }
+}
+
+fn counts_trees(alloc: Global, rows: Rows, query: &str) -> Result<Option<TreeCounts>, AllocError> {
+    let Some(cloud) = cloud_of(alloc, rows)? else {
+        return Ok(None);
+    };
+    let Some(query) = query_of(alloc, query)? else {
+        return Ok(None);
+    };
+    Ok(tree_counts(alloc, &cloud, &query).ok())
+}
+
+#[test]
+fn each_stage(rt: HostRuntime) -> Result<(), AllocError> {
+    let query = "resources_A=VCPU:4&required_A=CUSTOM_A&member_of_A=@a1&in_tree_A=@01";
+    let want = SlotCounts {
+        // 03, 04, 05, 06 and 07
+        units: 5,
+        // 04, 05, 06 and 07
+        traits: 4,
+        // 05, 06 and 07
+        aggregates: 3,
+        // 06 and 07
+        tree: 2,
+        // 07
+        room: 1,
+    };
+    assert_eq!(rt; counts_slot(rt.alloc(), STAGES, query, 0)?, Some(want));
+    Ok(())
+}
+
+// The group without a suffix asks its traits of all its providers together, so no slot of it counts them.
+#[test]
+fn collective_traits(rt: HostRuntime) -> Result<(), AllocError> {
+    let want = SlotCounts {
+        // 03 to 07
+        units: 5,
+        traits: 5,
+        aggregates: 5,
+        tree: 5,
+        // 03, 04, 05 and 07
+        room: 4,
+    };
+    let query = "resources=VCPU:4&required=CUSTOM_A";
+    assert_eq!(rt; counts_slot(rt.alloc(), STAGES, query, 0)?, Some(want));
+    Ok(())
+}
+
+// A slot without classes has units and room wherever its traits are.
+#[test]
+fn traits_alone(rt: HostRuntime) -> Result<(), AllocError> {
+    let query = "resources_A=VCPU:4&required_B=CUSTOM_A&same_subtree=_A,_B";
+    let want = SlotCounts {
+        // all
+        units: 7,
+        // 04, 05, 06 and 07
+        traits: 4,
+        aggregates: 4,
+        tree: 4,
+        room: 4,
+    };
+    assert_eq!(rt; counts_slot(rt.alloc(), STAGES, query, 1)?, Some(want));
+    Ok(())
+}
+
+#[test]
+fn trees(rt: HostRuntime) -> Result<(), AllocError> {
+    let query = "resources=VCPU:4,DISK_GB:4&root_required=CUSTOM_R";
+    let want = TreeCounts {
+        // 01, 03, 05 and 09
+        roots: 4,
+        // 01 and 03
+        root_traits: 2,
+        // 01
+        each_slot: 1,
+    };
+    assert_eq!(rt; counts_trees(rt.alloc(), TREES, query)?, Some(want));
+    Ok(())
+}
+
+// Each slot has a provider at 01 and at 05, though nothing says that all slots fit together.
+#[test]
+fn any_root(rt: HostRuntime) -> Result<(), AllocError> {
+    let query = "resources_A=VCPU:8&resources_B=VCPU:8&resources_C=DISK_GB:4&group_policy=isolate";
+    let want = TreeCounts {
+        // 01, 03, 05 and 09
+        roots: 4,
+        root_traits: 4,
+        // 01 and 05
+        each_slot: 2,
+    };
+    assert_eq!(rt; counts_trees(rt.alloc(), TREES, query)?, Some(want));
+    Ok(())
+}

@@ -1,0 +1,74 @@
+//! What takes memory, made with each of its growths refused in turn: all candidates, the counts of trees, or want of memory. What a source gives takes none.
+use crate::clouds::{PAIR, cloud_of, query_of};
+use ac_base::NoMemory;
+use ac_query::{Query, Token};
+use ac_rules::{Plain, Source};
+use ac_search::{TreeCounts, Walk, tree_counts};
+use ac_tables::Cloud;
+use std::alloc::{AllocError, Global};
+use std::process::Abort;
+
+// The cloud, the query and a token before all candidates.
+fn given(alloc: Global) -> Result<Option<(Cloud, Query, Token)>, AllocError> {
+    let Some(cloud) = cloud_of(alloc, PAIR)? else {
+        return Ok(None);
+    };
+    let text = "resources1=VCPU:5&resources2=VCPU:5&group_policy=none";
+    let Some(query) = query_of(alloc, text)? else {
+        return Ok(None);
+    };
+    let nil = "00000000000000000000000000000000,00000000000000000000000000000000";
+    match Token::read(alloc, nil, &query) {
+        Ok(token) => Ok(Some((cloud, query, token))),
+        Err(_) => Ok(None),
+    }
+}
+
+fn gives_both<S: Source>(rt: &impl Abort, source: &mut S) {
+    for want in [[0u32, 1], [1, 0]] {
+        match source.next() {
+            Some(list) => assert!(rt; list == want.as_slice(), "the next list"),
+            None => assert!(rt; false, "a list is left"),
+        }
+    }
+    assert!(rt; source.next().is_none(), "the end");
+}
+
+#[test]
+fn plain(rt: HostRuntime) {
+    let Ok(Some((cloud, query, token))) = given(rt.alloc()) else {
+        return;
+    };
+    match Plain::new(rt.alloc(), &cloud, &query, Some(&token)) {
+        Ok(mut plain) => gives_both(&rt, &mut plain),
+        Err(fault) => assert_eq!(rt; fault, NoMemory),
+    }
+}
+
+#[test]
+fn walk(rt: HostRuntime) {
+    let Ok(Some((cloud, query, token))) = given(rt.alloc()) else {
+        return;
+    };
+    match Walk::new(rt.alloc(), &cloud, &query, Some(&token)) {
+        Ok(mut walk) => gives_both(&rt, &mut walk),
+        Err(fault) => assert_eq!(rt; fault, NoMemory),
+    }
+}
+
+#[test]
+fn counts(rt: HostRuntime) {
+    let Ok(Some((cloud, query, _token))) = given(rt.alloc()) else {
+        return;
+    };
+    // Both slots fit 01 and 02, which are one tree.
+    let want = TreeCounts {
+        roots: 1,
+        root_traits: 1,
+        each_slot: 1,
+    };
+    match tree_counts(rt.alloc(), &cloud, &query) {
+        Ok(counts) => assert_eq!(rt; counts, want),
+        Err(fault) => assert_eq!(rt; fault, NoMemory),
+    }
+}

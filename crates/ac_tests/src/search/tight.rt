@@ -1,0 +1,165 @@
+//! The walk beside the plain source, over clouds that are made to be tight: few units, much used, some of it shared, groups
+//! isolated and below one another.
+use super::gives;
+use crate::clouds::{NONE, Rows};
+use std::alloc::{AllocError, Global};
+use std::test::Fail;
+
+// Numbers that look like chance, the same in each run.
+#[derive(Drop)]
+struct Dice {
+    state: u64,
+}
+
+impl Dice {
+    // A number below a bound that isn't 0.
+    fn roll(&mut self, bound: u64) -> u64 {
+        self.state = self
+            .state
+            .wrapping_mul(6_364_136_223_846_793_005)
+            .wrapping_add(1_442_695_040_888_963_407);
+        (self.state >> 33).checked_rem(bound).unwrap_or(0)
+    }
+
+    // Once in so many times.
+    fn once_in(&mut self, bound: u64) -> bool {
+        self.roll(bound) == 0
+    }
+}
+
+const PROVIDERS: u64 = 6;
+
+fn push_digit(text: &mut String, n: u64) -> Result<(), AllocError> {
+    text.push(char::from(b'0' + (n % 10) as u8))
+}
+
+// Text with a provider in the place of `@`, and a number in that of `#`.
+fn push_row(text: &mut String, piece: &str, provider: u64, n: u64) -> Result<(), AllocError> {
+    for c in piece.chars() {
+        match c {
+            '@' => {
+                text.push_str("@0")?;
+                push_digit(text, provider)?;
+            }
+            '#' => push_digit(text, n)?,
+            other => text.push(other)?,
+        }
+    }
+    Ok(())
+}
+
+// Providers in trees: each begins one or stands below an earlier one.
+fn push_providers(text: &mut String, alloc: Global, dice: &mut Dice) -> Result<(), AllocError> {
+    let mut roots = Vec::new(alloc);
+    for ix in 1..=PROVIDERS {
+        let at = dice.roll(ix) as usize;
+        let mut root = ix;
+        let mut parent = 0;
+        if at < roots.len() && !dice.once_in(4) {
+            root = roots[at];
+            parent = at as u64 + 1;
+        }
+        push_row(text, "@,", ix, 0)?;
+        push_row(text, "@,", root, 0)?;
+        if parent > 0 {
+            push_row(text, "@", parent, 0)?;
+        }
+        text.push('\n')?;
+        roots.push(root)?;
+    }
+    Ok(())
+}
+
+// One of three classes.
+fn class(dice: &mut Dice) -> &'static str {
+    match dice.roll(3) {
+        0 => "VCPU",
+        1 => "DISK_GB",
+        _ => "SRIOV_NET_VF",
+    }
+}
+
+// A few groups, of which some stand apart or below one another.
+fn push_query(text: &mut String, dice: &mut Dice) -> Result<(), AllocError> {
+    if dice.once_in(3) {
+        text.push_str("resources=")?;
+        text.push_str(class(dice))?;
+        text.push_str(":1&")?;
+    }
+    for group in ["_A", "_B", "_C"] {
+        text.push_str("resources")?;
+        text.push_str(group)?;
+        text.push('=')?;
+        text.push_str(class(dice))?;
+        text.push(':')?;
+        push_digit(text, dice.roll(2).saturating_add(1))?;
+        text.push('&')?;
+    }
+    match dice.roll(5) {
+        0 => text.push_str("same_subtree=_A,_B&")?,
+        1 => text.push_str("same_subtree=_B,_C&")?,
+        2 => text.push_str("same_subtree=_A,_B,_C&")?,
+        3 => text.push_str("same_subtree=_A,_C&same_subtree=_B,_C&")?,
+        _ => {}
+    }
+    text.push_str(if dice.once_in(2) {
+        "group_policy=isolate"
+    } else {
+        "group_policy=none"
+    })
+}
+
+// Whether both sources give the same in one such cloud.
+fn agree(alloc: Global, dice: &mut Dice) -> Result<bool, AllocError> {
+    let mut providers = String::new(alloc);
+    push_providers(&mut providers, alloc, dice)?;
+    let mut inventories = String::new(alloc);
+    let mut usages = String::new(alloc);
+    let mut traits = String::new(alloc);
+    let mut aggregates = String::new(alloc);
+    for ix in 1..=PROVIDERS {
+        for name in ["VCPU", "DISK_GB", "SRIOV_NET_VF"] {
+            if dice.once_in(2) {
+                let total = dice.roll(3).saturating_add(1);
+                push_row(&mut inventories, "@,", ix, 0)?;
+                inventories.push_str(name)?;
+                push_row(&mut inventories, ",#,0,1,3,1,1.0\n", ix, total)?;
+                if dice.once_in(4) {
+                    push_row(&mut usages, "@,", ix, 0)?;
+                    usages.push_str(name)?;
+                    push_row(&mut usages, ",#\n", ix, total)?;
+                }
+            }
+        }
+        if dice.once_in(3) {
+            push_row(&mut traits, "@,MISC_SHARES_VIA_AGGREGATE\n", ix, 0)?;
+        }
+        if dice.once_in(2) {
+            push_row(&mut aggregates, "@,", ix, 0)?;
+            aggregates.push_str("@9")?;
+            push_digit(&mut aggregates, dice.roll(2))?;
+            aggregates.push('\n')?;
+        }
+    }
+    let mut query = String::new(alloc);
+    push_query(&mut query, dice)?;
+    let rows = Rows {
+        providers: providers.as_str(),
+        inventories: inventories.as_str(),
+        usages: usages.as_str(),
+        traits: traits.as_str(),
+        aggregates: aggregates.as_str(),
+        ..NONE
+    };
+    let text = gives(alloc, rows, query.as_str(), None, 2000)?;
+    Ok(!text.as_str().is_empty())
+}
+
+#[test]
+fn both_sources_agree_on_tight_clouds(rt: HostRuntime) -> Result<(), Fail> {
+    let mut dice = Dice { state: 20 };
+    for _ in 0..30 {
+        assert!(rt; agree(rt.alloc(), &mut dice)?);
+    }
+    Ok(())
+}
