@@ -197,7 +197,7 @@ GROWTHS = [
 
 # The calls that take memory, each by itself: those of the libraries, and of the program.
 REFUSALS = [Case(f'each growth refused, in the tests of {crate}', ['sh', '-c', f'exec python3 -B tests/refusals.py {crate}'], SOME)
-            for crate in ('ac_tests', 'ac_cli')]
+            for crate in ('ac_base', 'ac_tests', 'ac_cli')]
 
 
 def status_of(text):

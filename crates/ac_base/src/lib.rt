@@ -29,3 +29,6 @@ pub use name::{ClassName, Names, NoMemory, Suffix, TraitName};
 pub use number::{Ratio, read_count};
 pub use pushing::{WriteFailed, push_all};
 pub use to_write::ToWrite;
+
+#[cfg(test)]
+mod tests;
