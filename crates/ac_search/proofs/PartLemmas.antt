@@ -1,12 +1,12 @@
 -- In a candidate, the providers that a list of `same_subtree` names stand in one part.
-use Rattle.std.proofs.Common.{inl, inr, ◌⊎◌, ◌≤◌, rules, ◌≡◌, ◌∙◌, ℕ, ◌<◌, zero, suc, Bool, true, false, List, [], ◌∷◌, ◌++◌, length, map, take, drop, Option, None, Some, refl, sym, ap, subst, arith, slice_index, slice_index_or, get_or, length-take-le}
+use Rattle.std.proofs.Common.{inl, inr, ◌⊎◌, ◌≤◌, rules, ◌≡◌, ◌∙◌, ℕ, ◌<◌, zero, suc, Bool, true, false, List, [], ◌∷◌, ◌++◌, length, map, take, drop, Option, None, Some, refl, sym, ap, subst, arith, slice_index, slice_index_or, get_or, length-take-le, length-append}
 use Rattle.std.specs.Prelude.{◌==◌, IfSome}
 use Rattle.std.specs.Option.{option_map, unwrap_or}
 use Rattle.std.specs.List.{list_any}
 use Rattle.std.specs.Global.{Vec}
 use Rattle.std.proofs.Math.Seq.{drop-cons}
 use Rattle.std.proofs.lemmas.Bool.{cases_Bool, cases_eq, cases_order, eq-eqb, ne_eqb, false≢true}
-use Rattle.std.proofs.lemmas.List.{get_or_past, take-append-drop}
+use Rattle.std.proofs.lemmas.List.{get_or_past, take-append-drop, get_or-map, get_or_append_left, get_or_push}
 use Rattle.std.proofs.lemmas.List.Folds.{list_all_at}
 use Rattle.std.proofs.lemmas.List.Elements.{recursion_from_All}
 use Rattle.ac_query.specs.Asked.{Asked, Slot, slots_of, lists_suffix}
@@ -19,7 +19,7 @@ use Rattle.ac_rules.specs.Placed.{Placed, placed, slot_at, no_slot, assigned}
 use Rattle.ac_rules.specs.Together.{listed, is_top, subtree}
 use Rattle.ac_rules.specs.Judge.{tests, all_hold, is_candidate}
 use Rattle.ac_search.specs.Keys.{is_there}
-use Rattle.ac_search.specs.Search.{choices_at}
+use Rattle.ac_search.specs.Search.{choices_at, IsDead}
 use Rattle.ac_search.specs.QuerySearch.{choice_of, choices_of, search_of}
 use Rattle.ac_search.specs.Parts.{IsNamed, AreParts, AreTops, AreLinked, KeepSeen}
 use Rattle.ac_rules.proofs.Elements.{Among}
@@ -208,3 +208,22 @@ seen_parts all asked names old new s serves named was served keeps = record {
     stays t u list candidate other =
         let place = place_of (choice_of all asked (slot_at asked s)) (slice_index t s) (choice_there all asked t s list candidate named.0) in
         keeps.kept (slice_index t u) place.0 (omega (arith, each_low all asked t u list other.0, was.count)) place.1 (subst (λ (x : ℕ). serves x ≡ true) (sym (place.2 0)) (served t list candidate)) (ap (slice_index old) (place.2 0) ∙ was.one t s u list candidate named other)
+
+-- ---- Who can't stand with a front
+
+pub named_at : (names : List (List ℕ)) (ss : List Slot) (named : List Bool) (s : ℕ) (d : Bool) → named ≡ map (λ (x : Slot). lists_suffix names x.suffix) ss → s < length ss → slice_index_or named s d ≡ true
+    → lists_suffix names (slice_index_or ss s no_slot).suffix ≡ true
+named_at names ss named s d is h mark = sym (get_or-map (λ (x : Slot). lists_suffix names x.suffix) ss s no_slot d h) ∙ (ap (λ (bs : List Bool). slice_index_or bs s d) (sym is) ∙ mark)
+
+-- no candidate goes on from a front by a provider of another part
+pub kin_dead : (all : List Provider) (asked : Asked) (names : List (List ℕ)) (parts : List ℕ) → AreParts all asked names parts → (front : List ℕ) (p first : ℕ) → IsNamed asked names (length front) → IsNamed asked names first
+    → first < length front → (slice_index parts p ≡ slice_index parts (slice_index front first) → ⊥) → IsDead (search_of all asked) (front ++ p ∷ [])
+kin_dead all asked names parts are front p first here there less differ v list =
+    let t = (front ++ p ∷ []) ++ v in
+    let size = length-append front (p ∷ []) in
+    let last : slice_index t (length front) ≡ p = get_or_append_left (front ++ p ∷ []) v 0 (length front) (omega (arith, size)) ∙ get_or_push front p 0 (length front) refl in
+    let early : slice_index t first ≡ slice_index front first = get_or_append_left (front ++ p ∷ []) v 0 first (omega (arith, size, less)) ∙ get_or_append_left front (p ∷ []) 0 first less in
+    elim (cases_Bool (is_candidate all asked t)) [
+      | inr e ↦ e
+      | inl e ↦ absurd (differ (ap (slice_index parts) (sym last) ∙ (are.one t (length front) first list e here there ∙ ap (slice_index parts) early)))
+    ]

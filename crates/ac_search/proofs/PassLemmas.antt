@@ -1,5 +1,5 @@
 -- A walk passes over choices that lead to no open list: no try is made, and nothing that is left is lost.
-use Rattle.std.proofs.Common.{◌≡◌, ℕ, ◌+◌, ◌<◌, ◌≤◌, ◌-◌, zero, suc, Bool, true, false, List, [], ◌∷◌, ◌++◌, length, take, set, inl, inr, None, Some, refl, sym, ap, ◌∙◌, subst, arith, get_or-set_same, slice_index_or, length-append, length-take-le}
+use Rattle.std.proofs.Common.{◌≡◌, ℕ, ◌+◌, ◌<◌, ◌≤◌, ◌-◌, zero, suc, Bool, true, false, List, [], ◌∷◌, ◌++◌, length, take, set, inl, inr, None, Some, refl, sym, ap, ◌∙◌, subst, arith, get_or, get_or-set_same, slice_index_or, length-append, length-take-le}
 use Rattle.std.specs.List.{slice_index}
 use Rattle.std.specs.Global.{Vec}
 use Rattle.std.proofs.lemmas.Bool.{cases_order}
@@ -8,7 +8,9 @@ use Rattle.ac_tables.specs.World.{Provider, is_available_at, anchors_of}
 use Rattle.ac_search.specs.Accounts.{providers_in, asked_in}
 use Rattle.ac_search.specs.Keys.{is_there}
 use Rattle.ac_search.specs.Trees.{IsByTree}
+use Rattle.ac_search.specs.Families.{IsFamily, choices_here}
 use Rattle.ac_search.specs.declared.trees.ByTree.{ByTree}
+use Rattle.ac_search.specs.declared.families.Family.{Family}
 use Rattle.ac_rules.specs.Order.{lex_lt}
 use Rattle.ac_search.specs.Search.{Search, choices_at, next_at, next_front, left_from, IsDead, AllDead, IsSound}
 use Rattle.ac_search.specs.WalkShown.{search_in, front_in}
@@ -140,6 +142,36 @@ dead_then m q d from at to before here behind i above less = elim (cases_order i
   | inl e ↦ subst (λ (j : ℕ). IsDead m (q ++ next_at m d j ∷ [])) (sym e) here
   | inr o ↦ elim o [ inl l ↦ before i above l | inr g ↦ behind i (omega (arith, g)) less ]
 ]
+
+-- some places up to one, and those from there on
+pub dead_on : (m : Search) (q : List ℕ) (d from at to : ℕ) → AllDead m q d from at → AllDead m q d at to → AllDead m q d from to
+dead_on m q d from at to before behind i above less = elim (cases_order i at) [
+  | inl e ↦ behind i (omega (arith, e)) less
+  | inr o ↦ elim o [ inl l ↦ before i above l | inr g ↦ behind i (omega (arith, g)) less ]
+]
+
+-- ---- Choices of other parts
+
+-- a list of `same_subtree` that was read
+pub family_at : (w : Walk) (list : List Family) (i : ℕ) (f : Family) → list ≡ w.families.items → i < length list → f ≡ slice_index_or list i f → IsFamily (providers_in w.ledger) (asked_in w.ledger) (get_or (asked_in w.ledger).subtrees i []) f
+family_at w list i f same h is =
+    let names = get_or (asked_in w.ledger).subtrees i [] in
+    subst (IsFamily (providers_in w.ledger) (asked_in w.ledger) names) (sym (is ∙ ap (λ (l : List Family). slice_index_or l i f) same)) (w.grouped i f (omega (arith, h, ap length same)))
+
+-- the choices behind a path are those of the slot
+pub here_at : (w : Walk) (q : List ℕ) → q ≡ take w.depth w.path.items → choices_here (providers_in w.ledger) (asked_in w.ledger) q ≡ choices_at (search_in w) w.depth
+unfolding choices_at
+here_at w q is = ap (λ (n : ℕ). slice_index_or (search_in w).choices n []) (ap length is ∙ length-take-le w.depth w.path.items (omega (arith, w.sound.path_len, w.sound.within)))
+
+-- the places before the next one in the part of the path lead to nothing
+pub apart_dead : (w : Walk) (q : List ℕ) (from next : ℕ) → q ≡ take w.depth w.path.items → next ≤ length (choices_at (search_in w) w.depth)
+    → ((i : ℕ) → from ≤ i → i < next → IsDead (search_in w) (q ++ slice_index (choices_here (providers_in w.ledger) (asked_in w.ledger) q) i ∷ []))
+    → AllDead (search_in w) (take w.depth w.path.items) w.depth from next
+apart_dead w q from next is within dead i above less =
+    let m = search_in w in
+    let same : slice_index (choices_here (providers_in w.ledger) (asked_in w.ledger) q) i ≡ next_at m w.depth i =
+    ap (λ (l : List ℕ). slice_index l i) (here_at w q is) ∙ get_or_default (choices_at m w.depth) i 0 m.count (omega (arith, less, within)) in
+    subst (λ (l : List ℕ). IsDead m (l ++ next_at m w.depth i ∷ [])) is (subst (λ (p : ℕ). IsDead m (q ++ p ∷ [])) same (dead i above less))
 
 -- it stands behind places that lead to nothing
 pub stands_behind : (w : Walk) (next : ℕ) → slice_index w.places.items w.depth < next → next ≤ length (choices_at (search_in w) w.depth)

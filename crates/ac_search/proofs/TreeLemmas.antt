@@ -1,6 +1,8 @@
 -- Choices by tree, and the trees to which a front is bound.
-use Rattle.std.proofs.Common.{◌≡◌, ◌∙◌, ℕ, ◌<◌, ◌≤◌, suc, Bool, true, false, ◌||◌, List, [], ◌∷◌, ◌++◌, inl, inr, length, map, refl, sym, ap, subst, arith, get_or}
+use Rattle.std.proofs.Common.{◌≡◌, ◌∙◌, ℕ, ◌<◌, ◌≤◌, suc, Bool, true, false, ◌||◌, List, [], ◌∷◌, ◌++◌, inl, inr, length, map, refl, sym, ap, subst, arith, get_or, slice_index_or}
+use Rattle.std.proofs.lemmas.List.{get_or-map}
 use Rattle.std.specs.Prelude.{◌==◌}
+use Rattle.std.specs.Global.{Vec}
 use Rattle.std.specs.List.{list_all, list_any, range_with_len, Contains, AllByRecursion as Each}
 use Rattle.std.proofs.lemmas.Bool.{cases_Bool, cases_eq, and_parts, eq-eqb, ne_eqb, false≢true, false_from_ne_true}
 use Rattle.std.proofs.lemmas.List.Folds.{list_all-append, list_any-append, list_any_at}
@@ -53,8 +55,15 @@ pub or_right : (b d : Bool) → d ≡ true → (b || d) ≡ true
 or_right true d h = refl
 or_right false d h = h
 
+-- the list that was read, of some lists
+pub list_at : (lists : List (Vec ℕ)) (s : ℕ) (v : Vec ℕ) (list : List ℕ) → s < length lists → v ≡ slice_index_or lists s v → list ≡ v.items → list ≡ slice_index_or (map (λ (u : Vec ℕ). u.items) lists) s []
+list_at lists s v list h is same = same ∙ (ap (λ (u : Vec ℕ). u.items) is ∙ sym (get_or-map (λ (u : Vec ℕ). u.items) lists s v [] h))
+
 pub there_new : (xs ys : List ℕ) (x : ℕ) → is_there ys x ≡ true → is_there (xs ++ ys) x ≡ true
 there_new xs ys x h = list_any-append (λ y. y == x) xs ys ∙ or_right _ _ h
+
+pub there_old : (xs ys : List ℕ) (x : ℕ) → is_there xs x ≡ true → is_there (xs ++ ys) x ≡ true
+there_old xs ys x h = list_any-append (λ y. y == x) xs ys ∙ or_left _ _ h
 
 pub there_map : (f : ℕ → ℕ) (xs : List ℕ) (x y : ℕ) → is_there xs x ≡ true → y ≡ f x → is_there (map f xs) y ≡ true
 there_map f [] x y h e = absurd (false≢true h)

@@ -1,7 +1,7 @@
 -- The choices of slots by tree.
-use Rattle.std.specs.Prelude.{◌≡◌, ℕ, ◌<◌, true, List, [], length, slice_index, slice_index_or}
+use Rattle.std.specs.Prelude.{◌≡◌, ℕ, ◌<◌, ◌≤◌, true, List, [], length, slice_index, slice_index_or}
 use Rattle.ac_tables.specs.World.{Provider, is_available_at}
-use Rattle.ac_search.specs.Keys.{IsUnder}
+use Rattle.ac_search.specs.Keys.{key_of, is_there, IsUnder}
 use Rattle.ac_search.specs.declared.trees.ByTree.{ByTree}
 
 -- each choice has its place in each tree in which it is available, or in the one past all others
@@ -9,6 +9,16 @@ pub record IsByTree (all : List Provider) (choices : List ℕ) (trees : ByTree) 
   pub wide : trees.wide ≡ length all
   pub count : trees.count ≡ length choices
   pub placed : (i r : ℕ) → i < length choices → r < length all → is_available_at all (slice_index choices i) r ≡ true → IsUnder trees.keys.items (length all) r i
+
+-- each of the first choices has its place in its part
+pub record IsByPart (choices parts : List ℕ) (places : ByTree) : Type 0 where
+  pub count : places.count ≤ length choices
+  pub placed : (i : ℕ) → i < places.count → is_there places.keys.items (key_of (slice_index parts (slice_index choices i)) i) ≡ true
+
+-- so have those of each slot
+pub record AreByPart (choices : List (List ℕ)) (parts : List ℕ) (all : List ByTree) : Type 0 where
+  pub count : length all ≡ length choices
+  pub each : (s : ℕ) (d : ByTree) → s < length choices → IsByPart (slice_index_or choices s []) parts (slice_index_or all s d)
 
 pub record AreByTree (all : List Provider) (choices : List (List ℕ)) (trees : List ByTree) : Type 0 where
   pub count : length trees ≡ length choices

@@ -1,6 +1,7 @@
 //! The lists of `same_subtree`: which slots each names, and in which parts of the forest their providers stand together.
 
-ghost use Rattle.std.specs.Prelude.{◌≡◌, ◌<◌, ◌≤◌, ◌++◌, ◌∷◌, ℕ, List, [], true, false, length, map, get_or, slice_index_or, IfOk};
+ghost use Rattle.std.specs.Prelude.{◌≡◌, ◌<◌, ◌≤◌, ◌++◌, ◌∷◌, ℕ, List, [], true, false, length, map, get_or, slice_index, slice_index_or, IfOk};
+ghost use Rattle.ac_search.specs.Trees.{IsByPart, AreByPart};
 ghost use Rattle.std.specs.List.{All};
 ghost use Rattle.ac_query.specs.Asked.{Asked, slots_of, lists_suffix};
 ghost use Rattle.ac_query.specs.QueriesShown.{asked_of};
@@ -13,6 +14,7 @@ ghost use Rattle.ac_search.specs.Search.{IsDead};
 
 use crate::ledger::Ledger;
 use crate::parts::parts_of;
+use crate::trees::ByTree;
 use ac_base::NoMemory;
 use ac_query::Query;
 use ac_rules::slots::{count_slots, is_listed};
@@ -20,6 +22,8 @@ use std::alloc::Global;
 
 // How many lists are looked at ahead; further ones are judged when all slots have a provider, as all are.
 const MOST: usize = 16;
+// How many choices of a list's slots are kept by part.
+const MOST_PLACES: usize = 1 << 18;
 
 /// A list of `same_subtree`.
 #[derive(Drop)]
@@ -30,6 +34,8 @@ pub(crate) struct Family {
     first: usize,
     // For each provider its part.
     parts: Vec<u32>,
+    // For each slot that is named the places of its choices by part, where they aren't too many; none of the others.
+    places: Vec<ByTree>,
 }
 
 // For each slot whether a list names it.
@@ -56,8 +62,52 @@ fn first_marked(marks: &[bool]) -> usize
     marks.len()
 }
 
+// How many choices the slots that a list names have together.
+fn count_named(named: &[bool], choices: &[Vec<u32>]) -> usize {
+    let mut count = 0usize;
+    for (is_named, list) in named.iter().zip(choices) {
+        if *is_named {
+            count = count.saturating_add(list.len());
+        }
+    }
+    count
+}
+
+// The places of a slot's choices by part, where they are wanted; none otherwise.
+fn places_of(alloc: Global, wanted: bool, list: &[u32], parts: &[u32]) -> Result<ByTree, NoMemory>
+    requires few { length list.now ≤ 65536 }
+    requires providers { All (λ p. p < length parts.now) list.now }
+    ensures { IfOk result (λ places. IsByPart list.now parts.now places) }
+{
+    if wanted {
+        ByTree::by_part(alloc, list, parts)
+    } else {
+        ByTree::by_part(alloc, &[], parts)
+    }
+}
+
+// Those of all slots.
+fn all_places(
+    alloc: Global,
+    named: &[bool],
+    choices: &[Vec<u32>],
+    parts: &[u32],
+) -> Result<Vec<ByTree>, NoMemory>
+    requires named { length named.now ≡ length choices.now }
+    requires few { (s : ℕ) → s < length choices.now → length (slice_index_or (map (λ v. v.items) choices.now) s []) ≤ 65536 }
+    requires providers { (s : ℕ) → s < length choices.now → All (λ p. p < length parts.now) (slice_index_or (map (λ v. v.items) choices.now) s []) }
+    ensures { IfOk result (λ all. AreByPart (map (λ v. v.items) choices.now) parts.now all.items) }
+{
+    let few = count_named(named, choices) <= MOST_PLACES;
+    let mut all = Vec::new(alloc);
+    for (s, list) in choices.iter().enumerate() {
+        all.push(places_of(alloc, few && named[s], list, parts)?)?;
+    }
+    Ok(all)
+}
+
 impl Family {
-    ghost use Rattle.ac_search.specs.Families.{IsFamily, AreFamilies};
+    ghost use Rattle.ac_search.specs.Families.{IsFamily, AreFamilies, choices_here};
 
     // The list at a place.
     fn new(
@@ -74,10 +124,12 @@ impl Family {
         let parts = parts_of(alloc, ledger, k, choices)?;
         let named = named_slots(alloc, ledger.query, k)?;
         let first = first_marked(&named);
+        let places = all_places(alloc, &named, choices, &parts)?;
         Ok(Family {
             named,
             first,
             parts,
+            places,
         })
     }
 
@@ -116,5 +168,26 @@ impl Family {
             return part == other;
         }
         (part as usize) < self.parts.len()
+    }
+
+    /// The least place from one on of the choice of the next slot that may stand with a front; past the end where there is none.
+    pub(crate) fn next(&self, front: &[u32], from: usize) -> usize
+        requires slots { length front.now < length self.now.named.items }
+        requires places { length front.now < length self.now.places.items }
+        requires front { All (λ p. p < length self.now.parts.items) front.now }
+        ensures from { from ≤ result }
+        ensures within { (all : List Provider) (asked : Asked) (names : List (List ℕ)) → IsFamily all asked names self.now → from ≤ length (choices_here all asked front.now) → result ≤ length (choices_here all asked front.now) }
+        ensures passed { (all : List Provider) (asked : Asked) (names : List (List ℕ)) → IsFamily all asked names self.now → (i : ℕ) → from ≤ i → i < result → IsDead (search_of all asked) (front.now ++ slice_index (choices_here all asked front.now) i ∷ []) }
+    {
+        let s = front.len();
+        if !self.named[s] || self.first >= s {
+            return from;
+        }
+        let places = &self.places[s];
+        if from < places.len() {
+            places.next_in(self.parts[front[self.first] as usize], from)
+        } else {
+            from
+        }
     }
 }

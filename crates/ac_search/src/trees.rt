@@ -94,7 +94,7 @@ fn least_from(numbers: &[u64], bound: u64) -> u64
 }
 
 impl ByTree {
-    ghost use Rattle.ac_search.specs.Trees.{IsByTree, AreByTree};
+    ghost use Rattle.ac_search.specs.Trees.{IsByTree, AreByTree, IsByPart};
 
     fn new(alloc: Global, cloud: &Cloud, choices: &[u32]) -> Result<ByTree, NoMemory>
         requires few { length choices.now ≤ length (providers_of cloud.now) }
@@ -111,6 +111,24 @@ impl ByTree {
             keys,
             count: choices.len(),
             wide: cloud.len(),
+        })
+    }
+
+    /// The places of a slot's choices by their parts of the forest, a number for each provider.
+    pub(crate) fn by_part(alloc: Global, choices: &[u32], parts: &[u32]) -> Result<ByTree, NoMemory>
+        requires few { length choices.now ≤ 65536 }
+        requires providers { All (λ p. p < length parts.now) choices.now }
+        ensures { IfOk result (λ places. IsByPart choices.now parts.now places) }
+    {
+        let mut keys = Vec::new(alloc);
+        for (place, ix) in choices.iter().enumerate() {
+            keys.push(key(parts[*ix as usize], place))?;
+        }
+        keys.sort_unstable();
+        Ok(ByTree {
+            keys,
+            count: choices.len(),
+            wide: 0,
         })
     }
 
@@ -131,8 +149,15 @@ impl ByTree {
         Ok(all)
     }
 
-    // The least place from one on in a tree; past the end where there is none.
-    fn next_in(&self, tree: u32, from: usize) -> usize
+    /// How many choices there are.
+    pub(crate) fn len(&self) -> usize
+        ensures { result ≡ self.now.count }
+    {
+        self.count
+    }
+
+    /// The least place from one on in a tree, or in a part; past the end where there is none.
+    pub(crate) fn next_in(&self, tree: u32, from: usize) -> usize
         requires { from ≤ self.now.count }
         ensures { IsNextIn self.now.keys.items self.now.count tree from result }
     {

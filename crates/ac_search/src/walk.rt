@@ -308,7 +308,7 @@ impl<'a> Walk<'a> {
     }
 
     // The least place from one on whose choice may be available where a provider of the path is; past the end where there is none.
-    fn place_beside(&self, provider: Option<u32>, from: usize) -> usize
+    fn place_in_trees(&self, provider: Option<u32>, from: usize) -> usize
         requires path { IfSome provider (λ p. is_there (take self.now.depth self.now.path.items) p ≡ true) }
         requires from { from ≤ length (choices_at (search_in self.now) self.now.depth) }
         ensures from { from ≤ result }
@@ -319,6 +319,32 @@ impl<'a> Walk<'a> {
             Some(ix) => self.trees[self.depth].next(self.ledger.cloud.anchors(ix), from),
             None => from,
         }
+    }
+
+    // The least place from one on whose choice may be in the part of the path, for each list of `same_subtree`; past the end
+    // where there is none.
+    fn place_in_parts(&self, from: usize) -> usize
+        requires { from ≤ length (choices_at (search_in self.now) self.now.depth) }
+        ensures from { from ≤ result }
+        ensures within { result ≤ length (choices_at (search_in self.now) self.now.depth) }
+        ensures dead { AllDead (search_in self.now) (take self.now.depth self.now.path.items) self.now.depth from result }
+    {
+        let mut place = from;
+        for family in &self.families {
+            place = family.next(&self.path[..self.depth], place);
+        }
+        place
+    }
+
+    // The least place from one on whose choice may stand beside the path, by trees and by parts; past the end where there is none.
+    fn place_beside(&self, provider: Option<u32>, from: usize) -> usize
+        requires path { IfSome provider (λ p. is_there (take self.now.depth self.now.path.items) p ≡ true) }
+        requires from { from ≤ length (choices_at (search_in self.now) self.now.depth) }
+        ensures from { from ≤ result }
+        ensures within { result ≤ length (choices_at (search_in self.now) self.now.depth) }
+        ensures dead { AllDead (search_in self.now) (take self.now.depth self.now.path.items) self.now.depth from result }
+    {
+        self.place_in_parts(self.place_in_trees(provider, from))
     }
 
     // The least place from the one that is next on whose choice may follow; past the end where there is none.

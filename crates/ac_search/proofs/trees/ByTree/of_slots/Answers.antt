@@ -1,14 +1,11 @@
 use Rattle.std.proofs.Common.{◌≡◌, ◌∙◌, ◌<◌, ◌≤◌, ◌∷◌, [], ℕ, List, length, map, slice_index_or, inl, inr, sym, ap, arith, subst, length-append}
 use Rattle.std.specs.List.{All}
-use Rattle.std.specs.Global.{Vec}
 use Rattle.std.proofs.lemmas.Bool.{cases_eq}
-use Rattle.std.proofs.lemmas.List.{get_or-map, get_or_append_left, get_or_push}
+use Rattle.std.proofs.lemmas.List.{get_or_append_left, get_or_push}
 use Rattle.ac_tables.specs.CloudWorld.{providers_of}
 use Rattle.ac_search.specs.Trees.{IsByTree}
+use Rattle.ac_search.proofs.TreeLemmas.{list_at}
 use Rattle.ac_search.proofs.trees.ByTree.of_slots.Goals as goal
-
-list_at : (lists : List (Vec ℕ)) (s : ℕ) (v : Vec ℕ) (list : List ℕ) → s < length lists → v ≡ slice_index_or lists s v → list ≡ v.items → list ≡ slice_index_or (map (λ (u : Vec ℕ). u.items) lists) s []
-list_at lists s v list h is same = same ∙ (ap (λ (u : Vec ℕ). u.items) is ∙ sym (get_or-map (λ (u : Vec ℕ). u.items) lists s v [] h))
 
 pub new-requires-clause-few : goal.new-requires-clause-few
 new-requires-clause-few c =

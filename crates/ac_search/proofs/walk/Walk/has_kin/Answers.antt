@@ -1,25 +1,16 @@
-use Rattle.std.proofs.Common.{◌≡◌, ◌∙◌, ◌<◌, ◌++◌, ◌∷◌, [], ℕ, List, length, take, get_or, slice_index_or, sym, ap, subst, arith}
+use Rattle.std.proofs.Common.{◌<◌, ◌++◌, ◌∷◌, [], ℕ, List, length, take, get_or, sym, subst, arith}
 use Rattle.std.specs.List.{All}
 use Rattle.std.proofs.lemmas.List.Elements.{All-from_recursion}
 use Rattle.ac_search.specs.Accounts.{providers_in, asked_in}
-use Rattle.ac_search.specs.Families.{IsFamily}
 use Rattle.ac_search.specs.Search.{IsDead}
 use Rattle.ac_search.specs.WalkShown.{search_in}
-use Rattle.ac_search.specs.declared.walk.Walk.{Walk}
-use Rattle.ac_search.specs.declared.families.Family.{Family}
 use Rattle.ac_search.proofs.MoveLemmas.{path_low}
 use Rattle.ac_search.proofs.StepLemmas.{laws_in}
-use Rattle.ac_search.proofs.PassLemmas.{choices_many, choice_read, choice_low}
+use Rattle.ac_search.proofs.PassLemmas.{family_at, choices_many, choice_read, choice_low}
 use Rattle.ac_search.proofs.walk.Walk.has_kin.Goals as goal
 
 pub index-provider-requires : goal.index-provider-requires
 index-provider-requires c = omega (arith, c.requires.among, choices_many c.args.self.now c.index.result.now c.index.ensures)
-
--- a list of `same_subtree` that was read
-family_at : (w : Walk) (list : List Family) (i : ℕ) (f : Family) → list ≡ w.families.items → i < length list → f ≡ slice_index_or list i f → IsFamily (providers_in w.ledger) (asked_in w.ledger) (get_or (asked_in w.ledger).subtrees i []) f
-family_at w list i f same h is =
-    let names = get_or (asked_in w.ledger).subtrees i [] in
-    subst (IsFamily (providers_in w.ledger) (asked_in w.ledger) names) (sym (is ∙ ap (λ (l : List Family). slice_index_or l i f) same)) (w.grouped i f (omega (arith, h, ap length same)))
 
 pub admits-requires-clause-front : goal.admits-requires-clause-front
 admits-requires-clause-front c =

@@ -8,7 +8,7 @@ use Rattle.ac_search.proofs.MoveLemmas.{path_low}
 use Rattle.ac_search.proofs.StepLemmas.{laws_in}
 use Rattle.ac_search.proofs.TreeLemmas.{each_there}
 use Rattle.ac_search.proofs.PassLemmas.{tree_at, beside_dead}
-use Rattle.ac_search.proofs.walk.Walk.place_beside.Goals as goal
+use Rattle.ac_search.proofs.walk.Walk.place_in_trees.Goals as goal
 
 there : (w : Walk) (found : Option ℕ) (b : ℕ) → found ≡ Some b → IfSome found (λ p. is_there (take w.depth w.path.items) p ≡ true) → is_there (take w.depth w.path.items) b ≡ true
 there w found b is h = rw is at h
