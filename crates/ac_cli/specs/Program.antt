@@ -151,7 +151,7 @@ pub record RanSample {R : Type 0} (remaining : R → Option (List ℕ)) (failure
 
 -- what is told where the words are no text
 abbrev pub no_text_line : List ℕ
-no_text_line = codes "error: the words are not UTF-8\n"
+no_text_line = codes "error: the arguments are not UTF-8\n"
 
 -- how the program ends that was given words: fewer than two, its own name among them, are a call for the sample
 abbrev pub EndsGiven : Type 0 → (Line → Type 0) → List Text → Streams → ℕ → Type 0

@@ -107,7 +107,7 @@ pub fn answer<H: Host + AllocGlobal, W: Sink + Drop, E: Sink>(
             answer_words(host, words.as_slice(), out, err)
         }
         Err(Unworded::NotText) => {
-            tell_text(err, b"error: the words are not UTF-8\n");
+            tell_text(err, b"error: the arguments are not UTF-8\n");
             (2, out)
         }
         Err(Unworded::NoMemory) => (tell(err, &Refusal::NoMemory), out),

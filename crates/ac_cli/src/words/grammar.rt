@@ -82,17 +82,17 @@ fn add_tables<'a>(alloc: Global, command: Command<'a>) -> Result<Command<'a>, Al
     let command = command.arg(table(
         alloc,
         "usages",
-        "How much of it is used (CSV); without it nothing is",
+        "How much of it is used (CSV); without this table nothing is used",
     ))?;
     let command = command.arg(table(
         alloc,
         "traits",
-        "The traits of each provider (CSV); without it none has any",
+        "The traits of each provider (CSV); without this table no provider has a trait",
     ))?;
     let command = command.arg(table(
         alloc,
         "aggregates",
-        "The aggregates of each provider (CSV); without it none is in any",
+        "The aggregates of each provider (CSV); without this table no provider is in an aggregate",
     ))?;
     Ok(command)
 }
@@ -107,8 +107,8 @@ fn add_options<'a>(alloc: Global, command: Command<'a>) -> Result<Command<'a>, A
         alloc,
         "microversion",
         "VERSION",
-        "Reads the query by 1.36, or by 1.39, where `required` may be a list `in:A,B` of traits \
-         of which one is asked, and may be repeated [default: 1.36]",
+        "Reads the query by 1.36, or by 1.39: `required` may then be a list `in:A,B`, which asks \
+         for one of its traits, and may be repeated [default: 1.36]",
     ))?;
     Ok(command)
 }
@@ -134,7 +134,7 @@ fn check<'a>(alloc: Global) -> Result<Command<'a>, AllocError>
     ensures local { IfOk result (λ c. (fields_of c).has_globals ≡ false) }
 {
     let command = Command::new(alloc, "check")
-        .about("Checks the tables, and writes the size of each")
+        .about("Checks the tables, and counts what they hold")
         .after_help(AFTER_HELP);
     add_tables(alloc, command)
 }
@@ -160,7 +160,7 @@ fn verify<'a>(alloc: Global) -> Result<Command<'a>, AllocError>
     let command = with_query(
         alloc,
         "verify",
-        "Writes whether a token is a candidate for a query, or which rule refuses it",
+        "Writes whether a token is a candidate for a query, or which rule it breaks",
     )?;
     let command = command.arg(word(
         alloc,
@@ -190,7 +190,7 @@ pub fn program<'a>(alloc: Global) -> Result<Command<'a>, AllocError>
     let command = Command::new(alloc, "ac_cli")
         .version(VERSION)
         .about(
-            "Finds allocation candidates in exported Placement tables; without words, in a sample",
+            "Finds allocation candidates in exported Placement tables; with no arguments, in a built-in sample",
         )
         .after_help(AFTER_HELP)
         .subcommand_required(true);
@@ -203,7 +203,7 @@ pub fn program<'a>(alloc: Global) -> Result<Command<'a>, AllocError>
     let command = command.subcommand(search(
         alloc,
         "tokens",
-        "Writes the candidates for a query, one a line: the UUIDs of their providers",
+        "Writes the candidates for a query, one per line: the UUIDs of their providers",
     )?)?;
     let command = command.subcommand(verify(alloc)?)?;
     let command = command.subcommand(explain(alloc)?)?;

@@ -71,27 +71,29 @@ fn asks(
     gives(alloc, line, job)
 }
 
+const CHECKS: &[&str] = &[
+    "ac_cli check --providers a --inventories b",
+    "any/name check --inventories=b --traits c --providers=a",
+];
+
 #[test]
 fn check(rt: HostRuntime) -> Result<(), Fail> {
-    let lines = [
-        "ac_cli check --providers a --inventories b",
-        "any/name check --inventories=b --traits c --providers=a",
-    ];
-    for line in lines.as_slice() {
+    for line in CHECKS {
         assert!(rt; asks(rt.alloc(), line, Command::Check, "", None)?, "{line}");
     }
     Ok(())
 }
 
+const AFTER: &[&str] = &[
+    "ac_cli candidates q --providers a --inventories b --after t",
+    "ac_cli candidates --after=t --usages c --inventories b --providers a q",
+];
+
 #[test]
 fn candidates(rt: HostRuntime) -> Result<(), Fail> {
     let plain = "ac_cli candidates q --providers a --inventories b";
     assert!(rt; asks(rt.alloc(), plain, Command::Candidates, "q", None)?);
-    let lines = [
-        "ac_cli candidates q --providers a --inventories b --after t",
-        "ac_cli candidates --after=t --usages c --inventories b --providers a q",
-    ];
-    for line in lines.as_slice() {
+    for line in AFTER {
         assert!(rt;
             asks(rt.alloc(), line, Command::Candidates, "q", Some("t"))?,
             "{line}"
@@ -100,14 +102,15 @@ fn candidates(rt: HostRuntime) -> Result<(), Fail> {
     Ok(())
 }
 
+const TOKENS: &[&str] = &[
+    "ac_cli tokens resources=VCPU:2 --providers a --inventories b",
+    "ac_cli tokens --inventories=b --providers=a resources=VCPU:2",
+    "ac_cli tokens --providers a --inventories b -- resources=VCPU:2",
+];
+
 #[test]
 fn tokens(rt: HostRuntime) -> Result<(), Fail> {
-    let lines = [
-        "ac_cli tokens resources=VCPU:2 --providers a --inventories b",
-        "ac_cli tokens --inventories=b --providers=a resources=VCPU:2",
-        "ac_cli tokens --providers a --inventories b -- resources=VCPU:2",
-    ];
-    for line in lines.as_slice() {
+    for line in TOKENS {
         assert!(rt;
             asks(rt.alloc(), line, Command::Tokens, "resources=VCPU:2", None)?,
             "{line}"
@@ -118,14 +121,15 @@ fn tokens(rt: HostRuntime) -> Result<(), Fail> {
     Ok(())
 }
 
+const VERIFIES: &[&str] = &[
+    "ac_cli verify q t --providers a --inventories b",
+    "ac_cli verify --inventories b q --providers a t",
+    "ac_cli verify --aggregates=c --providers a --inventories b q -- t",
+];
+
 #[test]
 fn verify(rt: HostRuntime) -> Result<(), Fail> {
-    let lines = [
-        "ac_cli verify q t --providers a --inventories b",
-        "ac_cli verify --inventories b q --providers a t",
-        "ac_cli verify --aggregates=c --providers a --inventories b q -- t",
-    ];
-    for line in lines.as_slice() {
+    for line in VERIFIES {
         assert!(rt;
             asks(rt.alloc(), line, Command::Verify, "q", Some("t"))?,
             "{line}"
@@ -134,13 +138,14 @@ fn verify(rt: HostRuntime) -> Result<(), Fail> {
     Ok(())
 }
 
+const EXPLAINS: &[&str] = &[
+    "ac_cli explain q --providers a --inventories b",
+    "ac_cli explain --inventories=b --traits c --providers=a q",
+];
+
 #[test]
 fn explain(rt: HostRuntime) -> Result<(), Fail> {
-    let lines = [
-        "ac_cli explain q --providers a --inventories b",
-        "ac_cli explain --inventories=b --traits c --providers=a q",
-    ];
-    for line in lines.as_slice() {
+    for line in EXPLAINS {
         assert!(rt;
             asks(rt.alloc(), line, Command::Explain, "q", None)?,
             "{line}"
@@ -193,15 +198,16 @@ fn versions(rt: HostRuntime) -> Result<(), Fail> {
     Ok(())
 }
 
+const OTHER_VERSIONS: &[&str] = &[
+    "ac_cli tokens q --providers a --inventories b --microversion 1.40",
+    "ac_cli candidates q --providers a --inventories b --microversion 1.35",
+    "ac_cli verify q t --providers a --inventories b --microversion=1.390",
+    "ac_cli tokens q --providers a --inventories b --microversion=",
+];
+
 #[test]
 fn other_versions_are_refused(rt: HostRuntime) -> Result<(), Fail> {
-    let lines = [
-        "ac_cli tokens q --providers a --inventories b --microversion 1.40",
-        "ac_cli candidates q --providers a --inventories b --microversion 1.35",
-        "ac_cli verify q t --providers a --inventories b --microversion=1.390",
-        "ac_cli tokens q --providers a --inventories b --microversion=",
-    ];
-    for line in lines.as_slice() {
+    for line in OTHER_VERSIONS {
         assert!(rt; refusal(rt.alloc(), line)?.is_some(), "{line}");
     }
     match refusal(
@@ -275,40 +281,42 @@ fn paths(rt: HostRuntime) -> Result<(), Fail> {
     Ok(())
 }
 
+const CALLS_FOR_HELP: &[&str] = &[
+    "ac_cli --help",
+    "ac_cli -h",
+    "ac_cli help",
+    "ac_cli help check",
+    "ac_cli check --help",
+    "ac_cli help candidates",
+    "ac_cli candidates --help",
+    "ac_cli help tokens",
+    "ac_cli tokens -h",
+    "ac_cli help verify",
+    "ac_cli verify q --help",
+    "ac_cli help explain",
+    "ac_cli explain --help",
+];
+
+const TOLD_BY_EACH: &[&str] = &[
+    "Exit status:",
+    "  0  written",
+    "  1  `verify` says no, or `explain` finds no candidate",
+    "  2  the command line was refused",
+    "  3  a table was refused, or could not be read",
+    "  4  the query was refused",
+    "  5  the token was refused",
+    "  6  a write failed",
+    "  7  out of memory",
+    "  ./ac_cli tokens 'resources=VCPU:2' \\",
+    "      --providers examples/providers.csv --inventories examples/inventories.csv",
+];
+
 #[test]
 fn help_is_answered(rt: HostRuntime) -> Result<(), Fail> {
-    let lines = [
-        "ac_cli --help",
-        "ac_cli -h",
-        "ac_cli help",
-        "ac_cli help check",
-        "ac_cli check --help",
-        "ac_cli help candidates",
-        "ac_cli candidates --help",
-        "ac_cli help tokens",
-        "ac_cli tokens -h",
-        "ac_cli help verify",
-        "ac_cli verify q --help",
-        "ac_cli help explain",
-        "ac_cli explain --help",
-    ];
-    let told = [
-        "Exit status:",
-        "  0  written",
-        "  1  `verify` says no, or `explain` finds no candidate",
-        "  2  the command line was refused",
-        "  3  a table was refused, or could not be read",
-        "  4  the query was refused",
-        "  5  the token was refused",
-        "  6  a write failed",
-        "  7  out of memory",
-        "  ./ac_cli tokens 'resources=VCPU:2' \\",
-        "      --providers examples/providers.csv --inventories examples/inventories.csv",
-    ];
-    for line in lines.as_slice() {
+    for line in CALLS_FOR_HELP {
         match help(rt.alloc(), line)? {
             Some(text) => {
-                for other in told.as_slice() {
+                for other in TOLD_BY_EACH {
                     assert!(rt; has_line(text.as_str(), other), "{line}: {other}");
                 }
             }
@@ -326,111 +334,126 @@ fn tells(alloc: Global, line: &str, told: &[&str]) -> Result<bool, AllocError> {
     })
 }
 
+const COMMANDS: &[&str] = &[
+    "Usage: ac_cli <COMMAND>",
+    "  check       Checks the tables, and counts what they hold",
+    "  candidates  Writes the candidates for a query as JSON, with summaries of their providers",
+    "  tokens      Writes the candidates for a query, one per line: the UUIDs of their providers",
+    "  verify      Writes whether a token is a candidate for a query, or which rule it breaks",
+    "  explain     Writes how many providers and trees meet a query, rule by rule: why nothing is found",
+];
+
 #[test]
 fn help_tells_the_commands(rt: HostRuntime) -> Result<(), Fail> {
-    let told = [
-        "Usage: ac_cli <COMMAND>",
-        "  check       Checks the tables, and writes the size of each",
-        "  candidates  Writes the candidates for a query as JSON, with summaries of their providers",
-        "  tokens      Writes the candidates for a query, one a line: the UUIDs of their providers",
-        "  verify      Writes whether a token is a candidate for a query, or which rule refuses it",
-        "  explain     Writes how many providers and trees meet a query, rule by rule: why nothing is found",
-    ];
-    assert!(rt; tells(rt.alloc(), "ac_cli --help", told.as_slice())?);
+    assert!(rt; tells(rt.alloc(), "ac_cli --help", COMMANDS)?);
     Ok(())
 }
+
+const TABLES: &[&str] = &[
+    "      --providers <FILE>    The resource providers and their trees (CSV)",
+    "      --inventories <FILE>  What each provider has of each resource class (CSV)",
+    "      --usages <FILE>       How much of it is used (CSV); without this table nothing is used",
+    "      --traits <FILE>       The traits of each provider (CSV); without this table no provider has a trait",
+    "      --aggregates <FILE>   The aggregates of each provider (CSV); without this table no provider is in an aggregate",
+];
+
+const OPTIONS: &[&str] = &[
+    "      --providers <FILE>        The resource providers and their trees (CSV)",
+    "      --inventories <FILE>      What each provider has of each resource class (CSV)",
+    "      --usages <FILE>           How much of it is used (CSV); without this table nothing is used",
+    "      --traits <FILE>           The traits of each provider (CSV); without this table no provider has a trait",
+    "      --aggregates <FILE>       The aggregates of each provider (CSV); without this table no provider is in an aggregate",
+    "      --microversion <VERSION>  Reads the query by 1.36, or by 1.39: `required` may then be a list `in:A,B`, which asks for one of its traits, and may be repeated [default: 1.36]",
+];
+
+const SEARCHES: &[&str] = &[
+    "  <QUERY>  What is asked for, as in 'resources=VCPU:2'",
+    "      --after <TOKEN>           Begins after this candidate, written as `tokens` writes it",
+];
+
+const VERIFIED: &[&str] = &[
+    "  <QUERY>  What is asked for, as in 'resources=VCPU:2'",
+    "  <TOKEN>  The UUIDs of providers, as `tokens` writes them",
+];
+
+const WITH_OPTIONS: &[&str] = &[
+    "ac_cli help candidates",
+    "ac_cli help tokens",
+    "ac_cli help verify",
+    "ac_cli help explain",
+];
 
 #[test]
 fn help_tells_the_options(rt: HostRuntime) -> Result<(), Fail> {
-    let tables = [
-        "      --providers <FILE>    The resource providers and their trees (CSV)",
-        "      --inventories <FILE>  What each provider has of each resource class (CSV)",
-        "      --usages <FILE>       How much of it is used (CSV); without it nothing is",
-        "      --traits <FILE>       The traits of each provider (CSV); without it none has any",
-        "      --aggregates <FILE>   The aggregates of each provider (CSV); without it none is in any",
-    ];
-    let options = [
-        "      --providers <FILE>        The resource providers and their trees (CSV)",
-        "      --inventories <FILE>      What each provider has of each resource class (CSV)",
-        "      --usages <FILE>           How much of it is used (CSV); without it nothing is",
-        "      --traits <FILE>           The traits of each provider (CSV); without it none has any",
-        "      --aggregates <FILE>       The aggregates of each provider (CSV); without it none is in any",
-        "      --microversion <VERSION>  Reads the query by 1.36, or by 1.39, where `required` may be a list `in:A,B` of traits of which one is asked, and may be repeated [default: 1.36]",
-    ];
-    let searches = [
-        "  <QUERY>  What is asked for, as in 'resources=VCPU:2'",
-        "      --after <TOKEN>           Begins after this candidate, written as `tokens` writes it",
-    ];
-    let verifies = [
-        "  <QUERY>  What is asked for, as in 'resources=VCPU:2'",
-        "  <TOKEN>  The UUIDs of providers, as `tokens` writes them",
-    ];
-    let commands = [
-        "ac_cli help candidates",
-        "ac_cli help tokens",
-        "ac_cli help verify",
-        "ac_cli help explain",
-    ];
-    for line in commands.as_slice() {
-        assert!(rt; tells(rt.alloc(), line, options.as_slice())?, "{line}");
+    for line in WITH_OPTIONS {
+        assert!(rt; tells(rt.alloc(), line, OPTIONS)?, "{line}");
     }
-    assert!(rt; tells(rt.alloc(), "ac_cli help check", tables.as_slice())?);
-    assert!(rt; tells(rt.alloc(), "ac_cli help candidates", searches.as_slice())?);
-    assert!(rt; tells(rt.alloc(), "ac_cli help tokens", searches.as_slice())?);
-    assert!(rt; tells(rt.alloc(), "ac_cli help verify", verifies.as_slice())?);
+    assert!(rt; tells(rt.alloc(), "ac_cli help check", TABLES)?);
+    assert!(rt; tells(rt.alloc(), "ac_cli help candidates", SEARCHES)?);
+    assert!(rt; tells(rt.alloc(), "ac_cli help tokens", SEARCHES)?);
+    assert!(rt; tells(rt.alloc(), "ac_cli help verify", VERIFIED)?);
     Ok(())
 }
+
+const CHECK_USAGE: &[&str] = &[
+    "Usage: ac_cli check [OPTIONS] --providers <FILE> --inventories <FILE>",
+];
+
+const TOKENS_USAGE: &[&str] = &[
+    "Usage: ac_cli tokens [OPTIONS] --providers <FILE> --inventories <FILE> <QUERY>",
+];
+
+const VERIFY_USAGE: &[&str] = &[
+    "Usage: ac_cli verify [OPTIONS] --providers <FILE> --inventories <FILE> <QUERY> <TOKEN>",
+];
+
+const EXPLAIN_USAGE: &[&str] = &[
+    "Usage: ac_cli explain [OPTIONS] --providers <FILE> --inventories <FILE> <QUERY>",
+];
 
 #[test]
 fn help_tells_the_usage(rt: HostRuntime) -> Result<(), Fail> {
-    let check = ["Usage: ac_cli check [OPTIONS] --providers <FILE> --inventories <FILE>"];
-    let tokens = ["Usage: ac_cli tokens [OPTIONS] --providers <FILE> --inventories <FILE> <QUERY>"];
-    let verify = [
-        "Usage: ac_cli verify [OPTIONS] --providers <FILE> --inventories <FILE> <QUERY> <TOKEN>",
-    ];
-    let explain = [
-        "Usage: ac_cli explain [OPTIONS] --providers <FILE> --inventories <FILE> <QUERY>",
-    ];
-    assert!(rt; tells(rt.alloc(), "ac_cli help check", check.as_slice())?);
-    assert!(rt; tells(rt.alloc(), "ac_cli help tokens", tokens.as_slice())?);
-    assert!(rt; tells(rt.alloc(), "ac_cli help verify", verify.as_slice())?);
-    assert!(rt; tells(rt.alloc(), "ac_cli help explain", explain.as_slice())?);
+    assert!(rt; tells(rt.alloc(), "ac_cli help check", CHECK_USAGE)?);
+    assert!(rt; tells(rt.alloc(), "ac_cli help tokens", TOKENS_USAGE)?);
+    assert!(rt; tells(rt.alloc(), "ac_cli help verify", VERIFY_USAGE)?);
+    assert!(rt; tells(rt.alloc(), "ac_cli help explain", EXPLAIN_USAGE)?);
     Ok(())
 }
 
+const OTHER_WORDS: &[&str] = &[
+    "ac_cli",
+    "ac_cli other",
+    "ac_cli help other",
+    "ac_cli --providers a tokens q --inventories b",
+    "ac_cli check",
+    "ac_cli check --providers a",
+    "ac_cli check --providers a --inventories b --after t",
+    "ac_cli check q --providers a --inventories b",
+    "ac_cli tokens --providers a --inventories b",
+    "ac_cli tokens q q --providers a --inventories b",
+    "ac_cli tokens -q --providers a --inventories b",
+    "ac_cli tokens q --inventories b",
+    "ac_cli tokens q --providers a --inventories",
+    "ac_cli tokens q --providers a --inventories b --usages",
+    "ac_cli tokens q --providers a --inventories b --after -t",
+    "ac_cli candidates q --providers a --providers a --inventories b",
+    "ac_cli candidates q --providers a --inventories b --traits c --traits c",
+    "ac_cli candidates q --providers a --inventories b --after t --after t",
+    "ac_cli check --providers a --inventories b --microversion 1.36",
+    "ac_cli candidates q --providers a --inventories b --microversion",
+    "ac_cli tokens q --providers a --inventories b --microversion 1.36 --microversion 1.36",
+    "ac_cli verify q --providers a --inventories b",
+    "ac_cli verify q -t --providers a --inventories b",
+    "ac_cli verify q t t --providers a --inventories b",
+    "ac_cli verify q t --providers a --inventories b --after t",
+    "ac_cli explain --providers a --inventories b",
+    "ac_cli explain q t --providers a --inventories b",
+    "ac_cli explain q --providers a --inventories b --after t",
+];
+
 #[test]
 fn other_words_are_refused(rt: HostRuntime) -> Result<(), Fail> {
-    let lines = [
-        "ac_cli",
-        "ac_cli other",
-        "ac_cli help other",
-        "ac_cli --providers a tokens q --inventories b",
-        "ac_cli check",
-        "ac_cli check --providers a",
-        "ac_cli check --providers a --inventories b --after t",
-        "ac_cli check q --providers a --inventories b",
-        "ac_cli tokens --providers a --inventories b",
-        "ac_cli tokens q q --providers a --inventories b",
-        "ac_cli tokens -q --providers a --inventories b",
-        "ac_cli tokens q --inventories b",
-        "ac_cli tokens q --providers a --inventories",
-        "ac_cli tokens q --providers a --inventories b --usages",
-        "ac_cli tokens q --providers a --inventories b --after -t",
-        "ac_cli candidates q --providers a --providers a --inventories b",
-        "ac_cli candidates q --providers a --inventories b --traits c --traits c",
-        "ac_cli candidates q --providers a --inventories b --after t --after t",
-        "ac_cli check --providers a --inventories b --microversion 1.36",
-        "ac_cli candidates q --providers a --inventories b --microversion",
-        "ac_cli tokens q --providers a --inventories b --microversion 1.36 --microversion 1.36",
-        "ac_cli verify q --providers a --inventories b",
-        "ac_cli verify q -t --providers a --inventories b",
-        "ac_cli verify q t t --providers a --inventories b",
-        "ac_cli verify q t --providers a --inventories b --after t",
-        "ac_cli explain --providers a --inventories b",
-        "ac_cli explain q t --providers a --inventories b",
-        "ac_cli explain q --providers a --inventories b --after t",
-    ];
-    for line in lines.as_slice() {
+    for line in OTHER_WORDS {
         assert!(rt; refusal(rt.alloc(), line)?.is_some(), "{line}");
     }
     Ok(())
