@@ -1,3 +1,4 @@
+pub mod AheadLemmas
 pub mod LeftLemmas
 pub mod RoomLemmas
 pub mod RowLemmas

@@ -100,7 +100,7 @@ open_fits all asked q p h o =
     let tree : tree_fits all x ≡ true = all_last (λ y. tree_fits all y) xs x parts.tree in
     rw (units, traits, aggregates, tree) refl
 
-range_with_len_more : (a n : ℕ) → range_with_len a (n + 1) ≡ range_with_len a n ++ (a + n) ∷ []
+pub range_with_len_more : (a n : ℕ) → range_with_len a (n + 1) ≡ range_with_len a n ++ (a + n) ∷ []
 range_with_len_more a zero = ap (λ (i : ℕ). i ∷ []) (omega arith)
 range_with_len_more a (suc n) = rw add-one (ap (λ (l : List ℕ). a ∷ l) (ap (range_with_len (a + 1)) (sym (add-one n)) ∙ (range_with_len_more (a + 1) n ∙ ap (λ (i : ℕ). range_with_len (a + 1) n ++ i ∷ []) (omega arith))))
 

@@ -1,5 +1,5 @@
 -- A walk passes over choices that lead to no open list: no try is made, and nothing that is left is lost.
-use Rattle.std.proofs.Common.{◌≡◌, ℕ, ◌+◌, ◌<◌, ◌≤◌, ◌-◌, zero, suc, Bool, true, false, List, [], ◌∷◌, ◌++◌, length, take, set, inl, inr, None, Some, refl, sym, ap, ◌∙◌, subst, arith, get_or, get_or-set_same, slice_index_or, length-append, length-take-le}
+use Rattle.std.proofs.Common.{◌≡◌, ℕ, ◌+◌, ◌<◌, ◌≤◌, ◌-◌, zero, suc, Bool, true, false, List, [], ◌∷◌, ◌++◌, length, take, set, inl, inr, None, Some, refl, sym, ap, ◌∙◌, subst, arith, get_or, get_or-set_same, slice_index_or, append_assoc, length-append, length-take-le}
 use Rattle.std.specs.List.{slice_index}
 use Rattle.std.specs.Global.{Vec}
 use Rattle.std.proofs.lemmas.Bool.{cases_order}
@@ -12,6 +12,7 @@ use Rattle.ac_search.specs.Families.{IsFamily, choices_here}
 use Rattle.ac_search.specs.declared.trees.ByTree.{ByTree}
 use Rattle.ac_search.specs.declared.families.Family.{Family}
 use Rattle.ac_rules.specs.Order.{lex_lt}
+use Rattle.ac_rules.specs.Lists.{IsListBelow}
 use Rattle.ac_search.specs.Search.{Search, choices_at, next_at, next_front, left_from, IsDead, AllDead, IsSound}
 use Rattle.ac_search.specs.WalkShown.{search_in, front_in}
 use Rattle.ac_search.specs.Steps.{Passes, StepGives, Goes, Gives, Ends}
@@ -149,6 +150,12 @@ dead_on m q d from at to before behind i above less = elim (cases_order i at) [
   | inl e ↦ behind i (omega (arith, e)) less
   | inr o ↦ elim o [ inl l ↦ before i above l | inr g ↦ behind i (omega (arith, g)) less ]
 ]
+
+-- all places where the path itself leads to nothing
+pub front_dead : (m : Search) (q : List ℕ) (d from to : ℕ) → IsDead m q → AllDead m q d from to
+front_dead m q d from to dead i above less v list =
+    let same = append_assoc q (next_at m d i ∷ []) v in
+    subst (λ (l : List ℕ). m.is_wanted l ≡ false) (sym same) (dead (next_at m d i ∷ v) (subst (IsListBelow m.count m.width) same list))
 
 -- ---- Choices of other parts
 

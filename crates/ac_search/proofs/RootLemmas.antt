@@ -260,7 +260,7 @@ root_dead all asked q p may hits roots hit none v list = false_from_ne_true _ (�
 -- ---- Pieces
 
 -- how many slots ask so much, by the number of the class
-asks_count : (classes : List (List ℕ)) (c : List ℕ) (a : ℕ) (ss : List Slot) → Each (λ s. Each (λ need. IsKnown classes need.0) s.needs) ss
+pub asks_count : (classes : List (List ℕ)) (c : List ℕ) (a : ℕ) (ss : List Slot) → Each (λ s. Each (λ need. IsKnown classes need.0) s.needs) ss
     → load_of (λ n. if nat_le a (wanted n (place_of classes c)) then 1 else 0) (map (λ s. map (numbered classes) s.needs) ss) ≡ load_of (asks_much c a) ss
 asks_count classes c a [] h = refl
 asks_count classes c a (s ∷ ss) h = ap₂ (λ m n. (if nat_le a m then 1 else 0) + n) (wanted_is classes s.needs c h.0) (asks_count classes c a ss h.1)

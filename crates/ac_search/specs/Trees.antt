@@ -1,14 +1,20 @@
 -- The choices of slots by tree.
 use Rattle.std.specs.Prelude.{◌≡◌, ℕ, ◌<◌, ◌≤◌, true, List, [], length, slice_index, slice_index_or}
+use Rattle.std.specs.List.{range_with_len}
 use Rattle.ac_tables.specs.World.{Provider, is_available_at}
 use Rattle.ac_search.specs.Keys.{key_of, is_there, IsUnder}
 use Rattle.ac_search.specs.declared.trees.ByTree.{ByTree}
+use Rattle.ac_search.specs.declared.ahead.Ahead.{Ahead}
 
 -- each choice has its place in each tree in which it is available, or in the one past all others
 pub record IsByTree (all : List Provider) (choices : List ℕ) (trees : ByTree) : Type 0 where
   pub wide : trees.wide ≡ length all
   pub count : trees.count ≡ length choices
   pub placed : (i r : ℕ) → i < length choices → r < length all → is_available_at all (slice_index choices i) r ≡ true → IsUnder trees.keys.items (length all) r i
+
+-- it has the first providers by tree, each as the choice at its own place
+abbrev pub HasProviders : List Provider → Ahead → Type 0
+HasProviders all ahead = IsByTree all (range_with_len 0 ahead.trees.count) ahead.trees
 
 -- each of the first choices has its place in its part
 pub record IsByPart (choices parts : List ℕ) (places : ByTree) : Type 0 where

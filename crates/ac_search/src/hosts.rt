@@ -16,6 +16,7 @@ use ac_base::NoMemory;
 use ac_rules::slots::count_slots;
 use ac_tables::Cloud;
 use column::Column;
+pub(crate) use column::count_asking;
 pub(crate) use loads::limit;
 use std::alloc::Global;
 

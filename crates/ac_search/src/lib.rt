@@ -5,6 +5,7 @@
 //! `ac_rules`, handed on.
 #![tactic(auto)]
 
+mod ahead;
 mod choices;
 mod explaining;
 mod families;

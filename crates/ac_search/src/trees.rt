@@ -96,7 +96,8 @@ fn least_from(numbers: &[u64], bound: u64) -> u64
 impl ByTree {
     ghost use Rattle.ac_search.specs.Trees.{IsByTree, AreByTree, IsByPart};
 
-    fn new(alloc: Global, cloud: &Cloud, choices: &[u32]) -> Result<ByTree, NoMemory>
+    /// Those of some choices.
+    pub(crate) fn new(alloc: Global, cloud: &Cloud, choices: &[u32]) -> Result<ByTree, NoMemory>
         requires few { length choices.now ≤ length (providers_of cloud.now) }
         requires providers { All (λ p. p < length (providers_of cloud.now)) choices.now }
         ensures { IfOk result (λ trees. IsByTree (providers_of cloud.now) choices.now trees) }

@@ -13,10 +13,11 @@ ghost use Rattle.ac_rules.specs.Pages.{rest};
 ghost use Rattle.ac_search.specs.Search.{IsDead, AllDead, IsSound, IsStart, Enters, HasAt, least_at, choices_at, next_at};
 ghost use Rattle.ac_search.specs.QuerySearch.{choices_of, search_of, completes, least_of};
 ghost use Rattle.ac_search.specs.Keys.{is_there};
-ghost use Rattle.ac_search.specs.Trees.{AreByTree};
+ghost use Rattle.ac_search.specs.Trees.{AreByTree, HasProviders};
 ghost use Rattle.ac_search.specs.Ahead.{AreRoots};
 ghost use Rattle.ac_search.specs.Families.{AreFamilies};
 
+use crate::ahead::Ahead;
 use crate::choices::all_choices;
 use crate::families::Family;
 use crate::hosts::host_roots;
@@ -59,6 +60,8 @@ pub struct Walk<'a> {
     hosts: Vec<bool>,
     // The lists of `same_subtree`.
     families: Vec<Family>,
+    // What a tree has left for later slots is looked at by this.
+    ahead: Ahead,
     // The providers so far, as many as the depth says, and where each stands among the choices of its slot.
     path: Vec<u32>,
     places: Vec<usize>,
@@ -71,6 +74,7 @@ pub struct Walk<'a> {
     ghost by_tree: { AreByTree (providers_in ledger) (choices_of (providers_in ledger) (asked_in ledger)) trees.items },
     ghost hosting: { AreRoots (providers_in ledger) (asked_in ledger) hosts.items },
     ghost grouped: { AreFamilies (providers_in ledger) (asked_in ledger) families.items },
+    ghost looking: { HasProviders (providers_in ledger) ahead },
     ghost sound: { IsSound (search_of (providers_in ledger) (asked_in ledger)) least.items path.items places.items depth seeking probes },
     ghost accounted: { Accounts ledger (take depth path.items) },
 }
@@ -101,6 +105,7 @@ impl<'a> Walk<'a> {
         let ledger = Ledger::new(alloc, cloud, query)?;
         let hosts = host_roots(alloc, &ledger, &choices)?;
         let families = Family::of_query(alloc, &ledger, &choices)?;
+        let ahead = Ahead::new(alloc, &ledger)?;
         let path = vec![in alloc; 0u32; width]?;
         let mut places = vec![in alloc; 0usize; width]?;
         places[0] = start_of(&choices[0], &least, 0);
@@ -112,6 +117,7 @@ impl<'a> Walk<'a> {
             trees,
             hosts,
             families,
+            ahead,
             path,
             places,
             depth: 0,
@@ -347,6 +353,16 @@ impl<'a> Walk<'a> {
         self.place_in_parts(self.place_in_trees(provider, from))
     }
 
+    // Whether the path has just grown, and its tree has too little left for the slots behind it.
+    fn is_short(&self) -> bool
+        ensures { result ≡ true → IsDead (search_in self.now) (take self.now.depth self.now.path.items) }
+    {
+        self.places[self.depth] == 0
+            && self
+                .ahead
+                .falls_short(&self.ledger, &self.path[..self.depth])
+    }
+
     // The least place from the one that is next on whose choice may follow; past the end where there is none.
     fn next_place(&self) -> usize
         ensures from { slice_index self.now.places.items self.now.depth ≤ result }
@@ -354,6 +370,9 @@ impl<'a> Walk<'a> {
         ensures dead { AllDead (search_in self.now) (take self.now.depth self.now.path.items) self.now.depth (slice_index self.now.places.items self.now.depth) result }
     {
         let end = self.choices[self.depth].len();
+        if self.is_short() {
+            return end;
+        }
         let provider = bound_by(self.ledger.cloud, &self.path[..self.depth]);
         let mut place = self.place_beside(provider, self.places[self.depth]);
         while place < end && !self.may_follow(place) {

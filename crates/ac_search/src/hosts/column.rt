@@ -54,8 +54,8 @@ fn wanted_of(asks: &[Vec<Ask>], class: usize) -> u64
     total
 }
 
-// How many slots ask so much of a class or more.
-fn count_asking(asks: &[Vec<Ask>], class: usize, amount: u64) -> u64
+/// How many slots ask so much of a class or more.
+pub(crate) fn count_asking(asks: &[Vec<Ask>], class: usize, amount: u64) -> u64
     ensures { result ≤ load_of (is_much class amount) (pairs_of asks.now) }
 {
     let mut count = 0u64;

@@ -256,6 +256,21 @@ fn tries_no_node_whose_function_is_used_up(rt: HostRuntime) -> Result<(), Fail> 
     Ok(())
 }
 
+// Two fours and two sixes on two providers of ten. Behind two fours on one provider nothing is tried: only one six has room then.
+#[test]
+fn tries_nothing_where_too_few_pieces_are_left(rt: HostRuntime) -> Result<(), Fail> {
+    let rows = hosts(
+        "@01,@01,\n@02,@01,@01\n@03,@01,@01\n",
+        "@02,VCPU,10,0,1,10,1,1.0\n@03,VCPU,10,0,1,10,1,1.0\n",
+        "",
+    );
+    let query =
+        "resources1=VCPU:4&resources2=VCPU:4&resources3=VCPU:6&resources4=VCPU:6&group_policy=none";
+    let all = probes(rt.alloc(), rows, query, None, 9)?;
+    assert!(rt; all.as_slice() == [6, 8, 14, 16, 18].as_slice());
+    Ok(())
+}
+
 #[test]
 fn goes_to_the_last_of_many_lists(rt: HostRuntime) -> Result<(), Fail> {
     let alloc = rt.alloc();

@@ -54,6 +54,7 @@ invariant_of-result c =
       resumed = rw (c.in_ok-ledger.ensures.cloud, c.in_ok-ledger.ensures.query, ← width, c.in_ok-after.ensures) c.in_ok-least.ensures;
       hosting = c.in_ok-hosts.ensures;
       grouped = c.in_ok-families.ensures;
+      looking = c.in_ok-ahead.ensures;
       accounted = c.in_ok-ledger.ensures.accounts;
       sound = rw (c.in_ok-ledger.ensures.cloud, c.in_ok-ledger.ensures.query) (sound_new m laws c.in_ok-least.least.items c.in_ok-path.path.items c.in_ok-places.places.items c.start_of.result
           (omega (arith, ap length c.in_ok-least.ensures))

@@ -16,7 +16,7 @@ invariant_of-self c =
     let w = c.args.self.now in
     let later : slice_index w.places.items w.depth < c.next_place-next.result = omega (arith, read w c.index.result.now c.index.ensures, c.if-next-index.true) in
     let stands = stands_behind w c.next_place-next.result later c.next_place-next.ensures.within c.next_place-next.ensures.dead in
-    record { resumed = w.resumed; listed = w.listed; by_tree = w.by_tree; hosting = w.hosting; grouped = w.grouped; sound = stands.sound; accounted = w.accounted }
+    record { resumed = w.resumed; listed = w.listed; by_tree = w.by_tree; hosting = w.hosting; grouped = w.grouped; looking = w.looking; sound = stands.sound; accounted = w.accounted }
 
 pub returns-then-next-index : goal.returns-then-next-index
 returns-then-next-index c =

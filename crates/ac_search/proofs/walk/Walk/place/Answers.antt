@@ -28,6 +28,7 @@ invariant_of-self-2 c =
       by_tree = rw (c.take.ensures.same.cloud, c.take.ensures.same.query) w.by_tree;
       hosting = rw (c.take.ensures.same.cloud, c.take.ensures.same.query) w.hosting;
       grouped = rw (c.take.ensures.same.cloud, c.take.ensures.same.query) w.grouped;
+      looking = rw c.take.ensures.same.cloud w.looking;
       accounted = rw next (subst (Accounts c.take.new.self) (sym (front_put w c.deref.result.now c.index-provider.result.now c.deref.ensures.value c.index-provider.ensures)) c.take.ensures.accounts);
       sound = rw (c.take.ensures.same.cloud, c.take.ensures.same.query, next) (sound_place m (laws_in w) w.least.items w.path.items w.places.items w.depth w.seeking c.entry-start.result.1 w.probes c.args.tries c.entry-start.result.0
           w.sound c.requires.short c.requires.among c.requires.put opens c.entry-start.ensures.within (rw same at c.entry-start.ensures.enters) (rw same at c.entry-start.ensures.seeks) c.requires.tried);

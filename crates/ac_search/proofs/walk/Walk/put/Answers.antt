@@ -14,6 +14,7 @@ invariant_of-self c =
       by_tree = w.by_tree;
       hosting = w.hosting;
       grouped = w.grouped;
+      looking = w.looking;
       accounted = subst (Accounts w.ledger) (sym (take-set w.path.items w.depth c.args.provider)) w.accounted;
       sound = sound_put (search_in w) w.least.items w.path.items w.places.items w.depth c.args.provider w.seeking w.probes w.sound;
     }

@@ -22,6 +22,7 @@ invariant_of-self c =
       by_tree = w.by_tree;
       hosting = w.hosting;
       grouped = w.grouped;
+      looking = w.looking;
       accounted = w.accounted;
       sound = rw place (sound_next (search_in w) (laws_in w) w.least.items w.path.items w.path.items w.places.items w.depth w.seeking w.probes c.args.tries w.sound c.requires.among refl refl c.requires.tried);
     }

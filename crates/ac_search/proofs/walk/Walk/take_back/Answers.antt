@@ -38,6 +38,7 @@ invariant_of-self c =
       by_tree = rw (c.give_back.ensures.same.cloud, c.give_back.ensures.same.query) w.by_tree;
       hosting = rw (c.give_back.ensures.same.cloud, c.give_back.ensures.same.query) w.hosting;
       grouped = rw (c.give_back.ensures.same.cloud, c.give_back.ensures.same.query) w.grouped;
+      looking = rw c.give_back.ensures.same.cloud w.looking;
       accounted = rw c.deref.ensures.value at c.give_back.ensures.accounts;
       sound = rw (c.give_back.ensures.same.cloud, c.give_back.ensures.same.query, place) (sound_back (search_in w) (laws_in w) w.least.items w.path.items w.places.items e w.seeking w.probes s);
     }
