@@ -5,11 +5,10 @@ use Rattle.std.specs.Option.{option_map, option_and_then, is_some}
 use Rattle.std.specs.List.{position_from}
 use Rattle.std.proofs.lemmas.Bool.{cases_Bool}
 use Rattle.std.proofs.lemmas.List.{get_or-map, length-map}
-use Rattle.ac_tables.specs.Trees.{top}
+use Rattle.ac_tables.specs.Trees.{top, is_endless}
 use Rattle.ac_tables.specs.Places.{rank, parent_in, AreWithin, AreParents}
 use Rattle.ac_tables.specs.ProviderTable.{Listed, listed_parent}
 use Rattle.ac_tables.specs.InventoryTable.{is_one_of}
-use Rattle.ac_tables.specs.Kin.{AreKin}
 use Rattle.ac_tables.proofs.PlaceTrees.{steps}
 
 equal_numbers : (a b : ℕ) → (a == b) ≡ true → a ≡ b
@@ -40,7 +39,7 @@ place_from q k (x ∷ xs) h = elim (cases_Bool (x == q)) [
 pub has_rank : (ids : List ℕ) (q : ℕ) → is_one_of ids q ≡ true → (j : ℕ) × (rank ids q ≡ Some j)
 has_rank ids q h = place_from q 0 ids h
 
-module _ (ids : List ℕ) (rows : List Listed) (kin : AreKin ids rows) (parents : List (Option ℕ)) (are : parents ≡ map (λ id. option_and_then (rank ids) (listed_parent rows id)) ids) where
+module _ (ids : List ℕ) (rows : List Listed) (known : (i q : ℕ) → i < length ids → listed_parent rows (get_or ids i 0) ≡ Some q → is_one_of ids q ≡ true) (parents : List (Option ℕ)) (are : parents ≡ map (λ id. option_and_then (rank ids) (listed_parent rows id)) ids) where
   abbrev name : ℕ → ℕ
   name i = get_or ids i 0
 
@@ -68,7 +67,7 @@ module _ (ids : List ℕ) (rows : List Listed) (kin : AreKin ids rows) (parents 
   agree_on : (i : ℕ) → i < length ids → (o : Option ℕ) → listed_parent rows (name i) ≡ o → o ≡ option_map name (option_and_then (rank ids) o)
   agree_on i h None e = refl
   agree_on i h (Some q) e =
-      let r = has_rank ids q (kin.known i q h e) in
+      let r = has_rank ids q (known i q h e) in
       ap (λ (x : ℕ). Some x) (sym (ranked ids q r.0 r.1).1) ∙ ap (option_map name) (sym r.1)
 
   pub agree : (i : ℕ) → i < length ids → listed_parent rows (name i) ≡ option_map name (parent_in parents i)
@@ -78,8 +77,8 @@ module _ (ids : List ℕ) (rows : List Listed) (kin : AreKin ids rows) (parents 
   nothing None e = refl
   nothing (Some q) e = absurd (cc)
 
-  pub chains_end : (i : ℕ) → i < length ids → parent_in parents (top (parent_in parents) (length ids) i) ≡ None
-  chains_end i h =
+  pub chains_end : ((i : ℕ) → i < length ids → is_endless (listed_parent rows) (length ids) (get_or ids i 0) ≡ false) → (i : ℕ) → i < length ids → parent_in parents (top (parent_in parents) (length ids) i) ≡ None
+  chains_end ends i h =
       let s = steps (listed_parent rows) name (length ids) parents are_within agree (length ids) i h in
       nothing (parent_in parents (top (parent_in parents) (length ids) i))
-      (ap is_some (sym (agree (top (parent_in parents) (length ids) i) s.0)) ∙ ap (λ (x : ℕ). is_some (listed_parent rows x)) (sym s.1) ∙ kin.ends i h)
+      (ap is_some (sym (agree (top (parent_in parents) (length ids) i) s.0)) ∙ ap (λ (x : ℕ). is_some (listed_parent rows x)) (sym s.1) ∙ ends i h)

@@ -114,6 +114,7 @@ module _ {V K X : Type 0} (t : Table) (says : Row → V) (checks : List V → Ro
         shows = r.so_far.said ∙ ap (map says) whole;
         same = moved;
         sorted = sorted;
+        numbered = r.so_far.numbered;
         inside = All-permutation (λ (a : TableRow K X). a.place < count) read rows moved r.so_far.inside;
         apart = once;
         once = λ is. λ i j d less inside. sym (lt_ties (get_or read i d) (get_or read j d)) ∙ no_repeat (row_lt cmp) (λ a. a.number) read rows sorting (least_ties None (once is)) i j d less inside;

@@ -1,5 +1,5 @@
 -- The ids of a fine table of providers: their parents are there, and their chains end.
-use Rattle.std.proofs.Common.{◌≡◌, ◌<◌, ◌+◌, ◌∙◌, ◌++◌, ℕ, Bool, true, false, List, [], ◌∷◌, map, length, get_or, Option, Some, None, refl, sym, ap, ap₂, inl, inr, Ordering}
+use Rattle.std.proofs.Common.{◌≡◌, ◌<◌, ◌+◌, ◌∙◌, ℕ, zero, suc, Bool, true, false, List, [], ◌∷◌, map, length, get_or, Option, Some, None, refl, sym, ap, ap₂, subst, arith, rules, inl, inr, Ordering}
 use Rattle.std.specs.Prelude.{◌==◌, ◌||◌}
 use Rattle.std.specs.declared.cmp.Ordering.TheVariants.{Less, Equal, Greater}
 use Rattle.std.specs.Option.{is_some, option_and_then}
@@ -8,25 +8,34 @@ use Rattle.std.specs.Ordering.{nat_cmp, match_ordering}
 use Rattle.std.specs.BTreeSet.{insert_key}
 use Rattle.std.proofs.lemmas.Bool.{cases_Bool}
 use Rattle.std.proofs.lemmas.Map.Lookups.{exact_unsigned}
-use Rattle.ac_tables.specs.Checks.{first_failing, pass, Row}
 use Rattle.ac_tables.specs.Sorted.{rising}
-use Rattle.ac_tables.specs.Columns.{table_checks}
 use Rattle.ac_tables.specs.InventoryTable.{is_one_of}
 use Rattle.ac_tables.specs.Kin.{AreKin}
 use Rattle.ac_tables.specs.Trees.{is_endless}
-use Rattle.ac_tables.specs.DistinctIds.{AreDistinct, AreTrees}
-use Rattle.ac_tables.specs.ProviderTable.{Listed, is_at, place_of, listed_at, listed_parent, no_listed, has_endless_chain, has_unknown_parent, has_wrong_root, unknown_fault, endless_fault, providers_fault, provider_columns, listed_in, listed_checks, listed_of}
+use Rattle.ac_tables.specs.DistinctIds.{AreTrees}
+use Rattle.ac_tables.specs.ProviderTable.{Listed, is_at, place_of, listed_at, listed_parent, no_listed, has_endless_chain, endless_fault}
 use Rattle.ac_tables.specs.declared.fault.Table.TheVariants as table
 use Rattle.ac_tables.specs.declared.fault.TableKind.TheVariants as kind
-use Rattle.ac_tables.proofs.ListedTable.{none_fails, are_trees}
-use Rattle.ac_tables.proofs.ListedTrees.{place_found}
+use Rattle.ac_tables.proofs.ListedTable.{none_fails}
 use Rattle.ac_tables.proofs.Rising.{one_of_place}
 
--- where nothing of two lists fails, nothing of each does
-pub split_none : {X : Type 0} (xs ys : List (Bool × X)) → first_failing (xs ++ ys) ≡ None → (first_failing xs ≡ None) × (first_failing ys ≡ None)
-split_none [] ys e = (refl, e)
-split_none ((true, k) ∷ xs) ys e = absurd (cc)
-split_none ((false, k) ∷ xs) ys e = split_none xs ys e
+equal_ids : (a b : ℕ) → (a == b) ≡ true → a ≡ b
+equal_ids a b h = search (arith, rules)
+
+-- a place that was found has that id
+found_at : (q i : ℕ) (xs : List Listed) (k : ℕ) → position_from (is_at q) i xs ≡ Some k → (m : ℕ) × (k ≡ i + m) × (m < length xs) × ((listed_at xs m).id ≡ q)
+found_at q i [] k e = absurd (cc)
+found_at q i (x ∷ xs) k e = elim (cases_Bool (is_at q x)) [
+  | inl h ↦ let same : i ≡ k = cc (rw h at e) in (zero, omega (arith, same), omega arith, equal_ids x.id q h)
+  | inr h ↦ let rest = found_at q (i + 1) xs k (rw h at e) in (suc rest.0, omega (arith, rest.1), omega (arith, rest.2), rest.3)
+]
+
+pub place_found : (all : List Listed) (q j : ℕ) → place_of all q ≡ Some j → (j < length all) × ((listed_at all j).id ≡ q)
+unfolding place_of
+place_found all q j e =
+    let f = found_at q 0 all j e in
+    let same : f.0 ≡ j = omega (arith, f.1) in
+    (omega (arith, f.1, f.2), subst (λ (m : ℕ). (listed_at all m).id ≡ q) same f.3)
 
 swap_or : (a b c : Bool) → (a || (b || c)) ≡ (b || (a || c))
 swap_or true true c = refl
@@ -79,14 +88,14 @@ some_of : (o : Option ℕ) → is_some o ≡ true → (j : ℕ) × (o ≡ Some j
 some_of None e = absurd (cc)
 some_of (Some j) e = (j, refl)
 
-module _ (rows : List Listed) (ids : List ℕ) (all : ids ≡ rising nat_cmp (map (λ p. p.id) rows)) (count : length ids ≡ length rows) (trees : AreTrees rows) (fine : endless_fault rows ≡ None) where
-  there : (q : ℕ) → is_one_of ids q ≡ is_some (place_of rows q)
+module _ (rows : List Listed) (ids : List ℕ) (all : ids ≡ rising nat_cmp (map (λ p. p.id) rows)) (count : length ids ≡ length rows) (trees : AreTrees rows) where
+  pub there : (q : ℕ) → is_one_of ids q ≡ is_some (place_of rows q)
   there q = ap (λ l. is_one_of l q) all ∙ member_rising q (map (λ p. p.id) rows) ∙ sym (place_member rows q)
 
   here : (i : ℕ) → i < length ids → (j : ℕ) × (place_of rows (get_or ids i 0) ≡ Some j)
   here i h = some_of (place_of rows (get_or ids i 0)) (sym (there (get_or ids i 0)) ∙ one_of_place ids (get_or ids i 0) i h refl)
 
-  kin_known : (i q : ℕ) → i < length ids → listed_parent rows (get_or ids i 0) ≡ Some q → is_one_of ids q ≡ true
+  pub kin_known : (i q : ℕ) → i < length ids → listed_parent rows (get_or ids i 0) ≡ Some q → is_one_of ids q ≡ true
   kin_known i q h e =
       let (j, at) = here i h in
       let f = place_found rows (get_or ids i 0) j at in
@@ -94,26 +103,13 @@ module _ (rows : List Listed) (ids : List ℕ) (all : ids ≡ rising nat_cmp (ma
       let k = trees.known j q f.0 parent in
       there q ∙ ap is_some k.1
 
-  kin_ends : (i : ℕ) → i < length ids → is_endless (listed_parent rows) (length ids) (get_or ids i 0) ≡ false
+  kin_ends : endless_fault rows ≡ None → (i : ℕ) → i < length ids → is_endless (listed_parent rows) (length ids) (get_or ids i 0) ≡ false
   unfolding endless_fault
-  kin_ends i h =
+  kin_ends fine i h =
       let (j, at) = here i h in
       let f = place_found rows (get_or ids i 0) j at in
       let ends : has_endless_chain rows (listed_at rows j) ≡ false = none_fails table.Providers kind.ParentCycle (has_endless_chain rows) 2 rows no_listed fine j f.0 in
       ap₂ (λ (n : ℕ) (x : ℕ). is_endless (listed_parent rows) n x) count (sym f.1) ∙ ends
 
-  pub are_kin : AreKin ids rows
-  are_kin = record { known = kin_known; ends = kin_ends }
-
--- of a fine table
-pub kin_of : (text : List Row) (rows : List Listed) (ids : List ℕ) → rows ≡ listed_of text → ids ≡ rising nat_cmp (map (λ p. p.id) rows) → length ids ≡ length rows → AreDistinct rows
-    → providers_fault text ≡ None → AreKin ids rows
-unfolding providers_fault unknown_fault endless_fault
-kin_of text rows ids said all count distinct none =
-    let unknown_pass = pass table.Providers kind.UnknownParent (has_unknown_parent (listed_of text)) 2 (listed_of text) in
-    let endless_pass = pass table.Providers kind.ParentCycle (has_endless_chain (listed_of text)) 2 (listed_of text) in
-    let root_pass = pass table.Providers kind.WrongRoot (has_wrong_root (listed_of text)) 2 (listed_of text) in
-    let trees = split_none (table_checks table.Providers provider_columns listed_in listed_checks text) ((unknown_pass ++ endless_pass) ++ root_pass) none in
-    let two = split_none (unknown_pass ++ endless_pass) root_pass trees.1 in
-    let each = split_none unknown_pass endless_pass two.0 in
-    are_kin rows ids all count (are_trees rows distinct (ap unknown_fault said ∙ each.0)) (ap endless_fault said ∙ each.1)
+  pub are_kin : endless_fault rows ≡ None → AreKin ids rows
+  are_kin fine = record { known = kin_known; ends = kin_ends fine }

@@ -6,13 +6,9 @@ pub mod Results
 mod Literals
 pub mod Header
 pub mod Progress
-pub mod ListedPlaces
 pub mod SearchFacts
 pub mod SortedFacts
-pub mod ListedFacts
 pub mod StepsUp
-pub mod Passes
-pub mod ListedTrees
 pub mod ListedTable
 pub mod Rising
 pub mod NameFacts
@@ -23,6 +19,8 @@ pub mod CloudFacts
 pub mod BuildFacts
 pub mod JoinFacts
 pub mod KinFacts
+pub mod ListedRows
+pub mod TreeChecks
 pub mod AllFaults
 pub mod StatedWorld
 pub mod LookupFacts
@@ -57,3 +55,5 @@ pub mod UsageChecks
 pub mod RiseFacts
 pub mod InventoryLists
 pub mod WideAggregates
+pub mod Marks
+pub mod Limits

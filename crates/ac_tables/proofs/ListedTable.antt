@@ -1,13 +1,10 @@
 -- The faults of the parts, in their order, are the fault of the whole.
-use Rattle.std.proofs.Common.{◌≡◌, ◌<◌, ◌∙◌, ◌++◌, ℕ, Bool, true, false, List, [], ◌∷◌, length, get_or, Option, Some, None, refl, sym, arith, zero, suc, ◌+◌, inl, inr, subst}
-use Rattle.std.specs.Prelude.{◌&&◌, not, IfSome}
-use Rattle.std.specs.Option.{is_some, unwrap_or, option_and_then}
-use Rattle.std.proofs.lemmas.List.{length-map}
+use Rattle.std.proofs.Common.{◌≡◌, ◌<◌, ◌∙◌, ◌++◌, ℕ, Bool, true, false, List, [], ◌∷◌, length, get_or, Option, Some, None, refl, arith, zero, suc, ◌+◌, inl, inr}
+use Rattle.std.specs.Prelude.{◌&&◌, not}
+use Rattle.std.specs.Option.{is_some, unwrap_or}
 use Rattle.std.proofs.lemmas.Bool.{cases_Bool}
-use Rattle.ac_tables.specs.Places.{AreParents}
 use Rattle.ac_tables.specs.Checks.{first_failing, pass, Tells}
 use Rattle.ac_tables.specs.Columns.{table_checks}
-use Rattle.ac_tables.specs.DistinctIds.{parent_place, parent_places}
 use Rattle.ac_tables.specs.DistinctIds.{AreTrees, AreDistinct}
 use Rattle.ac_tables.specs.ProviderTable.{Listed, place_of, listed_at, no_listed, listed_of, provider_columns, listed_in, listed_checks, tree_checks, has_unknown_parent, has_endless_chain, has_wrong_root, unknown_fault, endless_fault, root_fault, trees_fault, listed_fault, providers_fault}
 use Rattle.ac_tables.specs.declared.fault.Table.{Table}
@@ -17,7 +14,6 @@ use Rattle.ac_tables.specs.declared.fault.TableKind.TheVariants as kind
 use Rattle.ac_tables.specs.declared.fault.TableFault.{TableFault}
 use Rattle.ac_tables.specs.declared.fault.TableFault.TheVariants as fault
 use Rattle.ac_tables.proofs.FirstFailing.{append_none, append_some}
-use Rattle.ac_tables.proofs.ListedTrees.{place_found, place_at}
 
 pub tells_first : (xs ys : List (Bool × TableFault)) (e : TableFault) → Tells (first_failing xs) e → Tells (first_failing (xs ++ ys)) e
 tells_first xs ys (fault.At t r k) h = append_some xs ys (fault.At t r k) h
@@ -89,17 +85,3 @@ are_trees all distinct none = record {
   known = λ (i q : ℕ) (h : i < length all) (e : (listed_at all i).parent ≡ Some q).
       known_parent all (listed_at all i).parent q e (none_fails table.Providers kind.UnknownParent (has_unknown_parent all) 2 all no_listed none i h);
 }
-
-if_some : (o : Option ℕ) (n : ℕ) → ((j : ℕ) → o ≡ Some j → j < n) → IfSome o (λ j. j < n)
-if_some None n h = tt
-if_some (Some j) n h = h j refl
-
-inside : (all : List Listed) (o : Option ℕ) (n : ℕ) → n ≡ length all → IfSome (option_and_then (place_of all) o) (λ j. j < n)
-inside all None n e = tt
-inside all (Some q) n e = if_some (place_of all q) n (λ (j : ℕ) (h : place_of all q ≡ Some j). let f = place_found all q j h in omega (arith, f.0, e))
-
-pub are_parents : (all : List Listed) → AreParents (parent_places all)
-are_parents all i h =
-    let count : length (parent_places all) ≡ length all = length-map all (parent_place all) in
-    let here : i < length all = omega (arith, h, count) in
-    subst (λ (o : Option ℕ). IfSome o (λ j. j < length (parent_places all))) (sym (place_at all i here)) (inside all (listed_at all i).parent (length (parent_places all)) count)

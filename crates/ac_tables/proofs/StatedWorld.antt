@@ -36,7 +36,7 @@ stated t ids us ss ns gs kin eu es en ea =
     (λ (i : ℕ) (h : i < length ids).
     ap (numbered_at ids parents (with_used_lists us ss) ns gs) (omega arith)
     ∙ same_provider (numbered_at ids parents (with_used_lists us ss) ns gs i) (gathered t (get_or ids i 0)) refl
-    (sym (agree ids (listed_of t.providers) kin parents refl i h))
+    (sym (agree ids (listed_of t.providers) kin.known parents refl i h))
     (ap (λ l. get_or l i []) held ∙ get_or-map (λ id. with_used (amounts_of (usages_of t.usages) id) (stocks_of (holdings_of t.inventories) id)) ids i 0 [] h)
     (ap (λ l. get_or l i []) en ∙ get_or-map (names_of (marks_of t.traits)) ids i 0 [] h)
     (ap (λ l. get_or l i []) ea ∙ get_or-map (aggregates_of (memberships_of t.aggregates)) ids i 0 [] h))

@@ -1,6 +1,5 @@
 -- Providers whose ids are different and whose parents are there.
-use Rattle.std.specs.Prelude.{◌≡◌, ◌<◌, ℕ, List, length, map, Option, Some}
-use Rattle.std.specs.Option.{option_and_then}
+use Rattle.std.specs.Prelude.{◌≡◌, ◌<◌, ℕ, List, length, Some}
 use Rattle.ac_tables.specs.ProviderTable.{Listed, place_of, listed_at}
 
 -- each provider stands where its id is found
@@ -11,11 +10,3 @@ AreDistinct all = (i : ℕ) → i < length all → place_of all (listed_at all i
 pub record AreTrees (all : List Listed) : Type 0 where
   pub distinct : AreDistinct all
   pub known : (i q : ℕ) → i < length all → (listed_at all i).parent ≡ Some q → (j : ℕ) × (place_of all q ≡ Some j)
-
--- the place of a provider's parent, where it names one that is there
-abbrev pub parent_place : List Listed → Listed → Option ℕ
-parent_place all p = option_and_then (place_of all) p.parent
-
--- the same of each provider
-abbrev pub parent_places : List Listed → List (Option ℕ)
-parent_places all = map (parent_place all) all

@@ -80,6 +80,7 @@ pub record IsTable {V K X : Type 0} (cmp : K → K → Ordering) (shown : ℕ �
   pub same : IsPermutation read rows
   pub sorted : IsSortedBy (row_lt cmp) rows
   pub inside : All (λ r. r.place < count) rows
+  pub numbered : (k : ℕ) (d : TableRow K X) → k < length read → (get_or read k d).number ≡ k + 2
   pub once : unique ≡ true → AllPairs (λ a b. row_ties cmp a b ≡ false) read
   pub apart : unique ≡ true → (k : ℕ) (d : TableRow K X) → k + 1 < length rows → row_ties cmp (slice_index_or rows k d) (slice_index_or rows (k + 1) d) ≡ false
 

@@ -8,7 +8,6 @@ pub(crate) mod entries;
 pub mod entry;
 pub(crate) mod kept_lists;
 pub(crate) mod lookups;
-pub(crate) mod parents;
 pub(crate) mod provider_index;
 pub(crate) mod roots;
 pub(crate) mod roots_by_aggregate;

@@ -9,7 +9,7 @@ use crate::cloud::{Cloud, Counts};
 use crate::fault::TableFault;
 use crate::tables::aggregates::read_aggregates;
 use crate::tables::inventories::Inventories;
-use crate::tables::providers::read_providers;
+use crate::tables::providers::{Providers, read_providers};
 use crate::tables::traits::read_traits;
 use crate::tables::usages::read_usages;
 use std::alloc::Global;
@@ -54,11 +54,14 @@ impl Cloud {
         ensures ok { IfOk result (λ _. tables_fault (tables_of src.now) ≡ None) }
         ensures fault { IfErr result (λ e. Tells (tables_fault (tables_of src.now)) e) }
     {
-        let roll = match read_providers(alloc, src.providers) {
-            Ok(roll) => roll,
+        let Providers {
+            ids,
+            parents,
+            roots,
+        } = match read_providers(alloc, src.providers) {
+            Ok(providers) => providers,
             Err(fault) => return Err(fault),
         };
-        let ids = roll.ids(alloc)?;
         let inventories = match Inventories::read(alloc, ids, src.inventories) {
             Ok(inventories) => inventories,
             Err(fault) => return Err(fault),
@@ -86,7 +89,8 @@ impl Cloud {
             aggregates: aggregates.count() as u32,
         };
         let parts = Parts {
-            roll,
+            parents,
+            roots,
             inventories,
             usages,
             traits,
