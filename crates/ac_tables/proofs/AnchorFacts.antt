@@ -1,5 +1,5 @@
 -- The roots of the trees in which a provider is available.
-use Rattle.std.proofs.Common.{◌≡◌, ◌∙◌, ◌<◌, ◌+◌, ℕ, zero, suc, Bool, true, false, List, [], ◌∷◌, length, get_or, None, refl, sym, ap, ap₂, arith, inl, inr}
+use Rattle.std.proofs.Common.{◌≡◌, ◌∙◌, ◌<◌, ◌+◌, ℕ, zero, suc, Bool, true, false, List, [], ◌∷◌, map, length, get_or, None, refl, sym, ap, ap₂, arith, inl, inr}
 use Rattle.std.specs.Prelude.{◌==◌, ◌&&◌, ◌||◌, codes, if◌then◌else◌}
 use Rattle.std.specs.Option.{is_some}
 use Rattle.std.specs.Str.{bytes_eq}
@@ -11,11 +11,13 @@ use Rattle.std.proofs.lemmas.List.Folds.{list_any_at}
 use Rattle.std.proofs.lemmas.List.FromFn.{get_or-range_with_len, length-range_with_len}
 use Rattle.ac_tables.specs.Places.{parent_in}
 use Rattle.ac_base.specs.Names.{trait_bytes}
+use Rattle.ac_tables.specs.Entries.{entry_pair}
 use Rattle.ac_tables.specs.ListsOf.{lists_of}
 use Rattle.ac_tables.specs.Anchors.{is_among, meets_at, meets, is_joined, joined, is_joining, is_marked}
 use Rattle.ac_tables.specs.World.{Provider, no_provider, provider_at, id_at, root_of, is_root, shares, is_associated, have_common_aggregate, is_available_at, anchors_of}
 use Rattle.ac_tables.specs.CloudWorld.{providers_of}
 use Rattle.ac_tables.specs.declared.cloud.Cloud.{Cloud}
+use Rattle.ac_tables.proofs.WorldFacts.{numbered_here}
 use Rattle.ac_tables.proofs.LookupFacts.{any_map}
 use Rattle.ac_tables.proofs.CloudFacts.{traits_here, aggregates_here, size, parent_is, root_inside, root_here, parts}
 use Rattle.ac_tables.proofs.AvailableFacts.{root_test, root_here as root_is_here}

@@ -1,12 +1,12 @@
 -- The keys of one provider's rows, of which equal ones are left out, are the set of all that is said of it.
-use Rattle.std.proofs.Common.{◌≡◌, ◌∙◌, ◌<◌, ◌≤◌, ℕ, Bool, true, false, List, [], ◌∷◌, map, get_or, refl, sym, ap, ap₂, subst, arith, rules, inl, inr}
+use Rattle.std.proofs.Common.{◌≡◌, ◌∙◌, ◌+◌, ◌<◌, ◌≤◌, ℕ, zero, suc, Bool, true, false, List, [], ◌∷◌, map, length, get_or, refl, sym, ap, ap₂, subst, arith, rules, inl, inr}
 use Rattle.std.specs.Prelude.{◌==◌}
 use Rattle.std.specs.declared.cmp.Ordering.{Ordering}
 use Rattle.std.specs.declared.cmp.Ordering.TheVariants.{Less, Equal, Greater}
 use Rattle.std.specs.Ordering.{is_eq, is_lt, nat_cmp, ordering_then}
 use Rattle.std.specs.Cmp.{IsTotalOrder, tied_itself, nat_cmp_total, nat_cmp_is}
 use Rattle.std.specs.List.{All, Any, AllByRecursion, Contains, dedup, filter}
-use Rattle.std.specs.List.Sorted.{IsSortedBy, IsNonDecreasingBy, IsStrictlySortedBy}
+use Rattle.std.specs.List.Sorted.{IsPermutation, IsSortedBy, IsNonDecreasingBy, IsStrictlySortedBy}
 use Rattle.std.proofs.lemmas.Bool.{cases_Bool, cases_eq, cases_lt}
 use Rattle.std.proofs.lemmas.Map.Keys.{Less-from_sorted}
 use Rattle.std.proofs.lemmas.Cmp.{eq_by_cmp_equiv}

@@ -1,10 +1,10 @@
 -- The checks of usages ask of the inventories only which there are.
-use Rattle.std.proofs.Common.{◌≡◌, ◌++◌, ℕ, List, [], ◌∷◌, sym, ap}
+use Rattle.std.proofs.Common.{◌≡◌, ◌++◌, ℕ, Bool, List, [], ◌∷◌, refl, sym, ap}
 use Rattle.std.specs.Prelude.{not}
 use Rattle.std.specs.List.{list_any}
 use Rattle.std.specs.List.Sorted.{IsPermutation}
 use Rattle.std.proofs.lemmas.List.Sorted.{list_any-IsPermutation}
-use Rattle.ac_tables.specs.Checks.{Row, first_failing}
+use Rattle.ac_tables.specs.Checks.{Row, Check, first_failing}
 use Rattle.ac_tables.specs.Columns.{id_in, text_in, table_checks}
 use Rattle.ac_tables.specs.InventoryTable.{Holding, provider_name, class_name, is_holding, is_one_of}
 use Rattle.ac_tables.specs.UsageTable.{Usage, usage_in, usage_columns, usage_field_checks, usage_row_checks, used_checks, usages_fault, is_usage}

@@ -1,4 +1,4 @@
-use Rattle.std.proofs.Common.{◌∙◌, arith, ap, map, sym, subst, List, []}
+use Rattle.std.proofs.Common.{◌∙◌, arith, ap, map, sym, subst, List, ℕ, get_or, []}
 use Rattle.std.specs.List.Sorted.{IsStrictlySortedBy}
 use Rattle.std.specs.Map.{lookup}
 use Rattle.std.specs.Str.{bytes_eq}
@@ -7,6 +7,7 @@ use Rattle.ac_base.specs.Texts.{text_cmp}
 use Rattle.ac_tables.specs.Entries.{entry_class, entry_pair}
 use Rattle.ac_tables.specs.declared.cloud.entry.Entry.{Entry}
 use Rattle.ac_tables.proofs.CloudFacts.{inside, holdings_here, parts}
+use Rattle.ac_tables.specs.ListsOf.{lists_of}
 use Rattle.ac_tables.proofs.cloud.Cloud.find_entry.Goals as goal
 
 pub of-requires : goal.of-requires

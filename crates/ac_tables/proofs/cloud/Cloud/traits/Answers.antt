@@ -1,6 +1,7 @@
-use Rattle.std.proofs.Common.{◌∙◌, arith, ap, map}
+use Rattle.std.proofs.Common.{◌∙◌, arith, ap, map, sym, subst, List, ℕ, get_or, []}
 use Rattle.ac_base.specs.Names.{trait_bytes}
 use Rattle.ac_tables.proofs.CloudFacts.{inside, traits_here, parts}
+use Rattle.ac_tables.specs.ListsOf.{lists_of}
 use Rattle.ac_tables.proofs.cloud.Cloud.traits.Goals as goal
 
 pub of-requires : goal.of-requires

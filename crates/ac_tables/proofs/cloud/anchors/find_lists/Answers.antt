@@ -1,4 +1,4 @@
-use Rattle.std.proofs.Common.{◌≡◌, ◌<◌, ◌+◌, ◌∙◌, ℕ, List, Option, None, map, length, get_or, sym, ap, subst, true, arith}
+use Rattle.std.proofs.Common.{◌≡◌, ◌<◌, ◌+◌, ◌∙◌, ℕ, List, Option, None, [], map, length, get_or, sym, ap, subst, true, arith}
 use Rattle.std.specs.Option.{is_some}
 use Rattle.ac_tables.specs.ListsOf.{lists_of}
 use Rattle.ac_tables.specs.Anchors.{list_items, list_of, is_joining, AreAsked}

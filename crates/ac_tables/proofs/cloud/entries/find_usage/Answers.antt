@@ -1,4 +1,4 @@
-use Rattle.std.proofs.Common.{◌∙◌, ℕ, map, sym, ap, rules, Some}
+use Rattle.std.proofs.Common.{◌∙◌, ℕ, List, map, sym, ap, rules, Some}
 use Rattle.std.specs.Ordering.{is_eq}
 use Rattle.std.specs.Str.{bytes_eq}
 use Rattle.std.proofs.lemmas.Cmp.{nat_list_cmp_total}

@@ -1,4 +1,4 @@
-use Rattle.std.proofs.Common.{◌∙◌, ◌<◌, ◌++◌, ◌∷◌, [], length, map, take, get_or, arith, sym, ap}
+use Rattle.std.proofs.Common.{◌≡◌, ◌∙◌, ◌<◌, ◌++◌, ◌∷◌, [], length, map, take, get_or, arith, sym, ap}
 use Rattle.std.proofs.lemmas.List.{map-append}
 use Rattle.ac_tables.specs.Anchors.{shares_by}
 use Rattle.ac_tables.specs.ListsOf.{lists_of}

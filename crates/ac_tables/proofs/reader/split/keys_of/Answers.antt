@@ -1,4 +1,4 @@
-use Rattle.std.proofs.Common.{◌∙◌, ap, length}
+use Rattle.std.proofs.Common.{◌∙◌, sym, ap, length}
 use Rattle.std.proofs.lemmas.List.{length-map}
 use Rattle.ac_tables.specs.ListBounds.{lists_in}
 use Rattle.ac_tables.proofs.ListFacts.{lists_map}

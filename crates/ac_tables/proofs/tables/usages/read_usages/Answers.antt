@@ -1,4 +1,4 @@
-use Rattle.std.proofs.Common.{◌∙◌, ℕ, List, Option, map, length, get_or, refl, sym, ap, subst, arith}
+use Rattle.std.proofs.Common.{◌≡◌, ◌∙◌, ◌<◌, ℕ, List, None, Option, map, length, get_or, refl, sym, ap, subst, arith}
 use Rattle.std.specs.Cmp.{on_total}
 use Rattle.std.proofs.lemmas.Cmp.{nat_list_cmp_total}
 use Rattle.std.proofs.lemmas.List.{length-map}
@@ -9,7 +9,7 @@ use Rattle.ac_base.specs.Texts.{text_cmp}
 use Rattle.ac_base.specs.declared.name.ClassName.{ClassName}
 use Rattle.ac_tables.specs.Checks.{Tells}
 use Rattle.ac_tables.specs.TableRows.{row_shown}
-use Rattle.ac_tables.specs.UsageTable.{Usage, usages_of}
+use Rattle.ac_tables.specs.UsageTable.{Usage, usages_of, usages_fault}
 use Rattle.ac_tables.specs.Rows.{records_of}
 use Rattle.ac_tables.specs.Tables.{amounts_of}
 use Rattle.ac_tables.specs.InventoryRows.{class_pair, holdings_shown}

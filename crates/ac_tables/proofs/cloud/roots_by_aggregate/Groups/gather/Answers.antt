@@ -1,4 +1,4 @@
-use Rattle.std.proofs.Common.{ℕ, refl}
+use Rattle.std.proofs.Common.{◌<◌, ◌∙◌, ℕ, [], map, length, refl, sym, arith}
 use Rattle.ac_tables.specs.ListsOf.{lists_of}
 use Rattle.ac_tables.specs.Anchors.{is_met}
 use Rattle.ac_tables.proofs.GroupFacts.{meets_more}

@@ -1,4 +1,4 @@
-use Rattle.std.proofs.Common.{◌≡◌, ℕ}
+use Rattle.std.proofs.Common.{◌≡◌, ℕ, map}
 use Rattle.ac_tables.specs.Anchors.{is_met, meets}
 use Rattle.ac_tables.specs.ListsOf.{lists_of}
 use Rattle.ac_tables.proofs.cloud.roots_by_aggregate.Groups.gather.Given as goal

@@ -1,8 +1,8 @@
-use Rattle.std.proofs.Common.{◌≡◌, ◌∙◌, ℕ, [], sym, ap}
+use Rattle.std.proofs.Common.{◌≡◌, ◌∙◌, ℕ, [], refl, sym, ap}
 use Rattle.csv.specs.Records.{fields_of}
 use Rattle.ac_tables.specs.Checks.{first_failing}
 use Rattle.ac_tables.specs.InventoryTable.{known_checks}
-use Rattle.ac_tables.specs.AggregateTable.{Membership}
+use Rattle.ac_tables.specs.AggregateTable.{Membership, membership_in}
 use Rattle.ac_tables.proofs.Rising.{one_of_place}
 use Rattle.ac_tables.proofs.FirstFailing.{unless_err, unless_none, unless_value}
 use Rattle.ac_tables.proofs.KnownFacts.{membership_fields_tell, membership_fields_fine, known, unknown}

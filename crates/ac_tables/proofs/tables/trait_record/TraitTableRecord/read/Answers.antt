@@ -1,4 +1,4 @@
-use Rattle.std.proofs.Common.{◌∙◌, []}
+use Rattle.std.proofs.Common.{◌∙◌, [], refl, sym}
 use Rattle.csv.specs.Records.{fields_of}
 use Rattle.ac_tables.specs.TraitTable.{mark_in}
 use Rattle.ac_tables.proofs.Rising.{one_of_place}
