@@ -196,8 +196,8 @@ GROWTHS = [
 
 
 # The calls that take memory, each by itself: those of the libraries, and of the program.
-REFUSALS = [Case(f'each growth refused, in the tests of {crate}', ['sh', '-c', f'exec python3 -B tests/refusals.py {crate}'], SOME)
-            for crate in ('ac_base', 'ac_tests', 'ac_cli')]
+REFUSALS = [Case(f'each growth refused, in the tests of {name}', ['sh', '-c', f'exec python3 -B tests/refusals.py {name}'], SOME)
+            for name in ('ac_base', 'ac_tests tables::', 'ac_tests query::', 'ac_tests search::', 'ac_tests report::', 'ac_tests run::', 'ac_cli')]
 
 
 def status_of(text):

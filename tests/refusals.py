@@ -1,7 +1,8 @@
 #!/usr/bin/env python3
-"""tests/refusals.py CRATE: runs each test of the crate's modules `refusals` again and again. Each run is refused one growth of its memory, the first,
-the second and so on, until a run needs no more. Such a test makes one call that takes memory: it passes where the call answers as it does with ample
-memory, or says want of memory, and fails where it answers anything else. Says which growth made which test fail, or how many growths there were.
+"""tests/refusals.py CRATE [MODULE]: runs each test of the crate's modules `refusals`, or of those below MODULE, again and again. Each run is refused
+one growth of its memory, the first, the second and so on, until a run needs no more. Such a test makes one call that takes memory: it passes where the
+call answers as it does with ample memory, or says want of memory, and fails where it answers anything else. Says which growth made which test fail, or
+how many growths there were.
 
 The tests are those that were proved and built last, crates/CRATE/out/CRATE_tests: `rt ci` leaves them, and `rt test` makes them."""
 from __future__ import annotations
@@ -30,10 +31,10 @@ def missing(crate, program):
     return None
 
 
-def tests(program):
+def tests(program, module):
     said = subprocess.run([program, '--list'], capture_output=True, text=True, check=True).stdout
     names = [line.removesuffix(': test') for line in said.splitlines() if line.endswith(': test')]
-    return [name for name in names if '::refusals::' in name]
+    return [name for name in names if '::refusals::' in name and name.startswith(module)]
 
 
 def failed(program, name, library):
@@ -47,13 +48,13 @@ def failed(program, name, library):
     return f'{name} has no end', MOST
 
 
-def main(crate):
+def main(crate, module=''):
     program = os.path.join(ROOT, 'crates', crate, 'out', f'{crate}_tests')
     why = missing(crate, program)
     if why:
         print(why)
         return 1
-    names = tests(program)
+    names = tests(program, module)
     with tempfile.TemporaryDirectory() as folder:
         library = refuser(folder)
         found = [failed(program, name, library) for name in names]
