@@ -431,7 +431,7 @@ fn tells_the_65537th_provider(rt: HostRuntime) -> Result<(), Fail> {
     Ok(())
 }
 
-// Whether a provider is above itself and all behind it. By climbing, the calls for 64 providers of the chain would take hours.
+// Whether a provider is above itself and all behind it. By climbing, the calls for 64 providers of the chain would take minutes.
 fn is_above_all(cloud: &Cloud, ix: u32) -> bool {
     for below in ix..cloud.len() {
         if !cloud.is_ancestor(ix, below) {
