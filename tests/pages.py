@@ -55,7 +55,7 @@ def links(page):
 
 def files(crate):
     found = glob.glob(os.path.join(ROOT, 'crates', crate, 'src', '**', '*.rt'), recursive=True)
-    found += glob.glob(os.path.join(ROOT, 'crates', crate, 'specs', '*.antt'))
+    found += glob.glob(os.path.join(ROOT, 'crates', crate, 'specs', '**', '*.antt'), recursive=True)
     return {os.path.relpath(path, os.path.join(ROOT, 'crates', crate)) for path in found}
 
 

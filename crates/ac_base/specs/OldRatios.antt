@@ -3,7 +3,7 @@ use Rattle.std.specs.Prelude.{◌≡◌, ℕ, ◌+◌, ◌-◌, ◌*◌, ◌/◌
 use Rattle.std.specs.List.{list_all}
 use Rattle.std.specs.Option.{option_map, option_and_then}
 use Rattle.ac_base.specs.Texts.{is_zero, is_point, number, at_most, ratio_value}
-use Rattle.ac_base.specs.Quantities.{Stock, capacity}
+use Rattle.ac_base.specs.Quantities.{InventoryNumbers, capacity}
 
 -- digits behind the point, in thousandths: behind three of them all are 0
 abbrev pub old_fraction : List ℕ → Option ℕ
@@ -19,7 +19,7 @@ abbrev pub thousandths : List ℕ → Option ℕ
 thousandths b = option_and_then (at_most 1000000000) (old_parts b (position is_point b))
 
 -- the capacity of an inventory whose ratio is in thousandths
-abbrev pub old_capacity : Stock → ℕ
+abbrev pub old_capacity : InventoryNumbers → ℕ
 old_capacity i = (i.total - i.reserved) * i.ratio / 1000
 
 -- Each text that had thousandths has 1000 times as many millionths, and with them each inventory has the capacity that it had.
@@ -27,4 +27,4 @@ abbrev pub OldRatiosKeep : Type 0
 OldRatiosKeep =
     (b : List ℕ) (n : ℕ) → thousandths b ≡ Some n
     → (ratio_value b ≡ Some (n * 1000))
-    × ((i : Stock) → capacity (record i { ratio = n * 1000 }) ≡ old_capacity (record i { ratio = n }))
+    × ((i : InventoryNumbers) → capacity (record i { ratio = n * 1000 }) ≡ old_capacity (record i { ratio = n }))

@@ -1,8 +1,8 @@
 -- What is known of the devices over memory beside what every device tells.
 use Rattle.std.specs.Prelude.{ℕ, ◌-◌, List, vec_len}
 use Rattle.ac_base.specs.declared.memory.Turn.{Turn}
-use Rattle.ac_base.specs.declared.mem_feed.MemFeed.{MemFeed}
-use Rattle.ac_base.specs.declared.mem_sink.MemSink.{MemSink}
+use Rattle.ac_base.specs.declared.device.mem_feed.MemFeed.{MemFeed}
+use Rattle.ac_base.specs.declared.device.mem_sink.MemSink.{MemSink}
 
 -- the turns that a feed still follows
 abbrev pub feed_turns : MemFeed → List Turn

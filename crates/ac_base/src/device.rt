@@ -2,6 +2,12 @@
 ghost use Rattle.std.specs.Prelude.{◌≡◌, ℕ, ◌<◌, List, Option, length};
 ghost use Rattle.ac_base.specs.Devices.{PullGives, PushTakes, failures_after_pull, failures_after_push, is_pull_failure, is_push_failure};
 
+pub mod from_read;
+pub mod mem_feed;
+pub mod mem_sink;
+pub mod pushing;
+pub mod to_write;
+
 /// What a feed answers.
 #[derive(Clone, Copy, Debug, PartialEq, Eq)]
 pub enum Pull {
@@ -50,7 +56,8 @@ pub trait Sink {
     /// Takes a first part of the piece. `Took(0)` of a piece that isn't empty is a failure.
     fn push(&mut self, piece: &[u8]) -> Push
         ensures bytes { PushTakes (taken self.old) (taken self.new) result piece.now }
-        ensures failures { failures self.new ≡ failures_after_push (failures self.old) result piece.now };
+        ensures failures { failures self.new ≡ failures_after_push
+            (failures self.old) result piece.now };
 }
 
 // Whether an answer of `pull` counts as a failure.

@@ -4,8 +4,8 @@ ghost use Rattle.std.specs.Io.KnownBytes.{Appends, Keeps};
 ghost use Rattle.ac_base.specs.Devices.{Rises, failures_after_push};
 ghost use Rattle.ac_base.specs.Gathered.{HandsOn, IsFirstPart, gathered};
 
+use crate::device::pushing::{WriteFailed, push_all};
 use crate::device::{Push, Sink};
-use crate::pushing::{WriteFailed, push_all};
 
 /// A sink that gathers what it takes in a room, and hands it on to another sink when the room is full. What it has taken
 /// is what the other has, and then what is in the room. It fails where the other does: each push makes at most one there.
@@ -34,9 +34,11 @@ impl<W: Sink> Gathering<W> {
 
     /// Hands on all that is in the room, and gives the other sink back.
     pub fn finish(self) -> (Result<(), WriteFailed>, W)
-        ensures ok { OnOk result.0 (Keeps (⟦<Gathering<W> as Sink>⟧.taken self) (W.taken result.1)) }
+        ensures ok { OnOk result.0 (Keeps (⟦<Gathering<W> as Sink>⟧.taken self)
+            (W.taken result.1)) }
         ensures part { IsFirstPart (⟦<Gathering<W> as Sink>⟧.taken self) (W.taken result.1) }
-        ensures rises { OnErr result.0 (Rises (⟦<Gathering<W> as Sink>⟧.failures self) (W.failures result.1)) }
+        ensures rises { OnErr result.0 (Rises (⟦<Gathering<W> as Sink>⟧.failures self)
+            (W.failures result.1)) }
         ensures failures { ⟦<Gathering<W> as Sink>⟧.failures self ≤ W.failures result.1 }
     {
         let Gathering {
@@ -59,8 +61,11 @@ impl<W: Sink> Gathering<W> {
     // Hands on a first part of what is in the room, which is full.
     fn hand_on(&mut self) -> Push
         requires { self.old.used ≡ vec_len self.old.room }
-        ensures taken { Keeps (⟦<Gathering<W> as Sink>⟧.taken self.old) (⟦<Gathering<W> as Sink>⟧.taken self.new) }
-        ensures failures { ⟦<Gathering<W> as Sink>⟧.failures self.new ≡ failures_after_push (⟦<Gathering<W> as Sink>⟧.failures self.old) result self.old.room.items }
+        ensures taken { Keeps (⟦<Gathering<W> as Sink>⟧.taken self.old)
+            (⟦<Gathering<W> as Sink>⟧.taken self.new) }
+        ensures failures { ⟦<Gathering<W> as Sink>⟧.failures self.new
+            ≡ failures_after_push (⟦<Gathering<W> as Sink>⟧.failures self.old) result
+            self.old.room.items }
         ensures size { vec_len self.new.room ≡ vec_len self.old.room }
         ensures room { HandsOn result (vec_len self.old.room) self.new.used }
     {
@@ -74,8 +79,10 @@ impl<W: Sink> Gathering<W> {
 
     // Puts a first part of a piece into the room, as much as there is room for.
     fn fill(&mut self, piece: &[u8]) -> usize
-        ensures taken { Appends (⟦<Gathering<W> as Sink>⟧.taken self.old) (⟦<Gathering<W> as Sink>⟧.taken self.new) (take result piece.now) }
-        ensures failures { ⟦<Gathering<W> as Sink>⟧.failures self.new ≡ ⟦<Gathering<W> as Sink>⟧.failures self.old }
+        ensures taken { Appends (⟦<Gathering<W> as Sink>⟧.taken self.old)
+            (⟦<Gathering<W> as Sink>⟧.taken self.new) (take result piece.now) }
+        ensures failures { ⟦<Gathering<W> as Sink>⟧.failures self.new
+            ≡ ⟦<Gathering<W> as Sink>⟧.failures self.old }
         ensures count { result ≡ min (length piece.now) (vec_len self.old.room - self.old.used) }
     {
         let count = piece.len().min(self.room.len() - self.used);

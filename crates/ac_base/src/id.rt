@@ -35,6 +35,13 @@ impl Id {
         }
     }
 
+    /// The number, as `uuid` has it.
+    pub fn as_u128(&self) -> u128
+        ensures { result ≡ self.now }
+    {
+        self.number
+    }
+
     /// The hyphenated form in lower case.
     pub fn text(&self) -> [u8; 36]
         ensures { result ≡ id_text self.now }

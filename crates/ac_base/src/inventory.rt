@@ -1,6 +1,6 @@
 //! Inventories, and what they leave for a request.
 ghost use Rattle.std.specs.Prelude.{◌≡◌, ◌≤◌};
-ghost use Rattle.ac_base.specs.Quantities.{capacity, units, checked_stock};
+ghost use Rattle.ac_base.specs.Quantities.{capacity, units, checked_inventory};
 
 use crate::number::Ratio;
 use std::marker::Model;
@@ -19,9 +19,9 @@ pub struct Inventory {
 }
 
 impl Model for Inventory {
-    ghost use Rattle.ac_base.specs.Quantities.{Stock, IsStock};
+    ghost use Rattle.ac_base.specs.Quantities.{InventoryNumbers, IsInventory};
 
-    ghost Value = { Stock };
+    ghost Value = { InventoryNumbers };
 
     ghost view = { λ a. record {
       total = a.total;
@@ -32,7 +32,7 @@ impl Model for Inventory {
       ratio = a.ratio;
     } };
 
-    ghost invariant = { λ a. IsStock (record {
+    ghost invariant = { λ a. IsInventory (record {
       total = a.total;
       reserved = a.reserved;
       min_unit = a.min_unit;
@@ -61,7 +61,7 @@ impl Inventory {
         step_size: u32,
         ratio: Ratio,
     ) -> Option<Inventory>
-        ensures { result ≡ checked_stock (record {
+        ensures { result ≡ checked_inventory (record {
           total = total;
           reserved = reserved;
           min_unit = min_unit;

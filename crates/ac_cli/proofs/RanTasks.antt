@@ -3,7 +3,7 @@ use Rattle.std.proofs.Common.{◌≡◌, ◌∙◌, ℕ, List, Option, ap, subst
 use Rattle.ac_query.specs.declared.version.Version.{Version}
 use Rattle.ac_run.specs.Answer.{Task}
 use Rattle.ac_run.specs.declared.job.Command.{Command}
-use Rattle.ac_run.specs.declared.job.Inputs.{Inputs}
+use Rattle.ac_tables.specs.declared.read.FiveTables.{FiveTables}
 use Rattle.ac_cli.specs.Program.{Ran, Streams}
 
 abbrev task_with : Command → List ℕ → Version → Option (List ℕ) → Task
@@ -14,6 +14,6 @@ pub same_task : {c d : Command} {q r : List ℕ} {v w : Version} {t u : Option (
 same_task {c} {d} {q} {r} {v} {w} {t} {u} command query version token =
     ap (λ x. task_with x q v t) command ∙ ap (λ x. task_with d x v t) query ∙ ap (λ x. task_with d r x t) version ∙ ap (λ x. task_with d r w x) token
 
-pub ran_same : {R : Type 0} (remaining : R → Option (List ℕ)) (failures : R → ℕ) (t u : Task) (from to : Inputs R) (s : Streams) (given : ℕ) → t ≡ u
+pub ran_same : {R : Type 0} (remaining : R → Option (List ℕ)) (failures : R → ℕ) (t u : Task) (from to : FiveTables R) (s : Streams) (given : ℕ) → t ≡ u
     → Ran remaining failures t from to s given → Ran remaining failures u from to s given
 ran_same remaining failures t u from to s given e ran = subst (λ task. Ran remaining failures task from to s given) e ran

@@ -3,9 +3,9 @@ use Rattle.std.specs.Prelude.{◌≡◌, ⊤, List, ℕ, Option, Some, None}
 use Rattle.ac_tables.specs.declared.fault.Table.{Table}
 use Rattle.ac_tables.specs.declared.fault.Table.TheVariants as table
 use Rattle.ac_cli.specs.Words.{Line, path_of}
-use Rattle.ac_run.specs.declared.job.Inputs.{Inputs}
+use Rattle.ac_tables.specs.declared.read.FiveTables.{FiveTables}
 
-abbrev pub feed_of : {R : Type 0} → Inputs R → Table → Option R
+abbrev pub feed_of : {R : Type 0} → FiveTables R → Table → Option R
 feed_of inputs table.Providers = Some inputs.providers
 feed_of inputs table.Inventories = Some inputs.inventories
 feed_of inputs table.Usages = inputs.usages
@@ -20,7 +20,7 @@ IsOpened opens (Some path) None = ⊥
 IsOpened opens (Some path) (Some feed) = opens path feed
 
 -- each table has what was opened at the path that the line names for it
-abbrev pub AreOpened : {R : Type 0} → (List ℕ → R → Type 0) → Line → Inputs R → Type 0
+abbrev pub AreOpened : {R : Type 0} → (List ℕ → R → Type 0) → Line → FiveTables R → Type 0
 AreOpened opens line inputs = (t : Table) → IsOpened opens (path_of line t) (feed_of inputs t)
 
 -- the path that the line names for a table was refused

@@ -14,7 +14,7 @@ use Rattle.ac_run.specs.Lines.{memory_line, output_line, unreadable_line}
 use Rattle.ac_run.specs.Run.{FailsOr, IsAnswered, IsRefused, IsUnread}
 use Rattle.ac_run.specs.Writing.{TakesLine}
 use Rattle.ac_run.specs.declared.job.Command.TheVariants.{Tokens}
-use Rattle.ac_run.specs.declared.job.Inputs.{Inputs}
+use Rattle.ac_tables.specs.declared.read.FiveTables.{FiveTables}
 use Rattle.ac_cli.specs.Opening.{AreOpened}
 use Rattle.ac_cli.specs.Words.{Line, Says, faults, named, path_of}
 
@@ -57,7 +57,7 @@ pub record IsTold (s : Streams) (text : List ℕ) (wanted given : ℕ) : Type 0 
 -- ---- a run
 
 -- What each status of a run says, over feeds that were these before and after.
-pub record Ran {R : Type 0} (remaining : R → Option (List ℕ)) (failures : R → ℕ) (task : Task) (from to : Inputs R) (s : Streams) (given : ℕ) : Type 0 where
+pub record Ran {R : Type 0} (remaining : R → Option (List ℕ)) (failures : R → ℕ) (task : Task) (from to : FiveTables R) (s : Streams) (given : ℕ) : Type 0 where
   pub written : given ≤ 1 → (b : Bytes) → TellBytes remaining from b → IsAnswered (answer task b) s.out_old s.out_new s.err_old s.err_new given
   pub tables : given ≡ 3 → (failed : Option Table) × FailsOr (λ t. IsUnread (FeedRose failures from to t) t s.err_old s.err_new s.err_before s.err_after)
       ((b : Bytes) → TellBytes remaining from b → IsRefused (answer task b) s.err_old s.err_new s.err_before s.err_after given) failed
@@ -85,8 +85,8 @@ pub record IsUnopened (refuses : List ℕ → Type 0) (line : Line) (s : Streams
 
 -- What a line asks for was run over what was opened at its paths.
 pub record RanOpened {R : Type 0} (opens : List ℕ → R → Type 0) (remaining : R → Option (List ℕ)) (failures : R → ℕ) (line : Line) (s : Streams) (given : ℕ) : Type 0 where
-  pub from : Inputs R
-  pub to : Inputs R
+  pub from : FiveTables R
+  pub to : FiveTables R
   pub files : AreOpened opens line from
   pub ran : Ran remaining failures (task_asked line) from to s given
 
@@ -144,8 +144,8 @@ sample_bytes = record {
 
 -- The task of the sample was run over its tables.
 pub record RanSample {R : Type 0} (remaining : R → Option (List ℕ)) (failures : R → ℕ) (s : Streams) (given : ℕ) : Type 0 where
-  pub from : Inputs R
-  pub to : Inputs R
+  pub from : FiveTables R
+  pub to : FiveTables R
   pub tells : TellBytes remaining from sample_bytes
   pub ran : Ran remaining failures sample_task from to s given
 

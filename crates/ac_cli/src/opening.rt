@@ -22,7 +22,8 @@ fn opened<H: Host>(host: &H, path: &str, table: Table) -> Result<H::File, Table>
 // The file of a table that has to be given.
 fn needed_feed<H: Host>(host: &H, words: &Words, table: Table) -> Result<H::File, Table>
     requires { is_some (path_of words.now table) ≡ true }
-    ensures file { IfOk result (λ file. IsOpened (H.opens host.now) (path_of words.now table) (Some file)) }
+    ensures file { IfOk result (λ file.
+        IsOpened (H.opens host.now) (path_of words.now table) (Some file)) }
     ensures fault { IfErr result (IsRefusedPath (H.refuses host.now) words.now) }
 {
     match words.path(table) {

@@ -16,7 +16,8 @@ use std::alloc::Global;
 // Tells a text. What the sink doesn't take of it is dropped.
 fn tell_text<E: Sink>(err: &mut E, text: &[u8])
     ensures part { TakesPart (E.taken err.old) (E.taken err.new) text.now }
-    ensures whole { (Rises (E.failures err.old) (E.failures err.new) → ⊥) → Appends (E.taken err.old) (E.taken err.new) text.now }
+    ensures whole { (Rises (E.failures err.old) (E.failures err.new) → ⊥)
+        → Appends (E.taken err.old) (E.taken err.new) text.now }
 {
     let _ = push_all(err, text);
 }
@@ -30,14 +31,16 @@ fn ran<F: Feed, W: Sink + Drop, E: Sink>(
     err: &mut E,
 ) -> (u8, W)
     requires { HasToken job.now.command (option_map (λ token. token.now) job.now.token) }
-    ensures { Ran F.remaining F.failures (task_of job.now) inputs.old inputs.new (seen W.taken W.failures E.taken E.failures out result.1 err.old err.new) result.0 }
+    ensures { Ran F.remaining F.failures (task_of job.now) inputs.old inputs.new
+        (seen W.taken W.failures E.taken E.failures out result.1 err.old err.new) result.0 }
 {
     run_gathered(alloc, job, inputs, out, err)
 }
 
 // Writes a text that was asked for.
 fn show<W: Sink + Drop, E: Sink>(text: &str, mut out: W, err: &mut E) -> (u8, W)
-    ensures { IsShown text.now (seen W.taken W.failures E.taken E.failures out result.1 err.old err.new) result.0 }
+    ensures { IsShown text.now (seen W.taken W.failures E.taken E.failures out result.1 err.old
+        err.new) result.0 }
 {
     match push_all(&mut out, text.as_bytes()) {
         Ok(()) => (0, out),
@@ -53,7 +56,9 @@ fn answer_line<H: Host + AllocGlobal, W: Sink + Drop, E: Sink>(
     err: &mut E,
 ) -> (u8, W)
     requires { HasToken words.now.command words.now.token }
-    ensures { EndsForLine (H.opens host.now) (H.refuses host.now) H.File.remaining H.File.failures words.now (seen W.taken W.failures E.taken E.failures out result.1 err.old err.new) result.0 }
+    ensures { EndsForLine (H.opens host.now)
+        (H.refuses host.now) H.File.remaining H.File.failures words.now
+        (seen W.taken W.failures E.taken E.failures out result.1 err.old err.new) result.0 }
 {
     match opened_inputs(host, words) {
         Ok(mut inputs) => ran(host.alloc(), &words.job(), &mut inputs, out, err),
@@ -68,7 +73,11 @@ fn answer_words<H: Host + AllocGlobal, W: Sink + Drop, E: Sink>(
     out: W,
     err: &mut E,
 ) -> (u8, W)
-    ensures { EndsForWords (λ line. EndsForLine (H.opens host.now) (H.refuses host.now) H.File.remaining H.File.failures line (seen W.taken W.failures E.taken E.failures out result.1 err.old err.new) result.0) (map string_bytes given.now) (seen W.taken W.failures E.taken E.failures out result.1 err.old err.new) result.0 }
+    ensures { EndsForWords (λ line.
+        EndsForLine (H.opens host.now) (H.refuses host.now) H.File.remaining H.File.failures line
+        (seen W.taken W.failures E.taken E.failures out result.1 err.old err.new) result.0)
+        (map string_bytes given.now) (seen W.taken W.failures E.taken E.failures out result.1
+        err.old err.new) result.0 }
 {
     match read_words(host.alloc(), given) {
         Ok(words) => answer_line(host, &words, out, err),
@@ -84,7 +93,9 @@ fn answer_words<H: Host + AllocGlobal, W: Sink + Drop, E: Sink>(
 
 // Runs the job of the sample.
 fn answer_sample<W: Sink + Drop, E: Sink>(alloc: Global, out: W, err: &mut E) -> (u8, W)
-    ensures { RanSample ⟦<FromRead<&'static [u8]> as Feed>⟧.remaining ⟦<FromRead<&'static [u8]> as Feed>⟧.failures (seen W.taken W.failures E.taken E.failures out result.1 err.old err.new) result.0 }
+    ensures { RanSample ⟦<FromRead<&'static [u8]> as Feed>⟧.remaining
+        ⟦<FromRead<&'static [u8]> as Feed>⟧.failures
+        (seen W.taken W.failures E.taken E.failures out result.1 err.old err.new) result.0 }
 {
     ran(alloc, &sample::job(), &mut sample::inputs(), out, err)
 }
@@ -97,7 +108,13 @@ pub fn answer<H: Host + AllocGlobal, W: Sink + Drop, E: Sink>(
     out: W,
     err: &mut E,
 ) -> (u8, W)
-    ensures { EndsProgram (H.gives host.now) (H.garbles host.now) (RanSample ⟦<FromRead<&'static [u8]> as Feed>⟧.remaining ⟦<FromRead<&'static [u8]> as Feed>⟧.failures (seen W.taken W.failures E.taken E.failures out result.1 err.old err.new) result.0) (λ line. EndsForLine (H.opens host.now) (H.refuses host.now) H.File.remaining H.File.failures line (seen W.taken W.failures E.taken E.failures out result.1 err.old err.new) result.0) (seen W.taken W.failures E.taken E.failures out result.1 err.old err.new) result.0 }
+    ensures { EndsProgram (H.gives host.now) (H.garbles host.now)
+        (RanSample ⟦<FromRead<&'static [u8]> as Feed>⟧.remaining
+        ⟦<FromRead<&'static [u8]> as Feed>⟧.failures
+        (seen W.taken W.failures E.taken E.failures out result.1 err.old err.new) result.0) (λ line.
+        EndsForLine (H.opens host.now) (H.refuses host.now) H.File.remaining H.File.failures line
+        (seen W.taken W.failures E.taken E.failures out result.1 err.old err.new) result.0)
+        (seen W.taken W.failures E.taken E.failures out result.1 err.old err.new) result.0 }
 {
     match host.words() {
         Ok(words) => {

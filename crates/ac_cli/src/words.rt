@@ -112,7 +112,8 @@ pub fn read_words(alloc: Global, words: &[String]) -> Result<Words, WordFault>
     ensures entries { IfOk result (Says (named (map string_bytes words.now))) }
     ensures faultless { OnOk result (faults (map string_bytes words.now) ≡ []) }
     ensures fault { IfErr result (Tells (faults (map string_bytes words.now))) }
-    ensures taken { IsTrue (is_taken (map string_bytes words.now)) → IfErr result (λ fault. fault ≡ NoMemory) }
+    ensures taken { IsTrue (is_taken (map string_bytes words.now))
+        → IfErr result (λ fault. fault ≡ NoMemory) }
 {
     let grammar = grammar::program(alloc)?;
     match grammar.try_get_matches_from(words) {

@@ -9,13 +9,13 @@ use Rattle.std.proofs.lemmas.Bool.Decides.{nat_tests}
 use Rattle.std.proofs.lemmas.List.Sums.{sum_by-cons, sum_by-append}
 use Rattle.ac_base.specs.declared.name.Suffix.{Suffix}
 use Rattle.ac_base.specs.Names.{suffix_bytes}
-use Rattle.ac_query.specs.declared.draft.GroupDraft.{GroupDraft}
+use Rattle.ac_query.specs.declared.reading.draft.GroupDraft.{GroupDraft}
 use Rattle.ac_query.specs.Asked.{Group, Asked}
-use Rattle.ac_query.specs.Gathered.{of_suffix}
+use Rattle.ac_query.specs.Laws.Gathered.{of_suffix}
 use Rattle.ac_query.specs.Faults.{Fault, policy_missing, too_many_slots, first_fault, has_resources, listed_suffixes, group_condition, suffix_condition, is_of, needs_policy, slot_count, entry_count, is_too_large, asked_conditions}
-use Rattle.ac_query.specs.DraftShown.{entry_shown}
-use Rattle.ac_query.proofs.Drafts.{key_cmp}
-use Rattle.ac_query.proofs.PairSteps.{first_fault-append, first_fault-found}
+use Rattle.ac_query.specs.Shown.Draft.{entry_shown}
+use Rattle.ac_query.proofs.Pairs.Drafts.{key_cmp}
+use Rattle.ac_query.proofs.Pairs.PairSteps.{first_fault-append, first_fault-found}
 
 -- whether there is a group of a suffix
 pub group_there : (es : List (Suffix × GroupDraft)) (k : Suffix) → is_some (lookup (is_at (key_cmp k)) es) ≡ list_any (is_of (suffix_bytes k)) (map of_suffix (map entry_shown es))

@@ -7,8 +7,8 @@ use Rattle.std.specs.List.{list_any}
 use Rattle.ac_query.specs.declared.query.Query.{Query}
 use Rattle.ac_query.specs.Asked.{Group, Asked, Slot, class_slot, group_slots, slots_from, slots_of}
 use Rattle.ac_query.specs.Faults.{Fault, no_resources, first_fault, has_resources, listed_suffixes, group_condition, suffix_condition, needs_policy, slot_count, entry_count, is_too_large, asked_conditions}
-use Rattle.ac_query.specs.QueriesShown.{asked_of}
-use Rattle.ac_query.proofs.Once.{second_part}
+use Rattle.ac_query.specs.Shown.Queries.{asked_of}
+use Rattle.ac_query.proofs.Pairs.Once.{second_part}
 
 -- the slots of a group
 count_of : (i : ℕ) (g : Option (List ℕ) × Group) → length (group_slots i g) ≡ slot_count g

@@ -3,7 +3,7 @@ use Rattle.std.proofs.Common.{◌≡◌, ℕ, suc, ◌+◌, add-zero, List, [], 
 use Rattle.std.specs.List.{slice_get, AllByRecursion}
 use Rattle.ac_query.specs.Asked.{Group, Slot, class_slot, group_slots, slots_from}
 use Rattle.ac_query.specs.Laws.{SlotsNameGroups}
-use Rattle.ac_query.proofs.Asking.{all_append}
+use Rattle.ac_query.proofs.Pairs.Asking.{all_append}
 
 module _ (all : List (Option (List ℕ) × Group)) where
   IsPlaced : Slot → Type 0

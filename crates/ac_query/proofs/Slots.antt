@@ -8,7 +8,7 @@ use Rattle.std.proofs.lemmas.List.FromFn.{map-range_with_len_more}
 use Rattle.ac_query.specs.declared.slot.Slot as rust
 use Rattle.ac_query.specs.Texts.{has_text}
 use Rattle.ac_query.specs.Asked.{Group, Slot, class_slot, suffix_slot, group_slots, slots_from, lists_suffix, lists_slot}
-use Rattle.ac_query.specs.SlotsShown.{slot_group, slot_in, slot_shown, slots_at}
+use Rattle.ac_query.specs.Shown.Slots.{slot_group, slot_in, slot_shown, slots_at}
 
 some-some : {X : Type 0} (o : Option X) (x : Option X) → Some x ≡ option_map (λ s. Some s) o → x ≡ o
 some-some None x h = absurd (cc)

@@ -3,11 +3,11 @@ use Rattle.std.proofs.Common.{◌≡◌, ℕ, List, Option, Some, None, IfSome, 
 use Rattle.ac_query.specs.declared.version.Version.{Version}
 use Rattle.ac_query.specs.Pairs.{pairs_of}
 use Rattle.ac_query.specs.Asked.{Asked}
-use Rattle.ac_query.specs.Gathered.{Gathered, as_asked, gathered, asked_by}
+use Rattle.ac_query.specs.Laws.Gathered.{Gathered, as_asked, gathered, asked_by}
 use Rattle.ac_query.specs.Faults.{Fault, too_long, first_fault, pairs_conditions, text_conditions, asked_conditions, query_fault}
 use Rattle.ac_query.specs.Asks.{Asks}
-use Rattle.ac_query.proofs.Asking.{asks_once}
-use Rattle.ac_query.proofs.PairSteps.{first_fault-append, first_fault-found}
+use Rattle.ac_query.proofs.Pairs.Asking.{asks_once}
+use Rattle.ac_query.proofs.Pairs.PairSteps.{first_fault-append, first_fault-found}
 
 pub asked_is : (version : Version) (pairs : List (List ℕ × List ℕ)) (g : Gathered) → g ≡ gathered version pairs → as_asked g ≡ asked_by version pairs
 unfolding asked_by

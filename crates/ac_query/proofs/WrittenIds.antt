@@ -14,7 +14,7 @@ use Rattle.uuid.proofs.RoundTrips.{parses_hyphenated}
 use Rattle.uuid.proofs.OrderLemmas.{from_be_bytes-to_be_bytes_16}
 use Rattle.ac_base.specs.Texts.{id_value, id_text}
 use Rattle.ac_query.specs.Texts.{is_comma, items_of}
-use Rattle.ac_query.specs.Values.{with_id_item, ids_value}
+use Rattle.ac_query.specs.Pairs.Values.{with_id_item, ids_value}
 use Rattle.ac_query.specs.Tokens.{part_text, ids_text}
 use Rattle.ac_query.specs.Laws.{TokenReads}
 

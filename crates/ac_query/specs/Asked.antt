@@ -2,7 +2,7 @@
 use Rattle.std.specs.Prelude.{ℕ, ◌+◌, Bool, false, List, [], ◌∷◌, ◌++◌, map, Option, Some, None, unwrap_or}
 use Rattle.std.specs.List.{slice_get}
 use Rattle.ac_query.specs.Texts.{has_text}
-use Rattle.ac_query.specs.Values.{AggregateRule}
+use Rattle.ac_query.specs.Pairs.Values.{AggregateRule}
 
 -- What is asked of a group: amounts by class, classes in byte order; traits in byte order, each once; lists of traits of which one
 -- each is asked, and aggregate rules, both in the order of their pairs; perhaps a tree.

@@ -4,7 +4,7 @@ use Rattle.std.specs.List.{filter_map, flat_map, AllByRecursion}
 use Rattle.std.specs.Str.{bytes_eq}
 use Rattle.ac_query.specs.declared.version.Version.{Version}
 use Rattle.ac_query.specs.Texts.{in_byte_order}
-use Rattle.ac_query.specs.Values.{AggregateRule, Part, needs, traits, any_of, aggregates, tree, Given, in_group, root_traits, policy, subtree, at_most}
+use Rattle.ac_query.specs.Pairs.Values.{AggregateRule, Part, needs, traits, any_of, aggregates, tree, Given, in_group, root_traits, policy, subtree, at_most}
 use Rattle.ac_query.specs.Pairs.{given}
 use Rattle.ac_query.specs.Asked.{Group, Asked}
 

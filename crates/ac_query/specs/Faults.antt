@@ -4,11 +4,11 @@ use Rattle.std.specs.List.{list_any, flat_map}
 use Rattle.std.specs.Str.{bytes_eq}
 use Rattle.ac_query.specs.declared.version.Version.{Version}
 use Rattle.ac_query.specs.Texts.{has_text, in_byte_order}
-use Rattle.ac_query.specs.Parameters.{Parameter, parameter, may_repeat}
-use Rattle.ac_query.specs.Values.{Given, given_of, is_conflict}
+use Rattle.ac_query.specs.Pairs.Parameters.{Parameter, parameter, may_repeat}
+use Rattle.ac_query.specs.Pairs.Values.{Given, given_of, is_conflict}
 use Rattle.ac_query.specs.Pairs.{pairs_of}
 use Rattle.ac_query.specs.Asked.{Group, Asked, lists_suffix}
-use Rattle.ac_query.specs.Gathered.{asked_by}
+use Rattle.ac_query.specs.Laws.Gathered.{asked_by}
 
 -- A fault; the number is that of the pair, from 1. The unsuffixed group has no suffix.
 pub data Fault : Type 0 where

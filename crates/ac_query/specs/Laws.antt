@@ -1,4 +1,6 @@
 -- Laws of the definitions.
+pub mod Gathered
+pub mod InOrder
 use Rattle.std.specs.Prelude.{◌≡◌, ℕ, ◌^◌, ◌<◌, Bool, true, false, not, ◌&&◌, List, [], ◌∷◌, map, codes, Option, Some, None, if◌then◌else◌}
 use Rattle.std.specs.List.{AllByRecursion, filter, slice_get}
 use Rattle.std.specs.Option.{option_and_then, option_map}
@@ -7,10 +9,10 @@ use Rattle.ac_base.specs.Texts.{text_cmp, id_value, name_value, suffix_value}
 use Rattle.ac_tables.specs.Sorted.{TextMap, map_of}
 use Rattle.ac_query.specs.declared.version.Version.{Version}
 use Rattle.ac_query.specs.Texts.{behind, has_text, in_byte_order, items_of}
-use Rattle.ac_query.specs.Values.{Traits, ids_value, names_value, need_value, needs_value, subtree_value, traits_value}
+use Rattle.ac_query.specs.Pairs.Values.{Traits, ids_value, names_value, need_value, needs_value, subtree_value, traits_value}
 use Rattle.ac_query.specs.Asked.{Asked, slots_of}
 use Rattle.ac_query.specs.Asks.{Asks}
-use Rattle.ac_query.specs.Gathered.{asked_by}
+use Rattle.ac_query.specs.Laws.Gathered.{asked_by}
 use Rattle.ac_query.specs.Faults.{first_fault, pairs_conditions}
 use Rattle.ac_query.specs.Tokens.{ids_text}
 

@@ -1,12 +1,14 @@
 -- The pairs of a query, and what they give.
+pub mod Parameters
+pub mod Values
 use Rattle.std.specs.Prelude.{ℕ, List, map, Option}
 use Rattle.std.specs.List.{filter_map}
 use Rattle.std.specs.Option.{option_and_then}
 use Rattle.std.specs.Str.Lossy.{utf8_lossy}
 use Rattle.form_urlencoded.specs.Form.{decode, raw_pairs}
 use Rattle.ac_query.specs.declared.version.Version.{Version}
-use Rattle.ac_query.specs.Parameters.{parameter}
-use Rattle.ac_query.specs.Values.{Given, given_of}
+use Rattle.ac_query.specs.Pairs.Parameters.{parameter}
+use Rattle.ac_query.specs.Pairs.Values.{Given, given_of}
 
 -- the text that a name or a value stands for
 abbrev pub text_of : List ℕ → List ℕ

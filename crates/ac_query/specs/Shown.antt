@@ -1,4 +1,11 @@
 -- What maps, sets and lists of names show.
+pub mod Draft
+pub mod Faults
+pub mod Given
+pub mod Groups
+pub mod Parameters
+pub mod Queries
+pub mod Slots
 use Rattle.std.specs.Prelude.{ℕ, List, map}
 use Rattle.std.specs.declared.alloc.Global.{Global}
 use Rattle.std.specs.declared.string.String.{String}
@@ -9,9 +16,9 @@ use Rattle.ac_base.specs.declared.name.ClassName.{ClassName}
 use Rattle.ac_base.specs.declared.name.Suffix.{Suffix}
 use Rattle.ac_base.specs.declared.name.TraitName.{TraitName}
 use Rattle.ac_base.specs.Names.{class_bytes, trait_bytes, suffix_bytes}
-use Rattle.ac_query.specs.declared.amount.Amount.{Amount}
-use Rattle.ac_query.specs.declared.traits.Traits as rust
-use Rattle.ac_query.specs.Values.{Traits}
+use Rattle.ac_query.specs.declared.reading.amount.Amount.{Amount}
+use Rattle.ac_query.specs.declared.reading.traits.Traits as rust
+use Rattle.ac_query.specs.Pairs.Values.{Traits}
 
 -- a class and its amount
 abbrev pub need_shown : ClassName × Amount → List ℕ × ℕ

@@ -5,7 +5,7 @@ use Rattle.ac_base.specs.Texts.{id_text}
 use Rattle.ac_query.specs.declared.token.Token.{Token}
 use Rattle.ac_query.specs.declared.token.TokenFault.{TokenFault}
 use Rattle.ac_query.specs.declared.token.TokenFault.TheVariants.{BadToken, WrongLength, NoMemory}
-use Rattle.ac_query.specs.Values.{ids_value}
+use Rattle.ac_query.specs.Pairs.Values.{ids_value}
 use Rattle.ac_query.specs.Asked.{Asked, slots_of}
 
 -- the ids of a token, in order

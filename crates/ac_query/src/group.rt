@@ -5,7 +5,7 @@ ghost use Rattle.ac_base.specs.Names.{class_bytes, trait_bytes};
 ghost use Rattle.ac_base.specs.Texts.{text_cmp};
 ghost use Rattle.std.proofs.Props.{props};
 
-use crate::amount::Amount;
+use crate::reading::amount::Amount;
 use ac_base::{ClassName, Id, Suffix, TraitName};
 
 mod accessors;

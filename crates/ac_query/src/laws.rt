@@ -1,5 +1,5 @@
 //! Laws of the definitions. Each function does nothing: its contract is the law.
-ghost use Rattle.ac_query.specs.InOrder.{QueryInOrder};
+ghost use Rattle.ac_query.specs.Laws.InOrder.{QueryInOrder};
 ghost use Rattle.ac_query.specs.Laws.{AsksOnce, ListsMean, OrderHolds, SlotsNameGroups, TokenReads};
 
 /// Where no pair has a fault, exactly one record is what the pairs ask for, and it is the one that is gathered.

@@ -3,21 +3,14 @@
 //! A `Query` stands for the record of its text (`specs/Asks`), or the first fault of the text is told (`specs/Faults`).
 #![tactic(auto)]
 
-mod amount;
-mod check;
-mod draft;
 pub mod fault;
-mod given;
 pub mod group;
 pub mod laws;
 pub mod locate;
-mod parameter;
-mod pass;
 pub mod query;
+mod reading;
 pub mod slot;
 pub mod token;
-mod traits;
-mod values;
 pub mod version;
 pub mod write;
 

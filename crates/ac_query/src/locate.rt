@@ -3,7 +3,7 @@ ghost use Rattle.std.specs.Prelude.{◌≡◌, ◌<◌, IfOk, length};
 ghost use Rattle.std.specs.List.{All};
 ghost use Rattle.std.specs.Option.{option_map};
 ghost use Rattle.std.specs.String.{string_bytes};
-ghost use Rattle.ac_tables.specs.CloudWorld.{providers_of};
+ghost use Rattle.ac_tables.specs.Cloud.CloudWorld.{providers_of};
 ghost use Rattle.ac_query.specs.Located.{ids_at, places_of};
 ghost use Rattle.ac_query.specs.Tokens.{ids_of, ids_text};
 
@@ -16,7 +16,8 @@ use std::alloc::Global;
 impl Token {
     /// The places of its providers; `None` where one is no provider of the cloud.
     pub fn locate(&self, alloc: Global, cloud: &Cloud) -> Result<Option<Vec<u32>>, NoMemory>
-        ensures { IfOk result (λ places. option_map (λ list. list.items) places ≡ places_of (providers_of cloud.now) (ids_of self.now)) }
+        ensures { IfOk result (λ places. option_map (λ list. list.items) places
+            ≡ places_of (providers_of cloud.now) (ids_of self.now)) }
     {
         let mut places = Vec::new(alloc);
         for id in self.ids() {
@@ -31,7 +32,8 @@ impl Token {
     /// The text of a list of providers: their UUIDs, joined by commas.
     pub fn write(alloc: Global, cloud: &Cloud, list: &[u32]) -> Result<String, NoMemory>
         requires { All (λ place. place < length (providers_of cloud.now)) list.now }
-        ensures { IfOk result (λ text. string_bytes text ≡ ids_text (ids_at (providers_of cloud.now) list.now)) }
+        ensures { IfOk result (λ text. string_bytes text
+            ≡ ids_text (ids_at (providers_of cloud.now) list.now)) }
     {
         let mut ids = Vec::new(alloc);
         for place in list {

@@ -6,8 +6,8 @@ ghost use Rattle.ac_base.specs.Names.{trait_bytes};
 ghost use Rattle.ac_base.specs.Texts.{text_cmp};
 ghost use Rattle.ac_query.specs.Asked.{slots_from};
 ghost use Rattle.ac_query.specs.Faults.{entry_count};
-ghost use Rattle.ac_query.specs.GroupsShown.{group_entry};
-ghost use Rattle.ac_query.specs.SlotsShown.{slot_shown};
+ghost use Rattle.ac_query.specs.Shown.Groups.{group_entry};
+ghost use Rattle.ac_query.specs.Shown.Slots.{slot_shown};
 
 use crate::group::Group;
 use crate::slot::Slot;

@@ -1,6 +1,6 @@
 //! A slot of a query.
 ghost use Rattle.std.specs.Prelude.{◌≡◌};
-ghost use Rattle.ac_query.specs.SlotsShown.{slot_group};
+ghost use Rattle.ac_query.specs.Shown.Slots.{slot_group};
 
 /// A slot of a query: one class of the unsuffixed group, or all classes of a suffixed one.
 #[derive(Clone, Copy, Debug)]

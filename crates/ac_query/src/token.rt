@@ -1,11 +1,11 @@
 //! Tokens: a place in the order of candidates.
 ghost use Rattle.std.specs.Prelude.{◌≡◌, None, Some, IfOk, IfErr, IfSome, OnOk};
-ghost use Rattle.ac_query.specs.Values.{ids_value};
-ghost use Rattle.ac_query.specs.QueriesShown.{asked_of};
+ghost use Rattle.ac_query.specs.Pairs.Values.{ids_value};
+ghost use Rattle.ac_query.specs.Shown.Queries.{asked_of};
 ghost use Rattle.ac_query.specs.Tokens.{ids_of, token_fault, fault_told};
 
 use crate::query::Query;
-use crate::values::read_ids;
+use crate::reading::values::read_ids;
 use ac_base::{Id, NoMemory};
 use std::alloc::Global;
 use thiserror::Error;
@@ -45,7 +45,8 @@ impl Token {
     pub fn read(alloc: Global, text: &str, query: &Query) -> Result<Token, TokenFault>
         ensures fine { OnOk result (token_fault (asked_of query.now) text.now ≡ None) }
         ensures ids { IfOk result (λ token. ids_value text.now ≡ Some (ids_of token)) }
-        ensures err { IfErr result (λ e. IfSome (fault_told e) (λ f. token_fault (asked_of query.now) text.now ≡ Some f)) }
+        ensures err { IfErr result (λ e. IfSome (fault_told e) (λ f.
+            token_fault (asked_of query.now) text.now ≡ Some f)) }
     {
         let Some(ids) = read_ids(alloc, text)? else {
             return Err(TokenFault::BadToken);

@@ -9,9 +9,9 @@ use Rattle.std.proofs.lemmas.List.{length-map, length-take, length-drop, take-ap
 use Rattle.serde_json.specs.Data.{no_members}
 use Rattle.ac_base.specs.Texts.{text_cmp}
 use Rattle.ac_query.specs.Asked.{Asked, Slot, Group, slots_of, slots_from, class_slot}
-use Rattle.ac_query.specs.Gathered.{asked_by}
-use Rattle.ac_query.specs.InOrder.{AreNeeds, IsFirstPlain}
-use Rattle.ac_query.proofs.Ordered.{query_in_order}
+use Rattle.ac_query.specs.Laws.Gathered.{asked_by}
+use Rattle.ac_query.specs.Laws.InOrder.{AreNeeds, IsFirstPlain}
+use Rattle.ac_query.proofs.Pairs.Ordered.{query_in_order}
 use Rattle.ac_rules.specs.Placed.{Placed, placed, assigned}
 use Rattle.ac_rules.specs.Together.{sum_on}
 use Rattle.ac_tables.specs.Laws.{AreProviders}
@@ -22,11 +22,11 @@ use Rattle.ac_tables.proofs.ProvidersStated.{providers_in_order}
 use Rattle.ac_report.specs.Laws.{RequestsDiffer, StatedRequestsDiffer}
 use Rattle.ac_report.specs.Trees.{gathered, gives, hosts, allocations, mappings, mappings_from, provider_text, request}
 use Rattle.ac_report.proofs.Differing.{suffixed_agree, classes_agree}
-use Rattle.ac_report.proofs.Finding.{AreTold, find, hosts_agree, mappings_agree}
-use Rattle.ac_report.proofs.FindingSums.{here, taken_of, sums_agree}
-use Rattle.ac_report.proofs.Gathering.{bytes_eq_refl}
-use Rattle.ac_report.proofs.Listed.{provider_texts_rise}
-use Rattle.ac_report.proofs.Rows.{not_eq}
+use Rattle.ac_report.proofs.Trees.Finding.{AreTold, find, hosts_agree, mappings_agree}
+use Rattle.ac_report.proofs.Trees.FindingSums.{here, taken_of, sums_agree}
+use Rattle.ac_report.proofs.Trees.Gathering.{bytes_eq_refl}
+use Rattle.ac_report.proofs.Trees.Listed.{provider_texts_rise}
+use Rattle.ac_report.proofs.Trees.Rows.{not_eq}
 use Rattle.ac_report.proofs.Serving.{all_cons, all_hosts, all_rising, providers_are}
 
 -- ---- slots in two parts

@@ -7,11 +7,11 @@ use Rattle.ac_query.specs.Asked.{Group, slots_from, class_slot, suffix_slot}
 use Rattle.ac_rules.specs.Placed.{Placed, placed}
 use Rattle.ac_rules.specs.Together.{amount_of, sum_on}
 use Rattle.ac_tables.specs.Sorted.{rising}
-use Rattle.ac_query.specs.InOrder.{AreApart, AreSuffixed}
+use Rattle.ac_query.specs.Laws.InOrder.{AreApart, AreSuffixed}
 use Rattle.ac_report.specs.Trees.{hosts}
-use Rattle.ac_report.proofs.Rows.{not_eq}
-use Rattle.ac_tables.specs.RecordLaws.{eq_turned}
-use Rattle.ac_report.proofs.Gathering.{bytes_eq_refl}
+use Rattle.ac_report.proofs.Trees.Rows.{not_eq}
+use Rattle.ac_tables.specs.Reader.RecordLaws.{eq_turned}
+use Rattle.ac_report.proofs.Trees.Gathering.{bytes_eq_refl}
 
 -- the groups from place i on have slots of their own places
 hosts_before : (i k : ℕ) (gs : List (Option (List ℕ) × Group)) (t : List ℕ) → AreSuffixed gs → k < i → hosts (placed (slots_from i gs) t) k ≡ []

@@ -18,7 +18,7 @@ use Rattle.ac_base.proofs.ShownKeys.{insert_shown, lookup_shown}
 use Rattle.ac_query.specs.declared.group.Need.{Need}
 use Rattle.ac_query.specs.Asked.{Asked, Slot, Group, slots_of, slots_from, group_slots}
 use Rattle.ac_query.specs.declared.query.Query.{Query}
-use Rattle.ac_query.specs.QueriesShown.{asked_of}
+use Rattle.ac_query.specs.Shown.Queries.{asked_of}
 use Rattle.ac_query.proofs.SlotCounts.{few_needs}
 use Rattle.ac_rules.specs.Placed.{Placed, assigned, placed}
 use Rattle.ac_tables.specs.Sorted.{rising}
@@ -28,8 +28,8 @@ use Rattle.std.proofs.lemmas.Map.Views.{All-insert_key}
 use Rattle.ac_tables.specs.World.{Provider}
 use Rattle.ac_rules.specs.Together.{is_empty}
 use Rattle.ac_report.specs.Trees.{gathered, gives, hosts, needs_on, mapping, mappings_from}
-use Rattle.ac_report.proofs.Rows.{row_insert, row_look, rising_push, rising_sorted, not_eq}
-use Rattle.ac_tables.proofs.KinFacts.{member_rising}
+use Rattle.ac_report.proofs.Trees.Rows.{row_insert, row_look, rising_push, rising_sorted, not_eq}
+use Rattle.ac_tables.proofs.Places.KinFacts.{member_rising}
 
 -- ---- slots and their providers
 

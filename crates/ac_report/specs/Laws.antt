@@ -5,8 +5,8 @@ use Rattle.ac_tables.specs.Tables.{Tables, world_stated}
 use Rattle.ac_tables.specs.World.{Provider}
 use Rattle.ac_query.specs.declared.version.Version.{Version}
 use Rattle.ac_query.specs.Asked.{Asked}
-use Rattle.ac_query.specs.Gathered.{asked_by}
-use Rattle.ac_query.specs.InOrder.{IsInOrder}
+use Rattle.ac_query.specs.Laws.Gathered.{asked_by}
+use Rattle.ac_query.specs.Laws.InOrder.{IsInOrder}
 use Rattle.ac_report.specs.Pages.{IsAssignment}
 use Rattle.ac_report.specs.Texts.{body, pieces, joined}
 use Rattle.ac_report.specs.Trees.{request}

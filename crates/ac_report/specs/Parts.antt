@@ -10,7 +10,7 @@ use Rattle.std.specs.Prelude.{Vec}
 use Rattle.std.specs.declared.alloc.Global.{Global}
 use Rattle.serde_json.specs.Data.{Data, number, unsigned, object, no_members, member}
 use Rattle.ac_query.specs.declared.group.Need.{Need}
-use Rattle.ac_query.specs.GroupsShown.{need_entry}
+use Rattle.ac_query.specs.Shown.Groups.{need_entry}
 use Rattle.ac_rules.specs.Placed.{Placed}
 use Rattle.ac_rules.specs.Together.{amount_of}
 use Rattle.ac_tables.specs.Sorted.{rising}

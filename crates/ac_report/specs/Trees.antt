@@ -7,9 +7,9 @@ use Rattle.serde_json.specs.View.{items_of}
 use Rattle.ac_base.specs.Texts.{id_text}
 use Rattle.ac_base.specs.Quantities.{capacity}
 use Rattle.ac_tables.specs.Sorted.{rising}
-use Rattle.ac_tables.specs.World.{Held, Provider, provider_at, id_at, parent_of, root_of}
+use Rattle.ac_tables.specs.World.{UsedInventory, Provider, provider_at, id_at, parent_of, root_of}
 use Rattle.ac_query.specs.Asked.{Group, Asked}
-use Rattle.ac_query.specs.InOrder.{group_name}
+use Rattle.ac_query.specs.Laws.InOrder.{group_name}
 use Rattle.ac_rules.specs.Placed.{Placed, assigned}
 use Rattle.ac_rules.specs.Together.{sum_on, is_empty}
 
@@ -33,21 +33,21 @@ id_or_null None = null
 id_or_null (Some id) = string (id_text id)
 
 -- a class: how much there is of it, and how much of that is used
-unfoldable pub holding : List ℕ × Held → List ℕ × Data
+unfoldable pub holding : List ℕ × UsedInventory → List ℕ × Data
 holding h = (
   h.0,
-  object (member (codes "capacity") (number (unsigned (capacity h.1.stock))) (member (codes "used") (number (unsigned h.1.used)) no_members)),
+  object (member (codes "capacity") (number (unsigned (capacity h.1.inventory))) (member (codes "used") (number (unsigned h.1.used)) no_members)),
 )
 
 -- each class of which a provider has an inventory
-unfoldable pub holdings : List (List ℕ × Held) → Data
+unfoldable pub holdings : List (List ℕ × UsedInventory) → Data
 holdings hs = object (gathered (map holding hs))
 
 -- the summary of the provider at a place
 unfoldable pub summary : List Provider → ℕ → Data
 summary all ix =
     object (member (codes "parent_provider_uuid") (id_or_null (parent_of all (id_at all ix)))
-    (member (codes "resources") (holdings (provider_at all ix).holdings)
+    (member (codes "resources") (holdings (provider_at all ix).entries)
     (member (codes "root_provider_uuid") (string (id_text (root_of all (id_at all ix))))
     (member (codes "traits") (texts (provider_at all ix).traits) no_members))))
 

@@ -8,7 +8,8 @@ ghost use Rattle.ac_report.specs.Laws.{IsInPieces, RequestsDiffer, StatedRequest
 
 /// The body of any lists is its pieces, joined.
 pub fn body_pieces()
-    ensures { (all : List Provider) (asked : Asked) (lists : List (List ℕ)) → AreProviders all → IsInPieces all asked lists }
+    ensures { (all : List Provider) (asked : Asked) (lists : List (List ℕ)) → AreProviders all
+        → IsInPieces all asked lists }
 {}
 
 /// Two different assignments have different requests, so each candidate that is printed is printed once. What it asks of the providers

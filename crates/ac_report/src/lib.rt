@@ -14,5 +14,5 @@ pub mod summary;
 pub use fault::PageFault;
 pub use lines::write_tokens;
 pub use page::write_page;
-pub use request::request_text;
+pub use request::{request_text, suffix_text};
 pub use summary::summary_text;

@@ -3,10 +3,10 @@ ghost use Rattle.std.specs.Prelude.{◌≡◌, ◌≤◌, ◌<◌, ◌++◌, ◌
 ghost use Rattle.std.specs.List.{All};
 ghost use Rattle.std.specs.Io.KnownBytes.{Appends};
 ghost use Rattle.ac_base.specs.Devices.{Rises, TakesPart};
-ghost use Rattle.ac_query.specs.QueriesShown.{asked_of};
+ghost use Rattle.ac_query.specs.Shown.Queries.{asked_of};
 ghost use Rattle.ac_query.specs.Tokens.{ids_text};
 ghost use Rattle.ac_rules.specs.Pages.{cut, ids_of};
-ghost use Rattle.ac_tables.specs.CloudWorld.{providers_of};
+ghost use Rattle.ac_tables.specs.Cloud.CloudWorld.{providers_of};
 ghost use Rattle.ac_report.specs.Texts.{line, lines};
 ghost use Rattle.ac_report.specs.Pages.{IsAssignment, LosesSome, TakesWhole, behind};
 
@@ -27,7 +27,8 @@ pub(crate) fn is_full(limit: Option<u32>, count: u32) -> bool
 // Adds the ids of a list, joined by commas.
 fn put_ids(text: &mut Vec<u8>, cloud: &Cloud, list: &[u32]) -> Result<(), NoMemory>
     requires { All (λ ix. ix < length (providers_of cloud.now)) list.now }
-    ensures { OnOk result (text.new.items ≡ text.old.items ++ ids_text (ids_of (providers_of cloud.now) list.now)) }
+    ensures { OnOk result (text.new.items ≡ text.old.items
+        ++ ids_text (ids_of (providers_of cloud.now) list.now)) }
 {
     let Some((&first, others)) = list.split_first() else {
         return Ok(());
@@ -61,14 +62,23 @@ pub fn write_tokens<S: Source, W: Sink>(
     source: &mut S,
     out: &mut W,
 ) -> Result<u32, PageFault>
-    requires { All (IsAssignment (providers_of cloud.now) (asked_of query.now)) (S.left source.old) }
-    ensures text { OnOk result (Appends (W.taken out.old) (W.taken out.new) (lines (providers_of cloud.now) (cut (asked_of query.now).limit (S.left source.old)))) }
-    ensures left { OnOk result (S.left source.new ≡ behind (asked_of query.now).limit (S.left source.old)) }
-    ensures count { IfOk result (λ n. n ≡ min (length (cut (asked_of query.now).limit (S.left source.old))) 4294967295) }
-    ensures part { OnErr result (TakesPart (W.taken out.old) (W.taken out.new) (lines (providers_of cloud.now) (cut (asked_of query.now).limit (S.left source.old)))) }
-    ensures gone { OnErr result (LosesSome (asked_of query.now).limit (S.left source.old) (S.left source.new)) }
-    ensures failed { result ≡ Err PageFault.WriteFailed → Rises (W.failures out.old) (W.failures out.new) }
-    ensures whole { result ≡ Err PageFault.NoMemory → TakesWhole (line (providers_of cloud.now)) (cut (asked_of query.now).limit (S.left source.old)) (W.taken out.old) (W.taken out.new) }
+    requires { All (IsAssignment (providers_of cloud.now) (asked_of query.now))
+        (S.left source.old) }
+    ensures text { OnOk result (Appends (W.taken out.old) (W.taken out.new)
+        (lines (providers_of cloud.now) (cut (asked_of query.now).limit (S.left source.old)))) }
+    ensures left { OnOk result (S.left source.new
+        ≡ behind (asked_of query.now).limit (S.left source.old)) }
+    ensures count { IfOk result (λ n.
+        n ≡ min (length (cut (asked_of query.now).limit (S.left source.old))) 4294967295) }
+    ensures part { OnErr result (TakesPart (W.taken out.old) (W.taken out.new)
+        (lines (providers_of cloud.now) (cut (asked_of query.now).limit (S.left source.old)))) }
+    ensures gone { OnErr result (LosesSome (asked_of query.now).limit (S.left source.old)
+        (S.left source.new)) }
+    ensures failed { result ≡ Err PageFault.WriteFailed
+        → Rises (W.failures out.old) (W.failures out.new) }
+    ensures whole { result ≡ Err PageFault.NoMemory
+        → TakesWhole (line (providers_of cloud.now))
+        (cut (asked_of query.now).limit (S.left source.old)) (W.taken out.old) (W.taken out.new) }
     ensures failures { W.failures out.old ≤ W.failures out.new }
 {
     let limit = query.limit();

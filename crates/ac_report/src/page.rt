@@ -4,9 +4,9 @@ ghost use Rattle.std.specs.List.{All};
 ghost use Rattle.std.specs.Io.KnownBytes.{Appends};
 ghost use Rattle.serde_json.specs.Written.{comma_if};
 ghost use Rattle.ac_base.specs.Devices.{Rises, TakesPart};
-ghost use Rattle.ac_tables.specs.CloudWorld.{providers_of};
+ghost use Rattle.ac_tables.specs.Cloud.CloudWorld.{providers_of};
 ghost use Rattle.ac_tables.specs.World.{id_at};
-ghost use Rattle.ac_query.specs.QueriesShown.{asked_of};
+ghost use Rattle.ac_query.specs.Shown.Queries.{asked_of};
 ghost use Rattle.ac_rules.specs.Pages.{cut};
 ghost use Rattle.ac_report.specs.Marks.{IsMarked, has_root, requests_text, summaries_text};
 ghost use Rattle.ac_report.specs.Pages.{IsAssignment, LosesSome, TakesWhole, behind};
@@ -25,8 +25,10 @@ use std::alloc::{AllocError, Global};
 // Pushes a text, after a comma where something stands before.
 #[tactic(auto, using(ac_base::proofs::Leaving::appends_both, ac_base::proofs::Leaving::part_of_first, ac_base::proofs::Leaving::part_of_second))]
 fn push_listed<W: Sink>(out: &mut W, later: bool, text: &[u8]) -> Result<(), WriteFailed>
-    ensures ok { OnOk result (Appends (W.taken out.old) (W.taken out.new) (comma_if later ++ text.now)) }
-    ensures part { OnErr result (TakesPart (W.taken out.old) (W.taken out.new) (comma_if later ++ text.now)) }
+    ensures ok { OnOk result (Appends (W.taken out.old) (W.taken out.new)
+        (comma_if later ++ text.now)) }
+    ensures part { OnErr result (TakesPart (W.taken out.old) (W.taken out.new)
+        (comma_if later ++ text.now)) }
     ensures rises { OnErr result (Rises (W.failures out.old) (W.failures out.new)) }
     ensures failures { W.failures out.old ≤ W.failures out.new }
 {
@@ -49,7 +51,9 @@ fn mark_root(cloud: &Cloud, ix: u32, marks: &mut [bool])
     requires long { length marks.old ≡ length (providers_of cloud.now) }
     requires provider { ix < length (providers_of cloud.now) }
     ensures long { length marks.new ≡ length marks.old }
-    ensures marked { (r : ℕ) → r < length marks.old → slice_index_or marks.new r false ≡ (slice_index_or marks.old r false || has_root (providers_of cloud.now) (id_at (providers_of cloud.now) r) ix) }
+    ensures marked { (r : ℕ) → r < length marks.old
+        → slice_index_or marks.new r false ≡ (slice_index_or marks.old r false
+        || has_root (providers_of cloud.now) (id_at (providers_of cloud.now) r) ix) }
 {
     marks[cloud.root(ix) as usize] = true;
 }
@@ -59,7 +63,9 @@ fn mark_roots(cloud: &Cloud, list: &[u32], marks: &mut [bool])
     requires long { length marks.old ≡ length (providers_of cloud.now) }
     requires providers { All (λ ix. ix < length (providers_of cloud.now)) list.now }
     ensures long { length marks.new ≡ length marks.old }
-    ensures marked { (r : ℕ) → r < length marks.old → slice_index_or marks.new r false ≡ (slice_index_or marks.old r false || meets_root (providers_of cloud.now) (id_at (providers_of cloud.now) r) list.now) }
+    ensures marked { (r : ℕ) → r < length marks.old
+        → slice_index_or marks.new r false ≡ (slice_index_or marks.old r false
+        || meets_root (providers_of cloud.now) (id_at (providers_of cloud.now) r) list.now) }
 {
     for ix in list {
         mark_root(cloud, *ix, marks);
@@ -75,16 +81,29 @@ fn write_requests<S: Source, W: Sink>(
     out: &mut W,
     marks: &mut [bool],
 ) -> Result<u32, PageFault>
-    requires lists { All (IsAssignment (providers_of cloud.now) (asked_of query.now)) (S.left source.old) }
+    requires lists { All (IsAssignment (providers_of cloud.now) (asked_of query.now))
+        (S.left source.old) }
     requires marks { IsMarked (providers_of cloud.now) [] marks.old }
-    ensures text { OnOk result (Appends (W.taken out.old) (W.taken out.new) (requests_text (providers_of cloud.now) (asked_of query.now) false (cut (asked_of query.now).limit (S.left source.old)))) }
-    ensures left { OnOk result (S.left source.new ≡ behind (asked_of query.now).limit (S.left source.old)) }
-    ensures count { IfOk result (λ n. n ≡ min (length (cut (asked_of query.now).limit (S.left source.old))) 4294967295) }
-    ensures marks { OnOk result (IsMarked (providers_of cloud.now) (cut (asked_of query.now).limit (S.left source.old)) marks.new) }
-    ensures part { OnErr result (TakesPart (W.taken out.old) (W.taken out.new) (requests_text (providers_of cloud.now) (asked_of query.now) false (cut (asked_of query.now).limit (S.left source.old)))) }
-    ensures gone { OnErr result (LosesSome (asked_of query.now).limit (S.left source.old) (S.left source.new)) }
-    ensures failed { result ≡ Err PageFault.WriteFailed → Rises (W.failures out.old) (W.failures out.new) }
-    ensures whole { result ≡ Err PageFault.NoMemory → TakesWhole (λ text. text) (with_commas false (map (request_text (providers_of cloud.now) (asked_of query.now)) (cut (asked_of query.now).limit (S.left source.old)))) (W.taken out.old) (W.taken out.new) }
+    ensures text { OnOk result (Appends (W.taken out.old) (W.taken out.new)
+        (requests_text (providers_of cloud.now) (asked_of query.now) false
+        (cut (asked_of query.now).limit (S.left source.old)))) }
+    ensures left { OnOk result (S.left source.new
+        ≡ behind (asked_of query.now).limit (S.left source.old)) }
+    ensures count { IfOk result (λ n.
+        n ≡ min (length (cut (asked_of query.now).limit (S.left source.old))) 4294967295) }
+    ensures marks { OnOk result (IsMarked (providers_of cloud.now)
+        (cut (asked_of query.now).limit (S.left source.old)) marks.new) }
+    ensures part { OnErr result (TakesPart (W.taken out.old) (W.taken out.new)
+        (requests_text (providers_of cloud.now) (asked_of query.now) false
+        (cut (asked_of query.now).limit (S.left source.old)))) }
+    ensures gone { OnErr result (LosesSome (asked_of query.now).limit (S.left source.old)
+        (S.left source.new)) }
+    ensures failed { result ≡ Err PageFault.WriteFailed
+        → Rises (W.failures out.old) (W.failures out.new) }
+    ensures whole { result ≡ Err PageFault.NoMemory
+        → TakesWhole (λ text. text)
+        (with_commas false (map (request_text (providers_of cloud.now) (asked_of query.now))
+        (cut (asked_of query.now).limit (S.left source.old)))) (W.taken out.old) (W.taken out.new) }
     ensures failures { W.failures out.old ≤ W.failures out.new }
 {
     let limit = query.limit();
@@ -114,9 +133,12 @@ fn write_summary<W: Sink>(
     out: &mut W,
 ) -> Result<(), PageFault>
     requires { ix < length (providers_of cloud.now) }
-    ensures ok { OnOk result (Appends (W.taken out.old) (W.taken out.new) (comma_if later ++ summary_piece (providers_of cloud.now) ix)) }
-    ensures part { OnErr result (TakesPart (W.taken out.old) (W.taken out.new) (comma_if later ++ summary_piece (providers_of cloud.now) ix)) }
-    ensures failed { result ≡ Err PageFault.WriteFailed → Rises (W.failures out.old) (W.failures out.new) }
+    ensures ok { OnOk result (Appends (W.taken out.old) (W.taken out.new)
+        (comma_if later ++ summary_piece (providers_of cloud.now) ix)) }
+    ensures part { OnErr result (TakesPart (W.taken out.old) (W.taken out.new)
+        (comma_if later ++ summary_piece (providers_of cloud.now) ix)) }
+    ensures failed { result ≡ Err PageFault.WriteFailed
+        → Rises (W.failures out.old) (W.failures out.new) }
     ensures whole { result ≡ Err PageFault.NoMemory → out.new ≡ out.old }
     ensures failures { W.failures out.old ≤ W.failures out.new }
 {
@@ -133,10 +155,23 @@ fn write_summaries<W: Sink>(
     out: &mut W,
 ) -> Result<(), PageFault>
     requires { length marks.now ≡ length (providers_of cloud.now) }
-    ensures ok { OnOk result ((lists : List (List ℕ)) → IsMarked (providers_of cloud.now) lists marks.now → Appends (W.taken out.old) (W.taken out.new) (summaries_text (providers_of cloud.now) false (summarized (providers_of cloud.now) lists))) }
-    ensures part { OnErr result ((lists : List (List ℕ)) → IsMarked (providers_of cloud.now) lists marks.now → TakesPart (W.taken out.old) (W.taken out.new) (summaries_text (providers_of cloud.now) false (summarized (providers_of cloud.now) lists))) }
-    ensures failed { result ≡ Err PageFault.WriteFailed → Rises (W.failures out.old) (W.failures out.new) }
-    ensures whole { result ≡ Err PageFault.NoMemory → (lists : List (List ℕ)) → IsMarked (providers_of cloud.now) lists marks.now → TakesWhole (λ text. text) (with_commas false (map (summary_piece (providers_of cloud.now)) (summarized (providers_of cloud.now) lists))) (W.taken out.old) (W.taken out.new) }
+    ensures ok { OnOk result ((lists : List (List ℕ))
+        → IsMarked (providers_of cloud.now) lists marks.now
+        → Appends (W.taken out.old) (W.taken out.new)
+        (summaries_text (providers_of cloud.now) false
+        (summarized (providers_of cloud.now) lists))) }
+    ensures part { OnErr result ((lists : List (List ℕ))
+        → IsMarked (providers_of cloud.now) lists marks.now
+        → TakesPart (W.taken out.old) (W.taken out.new)
+        (summaries_text (providers_of cloud.now) false
+        (summarized (providers_of cloud.now) lists))) }
+    ensures failed { result ≡ Err PageFault.WriteFailed
+        → Rises (W.failures out.old) (W.failures out.new) }
+    ensures whole { result ≡ Err PageFault.NoMemory → (lists : List (List ℕ))
+        → IsMarked (providers_of cloud.now) lists marks.now
+        → TakesWhole (λ text. text)
+        (with_commas false (map (summary_piece (providers_of cloud.now))
+        (summarized (providers_of cloud.now) lists))) (W.taken out.old) (W.taken out.new) }
     ensures failures { W.failures out.old ≤ W.failures out.new }
 {
     let mut later = false;
@@ -189,15 +224,26 @@ fn write_parts<S: Source, W: Sink>(
     out: &mut W,
     marks: &mut [bool],
 ) -> Result<u32, PageFault>
-    requires lists { All (IsAssignment (providers_of cloud.now) (asked_of query.now)) (S.left source.old) }
+    requires lists { All (IsAssignment (providers_of cloud.now) (asked_of query.now))
+        (S.left source.old) }
     requires marks { IsMarked (providers_of cloud.now) [] marks.old }
-    ensures text { OnOk result (Appends (W.taken out.old) (W.taken out.new) (body (providers_of cloud.now) (asked_of query.now) (cut (asked_of query.now).limit (S.left source.old)))) }
-    ensures left { OnOk result (S.left source.new ≡ behind (asked_of query.now).limit (S.left source.old)) }
-    ensures count { IfOk result (λ n. n ≡ min (length (cut (asked_of query.now).limit (S.left source.old))) 4294967295) }
-    ensures part { OnErr result (TakesPart (W.taken out.old) (W.taken out.new) (body (providers_of cloud.now) (asked_of query.now) (cut (asked_of query.now).limit (S.left source.old)))) }
-    ensures gone { OnErr result (LosesSome (asked_of query.now).limit (S.left source.old) (S.left source.new)) }
-    ensures failed { result ≡ Err PageFault.WriteFailed → Rises (W.failures out.old) (W.failures out.new) }
-    ensures whole { result ≡ Err PageFault.NoMemory → TakesWhole (λ text. text) (pieces (providers_of cloud.now) (asked_of query.now) (cut (asked_of query.now).limit (S.left source.old))) (W.taken out.old) (W.taken out.new) }
+    ensures text { OnOk result (Appends (W.taken out.old) (W.taken out.new)
+        (body (providers_of cloud.now) (asked_of query.now)
+        (cut (asked_of query.now).limit (S.left source.old)))) }
+    ensures left { OnOk result (S.left source.new
+        ≡ behind (asked_of query.now).limit (S.left source.old)) }
+    ensures count { IfOk result (λ n.
+        n ≡ min (length (cut (asked_of query.now).limit (S.left source.old))) 4294967295) }
+    ensures part { OnErr result (TakesPart (W.taken out.old) (W.taken out.new)
+        (body (providers_of cloud.now) (asked_of query.now)
+        (cut (asked_of query.now).limit (S.left source.old)))) }
+    ensures gone { OnErr result (LosesSome (asked_of query.now).limit (S.left source.old)
+        (S.left source.new)) }
+    ensures failed { result ≡ Err PageFault.WriteFailed
+        → Rises (W.failures out.old) (W.failures out.new) }
+    ensures whole { result ≡ Err PageFault.NoMemory
+        → TakesWhole (λ text. text) (pieces (providers_of cloud.now) (asked_of query.now)
+        (cut (asked_of query.now).limit (S.left source.old))) (W.taken out.old) (W.taken out.new) }
     ensures failures { W.failures out.old ≤ W.failures out.new }
 {
     push_head(out)?;
@@ -212,6 +258,7 @@ fn write_parts<S: Source, W: Sink>(
 /// and answers how many lists these are, at most 4294967295.
 ///
 /// The next list is taken only once the request of the one before is pushed whole.
+#[tactic(auto, using(ac_base::proofs::Leaving::part_none))]
 pub fn write_page<S: Source, W: Sink>(
     alloc: Global,
     cloud: &Cloud,
@@ -219,14 +266,25 @@ pub fn write_page<S: Source, W: Sink>(
     source: &mut S,
     out: &mut W,
 ) -> Result<u32, PageFault>
-    requires { All (IsAssignment (providers_of cloud.now) (asked_of query.now)) (S.left source.old) }
-    ensures text { OnOk result (Appends (W.taken out.old) (W.taken out.new) (body (providers_of cloud.now) (asked_of query.now) (cut (asked_of query.now).limit (S.left source.old)))) }
-    ensures left { OnOk result (S.left source.new ≡ behind (asked_of query.now).limit (S.left source.old)) }
-    ensures count { IfOk result (λ n. n ≡ min (length (cut (asked_of query.now).limit (S.left source.old))) 4294967295) }
-    ensures part { OnErr result (TakesPart (W.taken out.old) (W.taken out.new) (body (providers_of cloud.now) (asked_of query.now) (cut (asked_of query.now).limit (S.left source.old)))) }
-    ensures gone { OnErr result (LosesSome (asked_of query.now).limit (S.left source.old) (S.left source.new)) }
-    ensures failed { result ≡ Err PageFault.WriteFailed → Rises (W.failures out.old) (W.failures out.new) }
-    ensures whole { result ≡ Err PageFault.NoMemory → TakesWhole (λ text. text) (pieces (providers_of cloud.now) (asked_of query.now) (cut (asked_of query.now).limit (S.left source.old))) (W.taken out.old) (W.taken out.new) }
+    requires { All (IsAssignment (providers_of cloud.now) (asked_of query.now))
+        (S.left source.old) }
+    ensures text { OnOk result (Appends (W.taken out.old) (W.taken out.new)
+        (body (providers_of cloud.now) (asked_of query.now)
+        (cut (asked_of query.now).limit (S.left source.old)))) }
+    ensures left { OnOk result (S.left source.new
+        ≡ behind (asked_of query.now).limit (S.left source.old)) }
+    ensures count { IfOk result (λ n.
+        n ≡ min (length (cut (asked_of query.now).limit (S.left source.old))) 4294967295) }
+    ensures part { OnErr result (TakesPart (W.taken out.old) (W.taken out.new)
+        (body (providers_of cloud.now) (asked_of query.now)
+        (cut (asked_of query.now).limit (S.left source.old)))) }
+    ensures gone { OnErr result (LosesSome (asked_of query.now).limit (S.left source.old)
+        (S.left source.new)) }
+    ensures failed { result ≡ Err PageFault.WriteFailed
+        → Rises (W.failures out.old) (W.failures out.new) }
+    ensures whole { result ≡ Err PageFault.NoMemory
+        → TakesWhole (λ text. text) (pieces (providers_of cloud.now) (asked_of query.now)
+        (cut (asked_of query.now).limit (S.left source.old))) (W.taken out.old) (W.taken out.new) }
     ensures failures { W.failures out.old ≤ W.failures out.new }
 {
     let mut marks = new_marks(alloc, cloud)?;

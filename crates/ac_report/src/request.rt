@@ -6,12 +6,12 @@ ghost use Rattle.std.specs.List.{All};
 ghost use Rattle.std.specs.Ordering.{nat_cmp};
 ghost use Rattle.serde_json.specs.View.{view};
 ghost use Rattle.ac_query.specs.Asked.{slots_of};
-ghost use Rattle.ac_query.specs.GroupsShown.{need_entry, group_entry};
-ghost use Rattle.ac_query.specs.QueriesShown.{asked_of};
+ghost use Rattle.ac_query.specs.Shown.Groups.{need_entry, group_entry};
+ghost use Rattle.ac_query.specs.Shown.Queries.{asked_of};
 ghost use Rattle.ac_rules.specs.Placed.{assigned};
-ghost use Rattle.ac_tables.specs.CloudWorld.{providers_of};
+ghost use Rattle.ac_tables.specs.Cloud.CloudWorld.{providers_of};
 ghost use Rattle.ac_report.specs.Pages.{IsAssignment};
-ghost use Rattle.ac_query.specs.InOrder.{group_name};
+ghost use Rattle.ac_query.specs.Laws.InOrder.{group_name};
 ghost use Rattle.ac_report.specs.Parts.{AreHosts, AreNeeds, need_at, row_shown, with_needs, sum_at, sums_of, allocation_of};
 ghost use Rattle.ac_report.specs.Trees.{provider_text, texts, allocations, mappings, request};
 ghost use Rattle.ac_report.specs.Texts.{request_text};
@@ -58,7 +58,8 @@ fn hosts_by_group(
 #[tactic(auto, unfolding(crate::specs::Trees::texts))]
 fn ids_value(alloc: Global, cloud: &Cloud, providers: &BTreeSet<u32>) -> Result<Value, AllocError>
     requires { All (λ ix. ix < length (providers_of cloud.now)) providers.now.keys }
-    ensures { IfOk result (λ v. view v ≡ texts (map (provider_text (providers_of cloud.now)) providers.now.keys)) }
+    ensures { IfOk result (λ v.
+        view v ≡ texts (map (provider_text (providers_of cloud.now)) providers.now.keys)) }
 {
     let mut ids = Vec::new(alloc);
     for provider in providers {
@@ -67,8 +68,8 @@ fn ids_value(alloc: Global, cloud: &Cloud, providers: &BTreeSet<u32>) -> Result<
     Ok(Value::Array(ids))
 }
 
-// The suffix of a group; the unsuffixed one has the empty text.
-fn suffix_text(group: &Group) -> &str
+/// The suffix of a group; the one without has the empty text. Requests name the groups so in `mappings`.
+pub fn suffix_text(group: &Group) -> &str
     ensures { result.now ≡ group_name (group_entry group.now) }
 {
     match group.suffix() {
@@ -85,7 +86,9 @@ fn mappings_value(
     list: &[u32],
 ) -> Result<Value, AllocError>
     requires { IsAssignment (providers_of cloud.now) (asked_of query.now) list.now }
-    ensures { IfOk result (λ v. view v ≡ mappings (providers_of cloud.now) (asked_of query.now) (assigned (asked_of query.now) list.now)) }
+    ensures { IfOk result (λ v.
+        view v ≡ mappings (providers_of cloud.now) (asked_of query.now)
+        (assigned (asked_of query.now) list.now)) }
 {
     let hosts = hosts_by_group(alloc, query, list)?;
     let groups = query.groups();
@@ -99,7 +102,8 @@ fn mappings_value(
 
 // Adds what a slot needs.
 fn push_needs<'a>(needs: &mut Vec<&'a Need>, more: &'a [Need]) -> Result<(), AllocError>
-    ensures { OnOk result (map need_at needs.new.items ≡ map need_at needs.old.items ++ map need_entry more.now) }
+    ensures { OnOk result (map need_at needs.new.items
+        ≡ map need_at needs.old.items ++ map need_entry more.now) }
 {
     for need in more {
         needs.push(need)?;
@@ -114,7 +118,8 @@ fn add_needs<'a>(
     provider: u32,
     more: &'a [Need],
 ) -> Result<(), AllocError>
-    ensures { OnOk result (map row_shown needs.new.entries ≡ with_needs (map row_shown needs.old.entries) provider (map need_entry more.now)) }
+    ensures { OnOk result (map row_shown needs.new.entries
+        ≡ with_needs (map row_shown needs.old.entries) provider (map need_entry more.now)) }
 {
     push_needs(needs.entry(provider)?.or_insert(Vec::new(alloc)), more)
 }
@@ -138,7 +143,8 @@ fn needs_by_provider<'a>(
 // The sum of the amounts of each class. A query has at most 256 needs, so each sum fits.
 fn totals_of<'a>(alloc: Global, needs: &[&'a Need]) -> Result<BTreeMap<&'a str, u64>, AllocError>
     requires { length needs.now ≤ 256 }
-    ensures { IfOk result (λ m. (q : List ℕ) → unwrap_or (get_by (λ k. slice_cmp nat_cmp q k.now) m) 0 ≡ sum_at q needs.now) }
+    ensures { IfOk result (λ m. (q : List ℕ)
+        → unwrap_or (get_by (λ k. slice_cmp nat_cmp q k.now) m) 0 ≡ sum_at q needs.now) }
 {
     let mut totals = BTreeMap::new(alloc);
     for need in needs {
@@ -188,7 +194,9 @@ fn allocations_value(
     list: &[u32],
 ) -> Result<Value, AllocError>
     requires { IsAssignment (providers_of cloud.now) (asked_of query.now) list.now }
-    ensures { IfOk result (λ v. view v ≡ allocations (providers_of cloud.now) (assigned (asked_of query.now) list.now) list.now) }
+    ensures { IfOk result (λ v.
+        view v ≡ allocations (providers_of cloud.now)
+        (assigned (asked_of query.now) list.now) list.now) }
 {
     let needs = needs_by_provider(alloc, query, list)?;
     let mut members = Map::new(alloc);
@@ -211,7 +219,8 @@ fn request_value(
     list: &[u32],
 ) -> Result<Value, AllocError>
     requires { IsAssignment (providers_of cloud.now) (asked_of query.now) list.now }
-    ensures { IfOk result (λ v. view v ≡ request (providers_of cloud.now) (asked_of query.now) list.now) }
+    ensures { IfOk result (λ v.
+        view v ≡ request (providers_of cloud.now) (asked_of query.now) list.now) }
 {
     let allocations = allocations_value(alloc, cloud, query, list)?;
     let mappings = mappings_value(alloc, cloud, query, list)?;
@@ -226,7 +235,8 @@ pub fn request_text(
     list: &[u32],
 ) -> Result<String, NoMemory>
     requires { IsAssignment (providers_of cloud.now) (asked_of query.now) list.now }
-    ensures { IfOk result (λ s. string_bytes s ≡ request_text (providers_of cloud.now) (asked_of query.now) list.now) }
+    ensures { IfOk result (λ s. string_bytes s
+        ≡ request_text (providers_of cloud.now) (asked_of query.now) list.now) }
 {
     Ok(request_value(alloc, cloud, query, list)?.to_string(alloc)?)
 }

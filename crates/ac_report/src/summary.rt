@@ -3,8 +3,8 @@ ghost use Rattle.std.specs.Prelude.{◌≡◌, ◌<◌, IfOk, map, length, strin
 ghost use Rattle.serde_json.specs.View.{view};
 ghost use Rattle.ac_base.specs.Names.{trait_bytes};
 ghost use Rattle.ac_tables.specs.World.{id_at, parent_of};
-ghost use Rattle.ac_tables.specs.CloudWorld.{providers_of};
-ghost use Rattle.ac_tables.specs.Entries.{entry_pair};
+ghost use Rattle.ac_tables.specs.Cloud.CloudWorld.{providers_of};
+ghost use Rattle.ac_tables.specs.Cloud.Entries.{entry_pair};
 ghost use Rattle.ac_report.specs.Trees.{id_or_null, texts, holdings, summary};
 ghost use Rattle.ac_report.specs.Texts.{summary_piece, summary_text};
 

@@ -1,3 +1,4 @@
+pub mod Shown
 pub mod Order
 pub mod Lists
 pub mod Placed
@@ -7,6 +8,4 @@ pub mod Room
 pub mod Judge
 pub mod Pages
 pub mod Odometer
-pub mod ListsShown
-pub mod PlainShown
 pub mod Laws

@@ -3,8 +3,8 @@ use Rattle.std.specs.Prelude.{ℕ, ◌+◌, ◌==◌, ◌&&◌, Bool, true, fals
 use Rattle.std.specs.List.{filter}
 use Rattle.ac_rules.specs.Order.{lex_lt}
 use Rattle.ac_rules.specs.Lists.{all_lists}
-use Rattle.ac_rules.specs.declared.odometer.Stage.{Stage}
-use Rattle.ac_rules.specs.declared.odometer.Stage.TheVariants.{Fresh, Given, Ended}
+use Rattle.ac_rules.specs.declared.plain.odometer.Stage.{Stage}
+use Rattle.ac_rules.specs.declared.plain.odometer.Stage.TheVariants.{Fresh, Given, Ended}
 
 -- what comes after a first number and k more: the same number before what comes after those, or the next number, below n, before zeros
 abbrev pub successor_by : ℕ → ℕ → ℕ → Option (List ℕ) → Option (List ℕ)

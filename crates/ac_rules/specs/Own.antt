@@ -2,26 +2,26 @@
 use Rattle.std.specs.Prelude.{ℕ, ◌==◌, ◌&&◌, ◌||◌, Bool, true, false, not, List, length, Option, None, Some, if◌then◌else◌}
 use Rattle.std.specs.List.{list_all, list_any}
 use Rattle.std.specs.Option.{is_none, is_some, option_map, unwrap_or}
-use Rattle.ac_base.specs.Quantities.{Stock, units}
-use Rattle.ac_query.specs.Values.{AggregateRule}
+use Rattle.ac_base.specs.Quantities.{InventoryNumbers, units}
+use Rattle.ac_query.specs.Pairs.Values.{AggregateRule}
 use Rattle.ac_query.specs.Asked.{Group}
-use Rattle.ac_tables.specs.World.{Provider, provider_at, place_of, root_of, held_of, has_trait, is_member}
+use Rattle.ac_tables.specs.World.{Provider, provider_at, place_of, root_of, entry_in, has_trait, is_member}
 use Rattle.ac_rules.specs.Placed.{Placed}
 
 -- ---- Units
 
 -- the inventory that a provider has of a class
-abbrev pub stock_of : Provider → List ℕ → Option Stock
-stock_of p class = option_map (λ held. held.stock) (held_of p class)
+abbrev pub inventory_of : Provider → List ℕ → Option InventoryNumbers
+inventory_of p class = option_map (λ own_entry. own_entry.inventory) (entry_in p class)
 
 -- an inventory is there, and its units admit an amount
-abbrev pub admits : Option Stock → ℕ → Bool
+abbrev pub admits : Option InventoryNumbers → ℕ → Bool
 admits None amount = false
-admits (Some stock) amount = units stock amount
+admits (Some inventory) amount = units inventory amount
 
 -- Units: of each class of the slot the provider has an inventory whose units admit the slot's own amount.
 unfoldable pub units_fit : List Provider → Placed → Bool
-units_fit all x = list_all (λ need. admits (stock_of (provider_at all x.provider) need.0) need.1) x.slot.needs
+units_fit all x = list_all (λ need. admits (inventory_of (provider_at all x.provider) need.0) need.1) x.slot.needs
 
 -- ---- SlotTraits
 

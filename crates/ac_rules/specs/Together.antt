@@ -3,11 +3,11 @@ use Rattle.std.specs.Prelude.{ℕ, ◌+◌, ◌==◌, ◌&&◌, ◌||◌, Bool, 
 use Rattle.std.specs.List.{list_all, list_any, filter, range_with_len}
 use Rattle.std.specs.Option.{is_none, is_some}
 use Rattle.std.specs.Str.{bytes_eq}
-use Rattle.ac_base.specs.Quantities.{Stock, capacity}
+use Rattle.ac_base.specs.Quantities.{InventoryNumbers, capacity}
 use Rattle.ac_query.specs.Asked.{Asked, Group, Slot, is_isolated, lists_suffix}
 use Rattle.ac_tables.specs.World.{Provider, provider_at, id_at, used_of, has_trait, is_root, is_above, is_available_at}
 use Rattle.ac_rules.specs.Placed.{Placed}
-use Rattle.ac_rules.specs.Own.{stock_of, has_all, has_any, has_none}
+use Rattle.ac_rules.specs.Own.{inventory_of, has_all, has_any, has_none}
 
 -- ---- Collective
 
@@ -44,13 +44,13 @@ sum_on [] ix class = 0
 sum_on (x ∷ xs) ix class = (if x.provider == ix then amount_of x.slot.needs class else 0) + sum_on xs ix class
 
 -- a sum is within `max_unit`, and with what is used within the capacity
-abbrev pub has_room : Option Stock → ℕ → ℕ → Bool
+abbrev pub has_room : Option InventoryNumbers → ℕ → ℕ → Bool
 has_room None used sum = false
-has_room (Some stock) used sum = nat_le sum stock.max_unit && nat_le (used + sum) (capacity stock)
+has_room (Some inventory) used sum = nat_le sum inventory.max_unit && nat_le (used + sum) (capacity inventory)
 
 -- a provider has an inventory of a class with room for a sum
 abbrev pub holds : Provider → List ℕ → ℕ → Bool
-holds p class sum = has_room (stock_of p class) (used_of p class) sum
+holds p class sum = has_room (inventory_of p class) (used_of p class) sum
 
 -- the provider of a slot has room, in each of the slot's classes, for what all slots ask of it
 unfoldable pub holds_sums : List Provider → List Placed → Placed → Bool

@@ -1,16 +1,16 @@
 //! The verdict on one list of providers.
 ghost use Rattle.std.specs.Prelude.{◌≡◌, ◌<◌, length};
 ghost use Rattle.std.specs.List.{All};
-ghost use Rattle.ac_tables.specs.CloudWorld.{providers_of};
+ghost use Rattle.ac_tables.specs.Cloud.CloudWorld.{providers_of};
 ghost use Rattle.ac_query.specs.Asked.{slots_of};
-ghost use Rattle.ac_query.specs.QueriesShown.{asked_of};
+ghost use Rattle.ac_query.specs.Shown.Queries.{asked_of};
 ghost use Rattle.ac_rules.specs.Judge.{judge, is_candidate};
 
-use crate::anchor::has_anchor;
-use crate::each::{all_are_in_trees, all_have_aggregates, all_have_traits, all_have_units};
-use crate::sums::have_room;
+use crate::rules::anchor::has_anchor;
+use crate::rules::each::{all_are_in_trees, all_have_aggregates, all_have_traits, all_have_units};
+use crate::rules::sums::have_room;
+use crate::rules::whole::{are_collective, are_isolated, have_tops};
 use crate::verdict::{Rule, Verdict};
-use crate::whole::{are_collective, are_isolated, have_tops};
 use ac_query::Query;
 use ac_tables::Cloud;
 
@@ -53,7 +53,7 @@ pub fn verify(cloud: &Cloud, query: &Query, list: &[u32]) -> Verdict
 }
 
 /// Whether a list of providers is a candidate.
-#[tactic(auto, using(crate::proofs::JudgeLemmas::judged_candidate, crate::proofs::JudgeLemmas::judged_broken))]
+#[tactic(auto, using(crate::proofs::EachSlot::JudgeLemmas::judged_candidate, crate::proofs::EachSlot::JudgeLemmas::judged_broken))]
 pub fn is_candidate(cloud: &Cloud, query: &Query, list: &[u32]) -> bool
     requires slots { length list.now ≡ length (slots_of (asked_of query.now)) }
     requires providers { All (λ p. p < length (providers_of cloud.now)) list.now }

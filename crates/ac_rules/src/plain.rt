@@ -3,17 +3,21 @@ ghost use Rattle.std.specs.Prelude.{◌≡◌, ◌<◌, ◌&&◌, length, [], �
 ghost use Rattle.std.specs.Bool.{MatchBool};
 ghost use Rattle.std.specs.Option.{option_map};
 ghost use Rattle.std.specs.List.{All};
-ghost use Rattle.ac_tables.specs.CloudWorld.{providers_of};
+ghost use Rattle.ac_tables.specs.Cloud.CloudWorld.{providers_of};
 ghost use Rattle.ac_query.specs.Asked.{slots_of};
-ghost use Rattle.ac_query.specs.QueriesShown.{asked_of};
+ghost use Rattle.ac_query.specs.Shown.Queries.{asked_of};
 ghost use Rattle.ac_query.specs.Tokens as tokens;
 ghost use Rattle.ac_rules.specs.Judge.{is_candidate};
 ghost use Rattle.ac_rules.specs.Pages.{is_after, rest};
-ghost use Rattle.ac_rules.specs.ListsShown.{list_of, bound_of};
+ghost use Rattle.ac_rules.specs.Shown.Lists.{list_of, bound_of};
 
-use crate::after::is_after;
+mod after;
+mod lists;
+mod odometer;
+
 use crate::judging::is_candidate;
-use crate::lists::AllLists;
+use crate::plain::after::is_after;
+use crate::plain::lists::AllLists;
 use crate::slots::count_slots;
 use crate::source::Source;
 use ac_base::{Id, NoMemory};
@@ -34,7 +38,7 @@ pub struct Plain<'a> {
 }
 
 impl<'a> Plain<'a> {
-    ghost use Rattle.ac_rules.specs.PlainShown.{after_of, left_of};
+    ghost use Rattle.ac_rules.specs.Shown.Plain.{after_of, left_of};
 
     /// Begins with the first candidate after the ids of a token, or with the first of all. It takes all its memory
     /// here; `next` takes none.
@@ -44,7 +48,9 @@ impl<'a> Plain<'a> {
         query: &'a Query,
         after: Option<&Token>,
     ) -> Result<Plain<'a>, NoMemory>
-        ensures { IfOk result (λ plain. ⟦<Plain<'a> as Source>⟧.left plain ≡ rest (providers_of cloud.now) (asked_of query.now) (option_map (λ t. tokens.ids_of t.now) after.entry)) }
+        ensures { IfOk result (λ plain. ⟦<Plain<'a> as Source>⟧.left plain
+            ≡ rest (providers_of cloud.now) (asked_of query.now)
+            (option_map (λ t. tokens.ids_of t.now) after.entry)) }
     {
         let after = copy_ids(alloc, after)?;
         let lists = AllLists::new(alloc, count_slots(query), cloud.len())?;
@@ -58,8 +64,10 @@ impl<'a> Plain<'a> {
 
     // Whether the list that it has come to comes after the ids.
     fn is_after(&self) -> bool
-        requires { All (λ p. p < length (providers_of self.now.cloud.now)) (list_of self.now.lists) }
-        ensures { result ≡ is_after (providers_of self.now.cloud.now) (after_of self.now) (list_of self.now.lists) }
+        requires { All (λ p. p < length (providers_of self.now.cloud.now))
+            (list_of self.now.lists) }
+        ensures { result ≡ is_after (providers_of self.now.cloud.now) (after_of self.now)
+            (list_of self.now.lists) }
     {
         match &self.after {
             Some(ids) => is_after(self.cloud, ids, self.lists.list()),
@@ -69,15 +77,20 @@ impl<'a> Plain<'a> {
 
     // Whether it is a candidate, and comes after them.
     fn is_wanted(&self) -> bool
-        requires { All (λ p. p < length (providers_of self.now.cloud.now)) (list_of self.now.lists) }
-        ensures { result ≡ (is_candidate (providers_of self.now.cloud.now) (asked_of self.now.query.now) (list_of self.now.lists) && is_after (providers_of self.now.cloud.now) (after_of self.now) (list_of self.now.lists)) }
+        requires { All (λ p. p < length (providers_of self.now.cloud.now))
+            (list_of self.now.lists) }
+        ensures { result
+            ≡ (is_candidate (providers_of self.now.cloud.now) (asked_of self.now.query.now)
+            (list_of self.now.lists) && is_after (providers_of self.now.cloud.now)
+            (after_of self.now) (list_of self.now.lists)) }
     {
         is_candidate(self.cloud, self.query, self.lists.list()) && self.is_after()
     }
 
     // Goes on to the next candidate, where there is one.
     fn step(&mut self) -> bool
-        ensures { MatchBool result (left_of self.old ≡ list_of self.new.lists ∷ left_of self.new) ((left_of self.old ≡ []) × (left_of self.new ≡ [])) }
+        ensures { MatchBool result (left_of self.old ≡ list_of self.new.lists ∷ left_of self.new)
+            ((left_of self.old ≡ []) × (left_of self.new ≡ [])) }
     {
         while self.lists.step() {
             if self.is_wanted() {
@@ -89,7 +102,7 @@ impl<'a> Plain<'a> {
 }
 
 impl<'a> Source for Plain<'a> {
-    ghost use Rattle.ac_rules.specs.PlainShown.{left_of};
+    ghost use Rattle.ac_rules.specs.Shown.Plain.{left_of};
 
     ghost left = { left_of };
 
@@ -104,7 +117,8 @@ impl<'a> Source for Plain<'a> {
 
 // The ids of a token, where there is one.
 fn copy_ids(alloc: Global, token: Option<&Token>) -> Result<Option<Vec<Id>>, NoMemory>
-    ensures { IfOk result (λ ids. option_map (λ list. list.items) ids ≡ option_map (λ t. tokens.ids_of t.now) token.entry) }
+    ensures { IfOk result (λ ids. option_map (λ list. list.items) ids
+        ≡ option_map (λ t. tokens.ids_of t.now) token.entry) }
 {
     match token {
         Some(token) => Ok(Some(Vec::from_slice(alloc, token.ids())?)),

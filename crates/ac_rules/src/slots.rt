@@ -3,8 +3,8 @@
 ghost use Rattle.std.specs.Prelude.{◌≡◌, ◌<◌, ◌≤◌, length, map, get_or, []};
 ghost use Rattle.std.specs.Option.{is_some};
 ghost use Rattle.ac_query.specs.Asked.{slots_of, lists_suffix};
-ghost use Rattle.ac_query.specs.GroupsShown.{need_entry, group_entry};
-ghost use Rattle.ac_query.specs.QueriesShown.{asked_of};
+ghost use Rattle.ac_query.specs.Shown.Groups.{need_entry, group_entry};
+ghost use Rattle.ac_query.specs.Shown.Queries.{asked_of};
 ghost use Rattle.ac_rules.specs.Placed.{slot_at};
 ghost use Rattle.ac_rules.specs.Together.{is_set_apart};
 
@@ -31,7 +31,8 @@ fn place_at(query: &Query, s: usize) -> usize
 /// The group of a slot.
 pub fn group_at(query: &Query, s: usize) -> &Group
     requires { s < length (slots_of (asked_of query.now)) }
-    ensures { group_entry result.now ≡ ((slot_at (asked_of query.now) s).suffix, (slot_at (asked_of query.now) s).group) }
+    ensures { group_entry result.now
+        ≡ ((slot_at (asked_of query.now) s).suffix, (slot_at (asked_of query.now) s).group) }
 {
     &query.groups()[place_at(query, s)]
 }
@@ -65,7 +66,8 @@ pub fn is_set_apart(query: &Query, s: usize) -> bool
 pub fn is_listed(query: &Query, k: usize, s: usize) -> bool
     requires list { k < length (asked_of query.now).subtrees }
     requires slot { s < length (slots_of (asked_of query.now)) }
-    ensures { result ≡ lists_suffix (get_or (asked_of query.now).subtrees k []) (slot_at (asked_of query.now) s).suffix }
+    ensures { result ≡ lists_suffix (get_or (asked_of query.now).subtrees k [])
+        (slot_at (asked_of query.now) s).suffix }
 {
     query.in_subtree(k, s)
 }

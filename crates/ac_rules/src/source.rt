@@ -16,5 +16,6 @@ pub trait Source {
     /// Lends the first list that is left, which is then gone; `None` where none is left, now and from then on.
     fn next(&mut self) -> Option<&[u32]>
         ensures head { option_copied result ≡ head_of (left self.old) }
-        ensures* tail { sem 𝓛 (Rests Self.row self.entry (λ new. (left new ≡ tail_of (left self.old)) × moves self.old (option_copied result) new)) };
+        ensures* tail { sem 𝓛 (Rests Self.row self.entry (λ new.
+            (left new ≡ tail_of (left self.old)) × moves self.old (option_copied result) new)) };
 }

@@ -6,7 +6,7 @@ use Rattle.std.proofs.lemmas.List.Elements.{All-from_recursion}
 use Rattle.ac_query.specs.Asked.{Asked, slots_of}
 use Rattle.ac_report.specs.Pages.{IsAssignment}
 use Rattle.ac_rules.proofs.Elements.{each_filter, each_weaker}
-use Rattle.ac_rules.proofs.ListLemmas.{each_all_lists}
+use Rattle.ac_rules.proofs.Lists.ListLemmas.{each_all_lists}
 use Rattle.ac_rules.specs.Judge.{is_candidate}
 use Rattle.ac_rules.specs.Lists.{all_lists}
 use Rattle.ac_rules.specs.Pages.{candidates, is_after, rest}

@@ -13,7 +13,7 @@ use Rattle.ac_run.specs.Draining.{ExplainsReading}
 use Rattle.ac_run.specs.Feeds.{Bytes, TellBytes, too_large}
 use Rattle.ac_run.specs.Lines.{record_line, too_large_line}
 use Rattle.ac_run.specs.Run.{Explains, ExplainsOutcome, ExplainsTables, IsWritten}
-use Rattle.ac_run.specs.declared.job.Inputs.{Inputs}
+use Rattle.ac_tables.specs.declared.read.FiveTables.{FiveTables}
 use Rattle.ac_run.specs.declared.refusal.Refusal.{Refusal}
 use Rattle.ac_run.specs.declared.refusal.Refusal.TheVariants as why
 
@@ -35,7 +35,7 @@ module _ (task : Task) (b : Bytes) where
 
 -- ---- why there is no answer
 
-module _ {R : Type 0} (remaining : R → Option (List ℕ)) (failures : R → ℕ) (task : Task) (from to : Inputs R) (s : Option (List ℕ)) (rose : Type 0) where
+module _ {R : Type 0} (remaining : R → Option (List ℕ)) (failures : R → ℕ) (task : Task) (from to : FiveTables R) (s : Option (List ℕ)) (rose : Type 0) where
   pub explains_reading : (refusal : Refusal) → ExplainsReading remaining failures from to refusal → Explains remaining failures task from to s s rose refusal
   explains_reading (why.Unreadable t) h = (h, keeps s)
   explains_reading (why.TooLarge t) h = ((λ b tell. too_long task b t (h b tell)), keeps s)

@@ -7,7 +7,7 @@ use Rattle.ac_tables.specs.declared.fault.Table.{Table}
 use Rattle.ac_tables.specs.declared.fault.Table.TheVariants as table
 use Rattle.ac_run.specs.Draining.{AreTooManyThere, ExplainsDraining, ExplainsReading, GaveAll}
 use Rattle.ac_run.specs.Feeds.{Bytes, FeedRose, TellBytes, is_long, is_long_there, too_large}
-use Rattle.ac_run.specs.declared.job.Inputs.{Inputs}
+use Rattle.ac_tables.specs.declared.read.FiveTables.{FiveTables}
 use Rattle.ac_run.specs.declared.refusal.Refusal.{Refusal}
 use Rattle.ac_run.specs.declared.refusal.Refusal.TheVariants as why
 
@@ -77,7 +77,7 @@ module _ (b : Bytes) where
 
 -- ---- why they could not be read
 
-pub explains : {R : Type 0} (remaining : R → Option (List ℕ)) (failures : R → ℕ) (old new : Inputs R) (t : Table) (rose many : Type 0) (refusal : Refusal)
+pub explains : {R : Type 0} (remaining : R → Option (List ℕ)) (failures : R → ℕ) (old new : FiveTables R) (t : Table) (rose many : Type 0) (refusal : Refusal)
     → ExplainsDraining rose many t refusal → (rose → FeedRose failures old new t) → (many → (b : Bytes) → TellBytes remaining old b → too_large b ≡ Some t)
     → ExplainsReading remaining failures old new refusal
 explains remaining failures old new t rose many (why.Unreadable s) h rises large = subst (FeedRose failures old new) (sym h.0) (rises h.1)

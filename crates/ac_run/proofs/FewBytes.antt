@@ -1,14 +1,15 @@
 -- Tables of which none is too large have few bytes.
+use denote.Ref.{Bor}
 use Rattle.std.proofs.Common.{◌≡◌, ◌∙◌, ℕ, ◌≤◌, Bool, true, false, List, [], ◌∷◌, length, Option, Some, None, refl, sym, ap, subst, arith}
 use Rattle.std.proofs.lemmas.Bool.Decides.{nat_tests}
 use Rattle.std.specs.List.{AllByRecursion as Each}
 use Rattle.std.specs.Option.{option_map, IfSome}
-use Rattle.ac_tables.specs.Checks.{first_failing}
+use Rattle.ac_tables.specs.Tables.Checks.{first_failing}
 use Rattle.ac_tables.specs.Drain.{most_bytes}
 use Rattle.ac_tables.specs.Source.{AreFew}
 use Rattle.ac_tables.specs.declared.fault.Table.{Table}
 use Rattle.ac_tables.specs.declared.fault.Table.TheVariants as table
-use Rattle.ac_tables.specs.declared.read.Sources.{Sources}
+use Rattle.ac_tables.specs.declared.read.FiveTables.{FiveTables}
 use Rattle.ac_run.specs.Feeds.{Bytes, is_long, is_long_there, too_large}
 
 each_passes : {X : Type 0} (checks : List (Bool × X)) → first_failing checks ≡ None → Each (λ check. check.0 ≡ false) checks
@@ -24,7 +25,7 @@ few_there : {T : Type 0} (now : T → List ℕ) (text : Option T) (bytes : Optio
 few_there now None bytes e h = tt
 few_there now (Some text) bytes e h = few (now text) (subst (λ b. is_long_there b ≡ false) (sym e) h)
 
-pub are_few : (b : Bytes) (s : Sources) → too_large b ≡ None
+pub are_few : (b : Bytes) (s : FiveTables (Bor (List ℕ))) → too_large b ≡ None
     → s.providers.now ≡ b.providers → s.inventories.now ≡ b.inventories
     → option_map (λ t. t.now) s.usages ≡ b.usages → option_map (λ t. t.now) s.traits ≡ b.traits → option_map (λ t. t.now) s.aggregates ≡ b.aggregates
     → AreFew s

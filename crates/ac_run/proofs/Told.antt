@@ -7,7 +7,7 @@ use Rattle.ac_run.specs.Feeds.{Bytes, FeedRose, TellBytes}
 use Rattle.ac_run.specs.Refusals.{line_of, status_of}
 use Rattle.ac_run.specs.Run.{Explains, FailsOr, IsRefused, IsUnread}
 use Rattle.ac_run.specs.Writing.{TakesLine}
-use Rattle.ac_run.specs.declared.job.Inputs.{Inputs}
+use Rattle.ac_tables.specs.declared.read.FiveTables.{FiveTables}
 use Rattle.ac_run.specs.declared.refusal.Refusal.{Refusal}
 use Rattle.ac_run.specs.declared.refusal.Refusal.TheVariants as why
 
@@ -20,7 +20,7 @@ is_status (why.Token f) = (4, omega arith, refl)
 is_status why.Output = (5, omega arith, refl)
 is_status why.NoMemory = (6, omega arith, refl)
 
-module _ {R : Type 0} (remaining : R → Option (List ℕ)) (failures : R → ℕ) (task : Task) (from to : Inputs R)
+module _ {R : Type 0} (remaining : R → Option (List ℕ)) (failures : R → ℕ) (task : Task) (from to : FiveTables R)
     (old new err_old err_new : Option (List ℕ)) (out_rose : Type 0) (before after : ℕ) where
   abbrev IsTold : Refusal → Type 0
   IsTold refusal = TakesLine err_old err_new before after (line_of refusal)

@@ -1,10 +1,10 @@
 -- What a run answers: its output, its line on the error sink, and its status.
 use Rattle.std.specs.Prelude.{ℕ, List, [], codes, Option, Some, None}
 use Rattle.std.specs.Option.{option_and_then}
-use Rattle.ac_tables.specs.Rows.{records_of}
-use Rattle.ac_tables.specs.AggregateTable.{aggregate_columns}
-use Rattle.ac_tables.specs.TraitTable.{trait_columns}
-use Rattle.ac_tables.specs.UsageTable.{usage_columns}
+use Rattle.ac_tables.specs.Tables.Rows.{records_of}
+use Rattle.ac_tables.specs.Tables.AggregateTable.{aggregate_columns}
+use Rattle.ac_tables.specs.Tables.TraitTable.{trait_columns}
+use Rattle.ac_tables.specs.Tables.UsageTable.{usage_columns}
 use Rattle.ac_tables.specs.Tables.{Tables, records_or_header, tables_fault, world_stated}
 use Rattle.ac_tables.specs.World.{World, Provider}
 use Rattle.ac_tables.specs.declared.fault.TableFault.{TableFault}
@@ -13,10 +13,10 @@ use Rattle.ac_query.specs.declared.version.Version.{Version}
 use Rattle.ac_query.specs.Asked.{Asked}
 use Rattle.ac_query.specs.Faults.{query_fault}
 use Rattle.ac_query.specs.Located.{places_of}
-use Rattle.ac_query.specs.Gathered.{asked_by}
+use Rattle.ac_query.specs.Laws.Gathered.{asked_by}
 use Rattle.ac_query.specs.Pairs.{pairs_of}
 use Rattle.ac_query.specs.Tokens.{token_fault}
-use Rattle.ac_query.specs.Values.{ids_value}
+use Rattle.ac_query.specs.Pairs.Values.{ids_value}
 use Rattle.ac_query.specs.declared.token.TokenFault.{TokenFault}
 use Rattle.ac_rules.specs.Judge.{judge}
 use Rattle.ac_rules.specs.Pages.{page}

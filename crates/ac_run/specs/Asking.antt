@@ -1,7 +1,7 @@
 -- Why what a job asks is refused.
 use Rattle.std.specs.Prelude.{◌≡◌, Option, Some, ⊤}
 use Rattle.ac_query.specs.Faults.{Fault}
-use Rattle.ac_query.specs.FaultsShown.{fault_shown}
+use Rattle.ac_query.specs.Shown.Faults.{fault_shown}
 use Rattle.ac_query.specs.declared.fault.QueryFault.{QueryFault}
 use Rattle.ac_query.specs.declared.token.TokenFault.{TokenFault}
 use Rattle.ac_run.specs.declared.refusal.Refusal.{Refusal}

@@ -1,11 +1,11 @@
 -- What draining the feeds of the tables answers.
 use Rattle.std.specs.Prelude.{◌≡◌, ℕ, ◌≤◌, List, length, Option, Some, None, ⊤}
 use Rattle.std.specs.Option.{option_map}
+use Rattle.std.specs.Global.{Vec}
 use Rattle.ac_tables.specs.Drain.{AllBytes, AreTooMany, most_bytes}
 use Rattle.ac_tables.specs.declared.fault.Table.{Table}
 use Rattle.ac_run.specs.Feeds.{Bytes, TellBytes, FeedRose, too_large}
-use Rattle.ac_run.specs.declared.draining.Texts.{Texts}
-use Rattle.ac_run.specs.declared.job.Inputs.{Inputs}
+use Rattle.ac_tables.specs.declared.read.FiveTables.{FiveTables}
 use Rattle.ac_run.specs.declared.refusal.Refusal.{Refusal}
 use Rattle.ac_run.specs.declared.refusal.Refusal.TheVariants as why
 
@@ -32,7 +32,7 @@ ExplainsDraining rose many table why.Output = ⊥
 ExplainsDraining rose many table why.NoMemory = ⊤
 
 -- the bytes that were read
-abbrev pub texts_shown : Texts → Bytes
+abbrev pub texts_shown : FiveTables (Vec ℕ) → Bytes
 texts_shown t = record {
   providers = t.providers.items;
   inventories = t.inventories.items;
@@ -42,7 +42,7 @@ texts_shown t = record {
 }
 
 -- why the tables could not be read: a feed's count of failures rose, or a table has too many bytes
-abbrev pub ExplainsReading : {R : Type 0} → (R → Option (List ℕ)) → (R → ℕ) → Inputs R → Inputs R → Refusal → Type 0
+abbrev pub ExplainsReading : {R : Type 0} → (R → Option (List ℕ)) → (R → ℕ) → FiveTables R → FiveTables R → Refusal → Type 0
 ExplainsReading remaining failures old new (why.Unreadable t) = FeedRose failures old new t
 ExplainsReading remaining failures old new (why.TooLarge t) = (b : Bytes) → TellBytes remaining old b → too_large b ≡ Some t
 ExplainsReading remaining failures old new (why.Record t row k) = ⊥

@@ -2,11 +2,11 @@
 use Rattle.std.specs.Prelude.{◌≡◌, ℕ, nat_lt, Bool, false, List, [], ◌∷◌, length, Option, Some, None}
 use Rattle.std.specs.Option.{option_map}
 use Rattle.ac_base.specs.Devices.{Rises}
-use Rattle.ac_tables.specs.Checks.{first_failing}
+use Rattle.ac_tables.specs.Tables.Checks.{first_failing}
 use Rattle.ac_tables.specs.Drain.{most_bytes}
 use Rattle.ac_tables.specs.declared.fault.Table.{Table}
 use Rattle.ac_tables.specs.declared.fault.Table.TheVariants as table
-use Rattle.ac_run.specs.declared.job.Inputs.{Inputs}
+use Rattle.ac_tables.specs.declared.read.FiveTables.{FiveTables}
 
 -- the bytes of the five tables, of which three may not be there
 pub record Bytes : Type 0 where
@@ -17,7 +17,7 @@ pub record Bytes : Type 0 where
   pub aggregates : Option (List ℕ)
 
 -- the feeds tell that they still give these bytes
-pub record TellBytes {R : Type 0} (remaining : R → Option (List ℕ)) (inputs : Inputs R) (b : Bytes) : Type 0 where
+pub record TellBytes {R : Type 0} (remaining : R → Option (List ℕ)) (inputs : FiveTables R) (b : Bytes) : Type 0 where
   pub providers : remaining inputs.providers ≡ Some b.providers
   pub inventories : remaining inputs.inventories ≡ Some b.inventories
   pub usages : option_map remaining inputs.usages ≡ option_map (λ x. Some x) b.usages
@@ -31,7 +31,7 @@ RisesIn failures (Some a) None = ⊥
 RisesIn failures (Some a) (Some b) = Rises (failures a) (failures b)
 
 -- the count of failures of a table's feed rose
-abbrev pub FeedRose : {R : Type 0} → (R → ℕ) → Inputs R → Inputs R → Table → Type 0
+abbrev pub FeedRose : {R : Type 0} → (R → ℕ) → FiveTables R → FiveTables R → Table → Type 0
 FeedRose failures old new table.Providers = Rises (failures old.providers) (failures new.providers)
 FeedRose failures old new table.Inventories = Rises (failures old.inventories) (failures new.inventories)
 FeedRose failures old new table.Usages = RisesIn failures old.usages new.usages

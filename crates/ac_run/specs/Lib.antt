@@ -1,6 +1,5 @@
 pub mod Writing
 pub mod Lines
-pub mod DigitsShown
 pub mod Refusals
 pub mod Feeds
 pub mod Draining

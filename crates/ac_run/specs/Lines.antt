@@ -1,6 +1,7 @@
 -- The lines of faults.
-use Rattle.std.specs.Prelude.{ℕ, List, [], ◌∷◌, codes, Option, Some, None}
+use Rattle.std.specs.Prelude.{ℕ, List, [], ◌∷◌, codes, Option}
 use Rattle.std.specs.Fmt.{decimal}
+use Rattle.std.specs.Option.{unwrap_or}
 use Rattle.std.specs.List.{flat_map}
 use Rattle.ac_query.specs.Faults.{Fault, too_long, unknown_parameter, repeated, bad_value, conflict, no_resources, group_without_resources, unknown_suffix, policy_missing, too_many_slots}
 use Rattle.ac_query.specs.declared.token.TokenFault.{TokenFault}
@@ -64,8 +65,7 @@ group_line suffix name = said (codes "query: group \"" ∷ suffix ∷ codes "\":
 
 -- the suffix as it is printed: the unsuffixed group has the empty text
 abbrev pub printed : Option (List ℕ) → List ℕ
-printed None = []
-printed (Some suffix) = suffix
+printed suffix = unwrap_or suffix []
 
 unfoldable pub query_line : Fault → List ℕ
 query_line too_long = codes "query: QueryTooLong\n"

@@ -1,7 +1,7 @@
 -- The line and the status of each refusal.
 use Rattle.std.specs.Prelude.{ℕ, List, Option, Some, None}
 use Rattle.ac_query.specs.Faults.{Fault}
-use Rattle.ac_query.specs.FaultsShown.{fault_shown}
+use Rattle.ac_query.specs.Shown.Faults.{fault_shown}
 use Rattle.ac_run.specs.Lines.{unreadable_line, too_large_line, record_line, query_line, token_line, memory_line, output_line}
 use Rattle.ac_run.specs.declared.refusal.Refusal.{Refusal}
 use Rattle.ac_run.specs.declared.refusal.Refusal.TheVariants as why

@@ -10,7 +10,7 @@ use Rattle.ac_run.specs.Feeds.{Bytes, TellBytes, FeedRose}
 use Rattle.ac_run.specs.Lines.{unreadable_line}
 use Rattle.ac_run.specs.Refusals.{line_of}
 use Rattle.ac_run.specs.Writing.{TakesLine}
-use Rattle.ac_run.specs.declared.job.Inputs.{Inputs}
+use Rattle.ac_tables.specs.declared.read.FiveTables.{FiveTables}
 use Rattle.ac_run.specs.declared.refusal.Refusal.{Refusal}
 use Rattle.ac_run.specs.declared.refusal.Refusal.TheVariants as why
 
@@ -41,7 +41,7 @@ ExplainsTables first why.Output = ⊥
 ExplainsTables first why.NoMemory = ⊤
 
 -- what a run that ended for this reason leaves
-abbrev pub Explains : {R : Type 0} → (R → Option (List ℕ)) → (R → ℕ) → Task → Inputs R → Inputs R → Option (List ℕ) → Option (List ℕ) → Type 0 → Refusal → Type 0
+abbrev pub Explains : {R : Type 0} → (R → Option (List ℕ)) → (R → ℕ) → Task → FiveTables R → FiveTables R → Option (List ℕ) → Option (List ℕ) → Type 0 → Refusal → Type 0
 Explains remaining failures task from to old new rose (why.Unreadable t) = FeedRose failures from to t × Keeps old new
 Explains remaining failures task from to old new rose (why.TooLarge t) = ((b : Bytes) → TellBytes remaining from b → answer task b ≡ refused (line_of (why.TooLarge t)) 3) × Keeps old new
 Explains remaining failures task from to old new rose (why.Record t row k) = ((b : Bytes) → TellBytes remaining from b → answer task b ≡ refused (line_of (why.Record t row k)) 3) × Keeps old new

@@ -3,9 +3,9 @@ ghost use Rattle.std.specs.Prelude.{◌≡◌, ◌≤◌, IfOk, IfErr, OnOk, Som
 ghost use Rattle.std.specs.Option.{option_map};
 ghost use Rattle.ac_base.specs.Devices.{Rises};
 ghost use Rattle.ac_tables.specs.Tables.{tables_fault, world_stated};
-ghost use Rattle.ac_tables.specs.CloudWorld.{providers_of, world_of};
+ghost use Rattle.ac_tables.specs.Cloud.CloudWorld.{providers_of, world_of};
 ghost use Rattle.ac_query.specs.Asked.{slots_of};
-ghost use Rattle.ac_query.specs.QueriesShown.{asked_of};
+ghost use Rattle.ac_query.specs.Shown.Queries.{asked_of};
 ghost use Rattle.ac_query.specs.Tokens.{ids_of};
 ghost use Rattle.ac_run.specs.Answer.{explanation, page_body, page_lines, tables_in, verdict_line, written};
 ghost use Rattle.ac_run.specs.Outputs.{counts};
@@ -39,7 +39,8 @@ fn slice_of(text: &Option<Vec<u8>>) -> Option<&[u8]>
 pub fn read_cloud(alloc: Global, texts: Texts) -> Result<Cloud, Refusal>
     requires { too_large (texts_shown texts) ≡ None }
     ensures fine { OnOk result (tables_fault (tables_in (texts_shown texts)) ≡ None) }
-    ensures world { IfOk result (λ cloud. world_of cloud ≡ world_stated (tables_in (texts_shown texts))) }
+    ensures world { IfOk result (λ cloud. world_of cloud
+        ≡ world_stated (tables_in (texts_shown texts))) }
     ensures fault { IfErr result (ExplainsTables (tables_fault (tables_in (texts_shown texts)))) }
 {
     let sources = Sources {
@@ -60,8 +61,10 @@ pub fn read_cloud(alloc: Global, texts: Texts) -> Result<Cloud, Refusal>
 fn push_text<W: Sink>(out: &mut W, text: &[u8], status: u8) -> Result<u8, Refusal>
     requires { status ≤ 1 }
     ensures few { IfOk result (λ status. status ≤ 1) }
-    ensures ok { IfOk result (IsWritten (written text.now status) (W.taken out.old) (W.taken out.new)) }
-    ensures fault { IfErr result (ExplainsOutcome (written text.now status) (W.taken out.old) (W.taken out.new) (Rises (W.failures out.old) (W.failures out.new))) }
+    ensures ok { IfOk result (IsWritten (written text.now status) (W.taken out.old)
+        (W.taken out.new)) }
+    ensures fault { IfErr result (ExplainsOutcome (written text.now status) (W.taken out.old)
+        (W.taken out.new) (Rises (W.failures out.old) (W.failures out.new))) }
     ensures failures { W.failures out.old ≤ W.failures out.new }
 {
     match push_all(out, text) {
@@ -73,8 +76,10 @@ fn push_text<W: Sink>(out: &mut W, text: &[u8], status: u8) -> Result<u8, Refusa
 // How much the tables told.
 pub fn write_counts<W: Sink>(cloud: &Cloud, out: &mut W) -> Result<u8, Refusal>
     ensures few { IfOk result (λ status. status ≤ 1) }
-    ensures ok { IfOk result (IsWritten (written (counts (world_of cloud.now).sizes) 0) (W.taken out.old) (W.taken out.new)) }
-    ensures fault { IfErr result (ExplainsOutcome (written (counts (world_of cloud.now).sizes) 0) (W.taken out.old) (W.taken out.new) (Rises (W.failures out.old) (W.failures out.new))) }
+    ensures ok { IfOk result (IsWritten (written (counts (world_of cloud.now).sizes) 0)
+        (W.taken out.old) (W.taken out.new)) }
+    ensures fault { IfErr result (ExplainsOutcome (written (counts (world_of cloud.now).sizes) 0)
+        (W.taken out.old) (W.taken out.new) (Rises (W.failures out.old) (W.failures out.new))) }
     ensures failures { W.failures out.old ≤ W.failures out.new }
 {
     match push_counts(out, &cloud.counts()) {
@@ -92,8 +97,11 @@ pub fn write_lines<W: Sink>(
     out: &mut W,
 ) -> Result<u8, Refusal>
     ensures few { IfOk result (λ status. status ≤ 1) }
-    ensures ok { IfOk result (IsWritten (page_lines (providers_of cloud.now) (asked_of query.now) (option_map ids_of token.now)) (W.taken out.old) (W.taken out.new)) }
-    ensures fault { IfErr result (ExplainsOutcome (page_lines (providers_of cloud.now) (asked_of query.now) (option_map ids_of token.now)) (W.taken out.old) (W.taken out.new) (Rises (W.failures out.old) (W.failures out.new))) }
+    ensures ok { IfOk result (IsWritten (page_lines (providers_of cloud.now) (asked_of query.now)
+        (option_map ids_of token.now)) (W.taken out.old) (W.taken out.new)) }
+    ensures fault { IfErr result (ExplainsOutcome
+        (page_lines (providers_of cloud.now) (asked_of query.now) (option_map ids_of token.now))
+        (W.taken out.old) (W.taken out.new) (Rises (W.failures out.old) (W.failures out.new))) }
     ensures failures { W.failures out.old ≤ W.failures out.new }
 {
     let Ok(mut source) = Walk::new(alloc, cloud, query, token.as_ref()) else {
@@ -115,8 +123,11 @@ pub fn write_body<W: Sink>(
     out: &mut W,
 ) -> Result<u8, Refusal>
     ensures few { IfOk result (λ status. status ≤ 1) }
-    ensures ok { IfOk result (IsWritten (page_body (providers_of cloud.now) (asked_of query.now) (option_map ids_of token.now)) (W.taken out.old) (W.taken out.new)) }
-    ensures fault { IfErr result (ExplainsOutcome (page_body (providers_of cloud.now) (asked_of query.now) (option_map ids_of token.now)) (W.taken out.old) (W.taken out.new) (Rises (W.failures out.old) (W.failures out.new))) }
+    ensures ok { IfOk result (IsWritten (page_body (providers_of cloud.now) (asked_of query.now)
+        (option_map ids_of token.now)) (W.taken out.old) (W.taken out.new)) }
+    ensures fault { IfErr result (ExplainsOutcome
+        (page_body (providers_of cloud.now) (asked_of query.now) (option_map ids_of token.now))
+        (W.taken out.old) (W.taken out.new) (Rises (W.failures out.old) (W.failures out.new))) }
     ensures failures { W.failures out.old ≤ W.failures out.new }
 {
     let Ok(mut source) = Walk::new(alloc, cloud, query, token.as_ref()) else {
@@ -139,8 +150,11 @@ pub fn write_verdict<W: Sink>(
 ) -> Result<u8, Refusal>
     requires { length (ids_of token.now) ≡ length (slots_of (asked_of query.now)) }
     ensures few { IfOk result (λ status. status ≤ 1) }
-    ensures ok { IfOk result (IsWritten (verdict_line (providers_of cloud.now) (asked_of query.now) (Some (ids_of token.now))) (W.taken out.old) (W.taken out.new)) }
-    ensures fault { IfErr result (ExplainsOutcome (verdict_line (providers_of cloud.now) (asked_of query.now) (Some (ids_of token.now))) (W.taken out.old) (W.taken out.new) (Rises (W.failures out.old) (W.failures out.new))) }
+    ensures ok { IfOk result (IsWritten (verdict_line (providers_of cloud.now) (asked_of query.now)
+        (Some (ids_of token.now))) (W.taken out.old) (W.taken out.new)) }
+    ensures fault { IfErr result (ExplainsOutcome
+        (verdict_line (providers_of cloud.now) (asked_of query.now) (Some (ids_of token.now)))
+        (W.taken out.old) (W.taken out.new) (Rises (W.failures out.old) (W.failures out.new))) }
     ensures failures { W.failures out.old ≤ W.failures out.new }
 {
     match token.locate(alloc, cloud) {

@@ -3,9 +3,9 @@ ghost use Rattle.std.specs.Prelude.{◌≡◌, IfOk, IfErr, IfSome, OnOk, Some, 
 ghost use Rattle.std.specs.Option.{option_map};
 ghost use Rattle.ac_query.specs.Asked.{slots_of};
 ghost use Rattle.ac_query.specs.Faults.{query_fault};
-ghost use Rattle.ac_query.specs.Gathered.{asked_by};
+ghost use Rattle.ac_query.specs.Laws.Gathered.{asked_by};
 ghost use Rattle.ac_query.specs.Pairs.{pairs_of};
-ghost use Rattle.ac_query.specs.QueriesShown.{asked_of};
+ghost use Rattle.ac_query.specs.Shown.Queries.{asked_of};
 ghost use Rattle.ac_query.specs.Tokens.{ids_of};
 ghost use Rattle.ac_run.specs.Answer.{ids_given, token_refusal};
 ghost use Rattle.ac_run.specs.Asking.{ExplainsQuery, ExplainsToken, IsRefusalOf};
@@ -42,11 +42,16 @@ pub fn read_token(
     text: Option<&str>,
     query: &Query,
 ) -> Result<Option<Token>, Refusal>
-    ensures fine { OnOk result (token_refusal (asked_of query.now) (option_map (λ t. t.now) text.entry) ≡ None) }
-    ensures ids { IfOk result (λ token. option_map ids_of token ≡ ids_given (option_map (λ t. t.now) text.entry)) }
-    ensures given { IfOk result (λ token. is_some token ≡ is_some (option_map (λ t. t.now) text.entry)) }
-    ensures slots { IfOk result (λ token. IfSome token (λ t. length (ids_of t) ≡ length (slots_of (asked_of query.now)))) }
-    ensures fault { IfErr result (ExplainsToken (token_refusal (asked_of query.now) (option_map (λ t. t.now) text.entry))) }
+    ensures fine { OnOk result (token_refusal (asked_of query.now)
+        (option_map (λ t. t.now) text.entry) ≡ None) }
+    ensures ids { IfOk result (λ token. option_map ids_of token
+        ≡ ids_given (option_map (λ t. t.now) text.entry)) }
+    ensures given { IfOk result (λ token. is_some token
+        ≡ is_some (option_map (λ t. t.now) text.entry)) }
+    ensures slots { IfOk result (λ token. IfSome token (λ t.
+        length (ids_of t) ≡ length (slots_of (asked_of query.now)))) }
+    ensures fault { IfErr result (ExplainsToken
+        (token_refusal (asked_of query.now) (option_map (λ t. t.now) text.entry))) }
 {
     let Some(text) = text else {
         return Ok(None);

@@ -9,24 +9,19 @@ ghost use Rattle.ac_run.specs.Draining.{AreTooManyThere, ExplainsDraining, Expla
 use crate::job::Inputs;
 use crate::refusal::Refusal;
 use ac_base::Feed;
-use ac_tables::{ReadFault, Table, drain};
+use ac_tables::{FiveTables, ReadFault, Table, drain};
 use std::alloc::Global;
 
 /// The bytes of the tables.
-#[derive(Drop)]
-pub struct Texts {
-    pub providers: Vec<u8>,
-    pub inventories: Vec<u8>,
-    pub usages: Option<Vec<u8>>,
-    pub traits: Option<Vec<u8>>,
-    pub aggregates: Option<Vec<u8>>,
-}
+pub type Texts = FiveTables<Vec<u8>>;
 
 // The bytes of a table's feed.
 fn drain_table<R: Feed>(alloc: Global, table: Table, feed: &mut R) -> Result<Vec<u8>, Refusal>
     ensures bytes { IfOk result (λ bytes. AllBytes (R.remaining feed.old) bytes.items) }
     ensures few { IfOk result (λ bytes. length bytes.items ≤ most_bytes) }
-    ensures fault { IfErr result (ExplainsDraining (Rises (R.failures feed.old) (R.failures feed.new)) (AreTooMany (R.remaining feed.old)) table) }
+    ensures fault { IfErr result (ExplainsDraining
+        (Rises (R.failures feed.old) (R.failures feed.new))
+        (AreTooMany (R.remaining feed.old)) table) }
 {
     match drain(alloc, feed) {
         Ok(bytes) => Ok(bytes),
@@ -42,8 +37,10 @@ fn drain_some<R: Feed>(
     table: Table,
     feed: &mut Option<R>,
 ) -> Result<Option<Vec<u8>>, Refusal>
-    ensures bytes { IfOk result (λ bytes. GaveAll (option_map R.remaining feed.old) (option_map (λ v. v.items) bytes)) }
-    ensures fault { IfErr result (ExplainsDraining (RisesIn R.failures feed.old feed.new) (AreTooManyThere (option_map R.remaining feed.old)) table) }
+    ensures bytes { IfOk result (λ bytes.
+        GaveAll (option_map R.remaining feed.old) (option_map (λ v. v.items) bytes)) }
+    ensures fault { IfErr result (ExplainsDraining (RisesIn R.failures feed.old feed.new)
+        (AreTooManyThere (option_map R.remaining feed.old)) table) }
 {
     match feed {
         None => Ok(None),
@@ -56,7 +53,8 @@ fn drain_some<R: Feed>(
 
 /// Reads all tables to their ends, in their order.
 pub fn read_tables<R: Feed>(alloc: Global, inputs: &mut Inputs<R>) -> Result<Texts, Refusal>
-    ensures bytes { IfOk result (λ texts. (b : Bytes) → TellBytes R.remaining inputs.old b → texts_shown texts ≡ b) }
+    ensures bytes { IfOk result (λ texts. (b : Bytes) → TellBytes R.remaining inputs.old b
+        → texts_shown texts ≡ b) }
     ensures few { IfOk result (λ texts. too_large (texts_shown texts) ≡ None) }
     ensures fault { IfErr result (ExplainsReading R.remaining R.failures inputs.old inputs.new) }
 {

@@ -2,19 +2,20 @@
 ghost use Rattle.std.specs.Prelude.{◌≡◌, ◌+◌, ◌<◌, ◌≤◌, ◌++◌, IfOk, OnErr, OnOk, length, map};
 ghost use Rattle.std.specs.Io.KnownBytes.{Appends};
 ghost use Rattle.ac_base.specs.Devices.{Rises, TakesPart};
-ghost use Rattle.ac_tables.specs.CloudWorld.{providers_of};
+ghost use Rattle.ac_tables.specs.Cloud.CloudWorld.{providers_of};
 ghost use Rattle.ac_query.specs.Asked.{slots_of};
-ghost use Rattle.ac_query.specs.GroupsShown.{need_entry, suffix_of};
-ghost use Rattle.ac_query.specs.QueriesShown.{asked_of};
-ghost use Rattle.ac_search.specs.ExplainedShown.{slot_counted as slot_shown, trees_counted as trees_shown};
+ghost use Rattle.ac_query.specs.Shown.Groups.{need_entry};
+ghost use Rattle.ac_query.specs.Shown.Queries.{asked_of};
+ghost use Rattle.ac_search.specs.Shown.Explained.{slot_counted as slot_shown, trees_counted as trees_shown};
 ghost use Rattle.ac_rules.specs.Placed.{slot_at};
 ghost use Rattle.ac_run.specs.Explanation.{candidates_line, explanation_status, has_candidate, need_text, needs_text, slot_counted, slot_line, slot_lines, slot_name, trees_line};
 ghost use Rattle.ac_run.specs.Lines.{printed};
 
-use crate::digits::Digits;
+use crate::pieces::digits::Digits;
 use crate::pieces::push_pieces;
 use ac_base::{NoMemory, Sink, WriteFailed, push_all};
-use ac_query::{Group, Need, Query};
+use ac_query::{Need, Query};
+use ac_report::suffix_text;
 use ac_rules::Source;
 use ac_rules::slots::{count_slots, group_at, needs_at};
 use ac_search::{SlotCounts, TreeCounts, Walk, slot_counts};
@@ -59,16 +60,6 @@ fn push_needs<W: Sink>(out: &mut W, needs: &[Need]) -> Result<(), WriteFailed>
         push_need(out, b",", need)?;
     }
     Ok(())
-}
-
-// The suffix of a group; the unsuffixed one has the empty text.
-fn suffix_text(group: &Group) -> &str
-    ensures { result.now ≡ printed (suffix_of group.now) }
-{
-    match group.suffix() {
-        Some(suffix) => suffix.text(),
-        None => "",
-    }
 }
 
 // A slot by its number and the suffix of its group.

@@ -42,21 +42,30 @@ pub fn run_gathered<R: Feed, W: Sink + Drop, E: Sink>(
 
     // Whatever the devices do: what each status says.
     ensures written { result.0 ≤ 1 → (b : Bytes) → TellBytes R.remaining inputs.old b
-        → IsAnswered (answer (task_of job.now) b) (W.taken out) (W.taken result.1) (E.taken err.old) (E.taken err.new) result.0 }
+        → IsAnswered (answer (task_of job.now) b) (W.taken out) (W.taken result.1)
+        (E.taken err.old) (E.taken err.new) result.0 }
     ensures tables { result.0 ≡ 3 → (failed : Option Table)
-        × FailsOr (λ t. IsUnread (FeedRose R.failures inputs.old inputs.new t) t (E.taken err.old) (E.taken err.new) (E.failures err.old) (E.failures err.new))
-        ((b : Bytes) → TellBytes R.remaining inputs.old b → IsRefused (answer (task_of job.now) b) (E.taken err.old) (E.taken err.new) (E.failures err.old) (E.failures err.new) result.0)
+        × FailsOr (λ t. IsUnread (FeedRose R.failures inputs.old inputs.new t) t
+        (E.taken err.old) (E.taken err.new) (E.failures err.old) (E.failures err.new))
+        ((b : Bytes) → TellBytes R.remaining inputs.old b
+        → IsRefused (answer (task_of job.now) b) (E.taken err.old) (E.taken err.new)
+        (E.failures err.old) (E.failures err.new) result.0)
         failed }
     ensures query { result.0 ≡ 4 → (b : Bytes) → TellBytes R.remaining inputs.old b
-        → IsRefused (answer (task_of job.now) b) (E.taken err.old) (E.taken err.new) (E.failures err.old) (E.failures err.new) result.0 }
+        → IsRefused (answer (task_of job.now) b) (E.taken err.old) (E.taken err.new)
+        (E.failures err.old) (E.failures err.new) result.0 }
     ensures token { result.0 ≡ 5 → (b : Bytes) → TellBytes R.remaining inputs.old b
-        → IsRefused (answer (task_of job.now) b) (E.taken err.old) (E.taken err.new) (E.failures err.old) (E.failures err.new) result.0 }
+        → IsRefused (answer (task_of job.now) b) (E.taken err.old) (E.taken err.new)
+        (E.failures err.old) (E.failures err.new) result.0 }
     ensures untouched { 3 ≤ result.0 → result.0 ≤ 5 → IsFirstPart (W.taken out) (W.taken result.1) }
     ensures output { result.0 ≡ 6 → Rises (W.failures out) (W.failures result.1)
-        × TakesLine (E.taken err.old) (E.taken err.new) (E.failures err.old) (E.failures err.new) output_line }
-    ensures memory { result.0 ≡ 7 → TakesLine (E.taken err.old) (E.taken err.new) (E.failures err.old) (E.failures err.new) memory_line }
+        × TakesLine (E.taken err.old) (E.taken err.new)
+        (E.failures err.old) (E.failures err.new) output_line }
+    ensures memory { result.0 ≡ 7 → TakesLine (E.taken err.old) (E.taken err.new)
+        (E.failures err.old) (E.failures err.new) memory_line }
     ensures part { 6 ≤ result.0 → (b : Bytes) → TellBytes R.remaining inputs.old b
-        → IsFirstPart (append_known (W.taken out) (answer (task_of job.now) b).output) (W.taken result.1) }
+        → IsFirstPart (append_known (W.taken out) (answer (task_of job.now) b).output)
+        (W.taken result.1) }
     ensures status { Contains (0 ∷ 1 ∷ 3 ∷ 4 ∷ 5 ∷ 6 ∷ 7 ∷ []) result.0 }
 {
     let Ok(room) = vec![in alloc; 0u8; ROOM] else {

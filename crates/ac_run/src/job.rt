@@ -1,5 +1,6 @@
 //! What a run is given: a job, and the feeds of the tables.
 use ac_query::Version;
+use ac_tables::FiveTables;
 
 /// What is to be done.
 #[derive(Clone, Copy, Debug, PartialEq, Eq)]
@@ -29,11 +30,4 @@ pub struct Job<'a> {
 }
 
 /// The feeds of the tables.
-#[derive(Drop)]
-pub struct Inputs<R> {
-    pub providers: R,
-    pub inventories: R,
-    pub usages: Option<R>,
-    pub traits: Option<R>,
-    pub aggregates: Option<R>,
-}
+pub type Inputs<R> = FiveTables<R>;

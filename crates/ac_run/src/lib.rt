@@ -5,7 +5,6 @@
 
 mod answering;
 mod asking;
-mod digits;
 mod draining;
 mod explanation;
 pub mod gathered;

@@ -1,10 +1,10 @@
 //! Small outputs, pushed without memory: the counts of the tables, and the verdict on a list.
 ghost use Rattle.std.specs.Prelude.{◌≡◌, ◌≤◌};
-ghost use Rattle.ac_tables.specs.CloudWorld.{sizes_of};
+ghost use Rattle.ac_tables.specs.Cloud.CloudWorld.{sizes_of};
 ghost use Rattle.ac_run.specs.Outputs.{broken_line, counts, verdict_status, verdict_text};
 ghost use Rattle.ac_run.specs.Writing.{Pushes};
 
-use crate::digits::Digits;
+use crate::pieces::digits::Digits;
 use crate::pieces::push_pieces;
 use ac_base::{Sink, WriteFailed};
 use ac_rules::{Rule, Verdict};
@@ -52,7 +52,8 @@ pub fn verdict_status(verdict: Verdict) -> u8
 /// Pushes how much the tables told, a line for each.
 #[tactic(auto, unfolding(crate::specs::Outputs::counts))]
 pub fn push_counts<W: Sink>(out: &mut W, counted: &Counts) -> Result<(), WriteFailed>
-    ensures text { Pushes result (W.taken out.old) (W.taken out.new) (W.failures out.old) (W.failures out.new) (counts (sizes_of counted.now)) }
+    ensures text { Pushes result (W.taken out.old) (W.taken out.new) (W.failures out.old)
+        (W.failures out.new) (counts (sizes_of counted.now)) }
     ensures failures { W.failures out.old ≤ W.failures out.new }
 {
     push_pieces(

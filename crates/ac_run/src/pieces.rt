@@ -4,12 +4,16 @@ ghost use Rattle.std.specs.List.{flat_map};
 ghost use Rattle.std.specs.Io.KnownBytes.{Appends};
 ghost use Rattle.ac_base.specs.Devices.{Rises, TakesPart};
 
+pub mod digits;
+
 use ac_base::{Sink, WriteFailed, push_all};
 
 /// Pushes pieces one after the other, until one isn't taken whole. After a fault the sink has taken a first part of them.
 pub fn push_pieces<W: Sink>(out: &mut W, pieces: &[&[u8]]) -> Result<(), WriteFailed>
-    ensures ok { OnOk result (Appends (W.taken out.old) (W.taken out.new) (flat_map (λ piece. piece.now) pieces.now)) }
-    ensures part { OnErr result (TakesPart (W.taken out.old) (W.taken out.new) (flat_map (λ piece. piece.now) pieces.now)) }
+    ensures ok { OnOk result (Appends (W.taken out.old) (W.taken out.new)
+        (flat_map (λ piece. piece.now) pieces.now)) }
+    ensures part { OnErr result (TakesPart (W.taken out.old) (W.taken out.new)
+        (flat_map (λ piece. piece.now) pieces.now)) }
     ensures rises { OnErr result (Rises (W.failures out.old) (W.failures out.new)) }
     ensures failures { W.failures out.old ≤ W.failures out.new }
 {

@@ -3,9 +3,9 @@ ghost use Rattle.std.specs.Prelude.{◌≡◌, ◌≢◌, ◌≤◌, IfOk, IfErr
 ghost use Rattle.std.specs.Io.KnownBytes.{Keeps};
 ghost use Rattle.ac_base.specs.Devices.{Rises, TakesPart};
 ghost use Rattle.ac_query.specs.Asked.{slots_of};
-ghost use Rattle.ac_query.specs.QueriesShown.{asked_of};
+ghost use Rattle.ac_query.specs.Shown.Queries.{asked_of};
 ghost use Rattle.ac_query.specs.Tokens.{ids_of};
-ghost use Rattle.ac_tables.specs.CloudWorld.{world_of};
+ghost use Rattle.ac_tables.specs.Cloud.CloudWorld.{world_of};
 ghost use Rattle.ac_tables.specs.declared.fault.Table.{Table};
 ghost use Rattle.ac_run.specs.Answer.{Says, answer, answer_in, past_query};
 ghost use Rattle.ac_run.specs.Feeds.{Bytes, FeedRose, TellBytes};
@@ -38,8 +38,11 @@ struct Wanted {
 // The query, then the token.
 fn read_wanted(alloc: Global, job: &Job) -> Result<Wanted, Refusal>
     ensures given { IfOk result (λ wanted. is_some wanted.token ≡ is_some (task_of job.now).token) }
-    ensures slots { IfOk result (λ wanted. IfSome wanted.token (λ token. length (ids_of token) ≡ length (slots_of (asked_of wanted.query)))) }
-    ensures wanted { IfOk result (λ wanted. (say : Says) → past_query say (task_of job.now) ≡ say (asked_of wanted.query) (option_map ids_of wanted.token)) }
+    ensures slots { IfOk result (λ wanted. IfSome wanted.token (λ token.
+        length (ids_of token) ≡ length (slots_of (asked_of wanted.query)))) }
+    ensures wanted { IfOk result (λ wanted. (say : Says)
+        → past_query say (task_of job.now) ≡ say (asked_of wanted.query)
+        (option_map ids_of wanted.token)) }
     ensures fault { IfErr result (ExplainsWanted (task_of job.now)) }
 {
     let query = read_query(alloc, job.query, job.version)?;
@@ -52,8 +55,11 @@ fn read_wanted(alloc: Global, job: &Job) -> Result<Wanted, Refusal>
 fn answer_over<W: Sink>(alloc: Global, cloud: &Cloud, job: &Job, out: &mut W) -> Result<u8, Refusal>
     requires { HasToken job.now.command (option_map (λ token. token.now) job.now.token) }
     ensures few { IfOk result (λ status. status ≤ 1) }
-    ensures ok { IfOk result (IsWritten (answer_in job.now.command (task_of job.now) (world_of cloud.now)) (W.taken out.old) (W.taken out.new)) }
-    ensures fault { IfErr result (ExplainsOutcome (answer_in job.now.command (task_of job.now) (world_of cloud.now)) (W.taken out.old) (W.taken out.new) (Rises (W.failures out.old) (W.failures out.new))) }
+    ensures ok { IfOk result (IsWritten (answer_in job.now.command (task_of job.now)
+        (world_of cloud.now)) (W.taken out.old) (W.taken out.new)) }
+    ensures fault { IfErr result (ExplainsOutcome
+        (answer_in job.now.command (task_of job.now) (world_of cloud.now)) (W.taken out.old)
+        (W.taken out.new) (Rises (W.failures out.old) (W.failures out.new))) }
     ensures failures { W.failures out.old ≤ W.failures out.new }
 {
     match job.command {
@@ -89,8 +95,11 @@ fn attempt<R: Feed, W: Sink>(
 ) -> Result<u8, Refusal>
     requires { HasToken job.now.command (option_map (λ token. token.now) job.now.token) }
     ensures few { IfOk result (λ status. status ≤ 1) }
-    ensures ok { IfOk result (λ status. (b : Bytes) → TellBytes R.remaining inputs.old b → IsWritten (answer (task_of job.now) b) (W.taken out.old) (W.taken out.new) status) }
-    ensures fault { IfErr result (Explains R.remaining R.failures (task_of job.now) inputs.old inputs.new (W.taken out.old) (W.taken out.new) (Rises (W.failures out.old) (W.failures out.new))) }
+    ensures ok { IfOk result (λ status. (b : Bytes) → TellBytes R.remaining inputs.old b
+        → IsWritten (answer (task_of job.now) b) (W.taken out.old) (W.taken out.new) status) }
+    ensures fault { IfErr result (Explains R.remaining R.failures
+        (task_of job.now) inputs.old inputs.new (W.taken out.old) (W.taken out.new)
+        (Rises (W.failures out.old) (W.failures out.new))) }
     ensures failures { W.failures out.old ≤ W.failures out.new }
 {
     let texts = match read_tables(alloc, inputs) {
@@ -126,24 +135,34 @@ pub fn run<R: Feed, W: Sink, E: Sink>(
         → (Rises (W.failures out.old) (W.failures out.new) → ⊥)
         → (Rises (E.failures err.old) (E.failures err.new) → ⊥)
         → (b : Bytes) → TellBytes R.remaining inputs.old b
-        → IsAnswered (answer (task_of job.now) b) (W.taken out.old) (W.taken out.new) (E.taken err.old) (E.taken err.new) result }
+        → IsAnswered (answer (task_of job.now) b) (W.taken out.old) (W.taken out.new)
+        (E.taken err.old) (E.taken err.new) result }
 
     // Whatever the devices do: what each status says.
     ensures written { result ≤ 1 → (b : Bytes) → TellBytes R.remaining inputs.old b
-        → IsAnswered (answer (task_of job.now) b) (W.taken out.old) (W.taken out.new) (E.taken err.old) (E.taken err.new) result }
+        → IsAnswered (answer (task_of job.now) b) (W.taken out.old) (W.taken out.new)
+        (E.taken err.old) (E.taken err.new) result }
     ensures tables { result ≡ 3 → (failed : Option Table)
-        × FailsOr (λ t. IsUnread (FeedRose R.failures inputs.old inputs.new t) t (E.taken err.old) (E.taken err.new) (E.failures err.old) (E.failures err.new))
-        ((b : Bytes) → TellBytes R.remaining inputs.old b → IsRefused (answer (task_of job.now) b) (E.taken err.old) (E.taken err.new) (E.failures err.old) (E.failures err.new) result)
+        × FailsOr (λ t. IsUnread (FeedRose R.failures inputs.old inputs.new t) t
+        (E.taken err.old) (E.taken err.new) (E.failures err.old) (E.failures err.new))
+        ((b : Bytes) → TellBytes R.remaining inputs.old b
+        → IsRefused (answer (task_of job.now) b) (E.taken err.old) (E.taken err.new)
+        (E.failures err.old) (E.failures err.new) result)
         failed }
     ensures query { result ≡ 4 → (b : Bytes) → TellBytes R.remaining inputs.old b
-        → IsRefused (answer (task_of job.now) b) (E.taken err.old) (E.taken err.new) (E.failures err.old) (E.failures err.new) result }
+        → IsRefused (answer (task_of job.now) b) (E.taken err.old) (E.taken err.new)
+        (E.failures err.old) (E.failures err.new) result }
     ensures token { result ≡ 5 → (b : Bytes) → TellBytes R.remaining inputs.old b
-        → IsRefused (answer (task_of job.now) b) (E.taken err.old) (E.taken err.new) (E.failures err.old) (E.failures err.new) result }
+        → IsRefused (answer (task_of job.now) b) (E.taken err.old) (E.taken err.new)
+        (E.failures err.old) (E.failures err.new) result }
     ensures untouched { 3 ≤ result → result ≤ 5 → Keeps (W.taken out.old) (W.taken out.new) }
     ensures output { result ≡ 6 → Rises (W.failures out.old) (W.failures out.new)
-        × TakesLine (E.taken err.old) (E.taken err.new) (E.failures err.old) (E.failures err.new) output_line }
-    ensures memory { result ≡ 7 → TakesLine (E.taken err.old) (E.taken err.new) (E.failures err.old) (E.failures err.new) memory_line }
-    ensures part { 6 ≤ result → (b : Bytes) → TellBytes R.remaining inputs.old b → TakesPart (W.taken out.old) (W.taken out.new) (answer (task_of job.now) b).output }
+        × TakesLine (E.taken err.old) (E.taken err.new)
+        (E.failures err.old) (E.failures err.new) output_line }
+    ensures memory { result ≡ 7 → TakesLine (E.taken err.old) (E.taken err.new) (E.failures err.old)
+        (E.failures err.new) memory_line }
+    ensures part { 6 ≤ result → (b : Bytes) → TellBytes R.remaining inputs.old b
+        → TakesPart (W.taken out.old) (W.taken out.new) (answer (task_of job.now) b).output }
     ensures status { Contains (0 ∷ 1 ∷ 3 ∷ 4 ∷ 5 ∷ 6 ∷ 7 ∷ []) result }
     ensures silent { result ≤ 1 → err.new ≡ err.old }
     ensures failures { W.failures out.old ≤ W.failures out.new }

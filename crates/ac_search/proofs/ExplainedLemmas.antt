@@ -12,12 +12,12 @@ use Rattle.ac_query.specs.Asked.{Asked, slots_of}
 use Rattle.ac_tables.specs.World.{Provider}
 use Rattle.ac_search.specs.Ahead.{load_of, hosts_of}
 use Rattle.ac_search.specs.Explained.{count_below, in_slot, is_served, meets_room}
-use Rattle.ac_search.specs.ExplainedShown.{marked, served, served_roots}
+use Rattle.ac_search.specs.Shown.Explained.{marked, served, served_roots}
 use Rattle.ac_search.specs.Loads.{AreLimited}
 use Rattle.ac_rules.specs.Placed.{no_slot, slot_at}
 use Rattle.ac_rules.specs.Together.{takes_root}
-use Rattle.ac_search.proofs.OpenLemmas.{choice_more, filter_few}
-use Rattle.ac_search.proofs.RootLemmas.{hosts_low}
+use Rattle.ac_search.proofs.Search.OpenLemmas.{choice_more, filter_few}
+use Rattle.ac_search.proofs.Roots.RootLemmas.{hosts_low}
 
 -- one more place
 pub counted : (test : ℕ → Bool) (n count : ℕ) (b : Bool) → count ≡ count_below n test → test n ≡ b → cond b (count + 1) count ≡ count_below (n + 1) test

@@ -1,32 +1,6 @@
-pub mod AheadLemmas
-pub mod LeftLemmas
-pub mod RoomLemmas
-pub mod RowLemmas
-pub mod MarkLemmas
-pub mod FrontOrder
-pub mod ShorterLemmas
-pub mod BoundLemmas
-pub mod SoughtLemmas
-pub mod EntryLemmas
-pub mod BetweenLemmas
-pub mod MoveLemmas
-pub mod BeginLemmas
-pub mod TryLemmas
-pub mod SeekLemmas
-pub mod OpenLemmas
-pub mod LedgerLemmas
-pub mod LeastLemmas
-pub mod IdsLemmas
-pub mod TreeLemmas
-pub mod PassLemmas
-pub mod KeptLemmas
-pub mod StepLemmas
-pub mod EndLemmas
-pub mod PathLemmas
-pub mod CountLemmas
-pub mod BearLemmas
-pub mod HostLemmas
-pub mod RootLemmas
+pub mod Search
+pub mod Roots
+pub mod Paths
+pub mod Steps
 pub mod ExplainedLemmas
 mod Literals
-mod PartLemmas

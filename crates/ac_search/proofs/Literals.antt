@@ -1,8 +1,8 @@
 -- Small worlds, computed: what the definitions say of them.
 use Rattle.std.proofs.Common.{◌≡◌, ℕ, Bool, true, false, List, [], ◌∷◌, Option, None, Some, codes, refl}
 use Rattle.ac_query.specs.Asked.{Asked, Group}
-use Rattle.ac_query.specs.Values.{AggregateRule}
-use Rattle.ac_tables.specs.World.{Provider, Held}
+use Rattle.ac_query.specs.Pairs.Values.{AggregateRule}
+use Rattle.ac_tables.specs.World.{Provider, UsedInventory}
 use Rattle.ac_rules.specs.Own.{units_fit, traits_fit, meets_rule, aggregates_fit, tree_fits}
 use Rattle.ac_rules.specs.Together.{is_brought, collective, holds_sums, sums, is_set_apart, are_apart, isolate, is_top, subtree, takes_root, hosts_all, anchor}
 use Rattle.ac_rules.specs.Judge.{tests, judge, is_candidate}
@@ -17,11 +17,11 @@ disk : List ℕ
 disk = codes "DISK_GB"
 
 -- so much of a class, all of it for one request
-held : List ℕ → ℕ → List (List ℕ × Held)
-held class total = (class, record { stock = record { total = total; reserved = 0; min_unit = 1; max_unit = total; step_size = 1; ratio = 1000000 }; used = 0 }) ∷ []
+own_entry : List ℕ → ℕ → List (List ℕ × UsedInventory)
+own_entry class total = (class, record { inventory = record { total = total; reserved = 0; min_unit = 1; max_unit = total; step_size = 1; ratio = 1000000 }; used = 0 }) ∷ []
 
-provider : ℕ → Option ℕ → List (List ℕ × Held) → List (List ℕ) → List ℕ → Provider
-provider id parent holdings traits aggregates = record { id = id; parent = parent; holdings = holdings; traits = traits; aggregates = aggregates }
+provider : ℕ → Option ℕ → List (List ℕ × UsedInventory) → List (List ℕ) → List ℕ → Provider
+provider id parent entries traits aggregates = record { id = id; parent = parent; entries = entries; traits = traits; aggregates = aggregates }
 
 -- a group without required traits
 group : List (List ℕ × ℕ) → List AggregateRule → Group
@@ -33,44 +33,44 @@ ask groups = record { groups = groups; policy = None; subtrees = []; root_requir
 -- ---- two providers of one tree, each with room for one of two groups
 
 two : List Provider
-two = provider 1 None (held vcpu 8) [] [] ∷ provider 2 (Some 1) (held vcpu 8) [] [] ∷ []
+two = provider 1 None (own_entry vcpu 8) [] [] ∷ provider 2 (Some 1) (own_entry vcpu 8) [] [] ∷ []
 
 pair : Asked
 pair = ask ((Some (codes "1"), group ((vcpu, 5) ∷ []) []) ∷ (Some (codes "2"), group ((vcpu, 5) ∷ []) []) ∷ [])
 
 -- the groups go to different ones
 each_on_one : candidates two pair ≡ (0 ∷ 1 ∷ []) ∷ (1 ∷ 0 ∷ []) ∷ []
-unfolding two pair vcpu disk held provider group ask candidates is_candidate tests units_fit traits_fit meets_rule aggregates_fit tree_fits is_brought collective holds_sums sums is_set_apart are_apart isolate is_top subtree takes_root hosts_all anchor
+unfolding two pair vcpu disk own_entry provider group ask candidates is_candidate tests units_fit traits_fit meets_rule aggregates_fit tree_fits is_brought collective holds_sums sums is_set_apart are_apart isolate is_top subtree takes_root hosts_all anchor
 each_on_one = refl
 
 -- both on one overfill it
 both_on_one : judge two pair (0 ∷ 0 ∷ []) ≡ Broken Sums
-unfolding two pair vcpu disk held provider group ask judge tests units_fit traits_fit meets_rule aggregates_fit tree_fits is_brought collective holds_sums sums is_set_apart are_apart isolate is_top subtree takes_root hosts_all anchor
+unfolding two pair vcpu disk own_entry provider group ask judge tests units_fit traits_fit meets_rule aggregates_fit tree_fits is_brought collective holds_sums sums is_set_apart are_apart isolate is_top subtree takes_root hosts_all anchor
 both_on_one = refl
 
 -- what is after ids one of which no provider has
 after_unknown : rest two pair (Some (1 ∷ 7 ∷ [])) ≡ (1 ∷ 0 ∷ []) ∷ []
-unfolding two pair vcpu disk held provider group ask rest candidates is_candidate tests units_fit traits_fit meets_rule aggregates_fit tree_fits is_brought collective holds_sums sums is_set_apart are_apart isolate is_top subtree takes_root hosts_all anchor
+unfolding two pair vcpu disk own_entry provider group ask rest candidates is_candidate tests units_fit traits_fit meets_rule aggregates_fit tree_fits is_brought collective holds_sums sums is_set_apart are_apart isolate is_top subtree takes_root hosts_all anchor
 after_unknown = refl
 
 -- the same, in two trees
 apart : List Provider
-apart = provider 1 None (held vcpu 8) [] [] ∷ provider 3 None (held vcpu 8) [] [] ∷ []
+apart = provider 1 None (own_entry vcpu 8) [] [] ∷ provider 3 None (own_entry vcpu 8) [] [] ∷ []
 
 -- no root anchors both
 no_anchor : judge apart pair (0 ∷ 1 ∷ []) ≡ Broken Anchor
-unfolding apart pair vcpu disk held provider group ask judge tests units_fit traits_fit meets_rule aggregates_fit tree_fits is_brought collective holds_sums sums is_set_apart are_apart isolate is_top subtree takes_root hosts_all anchor
+unfolding apart pair vcpu disk own_entry provider group ask judge tests units_fit traits_fit meets_rule aggregates_fit tree_fits is_brought collective holds_sums sums is_set_apart are_apart isolate is_top subtree takes_root hosts_all anchor
 no_anchor = refl
 
 -- ---- two trees that share the disk of a third provider
 
 shared : List Provider
 shared =
-    provider 1 None (held vcpu 8) [] []
+    provider 1 None (own_entry vcpu 8) [] []
     ∷ provider 2 (Some 1) [] [] (161 ∷ [])
-    ∷ provider 3 None (held vcpu 8) [] []
+    ∷ provider 3 None (own_entry vcpu 8) [] []
     ∷ provider 4 (Some 3) [] [] (161 ∷ [])
-    ∷ provider 9 None (held disk 100) (codes "MISC_SHARES_VIA_AGGREGATE" ∷ []) (161 ∷ [])
+    ∷ provider 9 None (own_entry disk 100) (codes "MISC_SHARES_VIA_AGGREGATE" ∷ []) (161 ∷ [])
     ∷ []
 
 disk_alone : Asked
@@ -81,33 +81,33 @@ disk_and_vcpu = ask ((None, group ((disk, 10) ∷ (vcpu, 1) ∷ []) []) ∷ [])
 
 -- three roots can anchor it, and it comes once
 once : candidates shared disk_alone ≡ (4 ∷ []) ∷ []
-unfolding shared disk_alone vcpu disk held provider group ask candidates is_candidate tests units_fit traits_fit meets_rule aggregates_fit tree_fits is_brought collective holds_sums sums is_set_apart are_apart isolate is_top subtree takes_root hosts_all anchor
+unfolding shared disk_alone vcpu disk own_entry provider group ask candidates is_candidate tests units_fit traits_fit meets_rule aggregates_fit tree_fits is_brought collective holds_sums sums is_set_apart are_apart isolate is_top subtree takes_root hosts_all anchor
 once = refl
 
 -- the disk goes with either tree
 with_either : candidates shared disk_and_vcpu ≡ (4 ∷ 0 ∷ []) ∷ (4 ∷ 2 ∷ []) ∷ []
-unfolding shared disk_and_vcpu vcpu disk held provider group ask candidates is_candidate tests units_fit traits_fit meets_rule aggregates_fit tree_fits is_brought collective holds_sums sums is_set_apart are_apart isolate is_top subtree takes_root hosts_all anchor
+unfolding shared disk_and_vcpu vcpu disk own_entry provider group ask candidates is_candidate tests units_fit traits_fit meets_rule aggregates_fit tree_fits is_brought collective holds_sums sums is_set_apart are_apart isolate is_top subtree takes_root hosts_all anchor
 with_either = refl
 
 -- ---- a child, whose root is in an aggregate
 
 child : List Provider
-child = provider 1 None [] [] (161 ∷ []) ∷ provider 2 (Some 1) (held vcpu 8) [] [] ∷ []
+child = provider 1 None [] [] (161 ∷ []) ∷ provider 2 (Some 1) (own_entry vcpu 8) [] [] ∷ []
 
 member : Option (List ℕ) → Bool → Asked
 member suffix forbids = ask ((suffix, group ((vcpu, 1) ∷ []) (record { forbids = forbids; ids = 161 ∷ [] } ∷ [])) ∷ [])
 
 -- in the unsuffixed group its root's aggregate is its own
 root_counts : candidates child (member None false) ≡ (1 ∷ []) ∷ []
-unfolding child member vcpu disk held provider group ask candidates is_candidate tests units_fit traits_fit meets_rule aggregates_fit tree_fits is_brought collective holds_sums sums is_set_apart are_apart isolate is_top subtree takes_root hosts_all anchor
+unfolding child member vcpu disk own_entry provider group ask candidates is_candidate tests units_fit traits_fit meets_rule aggregates_fit tree_fits is_brought collective holds_sums sums is_set_apart are_apart isolate is_top subtree takes_root hosts_all anchor
 root_counts = refl
 
 -- in the forbidding form too
 root_is_forbidden : candidates child (member None true) ≡ []
-unfolding child member vcpu disk held provider group ask candidates is_candidate tests units_fit traits_fit meets_rule aggregates_fit tree_fits is_brought collective holds_sums sums is_set_apart are_apart isolate is_top subtree takes_root hosts_all anchor
+unfolding child member vcpu disk own_entry provider group ask candidates is_candidate tests units_fit traits_fit meets_rule aggregates_fit tree_fits is_brought collective holds_sums sums is_set_apart are_apart isolate is_top subtree takes_root hosts_all anchor
 root_is_forbidden = refl
 
 -- in a suffixed group it isn't
 root_counts_not : judge child (member (Some (codes "1")) false) (1 ∷ []) ≡ Broken Aggregates
-unfolding child member vcpu disk held provider group ask judge tests units_fit traits_fit meets_rule aggregates_fit tree_fits is_brought collective holds_sums sums is_set_apart are_apart isolate is_top subtree takes_root hosts_all anchor
+unfolding child member vcpu disk own_entry provider group ask judge tests units_fit traits_fit meets_rule aggregates_fit tree_fits is_brought collective holds_sums sums is_set_apart are_apart isolate is_top subtree takes_root hosts_all anchor
 root_counts_not = refl

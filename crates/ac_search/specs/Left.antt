@@ -1,16 +1,17 @@
 -- What is left of rooms, class by class: classes by their numbers, and each room less what a front asks of it.
+pub mod Accounts
 use Rattle.std.specs.Prelude.{◌≡◌, ◌≢◌, ℕ, ◌+◌, ◌<◌, ◌^◌, suc, Bool, nat_le, if◌then◌else◌, ◌==◌, List, [], ◌∷◌, map, length, slice_index_or}
 use Rattle.std.specs.Option.{unwrap_or}
 use Rattle.std.specs.List.{list_all}
 use Rattle.std.specs.Str.{bytes_eq}
 use Rattle.std.specs.Global.{Vec}
 use Rattle.ac_tables.specs.World.{Provider, provider_at, used_of}
-use Rattle.ac_rules.specs.Own.{stock_of}
+use Rattle.ac_rules.specs.Own.{inventory_of}
 use Rattle.ac_rules.specs.Room.{room_in}
 use Rattle.ac_rules.specs.Placed.{Placed}
 use Rattle.ac_rules.specs.Together.{sum_on}
-use Rattle.ac_search.specs.declared.rooms.Ask.{Ask}
-use Rattle.ac_search.specs.declared.rooms.Room.{Room}
+use Rattle.ac_search.specs.declared.ledger.rooms.Ask.{Ask}
+use Rattle.ac_search.specs.declared.ledger.rooms.Room.{Room}
 
 -- the first place of a class among classes; past the end where it isn't there
 abbrev pub place_of : List (List ℕ) → List ℕ → ℕ
@@ -63,7 +64,7 @@ suffices row asks = list_all (λ a. nat_le (wanted asks a.0) (left_in row a.0)) 
 
 -- the most of a class that one assignment may take of a provider; 0 where it has none
 abbrev pub room_on : List Provider → ℕ → List ℕ → ℕ
-room_on all p class = unwrap_or (room_in (stock_of (provider_at all p) class) (used_of (provider_at all p) class)) 0
+room_on all p class = unwrap_or (room_in (inventory_of (provider_at all p) class) (used_of (provider_at all p) class)) 0
 
 -- The row of a provider has its room for each class.
 pub record IsRow (all : List Provider) (classes : List (List ℕ)) (p : ℕ) (row : List (ℕ × ℕ)) : Type 0 where

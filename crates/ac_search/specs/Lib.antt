@@ -1,16 +1,11 @@
+pub mod Shown
 pub mod Left
 pub mod Marks
-pub mod Accounts
-pub mod Keys
 pub mod Trees
 pub mod Search
 pub mod QuerySearch
-pub mod WalkShown
-pub mod Steps
 pub mod Ahead
 pub mod Loads
-pub mod Columns
 pub mod Explained
-pub mod ExplainedShown
 pub mod Parts
 pub mod Families

@@ -1,4 +1,5 @@
 -- What the providers of each root have together, and which marks of roots stay.
+pub mod Columns
 use Rattle.std.specs.Prelude.{◌≡◌, ℕ, ◌+◌, ◌-◌, ◌/◌, ◌^◌, ◌<◌, ◌&&◌, if◌then◌else◌, Bool, true, false, nat_le, min, List, [], length, map, get_or, slice_index, slice_index_or}
 use Rattle.std.specs.Global.{Vec}
 use Rattle.ac_tables.specs.World.{Provider}
@@ -6,11 +7,11 @@ use Rattle.ac_rules.specs.Placed.{slot_at}
 use Rattle.ac_search.specs.QuerySearch.{choice_of, choices_of}
 use Rattle.ac_search.specs.Left.{ask_pair, wanted, left_in, row_of, has_each}
 use Rattle.ac_search.specs.Ahead.{load_in, load_of, hosts_of, AreRoots}
-use Rattle.ac_search.specs.Accounts.{providers_in, asked_in}
+use Rattle.ac_search.specs.Left.Accounts.{providers_in, asked_in}
 use Rattle.ac_search.specs.Parts.{AreParts}
 use Rattle.ac_search.specs.declared.ledger.Ledger.{Ledger}
-use Rattle.ac_search.specs.declared.rooms.Ask.{Ask}
-use Rattle.ac_search.specs.declared.rooms.Room.{Room}
+use Rattle.ac_search.specs.declared.ledger.rooms.Ask.{Ask}
+use Rattle.ac_search.specs.declared.ledger.rooms.Room.{Room}
 
 -- a number of 64 bits is a load, or both are the greatest number or more
 abbrev pub IsLoad : ℕ → ℕ → Type 0

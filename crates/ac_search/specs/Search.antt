@@ -1,5 +1,6 @@
 -- A search through lists that have a number for each slot, whatever the numbers, the slots and the rules are: what it
 -- looks for, and what a walk through it keeps true by its path and its places.
+pub mod Steps
 use Rattle.std.specs.Prelude.{◌≡◌, ℕ, ◌+◌, ◌-◌, ◌*◌, ◌<◌, ◌≤◌, zero, suc, Bool, true, false, not, ◌&&◌, nat_lt, cond, if◌then◌else◌, List, [], ◌∷◌, ◌++◌, map, length, take, slice_index, slice_index_or, Option, None, Some}
 use Rattle.std.specs.List.{filter, flat_map, range_with_len, AllByRecursion}
 use Rattle.ac_rules.specs.Order.{lex_lt}

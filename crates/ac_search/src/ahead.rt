@@ -3,9 +3,9 @@
 ghost use Rattle.std.specs.Prelude.{◌≡◌, ◌+◌, ◌-◌, ◌/◌, ◌<◌, ◌≤◌, ◌^◌, ◌++◌, ℕ, List, true, length, min, IfOk};
 ghost use Rattle.std.specs.List.{All, range_with_len};
 ghost use Rattle.ac_base.specs.Names.{class_bytes};
-ghost use Rattle.ac_tables.specs.CloudWorld.{providers_of};
+ghost use Rattle.ac_tables.specs.Cloud.CloudWorld.{providers_of};
 ghost use Rattle.ac_query.specs.Asked.{slots_of};
-ghost use Rattle.ac_search.specs.Accounts.{providers_in, asked_in, texts_in, Accounts};
+ghost use Rattle.ac_search.specs.Left.Accounts.{providers_in, asked_in, texts_in, Accounts};
 ghost use Rattle.ac_search.specs.Ahead.{load_of, hosts_of, IsHosted};
 ghost use Rattle.ac_search.specs.Left.{IsKnown, left_in, row_of};
 ghost use Rattle.ac_search.specs.QuerySearch.{search_of};
@@ -13,7 +13,7 @@ ghost use Rattle.ac_search.specs.Search.{IsDead};
 
 use crate::hosts::count_asking;
 use crate::ledger::Ledger;
-use crate::rooms::{Ask, left_in, number_of, wanted};
+use crate::ledger::rooms::{Ask, left_in, number_of, wanted};
 use crate::trees::ByTree;
 use ac_base::{ClassName, NoMemory};
 use ac_tables::Cloud;
@@ -100,7 +100,8 @@ impl Ahead {
         requires whole { self.now.trees.count ≡ length (providers_in ledger.now) }
         requires root { root < length (providers_in ledger.now) }
         requires some { 0 < amount }
-        ensures { min (load_of (λ p. left_in (row_of ledger.now.rows.items p) class / amount) (hosts_of (providers_in ledger.now) root)) (2 ^ 64 - 1) ≤ result }
+        ensures { min (load_of (λ p. left_in (row_of ledger.now.rows.items p) class / amount)
+            (hosts_of (providers_in ledger.now) root)) (2 ^ 64 - 1) ≤ result }
     {
         let mut pieces = 0u64;
         let mut from = 0;
@@ -124,7 +125,8 @@ impl Ahead {
         requires some { 0 < length front.now }
         requires slots { length front.now ≤ length (slots_of (asked_in ledger.now)) }
         requires accounts { Accounts ledger.now front.now }
-        ensures { result ≡ true → (v : List ℕ) → IsHosted (providers_in ledger.now) (asked_in ledger.now) root (front.now ++ v) → ⊥ }
+        ensures { result ≡ true → (v : List ℕ) → IsHosted (providers_in ledger.now)
+            (asked_in ledger.now) root (front.now ++ v) → ⊥ }
     {
         let number = number_of(&ledger.classes, class);
         let mut last = wanted(&ledger.asks[front.len() - 1], number);
@@ -153,7 +155,8 @@ impl Ahead {
         requires some { 0 < length front.now }
         requires slots { length front.now ≤ length (slots_of (asked_in ledger.now)) }
         requires accounts { Accounts ledger.now front.now }
-        ensures { result ≡ true → (v : List ℕ) → IsHosted (providers_in ledger.now) (asked_in ledger.now) root (front.now ++ v) → ⊥ }
+        ensures { result ≡ true → (v : List ℕ) → IsHosted (providers_in ledger.now)
+            (asked_in ledger.now) root (front.now ++ v) → ⊥ }
     {
         for class in &ledger.classes {
             if self.lacks(ledger, front, root, class) {
@@ -170,7 +173,8 @@ impl Ahead {
         requires slots { length front.now ≤ length (slots_of (asked_in ledger.now)) }
         requires front { All (λ p. p < length (providers_in ledger.now)) front.now }
         requires accounts { Accounts ledger.now front.now }
-        ensures { result ≡ true → IsDead (search_of (providers_in ledger.now) (asked_in ledger.now)) front.now }
+        ensures { result ≡ true → IsDead (search_of (providers_in ledger.now) (asked_in ledger.now))
+            front.now }
     {
         let depth = front.len();
         if depth == 0 || depth > self.last || self.trees.len() != ledger.rows.len() {

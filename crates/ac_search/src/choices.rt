@@ -1,9 +1,9 @@
 //! The providers that each slot may have.
 
 ghost use Rattle.std.specs.Prelude.{◌≡◌, ◌<◌, ◌&&◌, IfOk, [], length, map};
-ghost use Rattle.ac_tables.specs.CloudWorld.{providers_of};
+ghost use Rattle.ac_tables.specs.Cloud.CloudWorld.{providers_of};
 ghost use Rattle.ac_query.specs.Asked.{slots_of};
-ghost use Rattle.ac_query.specs.QueriesShown.{asked_of};
+ghost use Rattle.ac_query.specs.Shown.Queries.{asked_of};
 ghost use Rattle.ac_rules.specs.Placed.{slot_at, placed_at};
 ghost use Rattle.ac_rules.specs.Judge.{is_open};
 ghost use Rattle.ac_search.specs.QuerySearch.{fits, choice_of, choices_of};
@@ -19,7 +19,8 @@ use std::alloc::Global;
 fn is_choice(cloud: &Cloud, query: &Query, s: usize, ix: u32, opens: bool) -> bool
     requires slot { s < length (slots_of (asked_of query.now)) }
     requires provider { ix < length (providers_of cloud.now) }
-    ensures { result ≡ (opens && fits (providers_of cloud.now) (placed_at (asked_of query.now) s ix)) }
+    ensures { result ≡ (opens && fits (providers_of cloud.now)
+        (placed_at (asked_of query.now) s ix)) }
 {
     opens && fits_slot(cloud, query, s, ix)
 }
@@ -34,7 +35,9 @@ fn slot_choices(
 ) -> Result<Vec<u32>, NoMemory>
     requires slot { s < length (slots_of (asked_of query.now)) }
     requires opens { opens ≡ is_open (providers_of cloud.now) (asked_of query.now) [] }
-    ensures { IfOk result (λ choices. choices.items ≡ choice_of (providers_of cloud.now) (asked_of query.now) (slot_at (asked_of query.now) s)) }
+    ensures { IfOk result (λ choices. choices.items
+        ≡ choice_of (providers_of cloud.now) (asked_of query.now)
+        (slot_at (asked_of query.now) s)) }
 {
     let mut choices = Vec::new(alloc);
     for ix in 0..cloud.len() {
@@ -51,7 +54,8 @@ pub(crate) fn all_choices(
     cloud: &Cloud,
     query: &Query,
 ) -> Result<Vec<Vec<u32>>, NoMemory>
-    ensures { IfOk result (λ all. map (λ choices. choices.items) all.items ≡ choices_of (providers_of cloud.now) (asked_of query.now)) }
+    ensures { IfOk result (λ all. map (λ choices. choices.items) all.items
+        ≡ choices_of (providers_of cloud.now) (asked_of query.now)) }
 {
     let opens = is_open(cloud, query, &[]);
     let mut all = Vec::new(alloc);

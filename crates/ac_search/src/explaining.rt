@@ -3,23 +3,23 @@
 
 ghost use Rattle.std.specs.Prelude.{◌≡◌, ◌<◌, ◌^◌, IfOk, [], length};
 ghost use Rattle.ac_tables.specs.World.{id_at, is_root, provider_at};
-ghost use Rattle.ac_tables.specs.CloudWorld.{providers_of};
+ghost use Rattle.ac_tables.specs.Cloud.CloudWorld.{providers_of};
 ghost use Rattle.ac_query.specs.Asked.{slots_of};
-ghost use Rattle.ac_query.specs.GroupsShown.{need_entry};
-ghost use Rattle.ac_query.specs.QueriesShown.{asked_of};
+ghost use Rattle.ac_query.specs.Shown.Groups.{need_entry};
+ghost use Rattle.ac_query.specs.Shown.Queries.{asked_of};
 ghost use Rattle.ac_rules.specs.Placed.{placed_at, slot_at};
 ghost use Rattle.ac_rules.specs.Together.{holds};
 ghost use Rattle.ac_search.specs.Explained.{count_of, has_room_alone, meets_room, slot_counts, tree_counts};
-ghost use Rattle.ac_search.specs.ExplainedShown.{marked, served, served_roots, slot_counted, trees_counted};
+ghost use Rattle.ac_search.specs.Shown.Explained.{marked, served, served_roots, slot_counted, trees_counted};
 
 use crate::hosts::limit;
-use crate::marks::taken_roots;
+use crate::ledger::marks::taken_roots;
 use crate::open::fits_slot;
 use ac_base::NoMemory;
 use ac_query::{Need, Query};
-use ac_rules::own::{has_aggregates, has_slot_traits, has_units, is_in_tree};
+use ac_rules::rules::own::{has_aggregates, has_slot_traits, has_units, is_in_tree};
+use ac_rules::rules::sums::room_at;
 use ac_rules::slots::{count_slots, needs_at};
-use ac_rules::sums::room_at;
 use ac_tables::Cloud;
 use std::alloc::Global;
 
@@ -151,7 +151,8 @@ fn limit_slots(
 ) -> Result<(), NoMemory>
     requires { marks.old ≡ served_roots (providers_of cloud.now) (asked_of query.now) [] }
     ensures { IfOk result (λ _. marks.new
-        ≡ served_roots (providers_of cloud.now) (asked_of query.now) (slots_of (asked_of query.now))) }
+        ≡ served_roots (providers_of cloud.now) (asked_of query.now)
+        (slots_of (asked_of query.now))) }
 {
     for s in 0..count_slots(query) {
         let serving = serving(alloc, cloud, query, s)?;

@@ -4,16 +4,18 @@ ghost use Rattle.std.specs.Prelude.{◌≡◌, ◌<◌, ◌≤◌, ◌++◌, ◌
 ghost use Rattle.ac_search.specs.Trees.{IsByPart, AreByPart};
 ghost use Rattle.std.specs.List.{All};
 ghost use Rattle.ac_query.specs.Asked.{Asked, slots_of, lists_suffix};
-ghost use Rattle.ac_query.specs.QueriesShown.{asked_of};
+ghost use Rattle.ac_query.specs.Shown.Queries.{asked_of};
 ghost use Rattle.ac_tables.specs.World.{Provider};
 ghost use Rattle.ac_rules.specs.Placed.{slot_at};
-ghost use Rattle.ac_search.specs.Accounts.{providers_in, asked_in, Accounts};
+ghost use Rattle.ac_search.specs.Left.Accounts.{providers_in, asked_in, Accounts};
 ghost use Rattle.ac_search.specs.Loads.{choices_in};
 ghost use Rattle.ac_search.specs.QuerySearch.{search_of};
 ghost use Rattle.ac_search.specs.Search.{IsDead};
 
+pub mod parts;
+
+use crate::families::parts::parts_of;
 use crate::ledger::Ledger;
-use crate::parts::parts_of;
 use crate::trees::ByTree;
 use ac_base::NoMemory;
 use ac_query::Query;
@@ -41,7 +43,9 @@ pub(crate) struct Family {
 // For each slot whether a list names it.
 fn named_slots(alloc: Global, query: &Query, k: usize) -> Result<Vec<bool>, NoMemory>
     requires { k < length (asked_of query.now).subtrees }
-    ensures { IfOk result (λ named. named.items ≡ map (λ s. lists_suffix (get_or (asked_of query.now).subtrees k []) s.suffix) (slots_of (asked_of query.now))) }
+    ensures { IfOk result (λ named. named.items
+        ≡ map (λ s. lists_suffix (get_or (asked_of query.now).subtrees k []) s.suffix)
+        (slots_of (asked_of query.now))) }
 {
     let mut named = Vec::new(alloc);
     for s in 0..count_slots(query) {
@@ -94,8 +98,10 @@ fn all_places(
     parts: &[u32],
 ) -> Result<Vec<ByTree>, NoMemory>
     requires named { length named.now ≡ length choices.now }
-    requires few { (s : ℕ) → s < length choices.now → length (slice_index_or (map (λ v. v.items) choices.now) s []) ≤ 65536 }
-    requires providers { (s : ℕ) → s < length choices.now → All (λ p. p < length parts.now) (slice_index_or (map (λ v. v.items) choices.now) s []) }
+    requires few { (s : ℕ) → s < length choices.now
+        → length (slice_index_or (map (λ v. v.items) choices.now) s []) ≤ 65536 }
+    requires providers { (s : ℕ) → s < length choices.now
+        → All (λ p. p < length parts.now) (slice_index_or (map (λ v. v.items) choices.now) s []) }
     ensures { IfOk result (λ all. AreByPart (map (λ v. v.items) choices.now) parts.now all.items) }
 {
     let few = count_named(named, choices) <= MOST_PLACES;
@@ -119,7 +125,9 @@ impl Family {
         requires list { k < length (asked_in ledger.now).subtrees }
         requires choices { map (λ v. v.items) choices.now ≡ choices_in ledger.now }
         requires empty { Accounts ledger.now [] }
-        ensures { IfOk result (λ family. IsFamily (providers_in ledger.now) (asked_in ledger.now) (get_or (asked_in ledger.now).subtrees k []) family) }
+        ensures { IfOk result (λ family.
+            IsFamily (providers_in ledger.now) (asked_in ledger.now)
+            (get_or (asked_in ledger.now).subtrees k []) family) }
     {
         let parts = parts_of(alloc, ledger, k, choices)?;
         let named = named_slots(alloc, ledger.query, k)?;
@@ -141,7 +149,8 @@ impl Family {
     ) -> Result<Vec<Family>, NoMemory>
         requires choices { map (λ v. v.items) choices.now ≡ choices_in ledger.now }
         requires empty { Accounts ledger.now [] }
-        ensures { IfOk result (λ families. AreFamilies (providers_in ledger.now) (asked_in ledger.now) families.items) }
+        ensures { IfOk result (λ families.
+            AreFamilies (providers_in ledger.now) (asked_in ledger.now) families.items) }
     {
         let mut families = Vec::new(alloc);
         for k in 0..ledger.query.subtrees().min(MOST) {
@@ -156,7 +165,9 @@ impl Family {
         requires slots { length front.now < length self.now.named.items }
         requires front { All (λ p. p < length self.now.parts.items) front.now }
         requires provider { ix < length self.now.parts.items }
-        ensures { (all : List Provider) (asked : Asked) (names : List (List ℕ)) → IsFamily all asked names self.now → result ≡ false → IsDead (search_of all asked) (front.now ++ ix ∷ []) }
+        ensures { (all : List Provider) (asked : Asked) (names : List (List ℕ))
+            → IsFamily all asked names self.now → result ≡ false
+            → IsDead (search_of all asked) (front.now ++ ix ∷ []) }
     {
         let s = front.len();
         if !self.named[s] {
@@ -176,8 +187,13 @@ impl Family {
         requires places { length front.now < length self.now.places.items }
         requires front { All (λ p. p < length self.now.parts.items) front.now }
         ensures from { from ≤ result }
-        ensures within { (all : List Provider) (asked : Asked) (names : List (List ℕ)) → IsFamily all asked names self.now → from ≤ length (choices_here all asked front.now) → result ≤ length (choices_here all asked front.now) }
-        ensures passed { (all : List Provider) (asked : Asked) (names : List (List ℕ)) → IsFamily all asked names self.now → (i : ℕ) → from ≤ i → i < result → IsDead (search_of all asked) (front.now ++ slice_index (choices_here all asked front.now) i ∷ []) }
+        ensures within { (all : List Provider) (asked : Asked) (names : List (List ℕ))
+            → IsFamily all asked names self.now → from ≤ length (choices_here all asked front.now)
+            → result ≤ length (choices_here all asked front.now) }
+        ensures passed { (all : List Provider) (asked : Asked) (names : List (List ℕ))
+            → IsFamily all asked names self.now → (i : ℕ) → from ≤ i → i < result
+            → IsDead (search_of all asked) (front.now
+            ++ slice_index (choices_here all asked front.now) i ∷ []) }
     {
         let s = front.len();
         if !self.named[s] || self.first >= s {

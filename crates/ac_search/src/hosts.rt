@@ -3,15 +3,15 @@
 ghost use Rattle.std.specs.Prelude.{◌≡◌, ◌<◌, [], length, map, IfOk};
 ghost use Rattle.std.specs.List.{All};
 ghost use Rattle.ac_query.specs.Asked.{slots_of};
-ghost use Rattle.ac_search.specs.Accounts.{asked_in, Accounts};
+ghost use Rattle.ac_search.specs.Left.Accounts.{asked_in, Accounts};
 ghost use Rattle.ac_search.specs.Loads.{AreServing, MayHost, choice_in, choices_in};
 
 mod column;
 mod loads;
 
 use crate::ledger::Ledger;
-use crate::marks::taken_roots;
-use crate::rooms::{Ask, Room, has_each};
+use crate::ledger::marks::taken_roots;
+use crate::ledger::rooms::{Ask, Room, has_each};
 use ac_base::NoMemory;
 use ac_rules::slots::count_slots;
 use ac_tables::Cloud;

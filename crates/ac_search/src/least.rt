@@ -2,7 +2,7 @@
 
 ghost use Rattle.std.specs.Prelude.{◌≡◌, ◌<◌, ◌≤◌, IfOk, length, map};
 ghost use Rattle.std.specs.Option.{option_map};
-ghost use Rattle.ac_tables.specs.CloudWorld.{providers_of};
+ghost use Rattle.ac_tables.specs.Cloud.CloudWorld.{providers_of};
 ghost use Rattle.ac_query.specs.Tokens as tokens;
 ghost use Rattle.ac_search.specs.QuerySearch.{rank_of, least_after, least_of};
 
@@ -25,7 +25,8 @@ fn rank(cloud: &Cloud, id: Id) -> u32
 
 // The least list of at most so many places from which on the ids of lists come after these.
 fn least_after(alloc: Global, cloud: &Cloud, ids: &[Id], width: usize) -> Result<Vec<u32>, NoMemory>
-    ensures { IfOk result (λ list. list.items ≡ least_after (providers_of cloud.now) width ids.now) }
+    ensures { IfOk result (λ list. list.items
+        ≡ least_after (providers_of cloud.now) width ids.now) }
 {
     let mut list = Vec::new(alloc);
     for (s, id) in ids.iter().enumerate() {
@@ -53,7 +54,9 @@ pub(crate) fn least_of(
     token: Option<&Token>,
     width: usize,
 ) -> Result<Vec<u32>, NoMemory>
-    ensures { IfOk result (λ list. list.items ≡ least_of (providers_of cloud.now) width (option_map (λ t. tokens.ids_of t.now) token.entry)) }
+    ensures { IfOk result (λ list. list.items
+        ≡ least_of (providers_of cloud.now) width
+        (option_map (λ t. tokens.ids_of t.now) token.entry)) }
 {
     match token {
         Some(token) => least_after(alloc, cloud, token.ids(), width),

@@ -3,10 +3,10 @@
 ghost use Rattle.std.specs.Prelude.{◌≡◌, ◌<◌, ◌≤◌, ◌^◌, ◌++◌, ◌∷◌, ◌&&◌, ◌==◌, [], ℕ, List, length, map, true, false, not, nat_lt, slice_index, slice_index_or, IfOk};
 ghost use Rattle.std.specs.List.{All, list_all, list_any, range_with_len};
 ghost use Rattle.ac_base.specs.Names.{class_bytes};
-ghost use Rattle.ac_tables.specs.CloudWorld.{providers_of};
+ghost use Rattle.ac_tables.specs.Cloud.CloudWorld.{providers_of};
 ghost use Rattle.ac_tables.specs.World.{anchors_of};
 ghost use Rattle.ac_query.specs.Asked.{slots_of};
-ghost use Rattle.ac_query.specs.QueriesShown.{asked_of};
+ghost use Rattle.ac_query.specs.Shown.Queries.{asked_of};
 ghost use Rattle.ac_rules.specs.Placed.{slot_at, assigned};
 ghost use Rattle.ac_rules.specs.Together.{takes_root};
 ghost use Rattle.ac_rules.specs.Judge.{is_open};
@@ -14,8 +14,13 @@ ghost use Rattle.ac_search.specs.QuerySearch.{fits};
 ghost use Rattle.ac_search.specs.Left.{IsKnown, ask_pair, numbered, place_of, room_on, row_of, IsThere, suffices};
 ghost use Rattle.ac_search.specs.Marks.{needs_own};
 
-use crate::marks::{has_full, hit, lone_slots, mark, taken_roots, unhit, unmark};
-use crate::rooms::{Ask, Room, all_asks, all_classes, all_rooms, give_row, has_each, take_row};
+pub mod marks;
+pub mod rooms;
+
+use crate::ledger::marks::{has_full, hit, lone_slots, mark, taken_roots, unhit, unmark};
+use crate::ledger::rooms::{
+    Ask, Room, all_asks, all_classes, all_rooms, give_row, has_each, take_row,
+};
 use ac_base::{ClassName, NoMemory};
 use ac_query::Query;
 use ac_tables::Cloud;
@@ -48,7 +53,7 @@ pub(crate) struct Ledger<'a> {
 }
 
 impl<'a> Ledger<'a> {
-    ghost use Rattle.ac_search.specs.Accounts.{providers_in, asked_in, texts_in, Accounts, IsSameLedger};
+    ghost use Rattle.ac_search.specs.Left.Accounts.{providers_in, asked_in, texts_in, Accounts, IsSameLedger};
 
     /// Of an empty path. It takes all its memory here.
     pub(crate) fn new(
@@ -85,7 +90,8 @@ impl<'a> Ledger<'a> {
     fn is_apart(&self, s: usize, ix: u32) -> bool
         requires slot { s < length (slots_of (asked_in self.now)) }
         requires provider { ix < length (providers_in self.now) }
-        ensures { result ≡ not (needs_own (asked_in self.now) (slot_at (asked_in self.now) s) && nat_lt 0 (slice_index self.now.marks.items ix)) }
+        ensures { result ≡ not (needs_own (asked_in self.now) (slot_at (asked_in self.now) s)
+            && nat_lt 0 (slice_index self.now.marks.items ix)) }
     {
         !(self.lone[s] && self.marks[ix as usize] > 0)
     }
@@ -94,7 +100,8 @@ impl<'a> Ledger<'a> {
     fn has_enough(&self, s: usize, ix: u32) -> bool
         requires slot { s < length (slots_of (asked_in self.now)) }
         requires provider { ix < length (providers_in self.now) }
-        ensures { result ≡ suffices (row_of self.now.rows.items ix) (map (numbered (texts_in self.now)) (slot_at (asked_in self.now) s).needs) }
+        ensures { result ≡ suffices (row_of self.now.rows.items ix)
+            (map (numbered (texts_in self.now)) (slot_at (asked_in self.now) s).needs) }
     {
         has_each(&self.rows[ix as usize], &self.asks[s])
     }
@@ -102,20 +109,25 @@ impl<'a> Ledger<'a> {
     // Whether a whole path of a depth keeps a root with one more provider.
     fn has_root(&self, depth: usize, ix: u32) -> bool
         requires { ix < length (providers_in self.now) }
-        ensures { result ≡ list_any (λ r. slice_index_or self.now.taken.items r false && (slice_index self.now.hits.items r == depth)) (anchors_of (providers_in self.now) ix) }
+        ensures { result
+            ≡ list_any (λ r. slice_index_or self.now.taken.items r false
+            && (slice_index self.now.hits.items r == depth))
+            (anchors_of (providers_in self.now) ix) }
     {
         has_full(&self.hits, &self.taken, self.cloud.anchors(ix), depth)
     }
 
     /// Whether an open front stays open with one more provider, which fits its slot.
-    #[tactic(auto, using(crate::proofs::LedgerLemmas::open_next))]
+    #[tactic(auto, using(crate::proofs::Paths::LedgerLemmas::open_next))]
     pub(crate) fn admits(&self, front: &[u32], ix: u32) -> bool
         requires slots { length front.now < length (slots_of (asked_in self.now)) }
         requires provider { ix < length (providers_in self.now) }
         requires accounts { Accounts self.now front.now }
-        requires own { list_all (λ x. fits (providers_in self.now) x) (assigned (asked_in self.now) (front.now ++ ix ∷ [])) ≡ true }
+        requires own { list_all (λ x. fits (providers_in self.now) x)
+            (assigned (asked_in self.now) (front.now ++ ix ∷ [])) ≡ true }
         requires open { is_open (providers_in self.now) (asked_in self.now) front.now ≡ true }
-        ensures { result ≡ is_open (providers_in self.now) (asked_in self.now) (front.now ++ ix ∷ []) }
+        ensures { result ≡ is_open (providers_in self.now) (asked_in self.now)
+            (front.now ++ ix ∷ []) }
     {
         let s = front.len();
         self.has_enough(s, ix) && self.is_apart(s, ix) && self.has_root(s, ix)
@@ -126,7 +138,8 @@ impl<'a> Ledger<'a> {
         requires slots { length front.now < length (slots_of (asked_in self.old)) }
         requires provider { ix < length (providers_in self.old) }
         requires accounts { Accounts self.old front.now }
-        requires open { is_open (providers_in self.old) (asked_in self.old) (front.now ++ ix ∷ []) ≡ true }
+        requires open { is_open (providers_in self.old) (asked_in self.old) (front.now ++ ix ∷ [])
+            ≡ true }
         ensures same { IsSameLedger self.old self.new }
         ensures accounts { Accounts self.new (front.now ++ ix ∷ []) }
     {

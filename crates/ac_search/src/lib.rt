@@ -12,10 +12,7 @@ mod families;
 mod hosts;
 mod least;
 mod ledger;
-mod marks;
 mod open;
-mod parts;
-mod rooms;
 mod trees;
 pub mod walk;
 

@@ -2,18 +2,18 @@
 
 ghost use Rattle.std.specs.Prelude.{◌≡◌, ◌<◌, ◌≤◌, true, length};
 ghost use Rattle.std.specs.List.{All, list_all};
-ghost use Rattle.ac_tables.specs.CloudWorld.{providers_of};
+ghost use Rattle.ac_tables.specs.Cloud.CloudWorld.{providers_of};
 ghost use Rattle.ac_query.specs.Asked.{slots_of};
-ghost use Rattle.ac_query.specs.QueriesShown.{asked_of};
+ghost use Rattle.ac_query.specs.Shown.Queries.{asked_of};
 ghost use Rattle.ac_rules.specs.Placed.{placed_at, assigned};
 ghost use Rattle.ac_rules.specs.Judge.{is_open};
 ghost use Rattle.ac_search.specs.QuerySearch.{fits, completes};
 
 use ac_query::Query;
-use ac_rules::anchor::has_anchor;
-use ac_rules::own::{has_aggregates, has_slot_traits, has_units, is_in_tree};
-use ac_rules::sums::have_room;
-use ac_rules::whole::{are_collective, are_isolated, have_tops};
+use ac_rules::rules::anchor::has_anchor;
+use ac_rules::rules::own::{has_aggregates, has_slot_traits, has_units, is_in_tree};
+use ac_rules::rules::sums::have_room;
+use ac_rules::rules::whole::{are_collective, are_isolated, have_tops};
 use ac_tables::Cloud;
 
 /// Whether a provider meets the rules of a slot alone.
@@ -30,11 +30,12 @@ pub(crate) fn fits_slot(cloud: &Cloud, query: &Query, s: usize, ix: u32) -> bool
 }
 
 /// Whether a list, each of whose providers meets the rules of its slot alone, is open.
-#[tactic(auto, using(crate::proofs::OpenLemmas::open_together))]
+#[tactic(auto, using(crate::proofs::Search::OpenLemmas::open_together))]
 pub(crate) fn is_open(cloud: &Cloud, query: &Query, front: &[u32]) -> bool
     requires slots { length front.now ≤ length (slots_of (asked_of query.now)) }
     requires providers { All (λ p. p < length (providers_of cloud.now)) front.now }
-    requires own { list_all (λ x. fits (providers_of cloud.now) x) (assigned (asked_of query.now) front.now) ≡ true }
+    requires own { list_all (λ x. fits (providers_of cloud.now) x)
+        (assigned (asked_of query.now) front.now) ≡ true }
     ensures { result ≡ is_open (providers_of cloud.now) (asked_of query.now) front.now }
 {
     have_room(cloud, query, front) && are_isolated(query, front) && has_anchor(cloud, query, front)

@@ -2,9 +2,9 @@
 
 ghost use Rattle.std.specs.Prelude.{◌≡◌, ◌+◌, ◌*◌, ◌<◌, ◌≤◌, ◌^◌, ◌++◌, ◌||◌, ℕ, List, [], true, false, length, map, IfOk, MatchOption, slice_index, slice_index_or};
 ghost use Rattle.std.specs.List.{All, list_any};
-ghost use Rattle.ac_tables.specs.CloudWorld.{providers_of};
+ghost use Rattle.ac_tables.specs.Cloud.CloudWorld.{providers_of};
 ghost use Rattle.ac_tables.specs.World.{Provider, is_available_at, anchors_of};
-ghost use Rattle.ac_search.specs.Keys.{key_of, is_there, IsUnder, IsLeastFrom, IsNextIn};
+ghost use Rattle.ac_search.specs.Trees.Keys.{key_of, is_there, IsUnder, IsLeastFrom, IsNextIn};
 
 use ac_base::NoMemory;
 use ac_tables::Cloud;
@@ -52,7 +52,8 @@ fn key(tree: u32, place: usize) -> u64
 // Adds a place under each of some trees.
 fn push_keys(keys: &mut Vec<u64>, trees: &[u32], place: usize) -> Result<(), NoMemory>
     requires { place < 2 ^ 32 }
-    ensures { IfOk result (λ _. keys.new.items ≡ keys.old.items ++ map (λ r. key_of r place) trees.now) }
+    ensures { IfOk result (λ _. keys.new.items
+        ≡ keys.old.items ++ map (λ r. key_of r place) trees.now) }
 {
     for tree in trees {
         keys.push(key(*tree, place))?;
@@ -70,8 +71,11 @@ fn push_choice(
 ) -> Result<(), NoMemory>
     requires choice { ix < length (providers_of cloud.now) }
     requires place { place < 2 ^ 32 }
-    ensures kept { IfOk result (λ _. (x : ℕ) → is_there keys.old.items x ≡ true → is_there keys.new.items x ≡ true) }
-    ensures placed { IfOk result (λ _. (r : ℕ) → r < length (providers_of cloud.now) → is_available_at (providers_of cloud.now) ix r ≡ true → IsUnder keys.new.items (length (providers_of cloud.now)) r place) }
+    ensures kept { IfOk result (λ _. (x : ℕ) → is_there keys.old.items x ≡ true
+        → is_there keys.new.items x ≡ true) }
+    ensures placed { IfOk result (λ _. (r : ℕ) → r < length (providers_of cloud.now)
+        → is_available_at (providers_of cloud.now) ix r ≡ true
+        → IsUnder keys.new.items (length (providers_of cloud.now)) r place) }
 {
     let trees = cloud.anchors(ix);
     if trees.len() <= most {
@@ -83,7 +87,8 @@ fn push_choice(
 
 // The least of some numbers from a bound on; the greatest of all where there is none.
 fn least_from(numbers: &[u64], bound: u64) -> u64
-    requires { (i j : ℕ) → i ≤ j → j < length numbers.now → slice_index numbers.now i ≤ slice_index numbers.now j }
+    requires { (i j : ℕ) → i ≤ j → j < length numbers.now
+        → slice_index numbers.now i ≤ slice_index numbers.now j }
     ensures { IsLeastFrom numbers.now bound result }
 {
     match numbers.binary_search(&bound) {
@@ -139,9 +144,14 @@ impl ByTree {
         cloud: &Cloud,
         choices: &[Vec<u32>],
     ) -> Result<Vec<ByTree>, NoMemory>
-        requires few { (s : ℕ) → s < length choices.now → length (slice_index_or (map (λ v. v.items) choices.now) s []) ≤ length (providers_of cloud.now) }
-        requires providers { (s : ℕ) → s < length choices.now → All (λ p. p < length (providers_of cloud.now)) (slice_index_or (map (λ v. v.items) choices.now) s []) }
-        ensures { IfOk result (λ all. AreByTree (providers_of cloud.now) (map (λ v. v.items) choices.now) all.items) }
+        requires few { (s : ℕ) → s < length choices.now
+            → length (slice_index_or (map (λ v. v.items) choices.now) s [])
+            ≤ length (providers_of cloud.now) }
+        requires providers { (s : ℕ) → s < length choices.now
+            → All (λ p. p < length (providers_of cloud.now))
+            (slice_index_or (map (λ v. v.items) choices.now) s []) }
+        ensures { IfOk result (λ all.
+            AreByTree (providers_of cloud.now) (map (λ v. v.items) choices.now) all.items) }
     {
         let mut all = Vec::new(alloc);
         for list in choices {
@@ -171,8 +181,12 @@ impl ByTree {
         requires { from ≤ self.now.count }
         ensures kept { from ≤ result }
         ensures within { result ≤ self.now.count }
-        ensures there { result < self.now.count → (is_there self.now.keys.items (key_of self.now.wide result) || list_any (λ r. is_there self.now.keys.items (key_of r result)) trees.now) ≡ true }
-        ensures passed { (all : List Provider) (choices : List ℕ) → IsByTree all choices self.now → (r i : ℕ) → is_there trees.now r ≡ true → r < length all → from ≤ i → i < result → is_available_at all (slice_index choices i) r ≡ false }
+        ensures there { result < self.now.count
+            → (is_there self.now.keys.items (key_of self.now.wide result)
+            || list_any (λ r. is_there self.now.keys.items (key_of r result)) trees.now) ≡ true }
+        ensures passed { (all : List Provider) (choices : List ℕ) → IsByTree all choices self.now
+            → (r i : ℕ) → is_there trees.now r ≡ true → r < length all → from ≤ i → i < result
+            → is_available_at all (slice_index choices i) r ≡ false }
     {
         let mut least = self.next_in(self.wide, from);
         for tree in trees {
@@ -185,7 +199,9 @@ impl ByTree {
 /// The provider of a front that is available in the fewest trees, where these are few.
 pub(crate) fn bound_by(cloud: &Cloud, front: &[u32]) -> Option<u32>
     requires { All (λ p. p < length (providers_of cloud.now)) front.now }
-    ensures { MatchOption result ((i : ℕ) → i < length front.now → 8 < length (anchors_of (providers_of cloud.now) (slice_index front.now i))) (λ p. is_there front.now p ≡ true) }
+    ensures { MatchOption result ((i : ℕ) → i < length front.now
+        → 8 < length (anchors_of (providers_of cloud.now) (slice_index front.now i)))
+        (λ p. is_there front.now p ≡ true) }
 {
     let mut best = None;
     let mut least = FEW + 1;

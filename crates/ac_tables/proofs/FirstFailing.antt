@@ -1,7 +1,7 @@
 -- The first check that fails, in lists that are joined.
 use Rattle.std.proofs.Common.{◌≡◌, ◌∙◌, ℕ, Bool, true, false, List, [], ◌∷◌, ◌++◌, Option, Some, None, refl}
 use Rattle.std.specs.Prelude.{Ok, Err}
-use Rattle.ac_tables.specs.Checks.{first_failing, told_at, unless, TellsKind}
+use Rattle.ac_tables.specs.Tables.Checks.{first_failing, told_at, unless, TellsKind}
 use Rattle.ac_tables.specs.declared.fault.Table.{Table}
 use Rattle.ac_tables.specs.declared.fault.TableKind.{TableKind}
 use Rattle.ac_tables.specs.declared.fault.RecordFault.{RecordFault}

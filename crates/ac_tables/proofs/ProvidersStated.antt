@@ -3,17 +3,17 @@ use Rattle.std.proofs.Common.{◌≡◌, ◌<◌, ℕ, List, map, length, get_or
 use Rattle.std.specs.List.{All}
 use Rattle.std.proofs.lemmas.Cmp.{nat_cmp_total}
 use Rattle.std.proofs.lemmas.List.{get_or-map, length-map}
-use Rattle.ac_tables.specs.Checks.{Row}
-use Rattle.ac_tables.specs.CloudWorld.{providers_of}
-use Rattle.ac_tables.specs.RisingIds.{IsRising}
+use Rattle.ac_tables.specs.Tables.Checks.{Row}
+use Rattle.ac_tables.specs.Cloud.CloudWorld.{providers_of}
+use Rattle.ac_tables.specs.Cloud.RisingIds.{IsRising}
 use Rattle.ac_tables.specs.Laws.{AreProviders, ProvidersInOrder, CloudInOrder}
-use Rattle.ac_tables.specs.ProviderTable.{listed_of}
+use Rattle.ac_tables.specs.Tables.ProviderTable.{providers_said}
 use Rattle.ac_tables.specs.Tables.{ids_of, gathered, world_stated}
 use Rattle.ac_tables.specs.World.{Provider, no_provider, id_at}
-use Rattle.ac_tables.proofs.CloudFacts.{size, id_here}
-use Rattle.ac_tables.proofs.ListedIds.{Fits, listed_fit, ids_fit}
-use Rattle.ac_tables.proofs.Rising.{rising_from_sorted}
-use Rattle.ac_tables.proofs.SortedSets.{rising_sorted}
+use Rattle.ac_tables.proofs.Places.CloudFacts.{size, id_here}
+use Rattle.ac_tables.proofs.Records.ProviderIds.{Fits, said_fit, ids_fit}
+use Rattle.ac_tables.proofs.Sorted.Rising.{rising_from_sorted}
+use Rattle.ac_tables.proofs.Sorted.SortedSets.{rising_sorted}
 
 -- providers whose ids are these
 in_order : (all : List Provider) (ids : List ℕ) → length all ≡ length ids → ((i : ℕ) → i < length ids → id_at all i ≡ get_or ids i 0) → IsRising ids → All Fits ids → AreProviders all
@@ -28,11 +28,11 @@ in_order all ids long same rise fit = record {
 
 rise_stated : (rows : List Row) → IsRising (ids_of rows)
 unfolding ids_of
-rise_stated rows = rising_from_sorted _ (rising_sorted nat_cmp_total (map (λ p. p.id) (listed_of rows)))
+rise_stated rows = rising_from_sorted _ (rising_sorted nat_cmp_total (map (λ p. p.id) (providers_said rows)))
 
 fit_stated : (rows : List Row) → All Fits (ids_of rows)
 unfolding ids_of
-fit_stated rows = ids_fit (listed_of rows) (listed_fit rows)
+fit_stated rows = ids_fit (providers_said rows) (said_fit rows)
 
 pub providers_in_order : ProvidersInOrder
 unfolding world_stated

@@ -3,43 +3,43 @@ use Rattle.std.proofs.Common.{◌≡◌, ◌<◌, ◌+◌, ◌∙◌, ℕ, List,
 use Rattle.std.specs.Option.{option_and_then}
 use Rattle.std.specs.List.{sum_by, fold}
 use Rattle.std.proofs.lemmas.List.{get_or-map}
-use Rattle.ac_base.specs.Quantities.{Stock}
+use Rattle.ac_base.specs.Quantities.{InventoryNumbers}
 use Rattle.ac_tables.specs.Sorted.{TextMap}
-use Rattle.ac_tables.specs.Places.{rank}
-use Rattle.ac_tables.specs.ProviderTable.{listed_of, listed_parent}
-use Rattle.ac_tables.specs.InventoryTable.{holdings_of}
-use Rattle.ac_tables.specs.UsageTable.{usages_of}
-use Rattle.ac_tables.specs.TraitTable.{marks_of}
-use Rattle.ac_tables.specs.AggregateTable.{memberships_of}
-use Rattle.ac_tables.specs.Kin.{AreKin}
+use Rattle.ac_tables.specs.Cloud.Places.{rank}
+use Rattle.ac_tables.specs.Tables.ProviderTable.{providers_said, said_parent}
+use Rattle.ac_tables.specs.Tables.InventoryTable.{inventories_said}
+use Rattle.ac_tables.specs.Tables.UsageTable.{usages_said}
+use Rattle.ac_tables.specs.Tables.TraitTable.{traits_said}
+use Rattle.ac_tables.specs.Tables.AggregateTable.{aggregates_said}
+use Rattle.ac_tables.specs.Cloud.Kin.{AreKin}
 use Rattle.ac_tables.specs.World.{Provider, Sizes}
-use Rattle.ac_tables.specs.EntryLists.{with_used_lists}
-use Rattle.ac_tables.specs.Numbered.{numbered_at, numbered}
-use Rattle.ac_tables.specs.Tables.{Tables, stocks_of, amounts_of, names_of, aggregates_of, with_used, gathered}
-use Rattle.ac_tables.proofs.BuildFacts.{agree}
-use Rattle.ac_tables.proofs.JoinFacts.{zip_maps}
-use Rattle.ac_tables.proofs.ListFacts.{by_places}
+use Rattle.ac_tables.specs.Cloud.EntryLists.{with_used_lists}
+use Rattle.ac_tables.specs.Cloud.Numbered.{numbered_at, numbered}
+use Rattle.ac_tables.specs.Tables.{Tables, inventories_of, amounts_of, names_of, aggregates_of, with_used, gathered}
+use Rattle.ac_tables.proofs.Places.BuildFacts.{agree}
+use Rattle.ac_tables.proofs.Places.JoinFacts.{zip_maps}
+use Rattle.ac_tables.proofs.Sorted.ListFacts.{by_places}
 
-same_provider : (p q : Provider) → p.id ≡ q.id → p.parent ≡ q.parent → p.holdings ≡ q.holdings → p.traits ≡ q.traits → p.aggregates ≡ q.aggregates → p ≡ q
-same_provider p q e1 e2 e3 e4 e5 = λ i. record { id = e1 i; parent = e2 i; holdings = e3 i; traits = e4 i; aggregates = e5 i }
+same_provider : (p q : Provider) → p.id ≡ q.id → p.parent ≡ q.parent → p.entries ≡ q.entries → p.traits ≡ q.traits → p.aggregates ≡ q.aggregates → p ≡ q
+same_provider p q e1 e2 e3 e4 e5 = λ i. record { id = e1 i; parent = e2 i; entries = e3 i; traits = e4 i; aggregates = e5 i }
 
-pub stated : (t : Tables) (ids : List ℕ) (us : List (TextMap ℕ)) (ss : List (TextMap Stock)) (ns : List (List (List ℕ))) (gs : List (List ℕ)) → AreKin ids (listed_of t.providers)
-    → us ≡ map (amounts_of (usages_of t.usages)) ids → ss ≡ map (stocks_of (holdings_of t.inventories)) ids → ns ≡ map (names_of (marks_of t.traits)) ids
-    → gs ≡ map (aggregates_of (memberships_of t.aggregates)) ids
-    → numbered ids (map (λ id. option_and_then (rank ids) (listed_parent (listed_of t.providers) id)) ids) (with_used_lists us ss) ns gs ≡ map (gathered t) ids
+pub stated : (t : Tables) (ids : List ℕ) (us : List (TextMap ℕ)) (ss : List (TextMap InventoryNumbers)) (ns : List (List (List ℕ))) (gs : List (List ℕ)) → AreKin ids (providers_said t.providers)
+    → us ≡ map (amounts_of (usages_said t.usages)) ids → ss ≡ map (inventories_of (inventories_said t.inventories)) ids → ns ≡ map (names_of (traits_said t.traits)) ids
+    → gs ≡ map (aggregates_of (aggregates_said t.aggregates)) ids
+    → numbered ids (map (λ id. option_and_then (rank ids) (said_parent (providers_said t.providers) id)) ids) (with_used_lists us ss) ns gs ≡ map (gathered t) ids
 unfolding numbered
 stated t ids us ss ns gs kin eu es en ea =
-    let parents = map (λ id. option_and_then (rank ids) (listed_parent (listed_of t.providers) id)) ids in
-    let held : with_used_lists us ss ≡ map (λ id. with_used (amounts_of (usages_of t.usages) id) (stocks_of (holdings_of t.inventories) id)) ids =
-    ap₂ with_used_lists eu es ∙ zip_maps (amounts_of (usages_of t.usages)) (stocks_of (holdings_of t.inventories)) ids in
+    let parents = map (λ id. option_and_then (rank ids) (said_parent (providers_said t.providers) id)) ids in
+    let own_entry : with_used_lists us ss ≡ map (λ id. with_used (amounts_of (usages_said t.usages) id) (inventories_of (inventories_said t.inventories) id)) ids =
+    ap₂ with_used_lists eu es ∙ zip_maps (amounts_of (usages_said t.usages)) (inventories_of (inventories_said t.inventories)) ids in
     by_places (numbered_at ids parents (with_used_lists us ss) ns gs) (gathered t) 0 ids
     (λ (i : ℕ) (h : i < length ids).
     ap (numbered_at ids parents (with_used_lists us ss) ns gs) (omega arith)
     ∙ same_provider (numbered_at ids parents (with_used_lists us ss) ns gs i) (gathered t (get_or ids i 0)) refl
-    (sym (agree ids (listed_of t.providers) kin parents refl i h))
-    (ap (λ l. get_or l i []) held ∙ get_or-map (λ id. with_used (amounts_of (usages_of t.usages) id) (stocks_of (holdings_of t.inventories) id)) ids i 0 [] h)
-    (ap (λ l. get_or l i []) en ∙ get_or-map (names_of (marks_of t.traits)) ids i 0 [] h)
-    (ap (λ l. get_or l i []) ea ∙ get_or-map (aggregates_of (memberships_of t.aggregates)) ids i 0 [] h))
+    (sym (agree ids (providers_said t.providers) kin.known parents refl i h))
+    (ap (λ l. get_or l i []) own_entry ∙ get_or-map (λ id. with_used (amounts_of (usages_said t.usages) id) (inventories_of (inventories_said t.inventories) id)) ids i 0 [] h)
+    (ap (λ l. get_or l i []) en ∙ get_or-map (names_of (traits_said t.traits)) ids i 0 [] h)
+    (ap (λ l. get_or l i []) ea ∙ get_or-map (aggregates_of (aggregates_said t.aggregates)) ids i 0 [] h))
 
 sum_map : {A B : Type 0} (f : B → ℕ) (g : A → B) (k : ℕ) (xs : List A) → fold (λ a x. a + f x) k (map g xs) ≡ fold (λ a x. a + f (g x)) k xs
 sum_map f g k [] = refl

@@ -6,9 +6,9 @@ use Rattle.std.specs.Map.{keys_of, lookup}
 use Rattle.std.specs.Ordering.{nat_cmp}
 use Rattle.std.specs.Str.{bytes_eq}
 use Rattle.ac_base.specs.Texts.{text_cmp}
-use Rattle.ac_base.specs.Quantities.{Stock}
-use Rattle.ac_tables.specs.CloudWorld.{providers_of}
-use Rattle.ac_tables.specs.InventoryTable.{is_one_of}
+use Rattle.ac_base.specs.Quantities.{InventoryNumbers}
+use Rattle.ac_tables.specs.Cloud.CloudWorld.{providers_of}
+use Rattle.ac_tables.specs.Tables.InventoryTable.{is_one_of}
 use Rattle.ac_tables.specs.Sorted.{TextMap, map_of, rising}
 use Rattle.ac_tables.specs.Trees.{Above, IsRootOf, top, is_endless, is_in_chain}
 use Rattle.ac_tables.specs.World.{Provider, id_at, parent_of, root_of, is_above}
@@ -63,5 +63,5 @@ pub record OrderHolds : Type 0 where
   pub ids : (ids : List ℕ) (id : ℕ) → is_one_of (rising nat_cmp ids) id ≡ is_one_of ids id
   pub names_rise : (names : List (List ℕ)) → IsStrictlySortedBy text_cmp (rising text_cmp names)
   pub names : (names : List (List ℕ)) (name : List ℕ) → list_any (bytes_eq name) (rising text_cmp names) ≡ list_any (bytes_eq name) names
-  pub stocks : (pairs : List (List ℕ × Stock)) → IsMapOf pairs (map_of pairs)
+  pub inventories : (pairs : List (List ℕ × InventoryNumbers)) → IsMapOf pairs (map_of pairs)
   pub amounts : (pairs : List (List ℕ × ℕ)) → IsMapOf pairs (map_of pairs)

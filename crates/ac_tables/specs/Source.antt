@@ -1,16 +1,17 @@
 -- The texts of the tables.
-use Rattle.std.specs.Prelude.{◌≤◌, length, IfSome}
+use denote.Ref.{Bor}
+use Rattle.std.specs.Prelude.{◌≤◌, ℕ, List, length, IfSome}
 use Rattle.std.specs.Option.{option_map}
 use Rattle.ac_tables.specs.Drain.{most_bytes}
-use Rattle.ac_tables.specs.Rows.{records_of}
-use Rattle.ac_tables.specs.UsageTable.{usage_columns}
-use Rattle.ac_tables.specs.TraitTable.{trait_columns}
-use Rattle.ac_tables.specs.AggregateTable.{aggregate_columns}
+use Rattle.ac_tables.specs.Tables.Rows.{records_of}
+use Rattle.ac_tables.specs.Tables.UsageTable.{usage_columns}
+use Rattle.ac_tables.specs.Tables.TraitTable.{trait_columns}
+use Rattle.ac_tables.specs.Tables.AggregateTable.{aggregate_columns}
 use Rattle.ac_tables.specs.Tables.{Tables, records_or_header}
-use Rattle.ac_tables.specs.declared.read.Sources.{Sources}
+use Rattle.ac_tables.specs.declared.read.FiveTables.{FiveTables}
 
 -- the records of the tables
-abbrev pub tables_of : Sources → Tables
+abbrev pub tables_of : FiveTables (Bor (List ℕ)) → Tables
 tables_of s = record {
   providers = records_of s.providers.now;
   inventories = records_of s.inventories.now;
@@ -20,7 +21,7 @@ tables_of s = record {
 }
 
 -- no text has more bytes than a table may have
-pub record AreFew (s : Sources) : Type 0 where
+pub record AreFew (s : FiveTables (Bor (List ℕ))) : Type 0 where
   pub providers : length s.providers.now ≤ most_bytes
   pub inventories : length s.inventories.now ≤ most_bytes
   pub usages : IfSome s.usages (λ t. length t.now ≤ most_bytes)

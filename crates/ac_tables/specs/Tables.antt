@@ -1,4 +1,12 @@
 -- The five tables: the first fault of all, and the world that they state where there is none.
+pub mod ProviderTable
+pub mod InventoryTable
+pub mod UsageTable
+pub mod TraitTable
+pub mod AggregateTable
+pub mod Checks
+pub mod Columns
+pub mod Rows
 use Rattle.std.specs.Prelude.{ℕ, Bool, ◌==◌, List, [], ◌∷◌, ◌++◌, map, length, Option, Some, None}
 use Rattle.std.specs.Option.{unwrap_or}
 use Rattle.std.specs.List.{filter, sum_by}
@@ -6,16 +14,16 @@ use Rattle.std.specs.Map.{lookup}
 use Rattle.std.specs.Ordering.{nat_cmp}
 use Rattle.std.specs.Str.{bytes_eq}
 use Rattle.ac_base.specs.Texts.{text_cmp}
-use Rattle.ac_base.specs.Quantities.{Stock}
-use Rattle.ac_tables.specs.Checks.{Row, first_failing}
-use Rattle.ac_tables.specs.Rows.{records_of}
+use Rattle.ac_base.specs.Quantities.{InventoryNumbers}
+use Rattle.ac_tables.specs.Tables.Checks.{Row, first_failing}
+use Rattle.ac_tables.specs.Tables.Rows.{records_of}
 use Rattle.ac_tables.specs.Sorted.{TextMap, rising, map_of}
-use Rattle.ac_tables.specs.ProviderTable.{listed_of, listed_parent, provider_checks}
-use Rattle.ac_tables.specs.InventoryTable.{Holding, holdings_of, inventory_checks}
-use Rattle.ac_tables.specs.UsageTable.{Usage, usages_of, usage_checks}
-use Rattle.ac_tables.specs.TraitTable.{Mark, marks_of, trait_checks}
-use Rattle.ac_tables.specs.AggregateTable.{Membership, memberships_of, aggregate_checks}
-use Rattle.ac_tables.specs.World.{Provider, World, Held}
+use Rattle.ac_tables.specs.Tables.ProviderTable.{providers_said, said_parent, provider_checks}
+use Rattle.ac_tables.specs.Tables.InventoryTable.{InventoryRecord, inventories_said, inventory_checks}
+use Rattle.ac_tables.specs.Tables.UsageTable.{UsageRecord, usages_said, usage_checks}
+use Rattle.ac_tables.specs.Tables.TraitTable.{TraitRecord, traits_said, trait_checks}
+use Rattle.ac_tables.specs.Tables.AggregateTable.{AggregateRecord, aggregates_said, aggregate_checks}
+use Rattle.ac_tables.specs.World.{Provider, World, UsedInventory}
 use Rattle.ac_tables.specs.declared.fault.TableFault.{TableFault}
 
 -- the records of the five tables
@@ -33,14 +41,14 @@ records_or_header names (Some bytes) = records_of bytes
 
 -- the ids of all providers, rising
 unfoldable pub ids_of : List Row → List ℕ
-ids_of rows = rising nat_cmp (map (λ p. p.id) (listed_of rows))
+ids_of rows = rising nat_cmp (map (λ p. p.id) (providers_said rows))
 
 -- all checks of all tables, in their order
 abbrev pub all_checks : Tables → List (Bool × TableFault)
 all_checks t =
     provider_checks t.providers
     ++ inventory_checks (ids_of t.providers) t.inventories
-    ++ usage_checks (ids_of t.providers) (holdings_of t.inventories) t.usages
+    ++ usage_checks (ids_of t.providers) (inventories_said t.inventories) t.usages
     ++ trait_checks (ids_of t.providers) t.traits
     ++ aggregate_checks (ids_of t.providers) t.aggregates
 
@@ -49,31 +57,31 @@ unfoldable pub tables_fault : Tables → Option TableFault
 tables_fault t = first_failing (all_checks t)
 
 -- what is told of one provider, by class: its inventories, its usages
-unfoldable pub stocks_of : List Holding → ℕ → TextMap Stock
-stocks_of holdings id = map_of (map (λ h. (h.class, h.stock)) (filter (λ h. h.provider == id) holdings))
+unfoldable pub inventories_of : List InventoryRecord → ℕ → TextMap InventoryNumbers
+inventories_of records id = map_of (map (λ h. (h.class, h.inventory)) (filter (λ h. h.provider == id) records))
 
-unfoldable pub amounts_of : List Usage → ℕ → TextMap ℕ
+unfoldable pub amounts_of : List UsageRecord → ℕ → TextMap ℕ
 amounts_of usages id = map_of (map (λ u. (u.class, u.amount)) (filter (λ u. u.provider == id) usages))
 
 -- its traits and its aggregates
-unfoldable pub names_of : List Mark → ℕ → List (List ℕ)
+unfoldable pub names_of : List TraitRecord → ℕ → List (List ℕ)
 names_of marks id = rising text_cmp (map (λ m. m.name) (filter (λ m. m.provider == id) marks))
 
-unfoldable pub aggregates_of : List Membership → ℕ → List ℕ
-aggregates_of memberships id = rising nat_cmp (map (λ m. m.aggregate) (filter (λ m. m.provider == id) memberships))
+unfoldable pub aggregates_of : List AggregateRecord → ℕ → List ℕ
+aggregates_of records id = rising nat_cmp (map (λ m. m.aggregate) (filter (λ m. m.provider == id) records))
 
 -- inventories beside how much of each is used
-abbrev pub with_used : TextMap ℕ → TextMap Stock → TextMap Held
-with_used amounts stocks = map (λ e. (e.0, record { stock = e.1; used = unwrap_or (lookup (bytes_eq e.0) amounts) 0 })) stocks
+abbrev pub with_used : TextMap ℕ → TextMap InventoryNumbers → TextMap UsedInventory
+with_used amounts inventories = map (λ e. (e.0, record { inventory = e.1; used = unwrap_or (lookup (bytes_eq e.0) amounts) 0 })) inventories
 
 -- all that the tables say of one provider, gathered from all records at once
 abbrev pub gathered : Tables → ℕ → Provider
 gathered t id = record {
   id = id;
-  parent = listed_parent (listed_of t.providers) id;
-  holdings = with_used (amounts_of (usages_of t.usages) id) (stocks_of (holdings_of t.inventories) id);
-  traits = names_of (marks_of t.traits) id;
-  aggregates = aggregates_of (memberships_of t.aggregates) id;
+  parent = said_parent (providers_said t.providers) id;
+  entries = with_used (amounts_of (usages_said t.usages) id) (inventories_of (inventories_said t.inventories) id);
+  traits = names_of (traits_said t.traits) id;
+  aggregates = aggregates_of (aggregates_said t.aggregates) id;
 }
 
 -- the world of the tables; a repeated trait or aggregate of a provider counts once
@@ -82,9 +90,9 @@ world_stated t = record {
   providers = map (gathered t) (ids_of t.providers);
   sizes = record {
     providers = length (ids_of t.providers);
-    inventories = length (holdings_of t.inventories);
-    usages = length (usages_of t.usages);
-    traits = sum_by (λ id. length (names_of (marks_of t.traits) id)) (ids_of t.providers);
-    aggregates = sum_by (λ id. length (aggregates_of (memberships_of t.aggregates) id)) (ids_of t.providers);
+    inventories = length (inventories_said t.inventories);
+    usages = length (usages_said t.usages);
+    traits = sum_by (λ id. length (names_of (traits_said t.traits) id)) (ids_of t.providers);
+    aggregates = sum_by (λ id. length (aggregates_of (aggregates_said t.aggregates) id)) (ids_of t.providers);
   };
 }

@@ -4,20 +4,20 @@ use Rattle.std.specs.Option.{unwrap_or, is_none, is_some, option_map, option_and
 use Rattle.std.specs.List.{list_any, position_from, filter, range_with_len}
 use Rattle.std.specs.Str.{bytes_eq}
 use Rattle.std.specs.Map.{lookup}
-use Rattle.ac_base.specs.Quantities.{Stock}
+use Rattle.ac_base.specs.Quantities.{InventoryNumbers}
 use Rattle.ac_tables.specs.Sorted.{TextMap}
 use Rattle.ac_tables.specs.Trees.{top, is_in_chain}
 
 -- what a provider has of a class, and how much of it is used (0 where no usage is told)
-pub record Held : Type 0 where
-  pub stock : Stock
+pub record UsedInventory : Type 0 where
+  pub inventory : InventoryNumbers
   pub used : ℕ
 
 -- a provider: its parent, what it has by class, its traits in byte order and its aggregates rising, each once
 pub record Provider : Type 0 where
   pub id : ℕ
   pub parent : Option ℕ
-  pub holdings : TextMap Held
+  pub entries : TextMap UsedInventory
   pub traits : List (List ℕ)
   pub aggregates : List ℕ
 
@@ -36,7 +36,7 @@ pub record World : Type 0 where
 
 -- a provider for the places past the end
 abbrev pub no_provider : Provider
-no_provider = record { id = 0; parent = None; holdings = []; traits = []; aggregates = [] }
+no_provider = record { id = 0; parent = None; entries = []; traits = []; aggregates = [] }
 
 -- the provider at a place of the rising order
 abbrev pub provider_at : List Provider → ℕ → Provider
@@ -66,12 +66,12 @@ abbrev pub is_above : List Provider → ℕ → ℕ → Bool
 is_above all a b = is_in_chain (parent_of all) (length all) a b
 
 -- what a provider has of a class
-abbrev pub held_of : Provider → List ℕ → Option Held
-held_of p class = lookup (bytes_eq class) p.holdings
+abbrev pub entry_in : Provider → List ℕ → Option UsedInventory
+entry_in p class = lookup (bytes_eq class) p.entries
 
 -- how much of it is used: 0 where it has none
 abbrev pub used_of : Provider → List ℕ → ℕ
-used_of p class = unwrap_or (option_map (λ h. h.used) (held_of p class)) 0
+used_of p class = unwrap_or (option_map (λ h. h.used) (entry_in p class)) 0
 
 abbrev pub has_trait : Provider → List ℕ → Bool
 has_trait p name = list_any (bytes_eq name) p.traits

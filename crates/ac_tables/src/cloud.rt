@@ -8,7 +8,6 @@ pub(crate) mod entries;
 pub mod entry;
 pub(crate) mod kept_lists;
 pub(crate) mod lookups;
-pub(crate) mod parents;
 pub(crate) mod provider_index;
 pub(crate) mod roots;
 pub(crate) mod roots_by_aggregate;
@@ -16,10 +15,10 @@ pub(crate) mod roots_by_aggregate;
 ghost use Rattle.std.specs.Prelude.{◌≡◌, ◌<◌, Some, None, map, length, IfSome};
 ghost use Rattle.std.specs.Option.{option_map, option_copied};
 ghost use Rattle.ac_base.specs.Names.{class_bytes, trait_bytes};
-ghost use Rattle.ac_tables.specs.CloudParts.{BelongTogether, BelongTogether-prop};
-ghost use Rattle.ac_tables.specs.ListsOf.{lists_of};
-ghost use Rattle.ac_tables.specs.Entries.{entry_pair, entry_held};
-ghost use Rattle.ac_tables.specs.World.{provider_at, id_at, place_of, parent_of, root_of, is_above, held_of, used_of, has_trait, is_member, shares, is_available_at, anchors_of};
+ghost use Rattle.ac_tables.specs.Cloud.CloudParts.{BelongTogether, BelongTogether-prop};
+ghost use Rattle.ac_tables.specs.Reader.ListsOf.{lists_of};
+ghost use Rattle.ac_tables.specs.Cloud.Entries.{entry_pair, entry_value};
+ghost use Rattle.ac_tables.specs.World.{provider_at, id_at, place_of, parent_of, root_of, is_above, entry_in, used_of, has_trait, is_member, shares, is_available_at, anchors_of};
 
 use crate::cloud::ancestry::Visits;
 use crate::cloud::anchors::Anchors;
@@ -61,7 +60,7 @@ pub struct Cloud {
 }
 
 impl Cloud {
-    ghost use Rattle.ac_tables.specs.CloudWorld.{providers_of, world_of, sizes_of};
+    ghost use Rattle.ac_tables.specs.Cloud.CloudWorld.{providers_of, world_of, sizes_of};
 
     /// How many providers there are.
     pub fn len(&self) -> u32
@@ -99,7 +98,8 @@ impl Cloud {
     /// The place of a provider's parent, where it has one.
     pub fn parent(&self, ix: u32) -> Option<u32>
         requires { ix < length (providers_of self.now) }
-        ensures id { option_map (id_at (providers_of self.now)) result ≡ parent_of (providers_of self.now) (id_at (providers_of self.now) ix) }
+        ensures id { option_map (id_at (providers_of self.now)) result
+            ≡ parent_of (providers_of self.now) (id_at (providers_of self.now) ix) }
         ensures inside { IfSome result (λ place. place < length (providers_of self.now)) }
     {
         self.parents[ix as usize]
@@ -108,7 +108,8 @@ impl Cloud {
     /// The place of the root of a provider's tree; a root is its own.
     pub fn root(&self, ix: u32) -> u32
         requires { ix < length (providers_of self.now) }
-        ensures id { id_at (providers_of self.now) result ≡ root_of (providers_of self.now) (id_at (providers_of self.now) ix) }
+        ensures id { id_at (providers_of self.now) result
+            ≡ root_of (providers_of self.now) (id_at (providers_of self.now) ix) }
         ensures inside { result < length (providers_of self.now) }
     {
         self.roots[ix as usize]
@@ -117,7 +118,7 @@ impl Cloud {
     /// What a provider has of each class, classes in byte order.
     pub fn entries(&self, ix: u32) -> &[Entry]
         requires { ix < length (providers_of self.now) }
-        ensures { map entry_pair result.now ≡ (provider_at (providers_of self.now) ix).holdings }
+        ensures { map entry_pair result.now ≡ (provider_at (providers_of self.now) ix).entries }
     {
         self.entries.of(ix as usize)
     }
@@ -133,7 +134,8 @@ impl Cloud {
     // Where a class stands among a provider's entries.
     fn find_entry(&self, ix: u32, class: &ClassName) -> Option<&Entry>
         requires { ix < length (providers_of self.now) }
-        ensures { option_map entry_held (option_copied result) ≡ held_of (provider_at (providers_of self.now) ix) (class_bytes class.now) }
+        ensures { option_map entry_value (option_copied result)
+            ≡ entry_in (provider_at (providers_of self.now) ix) (class_bytes class.now) }
     {
         find_entry(self.entries.of(ix as usize), class)
     }
@@ -141,7 +143,8 @@ impl Cloud {
     /// A provider's inventory of a class, where it has one.
     pub fn inventory(&self, ix: u32, class: &ClassName) -> Option<&Inventory>
         requires { ix < length (providers_of self.now) }
-        ensures { option_copied result ≡ option_map (λ h. h.stock) (held_of (provider_at (providers_of self.now) ix) (class_bytes class.now)) }
+        ensures { option_copied result ≡ option_map (λ h. h.inventory)
+            (entry_in (provider_at (providers_of self.now) ix) (class_bytes class.now)) }
     {
         match self.find_entry(ix, class) {
             Some(entry) => Some(entry.inventory()),
@@ -152,7 +155,8 @@ impl Cloud {
     /// How much of a class is used of a provider, 0 where it has none.
     pub fn used(&self, ix: u32, class: &ClassName) -> u32
         requires { ix < length (providers_of self.now) }
-        ensures { result ≡ used_of (provider_at (providers_of self.now) ix) (class_bytes class.now) }
+        ensures { result ≡ used_of (provider_at (providers_of self.now) ix)
+            (class_bytes class.now) }
     {
         match self.find_entry(ix, class) {
             Some(entry) => entry.used(),
@@ -163,7 +167,8 @@ impl Cloud {
     /// Whether a provider has a trait.
     pub fn has_trait(&self, ix: u32, name: &TraitName) -> bool
         requires { ix < length (providers_of self.now) }
-        ensures { result ≡ has_trait (provider_at (providers_of self.now) ix) (trait_bytes name.now) }
+        ensures { result ≡ has_trait (provider_at (providers_of self.now) ix)
+            (trait_bytes name.now) }
     {
         has_name(self.traits.of(ix as usize), name)
     }
@@ -188,7 +193,8 @@ impl Cloud {
     fn leads_to(&self, a: u32, b: u32) -> bool
         requires a { a < length (providers_of self.now) }
         requires b { b < length (providers_of self.now) }
-        ensures { result ≡ is_above (providers_of self.now) (id_at (providers_of self.now) a) (id_at (providers_of self.now) b) }
+        ensures { result ≡ is_above (providers_of self.now) (id_at (providers_of self.now) a)
+            (id_at (providers_of self.now) b) }
     {
         let mut at = b;
         for _step in 0..self.ids.len() {
@@ -207,7 +213,8 @@ impl Cloud {
     pub fn is_ancestor(&self, a: u32, b: u32) -> bool
         requires a { a < length (providers_of self.now) }
         requires b { b < length (providers_of self.now) }
-        ensures { result ≡ is_above (providers_of self.now) (id_at (providers_of self.now) a) (id_at (providers_of self.now) b) }
+        ensures { result ≡ is_above (providers_of self.now) (id_at (providers_of self.now) a)
+            (id_at (providers_of self.now) b) }
     {
         match &self.visits {
             Some(visits) => visits.enclose(a, b),

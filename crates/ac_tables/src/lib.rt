@@ -14,5 +14,5 @@ mod tables;
 pub use cloud::entry::Entry;
 pub use cloud::{Cloud, Counts};
 pub use fault::{Table, TableFault, TableKind};
-pub use read::Sources;
+pub use read::{FiveTables, Sources};
 pub use reading::{ReadFault, drain};

@@ -1,6 +1,6 @@
 //! Reading the tables of a cloud.
 ghost use Rattle.std.specs.Prelude.{◌≡◌, None, IfOk, IfErr};
-ghost use Rattle.ac_tables.specs.Checks.{Tells};
+ghost use Rattle.ac_tables.specs.Tables.Checks.{Tells};
 ghost use Rattle.ac_tables.specs.Tables.{tables_fault, world_stated};
 ghost use Rattle.ac_tables.specs.SourceText.{text_or};
 
@@ -9,20 +9,23 @@ use crate::cloud::{Cloud, Counts};
 use crate::fault::TableFault;
 use crate::tables::aggregates::read_aggregates;
 use crate::tables::inventories::Inventories;
-use crate::tables::providers::read_providers;
+use crate::tables::providers::{Providers, read_providers};
 use crate::tables::traits::read_traits;
 use crate::tables::usages::read_usages;
 use std::alloc::Global;
 
-/// The texts of the tables. A table that isn't there is its header alone.
-#[derive(Clone, Copy, Debug)]
-pub struct Sources<'a> {
-    pub providers: &'a [u8],
-    pub inventories: &'a [u8],
-    pub usages: Option<&'a [u8]>,
-    pub traits: Option<&'a [u8]>,
-    pub aggregates: Option<&'a [u8]>,
+/// The five tables, each as a `T`, of which three may not be there.
+#[derive(Drop)]
+pub struct FiveTables<T> {
+    pub providers: T,
+    pub inventories: T,
+    pub usages: Option<T>,
+    pub traits: Option<T>,
+    pub aggregates: Option<T>,
 }
+
+/// The texts of the tables. A table that isn't there is its header alone.
+pub type Sources<'a> = FiveTables<&'a [u8]>;
 
 const USAGES_HEADER: &[u8] = b"resource_provider,resource_class,usage";
 
@@ -41,7 +44,7 @@ fn text_or<'a>(text: Option<&'a [u8]>, header: &'a [u8]) -> &'a [u8]
 }
 
 impl Cloud {
-    ghost use Rattle.ac_tables.specs.CloudWorld.{world_of};
+    ghost use Rattle.ac_tables.specs.Cloud.CloudWorld.{world_of};
     ghost use Rattle.ac_tables.specs.Source.{tables_of, AreFew};
 
     /// Reads the tables, each of at most 67108864 bytes.
@@ -54,11 +57,14 @@ impl Cloud {
         ensures ok { IfOk result (λ _. tables_fault (tables_of src.now) ≡ None) }
         ensures fault { IfErr result (λ e. Tells (tables_fault (tables_of src.now)) e) }
     {
-        let roll = match read_providers(alloc, src.providers) {
-            Ok(roll) => roll,
+        let Providers {
+            ids,
+            parents,
+            roots,
+        } = match read_providers(alloc, src.providers) {
+            Ok(providers) => providers,
             Err(fault) => return Err(fault),
         };
-        let ids = roll.ids(alloc)?;
         let inventories = match Inventories::read(alloc, ids, src.inventories) {
             Ok(inventories) => inventories,
             Err(fault) => return Err(fault),
@@ -86,7 +92,8 @@ impl Cloud {
             aggregates: aggregates.count() as u32,
         };
         let parts = Parts {
-            roll,
+            parents,
+            roots,
             inventories,
             usages,
             traits,

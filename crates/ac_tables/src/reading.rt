@@ -43,7 +43,8 @@ pub fn drain<R: Feed>(alloc: Global, feed: &mut R) -> Result<Vec<u8>, ReadFault>
     ensures bytes { IfOk result (λ bytes. AllBytes (R.remaining feed.old) bytes.items) }
     ensures limit { IfOk result (λ bytes. vec_len bytes ≤ most_bytes) }
     ensures too_large { result ≡ Err ReadFault.TooLarge → AreTooMany (R.remaining feed.old) }
-    ensures unreadable { result ≡ Err ReadFault.Unreadable → Rises (R.failures feed.old) (R.failures feed.new) }
+    ensures unreadable { result ≡ Err ReadFault.Unreadable
+        → Rises (R.failures feed.old) (R.failures feed.new) }
 {
     let mut bytes = Vec::new(alloc);
     let mut piece = [0; 4096];

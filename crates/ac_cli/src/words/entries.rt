@@ -11,7 +11,8 @@ use std::alloc::{AllocError, Global};
 
 // The entry of a name, where it has one.
 fn entry<'a>(entries: &ArgMatches<'a>, name: &str) -> Option<&'a str>
-    ensures { option_map (λ text. text.now) result ≡ first_of name.now (rows_of (found_of entries.now)) }
+    ensures { option_map (λ text. text.now) result
+        ≡ first_of name.now (rows_of (found_of entries.now)) }
 {
     entries.get_str(name)
 }
@@ -19,7 +20,8 @@ fn entry<'a>(entries: &ArgMatches<'a>, name: &str) -> Option<&'a str>
 // A copy of the entry of a name that has one.
 fn needed(alloc: Global, entries: &ArgMatches<'_>, name: &str) -> Result<String, AllocError>
     requires { HasEntry name.now (rows_of (found_of entries.now)) }
-    ensures { IfOk result (λ text. first_of name.now (rows_of (found_of entries.now)) ≡ Some (string_bytes text)) }
+    ensures { IfOk result (λ text. first_of name.now (rows_of (found_of entries.now))
+        ≡ Some (string_bytes text)) }
 {
     match entry(entries, name) {
         Some(text) => String::from_str(alloc, text),
@@ -29,7 +31,8 @@ fn needed(alloc: Global, entries: &ArgMatches<'_>, name: &str) -> Result<String,
 
 // A copy of the entry of a name, where it has one.
 fn copied(alloc: Global, entries: &ArgMatches<'_>, name: &str) -> Result<Option<String>, AllocError>
-    ensures { IfOk result (λ copy. first_of name.now (rows_of (found_of entries.now)) ≡ option_map string_bytes copy) }
+    ensures { IfOk result (λ copy. first_of name.now (rows_of (found_of entries.now))
+        ≡ option_map string_bytes copy) }
 {
     match entry(entries, name) {
         Some(text) => Ok(Some(String::from_str(alloc, text)?)),
@@ -40,7 +43,8 @@ fn copied(alloc: Global, entries: &ArgMatches<'_>, name: &str) -> Result<Option<
 // The query of a command.
 fn query(alloc: Global, command: Command, entries: &ArgMatches<'_>) -> Result<String, AllocError>
     requires { is_some (query_of command (rows_of (found_of entries.now))) ≡ true }
-    ensures { IfOk result (λ text. query_of command (rows_of (found_of entries.now)) ≡ Some (string_bytes text)) }
+    ensures { IfOk result (λ text. query_of command (rows_of (found_of entries.now))
+        ≡ Some (string_bytes text)) }
 {
     match command {
         Command::Check => Ok(String::new(alloc)),
@@ -76,7 +80,8 @@ fn unknown_version(alloc: Global, text: &str) -> Result<WordFault, AllocError>
 // The version that reads the query.
 fn version(alloc: Global, entries: &ArgMatches<'_>) -> Result<Version, WordFault>
     ensures version { IfOk result (λ v. version_of (rows_of (found_of entries.now)) ≡ Some v) }
-    ensures fault { IfErr result (Tells (version_kinds (version_of (rows_of (found_of entries.now))))) }
+    ensures fault { IfErr result (Tells (version_kinds
+        (version_of (rows_of (found_of entries.now))))) }
 {
     let text = entry(entries, "microversion");
     match version_named(text) {
@@ -91,7 +96,8 @@ fn token(
     command: Command,
     entries: &ArgMatches<'_>,
 ) -> Result<Option<String>, AllocError>
-    ensures { IfOk result (λ copy. token_of command (rows_of (found_of entries.now)) ≡ option_map string_bytes copy) }
+    ensures { IfOk result (λ copy. token_of command (rows_of (found_of entries.now))
+        ≡ option_map string_bytes copy) }
 {
     match command {
         Command::Check | Command::Explain => Ok(None),
@@ -103,7 +109,8 @@ fn token(
 // The command that was found, and its entries.
 fn chosen<'m, 'a>(matches: &'m ArgMatches<'a>) -> (Command, &'m ArgMatches<'a>)
     requires { IsComplete (subcommand_rows_of matches.now) }
-    ensures { subcommand_rows_of matches.now ≡ Some (name_of result.0, rows_of (found_of result.1.now)) }
+    ensures { subcommand_rows_of matches.now
+        ≡ Some (name_of result.0, rows_of (found_of result.1.now)) }
 {
     match matches.subcommand() {
         Some(("check", entries)) => (Command::Check, entries),
@@ -124,7 +131,8 @@ fn words_with(
 ) -> Result<Words, AllocError>
     requires needed { HasNeeded command (rows_of (found_of entries.now)) }
     requires version { version_of (rows_of (found_of entries.now)) ≡ Some version }
-    ensures { IfOk result (λ words. (words.command ≡ command) × IsMadeOf (rows_of (found_of entries.now)) words) }
+    ensures { IfOk result (λ words. (words.command ≡ command)
+        × IsMadeOf (rows_of (found_of entries.now)) words) }
 {
     Ok(Words {
         command,

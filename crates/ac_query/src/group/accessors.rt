@@ -4,7 +4,7 @@ ghost use Rattle.std.specs.List.Sorted.{IsStrictlySortedBy};
 ghost use Rattle.std.specs.Option.{option_map};
 ghost use Rattle.ac_base.specs.Names.{class_bytes, trait_bytes, suffix_bytes};
 ghost use Rattle.ac_base.specs.Texts.{text_cmp};
-ghost use Rattle.ac_query.specs.GroupsShown.{need_class, need_entry, rule_shown, any_of_shown, suffix_of, group_asked};
+ghost use Rattle.ac_query.specs.Shown.Groups.{need_class, need_entry, rule_shown, any_of_shown, suffix_of, group_asked};
 
 use super::{AggregateRule, AnyOf, Group, Need};
 use ac_base::{ClassName, Id, Suffix, TraitName};

@@ -7,9 +7,9 @@ ghost use Rattle.ac_base.specs.Names.{trait_bytes};
 ghost use Rattle.ac_base.specs.Texts.{text_cmp};
 ghost use Rattle.ac_query.specs.Asked.{slots_of, is_isolated, in_subtree};
 ghost use Rattle.ac_query.specs.Faults.{entry_count};
-ghost use Rattle.ac_query.specs.GroupsShown.{need_class, need_entry, group_entry};
-ghost use Rattle.ac_query.specs.SlotsShown.{slot_group, slot_shown};
-ghost use Rattle.ac_query.specs.QueriesShown.{asked_of};
+ghost use Rattle.ac_query.specs.Shown.Groups.{need_class, need_entry, group_entry};
+ghost use Rattle.ac_query.specs.Shown.Slots.{slot_group, slot_shown};
+ghost use Rattle.ac_query.specs.Shown.Queries.{asked_of};
 
 use super::Query;
 use crate::group::{Group, Need};
@@ -30,14 +30,16 @@ impl Query {
     pub fn slots(&self) -> &[Slot]
         ensures some { 0 < length result.now }
         ensures few { length result.now ≤ 64 }
-        ensures groups { map slot_group result.now ≡ map (λ s. s.place) (slots_of (asked_of self.now)) }
+        ensures groups { map slot_group result.now
+            ≡ map (λ s. s.place) (slots_of (asked_of self.now)) }
     {
         self.slots.as_slice()
     }
 
     fn slot(&self, s: usize) -> Slot
         requires { s < length (slots_of (asked_of self.now)) }
-        ensures shown { slot_shown (asked_of self.now).groups result ≡ slice_get (slots_of (asked_of self.now)) s }
+        ensures shown { slot_shown (asked_of self.now).groups result
+            ≡ slice_get (slots_of (asked_of self.now)) s }
         ensures there { IsSome (slot_shown (asked_of self.now).groups result) }
         ensures within { result.group < length (asked_of self.now).groups }
     {
@@ -47,7 +49,8 @@ impl Query {
     /// What a slot needs: its one class, or all classes of its group, in byte order, each once.
     pub fn slot_needs(&self, s: usize) -> &[Need]
         requires { s < length (slots_of (asked_of self.now)) }
-        ensures needs { Some (map need_entry result.now) ≡ option_map (λ slot. slot.needs) (slice_get (slots_of (asked_of self.now)) s) }
+        ensures needs { Some (map need_entry result.now)
+            ≡ option_map (λ slot. slot.needs) (slice_get (slots_of (asked_of self.now)) s) }
         ensures rising { IsStrictlySortedBy text_cmp (map need_class result.now) }
     {
         let slot = self.slot(s);

@@ -6,25 +6,25 @@ ghost use Rattle.ac_base.specs.Names.{suffix_bytes};
 ghost use Rattle.ac_base.specs.Texts.{text_cmp};
 ghost use Rattle.ac_query.specs.Asked.{slots_from};
 ghost use Rattle.ac_query.specs.Asks.{Asks};
-ghost use Rattle.ac_query.specs.Gathered.{asked_by};
+ghost use Rattle.ac_query.specs.Laws.Gathered.{asked_by};
 ghost use Rattle.ac_query.specs.Pairs.{pairs_of};
 ghost use Rattle.ac_query.specs.Faults.{first_fault, asked_conditions, query_fault};
-ghost use Rattle.ac_query.specs.FaultsShown.{fault_shown};
+ghost use Rattle.ac_query.specs.Shown.Faults.{fault_shown};
 ghost use Rattle.ac_query.specs.Shown.{needs_shown};
-ghost use Rattle.ac_query.specs.DraftShown.{group_drafted, plain_shown, suffixed_shown, draft_asked};
-ghost use Rattle.ac_query.specs.GroupsShown.{need_class, need_entry, group_entry};
-ghost use Rattle.ac_query.specs.SlotsShown.{slot_shown, slots_at};
-ghost use Rattle.ac_query.specs.QueriesShown.{asked_of};
+ghost use Rattle.ac_query.specs.Shown.Draft.{group_drafted, plain_shown, suffixed_shown, draft_asked};
+ghost use Rattle.ac_query.specs.Shown.Groups.{need_class, need_entry, group_entry};
+ghost use Rattle.ac_query.specs.Shown.Slots.{slot_shown, slots_at};
+ghost use Rattle.ac_query.specs.Shown.Queries.{asked_of};
 
 use super::Query;
-use crate::amount::Amount;
-use crate::check::check;
-use crate::draft::{Draft, GroupDraft};
 use crate::fault::QueryFault;
 use crate::group::{Group, Need};
-use crate::pass::read_draft;
+use crate::reading::amount::Amount;
+use crate::reading::check::check;
+use crate::reading::draft::{Draft, GroupDraft};
+use crate::reading::pass::read_draft;
+use crate::reading::traits::{Traits, names_in_order};
 use crate::slot::Slot;
-use crate::traits::{Traits, names_in_order};
 use crate::version::Version;
 use ac_base::{ClassName, NoMemory, Suffix};
 use std::alloc::Global;
@@ -44,7 +44,8 @@ fn needs_in_order(alloc: Global, needs: BTreeMap<ClassName, Amount>) -> Result<V
 
 /// The group of a suffix, as it was drafted.
 fn group_of(alloc: Global, suffix: Option<Suffix>, draft: GroupDraft) -> Result<Group, NoMemory>
-    ensures { IfOk result (λ group. group_entry group ≡ (option_map suffix_bytes suffix, group_drafted draft)) }
+    ensures { IfOk result (λ group. group_entry group
+        ≡ (option_map suffix_bytes suffix, group_drafted draft)) }
 {
     let GroupDraft {
         needs,
@@ -92,7 +93,8 @@ fn groups_in_order(
     plain: Option<GroupDraft>,
     suffixed: BTreeMap<Suffix, GroupDraft>,
 ) -> Result<Vec<Group>, NoMemory>
-    ensures { IfOk result (λ groups. map group_entry groups.items ≡ plain_shown plain ++ suffixed_shown suffixed) }
+    ensures { IfOk result (λ groups. map group_entry groups.items
+        ≡ plain_shown plain ++ suffixed_shown suffixed) }
 {
     let mut groups = plain_group(alloc, plain)?;
     for (suffix, draft) in suffixed {
@@ -104,7 +106,8 @@ fn groups_in_order(
 
 /// Adds the slots of a group: one for each class of the unsuffixed group, one for a suffix.
 fn add_slots(slots: &mut Vec<Slot>, place: usize, group: &Group) -> Result<(), NoMemory>
-    ensures { OnOk result (slots.new.items ≡ slots.old.items ++ slots_at place (group_entry group.now)) }
+    ensures { OnOk result (slots.new.items ≡ slots.old.items
+        ++ slots_at place (group_entry group.now)) }
 {
     if group.suffix.is_some() {
         slots.push(Slot {
@@ -124,7 +127,8 @@ fn add_slots(slots: &mut Vec<Slot>, place: usize, group: &Group) -> Result<(), N
 
 /// The slots of groups, in order.
 fn slots_in_order(alloc: Global, groups: &[Group]) -> Result<Vec<Slot>, NoMemory>
-    ensures { IfOk result (λ slots. map (slot_shown (map group_entry groups.now)) slots.items ≡ map (λ s. Some s) (slots_from 0 (map group_entry groups.now))) }
+    ensures { IfOk result (λ slots. map (slot_shown (map group_entry groups.now)) slots.items
+        ≡ map (λ s. Some s) (slots_from 0 (map group_entry groups.now))) }
 {
     let mut slots = Vec::new(alloc);
     for (place, group) in groups.iter().enumerate() {
@@ -173,8 +177,10 @@ impl Query {
     pub fn read(alloc: Global, text: &str, version: Version) -> Result<Query, QueryFault>
         ensures fine { OnOk result (query_fault version text.now ≡ None) }
         ensures asks { IfOk result (λ query. Asks version (pairs_of text.now) (asked_of query)) }
-        ensures record { IfOk result (λ query. asked_of query ≡ asked_by version (pairs_of text.now)) }
-        ensures err { IfErr result (λ e. IfSome (fault_shown e) (λ f. query_fault version text.now ≡ Some f)) }
+        ensures record { IfOk result (λ query. asked_of query
+            ≡ asked_by version (pairs_of text.now)) }
+        ensures err { IfErr result (λ e. IfSome (fault_shown e) (λ f.
+            query_fault version text.now ≡ Some f)) }
     {
         let draft = read_draft(alloc, text, version)?;
         check(alloc, &draft)?;

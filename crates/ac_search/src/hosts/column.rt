@@ -3,7 +3,7 @@
 ghost use Rattle.std.specs.Prelude.{◌≡◌, ◌<◌, ◌≤◌, [], length, IfOk};
 ghost use Rattle.ac_base.specs.Names.{class_bytes};
 ghost use Rattle.ac_query.specs.Asked.{slots_of};
-ghost use Rattle.ac_search.specs.Accounts.{providers_in, asked_in, texts_in, Accounts};
+ghost use Rattle.ac_search.specs.Left.Accounts.{providers_in, asked_in, texts_in, Accounts};
 ghost use Rattle.ac_search.specs.Ahead.{load_of};
 ghost use Rattle.ac_search.specs.Left.{wanted, place_of, IsKnown};
 ghost use Rattle.ac_search.specs.Loads.{IsColumn, ArePieces, AreOnes, MayHost, pairs_of, is_much};
@@ -11,7 +11,7 @@ ghost use Rattle.ac_rules.specs.Placed.{slot_at};
 
 use super::loads::limit;
 use crate::ledger::Ledger;
-use crate::rooms::{Ask, Room, left_in, number_of, wanted};
+use crate::ledger::rooms::{Ask, Room, left_in, number_of, wanted};
 use ac_base::{ClassName, NoMemory};
 use ac_rules::slots::count_slots;
 use std::alloc::Global;
@@ -93,7 +93,7 @@ fn at_most_one(alloc: Global, rooms: &[u64]) -> Result<Vec<u64>, NoMemory>
 }
 
 impl<'l, 'a> Column<'l, 'a> {
-    ghost use Rattle.ac_search.specs.Columns.{is_lone, count_of_lone};
+    ghost use Rattle.ac_search.specs.Loads.Columns.{is_lone, count_of_lone};
 
     /// Of a class that the query asks for.
     pub(crate) fn new(

@@ -2,7 +2,7 @@
 
 ghost use Rattle.std.specs.Prelude.{◌≡◌, ◌<◌, length, IfOk};
 ghost use Rattle.std.specs.List.{All};
-ghost use Rattle.ac_tables.specs.CloudWorld.{providers_of};
+ghost use Rattle.ac_tables.specs.Cloud.CloudWorld.{providers_of};
 ghost use Rattle.ac_search.specs.Loads.{IsAdded, AreLoads, AreReaching, AreLimited};
 
 use ac_base::NoMemory;
@@ -55,7 +55,8 @@ pub(crate) fn limit(
 ) -> Result<(), NoMemory>
     requires rooms { length rooms.now ≡ length (providers_of cloud.now) }
     requires may { length may.old ≡ length (providers_of cloud.now) }
-    ensures { IfOk result (λ _. AreLimited (providers_of cloud.now) rooms.now wanted may.old may.new) }
+    ensures { IfOk result (λ _.
+        AreLimited (providers_of cloud.now) rooms.now wanted may.old may.new) }
 {
     let loads = loads_by_root(alloc, cloud, rooms)?;
     keep_reaching(may, &loads, wanted);

@@ -1,7 +1,7 @@
 //! A walk over the forest of the providers, which tells at once who is above whom.
 ghost use Rattle.std.specs.Prelude.{◌≡◌, ◌<◌, ◌≤◌, ◌+◌, ◌&&◌, ℕ, Some, None, true, length, get_or, nat_le, nat_lt, IfOk, IfSome};
-ghost use Rattle.ac_tables.specs.Places.{parent_in, along, AreParents};
-ghost use Rattle.ac_tables.specs.Visits.{IsPlaced, IsWalk};
+ghost use Rattle.ac_tables.specs.Cloud.Places.{parent_in, along, AreParents};
+ghost use Rattle.ac_tables.specs.Cloud.Visits.{IsPlaced, IsWalk};
 
 use crate::cloud::draft::{Draft, make_draft};
 use std::alloc::{AllocError, Global};
@@ -19,7 +19,8 @@ impl Visits {
         requires entered { a < length self.now.entered.items }
         requires left { a < length self.now.left.items }
         requires b { b < length self.now.entered.items }
-        ensures { result ≡ (nat_le (along self.now.entered.items a) (along self.now.entered.items b) && nat_lt (along self.now.entered.items b) (along self.now.left.items a)) }
+        ensures { result ≡ (nat_le (along self.now.entered.items a) (along self.now.entered.items b)
+            && nat_lt (along self.now.entered.items b) (along self.now.left.items a)) }
     {
         let turn = self.entered[b as usize];
         self.entered[a as usize] <= turn && turn < self.left[a as usize]
@@ -29,7 +30,9 @@ impl Visits {
 // Whether a place has a turn of its own and is left after it.
 fn has_turn(draft: &Draft, place: usize) -> bool
     requires { place < length draft.now.entered.items }
-    ensures { result ≡ true → (along draft.now.entered.items place < length draft.now.order.items) × (get_or draft.now.order.items (along draft.now.entered.items place) 0 ≡ place) × (along draft.now.entered.items place < along draft.now.left.items place) }
+    ensures { result ≡ true → (along draft.now.entered.items place < length draft.now.order.items)
+        × (get_or draft.now.order.items (along draft.now.entered.items place) 0 ≡ place)
+        × (along draft.now.entered.items place < along draft.now.left.items place) }
 {
     let turn = draft.entered[place];
     if (turn as usize) < draft.order.len() && draft.order[turn as usize] as usize == place {
@@ -44,7 +47,9 @@ fn is_within_parent(parents: &[Option<u32>], draft: &Draft, place: usize) -> boo
     requires known { AreParents parents.now }
     requires sized { length draft.now.entered.items ≡ length parents.now }
     requires inside { place < length parents.now }
-    ensures { result ≡ true → (q : ℕ) → parent_in parents.now place ≡ Some q → (along draft.now.entered.items q < along draft.now.entered.items place) × (along draft.now.left.items place ≤ along draft.now.left.items q) }
+    ensures { result ≡ true → (q : ℕ) → parent_in parents.now place ≡ Some q
+        → (along draft.now.entered.items q < along draft.now.entered.items place)
+        × (along draft.now.left.items place ≤ along draft.now.left.items q) }
 {
     match parents[place] {
         Some(parent) => {
@@ -59,7 +64,9 @@ fn is_within_parent(parents: &[Option<u32>], draft: &Draft, place: usize) -> boo
 fn follows_sibling(parents: &[Option<u32>], draft: &Draft, place: usize) -> bool
     requires sized { length draft.now.entered.items ≡ length parents.now }
     requires inside { place < length parents.now }
-    ensures { result ≡ true → (s : ℕ) → get_or draft.now.before.items place None ≡ Some s → (s < length parents.now) × (parent_in parents.now s ≡ parent_in parents.now place) × (along draft.now.left.items s ≡ along draft.now.entered.items place) }
+    ensures { result ≡ true → (s : ℕ) → get_or draft.now.before.items place None ≡ Some s
+        → (s < length parents.now) × (parent_in parents.now s ≡ parent_in parents.now place)
+        × (along draft.now.left.items s ≡ along draft.now.entered.items place) }
 {
     match draft.before[place] {
         Some(sibling) => {
@@ -78,8 +85,11 @@ fn starts_well(parents: &[Option<u32>], draft: &Draft, place: usize) -> bool
     requires known { AreParents parents.now }
     requires sized { length draft.now.entered.items ≡ length parents.now }
     requires inside { place < length parents.now }
-    ensures child { result ≡ true → (q : ℕ) → get_or draft.now.before.items place None ≡ None → parent_in parents.now place ≡ Some q → along draft.now.entered.items place ≡ along draft.now.entered.items q + 1 }
-    ensures root { result ≡ true → get_or draft.now.before.items place None ≡ None → parent_in parents.now place ≡ None → along draft.now.entered.items place ≡ 0 }
+    ensures child { result ≡ true → (q : ℕ) → get_or draft.now.before.items place None ≡ None
+        → parent_in parents.now place ≡ Some q
+        → along draft.now.entered.items place ≡ along draft.now.entered.items q + 1 }
+    ensures root { result ≡ true → get_or draft.now.before.items place None ≡ None
+        → parent_in parents.now place ≡ None → along draft.now.entered.items place ≡ 0 }
 {
     if draft.before[place].is_some() {
         return true;
@@ -97,7 +107,8 @@ fn is_placed(parents: &[Option<u32>], draft: &Draft, place: usize) -> bool
     requires known { AreParents parents.now }
     requires sized { length draft.now.entered.items ≡ length parents.now }
     requires inside { place < length parents.now }
-    ensures { result ≡ true → IsPlaced parents.now draft.now.entered.items draft.now.left.items draft.now.order.items draft.now.before.items place }
+    ensures { result ≡ true → IsPlaced parents.now draft.now.entered.items draft.now.left.items
+        draft.now.order.items draft.now.before.items place }
 {
     if !has_turn(draft, place) || !is_within_parent(parents, draft, place) {
         return false;
@@ -109,7 +120,9 @@ fn is_placed(parents: &[Option<u32>], draft: &Draft, place: usize) -> bool
 fn are_placed(parents: &[Option<u32>], draft: &Draft) -> bool
     requires known { AreParents parents.now }
     requires sized { length draft.now.entered.items ≡ length parents.now }
-    ensures { result ≡ true → (b : ℕ) → b < length parents.now → IsPlaced parents.now draft.now.entered.items draft.now.left.items draft.now.order.items draft.now.before.items b }
+    ensures { result ≡ true → (b : ℕ) → b < length parents.now
+        → IsPlaced parents.now draft.now.entered.items draft.now.left.items draft.now.order.items
+        draft.now.before.items b }
 {
     for place in 0..parents.len() {
         if !is_placed(parents, draft, place) {
@@ -123,7 +136,8 @@ fn are_placed(parents: &[Option<u32>], draft: &Draft) -> bool
 pub(crate) fn walk(alloc: Global, parents: &[Option<u32>]) -> Result<Option<Visits>, AllocError>
     requires few { length parents.now ≤ 65536 }
     requires known { AreParents parents.now }
-    ensures { IfOk result (λ found. IfSome found (λ v. IsWalk parents.now v.entered.items v.left.items)) }
+    ensures { IfOk result (λ found. IfSome found (λ v.
+        IsWalk parents.now v.entered.items v.left.items)) }
 {
     let draft = make_draft(alloc, parents)?;
     if are_placed(parents, &draft) {

@@ -1,9 +1,9 @@
 //! The roots of the trees in which each provider is available.
 ghost use Rattle.std.specs.Prelude.{◌≡◌, ◌≤◌, ◌<◌, ◌+◌, ◌++◌, ◌∷◌, ℕ, true, false, None, Some, [], map, length, get_or, IfOk, IfSome};
 ghost use Rattle.std.specs.Option.{is_some};
-ghost use Rattle.ac_tables.specs.Anchors.{is_met, meets, is_joining, joined, list_of, list_items, is_marked, AreAsked, AreJoined, IsAlone};
-ghost use Rattle.ac_tables.specs.ListsOf.{lists_of};
-ghost use Rattle.ac_tables.specs.Places.{ArePlaces};
+ghost use Rattle.ac_tables.specs.Cloud.Anchors.{is_met, meets, is_joining, joined, list_of, list_items, is_marked, AreAsked, AreJoined, IsAlone};
+ghost use Rattle.ac_tables.specs.Reader.ListsOf.{lists_of};
+ghost use Rattle.ac_tables.specs.Cloud.Places.{ArePlaces};
 
 use crate::cloud::kept_lists::Kept;
 use crate::cloud::roots_by_aggregate::Groups;
@@ -27,7 +27,8 @@ fn find_alike(
     ids: &[Id],
 ) -> Option<u32>
     requires { length places.now ≤ length asked.now }
-    ensures { IfSome result (λ k. (j : ℕ) × (j < length places.now) × (get_or places.now j None ≡ Some k) × (list_of asked.now j ≡ ids.now)) }
+    ensures { IfSome result (λ k. (j : ℕ) × (j < length places.now)
+        × (get_or places.now j None ≡ Some k) × (list_of asked.now j ≡ ids.now)) }
 {
     let other = *known.get(ids)? as usize;
     if other < places.len() && asked[other].as_slice() == ids {
@@ -54,7 +55,8 @@ struct Members<'a> {
 impl<'a> Members<'a> {
     // The roots of the providers of some aggregates, rising.
     fn join(&self, alloc: Global, ids: &[Id]) -> Result<Vec<u32>, AllocError>
-        ensures { IfOk result (λ list. list.items ≡ joined self.now.roots.now (lists_of self.now.aggregates.now) ids.now) }
+        ensures { IfOk result (λ list. list.items
+            ≡ joined self.now.roots.now (lists_of self.now.aggregates.now) ids.now) }
     {
         let list = self.groups.join(alloc, ids)?;
         Ok(list)
@@ -69,12 +71,17 @@ impl<'a> Members<'a> {
         ids: &[Id],
     ) -> Result<(Kept, u32), AllocError>
         requires few { length kept.lists.items < 65536 }
-        requires alike { IfSome alike (λ k. (k < length kept.lists.items) × (list_of kept.lists.items k ≡ joined self.now.roots.now (lists_of self.now.aggregates.now) ids.now)) }
-        ensures grown { IfOk result (λ new. length new.0.lists.items ≤ length kept.lists.items + 1) }
+        requires alike { IfSome alike (λ k. (k < length kept.lists.items)
+            × (list_of kept.lists.items k ≡ joined self.now.roots.now
+            (lists_of self.now.aggregates.now) ids.now)) }
+        ensures grown { IfOk result (λ new. length new.0.lists.items
+            ≤ length kept.lists.items + 1) }
         ensures rest { IfOk result (λ new. length kept.lists.items ≤ length new.0.lists.items) }
         ensures inside { IfOk result (λ new. new.1 < length new.0.lists.items) }
-        ensures here { IfOk result (λ new. list_of new.0.lists.items new.1 ≡ joined self.now.roots.now (lists_of self.now.aggregates.now) ids.now) }
-        ensures stay { IfOk result (λ new. (k : ℕ) → k < length kept.lists.items → list_of new.0.lists.items k ≡ list_of kept.lists.items k) }
+        ensures here { IfOk result (λ new. list_of new.0.lists.items new.1
+            ≡ joined self.now.roots.now (lists_of self.now.aggregates.now) ids.now) }
+        ensures stay { IfOk result (λ new. (k : ℕ) → k < length kept.lists.items
+            → list_of new.0.lists.items k ≡ list_of kept.lists.items k) }
     {
         match alike {
             Some(place) => Ok((kept, place)),
@@ -95,10 +102,15 @@ impl<'a> Members<'a> {
     ) -> Result<(Kept, Option<u32>), AllocError>
         requires more { length places.now < length self.now.roots.now }
         requires few { length kept.lists.items ≤ length places.now }
-        requires joined { AreAsked self.now.roots.now (lists_of self.now.aggregates.now) (map list_items self.now.asked.now) kept.lists.items places.now }
-        ensures grown { IfOk result (λ new. length new.0.lists.items ≤ length kept.lists.items + 1) }
-        ensures joined { IfOk result (λ new. AreAsked self.now.roots.now (lists_of self.now.aggregates.now) (map list_items self.now.asked.now) new.0.lists.items (places.now ++ new.1 ∷ [])) }
-        ensures marked { IfOk result (λ new. is_some new.1 ≡ is_joining true (list_of self.now.asked.now (length places.now))) }
+        requires joined { AreAsked self.now.roots.now (lists_of self.now.aggregates.now)
+            (map list_items self.now.asked.now) kept.lists.items places.now }
+        ensures grown { IfOk result (λ new. length new.0.lists.items
+            ≤ length kept.lists.items + 1) }
+        ensures joined { IfOk result (λ new.
+            AreAsked self.now.roots.now (lists_of self.now.aggregates.now)
+            (map list_items self.now.asked.now) new.0.lists.items (places.now ++ new.1 ∷ [])) }
+        ensures marked { IfOk result (λ new. is_some new.1
+            ≡ is_joining true (list_of self.now.asked.now (length places.now))) }
     {
         let ids = self.asked[places.len()].as_slice();
         if ids.is_empty() {
@@ -112,9 +124,15 @@ impl<'a> Members<'a> {
 
 // The lists of all providers, where these aggregates are asked of each.
 fn find_lists(alloc: Global, members: &Members) -> Result<Anchors, AllocError>
-    ensures length { IfOk result (λ anchors. length anchors.places.items ≡ length members.now.roots.now) }
-    ensures joined { IfOk result (λ anchors. AreAsked members.now.roots.now (lists_of members.now.aggregates.now) (map list_items members.now.asked.now) anchors.lists.items anchors.places.items) }
-    ensures marked { IfOk result (λ anchors. (j : ℕ) → j < length members.now.roots.now → is_some (get_or anchors.places.items j None) ≡ is_joining true (list_of members.now.asked.now j)) }
+    ensures length { IfOk result (λ anchors.
+        length anchors.places.items ≡ length members.now.roots.now) }
+    ensures joined { IfOk result (λ anchors.
+        AreAsked members.now.roots.now (lists_of members.now.aggregates.now)
+        (map list_items members.now.asked.now) anchors.lists.items anchors.places.items) }
+    ensures marked { IfOk result (λ anchors.
+        (j : ℕ) → j < length members.now.roots.now
+        → is_some (get_or anchors.places.items j None)
+        ≡ is_joining true (list_of members.now.asked.now j)) }
 {
     let mut kept = Kept::new(alloc);
     let mut places = Vec::new(alloc);
@@ -145,9 +163,15 @@ pub(crate) fn find_anchors(
     requires sharing { length sharing.now ≡ length roots.now }
     requires aggregates { length (lists_of aggregates.now) ≡ length roots.now }
     ensures length { IfOk result (λ anchors. length anchors.places.items ≡ length roots.now) }
-    ensures joined { IfOk result (λ anchors. AreJoined roots.now (lists_of aggregates.now) anchors.lists.items anchors.places.items) }
-    ensures marked { IfOk result (λ anchors. (j : ℕ) → j < length roots.now → is_some (get_or anchors.places.items j None) ≡ true → is_marked sharing.now (lists_of aggregates.now) j ≡ true) }
-    ensures alone { IfOk result (λ anchors. (j : ℕ) → j < length roots.now → is_some (get_or anchors.places.items j None) ≡ false → is_marked sharing.now (lists_of aggregates.now) j ≡ true → IsAlone roots.now (lists_of aggregates.now) j) }
+    ensures joined { IfOk result (λ anchors.
+        AreJoined roots.now (lists_of aggregates.now) anchors.lists.items anchors.places.items) }
+    ensures marked { IfOk result (λ anchors.
+        (j : ℕ) → j < length roots.now → is_some (get_or anchors.places.items j None) ≡ true
+        → is_marked sharing.now (lists_of aggregates.now) j ≡ true) }
+    ensures alone { IfOk result (λ anchors. (j : ℕ) → j < length roots.now
+        → is_some (get_or anchors.places.items j None) ≡ false
+        → is_marked sharing.now (lists_of aggregates.now) j ≡ true
+        → IsAlone roots.now (lists_of aggregates.now) j) }
 {
     let groups = Groups::gather(alloc, roots, aggregates)?;
     let asked = groups.ask(alloc, sharing, aggregates)?;

@@ -1,6 +1,6 @@
 //! A walk over a forest as it is made. What is made is checked afterwards, place by place.
 ghost use Rattle.std.specs.Prelude.{◌≡◌, ◌≤◌, length, IfOk};
-ghost use Rattle.ac_tables.specs.Places.{AreParents};
+ghost use Rattle.ac_tables.specs.Cloud.Places.{AreParents};
 
 use std::alloc::{AllocError, Global};
 

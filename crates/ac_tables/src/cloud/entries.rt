@@ -7,11 +7,11 @@ ghost use Rattle.std.specs.Option.{unwrap_or, option_map, option_copied};
 ghost use Rattle.std.specs.Str.{bytes_eq};
 ghost use Rattle.ac_base.specs.Names.{class_bytes};
 ghost use Rattle.ac_base.specs.Texts.{text_cmp};
-ghost use Rattle.ac_tables.specs.Entries.{entry_pair};
-ghost use Rattle.ac_tables.specs.InventoryRows.{class_pair};
-ghost use Rattle.ac_tables.specs.EntryLists.{entry_of, with_used_lists};
-ghost use Rattle.ac_tables.specs.TableRows.{AreStarts};
-ghost use Rattle.ac_tables.specs.ListsOf.{lists_of};
+ghost use Rattle.ac_tables.specs.Cloud.Entries.{entry_pair};
+ghost use Rattle.ac_tables.specs.Reader.InventoryRows.{class_pair};
+ghost use Rattle.ac_tables.specs.Cloud.EntryLists.{entry_of, with_used_lists};
+ghost use Rattle.ac_tables.specs.Reader.TableRows.{AreStarts};
+ghost use Rattle.ac_tables.specs.Reader.ListsOf.{lists_of};
 
 use crate::cloud::entry::Entry;
 use crate::reader::lists::Lists;
@@ -25,7 +25,8 @@ fn find_usage<'a>(
     class: &ClassName,
 ) -> Option<&'a TableRow<ClassName, u32>>
     requires { IsStrictlySortedBy text_cmp (map (λ r. class_bytes r.key) usages.now) }
-    ensures { option_map (λ r. r.value) (option_copied result) ≡ lookup (bytes_eq (class_bytes class.now)) (map class_pair usages.now) }
+    ensures { option_map (λ r. r.value) (option_copied result)
+        ≡ lookup (bytes_eq (class_bytes class.now)) (map class_pair usages.now) }
 {
     match usages.binary_search_by(|row| row.key.cmp(class)) {
         Ok(place) => Some(&usages[place]),
@@ -36,7 +37,8 @@ fn find_usage<'a>(
 // How much of a class a provider has used.
 fn amount_of(usages: &[TableRow<ClassName, u32>], class: &ClassName) -> u32
     requires { IsStrictlySortedBy text_cmp (map (λ r. class_bytes r.key) usages.now) }
-    ensures { result ≡ unwrap_or (lookup (bytes_eq (class_bytes class.now)) (map class_pair usages.now)) 0 }
+    ensures { result ≡ unwrap_or (lookup (bytes_eq (class_bytes class.now))
+        (map class_pair usages.now)) 0 }
 {
     match find_usage(usages, class) {
         Some(row) => row.value,
@@ -51,8 +53,10 @@ fn make_entries(
     usages: &Lists<TableRow<ClassName, u32>>,
 ) -> Result<Vec<Entry>, AllocError>
     requires inside { All (λ r. r.place < length (lists_of usages.now)) inventories.items }
-    requires rising { All (λ rs. IsStrictlySortedBy text_cmp (map (λ r. class_bytes r.key) rs)) (lists_of usages.now) }
-    ensures { IfOk result (λ entries. entries.items ≡ map (entry_of (lists_of usages.now)) inventories.items) }
+    requires rising { All (λ rs. IsStrictlySortedBy text_cmp (map (λ r. class_bytes r.key) rs))
+        (lists_of usages.now) }
+    ensures { IfOk result (λ entries. entries.items
+        ≡ map (entry_of (lists_of usages.now)) inventories.items) }
 {
     let mut entries = Vec::new(alloc);
     for row in inventories {
@@ -72,10 +76,14 @@ pub(crate) fn join(
     inventories: Lists<TableRow<ClassName, Inventory>>,
     usages: &Lists<TableRow<ClassName, u32>>,
 ) -> Result<Lists<Entry>, AllocError>
-    requires started { AreStarts (length (lists_of usages.now)) inventories.items.items inventories.starts.items }
+    requires started { AreStarts (length (lists_of usages.now)) inventories.items.items
+        inventories.starts.items }
     requires inside { All (λ r. r.place < length (lists_of usages.now)) inventories.items.items }
-    requires rising { All (λ rs. IsStrictlySortedBy text_cmp (map (λ r. class_bytes r.key) rs)) (lists_of usages.now) }
-    ensures { IfOk result (λ entries. map (map entry_pair) (lists_of entries) ≡ with_used_lists (map (map class_pair) (lists_of usages.now)) (map (map class_pair) (lists_of inventories))) }
+    requires rising { All (λ rs. IsStrictlySortedBy text_cmp (map (λ r. class_bytes r.key) rs))
+        (lists_of usages.now) }
+    ensures { IfOk result (λ entries. map (map entry_pair) (lists_of entries)
+        ≡ with_used_lists (map (map class_pair) (lists_of usages.now))
+        (map (map class_pair) (lists_of inventories))) }
 {
     let Lists { items, starts } = inventories;
     let items = make_entries(alloc, items, usages)?;

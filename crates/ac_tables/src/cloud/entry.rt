@@ -13,7 +13,7 @@ pub struct Entry {
 }
 
 impl Entry {
-    ghost use Rattle.ac_tables.specs.Entries.{entry_class, entry_held};
+    ghost use Rattle.ac_tables.specs.Cloud.Entries.{entry_class, entry_value};
 
     /// The resource class.
     pub fn class(&self) -> &ClassName
@@ -24,14 +24,14 @@ impl Entry {
 
     /// The inventory.
     pub fn inventory(&self) -> &Inventory
-        ensures { result.now ≡ (entry_held self.now).stock }
+        ensures { result.now ≡ (entry_value self.now).inventory }
     {
         &self.inventory
     }
 
     /// How much of it is used, 0 where the usages tell nothing of it; it may be more than the capacity.
     pub fn used(&self) -> u32
-        ensures { result ≡ (entry_held self.now).used }
+        ensures { result ≡ (entry_value self.now).used }
     {
         self.used
     }

@@ -8,9 +8,9 @@ ghost use Rattle.std.specs.Ordering.{nat_cmp};
 ghost use Rattle.std.specs.Str.{bytes_eq};
 ghost use Rattle.ac_base.specs.Names.{class_bytes, trait_bytes};
 ghost use Rattle.ac_base.specs.Texts.{text_cmp};
-ghost use Rattle.ac_tables.specs.Entries.{entry_class, entry_held, entry_pair};
-ghost use Rattle.ac_tables.specs.Anchors.{shares_by};
-ghost use Rattle.ac_tables.specs.ListsOf.{lists_of};
+ghost use Rattle.ac_tables.specs.Cloud.Entries.{entry_class, entry_value, entry_pair};
+ghost use Rattle.ac_tables.specs.Cloud.Anchors.{shares_by};
+ghost use Rattle.ac_tables.specs.Reader.ListsOf.{lists_of};
 
 use crate::cloud::entry::Entry;
 use crate::reader::lists::Lists;
@@ -20,7 +20,8 @@ use std::alloc::{AllocError, Global};
 // The entry of a class.
 pub(crate) fn find_entry<'a>(entries: &'a [Entry], class: &ClassName) -> Option<&'a Entry>
     requires { IsStrictlySortedBy text_cmp (map entry_class entries.now) }
-    ensures { option_map entry_held (option_copied result) ≡ lookup (bytes_eq (class_bytes class.now)) (map entry_pair entries.now) }
+    ensures { option_map entry_value (option_copied result)
+        ≡ lookup (bytes_eq (class_bytes class.now)) (map entry_pair entries.now) }
 {
     match entries.binary_search_by(|entry| entry.class().cmp(class)) {
         Ok(place) => Some(&entries[place]),

@@ -1,7 +1,7 @@
 //! Where the chains of parents lead, for all places of a forest at once.
 ghost use Rattle.std.specs.Prelude.{◌≡◌, ◌≤◌, ◌<◌, ◌%◌, ℕ, length, get_or, IfOk};
 ghost use Rattle.ac_tables.specs.Trees.{climb, up, top};
-ghost use Rattle.ac_tables.specs.Places.{parent_in, along, AreParents, ArePlaces};
+ghost use Rattle.ac_tables.specs.Cloud.Places.{parent_in, along, AreParents, ArePlaces};
 
 use std::alloc::{AllocError, Global};
 
@@ -9,7 +9,8 @@ use std::alloc::{AllocError, Global};
 fn follow_odd(mut places: Vec<u32>, step: &[u32], left: usize) -> Vec<u32>
     requires { ArePlaces (length step.now) places.items }
     ensures length { length result.items ≡ length places.items }
-    ensures places { (i : ℕ) → i < length places.items → get_or result.items i 0 ≡ climb (along step.now) (left % 2) (get_or places.items i 0) }
+    ensures places { (i : ℕ) → i < length places.items
+        → get_or result.items i 0 ≡ climb (along step.now) (left % 2) (get_or places.items i 0) }
 {
     if left % 2 == 0 {
         return places;
@@ -24,7 +25,8 @@ fn follow_odd(mut places: Vec<u32>, step: &[u32], left: usize) -> Vec<u32>
 fn doubled(alloc: Global, step: &[u32]) -> Result<Vec<u32>, AllocError>
     requires { ArePlaces (length step.now) step.now }
     ensures length { IfOk result (λ twice. length twice.items ≡ length step.now) }
-    ensures steps { IfOk result (λ twice. (i : ℕ) → i < length step.now → get_or twice.items i 0 ≡ get_or step.now (get_or step.now i 0) 0) }
+    ensures steps { IfOk result (λ twice. (i : ℕ) → i < length step.now
+        → get_or twice.items i 0 ≡ get_or step.now (get_or step.now i 0) 0) }
 {
     let mut twice = Vec::new(alloc);
     for &place in step {
@@ -38,7 +40,8 @@ fn steps_up(alloc: Global, parents: &[Option<u32>]) -> Result<Vec<u32>, AllocErr
     requires few { length parents.now ≤ 65536 }
     requires known { AreParents parents.now }
     ensures length { IfOk result (λ step. length step.items ≡ length parents.now) }
-    ensures steps { IfOk result (λ step. (i : ℕ) → i < length parents.now → get_or step.items i 0 ≡ up (parent_in parents.now) i) }
+    ensures steps { IfOk result (λ step. (i : ℕ) → i < length parents.now
+        → get_or step.items i 0 ≡ up (parent_in parents.now) i) }
 {
     let mut step = Vec::new(alloc);
     for i in 0..parents.len() {
@@ -65,7 +68,8 @@ pub(crate) fn find_tops(alloc: Global, parents: &[Option<u32>]) -> Result<Vec<u3
     requires few { length parents.now ≤ 65536 }
     requires known { AreParents parents.now }
     ensures length { IfOk result (λ tops. length tops.items ≡ length parents.now) }
-    ensures tops { IfOk result (λ tops. (i : ℕ) → i < length parents.now → get_or tops.items i 0 ≡ top (parent_in parents.now) (length parents.now) i) }
+    ensures tops { IfOk result (λ tops. (i : ℕ) → i < length parents.now
+        → get_or tops.items i 0 ≡ top (parent_in parents.now) (length parents.now) i) }
 {
     let mut step = steps_up(alloc, parents)?;
     let mut places = identity(alloc, parents.len())?;

@@ -5,8 +5,8 @@ ghost use Rattle.std.specs.List.Sorted.{IsStrictlySortedBy};
 ghost use Rattle.std.specs.Ordering.{nat_cmp};
 ghost use Rattle.std.specs.BTreeMap.{get, is_at};
 ghost use Rattle.std.specs.BTreeSet.{contains};
-ghost use Rattle.ac_tables.specs.Anchors.{roots_in, is_met, is_among, meets, is_lone, wide, shared_ids, asked_at, list_of};
-ghost use Rattle.ac_tables.specs.ListsOf.{lists_of};
+ghost use Rattle.ac_tables.specs.Cloud.Anchors.{roots_in, is_met, is_among, meets, is_lone, wide, shared_ids, asked_at, list_of};
+ghost use Rattle.ac_tables.specs.Reader.ListsOf.{lists_of};
 
 use crate::reader::lists::Lists;
 use ac_base::Id;
@@ -31,7 +31,8 @@ impl Groups {
     // What was gathered of an aggregate, taken out.
     fn take(&mut self, alloc: Global, aggregate: Id) -> Vec<u32>
         ensures taken { result.items ≡ roots_in (get nat_cmp self.old.map aggregate) }
-        ensures rest { (q : ℕ) → get nat_cmp self.new.map q ≡ (if is_at (nat_cmp aggregate) q then None else get nat_cmp self.old.map q) }
+        ensures rest { (q : ℕ) → get nat_cmp self.new.map q
+            ≡ (if is_at (nat_cmp aggregate) q then None else get nat_cmp self.old.map q) }
     {
         match self.map.remove(&aggregate) {
             Some(roots) => roots,
@@ -41,7 +42,8 @@ impl Groups {
 
     // These and one more root of an aggregate.
     fn with(self, alloc: Global, aggregate: Id, root: u32) -> Result<Groups, AllocError>
-        ensures { IfOk result (λ new. (a r : ℕ) → is_met new.map a r ≡ (is_met self.map a r || ((root == r) && (aggregate == a)))) }
+        ensures { IfOk result (λ new. (a r : ℕ) → is_met new.map a r
+            ≡ (is_met self.map a r || ((root == r) && (aggregate == a)))) }
     {
         let mut groups = self;
         let roots = groups.take(alloc, aggregate);
@@ -51,7 +53,8 @@ impl Groups {
 
     // These and one more root of each of some aggregates.
     fn with_all(self, alloc: Global, aggregates: &[Id], root: u32) -> Result<Groups, AllocError>
-        ensures { IfOk result (λ new. (a r : ℕ) → is_met new.map a r ≡ (is_met self.map a r || ((root == r) && is_among a aggregates.now))) }
+        ensures { IfOk result (λ new. (a r : ℕ) → is_met new.map a r
+            ≡ (is_met self.map a r || ((root == r) && is_among a aggregates.now))) }
     {
         let mut groups = self;
         for aggregate in aggregates {
@@ -67,7 +70,9 @@ impl Groups {
         aggregates: &Lists<Id>,
     ) -> Result<Groups, AllocError>
         requires { length (lists_of aggregates.now) ≡ length roots.now }
-        ensures { IfOk result (λ groups. (a r : ℕ) → is_met groups.map a r ≡ meets roots.now (lists_of aggregates.now) (length roots.now) a r) }
+        ensures { IfOk result (λ groups. (a r : ℕ)
+            → is_met groups.map a r ≡ meets roots.now (lists_of aggregates.now)
+            (length roots.now) a r) }
     {
         let mut groups = Groups::new(alloc);
         for place in 0..roots.len() {
@@ -112,7 +117,9 @@ impl Groups {
     ) -> Result<Vec<Vec<Id>>, AllocError>
         requires { length sharing.now ≡ length (lists_of aggregates.now) }
         ensures length { IfOk result (λ asked. length asked.items ≡ length sharing.now) }
-        ensures each { IfOk result (λ asked. (j : ℕ) → j < length sharing.now → list_of asked.items j ≡ asked_at self.now.map sharing.now (lists_of aggregates.now) j) }
+        ensures each { IfOk result (λ asked. (j : ℕ) → j < length sharing.now
+            → list_of asked.items j ≡ asked_at self.now.map sharing.now
+            (lists_of aggregates.now) j) }
     {
         let mut asked = Vec::new(alloc);
         for place in 0..sharing.len() {
@@ -124,7 +131,8 @@ impl Groups {
 
     // The roots of all these aggregates.
     fn union(&self, alloc: Global, aggregates: &[Id]) -> Result<BTreeSet<u32>, AllocError>
-        ensures { IfOk result (λ set. (r : ℕ) → contains nat_cmp set r ≡ list_any (λ a. is_met self.now.map a r) aggregates.now) }
+        ensures { IfOk result (λ set. (r : ℕ) → contains nat_cmp set r
+            ≡ list_any (λ a. is_met self.now.map a r) aggregates.now) }
     {
         let mut set = BTreeSet::new(alloc);
         for aggregate in aggregates {
@@ -136,7 +144,9 @@ impl Groups {
     // The roots of all these aggregates, rising.
     pub(crate) fn join(&self, alloc: Global, aggregates: &[Id]) -> Result<Vec<u32>, AllocError>
         ensures rising { IfOk result (λ list. IsStrictlySortedBy nat_cmp list.items) }
-        ensures roots { IfOk result (λ list. (r : ℕ) → list_any (λ x. x == r) list.items ≡ list_any (λ a. is_met self.now.map a r) aggregates.now) }
+        ensures roots { IfOk result (λ list. (r : ℕ)
+            → list_any (λ x. x == r) list.items
+            ≡ list_any (λ a. is_met self.now.map a r) aggregates.now) }
     {
         let set = self.union(alloc, aggregates)?;
         let _count = set.len();
@@ -146,7 +156,8 @@ impl Groups {
 
 // These roots and one more, unless it is the last of them.
 fn with_root(roots: Vec<u32>, root: u32) -> Result<Vec<u32>, AllocError>
-    ensures { IfOk result (λ new. (r : ℕ) → list_any (λ x. x == r) new.items ≡ (list_any (λ x. x == r) roots.items || (root == r))) }
+    ensures { IfOk result (λ new. (r : ℕ) → list_any (λ x. x == r) new.items
+        ≡ (list_any (λ x. x == r) roots.items || (root == r))) }
 {
     let mut all = roots;
     let count = all.len();
@@ -166,7 +177,8 @@ fn shared_ids(shares: bool, ids: &[Id]) -> &[Id]
 
 // These roots and some more.
 fn with_roots(set: BTreeSet<u32>, roots: &[u32]) -> Result<BTreeSet<u32>, AllocError>
-    ensures { IfOk result (λ new. (r : ℕ) → contains nat_cmp new r ≡ (contains nat_cmp set r || list_any (λ x. x == r) roots.now)) }
+    ensures { IfOk result (λ new. (r : ℕ) → contains nat_cmp new r
+        ≡ (contains nat_cmp set r || list_any (λ x. x == r) roots.now)) }
 {
     let mut all = set;
     for root in roots {

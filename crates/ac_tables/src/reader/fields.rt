@@ -2,10 +2,10 @@
 ghost use Rattle.std.specs.Prelude.{◌≡◌, None, IfOk, IfErr};
 ghost use Rattle.csv.specs.Records.{fields_of};
 ghost use Rattle.ac_base.specs.Names.{class_bytes};
-ghost use Rattle.ac_tables.specs.Checks.{first_failing, unless, TellsKind};
-ghost use Rattle.ac_tables.specs.Columns.{id_in, text_in};
-ghost use Rattle.ac_tables.specs.ColumnPlaces.{place_in};
-ghost use Rattle.ac_tables.specs.InventoryTable.{provider_name, class_name, owner_checks, class_checks};
+ghost use Rattle.ac_tables.specs.Tables.Checks.{first_failing, unless, TellsKind};
+ghost use Rattle.ac_tables.specs.Tables.Columns.{id_in, text_in};
+ghost use Rattle.ac_tables.specs.Reader.ColumnPlaces.{place_in};
+ghost use Rattle.ac_tables.specs.Tables.InventoryTable.{provider_name, class_name, owner_checks, class_checks};
 
 use crate::fault::{RecordFault, TableKind};
 use crate::reader::records::text_at;
@@ -13,7 +13,7 @@ use ac_base::{ClassName, Id, Names};
 use csv::ByteRecord;
 
 // The provider to which a record belongs.
-#[tactic(auto, unfolding(crate::specs::InventoryTable::owner_checks))]
+#[tactic(auto, unfolding(crate::specs::Tables::InventoryTable::owner_checks))]
 pub(crate) fn read_owner(
     names: &mut Names,
     header: &ByteRecord,
@@ -21,7 +21,9 @@ pub(crate) fn read_owner(
     row: &ByteRecord,
 ) -> Result<Id, TableKind>
     requires { place ≡ place_in (fields_of header.now) provider_name }
-    ensures { result ≡ unless (first_failing (owner_checks (fields_of header.now) (fields_of row.now))) (id_in (fields_of header.now) provider_name (fields_of row.now)) }
+    ensures { result
+        ≡ unless (first_failing (owner_checks (fields_of header.now) (fields_of row.now)))
+        (id_in (fields_of header.now) provider_name (fields_of row.now)) }
 {
     if row.len() != header.len() {
         return Err(TableKind::Width);
@@ -33,7 +35,7 @@ pub(crate) fn read_owner(
 }
 
 // The class of a record.
-#[tactic(auto, unfolding(crate::specs::InventoryTable::class_checks), using(crate::proofs::NameFacts::named))]
+#[tactic(auto, unfolding(crate::specs::Tables::InventoryTable::class_checks), using(crate::proofs::NameFacts::named))]
 pub(crate) fn read_class(
     names: &mut Names,
     header: &ByteRecord,
@@ -41,9 +43,12 @@ pub(crate) fn read_class(
     row: &ByteRecord,
 ) -> Result<ClassName, RecordFault>
     requires { place ≡ place_in (fields_of header.now) class_name }
-    ensures ok { IfOk result (λ _. first_failing (class_checks (fields_of header.now) (fields_of row.now)) ≡ None) }
-    ensures class { IfOk result (λ class. class_bytes class ≡ text_in (fields_of header.now) class_name (fields_of row.now)) }
-    ensures fault { IfErr result (λ e. TellsKind (first_failing (class_checks (fields_of header.now) (fields_of row.now))) e) }
+    ensures ok { IfOk result (λ _.
+        first_failing (class_checks (fields_of header.now) (fields_of row.now)) ≡ None) }
+    ensures class { IfOk result (λ class. class_bytes class
+        ≡ text_in (fields_of header.now) class_name (fields_of row.now)) }
+    ensures fault { IfErr result (λ e.
+        TellsKind (first_failing (class_checks (fields_of header.now) (fields_of row.now))) e) }
 {
     match names.class(text_at(row, place))? {
         Some(class) => Ok(class),

@@ -1,11 +1,11 @@
 //! Reading the rows of any table, up to the first that has a fault of its own.
 ghost use Rattle.std.specs.Prelude.{◌≡◌, ◌≤◌, true, None, [], map, length, IfOk, IfErr, IfSome};
 ghost use Rattle.csv.specs.Records.{fields_of};
-ghost use Rattle.ac_tables.specs.Checks.{rows_fault, first_failing, Tells};
-ghost use Rattle.ac_tables.specs.Columns.{table_checks, said_by};
+ghost use Rattle.ac_tables.specs.Tables.Checks.{rows_fault, first_failing, Tells};
+ghost use Rattle.ac_tables.specs.Tables.Columns.{table_checks, said_by};
 ghost use Rattle.ac_tables.specs.Drain.{most_bytes};
-ghost use Rattle.ac_tables.specs.TableRows.{IsReadUpTo, IsLeastRepeat, IsTable};
-ghost use Rattle.ac_tables.specs.Rows.{IsReading, rows_left, records_of};
+ghost use Rattle.ac_tables.specs.Reader.TableRows.{IsReadUpTo, IsLeastRepeat, IsTable};
+ghost use Rattle.ac_tables.specs.Tables.Rows.{IsReading, rows_left, records_of};
 
 use crate::fault::{RecordFault, TableFault, TableKind};
 use crate::reader::header::open_table;
@@ -32,7 +32,9 @@ pub(crate) fn read_rows<T: Record>(
 ) -> Result<ReadRows<T::Key, T::Value>, NoMemory>
     requires reading { IsReading reader.old }
     requires few { length (rows_left reader.old) ≤ most_bytes }
-    ensures { IfOk result (λ v. IsReadUpTo (T.says (fields_of header.now)) (T.alone beside.now (fields_of header.now)) (T.shown beside.now) (T.count beside.now) (rows_left reader.old) v.rows.items v.fault) }
+    ensures { IfOk result (λ v.
+        IsReadUpTo (T.says (fields_of header.now)) (T.alone beside.now (fields_of header.now))
+        (T.shown beside.now) (T.count beside.now) (rows_left reader.old) v.rows.items v.fault) }
 {
     let columns = T::columns(header);
     let mut row = ByteRecord::new(alloc);
@@ -81,9 +83,15 @@ pub(crate) fn gather<T: Record>(
     requires reading { IsReading reader.old }
     requires few { length (rows_left reader.old) ≤ most_bytes }
     ensures few { IfOk result (λ rows. length rows.items ≤ most_bytes) }
-    ensures gathered { IfOk result (λ rows. IsTable T.Key.cmp (T.shown beside.now) (T.count beside.now) T.UNIQUE (map (T.says (fields_of header.now)) (rows_left reader.old)) rows.items) }
-    ensures ok { IfOk result (λ _. rows_fault T.TABLE (T.says (fields_of header.now)) (T.checks beside.now (fields_of header.now)) [] (rows_left reader.old) ≡ None) }
-    ensures fault { IfErr result (λ e. Tells (rows_fault T.TABLE (T.says (fields_of header.now)) (T.checks beside.now (fields_of header.now)) [] (rows_left reader.old)) e) }
+    ensures gathered { IfOk result (λ rows.
+        IsTable T.Key.cmp (T.shown beside.now) (T.count beside.now) T.UNIQUE
+        (map (T.says (fields_of header.now)) (rows_left reader.old)) rows.items) }
+    ensures ok { IfOk result (λ _.
+        rows_fault T.TABLE (T.says (fields_of header.now))
+        (T.checks beside.now (fields_of header.now)) [] (rows_left reader.old) ≡ None) }
+    ensures fault { IfErr result (λ e.
+        Tells (rows_fault T.TABLE (T.says (fields_of header.now))
+        (T.checks beside.now (fields_of header.now)) [] (rows_left reader.old)) e) }
 {
     let ReadRows { mut rows, fault } = read_rows::<T>(alloc, beside, reader, header)?;
     put_in_order(&mut rows)?;
@@ -112,9 +120,15 @@ pub(crate) fn read_table<T: Record>(
 ) -> Result<Vec<TableRow<T::Key, T::Value>>, TableFault>
     requires { length text.now ≤ most_bytes }
     ensures few { IfOk result (λ rows. length rows.items ≤ most_bytes) }
-    ensures rows { IfOk result (λ rows. IsTable T.Key.cmp (T.shown beside.now) (T.count beside.now) T.UNIQUE (said_by T.says (records_of text.now)) rows.items) }
-    ensures ok { IfOk result (λ _. first_failing (table_checks T.TABLE T.NAMES T.says (T.checks beside.now) (records_of text.now)) ≡ None) }
-    ensures fault { IfErr result (λ e. Tells (first_failing (table_checks T.TABLE T.NAMES T.says (T.checks beside.now) (records_of text.now))) e) }
+    ensures rows { IfOk result (λ rows.
+        IsTable T.Key.cmp (T.shown beside.now) (T.count beside.now) T.UNIQUE
+        (said_by T.says (records_of text.now)) rows.items) }
+    ensures ok { IfOk result (λ _.
+        first_failing (table_checks T.TABLE T.NAMES T.says (T.checks beside.now)
+        (records_of text.now)) ≡ None) }
+    ensures fault { IfErr result (λ e.
+        Tells (first_failing (table_checks T.TABLE T.NAMES T.says (T.checks beside.now)
+        (records_of text.now))) e) }
 {
     let mut header = ByteRecord::new(alloc);
     let mut reader = match open_table(alloc, T::TABLE, T::names(), text, &mut header) {

@@ -3,9 +3,9 @@ ghost use Rattle.std.specs.Prelude.{◌≡◌, ◌≤◌, None, length, IfOk, If
 ghost use Rattle.std.specs.List.{list_any};
 ghost use Rattle.std.specs.Option.{unwrap_or};
 ghost use Rattle.csv.specs.Records.{fields_of};
-ghost use Rattle.ac_tables.specs.Checks.{first_failing, Tells};
-ghost use Rattle.ac_tables.specs.Columns.{column, is_missing, is_double, header_checks, header_fault, bytes_of};
-ghost use Rattle.ac_tables.specs.Rows.{records_of, rows_left, IsReading};
+ghost use Rattle.ac_tables.specs.Tables.Checks.{first_failing, Tells};
+ghost use Rattle.ac_tables.specs.Tables.Columns.{column, is_missing, is_double, header_checks, header_fault, bytes_of};
+ghost use Rattle.ac_tables.specs.Tables.Rows.{records_of, rows_left, IsReading};
 
 use crate::fault::{Table, TableFault, TableKind};
 use crate::reader::records::{next_row, open_rows, text_at};
@@ -95,10 +95,13 @@ pub(crate) fn open_table<'a>(
     header: &mut ByteRecord,
 ) -> Result<Reader<&'a [u8]>, TableFault>
     ensures reading { IfOk result (λ reader. IsReading reader) }
-    ensures rows { IfOk result (λ reader. records_of text.now ≡ fields_of header.new ∷ rows_left reader) }
-    ensures ok { IfOk result (λ _. header_fault table (bytes_of names.now) (records_of text.now) ≡ None) }
+    ensures rows { IfOk result (λ reader. records_of text.now
+        ≡ fields_of header.new ∷ rows_left reader) }
+    ensures ok { IfOk result (λ _. header_fault table (bytes_of names.now) (records_of text.now)
+        ≡ None) }
     ensures few { IfOk result (λ reader. length (rows_left reader) ≤ length text.now) }
-    ensures fault { IfErr result (λ e. Tells (header_fault table (bytes_of names.now) (records_of text.now)) e) }
+    ensures fault { IfErr result (λ e.
+        Tells (header_fault table (bytes_of names.now) (records_of text.now)) e) }
 {
     let mut reader = open_rows(alloc, text);
     if next_row(&mut reader, header)? {

@@ -2,7 +2,7 @@
 ghost use Rattle.std.specs.Prelude.{◌≡◌, ◌≤◌, ◌<◌, ◌-◌, [], length, get_or, take, drop};
 ghost use Rattle.std.specs.List.{sum_by};
 ghost use Rattle.std.proofs.Props.{props};
-ghost use Rattle.ac_tables.specs.ListBounds.{AreBounds};
+ghost use Rattle.ac_tables.specs.Reader.ListBounds.{AreBounds};
 
 // A list for each provider: where it starts, and behind all lists where the last one ends.
 #[derive(Drop)]
@@ -22,7 +22,7 @@ fn cut<X>(items: &[X], from: usize, to: usize) -> &[X]
 }
 
 impl<X> Lists<X> {
-    ghost use Rattle.ac_tables.specs.ListsOf.{lists_of};
+    ghost use Rattle.ac_tables.specs.Reader.ListsOf.{lists_of};
 
     // How many lists there are.
     pub(crate) fn len(&self) -> usize

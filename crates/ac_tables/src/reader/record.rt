@@ -3,9 +3,9 @@ ghost use Rattle.std.specs.Prelude.{◌≡◌, ◌<◌, ◌&&◌, ℕ, Bool, Lis
 ghost use Rattle.ac_tables.specs.declared.fault.Table.{Table};
 ghost use Rattle.csv.specs.Records.{fields_of};
 ghost use Rattle.std.specs.Ordering.{nat_cmp, ordering_then, is_eq};
-ghost use Rattle.ac_tables.specs.TableRows.{IsKeyed};
-ghost use Rattle.ac_tables.specs.Checks.{Row, Check, first_failing, TellsKind};
-ghost use Rattle.ac_tables.specs.Columns.{bytes_of};
+ghost use Rattle.ac_tables.specs.Reader.TableRows.{IsKeyed};
+ghost use Rattle.ac_tables.specs.Tables.Checks.{Row, Check, first_failing, TellsKind};
+ghost use Rattle.ac_tables.specs.Tables.Columns.{bytes_of};
 
 use crate::fault::{RecordFault, Table};
 use ac_base::Names;
@@ -81,10 +81,14 @@ pub(crate) trait Record {
         row: &ByteRecord,
     ) -> Result<(u32, Self::Key, Self::Value), RecordFault>
         requires { columns ≡ places (fields_of header.now) }
-        ensures ok { IfOk result (λ _. first_failing (alone beside.now (fields_of header.now) (fields_of row.now)) ≡ None) }
+        ensures ok { IfOk result (λ _.
+            first_failing (alone beside.now (fields_of header.now) (fields_of row.now)) ≡ None) }
         ensures inside { IfOk result (λ v. v.0 < count beside.now) }
-        ensures value { IfOk result (λ v. shown beside.now v.0 v.1 v.2 ≡ says (fields_of header.now) (fields_of row.now)) }
-        ensures fault { IfErr result (λ e. TellsKind (first_failing (alone beside.now (fields_of header.now) (fields_of row.now))) e) };
+        ensures value { IfOk result (λ v. shown beside.now v.0 v.1 v.2
+            ≡ says (fields_of header.now) (fields_of row.now)) }
+        ensures fault { IfErr result (λ e.
+            TellsKind (first_failing (alone beside.now (fields_of header.now) (fields_of row.now)))
+            e) };
 
     ghost keyed: { (beside : Self.Beside) (header : Row) → IsKeyed (says header) (checks beside header) (alone beside header) same };
 

@@ -1,6 +1,6 @@
 //! Faults of records with their numbers.
 ghost use Rattle.std.specs.Prelude.{◌≡◌};
-ghost use Rattle.ac_tables.specs.Checks.{fault_at};
+ghost use Rattle.ac_tables.specs.Tables.Checks.{fault_at};
 
 use crate::fault::{RecordFault, Table, TableFault};
 

@@ -1,7 +1,7 @@
 //! The records of a table, one by one.
 ghost use Rattle.std.specs.Prelude.{◌≡◌, [], get_or, IfOk, true};
 ghost use Rattle.csv.specs.Records.{fields_of};
-ghost use Rattle.ac_tables.specs.Rows.{records_of, rows_left, IsReading, Gives};
+ghost use Rattle.ac_tables.specs.Tables.Rows.{records_of, rows_left, IsReading, Gives};
 
 use ac_base::NoMemory;
 use csv::{ByteRecord, Reader, ReaderBuilder};
@@ -21,7 +21,8 @@ pub(crate) fn open_rows<'a>(alloc: Global, text: &'a [u8]) -> Reader<&'a [u8]>
 // The next record into `row`, and whether there was one. Over bytes in memory nothing but a refused growth fails.
 pub(crate) fn next_row(reader: &mut Reader<&[u8]>, row: &mut ByteRecord) -> Result<bool, NoMemory>
     requires { IsReading reader.old }
-    ensures gives { IfOk result (λ found. Gives (rows_left reader.old) found (fields_of row.new) (rows_left reader.new)) }
+    ensures gives { IfOk result (λ found.
+        Gives (rows_left reader.old) found (fields_of row.new) (rows_left reader.new)) }
     ensures goes_on { IfOk result (λ found. found ≡ true → IsReading reader.new) }
 {
     reader.read_byte_record(row).ok().ok_or(NoMemory)

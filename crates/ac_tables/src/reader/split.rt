@@ -2,8 +2,8 @@
 ghost use Rattle.std.specs.Prelude.{◌≡◌, ◌≤◌, ◌<◌, ◌==◌, map, length, IfOk};
 ghost use Rattle.std.specs.List.{All, filter, range_with_len};
 ghost use Rattle.std.specs.List.Sorted.{IsNonDecreasingBy};
-ghost use Rattle.ac_tables.specs.TableRows.{AreStarts};
-ghost use Rattle.ac_tables.specs.ListsOf.{lists_of};
+ghost use Rattle.ac_tables.specs.Reader.TableRows.{AreStarts};
+ghost use Rattle.ac_tables.specs.Reader.ListsOf.{lists_of};
 
 use crate::reader::lists::Lists;
 use crate::reader::row::TableRow;
@@ -21,7 +21,8 @@ pub(crate) fn split<K: Drop, X: Drop>(
     requires inside { All (λ r. r.place < count) rows.items }
     ensures rows { IfOk result (λ lists. lists.items.items ≡ rows.items) }
     ensures starts { IfOk result (λ lists. AreStarts count rows.items lists.starts.items) }
-    ensures lists { IfOk result (λ lists. lists_of lists ≡ map (λ p. filter (λ r. r.place == p) rows.items) (range_with_len 0 count)) }
+    ensures lists { IfOk result (λ lists. lists_of lists
+        ≡ map (λ p. filter (λ r. r.place == p) rows.items) (range_with_len 0 count)) }
 {
     let starts = find_starts(alloc, count as u32, &rows)?;
     Ok(Lists {

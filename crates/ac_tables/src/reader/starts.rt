@@ -8,10 +8,10 @@ ghost use Rattle.std.specs.Option.{option_map, option_copied};
 ghost use Rattle.std.specs.Str.{bytes_eq};
 ghost use Rattle.ac_base.specs.Names.{class_bytes};
 ghost use Rattle.ac_base.specs.Texts.{text_cmp};
-ghost use Rattle.ac_tables.specs.InventoryTable.{Holding};
-ghost use Rattle.ac_tables.specs.Tables.{stocks_of};
-ghost use Rattle.ac_tables.specs.InventoryRows.{AreInventories};
-ghost use Rattle.ac_tables.specs.TableRows.{AreStarts};
+ghost use Rattle.ac_tables.specs.Tables.InventoryTable.{InventoryRecord};
+ghost use Rattle.ac_tables.specs.Tables.{inventories_of};
+ghost use Rattle.ac_tables.specs.Reader.InventoryRows.{AreInventories};
+ghost use Rattle.ac_tables.specs.Reader.TableRows.{AreStarts};
 
 use crate::cloud::provider_index::Ids;
 use crate::reader::row::TableRow;
@@ -23,8 +23,10 @@ fn skip_below<K, X>(rows: &[TableRow<K, X>], from: usize, place: u32) -> usize
     requires from { from ≤ length rows.now }
     ensures from { from ≤ result }
     ensures inside { result ≤ length rows.now }
-    ensures below { (k : ℕ) (d : TableRow K X) → from ≤ k → k < result → (slice_index_or rows.now k d).place < place }
-    ensures next { (d : TableRow K X) → result < length rows.now → place ≤ (slice_index_or rows.now result d).place }
+    ensures below { (k : ℕ) (d : TableRow K X) → from ≤ k → k < result
+        → (slice_index_or rows.now k d).place < place }
+    ensures next { (d : TableRow K X) → result < length rows.now
+        → place ≤ (slice_index_or rows.now result d).place }
 {
     for at in from..rows.len() {
         if rows[at].place >= place {

@@ -1,11 +1,11 @@
 //! A record of the table of aggregates.
 ghost use Rattle.std.specs.Prelude.{◌≡◌, false, [], length, get_or};
 ghost use Rattle.csv.specs.Records.{fields_of};
-ghost use Rattle.ac_tables.specs.Checks.{first_failing, unless};
-ghost use Rattle.ac_tables.specs.AggregateTable.{membership_in, membership_field_checks, Membership, aggregate_columns, membership_checks};
-ghost use Rattle.ac_tables.specs.ColumnPlaces.{membership_places};
-ghost use Rattle.ac_tables.specs.InventoryTable.{provider_name};
-ghost use Rattle.ac_tables.specs.RecordLaws.{memberships_keyed, memberships_apart};
+ghost use Rattle.ac_tables.specs.Tables.Checks.{first_failing, unless};
+ghost use Rattle.ac_tables.specs.Tables.AggregateTable.{aggregate_said, aggregate_field_checks, AggregateRecord, aggregate_columns, aggregate_record_checks};
+ghost use Rattle.ac_tables.specs.Reader.ColumnPlaces.{aggregate_places};
+ghost use Rattle.ac_tables.specs.Tables.InventoryTable.{provider_name};
+ghost use Rattle.ac_tables.specs.Reader.RecordLaws.{aggregates_keyed, aggregates_apart};
 ghost use Rattle.ac_tables.specs.declared.fault.Table.TheVariants as table;
 
 use crate::cloud::provider_index::Ids;
@@ -21,19 +21,19 @@ const AGGREGATE_COLUMNS: [&[u8]; 2] = [b"resource_provider", b"uuid"];
 
 // Where the columns stand.
 #[derive(Clone, Copy, Debug, PartialEq, Eq)]
-pub(crate) struct MembershipColumns {
+pub(crate) struct AggregateColumns {
     provider: usize,
     aggregate: usize,
 }
 
-impl MembershipColumns {
-    ghost use Rattle.ac_tables.specs.ColumnPlaces.{membership_places};
+impl AggregateColumns {
+    ghost use Rattle.ac_tables.specs.Reader.ColumnPlaces.{aggregate_places};
 
-    #[tactic(auto, unfolding(crate::specs::ColumnPlaces::membership_places, crate::specs::InventoryTable::provider_name, crate::specs::ProviderTable::uuid_name))]
-    pub(crate) fn of(header: &ByteRecord) -> MembershipColumns
-        ensures { result ≡ membership_places (fields_of header.now) }
+    #[tactic(auto, unfolding(crate::specs::Reader::ColumnPlaces::aggregate_places, crate::specs::Tables::InventoryTable::provider_name, crate::specs::Tables::ProviderTable::uuid_name))]
+    pub(crate) fn of(header: &ByteRecord) -> AggregateColumns
+        ensures { result ≡ aggregate_places (fields_of header.now) }
     {
-        MembershipColumns {
+        AggregateColumns {
             provider: column_at(header, b"resource_provider"),
             aggregate: column_at(header, b"uuid"),
         }
@@ -42,34 +42,36 @@ impl MembershipColumns {
 
 // What a record says.
 #[derive(Clone, Copy, Debug, PartialEq, Eq)]
-pub(crate) struct MembershipRow {
+pub(crate) struct AggregateRow {
     pub(crate) provider: Id,
     pub(crate) aggregate: Id,
 }
 
-impl Model for MembershipRow {
-    ghost use Rattle.ac_tables.specs.AggregateTable.{Membership};
+impl Model for AggregateRow {
+    ghost use Rattle.ac_tables.specs.Tables.AggregateTable.{AggregateRecord};
 
-    ghost Value = { Membership };
+    ghost Value = { AggregateRecord };
 
     ghost view = { λ a. record { provider = a.provider; aggregate = a.aggregate } };
 
     ghost inverse = { λ m. record { provider = m.provider; aggregate = m.aggregate } };
 }
 
-impl MembershipRow {
-    ghost use Rattle.ac_tables.specs.ColumnPlaces.{membership_places};
+impl AggregateRow {
+    ghost use Rattle.ac_tables.specs.Reader.ColumnPlaces.{aggregate_places};
 
     // What a record says, or the first fault of its fields.
-    #[tactic(auto, unfolding(crate::specs::ColumnPlaces::membership_places, crate::specs::AggregateTable::membership_in, crate::specs::AggregateTable::membership_field_checks, crate::specs::InventoryTable::owner_checks))]
+    #[tactic(auto, unfolding(crate::specs::Reader::ColumnPlaces::aggregate_places, crate::specs::Tables::AggregateTable::aggregate_said, crate::specs::Tables::AggregateTable::aggregate_field_checks, crate::specs::Tables::InventoryTable::owner_checks))]
     pub(crate) fn read(
         names: &mut Names,
         header: &ByteRecord,
-        columns: MembershipColumns,
+        columns: AggregateColumns,
         row: &ByteRecord,
-    ) -> Result<MembershipRow, TableKind>
-        requires { columns ≡ membership_places (fields_of header.now) }
-        ensures { result ≡ unless (first_failing (membership_field_checks (fields_of header.now) (fields_of row.now))) (membership_in (fields_of header.now) (fields_of row.now)) }
+    ) -> Result<AggregateRow, TableKind>
+        requires { columns ≡ aggregate_places (fields_of header.now) }
+        ensures { result
+            ≡ unless (first_failing (aggregate_field_checks (fields_of header.now)
+            (fields_of row.now))) (aggregate_said (fields_of header.now) (fields_of row.now)) }
     {
         if row.len() != header.len() {
             return Err(TableKind::Width);
@@ -80,7 +82,7 @@ impl MembershipRow {
         let Some(aggregate) = Id::read(text_at(row, columns.aggregate)) else {
             return Err(TableKind::BadUuid);
         };
-        Ok(MembershipRow {
+        Ok(AggregateRow {
             provider,
             aggregate,
         })
@@ -93,7 +95,7 @@ pub(crate) struct AggregateTable;
 impl Record for AggregateTable {
     type Beside = Ids;
 
-    type Columns = MembershipColumns;
+    type Columns = AggregateColumns;
 
     type Key = Id;
 
@@ -109,13 +111,13 @@ impl Record for AggregateTable {
 
     ghost UNIQUE = { false };
 
-    ghost Said = { Membership };
+    ghost Said = { AggregateRecord };
 
-    ghost says = { membership_in };
+    ghost says = { aggregate_said };
 
-    ghost checks = { λ ids. membership_checks ids.ids.items };
+    ghost checks = { λ ids. aggregate_record_checks ids.ids.items };
 
-    ghost alone = { λ ids header row. membership_checks ids.ids.items header [] row };
+    ghost alone = { λ ids header row. aggregate_record_checks ids.ids.items header [] row };
 
     ghost same = { λ _ _. false };
 
@@ -123,38 +125,38 @@ impl Record for AggregateTable {
 
     ghost shown = { λ ids place key _. record { provider = get_or ids.ids.items place 0; aggregate = key } };
 
-    ghost places = { membership_places };
+    ghost places = { aggregate_places };
 
-    #[tactic(auto, unfolding(crate::specs::AggregateTable::aggregate_columns, crate::specs::InventoryTable::provider_name, crate::specs::ProviderTable::uuid_name))]
+    #[tactic(auto, unfolding(crate::specs::Tables::AggregateTable::aggregate_columns, crate::specs::Tables::InventoryTable::provider_name, crate::specs::Tables::ProviderTable::uuid_name))]
     fn names() -> &'static [&'static [u8]] {
         &AGGREGATE_COLUMNS
     }
 
-    fn columns(header: &ByteRecord) -> MembershipColumns {
-        MembershipColumns::of(header)
+    fn columns(header: &ByteRecord) -> AggregateColumns {
+        AggregateColumns::of(header)
     }
 
     fn read(
         seen: &mut Seen,
         ids: &Ids,
         header: &ByteRecord,
-        columns: MembershipColumns,
+        columns: AggregateColumns,
         row: &ByteRecord,
     ) -> Result<(u32, Id, ()), RecordFault> {
-        let membership = match MembershipRow::read(&mut seen.names, header, columns, row) {
-            Ok(membership) => membership,
+        let found = match AggregateRow::read(&mut seen.names, header, columns, row) {
+            Ok(found) => found,
             Err(kind) => return Err(RecordFault::Kind(kind)),
         };
-        match ids.find_near(seen.place, membership.provider) {
+        match ids.find_near(seen.place, found.provider) {
             Some(place) => {
                 seen.place = place;
-                Ok((place as u32, membership.aggregate, ()))
+                Ok((place as u32, found.aggregate, ()))
             }
             None => Err(RecordFault::Kind(TableKind::UnknownProvider)),
         }
     }
 
-    ghost keyed = { λ ids header. memberships_keyed ids.ids.items header };
+    ghost keyed = { λ ids header. aggregates_keyed ids.ids.items header };
 
-    ghost apart = { λ ids. memberships_apart ids.ids.items };
+    ghost apart = { λ ids. aggregates_apart ids.ids.items };
 }

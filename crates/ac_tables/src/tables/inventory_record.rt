@@ -2,11 +2,11 @@
 ghost use Rattle.std.specs.Prelude.{◌≡◌, None, IfOk, IfErr, ◌++◌, ◌==◌, true, length, get_or};
 ghost use Rattle.csv.specs.Records.{fields_of};
 ghost use Rattle.ac_base.specs.Names.{class_bytes};
-ghost use Rattle.ac_tables.specs.Checks.{first_failing, unless, TellsKind};
-ghost use Rattle.ac_tables.specs.Columns.{id_in, text_in};
-ghost use Rattle.ac_tables.specs.InventoryTable.{provider_name, class_name, stock_in, stock_checks, holding_field_checks, Holding, inventory_columns, holding_in, holding_checks, known_checks, is_holding};
-ghost use Rattle.ac_tables.specs.ColumnPlaces.{holding_places};
-ghost use Rattle.ac_tables.specs.RecordLaws.{holdings_keyed, holdings_apart};
+ghost use Rattle.ac_tables.specs.Tables.Checks.{first_failing, unless, TellsKind};
+ghost use Rattle.ac_tables.specs.Tables.Columns.{id_in, text_in};
+ghost use Rattle.ac_tables.specs.Tables.InventoryTable.{provider_name, class_name, numbers_said, number_checks, inventory_field_checks, InventoryRecord, inventory_columns, inventory_said, inventory_record_checks, known_checks, is_inventory_of};
+ghost use Rattle.ac_tables.specs.Reader.ColumnPlaces.{inventory_places};
+ghost use Rattle.ac_tables.specs.Reader.RecordLaws.{inventories_keyed, inventories_apart};
 ghost use Rattle.ac_tables.specs.declared.fault.Table.TheVariants as table;
 
 use crate::cloud::provider_index::Ids;
@@ -31,7 +31,7 @@ const INVENTORY_COLUMNS: [&[u8]; 8] = [
 
 // Where the columns stand.
 #[derive(Clone, Copy, Debug, PartialEq, Eq)]
-pub(crate) struct HoldingColumns {
+pub(crate) struct InventoryColumns {
     provider: usize,
     class: usize,
     total: usize,
@@ -42,14 +42,14 @@ pub(crate) struct HoldingColumns {
     ratio: usize,
 }
 
-impl HoldingColumns {
-    ghost use Rattle.ac_tables.specs.ColumnPlaces.{holding_places};
+impl InventoryColumns {
+    ghost use Rattle.ac_tables.specs.Reader.ColumnPlaces.{inventory_places};
 
-    #[tactic(auto, unfolding(crate::specs::ColumnPlaces::holding_places, crate::specs::InventoryTable::provider_name, crate::specs::InventoryTable::class_name, crate::specs::InventoryTable::total_name, crate::specs::InventoryTable::reserved_name, crate::specs::InventoryTable::min_unit_name, crate::specs::InventoryTable::max_unit_name, crate::specs::InventoryTable::step_size_name, crate::specs::InventoryTable::ratio_name))]
-    pub(crate) fn of(header: &ByteRecord) -> HoldingColumns
-        ensures { result ≡ holding_places (fields_of header.now) }
+    #[tactic(auto, unfolding(crate::specs::Reader::ColumnPlaces::inventory_places, crate::specs::Tables::InventoryTable::provider_name, crate::specs::Tables::InventoryTable::class_name, crate::specs::Tables::InventoryTable::total_name, crate::specs::Tables::InventoryTable::reserved_name, crate::specs::Tables::InventoryTable::min_unit_name, crate::specs::Tables::InventoryTable::max_unit_name, crate::specs::Tables::InventoryTable::step_size_name, crate::specs::Tables::InventoryTable::ratio_name))]
+    pub(crate) fn of(header: &ByteRecord) -> InventoryColumns
+        ensures { result ≡ inventory_places (fields_of header.now) }
     {
-        HoldingColumns {
+        InventoryColumns {
             provider: column_at(header, b"resource_provider"),
             class: column_at(header, b"resource_class"),
             total: column_at(header, b"total"),
@@ -64,24 +64,26 @@ impl HoldingColumns {
 
 // What a record says.
 #[derive(Debug, Drop, PartialEq, Eq)]
-pub(crate) struct HoldingRow {
+pub(crate) struct InventoryRow {
     pub(crate) provider: Id,
     pub(crate) class: ClassName,
     pub(crate) inventory: Inventory,
 }
 
-impl HoldingRow {
-    ghost use Rattle.ac_tables.specs.ColumnPlaces.{holding_places};
+impl InventoryRow {
+    ghost use Rattle.ac_tables.specs.Reader.ColumnPlaces.{inventory_places};
 
     // The inventory of a record, or the first fault of its fields.
-    #[tactic(auto, unfolding(crate::specs::ColumnPlaces::holding_places, crate::specs::InventoryTable::stock_in, crate::specs::InventoryTable::stock_checks))]
+    #[tactic(auto, unfolding(crate::specs::Reader::ColumnPlaces::inventory_places, crate::specs::Tables::InventoryTable::numbers_said, crate::specs::Tables::InventoryTable::number_checks))]
     fn read_inventory(
         header: &ByteRecord,
-        columns: HoldingColumns,
+        columns: InventoryColumns,
         row: &ByteRecord,
     ) -> Result<Inventory, TableKind>
-        requires { columns ≡ holding_places (fields_of header.now) }
-        ensures { result ≡ unless (first_failing (stock_checks (fields_of header.now) (fields_of row.now))) (stock_in (fields_of header.now) (fields_of row.now)) }
+        requires { columns ≡ inventory_places (fields_of header.now) }
+        ensures { result
+            ≡ unless (first_failing (number_checks (fields_of header.now) (fields_of row.now)))
+            (numbers_said (fields_of header.now) (fields_of row.now)) }
     {
         let Some(total) = read_count(text_at(row, columns.total)) else {
             return Err(TableKind::BadNumber);
@@ -114,19 +116,26 @@ impl HoldingRow {
     }
 
     // What a record says, or the first fault of its fields.
-    #[tactic(auto, unfolding(crate::specs::ColumnPlaces::holding_places))]
+    #[tactic(auto, unfolding(crate::specs::Reader::ColumnPlaces::inventory_places))]
     pub(crate) fn read(
         names: &mut Names,
         header: &ByteRecord,
-        columns: HoldingColumns,
+        columns: InventoryColumns,
         row: &ByteRecord,
-    ) -> Result<HoldingRow, RecordFault>
-        requires { columns ≡ holding_places (fields_of header.now) }
-        ensures ok { IfOk result (λ _. first_failing (holding_field_checks (fields_of header.now) (fields_of row.now)) ≡ None) }
-        ensures provider { IfOk result (λ h. h.provider ≡ id_in (fields_of header.now) provider_name (fields_of row.now)) }
-        ensures class { IfOk result (λ h. class_bytes h.class ≡ text_in (fields_of header.now) class_name (fields_of row.now)) }
-        ensures inventory { IfOk result (λ h. h.inventory ≡ stock_in (fields_of header.now) (fields_of row.now)) }
-        ensures fault { IfErr result (λ e. TellsKind (first_failing (holding_field_checks (fields_of header.now) (fields_of row.now))) e) }
+    ) -> Result<InventoryRow, RecordFault>
+        requires { columns ≡ inventory_places (fields_of header.now) }
+        ensures ok { IfOk result (λ _.
+            first_failing (inventory_field_checks (fields_of header.now) (fields_of row.now))
+            ≡ None) }
+        ensures provider { IfOk result (λ h. h.provider
+            ≡ id_in (fields_of header.now) provider_name (fields_of row.now)) }
+        ensures class { IfOk result (λ h. class_bytes h.class
+            ≡ text_in (fields_of header.now) class_name (fields_of row.now)) }
+        ensures inventory { IfOk result (λ h. h.inventory
+            ≡ numbers_said (fields_of header.now) (fields_of row.now)) }
+        ensures fault { IfErr result (λ e.
+            TellsKind (first_failing (inventory_field_checks (fields_of header.now)
+            (fields_of row.now))) e) }
     {
         let provider = match read_owner(names, header, columns.provider, row) {
             Ok(provider) => provider,
@@ -136,8 +145,8 @@ impl HoldingRow {
             Ok(class) => class,
             Err(fault) => return Err(fault),
         };
-        match HoldingRow::read_inventory(header, columns, row) {
-            Ok(inventory) => Ok(HoldingRow {
+        match InventoryRow::read_inventory(header, columns, row) {
+            Ok(inventory) => Ok(InventoryRow {
                 provider,
                 class,
                 inventory,
@@ -153,7 +162,7 @@ pub(crate) struct InventoryTable;
 impl Record for InventoryTable {
     type Beside = Ids;
 
-    type Columns = HoldingColumns;
+    type Columns = InventoryColumns;
 
     type Key = ClassName;
 
@@ -169,52 +178,52 @@ impl Record for InventoryTable {
 
     ghost UNIQUE = { true };
 
-    ghost Said = { Holding };
+    ghost Said = { InventoryRecord };
 
-    ghost says = { holding_in };
+    ghost says = { inventory_said };
 
-    ghost checks = { λ ids. holding_checks ids.ids.items };
+    ghost checks = { λ ids. inventory_record_checks ids.ids.items };
 
-    ghost alone = { λ ids header row. holding_field_checks header row ++ known_checks ids.ids.items (id_in header provider_name row) };
+    ghost alone = { λ ids header row. inventory_field_checks header row ++ known_checks ids.ids.items (id_in header provider_name row) };
 
-    ghost same = { λ v h. is_holding v.provider v.class h };
+    ghost same = { λ v h. is_inventory_of v.provider v.class h };
 
     ghost count = { λ ids. length ids.ids.items };
 
-    ghost shown = { λ ids place key value. record { provider = get_or ids.ids.items place 0; class = class_bytes key; stock = value } };
+    ghost shown = { λ ids place key value. record { provider = get_or ids.ids.items place 0; class = class_bytes key; inventory = value } };
 
-    ghost places = { holding_places };
+    ghost places = { inventory_places };
 
-    #[tactic(auto, unfolding(crate::specs::InventoryTable::inventory_columns, crate::specs::InventoryTable::provider_name, crate::specs::InventoryTable::class_name, crate::specs::InventoryTable::total_name, crate::specs::InventoryTable::reserved_name, crate::specs::InventoryTable::min_unit_name, crate::specs::InventoryTable::max_unit_name, crate::specs::InventoryTable::step_size_name, crate::specs::InventoryTable::ratio_name))]
+    #[tactic(auto, unfolding(crate::specs::Tables::InventoryTable::inventory_columns, crate::specs::Tables::InventoryTable::provider_name, crate::specs::Tables::InventoryTable::class_name, crate::specs::Tables::InventoryTable::total_name, crate::specs::Tables::InventoryTable::reserved_name, crate::specs::Tables::InventoryTable::min_unit_name, crate::specs::Tables::InventoryTable::max_unit_name, crate::specs::Tables::InventoryTable::step_size_name, crate::specs::Tables::InventoryTable::ratio_name))]
     fn names() -> &'static [&'static [u8]] {
         &INVENTORY_COLUMNS
     }
 
-    fn columns(header: &ByteRecord) -> HoldingColumns {
-        HoldingColumns::of(header)
+    fn columns(header: &ByteRecord) -> InventoryColumns {
+        InventoryColumns::of(header)
     }
 
     fn read(
         seen: &mut Seen,
         ids: &Ids,
         header: &ByteRecord,
-        columns: HoldingColumns,
+        columns: InventoryColumns,
         row: &ByteRecord,
     ) -> Result<(u32, ClassName, Inventory), RecordFault> {
-        let holding = match HoldingRow::read(&mut seen.names, header, columns, row) {
-            Ok(holding) => holding,
+        let found = match InventoryRow::read(&mut seen.names, header, columns, row) {
+            Ok(found) => found,
             Err(fault) => return Err(fault),
         };
-        match ids.find_near(seen.place, holding.provider) {
+        match ids.find_near(seen.place, found.provider) {
             Some(place) => {
                 seen.place = place;
-                Ok((place as u32, holding.class, holding.inventory))
+                Ok((place as u32, found.class, found.inventory))
             }
             None => Err(RecordFault::Kind(TableKind::UnknownProvider)),
         }
     }
 
-    ghost keyed = { λ ids header. holdings_keyed ids.ids.items header };
+    ghost keyed = { λ ids header. inventories_keyed ids.ids.items header };
 
-    ghost apart = { λ ids. holdings_apart ids.ids.items ids.rising };
+    ghost apart = { λ ids. inventories_apart ids.ids.items ids.rising };
 }

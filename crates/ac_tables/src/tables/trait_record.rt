@@ -2,12 +2,12 @@
 ghost use Rattle.std.specs.Prelude.{◌≡◌, None, IfOk, IfErr, false, [], length, get_or};
 ghost use Rattle.csv.specs.Records.{fields_of};
 ghost use Rattle.ac_base.specs.Names.{trait_bytes};
-ghost use Rattle.ac_tables.specs.Checks.{first_failing, TellsKind};
-ghost use Rattle.ac_tables.specs.Columns.{id_in, text_in};
-ghost use Rattle.ac_tables.specs.ColumnPlaces.{place_in, mark_places};
-ghost use Rattle.ac_tables.specs.InventoryTable.{provider_name};
-ghost use Rattle.ac_tables.specs.TraitTable.{name_name, name_checks, mark_field_checks, Mark, trait_columns, mark_in, mark_checks};
-ghost use Rattle.ac_tables.specs.RecordLaws.{marks_keyed, marks_apart};
+ghost use Rattle.ac_tables.specs.Tables.Checks.{first_failing, TellsKind};
+ghost use Rattle.ac_tables.specs.Tables.Columns.{id_in, text_in};
+ghost use Rattle.ac_tables.specs.Reader.ColumnPlaces.{place_in, trait_places};
+ghost use Rattle.ac_tables.specs.Tables.InventoryTable.{provider_name};
+ghost use Rattle.ac_tables.specs.Tables.TraitTable.{name_name, name_checks, trait_field_checks, TraitRecord, trait_columns, trait_said, trait_record_checks};
+ghost use Rattle.ac_tables.specs.Reader.RecordLaws.{traits_keyed, traits_apart};
 ghost use Rattle.ac_tables.specs.declared.fault.Table.TheVariants as table;
 
 use crate::cloud::provider_index::Ids;
@@ -23,19 +23,19 @@ const TRAIT_COLUMNS: [&[u8]; 2] = [b"resource_provider", b"name"];
 
 // Where the columns stand.
 #[derive(Clone, Copy, Debug, PartialEq, Eq)]
-pub(crate) struct MarkColumns {
+pub(crate) struct TraitColumns {
     provider: usize,
     name: usize,
 }
 
-impl MarkColumns {
-    ghost use Rattle.ac_tables.specs.ColumnPlaces.{mark_places};
+impl TraitColumns {
+    ghost use Rattle.ac_tables.specs.Reader.ColumnPlaces.{trait_places};
 
-    #[tactic(auto, unfolding(crate::specs::ColumnPlaces::mark_places, crate::specs::InventoryTable::provider_name, crate::specs::TraitTable::name_name))]
-    pub(crate) fn of(header: &ByteRecord) -> MarkColumns
-        ensures { result ≡ mark_places (fields_of header.now) }
+    #[tactic(auto, unfolding(crate::specs::Reader::ColumnPlaces::trait_places, crate::specs::Tables::InventoryTable::provider_name, crate::specs::Tables::TraitTable::name_name))]
+    pub(crate) fn of(header: &ByteRecord) -> TraitColumns
+        ensures { result ≡ trait_places (fields_of header.now) }
     {
-        MarkColumns {
+        TraitColumns {
             provider: column_at(header, b"resource_provider"),
             name: column_at(header, b"name"),
         }
@@ -44,13 +44,13 @@ impl MarkColumns {
 
 // What a record says.
 #[derive(Debug, Drop, PartialEq, Eq)]
-pub(crate) struct MarkRow {
+pub(crate) struct TraitRow {
     pub(crate) provider: Id,
     pub(crate) name: TraitName,
 }
 
 // The trait of a record.
-#[tactic(auto, unfolding(crate::specs::TraitTable::name_checks), using(crate::proofs::NameFacts::named))]
+#[tactic(auto, unfolding(crate::specs::Tables::TraitTable::name_checks), using(crate::proofs::NameFacts::named))]
 fn read_name(
     names: &mut Names,
     header: &ByteRecord,
@@ -58,9 +58,12 @@ fn read_name(
     row: &ByteRecord,
 ) -> Result<TraitName, RecordFault>
     requires { place ≡ place_in (fields_of header.now) name_name }
-    ensures ok { IfOk result (λ _. first_failing (name_checks (fields_of header.now) (fields_of row.now)) ≡ None) }
-    ensures name { IfOk result (λ name. trait_bytes name ≡ text_in (fields_of header.now) name_name (fields_of row.now)) }
-    ensures fault { IfErr result (λ e. TellsKind (first_failing (name_checks (fields_of header.now) (fields_of row.now))) e) }
+    ensures ok { IfOk result (λ _.
+        first_failing (name_checks (fields_of header.now) (fields_of row.now)) ≡ None) }
+    ensures name { IfOk result (λ name. trait_bytes name
+        ≡ text_in (fields_of header.now) name_name (fields_of row.now)) }
+    ensures fault { IfErr result (λ e.
+        TellsKind (first_failing (name_checks (fields_of header.now) (fields_of row.now))) e) }
 {
     match names.trait_name(text_at(row, place))? {
         Some(name) => Ok(name),
@@ -68,29 +71,34 @@ fn read_name(
     }
 }
 
-impl MarkRow {
-    ghost use Rattle.ac_tables.specs.ColumnPlaces.{mark_places};
+impl TraitRow {
+    ghost use Rattle.ac_tables.specs.Reader.ColumnPlaces.{trait_places};
 
     // What a record says, or the first fault of its fields.
-    #[tactic(auto, unfolding(crate::specs::ColumnPlaces::mark_places))]
+    #[tactic(auto, unfolding(crate::specs::Reader::ColumnPlaces::trait_places))]
     pub(crate) fn read(
         names: &mut Names,
         header: &ByteRecord,
-        columns: MarkColumns,
+        columns: TraitColumns,
         row: &ByteRecord,
-    ) -> Result<MarkRow, RecordFault>
-        requires { columns ≡ mark_places (fields_of header.now) }
-        ensures ok { IfOk result (λ _. first_failing (mark_field_checks (fields_of header.now) (fields_of row.now)) ≡ None) }
-        ensures provider { IfOk result (λ m. m.provider ≡ id_in (fields_of header.now) provider_name (fields_of row.now)) }
-        ensures name { IfOk result (λ m. trait_bytes m.name ≡ text_in (fields_of header.now) name_name (fields_of row.now)) }
-        ensures fault { IfErr result (λ e. TellsKind (first_failing (mark_field_checks (fields_of header.now) (fields_of row.now))) e) }
+    ) -> Result<TraitRow, RecordFault>
+        requires { columns ≡ trait_places (fields_of header.now) }
+        ensures ok { IfOk result (λ _.
+            first_failing (trait_field_checks (fields_of header.now) (fields_of row.now)) ≡ None) }
+        ensures provider { IfOk result (λ m. m.provider
+            ≡ id_in (fields_of header.now) provider_name (fields_of row.now)) }
+        ensures name { IfOk result (λ m. trait_bytes m.name
+            ≡ text_in (fields_of header.now) name_name (fields_of row.now)) }
+        ensures fault { IfErr result (λ e.
+            TellsKind (first_failing
+            (trait_field_checks (fields_of header.now) (fields_of row.now))) e) }
     {
         let provider = match read_owner(names, header, columns.provider, row) {
             Ok(provider) => provider,
             Err(kind) => return Err(RecordFault::Kind(kind)),
         };
         match read_name(names, header, columns.name, row) {
-            Ok(name) => Ok(MarkRow { provider, name }),
+            Ok(name) => Ok(TraitRow { provider, name }),
             Err(fault) => Err(fault),
         }
     }
@@ -102,7 +110,7 @@ pub(crate) struct TraitTable;
 impl Record for TraitTable {
     type Beside = Ids;
 
-    type Columns = MarkColumns;
+    type Columns = TraitColumns;
 
     type Key = TraitName;
 
@@ -118,13 +126,13 @@ impl Record for TraitTable {
 
     ghost UNIQUE = { false };
 
-    ghost Said = { Mark };
+    ghost Said = { TraitRecord };
 
-    ghost says = { mark_in };
+    ghost says = { trait_said };
 
-    ghost checks = { λ ids. mark_checks ids.ids.items };
+    ghost checks = { λ ids. trait_record_checks ids.ids.items };
 
-    ghost alone = { λ ids header row. mark_checks ids.ids.items header [] row };
+    ghost alone = { λ ids header row. trait_record_checks ids.ids.items header [] row };
 
     ghost same = { λ _ _. false };
 
@@ -132,25 +140,25 @@ impl Record for TraitTable {
 
     ghost shown = { λ ids place key _. record { provider = get_or ids.ids.items place 0; name = trait_bytes key } };
 
-    ghost places = { mark_places };
+    ghost places = { trait_places };
 
-    #[tactic(auto, unfolding(crate::specs::TraitTable::trait_columns, crate::specs::InventoryTable::provider_name, crate::specs::TraitTable::name_name))]
+    #[tactic(auto, unfolding(crate::specs::Tables::TraitTable::trait_columns, crate::specs::Tables::InventoryTable::provider_name, crate::specs::Tables::TraitTable::name_name))]
     fn names() -> &'static [&'static [u8]] {
         &TRAIT_COLUMNS
     }
 
-    fn columns(header: &ByteRecord) -> MarkColumns {
-        MarkColumns::of(header)
+    fn columns(header: &ByteRecord) -> TraitColumns {
+        TraitColumns::of(header)
     }
 
     fn read(
         seen: &mut Seen,
         ids: &Ids,
         header: &ByteRecord,
-        columns: MarkColumns,
+        columns: TraitColumns,
         row: &ByteRecord,
     ) -> Result<(u32, TraitName, ()), RecordFault> {
-        let mark = match MarkRow::read(&mut seen.names, header, columns, row) {
+        let mark = match TraitRow::read(&mut seen.names, header, columns, row) {
             Ok(mark) => mark,
             Err(fault) => return Err(fault),
         };
@@ -163,7 +171,7 @@ impl Record for TraitTable {
         }
     }
 
-    ghost keyed = { λ ids header. marks_keyed ids.ids.items header };
+    ghost keyed = { λ ids header. traits_keyed ids.ids.items header };
 
-    ghost apart = { λ ids. marks_apart ids.ids.items };
+    ghost apart = { λ ids. traits_apart ids.ids.items };
 }

@@ -2,13 +2,13 @@
 ghost use Rattle.std.specs.Prelude.{◌≡◌, None, IfOk, IfErr, ◌<◌, ◌++◌, true, length, get_or};
 ghost use Rattle.csv.specs.Records.{fields_of};
 ghost use Rattle.ac_base.specs.Names.{class_bytes};
-ghost use Rattle.ac_tables.specs.Checks.{first_failing, unless, TellsKind};
-ghost use Rattle.ac_tables.specs.Columns.{id_in, text_in, number_in};
-ghost use Rattle.ac_tables.specs.ColumnPlaces.{place_in, usage_places};
-ghost use Rattle.ac_tables.specs.InventoryTable.{provider_name, class_name};
-ghost use Rattle.ac_tables.specs.UsageTable.{usage_name, amount_checks, usage_field_checks, Usage, usage_columns, usage_in, usage_row_checks, is_usage};
-ghost use Rattle.ac_tables.specs.InventoryRows.{holdings_shown};
-ghost use Rattle.ac_tables.specs.UsageLaws.{lone_checks, usages_keyed, usages_apart};
+ghost use Rattle.ac_tables.specs.Tables.Checks.{first_failing, unless, TellsKind};
+ghost use Rattle.ac_tables.specs.Tables.Columns.{id_in, text_in, number_in};
+ghost use Rattle.ac_tables.specs.Reader.ColumnPlaces.{place_in, usage_places};
+ghost use Rattle.ac_tables.specs.Tables.InventoryTable.{provider_name, class_name};
+ghost use Rattle.ac_tables.specs.Tables.UsageTable.{usage_name, amount_checks, usage_field_checks, UsageRecord, usage_columns, usage_said, usage_row_checks, is_usage};
+ghost use Rattle.ac_tables.specs.Reader.InventoryRows.{inventory_records_shown};
+ghost use Rattle.ac_tables.specs.Reader.UsageLaws.{lone_checks, usages_keyed, usages_apart};
 ghost use Rattle.ac_tables.specs.declared.fault.Table.TheVariants as table;
 
 use crate::fault::{RecordFault, Table, TableKind};
@@ -31,9 +31,9 @@ pub(crate) struct UsageColumns {
 }
 
 impl UsageColumns {
-    ghost use Rattle.ac_tables.specs.ColumnPlaces.{usage_places};
+    ghost use Rattle.ac_tables.specs.Reader.ColumnPlaces.{usage_places};
 
-    #[tactic(auto, unfolding(crate::specs::ColumnPlaces::usage_places, crate::specs::InventoryTable::provider_name, crate::specs::InventoryTable::class_name, crate::specs::UsageTable::usage_name))]
+    #[tactic(auto, unfolding(crate::specs::Reader::ColumnPlaces::usage_places, crate::specs::Tables::InventoryTable::provider_name, crate::specs::Tables::InventoryTable::class_name, crate::specs::Tables::UsageTable::usage_name))]
     pub(crate) fn of(header: &ByteRecord) -> UsageColumns
         ensures { result ≡ usage_places (fields_of header.now) }
     {
@@ -54,10 +54,12 @@ pub(crate) struct UsageRow {
 }
 
 // How much a record says to be used.
-#[tactic(auto, unfolding(crate::specs::UsageTable::amount_checks))]
+#[tactic(auto, unfolding(crate::specs::Tables::UsageTable::amount_checks))]
 fn read_amount(header: &ByteRecord, place: usize, row: &ByteRecord) -> Result<u32, TableKind>
     requires { place ≡ place_in (fields_of header.now) usage_name }
-    ensures { result ≡ unless (first_failing (amount_checks (fields_of header.now) (fields_of row.now))) (number_in (fields_of header.now) usage_name (fields_of row.now)) }
+    ensures { result
+        ≡ unless (first_failing (amount_checks (fields_of header.now) (fields_of row.now)))
+        (number_in (fields_of header.now) usage_name (fields_of row.now)) }
 {
     match read_count(text_at(row, place)) {
         Some(amount) => Ok(amount),
@@ -66,10 +68,10 @@ fn read_amount(header: &ByteRecord, place: usize, row: &ByteRecord) -> Result<u3
 }
 
 impl UsageRow {
-    ghost use Rattle.ac_tables.specs.ColumnPlaces.{usage_places};
+    ghost use Rattle.ac_tables.specs.Reader.ColumnPlaces.{usage_places};
 
     // What a record says, or the first fault of its fields.
-    #[tactic(auto, unfolding(crate::specs::ColumnPlaces::usage_places))]
+    #[tactic(auto, unfolding(crate::specs::Reader::ColumnPlaces::usage_places))]
     pub(crate) fn read(
         names: &mut Names,
         header: &ByteRecord,
@@ -77,11 +79,17 @@ impl UsageRow {
         row: &ByteRecord,
     ) -> Result<UsageRow, RecordFault>
         requires { columns ≡ usage_places (fields_of header.now) }
-        ensures ok { IfOk result (λ _. first_failing (usage_field_checks (fields_of header.now) (fields_of row.now)) ≡ None) }
-        ensures provider { IfOk result (λ u. u.provider ≡ id_in (fields_of header.now) provider_name (fields_of row.now)) }
-        ensures class { IfOk result (λ u. class_bytes u.class ≡ text_in (fields_of header.now) class_name (fields_of row.now)) }
-        ensures amount { IfOk result (λ u. u.amount ≡ number_in (fields_of header.now) usage_name (fields_of row.now)) }
-        ensures fault { IfErr result (λ e. TellsKind (first_failing (usage_field_checks (fields_of header.now) (fields_of row.now))) e) }
+        ensures ok { IfOk result (λ _.
+            first_failing (usage_field_checks (fields_of header.now) (fields_of row.now)) ≡ None) }
+        ensures provider { IfOk result (λ u. u.provider
+            ≡ id_in (fields_of header.now) provider_name (fields_of row.now)) }
+        ensures class { IfOk result (λ u. class_bytes u.class
+            ≡ text_in (fields_of header.now) class_name (fields_of row.now)) }
+        ensures amount { IfOk result (λ u. u.amount
+            ≡ number_in (fields_of header.now) usage_name (fields_of row.now)) }
+        ensures fault { IfErr result (λ e.
+            TellsKind (first_failing (usage_field_checks (fields_of header.now)
+            (fields_of row.now))) e) }
     {
         let provider = match read_owner(names, header, columns.provider, row) {
             Ok(provider) => provider,
@@ -124,13 +132,13 @@ impl Record for UsageTable {
 
     ghost UNIQUE = { true };
 
-    ghost Said = { Usage };
+    ghost Said = { UsageRecord };
 
-    ghost says = { usage_in };
+    ghost says = { usage_said };
 
-    ghost checks = { λ b. usage_row_checks b.ids.ids.items (holdings_shown b.ids.ids.items b.rows.items.items) };
+    ghost checks = { λ b. usage_row_checks b.ids.ids.items (inventory_records_shown b.ids.ids.items b.rows.items.items) };
 
-    ghost alone = { λ b header row. usage_field_checks header row ++ lone_checks b.ids.ids.items (holdings_shown b.ids.ids.items b.rows.items.items) (id_in header provider_name row) (text_in header class_name row) };
+    ghost alone = { λ b header row. usage_field_checks header row ++ lone_checks b.ids.ids.items (inventory_records_shown b.ids.ids.items b.rows.items.items) (id_in header provider_name row) (text_in header class_name row) };
 
     ghost same = { λ v u. is_usage v.provider v.class u };
 
@@ -140,7 +148,7 @@ impl Record for UsageTable {
 
     ghost places = { usage_places };
 
-    #[tactic(auto, unfolding(crate::specs::UsageTable::usage_columns, crate::specs::InventoryTable::provider_name, crate::specs::InventoryTable::class_name, crate::specs::UsageTable::usage_name))]
+    #[tactic(auto, unfolding(crate::specs::Tables::UsageTable::usage_columns, crate::specs::Tables::InventoryTable::provider_name, crate::specs::Tables::InventoryTable::class_name, crate::specs::Tables::UsageTable::usage_name))]
     fn names() -> &'static [&'static [u8]] {
         &USAGE_COLUMNS
     }
@@ -171,7 +179,7 @@ impl Record for UsageTable {
         Ok((place as u32, usage.class, usage.amount))
     }
 
-    ghost keyed = { λ b header. usages_keyed b.ids.ids.items (holdings_shown b.ids.ids.items b.rows.items.items) header };
+    ghost keyed = { λ b header. usages_keyed b.ids.ids.items (inventory_records_shown b.ids.ids.items b.rows.items.items) header };
 
     ghost apart = { λ b. usages_apart b.ids.ids.items b.ids.rising };
 }

@@ -1,4 +1,4 @@
-use Rattle.ac_query.proofs.Asking.{asks_once}
+use Rattle.ac_query.proofs.Pairs.Asking.{asks_once}
 use Rattle.ac_query.proofs.laws.asks_once.Goals as goal
 
 pub returns : goal.returns

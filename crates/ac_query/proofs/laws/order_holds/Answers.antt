@@ -1,4 +1,4 @@
-use Rattle.ac_query.proofs.Asking.{order_holds}
+use Rattle.ac_query.proofs.Pairs.Asking.{order_holds}
 use Rattle.ac_query.proofs.laws.order_holds.Goals as goal
 
 pub returns : goal.returns

@@ -1,7 +1,7 @@
 use Rattle.std.proofs.Common.{refl}
 use Rattle.serde_json.specs.Data.{string}
 use Rattle.ac_base.specs.Texts.{id_text}
-use Rattle.ac_report.proofs.PlainTrees.{plain_text}
+use Rattle.ac_report.proofs.Trees.PlainTrees.{plain_text}
 use Rattle.ac_report.proofs.ids.quoted_id.Goals as goal
 
 pub returns : goal.returns

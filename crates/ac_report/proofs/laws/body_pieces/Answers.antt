@@ -1,5 +1,5 @@
 use Rattle.std.proofs.Common.{◌∙◌, sym}
-use Rattle.ac_report.proofs.Joining.{body_is, pieces_joined}
+use Rattle.ac_report.proofs.Pages.Joining.{body_is, pieces_joined}
 use Rattle.ac_report.proofs.laws.body_pieces.Goals as goal
 
 pub returns : goal.returns

@@ -3,9 +3,9 @@ use Rattle.std.specs.List.{All}
 use Rattle.std.proofs.lemmas.List.{take_all}
 use Rattle.ac_query.specs.Tokens.{ids_text}
 use Rattle.ac_rules.specs.Pages.{ids_of}
-use Rattle.ac_tables.specs.CloudWorld.{providers_of}
+use Rattle.ac_tables.specs.Cloud.CloudWorld.{providers_of}
 use Rattle.ac_report.specs.Trees.{provider_text}
-use Rattle.ac_report.proofs.LinesWritten.{behind_commas, ids_behind, behind_more}
+use Rattle.ac_report.proofs.Pages.LinesWritten.{behind_commas, ids_behind, behind_more}
 use Rattle.ac_report.proofs.lines.put_ids.Goals as goal
 
 pub id-requires-in-loop-ix : goal.id-requires-in-loop-ix

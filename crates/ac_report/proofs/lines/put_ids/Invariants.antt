@@ -1,7 +1,7 @@
 use Rattle.std.proofs.Common.{◌≡◌, ◌++◌, map, take}
-use Rattle.ac_tables.specs.CloudWorld.{providers_of}
+use Rattle.ac_tables.specs.Cloud.CloudWorld.{providers_of}
 use Rattle.ac_report.specs.Trees.{provider_text}
-use Rattle.ac_report.proofs.LinesWritten.{behind_commas}
+use Rattle.ac_report.proofs.Pages.LinesWritten.{behind_commas}
 use Rattle.ac_report.proofs.lines.put_ids.Given as goal
 
 abbrev pub invariant-loop-ix : goal.invariant-loop-ix

@@ -1,14 +1,14 @@
 use Rattle.std.proofs.Common.{◌≡◌, ◌∙◌, ℕ, List, Some, subst, sym, arith}
 use Rattle.std.specs.Io.KnownBytes.{Appends}
-use Rattle.ac_query.specs.QueriesShown.{asked_of}
+use Rattle.ac_query.specs.Shown.Queries.{asked_of}
 use Rattle.ac_rules.specs.Lists.{head_of, tail_of}
-use Rattle.ac_tables.specs.CloudWorld.{providers_of}
+use Rattle.ac_tables.specs.Cloud.CloudWorld.{providers_of}
 use Rattle.ac_report.specs.Pages.{IsAssignment}
 use Rattle.ac_report.proofs.Outcomes.{on_err}
-use Rattle.ac_report.proofs.LinesWritten.{leaves_line, leaves_line_part}
-use Rattle.ac_report.proofs.Wholes.{done_whole, one_done}
+use Rattle.ac_report.proofs.Pages.LinesWritten.{leaves_line, leaves_line_part}
+use Rattle.ac_report.proofs.Pages.Wholes.{done_whole, one_done}
 use Rattle.ac_report.specs.Texts.{line}
-use Rattle.ac_report.proofs.Paging.{all_head, all_tail, behind_step, count_step, cut_step, gone_step, loses_one, room_step}
+use Rattle.ac_report.proofs.Pages.Paging.{all_head, all_tail, behind_step, count_step, cut_step, gone_step, loses_one, room_step}
 use Rattle.ac_report.proofs.lines.write_tokens.Goals as goal
 
 pub put_line-requires : goal.put_line-requires

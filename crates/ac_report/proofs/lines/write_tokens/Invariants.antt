@@ -1,13 +1,13 @@
 use Rattle.std.proofs.Common.{◌≡◌, ◌≤◌, ◌+◌, min, length}
 use Rattle.std.specs.List.{All}
-use Rattle.ac_query.specs.QueriesShown.{asked_of}
+use Rattle.ac_query.specs.Shown.Queries.{asked_of}
 use Rattle.ac_rules.specs.Pages.{cut}
-use Rattle.ac_tables.specs.CloudWorld.{providers_of}
+use Rattle.ac_tables.specs.Cloud.CloudWorld.{providers_of}
 use Rattle.ac_report.specs.Texts.{line, lines}
 use Rattle.ac_report.specs.Pages.{IsAssignment, behind}
 use Rattle.ac_base.proofs.Leaving.{Leaves}
-use Rattle.ac_report.proofs.Paging.{after, IsRoom, Gone}
-use Rattle.ac_report.proofs.Wholes.{IsDone}
+use Rattle.ac_report.proofs.Pages.Paging.{after, IsRoom, Gone}
+use Rattle.ac_report.proofs.Pages.Wholes.{IsDone}
 use Rattle.ac_report.proofs.lines.write_tokens.Given as goal
 
 -- what is left to write, of what was there to write

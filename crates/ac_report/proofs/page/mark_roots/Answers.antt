@@ -1,8 +1,8 @@
 use Rattle.std.proofs.Common.{◌∙◌, false, get_or, arith}
-use Rattle.ac_tables.specs.CloudWorld.{providers_of}
+use Rattle.ac_tables.specs.Cloud.CloudWorld.{providers_of}
 use Rattle.ac_tables.specs.World.{id_at}
 use Rattle.ac_report.specs.Marks.{has_root}
-use Rattle.ac_report.proofs.Marking.{marks_more}
+use Rattle.ac_report.proofs.Trees.Marking.{marks_more}
 use Rattle.ac_report.proofs.page.mark_roots.Goals as goal
 
 pub loop-ix-preserved : goal.loop-ix-preserved

@@ -1,17 +1,17 @@
 use Rattle.std.proofs.Common.{sym, subst, rules, map, List, [], ◌∷◌, ◌++◌, ℕ, false}
 use Rattle.std.specs.Io.KnownBytes.{Appends}
-use Rattle.ac_query.specs.QueriesShown.{asked_of}
+use Rattle.ac_query.specs.Shown.Queries.{asked_of}
 use Rattle.ac_rules.specs.Pages.{cut}
-use Rattle.ac_tables.specs.CloudWorld.{providers_of}
+use Rattle.ac_tables.specs.Cloud.CloudWorld.{providers_of}
 use Rattle.ac_tables.proofs.ProvidersStated.{cloud_in_order}
 use Rattle.ac_report.specs.Marks.{requests_text, summaries_text}
 use Rattle.ac_base.specs.Devices.{TakesPart}
 use Rattle.ac_report.specs.Texts.{head_text, middle_text, request_text, summarized, summary_piece, tail_text, with_commas}
-use Rattle.ac_report.proofs.Wholes.{behind_all, behind_first, behind_one}
-use Rattle.ac_report.proofs.Joining.{body_is}
+use Rattle.ac_report.proofs.Pages.Wholes.{behind_all, behind_first, behind_one}
+use Rattle.ac_report.proofs.Pages.Joining.{body_is}
 use Rattle.ac_report.proofs.Outcomes.{on_err}
-use Rattle.ac_report.proofs.Paging.{loses_page}
-use Rattle.ac_report.proofs.Summing.{five, part_1, part_2, part_3, part_4, part_5}
+use Rattle.ac_report.proofs.Pages.Paging.{loses_page}
+use Rattle.ac_report.proofs.Pages.Summing.{five, part_1, part_2, part_3, part_4, part_5}
 use Rattle.ac_report.proofs.page.write_parts.Goals as goal
 
 pub returns-in_err-push_head-clause-part : goal.returns-in_err-push_head-clause-part

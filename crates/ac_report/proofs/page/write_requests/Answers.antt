@@ -2,19 +2,19 @@ use Rattle.std.proofs.Common.{◌≡◌, ◌∙◌, ap, map, sym, subst, arith, 
 use Rattle.std.specs.List.{list_any}
 use Rattle.std.specs.Io.KnownBytes.{Appends}
 use Rattle.serde_json.specs.Written.{comma_if}
-use Rattle.ac_query.specs.QueriesShown.{asked_of}
+use Rattle.ac_query.specs.Shown.Queries.{asked_of}
 use Rattle.ac_rules.specs.Lists.{head_of, tail_of}
 use Rattle.ac_rules.specs.Pages.{cut}
-use Rattle.ac_tables.specs.CloudWorld.{providers_of}
+use Rattle.ac_tables.specs.Cloud.CloudWorld.{providers_of}
 use Rattle.ac_tables.specs.World.{id_at}
 use Rattle.ac_base.specs.Devices.{TakesPart}
 use Rattle.ac_report.specs.Pages.{IsAssignment}
 use Rattle.ac_report.specs.Texts.{request_text, meets_root, with_commas}
-use Rattle.ac_report.proofs.Wholes.{done_whole, one_done}
+use Rattle.ac_report.proofs.Pages.Wholes.{done_whole, one_done}
 use Rattle.ac_report.proofs.Outcomes.{on_err}
-use Rattle.ac_report.proofs.Marking.{marks_step}
-use Rattle.ac_report.proofs.Paging.{after, counted, all_head, all_tail, cut_step, behind_step, gone_step, loses_one, count_step, room_step}
-use Rattle.ac_report.proofs.Summing.{leaves_listed, leaves_listed_part}
+use Rattle.ac_report.proofs.Trees.Marking.{marks_step}
+use Rattle.ac_report.proofs.Pages.Paging.{after, counted, all_head, all_tail, cut_step, behind_step, gone_step, loses_one, count_step, room_step}
+use Rattle.ac_report.proofs.Pages.Summing.{leaves_listed, leaves_listed_part}
 use Rattle.ac_report.proofs.page.write_requests.Goals as goal
 
 pub request_text-requires : goal.request_text-requires

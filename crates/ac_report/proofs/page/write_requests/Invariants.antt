@@ -1,15 +1,15 @@
 use Rattle.std.proofs.Common.{◌≡◌, ◌<◌, ◌≤◌, ◌+◌, ◌||◌, min, length, map, ℕ, false, get_or}
 use Rattle.std.specs.List.{All, list_any}
-use Rattle.ac_query.specs.QueriesShown.{asked_of}
+use Rattle.ac_query.specs.Shown.Queries.{asked_of}
 use Rattle.ac_rules.specs.Pages.{cut}
-use Rattle.ac_tables.specs.CloudWorld.{providers_of}
+use Rattle.ac_tables.specs.Cloud.CloudWorld.{providers_of}
 use Rattle.ac_tables.specs.World.{id_at}
 use Rattle.ac_report.specs.Marks.{requests_text}
 use Rattle.ac_report.specs.Pages.{IsAssignment, behind}
 use Rattle.ac_report.specs.Texts.{meets_root, request_text, with_commas}
-use Rattle.ac_report.proofs.Wholes.{IsDone}
+use Rattle.ac_report.proofs.Pages.Wholes.{IsDone}
 use Rattle.ac_base.proofs.Leaving.{Leaves}
-use Rattle.ac_report.proofs.Paging.{after, IsRoom, Gone}
+use Rattle.ac_report.proofs.Pages.Paging.{after, IsRoom, Gone}
 use Rattle.ac_report.proofs.page.write_requests.Given as goal
 
 -- what is left to write, of what was there to write

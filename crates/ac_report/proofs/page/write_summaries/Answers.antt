@@ -1,12 +1,12 @@
 use Rattle.std.proofs.Common.{◌≡◌, ◌++◌, map, ℕ, ◌+◌, ◌-◌, suc, Bool, true, false, length, sym, ap, ◌∙◌, refl, arith, rules}
 use Rattle.std.specs.List.{list_any}
-use Rattle.ac_tables.specs.CloudWorld.{providers_of}
+use Rattle.ac_tables.specs.Cloud.CloudWorld.{providers_of}
 use Rattle.ac_tables.specs.World.{id_at, root_of}
 use Rattle.serde_json.specs.Written.{comma_if}
 use Rattle.ac_report.specs.Texts.{summary_piece, meets_root, with_commas}
-use Rattle.ac_report.proofs.Wholes.{done_whole, one_done, same_done}
+use Rattle.ac_report.proofs.Pages.Wholes.{done_whole, one_done, same_done}
 use Rattle.ac_report.proofs.Outcomes.{on_err}
-use Rattle.ac_report.proofs.Summing.{step_taken, step_skipped, leaves_listed, leaves_listed_part, leaves_same}
+use Rattle.ac_report.proofs.Pages.Summing.{step_taken, step_skipped, leaves_listed, leaves_listed_part, leaves_same}
 use Rattle.ac_report.proofs.page.write_summaries.Goals as goal
 
 pub loop-ix-preserved-then-not-marks-root : goal.loop-ix-preserved-then-not-marks-root

@@ -1,10 +1,10 @@
 use Rattle.std.proofs.Common.{ℕ, ◌≤◌, ◌-◌, Bool, false, List, length, map}
 use Rattle.std.specs.List.{filter, list_any, range_with_len}
-use Rattle.ac_tables.specs.CloudWorld.{providers_of}
+use Rattle.ac_tables.specs.Cloud.CloudWorld.{providers_of}
 use Rattle.ac_tables.specs.World.{id_at, root_of}
 use Rattle.ac_report.specs.Marks.{IsMarked, summaries_text}
 use Rattle.ac_report.specs.Texts.{meets_root, summary_piece, with_commas}
-use Rattle.ac_report.proofs.Wholes.{IsDone}
+use Rattle.ac_report.proofs.Pages.Wholes.{IsDone}
 use Rattle.ac_base.proofs.Leaving.{Leaves}
 use Rattle.ac_report.proofs.page.write_summaries.Given as goal
 

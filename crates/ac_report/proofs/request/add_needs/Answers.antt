@@ -1,6 +1,6 @@
 use Rattle.std.proofs.Common.{◌∙◌, ap, map, rules}
 use Rattle.std.specs.Prelude.{unwrap_or}
-use Rattle.ac_query.specs.GroupsShown.{need_entry}
+use Rattle.ac_query.specs.Shown.Groups.{need_entry}
 use Rattle.ac_report.proofs.Serving.{needs_added}
 use Rattle.ac_report.proofs.Outcomes.{on_ok_weaker}
 use Rattle.ac_report.proofs.request.add_needs.Goals as goal

@@ -5,14 +5,14 @@ use Rattle.std.proofs.lemmas.List.{length-map}
 use Rattle.serde_json.specs.Data.{object}
 use Rattle.serde_json.specs.View.{view, members_view}
 use Rattle.serde_json.proofs.Views.{view-Object}
-use Rattle.ac_query.specs.QueriesShown.{asked_of}
+use Rattle.ac_query.specs.Shown.Queries.{asked_of}
 use Rattle.ac_rules.specs.Placed.{assigned}
 use Rattle.ac_tables.specs.Sorted.{rising}
 use Rattle.ac_base.specs.Texts.{id_text}
 use Rattle.ac_report.specs.Parts.{need_at, allocation_of}
-use Rattle.ac_tables.specs.CloudWorld.{providers_of}
+use Rattle.ac_tables.specs.Cloud.CloudWorld.{providers_of}
 use Rattle.ac_report.specs.Trees.{gathered, gives, needs_on, provider_text, allocation, allocations}
-use Rattle.ac_report.proofs.Gathering.{put_same, allocation_is}
+use Rattle.ac_report.proofs.Trees.Gathering.{put_same, allocation_is}
 use Rattle.ac_report.proofs.Serving.{Needs, IsRow, Named, gathered_onto, all_rising, few_served, keys_of_rows, rows_are, kept_step, gives_is}
 use Rattle.ac_report.proofs.request.allocations_value.Goals as goal
 

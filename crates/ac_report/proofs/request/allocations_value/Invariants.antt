@@ -2,10 +2,10 @@ use Rattle.std.proofs.Common.{◌≡◌, map, length}
 use Rattle.std.specs.List.{AllByRecursion, filter}
 use Rattle.std.specs.Ordering.{nat_cmp}
 use Rattle.serde_json.specs.View.{members_view}
-use Rattle.ac_query.specs.QueriesShown.{asked_of}
+use Rattle.ac_query.specs.Shown.Queries.{asked_of}
 use Rattle.ac_rules.specs.Placed.{assigned}
 use Rattle.ac_tables.specs.Sorted.{rising}
-use Rattle.ac_tables.specs.CloudWorld.{providers_of}
+use Rattle.ac_tables.specs.Cloud.CloudWorld.{providers_of}
 use Rattle.ac_report.specs.Trees.{gathered, gives, provider_text, allocation}
 use Rattle.ac_report.proofs.Serving.{IsRow, gathered_onto}
 use Rattle.ac_report.proofs.request.allocations_value.Given as goal

@@ -3,8 +3,8 @@ use Rattle.std.specs.Ordering.{nat_cmp}
 use Rattle.std.proofs.Math.ListN.{set}
 use Rattle.std.proofs.lemmas.List.{length-set, take_all}
 use Rattle.ac_query.specs.Asked.{slots_of}
-use Rattle.ac_query.specs.QueriesShown.{asked_of}
-use Rattle.ac_query.specs.SlotsShown.{slot_group}
+use Rattle.ac_query.specs.Shown.Queries.{asked_of}
+use Rattle.ac_query.specs.Shown.Slots.{slot_group}
 use Rattle.ac_rules.specs.Placed.{placed, assigned}
 use Rattle.ac_tables.specs.Sorted.{rising}
 use Rattle.ac_report.specs.Trees.{hosts}

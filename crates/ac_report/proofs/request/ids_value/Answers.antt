@@ -3,9 +3,9 @@ use Rattle.std.specs.List.{All}
 use Rattle.serde_json.specs.Data.{string}
 use Rattle.serde_json.specs.View.{view}
 use Rattle.ac_base.specs.Texts.{id_text}
-use Rattle.ac_tables.specs.CloudWorld.{providers_of}
+use Rattle.ac_tables.specs.Cloud.CloudWorld.{providers_of}
 use Rattle.ac_report.specs.Trees.{provider_text}
-use Rattle.ac_report.proofs.Gathering.{moved}
+use Rattle.ac_report.proofs.Trees.Gathering.{moved}
 use Rattle.ac_report.proofs.request.ids_value.Goals as goal
 
 pub loop-provider-preserved : goal.loop-provider-preserved

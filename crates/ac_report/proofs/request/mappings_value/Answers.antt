@@ -7,14 +7,14 @@ use Rattle.serde_json.specs.Data.{object}
 use Rattle.serde_json.specs.View.{view, members_view}
 use Rattle.serde_json.proofs.Views.{view-Object}
 use Rattle.ac_query.specs.Asked.{slots_of}
-use Rattle.ac_query.specs.GroupsShown.{group_entry}
-use Rattle.ac_query.specs.QueriesShown.{asked_of}
+use Rattle.ac_query.specs.Shown.Groups.{group_entry}
+use Rattle.ac_query.specs.Shown.Queries.{asked_of}
 use Rattle.ac_rules.specs.Placed.{assigned}
 use Rattle.ac_tables.specs.Sorted.{rising}
-use Rattle.ac_tables.specs.CloudWorld.{providers_of}
-use Rattle.ac_query.specs.InOrder.{group_name}
+use Rattle.ac_tables.specs.Cloud.CloudWorld.{providers_of}
+use Rattle.ac_query.specs.Laws.InOrder.{group_name}
 use Rattle.ac_report.specs.Trees.{gathered, hosts, mapping, mappings, mappings_from, provider_text, texts}
-use Rattle.ac_report.proofs.Gathering.{put_same}
+use Rattle.ac_report.proofs.Trees.Gathering.{put_same}
 use Rattle.ac_report.proofs.Serving.{all_hosts, all_rising, entry_at, mapped_more}
 use Rattle.ac_report.proofs.request.mappings_value.Goals as goal
 

@@ -2,10 +2,10 @@ use Rattle.std.proofs.Common.{◌≡◌, ◌<◌, ◌∙◌, ap, length, get_or,
 use Rattle.std.specs.Ordering.{nat_cmp}
 use Rattle.std.proofs.lemmas.List.{take_all}
 use Rattle.ac_query.specs.Asked.{slots_of}
-use Rattle.ac_query.specs.QueriesShown.{asked_of}
+use Rattle.ac_query.specs.Shown.Queries.{asked_of}
 use Rattle.ac_rules.specs.Placed.{placed, assigned}
 use Rattle.ac_tables.specs.Sorted.{rising}
-use Rattle.ac_query.specs.GroupsShown.{need_entry}
+use Rattle.ac_query.specs.Shown.Groups.{need_entry}
 use Rattle.ac_report.specs.Parts.{row, row_shown, with_needs}
 use Rattle.ac_report.proofs.Serving.{no_slot, placed_in, placed_in_is, placed_long, providers_are, needs_step, needs_are}
 use Rattle.ac_report.proofs.request.needs_by_provider.Goals as goal

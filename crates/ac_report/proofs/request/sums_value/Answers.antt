@@ -11,7 +11,7 @@ use Rattle.ac_query.specs.declared.group.Need.{Need}
 use Rattle.ac_rules.specs.Together.{amount_of}
 use Rattle.ac_report.specs.Parts.{need_at, sums_of}
 use Rattle.ac_report.specs.Trees.{gathered}
-use Rattle.ac_report.proofs.Gathering.{put_same, gathered_more, gathered_map, sum_at_is}
+use Rattle.ac_report.proofs.Trees.Gathering.{put_same, gathered_more, gathered_map, sum_at_is}
 use Rattle.ac_report.proofs.request.sums_value.Goals as goal
 
 pub loop-need-preserved : goal.loop-need-preserved

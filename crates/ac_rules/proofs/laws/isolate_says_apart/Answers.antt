@@ -1,4 +1,4 @@
-use Rattle.ac_rules.proofs.ApartLemmas.{isolate_says_apart}
+use Rattle.ac_rules.proofs.EachSlot.ApartLemmas.{isolate_says_apart}
 use Rattle.ac_rules.proofs.laws.isolate_says_apart.Goals as goal
 
 pub returns : goal.returns

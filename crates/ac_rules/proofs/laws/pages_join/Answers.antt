@@ -1,4 +1,4 @@
-use Rattle.ac_rules.proofs.PageLemmas.{pages_join}
+use Rattle.ac_rules.proofs.Lists.PageLemmas.{pages_join}
 use Rattle.ac_rules.proofs.laws.pages_join.Goals as goal
 
 pub returns : goal.returns

@@ -1,4 +1,4 @@
-use Rattle.ac_rules.proofs.FrontLemmas.{prefix_open}
+use Rattle.ac_rules.proofs.EachSlot.FrontLemmas.{prefix_open}
 use Rattle.ac_rules.proofs.laws.prefix_open.Goals as goal
 
 pub returns : goal.returns

@@ -1,4 +1,4 @@
-use Rattle.ac_rules.proofs.PageLemmas.{rest_begins}
+use Rattle.ac_rules.proofs.Lists.PageLemmas.{rest_begins}
 use Rattle.ac_rules.proofs.laws.rest_begins.Goals as goal
 
 pub returns : goal.returns

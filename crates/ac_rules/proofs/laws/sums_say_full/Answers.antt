@@ -1,4 +1,4 @@
-use Rattle.ac_rules.proofs.FullLemmas.{sums_say_full}
+use Rattle.ac_rules.proofs.EachSlot.FullLemmas.{sums_say_full}
 use Rattle.ac_rules.proofs.laws.sums_say_full.Goals as goal
 
 pub returns : goal.returns

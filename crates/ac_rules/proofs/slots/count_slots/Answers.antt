@@ -1,8 +1,8 @@
 use Rattle.std.proofs.Common.{length, ap, sym, ◌∙◌}
 use Rattle.std.proofs.lemmas.List.{length-map}
 use Rattle.ac_query.specs.Asked.{slots_of}
-use Rattle.ac_query.specs.QueriesShown.{asked_of}
-use Rattle.ac_query.specs.SlotsShown.{slot_group}
+use Rattle.ac_query.specs.Shown.Queries.{asked_of}
+use Rattle.ac_query.specs.Shown.Slots.{slot_group}
 use Rattle.ac_rules.proofs.slots.count_slots.Goals as goal
 
 pub returns-clause-count : goal.returns-clause-count

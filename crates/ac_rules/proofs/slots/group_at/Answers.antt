@@ -1,7 +1,7 @@
 use Rattle.std.proofs.Common.{ap, sym, ◌∙◌, get_or}
 use Rattle.std.proofs.Math.ListN.{get_or-map}
-use Rattle.ac_query.specs.GroupsShown.{group_entry}
-use Rattle.ac_query.specs.QueriesShown.{asked_of}
+use Rattle.ac_query.specs.Shown.Groups.{group_entry}
+use Rattle.ac_query.specs.Shown.Queries.{asked_of}
 use Rattle.ac_rules.proofs.SlotLemmas.{slot_entry}
 use Rattle.ac_rules.proofs.slots.group_at.Goals as goal
 

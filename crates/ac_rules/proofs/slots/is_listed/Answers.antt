@@ -1,5 +1,5 @@
 use Rattle.std.proofs.Common.{◌∙◌}
-use Rattle.ac_query.specs.QueriesShown.{asked_of}
+use Rattle.ac_query.specs.Shown.Queries.{asked_of}
 use Rattle.ac_rules.proofs.SlotLemmas.{listed_at}
 use Rattle.ac_rules.proofs.slots.is_listed.Goals as goal
 

@@ -2,8 +2,8 @@ use Rattle.std.proofs.Common.{◌≡◌, ℕ, ◌<◌, ap, sym, subst, length, �
 use Rattle.std.proofs.Math.ListN.{get_or-map}
 use Rattle.std.proofs.lemmas.List.{get_or-map as get_or-map_at}
 use Rattle.ac_query.specs.Asked.{slots_of}
-use Rattle.ac_query.specs.QueriesShown.{asked_of}
-use Rattle.ac_query.specs.SlotsShown.{slot_group}
+use Rattle.ac_query.specs.Shown.Queries.{asked_of}
+use Rattle.ac_query.specs.Shown.Slots.{slot_group}
 use Rattle.ac_rules.specs.Placed.{slot_at, no_slot}
 use Rattle.ac_rules.proofs.SlotLemmas.{place_within}
 use Rattle.ac_rules.proofs.slots.place_at.Goals as goal

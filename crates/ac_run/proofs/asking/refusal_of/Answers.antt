@@ -2,7 +2,7 @@ use Rattle.std.proofs.Common.{◌≡◌, Some, refl}
 use Rattle.std.specs.Option.{option_map}
 use Rattle.ac_base.specs.Names.{suffix_bytes}
 use Rattle.ac_query.specs.Faults.{Fault, too_long, unknown_parameter, repeated, bad_value, conflict, no_resources, group_without_resources, unknown_suffix, policy_missing, too_many_slots}
-use Rattle.ac_query.specs.FaultsShown.{fault_shown}
+use Rattle.ac_query.specs.Shown.Faults.{fault_shown}
 use Rattle.ac_query.specs.declared.fault.QueryFault.{QueryFault}
 use Rattle.ac_query.specs.declared.fault.QueryFault.TheVariants as variant
 use Rattle.ac_run.proofs.asking.refusal_of.Goals as goal

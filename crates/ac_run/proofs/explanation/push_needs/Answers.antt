@@ -2,7 +2,7 @@ use Rattle.std.proofs.Common.{◌≡◌, ◌∷◌, List, arith, codes, map, rul
 use Rattle.std.specs.List.{flat_map}
 use Rattle.ac_base.specs.Devices.{TakesPart}
 use Rattle.ac_base.proofs.Leaving.{part_of_first}
-use Rattle.ac_query.specs.GroupsShown.{need_entry}
+use Rattle.ac_query.specs.Shown.Groups.{need_entry}
 use Rattle.ac_query.specs.declared.group.Need.{Need}
 use Rattle.ac_run.specs.Explanation.{need_text, needs_text}
 use Rattle.ac_run.proofs.PiecesWritten.{on_err}

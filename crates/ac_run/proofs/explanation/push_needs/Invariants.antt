@@ -1,7 +1,7 @@
 use Rattle.std.proofs.Common.{◌≤◌, codes, drop, map}
 use Rattle.std.specs.List.{flat_map}
 use Rattle.ac_base.proofs.Leaving.{Leaves}
-use Rattle.ac_query.specs.GroupsShown.{need_entry}
+use Rattle.ac_query.specs.Shown.Groups.{need_entry}
 use Rattle.ac_run.specs.Explanation.{need_text, needs_text}
 use Rattle.ac_run.proofs.explanation.push_needs.Given as goal
 

@@ -1,7 +1,7 @@
 use Rattle.std.proofs.Common.{ap}
 use Rattle.std.specs.Option.{option_map}
 use Rattle.ac_query.specs.Tokens.{ids_of}
-use Rattle.ac_tables.specs.CloudWorld.{world_of}
+use Rattle.ac_tables.specs.Cloud.CloudWorld.{world_of}
 use Rattle.ac_run.proofs.WantedSaid.{said_candidates, said_explanation, said_tokens, said_verdict}
 use Rattle.ac_run.proofs.running.answer_over.Goals as goal
 

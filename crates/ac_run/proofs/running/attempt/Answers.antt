@@ -1,5 +1,5 @@
 use Rattle.std.specs.Prelude.{⊤}
-use Rattle.ac_tables.specs.CloudWorld.{world_of}
+use Rattle.ac_tables.specs.Cloud.CloudWorld.{world_of}
 use Rattle.ac_run.proofs.Attempted.{explains_reading, explains_tables, explains_outcome, writes}
 use Rattle.ac_run.specs.Draining.{texts_shown}
 use Rattle.ac_run.specs.Jobs.{task_of}

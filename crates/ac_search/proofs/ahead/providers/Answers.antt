@@ -1,7 +1,7 @@
 use Rattle.std.proofs.Common.{◌∙◌, ◌∷◌, ◌++◌, [], ℕ, length, ap, sym, arith}
 use Rattle.std.specs.List.{range_with_len}
 use Rattle.std.proofs.lemmas.List.FromFn.{length-range_with_len}
-use Rattle.ac_search.proofs.OpenLemmas.{range_with_len_more}
+use Rattle.ac_search.proofs.Search.OpenLemmas.{range_with_len_more}
 use Rattle.ac_search.proofs.ahead.providers.Goals as goal
 
 pub loop-ix-preserved : goal.loop-ix-preserved

@@ -1,7 +1,7 @@
 use Rattle.std.proofs.Common.{refl}
-use Rattle.ac_query.specs.QueriesShown.{asked_of}
-use Rattle.ac_tables.specs.CloudWorld.{providers_of}
-use Rattle.ac_search.proofs.OpenLemmas.{fits_none}
+use Rattle.ac_query.specs.Shown.Queries.{asked_of}
+use Rattle.ac_tables.specs.Cloud.CloudWorld.{providers_of}
+use Rattle.ac_search.proofs.Search.OpenLemmas.{fits_none}
 use Rattle.ac_search.proofs.choices.all_choices.Goals as goal
 
 pub is_open-opens-requires-clause-own : goal.is_open-opens-requires-clause-own

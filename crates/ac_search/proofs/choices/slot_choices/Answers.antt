@@ -1,10 +1,10 @@
 use Rattle.std.proofs.Common.{ℕ, ◌&&◌, arith, append-nil, ◌∙◌}
 use Rattle.std.proofs.lemmas.Grind.{common_steps}
-use Rattle.ac_query.specs.QueriesShown.{asked_of}
-use Rattle.ac_tables.specs.CloudWorld.{providers_of}
+use Rattle.ac_query.specs.Shown.Queries.{asked_of}
+use Rattle.ac_tables.specs.Cloud.CloudWorld.{providers_of}
 use Rattle.ac_rules.specs.Placed.{placed_at, slot_at}
 use Rattle.ac_search.specs.QuerySearch.{fits}
-use Rattle.ac_search.proofs.OpenLemmas.{choice_more, choice_all}
+use Rattle.ac_search.proofs.Search.OpenLemmas.{choice_more, choice_all}
 use Rattle.ac_search.proofs.choices.slot_choices.Goals as goal
 use Rattle.ac_search.proofs.choices.slot_choices.Goals.{then-is_choice+in_ok-push, else-is_choice}
 

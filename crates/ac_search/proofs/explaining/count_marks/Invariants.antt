@@ -1,5 +1,5 @@
 use Rattle.std.proofs.Common.{◌≡◌, take}
-use Rattle.ac_search.specs.ExplainedShown.{marked}
+use Rattle.ac_search.specs.Shown.Explained.{marked}
 use Rattle.ac_search.proofs.explaining.count_marks.Given as goal
 
 abbrev pub invariant-loop-mark : goal.invariant-loop-mark

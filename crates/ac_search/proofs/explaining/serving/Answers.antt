@@ -1,11 +1,11 @@
 use Rattle.std.proofs.Common.{ℕ, arith}
 use Rattle.std.specs.Prelude.{if◌then◌else◌}
 use Rattle.std.proofs.lemmas.Grind.{common_steps}
-use Rattle.ac_query.specs.QueriesShown.{asked_of}
-use Rattle.ac_tables.specs.CloudWorld.{providers_of}
+use Rattle.ac_query.specs.Shown.Queries.{asked_of}
+use Rattle.ac_tables.specs.Cloud.CloudWorld.{providers_of}
 use Rattle.ac_rules.specs.Placed.{placed_at}
 use Rattle.ac_search.specs.Explained.{meets_room}
-use Rattle.ac_search.proofs.OpenLemmas.{map_range_more}
+use Rattle.ac_search.proofs.Search.OpenLemmas.{map_range_more}
 use Rattle.ac_search.proofs.explaining.serving.Goals as goal
 
 pub loop-ix-preserved : goal.loop-ix-preserved

@@ -2,14 +2,14 @@ use Rattle.std.proofs.Common.{◌∙◌, ◌&&◌, length, ap, arith, refl}
 use Rattle.std.proofs.lemmas.List.{with_items_is}
 use Rattle.std.proofs.lemmas.List.FromFn.{length-map-range_with_len}
 use Rattle.std.specs.List.{list_all, range_with_len}
-use Rattle.ac_query.specs.QueriesShown.{asked_of}
-use Rattle.ac_tables.specs.CloudWorld.{providers_of}
+use Rattle.ac_query.specs.Shown.Queries.{asked_of}
+use Rattle.ac_tables.specs.Cloud.CloudWorld.{providers_of}
 use Rattle.ac_query.specs.Asked.{slots_of}
 use Rattle.ac_search.specs.Explained.{is_served}
-use Rattle.ac_search.specs.ExplainedShown.{marked}
+use Rattle.ac_search.specs.Shown.Explained.{marked}
 use Rattle.ac_rules.specs.Together.{takes_root}
 use Rattle.ac_search.proofs.ExplainedLemmas.{marked_map, served_none}
-use Rattle.ac_search.proofs.StepLemmas.{few_providers}
+use Rattle.ac_search.proofs.Steps.StepLemmas.{few_providers}
 use Rattle.ac_search.proofs.explaining.tree_counts.Goals as goal
 
 pub count_marks-root_traits-requires : goal.count_marks-root_traits-requires

@@ -1,6 +1,6 @@
 use Rattle.std.proofs.Common.{◌<◌, ◌≤◌, List, ℕ, length, sym, subst}
 use Rattle.std.specs.List.{All}
-use Rattle.ac_search.proofs.TreeLemmas.{list_at}
+use Rattle.ac_search.proofs.Roots.TreeLemmas.{list_at}
 use Rattle.ac_search.proofs.families.all_places.Goals as goal
 
 pub places_of-requires-clause-few : goal.places_of-requires-clause-few

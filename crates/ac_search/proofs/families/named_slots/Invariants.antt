@@ -1,6 +1,6 @@
 use Rattle.std.proofs.Common.{◌≡◌, [], map, get_or, take}
 use Rattle.ac_query.specs.Asked.{slots_of, lists_suffix}
-use Rattle.ac_query.specs.QueriesShown.{asked_of}
+use Rattle.ac_query.specs.Shown.Queries.{asked_of}
 use Rattle.ac_search.proofs.families.named_slots.Given as goal
 
 abbrev pub invariant-loop-s : goal.invariant-loop-s

@@ -2,11 +2,11 @@ use Rattle.std.proofs.Common.{◌≡◌, ◌∙◌, Bool, List, length, map, ap,
 use Rattle.std.specs.List.{range_with_len}
 use Rattle.std.proofs.lemmas.List.{length-map, with_items_is}
 use Rattle.std.proofs.lemmas.List.FromFn.{length-range_with_len}
-use Rattle.ac_search.specs.Accounts.{providers_in, asked_in}
+use Rattle.ac_search.specs.Left.Accounts.{providers_in, asked_in}
 use Rattle.ac_search.specs.Ahead.{AreRoots}
 use Rattle.ac_rules.specs.Together.{takes_root}
 use Rattle.ac_search.specs.declared.ledger.Ledger.{Ledger}
-use Rattle.ac_search.proofs.RootLemmas.{takes_host}
+use Rattle.ac_search.proofs.Roots.RootLemmas.{takes_host}
 use Rattle.ac_search.proofs.hosts.host_roots.Goals as goal
 
 many : (l : Ledger) (taken : List Bool) → taken ≡ map (takes_root (providers_in l) (asked_in l)) (range_with_len 0 (length (providers_in l))) → length taken ≡ length (providers_in l)

@@ -1,5 +1,5 @@
 use Rattle.ac_base.specs.Names.{class_bytes}
-use Rattle.ac_search.proofs.RootLemmas.{known_item}
+use Rattle.ac_search.proofs.Roots.RootLemmas.{known_item}
 use Rattle.ac_search.proofs.hosts.limit_classes.Goals as goal
 
 pub new-requires-clause-known : goal.new-requires-clause-known

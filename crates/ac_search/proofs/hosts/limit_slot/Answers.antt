@@ -1,10 +1,10 @@
 use Rattle.std.proofs.Common.{◌≡◌, ◌<◌, ℕ, List, length, map, sym, ap, subst, ◌∙◌}
 use Rattle.std.specs.List.{All}
 use Rattle.ac_search.specs.Left.{ask_pair}
-use Rattle.ac_search.proofs.LedgerLemmas.{asks_at}
-use Rattle.ac_search.specs.Accounts.{providers_in, asked_in}
+use Rattle.ac_search.proofs.Paths.LedgerLemmas.{asks_at}
+use Rattle.ac_search.specs.Left.Accounts.{providers_in, asked_in}
 use Rattle.ac_rules.specs.Placed.{slot_at}
-use Rattle.ac_search.proofs.RootLemmas.{if_ok, slot_keeps, choice_low}
+use Rattle.ac_search.proofs.Roots.RootLemmas.{if_ok, slot_keeps, choice_low}
 use Rattle.ac_search.proofs.hosts.limit_slot.Goals as goal
 
 pub serving-requires : goal.serving-requires

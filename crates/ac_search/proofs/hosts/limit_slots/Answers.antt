@@ -1,8 +1,8 @@
 use Rattle.std.proofs.Common.{◌∙◌, arith}
-use Rattle.ac_search.specs.Accounts.{providers_in, asked_in}
+use Rattle.ac_search.specs.Left.Accounts.{providers_in, asked_in}
 use Rattle.ac_search.specs.QuerySearch.{search_of}
-use Rattle.ac_search.proofs.OpenLemmas.{is_search, choices_here}
-use Rattle.ac_search.proofs.KeptLemmas.{kept_choices}
+use Rattle.ac_search.proofs.Search.OpenLemmas.{is_search, choices_here}
+use Rattle.ac_search.proofs.Roots.KeptLemmas.{kept_choices}
 use Rattle.ac_search.proofs.hosts.limit_slots.Goals as goal
 
 pub limit_slot-requires-clause-choices : goal.limit_slot-requires-clause-choices

@@ -2,7 +2,7 @@ use Rattle.std.proofs.Common.{◌≡◌, ◌∙◌, inl, inr, sym, arith, get_or
 use Rattle.std.proofs.lemmas.Bool.{cases_lt}
 use Rattle.std.proofs.lemmas.List.{get_or_default}
 use Rattle.std.proofs.lemmas.List.Sorted.{searched}
-use Rattle.ac_search.proofs.TreeLemmas.{there_at, at_there}
+use Rattle.ac_search.proofs.Roots.TreeLemmas.{there_at, at_there}
 use Rattle.ac_search.proofs.trees.least_from.Goals as goal
 
 pub returns-in-Ok : goal.returns-in-Ok

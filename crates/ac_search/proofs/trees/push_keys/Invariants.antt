@@ -1,5 +1,5 @@
 use Rattle.std.proofs.Common.{◌≡◌, ◌++◌, map, take}
-use Rattle.ac_search.specs.Keys.{key_of}
+use Rattle.ac_search.specs.Trees.Keys.{key_of}
 use Rattle.ac_search.proofs.trees.push_keys.Given as goal
 
 abbrev pub invariant-loop-tree : goal.invariant-loop-tree

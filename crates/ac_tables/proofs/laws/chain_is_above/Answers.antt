@@ -1,4 +1,4 @@
-use Rattle.ac_tables.proofs.LawFacts.{chain_is_above}
+use Rattle.ac_tables.proofs.Trees.LawFacts.{chain_is_above}
 use Rattle.ac_tables.proofs.laws.chain_is_above.Goals as goal
 
 pub returns : goal.returns

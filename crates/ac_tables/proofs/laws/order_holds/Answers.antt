@@ -1,4 +1,4 @@
-use Rattle.ac_tables.proofs.OrderFacts.{order_holds}
+use Rattle.ac_tables.proofs.Sorted.OrderFacts.{order_holds}
 use Rattle.ac_tables.proofs.laws.order_holds.Goals as goal
 
 pub returns : goal.returns

@@ -1,4 +1,4 @@
-use Rattle.ac_tables.proofs.LawFacts.{top_is_root}
+use Rattle.ac_tables.proofs.Trees.LawFacts.{top_is_root}
 use Rattle.ac_tables.proofs.laws.top_is_root.Goals as goal
 
 pub returns : goal.returns

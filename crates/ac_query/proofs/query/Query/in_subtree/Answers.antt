@@ -3,9 +3,9 @@ use Rattle.std.specs.Option.{option_map}
 use Rattle.ac_base.specs.Names.{suffix_bytes}
 use Rattle.ac_query.specs.Asked.{slots_of}
 use Rattle.ac_query.specs.Shown.{suffixes_shown}
-use Rattle.ac_query.specs.GroupsShown.{group_entry}
-use Rattle.ac_query.specs.QueriesShown.{asked_of}
-use Rattle.ac_query.proofs.NameSets.{contains_text}
+use Rattle.ac_query.specs.Shown.Groups.{group_entry}
+use Rattle.ac_query.specs.Shown.Queries.{asked_of}
+use Rattle.ac_query.proofs.Values.NameSets.{contains_text}
 use Rattle.ac_query.proofs.Slots.{shown_read, slot_there, listed_is, unlisted_is}
 use Rattle.ac_query.proofs.query.Query.in_subtree.Goals as goal
 

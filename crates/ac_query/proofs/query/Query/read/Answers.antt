@@ -1,9 +1,9 @@
 use Rattle.std.proofs.Common.{◌≡◌, ◌∙◌, IfSome, Some}
 use Rattle.ac_query.specs.Pairs.{pairs_of}
 use Rattle.ac_query.specs.Faults.{query_fault}
-use Rattle.ac_query.specs.FaultsShown.{fault_shown}
-use Rattle.ac_query.specs.DraftShown.{draft_shown}
-use Rattle.ac_query.proofs.PairSteps.{err_is}
+use Rattle.ac_query.specs.Shown.Faults.{fault_shown}
+use Rattle.ac_query.specs.Shown.Draft.{draft_shown}
+use Rattle.ac_query.proofs.Pairs.PairSteps.{err_is}
 use Rattle.ac_query.proofs.Wholes.{asked_is, text_tells, goes_on, whole_tells, asks_record}
 use Rattle.ac_query.proofs.query.Query.read.Goals as goal
 

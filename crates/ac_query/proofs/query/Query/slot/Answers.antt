@@ -1,7 +1,7 @@
 use Rattle.std.proofs.Common.{arith, length, refl}
 use Rattle.std.proofs.lemmas.Option.{slice_get_read}
 use Rattle.ac_query.specs.Asked.{slots_of}
-use Rattle.ac_query.specs.QueriesShown.{asked_of}
+use Rattle.ac_query.specs.Shown.Queries.{asked_of}
 use Rattle.ac_query.proofs.Slots.{slot_at, slot_there, slots_count, group_within}
 use Rattle.ac_query.proofs.query.Query.slot.Goals as goal
 

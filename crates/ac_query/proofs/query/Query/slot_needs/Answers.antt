@@ -2,9 +2,9 @@ use Rattle.std.proofs.Common.{◌∙◌, Some, map, subst, sym, ap, refl}
 use Rattle.std.specs.List.Sorted.{IsStrictlySortedBy}
 use Rattle.ac_base.specs.Texts.{text_cmp}
 use Rattle.ac_query.specs.Asked.{slots_of}
-use Rattle.ac_query.specs.GroupsShown.{need_class, group_entry}
-use Rattle.ac_query.specs.QueriesShown.{asked_of}
-use Rattle.ac_query.proofs.NameSets.{one_rises}
+use Rattle.ac_query.specs.Shown.Groups.{need_class, group_entry}
+use Rattle.ac_query.specs.Shown.Queries.{asked_of}
+use Rattle.ac_query.proofs.Values.NameSets.{one_rises}
 use Rattle.ac_query.proofs.Slots.{shown_read, slot_there, needs_whole}
 use Rattle.ac_query.proofs.query.Query.slot_needs.Goals as goal
 

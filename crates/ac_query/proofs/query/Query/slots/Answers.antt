@@ -1,7 +1,7 @@
 use Rattle.std.proofs.Common.{◌∙◌, ap, map}
-use Rattle.ac_query.specs.SlotsShown.{slot_group}
+use Rattle.ac_query.specs.Shown.Slots.{slot_group}
 use Rattle.ac_query.specs.Asked.{slots_of}
-use Rattle.ac_query.specs.QueriesShown.{asked_of}
+use Rattle.ac_query.specs.Shown.Queries.{asked_of}
 use Rattle.ac_query.proofs.Slots.{places_are}
 use Rattle.ac_query.proofs.query.Query.slots.Goals as goal
 

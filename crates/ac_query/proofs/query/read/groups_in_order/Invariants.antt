@@ -1,7 +1,7 @@
 use Rattle.std.proofs.Common.{◌≡◌, ◌++◌, map}
-use Rattle.ac_query.specs.Gathered.{of_suffix}
-use Rattle.ac_query.specs.GroupsShown.{group_entry}
-use Rattle.ac_query.specs.DraftShown.{entry_shown, plain_shown, suffixed_shown}
+use Rattle.ac_query.specs.Laws.Gathered.{of_suffix}
+use Rattle.ac_query.specs.Shown.Groups.{group_entry}
+use Rattle.ac_query.specs.Shown.Draft.{entry_shown, plain_shown, suffixed_shown}
 use Rattle.ac_query.proofs.query.read.groups_in_order.Given as goal
 
 abbrev pub invariant-loop-suffix : goal.invariant-loop-suffix

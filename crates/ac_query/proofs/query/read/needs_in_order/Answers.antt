@@ -4,11 +4,11 @@ use Rattle.std.specs.Map.{keys_of}
 use Rattle.ac_base.specs.Names.{class_bytes}
 use Rattle.ac_base.specs.Texts.{text_cmp}
 use Rattle.ac_base.specs.declared.name.ClassName.{ClassName}
-use Rattle.ac_query.specs.declared.amount.Amount.{Amount}
-use Rattle.ac_query.specs.GroupsShown.{need_entry}
+use Rattle.ac_query.specs.declared.reading.amount.Amount.{Amount}
+use Rattle.ac_query.specs.Shown.Groups.{need_entry}
 use Rattle.ac_query.specs.Shown.{need_shown, needs_shown}
-use Rattle.ac_query.proofs.NameSets.{rising_shown}
-use Rattle.ac_query.proofs.NeedSteps.{classes_kept}
+use Rattle.ac_query.proofs.Values.NameSets.{rising_shown}
+use Rattle.ac_query.proofs.Values.NeedSteps.{classes_kept}
 use Rattle.ac_query.proofs.query.read.needs_in_order.Goals as goal
 
 -- the classes of a map's entries

@@ -1,6 +1,6 @@
 use Rattle.std.proofs.Common.{◌≡◌, ◌++◌, map}
 use Rattle.ac_query.specs.Shown.{need_shown, needs_shown}
-use Rattle.ac_query.specs.GroupsShown.{need_entry}
+use Rattle.ac_query.specs.Shown.Groups.{need_entry}
 use Rattle.ac_query.proofs.query.read.needs_in_order.Given as goal
 
 abbrev pub invariant-loop-class : goal.invariant-loop-class

@@ -1,10 +1,10 @@
 use Rattle.std.proofs.Common.{◌≡◌, ◌∙◌, ap, map, length, arith, List, Some, subst, sum_by}
 use Rattle.ac_query.specs.Faults.{entry_count}
 use Rattle.ac_query.specs.declared.group.Group.{Group}
-use Rattle.ac_query.specs.SlotsShown.{slot_shown}
+use Rattle.ac_query.specs.Shown.Slots.{slot_shown}
 use Rattle.ac_query.specs.Asked.{slots_from}
-use Rattle.ac_query.specs.GroupsShown.{group_entry}
-use Rattle.ac_query.specs.DraftShown.{draft_asked}
+use Rattle.ac_query.specs.Shown.Groups.{group_entry}
+use Rattle.ac_query.specs.Shown.Draft.{draft_asked}
 use Rattle.ac_query.proofs.Slots.{slots_count}
 use Rattle.ac_query.proofs.SlotCounts.{some_slots, few_slots, few_entries}
 use Rattle.ac_query.proofs.query.read.query_of.Goals as goal

@@ -1,6 +1,6 @@
 use Rattle.std.proofs.Common.{map, arith}
 use Rattle.std.proofs.lemmas.List.{length-map}
-use Rattle.ac_query.specs.GroupsShown.{group_entry}
+use Rattle.ac_query.specs.Shown.Groups.{group_entry}
 use Rattle.ac_query.proofs.Slots.{slots_go_on, shown_read}
 use Rattle.ac_query.proofs.query.read.slots_in_order.Goals as goal
 

@@ -1,7 +1,7 @@
 use Rattle.std.proofs.Common.{◌≡◌, ◌++◌, map, drop, Some}
 use Rattle.ac_query.specs.Asked.{slots_from}
-use Rattle.ac_query.specs.GroupsShown.{group_entry}
-use Rattle.ac_query.specs.SlotsShown.{slot_shown}
+use Rattle.ac_query.specs.Shown.Groups.{group_entry}
+use Rattle.ac_query.specs.Shown.Slots.{slot_shown}
 use Rattle.ac_query.proofs.query.read.slots_in_order.Given as goal
 
 abbrev pub invariant-loop-place : goal.invariant-loop-place

@@ -1,6 +1,6 @@
 use Rattle.std.proofs.Common.{◌≡◌, ◌++◌, drop}
 use Rattle.std.specs.Option.{option_map}
-use Rattle.ac_tables.specs.CloudWorld.{providers_of}
+use Rattle.ac_tables.specs.Cloud.CloudWorld.{providers_of}
 use Rattle.ac_query.specs.Located.{places_of}
 use Rattle.ac_query.specs.Tokens.{ids_of}
 use Rattle.ac_query.proofs.token.Token.locate.Given as goal

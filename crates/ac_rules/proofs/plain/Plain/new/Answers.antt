@@ -1,10 +1,10 @@
 use Rattle.std.proofs.Common.{ap, ◌∙◌}
 use Rattle.std.specs.Option.{option_map}
-use Rattle.ac_query.specs.QueriesShown.{asked_of}
-use Rattle.ac_tables.specs.CloudWorld.{providers_of}
+use Rattle.ac_query.specs.Shown.Queries.{asked_of}
+use Rattle.ac_tables.specs.Cloud.CloudWorld.{providers_of}
 use Rattle.ac_rules.specs.Pages.{rest}
-use Rattle.ac_rules.specs.PlainShown.{chosen}
-use Rattle.ac_rules.proofs.ChosenLemmas.{chosen_all}
+use Rattle.ac_rules.specs.Shown.Plain.{chosen}
+use Rattle.ac_rules.proofs.Lists.ChosenLemmas.{chosen_all}
 use Rattle.ac_rules.proofs.plain.Plain.new.Goals as goal
 
 pub returns : goal.returns

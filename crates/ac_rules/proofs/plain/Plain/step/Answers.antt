@@ -1,12 +1,12 @@
 use Rattle.std.proofs.Common.{◌≡◌, ◌&&◌, ℕ, List, [], ◌∷◌, Bool, true, false, sym, ap, ◌∙◌}
-use Rattle.ac_query.specs.QueriesShown.{asked_of}
-use Rattle.ac_tables.specs.CloudWorld.{providers_of}
+use Rattle.ac_query.specs.Shown.Queries.{asked_of}
+use Rattle.ac_tables.specs.Cloud.CloudWorld.{providers_of}
 use Rattle.ac_rules.specs.Judge.{is_candidate}
 use Rattle.ac_rules.specs.Pages.{is_after}
-use Rattle.ac_rules.specs.ListsShown.{list_of, lists_left}
-use Rattle.ac_rules.specs.PlainShown.{after_of, chosen, left_of}
+use Rattle.ac_rules.specs.Shown.Lists.{list_of, lists_left}
+use Rattle.ac_rules.specs.Shown.Plain.{after_of, chosen, left_of}
 use Rattle.ac_rules.specs.declared.plain.Plain.{Plain}
-use Rattle.ac_rules.proofs.ChosenLemmas.{chosen_here, chosen_later, chosen_none}
+use Rattle.ac_rules.proofs.Lists.ChosenLemmas.{chosen_here, chosen_later, chosen_none}
 use Rattle.ac_rules.proofs.plain.Plain.step.Goals as goal
 
 -- what is left, where these are the lists that are still to come

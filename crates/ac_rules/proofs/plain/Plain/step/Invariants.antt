@@ -1,6 +1,6 @@
 use Rattle.std.proofs.Common.{◌≡◌, length}
-use Rattle.ac_rules.specs.ListsShown.{lists_left}
-use Rattle.ac_rules.specs.PlainShown.{left_of}
+use Rattle.ac_rules.specs.Shown.Lists.{lists_left}
+use Rattle.ac_rules.specs.Shown.Plain.{left_of}
 use Rattle.ac_rules.proofs.plain.Plain.step.Given as goal
 
 abbrev pub invariant-loop-self : goal.invariant-loop-self

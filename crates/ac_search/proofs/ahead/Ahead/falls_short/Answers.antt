@@ -1,7 +1,7 @@
 use Rattle.std.proofs.Common.{◌∙◌, ◌-◌, ◌<◌, ℕ, List, length, slice_index, ap, sym, subst, arith}
-use Rattle.ac_rules.proofs.AnchorLemmas.{anchors_within}
-use Rattle.ac_search.specs.Accounts.{providers_in, asked_in}
-use Rattle.ac_search.proofs.AheadLemmas.{bound_dead}
+use Rattle.ac_rules.proofs.EachSlot.AnchorLemmas.{anchors_within}
+use Rattle.ac_search.specs.Left.Accounts.{providers_in, asked_in}
+use Rattle.ac_search.proofs.Paths.AheadLemmas.{bound_dead}
 use Rattle.ac_search.proofs.ahead.Ahead.falls_short.Goals as goal
 
 pub lacks_any-requires-clause-whole : goal.lacks_any-requires-clause-whole

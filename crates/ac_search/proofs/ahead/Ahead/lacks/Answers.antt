@@ -1,5 +1,5 @@
 use Rattle.ac_base.specs.Names.{class_bytes}
-use Rattle.ac_search.proofs.AheadLemmas.{pieces_lack}
+use Rattle.ac_search.proofs.Paths.AheadLemmas.{pieces_lack}
 use Rattle.ac_search.proofs.ahead.Ahead.lacks.Goals as goal
 
 pub returns-then-pieces-count_asking : goal.returns-then-pieces-count_asking

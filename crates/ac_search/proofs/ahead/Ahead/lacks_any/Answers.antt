@@ -1,5 +1,5 @@
 use Rattle.ac_base.specs.Names.{class_bytes}
-use Rattle.ac_search.proofs.RootLemmas.{known_item}
+use Rattle.ac_search.proofs.Roots.RootLemmas.{known_item}
 use Rattle.ac_search.proofs.ahead.Ahead.lacks_any.Goals as goal
 
 pub lacks-requires-clause-known : goal.lacks-requires-clause-known

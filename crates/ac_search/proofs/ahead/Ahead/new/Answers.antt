@@ -1,8 +1,8 @@
 use Rattle.std.proofs.Common.{◌<◌, ◌∙◌, length, sym, subst, arith}
 use Rattle.std.specs.List.{All, range_with_len}
 use Rattle.std.proofs.lemmas.List.Elements.{All-from_recursion}
-use Rattle.ac_rules.proofs.AnchorLemmas.{each_range}
-use Rattle.ac_search.specs.Accounts.{providers_in}
+use Rattle.ac_rules.proofs.EachSlot.AnchorLemmas.{each_range}
+use Rattle.ac_search.specs.Left.Accounts.{providers_in}
 use Rattle.ac_search.proofs.ahead.Ahead.new.Goals as goal
 
 pub new-requires-clause-providers : goal.new-requires-clause-providers

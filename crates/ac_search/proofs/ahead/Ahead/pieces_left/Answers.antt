@@ -1,9 +1,9 @@
 use Rattle.std.proofs.Common.{◌≡◌, ◌∙◌, ◌-◌, ◌/◌, ◌^◌, ◌<◌, ℕ, length, map, ap, arith}
 use Rattle.ac_tables.specs.World.{is_available_at}
-use Rattle.ac_search.specs.Accounts.{providers_in}
+use Rattle.ac_search.specs.Left.Accounts.{providers_in}
 use Rattle.ac_search.specs.Left.{left_in, room_pair, row_of}
-use Rattle.ac_search.proofs.AheadLemmas.{all_counted, none_passed, load_found}
-use Rattle.ac_search.proofs.RowLemmas.{row_is}
+use Rattle.ac_search.proofs.Paths.AheadLemmas.{all_counted, none_passed, load_found}
+use Rattle.ac_search.proofs.Paths.RowLemmas.{row_is}
 use Rattle.ac_search.proofs.ahead.Ahead.pieces_left.Goals as goal
 
 pub returns-then-ix-len : goal.returns-then-ix-len

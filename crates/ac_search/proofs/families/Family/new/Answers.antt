@@ -1,10 +1,10 @@
 use Rattle.std.proofs.Common.{◌≡◌, ◌∙◌, ◌<◌, ℕ, [], length, map, ap, sym, subst, arith, slice_index_or}
 use Rattle.std.specs.List.{All}
-use Rattle.ac_search.specs.Accounts.{providers_in, asked_in}
+use Rattle.ac_search.specs.Left.Accounts.{providers_in, asked_in}
 use Rattle.ac_search.specs.QuerySearch.{search_of}
-use Rattle.ac_search.proofs.KeptLemmas.{kept_few, kept_low}
-use Rattle.ac_search.proofs.OpenLemmas.{is_search}
-use Rattle.ac_search.proofs.StepLemmas.{few_providers}
+use Rattle.ac_search.proofs.Roots.KeptLemmas.{kept_few, kept_low}
+use Rattle.ac_search.proofs.Search.OpenLemmas.{is_search}
+use Rattle.ac_search.proofs.Steps.StepLemmas.{few_providers}
 use Rattle.ac_search.proofs.families.Family.new.Goals as goal
 
 pub all_places-requires-clause-few : goal.all_places-requires-clause-few

@@ -3,11 +3,11 @@ use Rattle.std.proofs.lemmas.List.{length-map, get_or_default}
 use Rattle.std.proofs.lemmas.List.Elements.{recursion_from_All}
 use Rattle.ac_query.specs.Asked.{Slot, slots_of, lists_suffix}
 use Rattle.ac_rules.proofs.SlotLemmas.{each_at}
-use Rattle.ac_search.specs.Keys.{key_of, is_there}
+use Rattle.ac_search.specs.Trees.Keys.{key_of, is_there}
 use Rattle.ac_search.specs.Families.{choices_here}
 use Rattle.ac_search.specs.QuerySearch.{choice_of, choices_of}
 use Rattle.ac_search.specs.Trees.{IsByPart}
-use Rattle.ac_search.proofs.PartLemmas.{kin_dead, named_at}
+use Rattle.ac_search.proofs.Roots.PartLemmas.{kin_dead, named_at}
 use Rattle.ac_search.proofs.families.Family.next.Goals as goal
 
 pub returns-then-from-len-clause-passed : goal.returns-then-from-len-clause-passed

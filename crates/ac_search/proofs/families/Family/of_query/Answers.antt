@@ -1,8 +1,8 @@
 use Rattle.std.proofs.Common.{◌≡◌, ◌∙◌, ◌<◌, ◌∷◌, ◌++◌, [], ℕ, List, length, length-append, slice_index_or, get_or, subst, sym, ap, arith}
-use Rattle.ac_search.specs.Accounts.{providers_in, asked_in}
+use Rattle.ac_search.specs.Left.Accounts.{providers_in, asked_in}
 use Rattle.ac_search.specs.Families.{IsFamily}
 use Rattle.ac_search.specs.declared.families.Family.{Family}
-use Rattle.ac_search.proofs.PartLemmas.{each_more}
+use Rattle.ac_search.proofs.Roots.PartLemmas.{each_more}
 use Rattle.ac_search.proofs.families.Family.of_query.Goals as goal
 
 pub loop-k-preserved : goal.loop-k-preserved

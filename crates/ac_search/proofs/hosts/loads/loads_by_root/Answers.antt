@@ -1,9 +1,9 @@
 use Rattle.std.proofs.Common.{◌≡◌, ◌∙◌, ◌<◌, ◌-◌, ◌^◌, ℕ, length, slice_index, sym, ap, subst, arith}
 use Rattle.std.specs.List.{All}
 use Rattle.std.proofs.lemmas.List.{with_items_is}
-use Rattle.ac_tables.specs.CloudWorld.{providers_of}
-use Rattle.ac_rules.proofs.AnchorLemmas.{anchors_within}
-use Rattle.ac_search.proofs.CountLemmas.{load_next, load_hosts}
+use Rattle.ac_tables.specs.Cloud.CloudWorld.{providers_of}
+use Rattle.ac_rules.proofs.EachSlot.AnchorLemmas.{anchors_within}
+use Rattle.ac_search.proofs.Roots.CountLemmas.{load_next, load_hosts}
 use Rattle.ac_search.proofs.hosts.loads.loads_by_root.Goals as goal
 
 pub add_at-requires : goal.add_at-requires

@@ -2,7 +2,7 @@ use Rattle.std.proofs.Common.{◌≡◌, ◌<◌, ◌-◌, ◌^◌, ℕ, length,
 use Rattle.std.specs.Prelude.{min}
 use Rattle.std.specs.List.{filter, range_with_len}
 use Rattle.ac_tables.specs.World.{is_available_at}
-use Rattle.ac_tables.specs.CloudWorld.{providers_of}
+use Rattle.ac_tables.specs.Cloud.CloudWorld.{providers_of}
 use Rattle.ac_search.specs.Ahead.{load_of}
 use Rattle.ac_search.proofs.hosts.loads.loads_by_root.Given as goal
 

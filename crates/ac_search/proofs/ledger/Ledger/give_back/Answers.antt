@@ -4,12 +4,12 @@ use Rattle.std.proofs.lemmas.List.{with_items_is}
 use Rattle.ac_rules.specs.Placed.{placed_at, assigned, slot_at}
 use Rattle.ac_search.specs.Left.{ask_pair, numbered, place_of, row_of, Takes, AreLeft}
 use Rattle.ac_search.specs.Marks.{AreMarks, AreHits}
-use Rattle.ac_search.specs.Accounts.{providers_in, asked_in, texts_in}
-use Rattle.ac_rules.proofs.AnchorLemmas.{anchors_within}
-use Rattle.ac_search.proofs.OpenLemmas.{placed_next}
-use Rattle.ac_search.proofs.RoomLemmas.{there_same}
-use Rattle.ac_search.proofs.LeftLemmas.{left_less}
-use Rattle.ac_search.proofs.LedgerLemmas.{asks_at, lone_at, known_in, room_back, mark_there, hit_there, marks_back, hits_back}
+use Rattle.ac_search.specs.Left.Accounts.{providers_in, asked_in, texts_in}
+use Rattle.ac_rules.proofs.EachSlot.AnchorLemmas.{anchors_within}
+use Rattle.ac_search.proofs.Search.OpenLemmas.{placed_next}
+use Rattle.ac_search.proofs.Paths.RoomLemmas.{there_same}
+use Rattle.ac_search.proofs.Paths.LeftLemmas.{left_less}
+use Rattle.ac_search.proofs.Paths.LedgerLemmas.{asks_at, lone_at, known_in, room_back, mark_there, hit_there, marks_back, hits_back}
 use Rattle.ac_search.proofs.ledger.Ledger.give_back.Goals as goal
 
 pub give_row-requires-clause-there : goal.give_row-requires-clause-there

@@ -1,10 +1,10 @@
 use Rattle.std.proofs.Common.{◌≡◌, ◌∙◌, map, ap, ap₂, arith}
 use Rattle.ac_rules.specs.Placed.{slot_at}
-use Rattle.ac_search.specs.Accounts.{asked_in, texts_in}
+use Rattle.ac_search.specs.Left.Accounts.{asked_in, texts_in}
 use Rattle.ac_search.specs.Left.{ask_pair, room_pair, row_of, has_each}
-use Rattle.ac_search.proofs.RowLemmas.{row_is}
-use Rattle.ac_search.proofs.LeftLemmas.{each_suffices}
-use Rattle.ac_search.proofs.LedgerLemmas.{asks_at, known_in, slot_rises}
+use Rattle.ac_search.proofs.Paths.RowLemmas.{row_is}
+use Rattle.ac_search.proofs.Paths.LeftLemmas.{each_suffices}
+use Rattle.ac_search.proofs.Paths.LedgerLemmas.{asks_at, known_in, slot_rises}
 use Rattle.ac_search.proofs.ledger.Ledger.has_enough.Goals as goal
 
 pub returns : goal.returns

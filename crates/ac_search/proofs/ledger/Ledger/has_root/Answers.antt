@@ -2,9 +2,9 @@ use Rattle.std.proofs.Common.{◌≡◌, ◌<◌, ◌∙◌, ℕ, length, ap, sy
 use Rattle.std.specs.List.{All, range_with_len}
 use Rattle.std.proofs.lemmas.List.{length-map}
 use Rattle.std.proofs.lemmas.List.FromFn.{length-range_with_len}
-use Rattle.ac_search.specs.Accounts.{providers_in, asked_in}
+use Rattle.ac_search.specs.Left.Accounts.{providers_in, asked_in}
 use Rattle.ac_rules.specs.Together.{takes_root}
-use Rattle.ac_rules.proofs.AnchorLemmas.{anchors_within}
+use Rattle.ac_rules.proofs.EachSlot.AnchorLemmas.{anchors_within}
 use Rattle.ac_search.proofs.ledger.Ledger.has_root.Goals as goal
 
 pub has_full-requires-clause-hits : goal.has_full-requires-clause-hits

@@ -1,11 +1,11 @@
 use Rattle.std.proofs.Common.{◌∙◌, ℕ, map, ap, arith, replicate}
 use Rattle.std.proofs.lemmas.List.Elements.{All-from_recursion}
 use Rattle.ac_base.specs.Names.{class_bytes}
-use Rattle.ac_query.specs.QueriesShown.{asked_of}
-use Rattle.ac_tables.specs.CloudWorld.{providers_of}
+use Rattle.ac_query.specs.Shown.Queries.{asked_of}
+use Rattle.ac_tables.specs.Cloud.CloudWorld.{providers_of}
 use Rattle.ac_rules.specs.Placed.{slot_at}
 use Rattle.ac_search.specs.Left.{IsKnown}
-use Rattle.ac_search.proofs.LedgerLemmas.{left_none, there_made, marks_empty, hits_empty}
+use Rattle.ac_search.proofs.Paths.LedgerLemmas.{left_none, there_made, marks_empty, hits_empty}
 use Rattle.ac_search.proofs.ledger.Ledger.new.Goals as goal
 
 pub invariant_of-result : goal.invariant_of-result

@@ -4,12 +4,12 @@ use Rattle.std.proofs.lemmas.List.{with_items_is}
 use Rattle.ac_rules.specs.Placed.{placed_at, assigned, slot_at}
 use Rattle.ac_search.specs.Left.{ask_pair, numbered, place_of, row_of, Takes, AreLeft}
 use Rattle.ac_search.specs.Marks.{AreMarks, AreHits}
-use Rattle.ac_search.specs.Accounts.{providers_in, asked_in, texts_in}
-use Rattle.ac_rules.proofs.AnchorLemmas.{anchors_within}
-use Rattle.ac_search.proofs.OpenLemmas.{placed_next}
-use Rattle.ac_search.proofs.RoomLemmas.{there_same}
-use Rattle.ac_search.proofs.LeftLemmas.{left_more}
-use Rattle.ac_search.proofs.LedgerLemmas.{asks_at, lone_at, known_in, room_for, room_to_mark, room_to_hit, marks_next, hits_next}
+use Rattle.ac_search.specs.Left.Accounts.{providers_in, asked_in, texts_in}
+use Rattle.ac_rules.proofs.EachSlot.AnchorLemmas.{anchors_within}
+use Rattle.ac_search.proofs.Search.OpenLemmas.{placed_next}
+use Rattle.ac_search.proofs.Paths.RoomLemmas.{there_same}
+use Rattle.ac_search.proofs.Paths.LeftLemmas.{left_more}
+use Rattle.ac_search.proofs.Paths.LedgerLemmas.{asks_at, lone_at, known_in, room_for, room_to_mark, room_to_hit, marks_next, hits_next}
 use Rattle.ac_search.proofs.ledger.Ledger.take.Goals as goal
 
 pub take_row-requires-clause-room : goal.take_row-requires-clause-room

@@ -1,9 +1,9 @@
 use Rattle.std.proofs.Common.{inl, inr, ◌≡◌, ◌∙◌, ◌∷◌, [], ℕ, List, true, slice_index, arith, ap, sym, subst}
 use Rattle.std.proofs.lemmas.Bool.{cases_eq, eq-eqb}
-use Rattle.ac_search.specs.Keys.{key_of, is_there}
+use Rattle.ac_search.specs.Trees.Keys.{key_of, is_there}
 use Rattle.std.specs.List.Sorted.{IsNonDecreasing}
 use Rattle.std.proofs.lemmas.List.Sorted.{Contains-permutation, IsNonDecreasingBy-from_sort}
-use Rattle.ac_search.proofs.TreeLemmas.{there_at, at_there, there_new, there_old, or_left}
+use Rattle.ac_search.proofs.Roots.TreeLemmas.{there_at, at_there, there_new, there_old, or_left}
 use Rattle.ac_search.proofs.trees.ByTree.by_part.Goals as goal
 
 pub loop-place-preserved : goal.loop-place-preserved

@@ -1,5 +1,5 @@
 use Rattle.std.proofs.Common.{◌≡◌, ◌<◌, ℕ, true, slice_index}
-use Rattle.ac_search.specs.Keys.{key_of, is_there}
+use Rattle.ac_search.specs.Trees.Keys.{key_of, is_there}
 use Rattle.ac_search.proofs.trees.ByTree.by_part.Given as goal
 
 abbrev pub invariant-loop-place : goal.invariant-loop-place

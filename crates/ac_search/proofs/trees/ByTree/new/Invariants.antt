@@ -1,7 +1,7 @@
 use Rattle.std.proofs.Common.{◌≡◌, ◌<◌, ℕ, true, length, slice_index}
-use Rattle.ac_tables.specs.CloudWorld.{providers_of}
+use Rattle.ac_tables.specs.Cloud.CloudWorld.{providers_of}
 use Rattle.ac_tables.specs.World.{is_available_at}
-use Rattle.ac_search.specs.Keys.{IsUnder}
+use Rattle.ac_search.specs.Trees.Keys.{IsUnder}
 use Rattle.ac_search.proofs.trees.ByTree.new.Given as goal
 
 abbrev pub invariant-loop-place : goal.invariant-loop-place

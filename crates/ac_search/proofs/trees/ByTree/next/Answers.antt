@@ -3,8 +3,8 @@ use Rattle.std.specs.List.{list_any}
 use Rattle.std.specs.Prelude.{◌==◌}
 use Rattle.std.proofs.lemmas.Bool.{cases_lt, cases_eq, ne_eqb}
 use Rattle.std.proofs.lemmas.List.Folds.{list_any_more}
-use Rattle.ac_search.specs.Keys.{key_of, is_there}
-use Rattle.ac_search.proofs.TreeLemmas.{or_right, or_none, or_more}
+use Rattle.ac_search.specs.Trees.Keys.{key_of, is_there}
+use Rattle.ac_search.proofs.Roots.TreeLemmas.{or_right, or_none, or_more}
 use Rattle.ac_search.proofs.trees.ByTree.next.Goals as goal
 
 pub loop-tree-preserved : goal.loop-tree-preserved

@@ -1,6 +1,6 @@
 use Rattle.std.proofs.Common.{◌≡◌, ◌<◌, ◌≤◌, ◌||◌, ℕ, true, take}
 use Rattle.std.specs.List.{list_any}
-use Rattle.ac_search.specs.Keys.{key_of, is_there}
+use Rattle.ac_search.specs.Trees.Keys.{key_of, is_there}
 use Rattle.ac_search.proofs.trees.ByTree.next.Given as goal
 
 abbrev pub invariant-loop-tree : goal.invariant-loop-tree

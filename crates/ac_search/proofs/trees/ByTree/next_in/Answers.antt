@@ -1,5 +1,5 @@
 use Rattle.std.proofs.Common.{◌≡◌, ◌<◌, ◌-◌, ◌^◌, ℕ, true, subst, arith}
-use Rattle.ac_search.specs.Keys.{key_of, is_there}
+use Rattle.ac_search.specs.Trees.Keys.{key_of, is_there}
 use Rattle.ac_search.proofs.trees.ByTree.next_in.Goals as goal
 
 pub returns : goal.returns

@@ -1,4 +1,4 @@
-use Rattle.ac_search.proofs.EndLemmas.{remaining_falls, advances, finishes}
+use Rattle.ac_search.proofs.Steps.EndLemmas.{remaining_falls, advances, finishes}
 use Rattle.ac_search.proofs.walk.Walk.advance.Goals as goal
 
 pub returns-in-Given : goal.returns-in-Given

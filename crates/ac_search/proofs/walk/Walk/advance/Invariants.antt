@@ -1,4 +1,4 @@
-use Rattle.ac_search.proofs.EndLemmas.{Comes, remaining}
+use Rattle.ac_search.proofs.Steps.EndLemmas.{Comes, remaining}
 use Rattle.ac_search.proofs.walk.Walk.advance.Given as goal
 
 abbrev pub invariant-steps : goal.invariant-steps

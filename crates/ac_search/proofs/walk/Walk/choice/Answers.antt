@@ -1,8 +1,8 @@
 use Rattle.std.proofs.Common.{◌≡◌, ◌<◌, length, slice_index, slice_index_or, arith, ◌∙◌}
 use Rattle.std.proofs.lemmas.List.{get_or_default}
-use Rattle.ac_search.specs.WalkShown.{search_in}
-use Rattle.ac_search.proofs.KeptLemmas.{kept_choices}
-use Rattle.ac_search.proofs.StepLemmas.{laws_in}
+use Rattle.ac_search.specs.Shown.Walk.{search_in}
+use Rattle.ac_search.proofs.Roots.KeptLemmas.{kept_choices}
+use Rattle.ac_search.proofs.Steps.StepLemmas.{laws_in}
 use Rattle.ac_search.proofs.walk.Walk.choice.Goals as goal
 
 pub returns-then-place-len : goal.returns-then-place-len

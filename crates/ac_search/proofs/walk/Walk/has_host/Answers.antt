@@ -2,13 +2,13 @@ use Rattle.std.proofs.Common.{◌≡◌, ◌∙◌, ◌<◌, ◌&&◌, ◌++◌,
 use Rattle.std.specs.Prelude.{◌==◌}
 use Rattle.std.specs.List.{All, list_any}
 use Rattle.ac_tables.specs.World.{anchors_of}
-use Rattle.ac_search.specs.Accounts.{providers_in, asked_in}
+use Rattle.ac_search.specs.Left.Accounts.{providers_in, asked_in}
 use Rattle.ac_search.specs.Search.{IsDead}
-use Rattle.ac_search.specs.WalkShown.{search_in}
+use Rattle.ac_search.specs.Shown.Walk.{search_in}
 use Rattle.ac_search.specs.declared.walk.Walk.{Walk}
-use Rattle.ac_rules.proofs.AnchorLemmas.{anchors_within}
-use Rattle.ac_search.proofs.PassLemmas.{choice_read, choice_low, choices_many}
-use Rattle.ac_search.proofs.RootLemmas.{root_dead}
+use Rattle.ac_rules.proofs.EachSlot.AnchorLemmas.{anchors_within}
+use Rattle.ac_search.proofs.Steps.PassLemmas.{choice_read, choice_low, choices_many}
+use Rattle.ac_search.proofs.Roots.RootLemmas.{root_dead}
 use Rattle.ac_search.proofs.walk.Walk.has_host.Goals as goal
 
 pub index-requires-2 : goal.index-requires-2

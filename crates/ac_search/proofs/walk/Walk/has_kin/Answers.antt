@@ -1,12 +1,12 @@
 use Rattle.std.proofs.Common.{◌<◌, ◌++◌, ◌∷◌, [], ℕ, List, length, take, get_or, sym, subst, arith}
 use Rattle.std.specs.List.{All}
 use Rattle.std.proofs.lemmas.List.Elements.{All-from_recursion}
-use Rattle.ac_search.specs.Accounts.{providers_in, asked_in}
+use Rattle.ac_search.specs.Left.Accounts.{providers_in, asked_in}
 use Rattle.ac_search.specs.Search.{IsDead}
-use Rattle.ac_search.specs.WalkShown.{search_in}
-use Rattle.ac_search.proofs.MoveLemmas.{path_low}
-use Rattle.ac_search.proofs.StepLemmas.{laws_in}
-use Rattle.ac_search.proofs.PassLemmas.{family_at, choices_many, choice_read, choice_low}
+use Rattle.ac_search.specs.Shown.Walk.{search_in}
+use Rattle.ac_search.proofs.Steps.MoveLemmas.{path_low}
+use Rattle.ac_search.proofs.Steps.StepLemmas.{laws_in}
+use Rattle.ac_search.proofs.Steps.PassLemmas.{family_at, choices_many, choice_read, choice_low}
 use Rattle.ac_search.proofs.walk.Walk.has_kin.Goals as goal
 
 pub index-provider-requires : goal.index-provider-requires

@@ -1,7 +1,7 @@
 use Rattle.std.proofs.Common.{◌≡◌, ◌<◌, suc, length, take, sym, ◌∙◌, subst, arith, take_all}
 use Rattle.std.specs.List.{All}
-use Rattle.ac_tables.specs.CloudWorld.{providers_of}
-use Rattle.ac_search.proofs.PathLemmas.{IsPut, front_low}
+use Rattle.ac_tables.specs.Cloud.CloudWorld.{providers_of}
+use Rattle.ac_search.proofs.Steps.PathLemmas.{IsPut, front_low}
 use Rattle.ac_search.proofs.walk.Walk.is_complete.Goals as goal
 
 pub completes-requires-clause-providers : goal.completes-requires-clause-providers

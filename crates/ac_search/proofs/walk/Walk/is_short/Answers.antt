@@ -1,10 +1,10 @@
 use Rattle.std.proofs.Common.{◌<◌, ℕ, List, length, take, sym, subst}
 use Rattle.std.specs.List.{All}
 use Rattle.std.proofs.lemmas.List.Elements.{All-from_recursion}
-use Rattle.ac_search.specs.Accounts.{providers_in, Accounts}
-use Rattle.ac_search.specs.WalkShown.{search_in}
-use Rattle.ac_search.proofs.MoveLemmas.{path_low}
-use Rattle.ac_search.proofs.StepLemmas.{laws_in}
+use Rattle.ac_search.specs.Left.Accounts.{providers_in, Accounts}
+use Rattle.ac_search.specs.Shown.Walk.{search_in}
+use Rattle.ac_search.proofs.Steps.MoveLemmas.{path_low}
+use Rattle.ac_search.proofs.Steps.StepLemmas.{laws_in}
 use Rattle.ac_search.proofs.walk.Walk.is_short.Goals as goal
 
 pub falls_short-requires-clause-front : goal.falls_short-requires-clause-front

@@ -1,8 +1,8 @@
 use Rattle.std.proofs.Common.{◌≡◌, [], refl, arith}
 use Rattle.ac_search.specs.Search.{left_from}
-use Rattle.ac_search.specs.WalkShown.{search_in, front_in}
-use Rattle.ac_search.proofs.TryLemmas.{left_ended, counted_end}
-use Rattle.ac_search.proofs.StepLemmas.{laws_in}
+use Rattle.ac_search.specs.Shown.Walk.{search_in, front_in}
+use Rattle.ac_search.proofs.Steps.TryLemmas.{left_ended, counted_end}
+use Rattle.ac_search.proofs.Steps.StepLemmas.{laws_in}
 use Rattle.ac_search.proofs.walk.Walk.leave.Goals as goal
 
 pub returns-then-self-eq0-clause-gives : goal.returns-then-self-eq0-clause-gives

@@ -2,17 +2,17 @@ use Rattle.std.proofs.Common.{◌≡◌, ℕ, ◌<◌, List, length, map, arith,
 use Rattle.std.specs.declared.vec.Vec.{Vec}
 use Rattle.std.specs.Option.{option_map}
 use Rattle.ac_query.specs.Asked.{slots_of}
-use Rattle.ac_query.specs.QueriesShown.{asked_of}
+use Rattle.ac_query.specs.Shown.Queries.{asked_of}
 use Rattle.ac_query.specs.Tokens as tokens
-use Rattle.ac_tables.specs.CloudWorld.{providers_of}
+use Rattle.ac_tables.specs.Cloud.CloudWorld.{providers_of}
 use Rattle.ac_search.specs.Search.{Search, sought, IsStart, choices_at, least_at}
 use Rattle.ac_search.specs.QuerySearch.{search_of, least_of}
 use Rattle.ac_tables.proofs.ProvidersStated.{cloud_in_order}
-use Rattle.ac_search.proofs.SoughtLemmas.{IsSearch}
-use Rattle.ac_search.proofs.KeptLemmas.{kept_choices, kept_few, kept_low}
-use Rattle.ac_search.proofs.BeginLemmas.{sound_new, left_new}
-use Rattle.ac_search.proofs.LeastLemmas.{least_len, rest_sought}
-use Rattle.ac_search.proofs.OpenLemmas.{is_search}
+use Rattle.ac_search.proofs.Search.SoughtLemmas.{IsSearch}
+use Rattle.ac_search.proofs.Roots.KeptLemmas.{kept_choices, kept_few, kept_low}
+use Rattle.ac_search.proofs.Steps.BeginLemmas.{sound_new, left_new}
+use Rattle.ac_search.proofs.Search.LeastLemmas.{least_len, rest_sought}
+use Rattle.ac_search.proofs.Search.OpenLemmas.{is_search}
 use Rattle.ac_search.proofs.walk.Walk.new.Goals as goal
 
 -- where the first slot begins

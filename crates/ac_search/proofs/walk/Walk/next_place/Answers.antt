@@ -1,11 +1,11 @@
 use Rattle.std.proofs.Common.{◌<◌, ℕ, List, length, take, slice_index, sym, subst, arith}
 use Rattle.std.specs.List.{All}
 use Rattle.std.proofs.lemmas.List.Elements.{All-from_recursion}
-use Rattle.ac_search.specs.Accounts.{providers_in}
-use Rattle.ac_search.specs.WalkShown.{search_in}
-use Rattle.ac_search.proofs.MoveLemmas.{path_low}
-use Rattle.ac_search.proofs.StepLemmas.{laws_in}
-use Rattle.ac_search.proofs.PassLemmas.{choices_many, front_dead}
+use Rattle.ac_search.specs.Left.Accounts.{providers_in}
+use Rattle.ac_search.specs.Shown.Walk.{search_in}
+use Rattle.ac_search.proofs.Steps.MoveLemmas.{path_low}
+use Rattle.ac_search.proofs.Steps.StepLemmas.{laws_in}
+use Rattle.ac_search.proofs.Steps.PassLemmas.{choices_many, front_dead}
 use Rattle.ac_search.proofs.walk.Walk.next_place.Goals as goal
 
 pub bound_by-provider-requires : goal.bound_by-provider-requires

@@ -1,7 +1,7 @@
 use Rattle.std.proofs.Common.{◌≤◌, ◌-◌, take, length}
 use Rattle.std.specs.List.{slice_index}
 use Rattle.ac_search.specs.Search.{AllDead, choices_at}
-use Rattle.ac_search.specs.WalkShown.{search_in}
+use Rattle.ac_search.specs.Shown.Walk.{search_in}
 use Rattle.ac_search.proofs.walk.Walk.next_place.Given as goal
 
 abbrev pub invariant-loop-place : goal.invariant-loop-place

@@ -1,10 +1,10 @@
 use Rattle.std.proofs.Common.{◌≡◌, ◌∙◌, ◌<◌, ℕ, set, slice_index, slice_index_or, refl, arith}
 use Rattle.std.proofs.lemmas.List.{get_or_default}
 use Rattle.ac_search.specs.Search.{next_front}
-use Rattle.ac_search.specs.WalkShown.{search_in, front_in}
+use Rattle.ac_search.specs.Shown.Walk.{search_in, front_in}
 use Rattle.ac_search.specs.declared.walk.Walk.{Walk}
-use Rattle.ac_rules.proofs.OrderLemmas.{lex_irrefl, lex_asym}
-use Rattle.ac_search.proofs.PassLemmas.{stands_behind}
+use Rattle.ac_rules.proofs.Lists.OrderLemmas.{lex_irrefl, lex_asym}
+use Rattle.ac_search.proofs.Steps.PassLemmas.{stands_behind}
 use Rattle.ac_search.proofs.walk.Walk.pass.Goals as goal
 
 -- a place that was read

@@ -1,10 +1,10 @@
 use Rattle.std.proofs.Common.{◌≡◌, ℕ, ◌+◌, suc, true, List, refl, arith, sym, subst}
 use Rattle.ac_rules.specs.Judge.{is_open}
-use Rattle.ac_search.specs.Accounts.{providers_in, asked_in, Accounts}
-use Rattle.ac_search.specs.WalkShown.{search_in}
-use Rattle.ac_search.proofs.MoveLemmas.{sound_place, left_place, forward_place, front_back}
-use Rattle.ac_search.proofs.PathLemmas.{read_path, put_low, front_put}
-use Rattle.ac_search.proofs.StepLemmas.{laws_in}
+use Rattle.ac_search.specs.Left.Accounts.{providers_in, asked_in, Accounts}
+use Rattle.ac_search.specs.Shown.Walk.{search_in}
+use Rattle.ac_search.proofs.Steps.MoveLemmas.{sound_place, left_place, forward_place, front_back}
+use Rattle.ac_search.proofs.Steps.PathLemmas.{read_path, put_low, front_put}
+use Rattle.ac_search.proofs.Steps.StepLemmas.{laws_in}
 use Rattle.ac_search.proofs.walk.Walk.place.Goals as goal
 
 pub take-requires-clause-provider : goal.take-requires-clause-provider

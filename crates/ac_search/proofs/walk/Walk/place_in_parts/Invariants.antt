@@ -1,6 +1,6 @@
 use Rattle.std.proofs.Common.{◌≤◌, take, length}
 use Rattle.ac_search.specs.Search.{AllDead, choices_at}
-use Rattle.ac_search.specs.WalkShown.{search_in}
+use Rattle.ac_search.specs.Shown.Walk.{search_in}
 use Rattle.ac_search.proofs.walk.Walk.place_in_parts.Given as goal
 
 abbrev pub invariant-loop-family : goal.invariant-loop-family

@@ -1,13 +1,13 @@
 use Rattle.std.proofs.Common.{◌≡◌, ◌<◌, ℕ, Option, Some, true, length, take, arith}
 use Rattle.std.specs.Prelude.{IfSome}
-use Rattle.ac_search.specs.Accounts.{providers_in}
-use Rattle.ac_search.specs.Keys.{is_there}
-use Rattle.ac_search.specs.WalkShown.{search_in}
+use Rattle.ac_search.specs.Left.Accounts.{providers_in}
+use Rattle.ac_search.specs.Trees.Keys.{is_there}
+use Rattle.ac_search.specs.Shown.Walk.{search_in}
 use Rattle.ac_search.specs.declared.walk.Walk.{Walk}
-use Rattle.ac_search.proofs.MoveLemmas.{path_low}
-use Rattle.ac_search.proofs.StepLemmas.{laws_in}
-use Rattle.ac_search.proofs.TreeLemmas.{each_there}
-use Rattle.ac_search.proofs.PassLemmas.{tree_at, beside_dead}
+use Rattle.ac_search.proofs.Steps.MoveLemmas.{path_low}
+use Rattle.ac_search.proofs.Steps.StepLemmas.{laws_in}
+use Rattle.ac_search.proofs.Roots.TreeLemmas.{each_there}
+use Rattle.ac_search.proofs.Steps.PassLemmas.{tree_at, beside_dead}
 use Rattle.ac_search.proofs.walk.Walk.place_in_trees.Goals as goal
 
 there : (w : Walk) (found : Option ℕ) (b : ℕ) → found ≡ Some b → IfSome found (λ p. is_there (take w.depth w.path.items) p ≡ true) → is_there (take w.depth w.path.items) b ≡ true

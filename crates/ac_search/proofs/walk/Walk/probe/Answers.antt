@@ -1,16 +1,16 @@
 use Rattle.std.proofs.Common.{◌≡◌, ℕ, ◌<◌, suc, Bool, true, false, List, ◌∷◌, take, length, set, arith, ap, sym, ◌∙◌, subst, get_or-set_same}
 use Rattle.std.specs.List.{slice_index}
-use Rattle.ac_query.specs.QueriesShown.{asked_of}
-use Rattle.ac_tables.specs.CloudWorld.{providers_of}
+use Rattle.ac_query.specs.Shown.Queries.{asked_of}
+use Rattle.ac_tables.specs.Cloud.CloudWorld.{providers_of}
 use Rattle.ac_rules.specs.Judge.{is_open}
 use Rattle.ac_search.specs.Search.{Search, IsDead, choices_at, next_at, left_from}
 use Rattle.ac_search.specs.QuerySearch.{completes}
-use Rattle.ac_search.specs.WalkShown.{search_in, front_in, IsSame}
+use Rattle.ac_search.specs.Shown.Walk.{search_in, front_in, IsSame}
 use Rattle.ac_search.specs.declared.walk.Walk.{Walk}
-use Rattle.ac_search.proofs.OpenLemmas.{candidate_completes}
-use Rattle.ac_search.proofs.PathLemmas.{IsPut}
-use Rattle.ac_search.proofs.TryLemmas.{put_front, whole_front, left_dead, left_lacking, left_whole}
-use Rattle.ac_search.proofs.StepLemmas.{laws_in, one_more_kept, one_more_rises, search_same, Stays, stays_put, goes_put, gives_put, Skips, goes_skip, left_skip, bounded_skip, front_after}
+use Rattle.ac_search.proofs.Search.OpenLemmas.{candidate_completes}
+use Rattle.ac_search.proofs.Steps.PathLemmas.{IsPut}
+use Rattle.ac_search.proofs.Steps.TryLemmas.{put_front, whole_front, left_dead, left_lacking, left_whole}
+use Rattle.ac_search.proofs.Steps.StepLemmas.{laws_in, one_more_kept, one_more_rises, search_same, Stays, stays_put, goes_put, gives_put, Skips, goes_skip, left_skip, bounded_skip, front_after}
 use Rattle.ac_search.proofs.walk.Walk.probe.Goals as goal
 
 -- what `put` does

@@ -1,8 +1,8 @@
 use Rattle.std.proofs.Common.{sym, subst}
 use Rattle.std.proofs.lemmas.List.{take-set}
-use Rattle.ac_search.specs.Accounts.{Accounts}
-use Rattle.ac_search.specs.WalkShown.{search_in}
-use Rattle.ac_search.proofs.MoveLemmas.{sound_put}
+use Rattle.ac_search.specs.Left.Accounts.{Accounts}
+use Rattle.ac_search.specs.Shown.Walk.{search_in}
+use Rattle.ac_search.proofs.Steps.MoveLemmas.{sound_put}
 use Rattle.ac_search.proofs.walk.Walk.put.Goals as goal
 
 pub invariant_of-self : goal.invariant_of-self

@@ -1,8 +1,8 @@
 use Rattle.std.proofs.Common.{◌≡◌, slice_index, refl, arith, ◌∙◌}
 use Rattle.std.proofs.lemmas.List.{get_or_default}
-use Rattle.ac_search.specs.WalkShown.{search_in}
-use Rattle.ac_search.proofs.MoveLemmas.{sound_next}
-use Rattle.ac_search.proofs.StepLemmas.{few_providers, laws_in}
+use Rattle.ac_search.specs.Shown.Walk.{search_in}
+use Rattle.ac_search.proofs.Steps.MoveLemmas.{sound_next}
+use Rattle.ac_search.proofs.Steps.StepLemmas.{few_providers, laws_in}
 use Rattle.ac_search.proofs.walk.Walk.skip.Goals as goal
 
 pub overflow_add-index_mut : goal.overflow_add-index_mut

@@ -1,4 +1,4 @@
-use Rattle.ac_search.proofs.PassLemmas.{step_passed}
+use Rattle.ac_search.proofs.Steps.PassLemmas.{step_passed}
 use Rattle.ac_search.proofs.walk.Walk.step.Goals as goal
 
 pub returns-in-Some : goal.returns-in-Some

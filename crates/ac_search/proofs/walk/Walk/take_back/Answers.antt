@@ -2,11 +2,11 @@ use Rattle.std.proofs.Common.{◌≡◌, ℕ, ◌+◌, ◌-◌, ◌<◌, suc, tr
 use Rattle.std.proofs.lemmas.List.{get_or_default}
 use Rattle.ac_rules.specs.Order.{lex_lt}
 use Rattle.ac_search.specs.Search.{IsSound, next_front, left_from}
-use Rattle.ac_search.specs.WalkShown.{search_in}
+use Rattle.ac_search.specs.Shown.Walk.{search_in}
 use Rattle.ac_search.specs.declared.walk.Walk.{Walk}
-use Rattle.ac_search.proofs.MoveLemmas.{sound_back, left_back, forward_back}
-use Rattle.ac_search.proofs.PathLemmas.{placed_low}
-use Rattle.ac_search.proofs.StepLemmas.{few_providers, laws_in}
+use Rattle.ac_search.proofs.Steps.MoveLemmas.{sound_back, left_back, forward_back}
+use Rattle.ac_search.proofs.Steps.PathLemmas.{placed_low}
+use Rattle.ac_search.proofs.Steps.StepLemmas.{few_providers, laws_in}
 use Rattle.ac_search.proofs.walk.Walk.take_back.Goals as goal
 
 -- it stands one below its depth

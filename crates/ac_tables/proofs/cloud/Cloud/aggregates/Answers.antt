@@ -1,6 +1,5 @@
-use Rattle.std.proofs.Common.{◌∙◌, arith, ap, map, sym, subst, List, ℕ, get_or, []}
-use Rattle.ac_tables.proofs.CloudFacts.{inside, aggregates_here, parts}
-use Rattle.ac_tables.specs.ListsOf.{lists_of}
+use Rattle.std.proofs.Common.{◌∙◌, arith}
+use Rattle.ac_tables.proofs.Places.CloudFacts.{inside, aggregates_here, parts}
 use Rattle.ac_tables.proofs.cloud.Cloud.aggregates.Goals as goal
 
 pub of-requires : goal.of-requires

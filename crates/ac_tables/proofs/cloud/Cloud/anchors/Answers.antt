@@ -2,10 +2,10 @@ use Rattle.std.proofs.Common.{◌≡◌, ◌∙◌, ◌<◌, ◌+◌, ◌-◌, �
 use Rattle.std.specs.Option.{is_some}
 use Rattle.std.proofs.lemmas.List.{get_or-map, get_or_read}
 use Rattle.std.proofs.lemmas.Bool.{cases_Bool}
-use Rattle.ac_tables.specs.ListsOf.{lists_of}
-use Rattle.ac_tables.specs.Anchors.{list_items, is_marked}
-use Rattle.ac_tables.proofs.CloudFacts.{inside, parts}
-use Rattle.ac_tables.proofs.AnchorFacts.{anchors_alone, anchors_joined}
+use Rattle.ac_tables.specs.Reader.ListsOf.{lists_of}
+use Rattle.ac_tables.specs.Cloud.Anchors.{list_items, is_marked}
+use Rattle.ac_tables.proofs.Places.CloudFacts.{inside, parts}
+use Rattle.ac_tables.proofs.Places.AnchorFacts.{anchors_alone, anchors_joined}
 use Rattle.ac_tables.proofs.cloud.Cloud.anchors.Goals as goal
 
 pub index-requires : goal.index-requires

@@ -1,11 +1,10 @@
-use Rattle.std.proofs.Common.{◌∙◌, arith, ap, map, sym, subst, List, ℕ, get_or, []}
-use Rattle.ac_tables.specs.Entries.{entry_pair}
-use Rattle.ac_tables.proofs.CloudFacts.{inside, holdings_here, parts}
-use Rattle.ac_tables.specs.ListsOf.{lists_of}
+use Rattle.std.proofs.Common.{◌∙◌, arith, ap, map}
+use Rattle.ac_tables.specs.Cloud.Entries.{entry_pair}
+use Rattle.ac_tables.proofs.Places.CloudFacts.{inside, inventory_records_here, parts}
 use Rattle.ac_tables.proofs.cloud.Cloud.entries.Goals as goal
 
 pub of-requires : goal.of-requires
 of-requires c = omega (arith, inside c.args.self.now c.args.ix c.requires, (parts c.args.self.now).with_entries)
 
 pub returns : goal.returns
-returns c = ap (map entry_pair) c.of.ensures ∙ holdings_here c.args.self.now c.args.ix (inside c.args.self.now c.args.ix c.requires)
+returns c = ap (map entry_pair) c.of.ensures ∙ inventory_records_here c.args.self.now c.args.ix (inside c.args.self.now c.args.ix c.requires)

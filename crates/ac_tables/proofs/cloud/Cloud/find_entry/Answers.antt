@@ -1,13 +1,12 @@
-use Rattle.std.proofs.Common.{◌∙◌, arith, ap, map, sym, subst, List, ℕ, get_or, []}
+use Rattle.std.proofs.Common.{◌∙◌, arith, ap, map, sym, subst, List, []}
 use Rattle.std.specs.List.Sorted.{IsStrictlySortedBy}
 use Rattle.std.specs.Map.{lookup}
 use Rattle.std.specs.Str.{bytes_eq}
 use Rattle.ac_base.specs.Names.{class_bytes}
 use Rattle.ac_base.specs.Texts.{text_cmp}
-use Rattle.ac_tables.specs.Entries.{entry_class, entry_pair}
+use Rattle.ac_tables.specs.Cloud.Entries.{entry_class, entry_pair}
 use Rattle.ac_tables.specs.declared.cloud.entry.Entry.{Entry}
-use Rattle.ac_tables.proofs.CloudFacts.{inside, holdings_here, parts}
-use Rattle.ac_tables.specs.ListsOf.{lists_of}
+use Rattle.ac_tables.proofs.Places.CloudFacts.{inside, inventory_records_here, parts}
 use Rattle.ac_tables.proofs.cloud.Cloud.find_entry.Goals as goal
 
 pub of-requires : goal.of-requires
@@ -21,4 +20,4 @@ find_entry-requires c =
 pub returns : goal.returns
 returns c =
     c.find_entry.ensures
-    ∙ ap (lookup (bytes_eq (class_bytes c.args.class.now))) (ap (map entry_pair) c.of.ensures ∙ holdings_here c.args.self.now c.args.ix (inside c.args.self.now c.args.ix c.requires))
+    ∙ ap (lookup (bytes_eq (class_bytes c.args.class.now))) (ap (map entry_pair) c.of.ensures ∙ inventory_records_here c.args.self.now c.args.ix (inside c.args.self.now c.args.ix c.requires))

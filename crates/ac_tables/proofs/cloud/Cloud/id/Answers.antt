@@ -1,6 +1,6 @@
 use Rattle.std.proofs.Common.{◌∙◌, sym, arith}
 use Rattle.std.proofs.lemmas.List.{get_or_read}
-use Rattle.ac_tables.proofs.CloudFacts.{inside, id_here}
+use Rattle.ac_tables.proofs.Places.CloudFacts.{inside, id_here}
 use Rattle.ac_tables.proofs.cloud.Cloud.id.Goals as goal
 
 pub index-requires : goal.index-requires

@@ -1,10 +1,9 @@
-use Rattle.std.proofs.Common.{◌∙◌, arith, ap, map, sym, subst, List, ℕ, get_or, []}
+use Rattle.std.proofs.Common.{◌∙◌, arith, ap, sym, subst, ℕ, []}
 use Rattle.std.specs.Prelude.{◌==◌}
 use Rattle.std.specs.List.{list_any}
 use Rattle.std.specs.List.Sorted.{IsStrictlySortedBy}
 use Rattle.std.specs.Ordering.{nat_cmp}
-use Rattle.ac_tables.proofs.CloudFacts.{inside, aggregates_here, parts}
-use Rattle.ac_tables.specs.ListsOf.{lists_of}
+use Rattle.ac_tables.proofs.Places.CloudFacts.{inside, aggregates_here, parts}
 use Rattle.ac_tables.proofs.cloud.Cloud.in_aggregate.Goals as goal
 
 pub of-requires : goal.of-requires

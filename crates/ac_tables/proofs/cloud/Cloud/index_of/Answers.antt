@@ -1,5 +1,5 @@
 use Rattle.std.proofs.Common.{◌∙◌, sym}
-use Rattle.ac_tables.proofs.CloudFacts.{place_here}
+use Rattle.ac_tables.proofs.Places.CloudFacts.{place_here}
 use Rattle.ac_tables.proofs.cloud.Cloud.index_of.Goals as goal
 
 pub returns-in-Some : goal.returns-in-Some

@@ -3,9 +3,9 @@ use Rattle.std.specs.Prelude.{◌==◌}
 use Rattle.std.proofs.lemmas.List.{get_or_read}
 use Rattle.ac_tables.specs.Trees.{is_in_chain}
 use Rattle.ac_tables.specs.World.{id_at, parent_of}
-use Rattle.ac_tables.specs.CloudWorld.{providers_of}
-use Rattle.ac_tables.proofs.CloudFacts.{size, inside, parent_is, parts}
-use Rattle.ac_tables.proofs.AncestorFacts.{chain_here, chain_ends, chain_goes, chain_last, same_test, some_name, no_name, some_inside}
+use Rattle.ac_tables.specs.Cloud.CloudWorld.{providers_of}
+use Rattle.ac_tables.proofs.Places.CloudFacts.{size, inside, parent_is, parts}
+use Rattle.ac_tables.proofs.Trees.AncestorFacts.{chain_here, chain_ends, chain_goes, chain_last, same_test, some_name, no_name, some_inside}
 use Rattle.ac_tables.proofs.cloud.Cloud.leads_to.Goals as goal
 
 pub index-requires : goal.index-requires

@@ -1,5 +1,5 @@
 use Rattle.std.proofs.Common.{◌∙◌, sym}
-use Rattle.ac_tables.proofs.CloudFacts.{size}
+use Rattle.ac_tables.proofs.Places.CloudFacts.{size}
 use Rattle.ac_tables.proofs.cloud.Cloud.len.Goals as goal
 
 pub returns : goal.returns

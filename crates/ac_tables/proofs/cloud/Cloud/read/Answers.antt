@@ -1,32 +1,29 @@
-use Rattle.std.proofs.Common.{◌≡◌, ◌∙◌, ℕ, List, map, length, refl, sym, ap, ap₂, subst}
-use Rattle.std.specs.Ordering.{nat_cmp}
+use Rattle.std.proofs.Common.{◌≡◌, ◌∙◌, ℕ, Option, List, map, length, refl, sym, ap, ap₂, subst}
 use Rattle.std.specs.List.{sum_by}
 use Rattle.std.proofs.lemmas.List.{length-map}
 use Rattle.ac_base.specs.Names.{trait_bytes}
-use Rattle.ac_tables.specs.Checks.{Row, Tells}
-use Rattle.ac_tables.specs.Rows.{records_of}
-use Rattle.ac_tables.specs.Sorted.{rising}
-use Rattle.ac_tables.specs.ProviderTable.{Listed, listed_parent}
-use Rattle.ac_tables.specs.InventoryTable.{holdings_of, inventories_fault}
-use Rattle.ac_tables.specs.UsageTable.{usages_of, usages_fault}
-use Rattle.ac_tables.specs.TraitTable.{marks_of, traits_fault}
-use Rattle.ac_tables.specs.AggregateTable.{memberships_of, aggregates_fault}
-use Rattle.ac_tables.specs.Tables.{ids_of, stocks_of, amounts_of, names_of, aggregates_of, world_stated, gathered}
+use Rattle.ac_tables.specs.Tables.Checks.{Row, Tells}
+use Rattle.ac_tables.specs.Tables.Rows.{records_of}
+use Rattle.ac_tables.specs.Tables.ProviderTable.{providers_said, said_parent}
+use Rattle.ac_tables.specs.Tables.InventoryTable.{inventories_said, inventories_fault}
+use Rattle.ac_tables.specs.Tables.UsageTable.{usages_said, usages_fault}
+use Rattle.ac_tables.specs.Tables.TraitTable.{traits_said, traits_fault}
+use Rattle.ac_tables.specs.Tables.AggregateTable.{aggregates_said, aggregates_fault}
+use Rattle.ac_tables.specs.Tables.{ids_of, inventories_of, amounts_of, names_of, aggregates_of, world_stated, gathered}
 use Rattle.std.specs.Option.{option_and_then}
-use Rattle.ac_tables.specs.Places.{rank}
-use Rattle.ac_tables.specs.Kin.{AreKin}
-use Rattle.ac_tables.specs.InventoryRows.{class_pair}
-use Rattle.ac_tables.specs.EntryLists.{with_used_lists}
-use Rattle.ac_tables.specs.ListsOf.{lists_of}
-use Rattle.ac_tables.proofs.SearchFacts.{map_itself}
-use Rattle.ac_tables.proofs.RiseFacts.{said_here, stocks_rise, amounts_rise, names_rise, aggregates_rise}
+use Rattle.ac_tables.specs.Cloud.Places.{rank}
+use Rattle.ac_tables.specs.Cloud.Kin.{AreKin}
+use Rattle.ac_tables.specs.Reader.InventoryRows.{class_pair}
+use Rattle.ac_tables.specs.Cloud.EntryLists.{with_used_lists}
+use Rattle.ac_tables.specs.Reader.ListsOf.{lists_of}
+use Rattle.ac_tables.proofs.Sorted.SearchFacts.{map_itself}
+use Rattle.ac_tables.proofs.Sorted.RiseFacts.{said_here, inventories_rise, amounts_rise, names_rise, aggregates_rise}
 use Rattle.std.proofs.lemmas.List.Sorted.{length_permutation}
-use Rattle.ac_tables.specs.Numbered.{numbered}
-use Rattle.ac_tables.specs.CloudWorld.{sizes_of}
+use Rattle.ac_tables.specs.Cloud.Numbered.{numbered}
+use Rattle.ac_tables.specs.Cloud.CloudWorld.{sizes_of}
 use Rattle.ac_tables.proofs.StatedWorld.{stated, counted, same_sizes}
 use Rattle.ac_tables.specs.Source.{tables_of}
-use Rattle.ac_tables.proofs.KinFacts.{kin_of}
-use Rattle.ac_tables.proofs.AllFaults.{tells_providers, tells_inventories, tells_usages, tells_traits, tells_aggregates, none_at_all, usage_text, trait_text, aggregate_text}
+use Rattle.ac_tables.proofs.Records.AllFaults.{tells_providers, tells_inventories, tells_usages, tells_traits, tells_aggregates, none_at_all, usage_text, trait_text, aggregate_text}
 use Rattle.ac_tables.proofs.cloud.Cloud.read.Goals as goal
 
 pub returns-in-Err-clause-fault : goal.returns-in-Err-clause-fault
@@ -37,8 +34,8 @@ unfolding ids_of
 returns-in-Err-read-clause-fault c =
     let t = tables_of c.args.src.now in
     let ok = c.in-Ok.ensures.ok in
-    let all : c.in_ok-ids.ids.ids.items ≡ ids_of t.providers = c.in_ok-ids.ensures.ids ∙ ap (λ (rows : List Listed). rising nat_cmp (map (λ p. p.id) rows)) ok.0 in
-    tells_inventories t c.in-Err-read.fault ok.1
+    let all : c.in-Ok.providers.ids.ids.items ≡ ids_of t.providers = c.in-Ok.ensures.ids in
+    tells_inventories t c.in-Err-read.fault ok
     (subst (λ (l : List ℕ). Tells (inventories_fault l t.inventories) c.in-Err-read.fault) all c.in-Err-read.ensures.err)
 
 pub returns-in-Err-read_usages-clause-fault : goal.returns-in-Err-read_usages-clause-fault
@@ -46,29 +43,29 @@ unfolding ids_of
 returns-in-Err-read_usages-clause-fault c =
     let t = tables_of c.args.src.now in
     let ok = c.in-Ok.ensures.ok in
-    let all : c.in_ok-ids.ids.ids.items ≡ ids_of t.providers = c.in_ok-ids.ensures.ids ∙ ap (λ (rows : List Listed). rising nat_cmp (map (λ p. p.id) rows)) ok.0 in
+    let all : c.in-Ok.providers.ids.ids.items ≡ ids_of t.providers = c.in-Ok.ensures.ids in
     let i = ap (λ (l : List ℕ). inventories_fault l t.inventories) (sym all) ∙ c.in-Ok-read.ensures.ok in
     let own : c.in-Ok-read.inventories.ids.ids.items ≡ ids_of t.providers = c.in-Ok-read.ensures.ids ∙ all in
-    let said = said_here c.in-Ok-read.inventories c.in_ok-ids.ids.ids.items (holdings_of t.inventories) c.in-Ok-read.ensures.ids c.in-Ok-read.ensures.said in
+    let said = said_here c.in-Ok-read.inventories c.in-Ok.providers.ids.ids.items (inventories_said t.inventories) c.in-Ok-read.ensures.ids c.in-Ok-read.ensures.said in
     let usage_rows = ap records_of c.text_or-text.ensures ∙ usage_text c.args.src.now.usages in
-    tells_usages t c.in-Err-read_usages.fault ok.1 i
-    (subst (λ (l : List ℕ). Tells (usages_fault l (holdings_of t.inventories) t.usages) c.in-Err-read_usages.fault) own
-    (subst (λ (rows : List Row). Tells (usages_fault c.in-Ok-read.inventories.ids.ids.items (holdings_of t.inventories) rows) c.in-Err-read_usages.fault) usage_rows
-    (c.in-Err-read_usages.ensures.err (holdings_of t.inventories) said)))
+    tells_usages t c.in-Err-read_usages.fault ok i
+    (subst (λ (l : List ℕ). Tells (usages_fault l (inventories_said t.inventories) t.usages) c.in-Err-read_usages.fault) own
+    (subst (λ (rows : List Row). Tells (usages_fault c.in-Ok-read.inventories.ids.ids.items (inventories_said t.inventories) rows) c.in-Err-read_usages.fault) usage_rows
+    (c.in-Err-read_usages.ensures.err (inventories_said t.inventories) said)))
 
 pub returns-in-Err-read_traits-clause-fault : goal.returns-in-Err-read_traits-clause-fault
 unfolding ids_of
 returns-in-Err-read_traits-clause-fault c =
     let t = tables_of c.args.src.now in
     let ok = c.in-Ok.ensures.ok in
-    let all : c.in_ok-ids.ids.ids.items ≡ ids_of t.providers = c.in_ok-ids.ensures.ids ∙ ap (λ (rows : List Listed). rising nat_cmp (map (λ p. p.id) rows)) ok.0 in
+    let all : c.in-Ok.providers.ids.ids.items ≡ ids_of t.providers = c.in-Ok.ensures.ids in
     let i = ap (λ (l : List ℕ). inventories_fault l t.inventories) (sym all) ∙ c.in-Ok-read.ensures.ok in
     let own : c.in-Ok-read.inventories.ids.ids.items ≡ ids_of t.providers = c.in-Ok-read.ensures.ids ∙ all in
-    let said = said_here c.in-Ok-read.inventories c.in_ok-ids.ids.ids.items (holdings_of t.inventories) c.in-Ok-read.ensures.ids c.in-Ok-read.ensures.said in
+    let said = said_here c.in-Ok-read.inventories c.in-Ok.providers.ids.ids.items (inventories_said t.inventories) c.in-Ok-read.ensures.ids c.in-Ok-read.ensures.said in
     let usage_rows = ap records_of c.text_or-text.ensures ∙ usage_text c.args.src.now.usages in
-    let u = ap₂ (λ (l : List ℕ) (rows : List Row). usages_fault l (holdings_of t.inventories) rows) (sym own) (sym usage_rows) ∙ c.in-Ok-read_usages.ensures.ok (holdings_of t.inventories) said in
+    let u = ap₂ (λ (l : List ℕ) (rows : List Row). usages_fault l (inventories_said t.inventories) rows) (sym own) (sym usage_rows) ∙ c.in-Ok-read_usages.ensures.ok (inventories_said t.inventories) said in
     let trait_rows = ap records_of c.text_or-text-2.ensures ∙ trait_text c.args.src.now.traits in
-    tells_traits t c.in-Err-read_traits.fault ok.1 i u
+    tells_traits t c.in-Err-read_traits.fault ok i u
     (subst (λ (l : List ℕ). Tells (traits_fault l t.traits) c.in-Err-read_traits.fault) own
     (subst (λ (rows : List Row). Tells (traits_fault c.in-Ok-read.inventories.ids.ids.items rows) c.in-Err-read_traits.fault) trait_rows c.in-Err-read_traits.ensures.err))
 
@@ -77,16 +74,16 @@ unfolding ids_of
 returns-in-Err-read_aggregates-clause-fault c =
     let t = tables_of c.args.src.now in
     let ok = c.in-Ok.ensures.ok in
-    let all : c.in_ok-ids.ids.ids.items ≡ ids_of t.providers = c.in_ok-ids.ensures.ids ∙ ap (λ (rows : List Listed). rising nat_cmp (map (λ p. p.id) rows)) ok.0 in
+    let all : c.in-Ok.providers.ids.ids.items ≡ ids_of t.providers = c.in-Ok.ensures.ids in
     let i = ap (λ (l : List ℕ). inventories_fault l t.inventories) (sym all) ∙ c.in-Ok-read.ensures.ok in
     let own : c.in-Ok-read.inventories.ids.ids.items ≡ ids_of t.providers = c.in-Ok-read.ensures.ids ∙ all in
-    let said = said_here c.in-Ok-read.inventories c.in_ok-ids.ids.ids.items (holdings_of t.inventories) c.in-Ok-read.ensures.ids c.in-Ok-read.ensures.said in
+    let said = said_here c.in-Ok-read.inventories c.in-Ok.providers.ids.ids.items (inventories_said t.inventories) c.in-Ok-read.ensures.ids c.in-Ok-read.ensures.said in
     let usage_rows = ap records_of c.text_or-text.ensures ∙ usage_text c.args.src.now.usages in
-    let u = ap₂ (λ (l : List ℕ) (rows : List Row). usages_fault l (holdings_of t.inventories) rows) (sym own) (sym usage_rows) ∙ c.in-Ok-read_usages.ensures.ok (holdings_of t.inventories) said in
+    let u = ap₂ (λ (l : List ℕ) (rows : List Row). usages_fault l (inventories_said t.inventories) rows) (sym own) (sym usage_rows) ∙ c.in-Ok-read_usages.ensures.ok (inventories_said t.inventories) said in
     let trait_rows = ap records_of c.text_or-text-2.ensures ∙ trait_text c.args.src.now.traits in
     let m = ap₂ (λ (l : List ℕ) (rows : List Row). traits_fault l rows) (sym own) (sym trait_rows) ∙ c.in-Ok-read_traits.ensures.ok in
     let aggregate_rows = ap records_of c.text_or-text-3.ensures ∙ aggregate_text c.args.src.now.aggregates in
-    tells_aggregates t c.in-Err-read_aggregates.fault ok.1 i u m
+    tells_aggregates t c.in-Err-read_aggregates.fault ok i u m
     (subst (λ (l : List ℕ). Tells (aggregates_fault l t.aggregates) c.in-Err-read_aggregates.fault) own
     (subst (λ (rows : List Row). Tells (aggregates_fault c.in-Ok-read.inventories.ids.ids.items rows) c.in-Err-read_aggregates.fault) aggregate_rows c.in-Err-read_aggregates.ensures.err))
 
@@ -95,23 +92,25 @@ unfolding ids_of
 returns-clause-ok c =
     let t = tables_of c.args.src.now in
     let ok = c.in-Ok.ensures.ok in
-    let all : c.in_ok-ids.ids.ids.items ≡ ids_of t.providers = c.in_ok-ids.ensures.ids ∙ ap (λ (rows : List Listed). rising nat_cmp (map (λ p. p.id) rows)) ok.0 in
+    let all : c.in-Ok.providers.ids.ids.items ≡ ids_of t.providers = c.in-Ok.ensures.ids in
     let i = ap (λ (l : List ℕ). inventories_fault l t.inventories) (sym all) ∙ c.in-Ok-read.ensures.ok in
     let own : c.in-Ok-read.inventories.ids.ids.items ≡ ids_of t.providers = c.in-Ok-read.ensures.ids ∙ all in
-    let said = said_here c.in-Ok-read.inventories c.in_ok-ids.ids.ids.items (holdings_of t.inventories) c.in-Ok-read.ensures.ids c.in-Ok-read.ensures.said in
+    let said = said_here c.in-Ok-read.inventories c.in-Ok.providers.ids.ids.items (inventories_said t.inventories) c.in-Ok-read.ensures.ids c.in-Ok-read.ensures.said in
     let usage_rows = ap records_of c.text_or-text.ensures ∙ usage_text c.args.src.now.usages in
-    let u = ap₂ (λ (l : List ℕ) (rows : List Row). usages_fault l (holdings_of t.inventories) rows) (sym own) (sym usage_rows) ∙ c.in-Ok-read_usages.ensures.ok (holdings_of t.inventories) said in
+    let u = ap₂ (λ (l : List ℕ) (rows : List Row). usages_fault l (inventories_said t.inventories) rows) (sym own) (sym usage_rows) ∙ c.in-Ok-read_usages.ensures.ok (inventories_said t.inventories) said in
     let trait_rows = ap records_of c.text_or-text-2.ensures ∙ trait_text c.args.src.now.traits in
     let m = ap₂ (λ (l : List ℕ) (rows : List Row). traits_fault l rows) (sym own) (sym trait_rows) ∙ c.in-Ok-read_traits.ensures.ok in
     let aggregate_rows = ap records_of c.text_or-text-3.ensures ∙ aggregate_text c.args.src.now.aggregates in
     let a = ap₂ (λ (l : List ℕ) (rows : List Row). aggregates_fault l rows) (sym own) (sym aggregate_rows) ∙ c.in-Ok-read_aggregates.ensures.ok in
-    none_at_all t ok.1 i u m a
+    none_at_all t ok i u m a
 
 pub build-requires-clause-kin : goal.build-requires-clause-kin
 build-requires-clause-kin c =
-    let ok = c.in-Ok.ensures.ok in
-    subst (λ (l : List ℕ). AreKin l c.in-Ok.roll.rows.items) (sym c.in-Ok-read.ensures.ids)
-    (kin_of (records_of c.args.src.now.providers.now) c.in-Ok.roll.rows.items c.in_ok-ids.ids.ids.items ok.0 c.in_ok-ids.ensures.ids c.in_ok-ids.ensures.count c.in-Ok.roll.distinct ok.1)
+    let said = providers_said (records_of c.args.src.now.providers.now) in (
+      said,
+      subst (λ (l : List ℕ). AreKin l said) (sym c.in-Ok-read.ensures.ids) c.in-Ok.ensures.kin,
+      subst (λ (l : List ℕ). c.in-Ok.providers.parents.items ≡ map (λ id. option_and_then (rank l) (said_parent said id)) l) (sym c.in-Ok-read.ensures.ids) c.in-Ok.ensures.parents,
+    )
 
 pub build-requires-clause-usages : goal.build-requires-clause-usages
 build-requires-clause-usages c =
@@ -130,7 +129,7 @@ build-requires-clause-aggregates c =
 
 pub build-requires-clause-classes_rise : goal.build-requires-clause-classes_rise
 build-requires-clause-classes_rise c =
-    stocks_rise _ c.in_ok-ids.ids.ids.items (lists_of c.in-Ok-read.inventories.rows) c.in-Ok-read.ensures.value
+    inventories_rise _ c.in-Ok.providers.ids.ids.items (lists_of c.in-Ok-read.inventories.rows) c.in-Ok-read.ensures.value
 
 pub build-requires-clause-used_rise : goal.build-requires-clause-used_rise
 build-requires-clause-used_rise c =
@@ -150,35 +149,36 @@ returns-clause-world c =
     let t = tables_of c.args.src.now in
     let ok = c.in-Ok.ensures.ok in
     let ids = c.in-Ok-read.inventories.ids.ids.items in
-    let first = c.in_ok-ids.ids.ids.items in
+    let first = c.in-Ok.providers.ids.ids.items in
     let same : ids ≡ first = c.in-Ok-read.ensures.ids in
-    let all : ids ≡ ids_of t.providers = same ∙ c.in_ok-ids.ensures.ids ∙ ap (λ (rows : List Listed). rising nat_cmp (map (λ p. p.id) rows)) ok.0 in
+    let all : ids ≡ ids_of t.providers = same ∙ c.in-Ok.ensures.ids in
     let usage_rows = ap records_of c.text_or-text.ensures ∙ usage_text c.args.src.now.usages in
     let trait_rows = ap records_of c.text_or-text-2.ensures ∙ trait_text c.args.src.now.traits in
     let aggregate_rows = ap records_of c.text_or-text-3.ensures ∙ aggregate_text c.args.src.now.aggregates in
-    let stocks = c.in-Ok-read.ensures.value ∙ ap (map (stocks_of (holdings_of t.inventories))) (sym same) in
-    let usages = c.in-Ok-read_usages.ensures.value ∙ ap (λ (rows : List Row). map (amounts_of (usages_of rows)) ids) usage_rows in
-    let names = c.in-Ok-read_traits.ensures.value ∙ ap (λ (rows : List Row). map (names_of (marks_of rows)) ids) trait_rows in
-    let aggregates = c.in-Ok-read_aggregates.ensures.value ∙ ap (λ (rows : List Row). map (aggregates_of (memberships_of rows)) ids) aggregate_rows in
-    let kin = subst (λ (l : List ℕ). AreKin l c.in-Ok.roll.rows.items) (sym same)
-    (kin_of (records_of c.args.src.now.providers.now) c.in-Ok.roll.rows.items first ok.0 c.in_ok-ids.ensures.ids c.in_ok-ids.ensures.count c.in-Ok.roll.distinct ok.1) in
+    let inventories = c.in-Ok-read.ensures.value ∙ ap (map (inventories_of (inventories_said t.inventories))) (sym same) in
+    let usages = c.in-Ok-read_usages.ensures.value ∙ ap (λ (rows : List Row). map (amounts_of (usages_said rows)) ids) usage_rows in
+    let names = c.in-Ok-read_traits.ensures.value ∙ ap (λ (rows : List Row). map (names_of (traits_said rows)) ids) trait_rows in
+    let aggregates = c.in-Ok-read_aggregates.ensures.value ∙ ap (λ (rows : List Row). map (aggregates_of (aggregates_said rows)) ids) aggregate_rows in
+    let said = providers_said t.providers in
+    let kin = subst (λ (l : List ℕ). AreKin l said) (sym same) c.in-Ok.ensures.kin in
+    let parents = subst (λ (l : List ℕ). c.in-Ok.providers.parents.items ≡ map (λ id. option_and_then (rank l) (said_parent said id)) l) (sym same) c.in-Ok.ensures.parents in
     let us = map (map class_pair) (lists_of c.in-Ok-read_usages.usages) in
     let ss = map (map class_pair) (lists_of c.in-Ok-read.inventories.rows) in
     let ns = map (map trait_bytes) (lists_of c.in-Ok-read_traits.traits) in
     let gs = lists_of c.in-Ok-read_aggregates.aggregates in
     let providers =
     c.in_ok-build.ensures.providers
-    ∙ ap (λ (rows : List Listed). numbered ids (map (λ id. option_and_then (rank ids) (listed_parent rows id)) ids) (with_used_lists us ss) ns gs) ok.0
-    ∙ stated t ids us ss ns gs (subst (AreKin ids) ok.0 kin) usages stocks names aggregates
+    ∙ ap (λ (l : List (Option ℕ)). numbered ids l (with_used_lists us ss) ns gs) parents
+    ∙ stated t ids us ss ns gs kin usages inventories names aggregates
     ∙ ap (map (gathered t)) all in
     let s1 = c.len.ensures.value ∙ ap length all in
     let s2 = c.count.ensures.items ∙ sym (length-map c.in-Ok-read.inventories.rows.items.items _) ∙ length_permutation _ _ c.in-Ok-read.ensures.said in
-    let s3 = c.count-2.ensures.items ∙ c.in-Ok-read_usages.ensures.count ∙ ap (λ (rows : List Row). length (usages_of rows)) usage_rows in
+    let s3 = c.count-2.ensures.items ∙ c.in-Ok-read_usages.ensures.count ∙ ap (λ (rows : List Row). length (usages_said rows)) usage_rows in
     let s4 = c.count-3.ensures.sum
-    ∙ counted (map trait_bytes) (λ l. length-map l trait_bytes) (lists_of c.in-Ok-read_traits.traits) (names_of (marks_of t.traits)) ids names
-    ∙ ap (sum_by (λ id. length (names_of (marks_of t.traits) id))) all in
+    ∙ counted (map trait_bytes) (λ l. length-map l trait_bytes) (lists_of c.in-Ok-read_traits.traits) (names_of (traits_said t.traits)) ids names
+    ∙ ap (sum_by (λ id. length (names_of (traits_said t.traits) id))) all in
     let s5 = c.count-4.ensures.sum
-    ∙ counted (λ (l : List ℕ). l) (λ l. refl) (lists_of c.in-Ok-read_aggregates.aggregates) (aggregates_of (memberships_of t.aggregates)) ids (map_itself gs ∙ aggregates)
-    ∙ ap (sum_by (λ id. length (aggregates_of (memberships_of t.aggregates) id))) all in
+    ∙ counted (λ (l : List ℕ). l) (λ l. refl) (lists_of c.in-Ok-read_aggregates.aggregates) (aggregates_of (aggregates_said t.aggregates)) ids (map_itself gs ∙ aggregates)
+    ∙ ap (sum_by (λ id. length (aggregates_of (aggregates_said t.aggregates) id))) all in
     let sizes = ap sizes_of c.in_ok-build.ensures.counts ∙ same_sizes (sizes_of _) (world_stated t).sizes s1 s2 s3 s4 s5 in
     λ i. record { providers = providers i; sizes = sizes i }

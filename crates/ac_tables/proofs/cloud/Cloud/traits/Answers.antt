@@ -1,7 +1,6 @@
-use Rattle.std.proofs.Common.{◌∙◌, arith, ap, map, sym, subst, List, ℕ, get_or, []}
+use Rattle.std.proofs.Common.{◌∙◌, arith, ap, map}
 use Rattle.ac_base.specs.Names.{trait_bytes}
-use Rattle.ac_tables.proofs.CloudFacts.{inside, traits_here, parts}
-use Rattle.ac_tables.specs.ListsOf.{lists_of}
+use Rattle.ac_tables.proofs.Places.CloudFacts.{inside, traits_here, parts}
 use Rattle.ac_tables.proofs.cloud.Cloud.traits.Goals as goal
 
 pub of-requires : goal.of-requires

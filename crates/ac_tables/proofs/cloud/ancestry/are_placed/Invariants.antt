@@ -1,5 +1,5 @@
 use Rattle.std.proofs.Common.{◌<◌, ℕ}
-use Rattle.ac_tables.specs.Visits.{IsPlaced}
+use Rattle.ac_tables.specs.Cloud.Visits.{IsPlaced}
 use Rattle.ac_tables.proofs.cloud.ancestry.are_placed.Given as goal
 
 abbrev pub invariant-loop-place : goal.invariant-loop-place

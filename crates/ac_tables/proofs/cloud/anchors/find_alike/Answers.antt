@@ -1,8 +1,8 @@
-use Rattle.std.proofs.Common.{◌≡◌, ◌∙◌, ◌<◌, ℕ, length, get_or, map, sym, ap, [], arith}
+use Rattle.std.proofs.Common.{◌≡◌, ◌∙◌, ◌<◌, ℕ, length, sym, ap, [], arith}
 use Rattle.std.specs.Cmp.Lexicographic.{same_text}
 use Rattle.std.proofs.lemmas.List.{get_or-map}
-use Rattle.ac_tables.specs.Anchors.{list_items, list_of}
-use Rattle.ac_tables.proofs.AnchorLists.{some_place}
+use Rattle.ac_tables.specs.Cloud.Anchors.{list_items, list_of}
+use Rattle.ac_tables.proofs.Places.AnchorLists.{some_place}
 use Rattle.ac_tables.proofs.cloud.anchors.find_alike.Goals as goal
 
 pub returns-then-eq : goal.returns-then-eq

@@ -1,9 +1,9 @@
-use Rattle.std.proofs.Common.{◌≡◌, ◌<◌, ◌∙◌, ℕ, List, Option, None, Some, [], map, length, get_or, sym, ap, subst, true, false, arith}
+use Rattle.std.proofs.Common.{◌≡◌, ◌<◌, ◌∙◌, ℕ, List, length, sym, ap, arith}
 use Rattle.std.specs.Option.{is_some}
 use Rattle.std.specs.Global.{Vec}
-use Rattle.ac_tables.specs.ListsOf.{lists_of}
-use Rattle.ac_tables.specs.Anchors.{list_items, list_of, asked_at, joined}
-use Rattle.ac_tables.proofs.WideAggregates.{asked_marked, asked_joined, asked_alone}
+use Rattle.ac_tables.specs.Reader.ListsOf.{lists_of}
+use Rattle.ac_tables.specs.Cloud.Anchors.{list_of}
+use Rattle.ac_tables.proofs.Places.WideAggregates.{asked_marked, asked_joined, asked_alone}
 use Rattle.ac_tables.proofs.cloud.anchors.find_anchors.Goals as goal
 
 pub returns-clause-joined : goal.returns-clause-joined

@@ -1,8 +1,8 @@
-use Rattle.std.proofs.Common.{◌≡◌, ◌<◌, ◌+◌, ◌∙◌, ℕ, List, Option, None, [], map, length, get_or, sym, ap, subst, true, arith}
+use Rattle.std.proofs.Common.{◌≡◌, ◌<◌, ◌+◌, ◌∙◌, ℕ, List, Option, None, map, length, get_or, sym, ap, subst, true, arith}
 use Rattle.std.specs.Option.{is_some}
-use Rattle.ac_tables.specs.ListsOf.{lists_of}
-use Rattle.ac_tables.specs.Anchors.{list_items, list_of, is_joining, AreAsked}
-use Rattle.ac_tables.proofs.AnchorLists.{marked_more, length_more}
+use Rattle.ac_tables.specs.Reader.ListsOf.{lists_of}
+use Rattle.ac_tables.specs.Cloud.Anchors.{list_items, list_of, is_joining, AreAsked}
+use Rattle.ac_tables.proofs.Places.AnchorLists.{marked_more, length_more}
 use Rattle.ac_tables.proofs.cloud.anchors.find_lists.Goals as goal
 
 pub find_next-requires-clause-joined : goal.find_next-requires-clause-joined

@@ -1,4 +1,4 @@
-use Rattle.std.proofs.Common.{◌∙◌, ℕ, List, map, sym, ap, rules, Some}
+use Rattle.std.proofs.Common.{◌∙◌, ℕ, map, sym, ap, rules, Some}
 use Rattle.std.specs.Ordering.{is_eq}
 use Rattle.std.specs.Str.{bytes_eq}
 use Rattle.std.proofs.lemmas.Cmp.{nat_list_cmp_total}
@@ -8,7 +8,7 @@ use Rattle.ac_base.specs.Texts.{text_cmp}
 use Rattle.ac_base.specs.Names.{class_bytes}
 use Rattle.ac_base.specs.declared.name.ClassName.{ClassName}
 use Rattle.ac_tables.specs.declared.reader.row.TableRow.{TableRow}
-use Rattle.ac_tables.proofs.SearchFacts.{lookup_same, found, found_value, missed_value}
+use Rattle.ac_tables.proofs.Sorted.SearchFacts.{lookup_same, found, found_value, missed_value}
 use Rattle.ac_tables.proofs.cloud.entries.find_usage.Goals as goal
 
 pub returns-in-Ok : goal.returns-in-Ok

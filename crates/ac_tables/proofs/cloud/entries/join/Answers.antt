@@ -1,8 +1,8 @@
 use Rattle.std.proofs.Common.{◌∙◌, map, ap}
-use Rattle.ac_tables.specs.Entries.{entry_pair}
-use Rattle.ac_tables.specs.ListBounds.{lists_in}
-use Rattle.ac_tables.specs.ListsOf.{lists_of}
-use Rattle.ac_tables.proofs.JoinFacts.{joined_lists}
+use Rattle.ac_tables.specs.Cloud.Entries.{entry_pair}
+use Rattle.ac_tables.specs.Reader.ListBounds.{lists_in}
+use Rattle.ac_tables.specs.Reader.ListsOf.{lists_of}
+use Rattle.ac_tables.proofs.Places.JoinFacts.{joined_lists}
 use Rattle.ac_tables.proofs.cloud.entries.join.Goals as goal
 
 pub returns : goal.returns

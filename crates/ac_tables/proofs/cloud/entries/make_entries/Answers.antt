@@ -1,4 +1,4 @@
-use Rattle.std.proofs.Common.{◌≡◌, ◌∙◌, ◌<◌, ◌++◌, ◌∷◌, [], List, ℕ, map, length, refl, sym, ap, subst, arith, append_assoc, append-nil, get_or}
+use Rattle.std.proofs.Common.{◌≡◌, ◌∙◌, ◌<◌, ◌++◌, ◌∷◌, [], List, ℕ, map, length, sym, ap, subst, arith, append_assoc, append-nil}
 use Rattle.std.proofs.lemmas.List.{map-append}
 use Rattle.std.specs.List.Sorted.{IsStrictlySortedBy}
 use Rattle.std.specs.Map.{lookup}
@@ -8,11 +8,11 @@ use Rattle.std.specs.Vec.Iter.{into_iter_items}
 use Rattle.ac_base.specs.Names.{class_bytes}
 use Rattle.ac_base.specs.Texts.{text_cmp}
 use Rattle.ac_base.specs.declared.name.ClassName.{ClassName}
-use Rattle.ac_tables.specs.InventoryRows.{class_pair}
+use Rattle.ac_tables.specs.Reader.InventoryRows.{class_pair}
 use Rattle.ac_tables.specs.declared.reader.row.TableRow.{TableRow}
-use Rattle.ac_tables.specs.EntryLists.{entry_of}
-use Rattle.ac_tables.specs.ListsOf.{lists_of}
-use Rattle.ac_tables.proofs.ListFacts.{next_inside, nothing_left}
+use Rattle.ac_tables.specs.Cloud.EntryLists.{entry_of}
+use Rattle.ac_tables.specs.Reader.ListsOf.{lists_of}
+use Rattle.ac_tables.proofs.Sorted.ListFacts.{next_inside, nothing_left}
 use Rattle.ac_tables.proofs.cloud.entries.make_entries.Goals as goal
 
 pub of-requires : goal.of-requires

@@ -1,8 +1,8 @@
-use Rattle.std.proofs.Common.{◌≡◌, ◌∙◌, ◌<◌, ◌++◌, ◌∷◌, [], length, map, take, get_or, arith, sym, ap}
+use Rattle.std.proofs.Common.{◌∙◌, ◌<◌, ◌++◌, ◌∷◌, [], length, map, take, get_or, arith, sym, ap}
 use Rattle.std.proofs.lemmas.List.{map-append}
-use Rattle.ac_tables.specs.Anchors.{shares_by}
-use Rattle.ac_tables.specs.ListsOf.{lists_of}
-use Rattle.ac_tables.proofs.ListFacts.{take_more, take_whole}
+use Rattle.ac_tables.specs.Cloud.Anchors.{shares_by}
+use Rattle.ac_tables.specs.Reader.ListsOf.{lists_of}
+use Rattle.ac_tables.proofs.Sorted.ListFacts.{take_more, take_whole}
 use Rattle.ac_tables.proofs.cloud.lookups.find_sharing.Goals as goal
 
 pub loop-place-preserved : goal.loop-place-preserved

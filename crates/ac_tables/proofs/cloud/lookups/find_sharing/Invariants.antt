@@ -1,6 +1,6 @@
-use Rattle.std.proofs.Common.{◌≡◌, ◌≤◌, map, take, length}
-use Rattle.ac_tables.specs.Anchors.{shares_by}
-use Rattle.ac_tables.specs.ListsOf.{lists_of}
+use Rattle.std.proofs.Common.{◌≡◌, map, take}
+use Rattle.ac_tables.specs.Cloud.Anchors.{shares_by}
+use Rattle.ac_tables.specs.Reader.ListsOf.{lists_of}
 use Rattle.ac_tables.proofs.cloud.lookups.find_sharing.Given as goal
 
 abbrev pub invariant-loop-place : goal.invariant-loop-place

@@ -2,7 +2,7 @@ use Rattle.std.proofs.Common.{◌∙◌, ℕ, sym}
 use Rattle.std.specs.Prelude.{◌==◌}
 use Rattle.std.specs.Ordering.{is_eq, nat_cmp}
 use Rattle.std.proofs.lemmas.Cmp.{nat_cmp_total}
-use Rattle.ac_tables.proofs.SearchFacts.{found, found_any, any_same, is_eq_nat, map_itself}
+use Rattle.ac_tables.proofs.Sorted.SearchFacts.{found, found_any, any_same, is_eq_nat, map_itself}
 use Rattle.ac_tables.proofs.cloud.lookups.has_id.Goals as goal
 
 pub returns : goal.returns

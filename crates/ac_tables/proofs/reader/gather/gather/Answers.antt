@@ -1,6 +1,6 @@
 use Rattle.std.proofs.Common.{◌+◌, arith}
 use Rattle.csv.specs.Records.{fields_of}
-use Rattle.ac_tables.proofs.GatheredRows.{gathered_table, gathered_fine, gathered_alone, gathered_again, rows_sized}
+use Rattle.ac_tables.proofs.Gathered.GatheredRows.{gathered_table, gathered_fine, gathered_alone, gathered_again, rows_sized}
 use Rattle.ac_tables.proofs.reader.gather.gather.Goals as goal
 
 pub returns-clause-gathered : goal.returns-clause-gathered

@@ -1,5 +1,5 @@
 use Rattle.std.proofs.Common.{◌+◌, refl}
-use Rattle.ac_tables.proofs.RowsRead.{read_more}
+use Rattle.ac_tables.proofs.Gathered.RowsRead.{read_more}
 use Rattle.ac_tables.proofs.reader.gather.read_rows.Goals as goal
 
 pub loop-rows-preserved : goal.loop-rows-preserved

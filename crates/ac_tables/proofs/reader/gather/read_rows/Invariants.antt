@@ -1,7 +1,7 @@
 use Rattle.std.proofs.Common.{◌≡◌, length}
 use Rattle.csv.specs.Records.{fields_of}
-use Rattle.ac_tables.specs.Rows.{IsReading, rows_left}
-use Rattle.ac_tables.specs.TableRows.{IsReadSoFar}
+use Rattle.ac_tables.specs.Tables.Rows.{IsReading, rows_left}
+use Rattle.ac_tables.specs.Reader.TableRows.{IsReadSoFar}
 use Rattle.ac_tables.proofs.reader.gather.read_rows.Given as goal
 
 abbrev pub invariant-loop-rows : goal.invariant-loop-rows

@@ -1,9 +1,9 @@
 use Rattle.std.proofs.Common.{◌∙◌, sym, ap₂, subst, List, ℕ}
-use Rattle.ac_tables.specs.Rows.{records_of}
-use Rattle.ac_tables.specs.Columns.{header_fault}
-use Rattle.ac_tables.specs.Checks.{rows_fault, Tells}
+use Rattle.ac_tables.specs.Tables.Rows.{records_of}
+use Rattle.ac_tables.specs.Tables.Columns.{header_fault}
+use Rattle.ac_tables.specs.Tables.Checks.{rows_fault, Tells}
 use Rattle.ac_tables.specs.declared.fault.Table.{Table}
-use Rattle.ac_tables.proofs.Header.{fault_of_header, records_left}
+use Rattle.ac_tables.proofs.Gathered.Header.{fault_of_header, records_left}
 use Rattle.ac_tables.proofs.reader.gather.read_table.Goals as goal
 
 pub returns-in-Err-clause-fault : goal.returns-in-Err-clause-fault

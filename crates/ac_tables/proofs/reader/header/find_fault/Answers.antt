@@ -1,5 +1,5 @@
 use Rattle.std.proofs.Common.{◌∙◌, sym}
-use Rattle.ac_tables.proofs.Header.{lacks, doubles, fine}
+use Rattle.ac_tables.proofs.Gathered.Header.{lacks, doubles, fine}
 use Rattle.ac_tables.proofs.reader.header.find_fault.Goals as goal
 
 pub returns-then-lacks_one : goal.returns-then-lacks_one

@@ -1,5 +1,5 @@
 use Rattle.csv.specs.Records.{fields_of}
-use Rattle.ac_tables.proofs.RowsLeft.{gives_clause, goes_on_clause}
+use Rattle.ac_tables.proofs.Gathered.RowsLeft.{gives_clause, goes_on_clause}
 use Rattle.ac_tables.proofs.reader.records.next_row.Goals as goal
 
 pub returns-clause-gives : goal.returns-clause-gives

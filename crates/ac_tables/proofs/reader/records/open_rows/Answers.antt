@@ -1,4 +1,4 @@
-use Rattle.ac_tables.proofs.RowsLeft.{rows_start}
+use Rattle.ac_tables.proofs.Gathered.RowsLeft.{rows_start}
 use Rattle.ac_tables.proofs.reader.records.open_rows.Goals as goal
 
 pub returns-clause-left : goal.returns-clause-left

@@ -1,4 +1,4 @@
-use Rattle.ac_tables.proofs.FieldTexts.{text_some, text_none}
+use Rattle.ac_tables.proofs.Gathered.FieldTexts.{text_some, text_none}
 use Rattle.ac_tables.proofs.reader.records.text_at.Goals as goal
 
 pub returns-in-Some : goal.returns-in-Some

@@ -1,7 +1,7 @@
-use Rattle.std.proofs.Common.{◌∙◌, sym, ap, length}
+use Rattle.std.proofs.Common.{◌∙◌, ap, length}
 use Rattle.std.proofs.lemmas.List.{length-map}
-use Rattle.ac_tables.specs.ListBounds.{lists_in}
-use Rattle.ac_tables.proofs.ListFacts.{lists_map}
+use Rattle.ac_tables.specs.Reader.ListBounds.{lists_in}
+use Rattle.ac_tables.proofs.Sorted.ListFacts.{lists_map}
 use Rattle.ac_tables.proofs.reader.split.keys_of.Goals as goal
 
 pub returns-clause-count : goal.returns-clause-count

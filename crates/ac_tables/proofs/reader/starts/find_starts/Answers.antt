@@ -1,7 +1,7 @@
 use Rattle.std.proofs.Common.{◌∙◌, ◌+◌, ℕ, length, ap, arith, sym, subst}
 use Rattle.std.proofs.lemmas.List.{length-append}
-use Rattle.ac_tables.specs.TableRows.{IsStart}
-use Rattle.ac_tables.proofs.RowSlices.{start_here, starts_more}
+use Rattle.ac_tables.specs.Reader.TableRows.{IsStart}
+use Rattle.ac_tables.proofs.Gathered.RowSlices.{start_here, starts_more}
 use Rattle.ac_tables.proofs.reader.starts.find_starts.Goals as goal
 
 pub loop-place-preserved : goal.loop-place-preserved

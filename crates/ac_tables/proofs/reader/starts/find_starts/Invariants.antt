@@ -1,5 +1,5 @@
 use Rattle.std.proofs.Common.{◌≡◌, ℕ, ◌<◌, ◌≤◌, length, get_or}
-use Rattle.ac_tables.specs.TableRows.{IsStart}
+use Rattle.ac_tables.specs.Reader.TableRows.{IsStart}
 use Rattle.ac_tables.specs.declared.reader.row.TableRow.{TableRow}
 use Rattle.ac_tables.proofs.reader.starts.find_starts.Given as goal
 

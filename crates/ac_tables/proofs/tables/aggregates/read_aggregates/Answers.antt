@@ -1,23 +1,22 @@
-use Rattle.std.proofs.Common.{◌≡◌, ◌∙◌, ◌<◌, ℕ, false, List, map, length, get_or, refl, sym, ap, subst, arith}
-use Rattle.std.specs.declared.cmp.Ordering.{Ordering}
+use Rattle.std.proofs.Common.{◌∙◌, ◌<◌, ℕ, false, List, map, length, get_or, refl, sym, ap, subst, arith}
 use Rattle.std.specs.Ordering.{nat_cmp}
 use Rattle.std.specs.List.{All, dedup}
 use Rattle.std.specs.List.Sorted.{IsNonDecreasingBy}
 use Rattle.std.proofs.lemmas.Cmp.{nat_cmp_total}
 use Rattle.std.proofs.lemmas.List.Filters.{All-dedup}
 use Rattle.std.proofs.lemmas.Map.Lookups.{exact_unsigned}
-use Rattle.ac_tables.specs.TableRows.{row_ties}
+use Rattle.ac_tables.specs.Reader.TableRows.{row_ties}
 use Rattle.ac_tables.specs.declared.reader.row.TableRow.{TableRow}
-use Rattle.ac_tables.specs.AggregateTable.{Membership, memberships_of, aggregates_fault}
-use Rattle.ac_tables.specs.Rows.{records_of}
+use Rattle.ac_tables.specs.Tables.AggregateTable.{AggregateRecord, aggregates_said, aggregates_fault}
+use Rattle.ac_tables.specs.Tables.Rows.{records_of}
 use Rattle.ac_tables.specs.Tables.{aggregates_of}
-use Rattle.ac_tables.specs.RecordLaws.{same_place}
-use Rattle.ac_tables.proofs.ProviderSets.{shown_set, once_sorted}
-use Rattle.ac_tables.proofs.ListFacts.{of_each}
+use Rattle.ac_tables.specs.Reader.RecordLaws.{same_place}
+use Rattle.ac_tables.proofs.Sorted.ProviderSets.{shown_set, once_sorted}
+use Rattle.ac_tables.proofs.Sorted.ListFacts.{of_each}
 use Rattle.ac_tables.proofs.tables.aggregates.read_aggregates.Goals as goal
 
-abbrev membership_shown : List ℕ → ℕ → ℕ → Unit {0} → Membership
-membership_shown ids place key value = record { provider = get_or ids place 0; aggregate = key }
+abbrev aggregate_shown : List ℕ → ℕ → ℕ → Unit {0} → AggregateRecord
+aggregate_shown ids place key value = record { provider = get_or ids place 0; aggregate = key }
 
 pub split-requires-clause-sorted : goal.split-requires-clause-sorted
 split-requires-clause-sorted c =
@@ -33,12 +32,12 @@ pub returns-clause-value : goal.returns-clause-value
 unfolding aggregates_of
 returns-clause-value c =
     let ids = c.args.ids.now.ids.items in
-    let said = memberships_of (records_of c.args.text.now) in
+    let said = aggregates_said (records_of c.args.text.now) in
     c.in_ok-keys_of.ensures.lists
     ∙ of_each (dedup (row_ties nat_cmp) c.in-Ok.rows.items) (map (λ r. r.key)) (aggregates_of said) ids _
     (rw (sym c.keep_first.ensures.value, sym c.len.ensures.value) c.in_ok-rows.ensures.lists) (λ p h.
     shown_set nat_cmp nat_cmp_total nat_cmp nat_cmp_total exact_unsigned (λ (k : ℕ). k) (λ a b. refl)
-    (membership_shown ids) (length ids) false said c.in-Ok.rows.items c.in-Ok.ensures.rows (λ (v : Membership). v.provider) (λ (v : Membership). v.aggregate) p (get_or ids p 0)
+    (aggregate_shown ids) (length ids) false said c.in-Ok.rows.items c.in-Ok.ensures.rows (λ (v : AggregateRecord). v.provider) (λ (v : AggregateRecord). v.aggregate) p (get_or ids p 0)
     (λ r inside. same_place ids c.args.ids.now.rising r.place p inside h)
     (λ r. refl))
 

@@ -1,33 +1,28 @@
-use Rattle.std.proofs.Common.{[], sym, subst, refl, ◌+◌, List}
-use Rattle.csv.specs.Records.{fields_of}
-use Rattle.ac_tables.specs.Checks.{Tells, rows_fault}
-use Rattle.ac_tables.specs.Rows.{rows_left}
-use Rattle.ac_tables.specs.ProviderTable.{Listed, listed_in, listed_checks}
-use Rattle.ac_tables.specs.declared.fault.Table.TheVariants as table
-use Rattle.ac_tables.specs.declared.fault.TableFault.{TableFault}
-use Rattle.ac_tables.proofs.Progress.{Progress, progress_end, progress_fault, progress_more}
+use Rattle.std.proofs.Common.{◌<◌, length, arith}
+use Rattle.ac_tables.specs.Tables.Rows.{records_of}
+use Rattle.ac_tables.specs.Tables.ProviderTable.{providers_said}
+use Rattle.ac_tables.proofs.Records.ProviderIds.{said_fit}
+use Rattle.ac_tables.proofs.Records.ProviderRecords.{said_sized}
+use Rattle.ac_tables.proofs.Records.Limits.{none_past, none_within, tells_limited}
 use Rattle.ac_tables.proofs.tables.providers.read_rows.Goals as goal
 
-pub loop-roll-preserved : goal.loop-roll-preserved
-loop-roll-preserved c =
-    let gives = rw c.if-branch.true at c.in_ok-next_row.ensures.gives in
-    let header = fields_of c.args.header.now in
-    record {
-      reading = c.in_ok-next_row.ensures.goes_on c.if-branch.true;
-      progress = subst (λ (all : List Listed). Progress table.Providers (listed_in header) (listed_checks header) (rows_left c.args.reader.now) (rows_left c.next_row.new.reader) (c.loop-roll.number + 1) all)
-          (sym c.in-Ok.ensures.ok.0)
-          (progress_more table.Providers (listed_in header) (listed_checks header) _ _ _ _ _ (c.loop-roll.number + 1) _ c.loop-roll.invariant.progress gives refl c.in-Ok.ensures.ok.1);
-    }
+pub returns-then-len-gt-MOST_PROVIDERS-clause-fault : goal.returns-then-len-gt-MOST_PROVIDERS-clause-fault
+returns-then-len-gt-MOST_PROVIDERS-clause-fault c =
+    let sized = said_sized (providers_said (records_of c.args.text.now)) c.in-Ok.rows.items c.in-Ok.ensures.rows in
+    let many : 65536 < length (providers_said (records_of c.args.text.now)) = omega (arith, sized, c.len.ensures, c.if-len-gt-MOST_PROVIDERS.true) in
+    rw c.one_too_many.ensures (none_past (records_of c.args.text.now) c.in-Ok.ensures.ok many)
+
+pub returns-else-len-gt-MOST_PROVIDERS-clause-rows : goal.returns-else-len-gt-MOST_PROVIDERS-clause-rows
+returns-else-len-gt-MOST_PROVIDERS-clause-rows c = record {
+  table = c.in-Ok.ensures.rows;
+  fit = said_fit (records_of c.args.text.now);
+  few = omega (arith, c.len.ensures, c.if-len-gt-MOST_PROVIDERS.false);
+}
+
+pub returns-else-len-gt-MOST_PROVIDERS-clause-ok : goal.returns-else-len-gt-MOST_PROVIDERS-clause-ok
+returns-else-len-gt-MOST_PROVIDERS-clause-ok c =
+    let sized = said_sized (providers_said (records_of c.args.text.now)) c.in-Ok.rows.items c.in-Ok.ensures.rows in
+    none_within (records_of c.args.text.now) c.in-Ok.ensures.ok (omega (arith, sized, c.len.ensures, c.if-len-gt-MOST_PROVIDERS.false))
 
 pub returns-in-Err-clause-fault : goal.returns-in-Err-clause-fault
-returns-in-Err-clause-fault c =
-    let gives = rw c.if-branch.true at c.in_ok-next_row.ensures.gives in
-    let header = fields_of c.args.header.now in
-    subst (λ (e : TableFault). Tells (rows_fault table.Providers (listed_in header) (listed_checks header) [] (rows_left c.args.reader.now)) e) (sym c.fault_at.ensures)
-    (progress_fault table.Providers (listed_in header) (listed_checks header) _ _ _ _ _ _ c.in-Err.fault c.loop-roll.invariant.progress gives c.in-Err.ensures.fault)
-
-pub returns-clause-ok : goal.returns-clause-ok
-returns-clause-ok c =
-    let gives = rw c.if-branch.false at c.in_ok-next_row.ensures.gives in
-    let header = fields_of c.args.header.now in
-    progress_end table.Providers (listed_in header) (listed_checks header) _ _ _ _ c.loop-roll.invariant.progress gives
+returns-in-Err-clause-fault c = tells_limited (records_of c.args.text.now) c.in-Err.fault c.limited.result c.in-Err.ensures.fault c.limited.ensures

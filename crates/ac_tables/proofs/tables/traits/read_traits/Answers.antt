@@ -1,4 +1,4 @@
-use Rattle.std.proofs.Common.{◌≡◌, ◌∙◌, ◌<◌, ℕ, false, List, map, length, get_or, refl, sym, ap, subst, arith}
+use Rattle.std.proofs.Common.{◌∙◌, ◌<◌, ℕ, false, List, map, length, get_or, refl, sym, ap, subst, arith}
 use Rattle.std.specs.declared.cmp.Ordering.{Ordering}
 use Rattle.std.specs.Cmp.{on_total}
 use Rattle.std.specs.List.{All, dedup}
@@ -9,21 +9,21 @@ use Rattle.std.proofs.lemmas.Map.Lookups.{exact_bytes}
 use Rattle.ac_base.specs.Names.{trait_bytes}
 use Rattle.ac_base.specs.Texts.{text_cmp}
 use Rattle.ac_base.specs.declared.name.TraitName.{TraitName}
-use Rattle.ac_tables.specs.TableRows.{row_ties}
+use Rattle.ac_tables.specs.Reader.TableRows.{row_ties}
 use Rattle.ac_tables.specs.declared.reader.row.TableRow.{TableRow}
-use Rattle.ac_tables.specs.TraitTable.{Mark, marks_of, traits_fault}
-use Rattle.ac_tables.specs.Rows.{records_of}
+use Rattle.ac_tables.specs.Tables.TraitTable.{TraitRecord, traits_said, traits_fault}
+use Rattle.ac_tables.specs.Tables.Rows.{records_of}
 use Rattle.ac_tables.specs.Tables.{names_of}
-use Rattle.ac_tables.specs.RecordLaws.{same_place}
-use Rattle.ac_tables.proofs.ProviderSets.{shown_set, once_sorted}
-use Rattle.ac_tables.proofs.ListFacts.{map_map, of_each}
+use Rattle.ac_tables.specs.Reader.RecordLaws.{same_place}
+use Rattle.ac_tables.proofs.Sorted.ProviderSets.{shown_set, once_sorted}
+use Rattle.ac_tables.proofs.Sorted.ListFacts.{map_map, of_each}
 use Rattle.ac_tables.proofs.tables.traits.read_traits.Goals as goal
 
 abbrev trait_cmp : TraitName → TraitName → Ordering
 trait_cmp a b = text_cmp (trait_bytes a) (trait_bytes b)
 
-abbrev mark_shown : List ℕ → ℕ → TraitName → Unit {0} → Mark
-mark_shown ids place key value = record { provider = get_or ids place 0; name = trait_bytes key }
+abbrev trait_shown : List ℕ → ℕ → TraitName → Unit {0} → TraitRecord
+trait_shown ids place key value = record { provider = get_or ids place 0; name = trait_bytes key }
 
 pub split-requires-clause-sorted : goal.split-requires-clause-sorted
 split-requires-clause-sorted c =
@@ -39,13 +39,13 @@ pub returns-clause-value : goal.returns-clause-value
 unfolding names_of
 returns-clause-value c =
     let ids = c.args.ids.now.ids.items in
-    let said = marks_of (records_of c.args.text.now) in
+    let said = traits_said (records_of c.args.text.now) in
     ap (map (map trait_bytes)) c.in_ok-keys_of.ensures.lists ∙ map_map (map (λ r. r.key)) (map trait_bytes) _
     ∙ of_each (dedup (row_ties trait_cmp) c.in-Ok.rows.items) (λ l. map trait_bytes (map (λ r. r.key) l)) (names_of said) ids _
     (rw (sym c.keep_first.ensures.value, sym c.len.ensures.value) c.in_ok-rows.ensures.lists) (λ p h.
     map_map (λ r. r.key) trait_bytes _
     ∙ shown_set trait_cmp (on_total trait_bytes nat_list_cmp_total) text_cmp nat_list_cmp_total exact_bytes trait_bytes (λ a b. refl)
-    (mark_shown ids) (length ids) false said c.in-Ok.rows.items c.in-Ok.ensures.rows (λ (v : Mark). v.provider) (λ (v : Mark). v.name) p (get_or ids p 0)
+    (trait_shown ids) (length ids) false said c.in-Ok.rows.items c.in-Ok.ensures.rows (λ (v : TraitRecord). v.provider) (λ (v : TraitRecord). v.name) p (get_or ids p 0)
     (λ r inside. same_place ids c.args.ids.now.rising r.place p inside h)
     (λ r. refl))
 

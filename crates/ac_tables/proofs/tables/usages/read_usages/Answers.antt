@@ -1,4 +1,4 @@
-use Rattle.std.proofs.Common.{◌≡◌, ◌∙◌, ◌<◌, ℕ, List, None, Option, map, length, get_or, refl, sym, ap, subst, arith}
+use Rattle.std.proofs.Common.{◌∙◌, ℕ, List, Option, map, length, get_or, refl, sym, ap, subst, arith}
 use Rattle.std.specs.Cmp.{on_total}
 use Rattle.std.proofs.lemmas.Cmp.{nat_list_cmp_total}
 use Rattle.std.proofs.lemmas.List.{length-map}
@@ -7,31 +7,31 @@ use Rattle.std.proofs.lemmas.Map.Text.{is_eq-slice_cmp}
 use Rattle.ac_base.specs.Names.{class_bytes}
 use Rattle.ac_base.specs.Texts.{text_cmp}
 use Rattle.ac_base.specs.declared.name.ClassName.{ClassName}
-use Rattle.ac_tables.specs.Checks.{Tells}
-use Rattle.ac_tables.specs.TableRows.{row_shown}
-use Rattle.ac_tables.specs.UsageTable.{Usage, usages_of, usages_fault}
-use Rattle.ac_tables.specs.Rows.{records_of}
+use Rattle.ac_tables.specs.Tables.Checks.{Tells}
+use Rattle.ac_tables.specs.Reader.TableRows.{row_shown}
+use Rattle.ac_tables.specs.Tables.UsageTable.{UsageRecord, usages_said}
+use Rattle.ac_tables.specs.Tables.Rows.{records_of}
 use Rattle.ac_tables.specs.Tables.{amounts_of}
-use Rattle.ac_tables.specs.InventoryRows.{class_pair, holdings_shown}
-use Rattle.ac_tables.specs.RecordLaws.{same_place, eq_turned}
+use Rattle.ac_tables.specs.Reader.InventoryRows.{class_pair, inventory_records_shown}
+use Rattle.ac_tables.specs.Reader.RecordLaws.{same_place, eq_turned}
 use Rattle.ac_tables.specs.declared.fault.TableFault.{TableFault}
-use Rattle.ac_tables.proofs.RowPlaces.{places_rise}
-use Rattle.ac_tables.proofs.ProviderMaps.{shown_map}
-use Rattle.ac_tables.proofs.ListFacts.{of_each}
-use Rattle.ac_tables.proofs.UsageChecks.{same_fault}
+use Rattle.ac_tables.proofs.Gathered.RowPlaces.{places_rise}
+use Rattle.ac_tables.proofs.Sorted.ProviderMaps.{shown_map}
+use Rattle.ac_tables.proofs.Sorted.ListFacts.{of_each}
+use Rattle.ac_tables.proofs.Records.UsageChecks.{same_fault}
 use Rattle.ac_tables.proofs.tables.usages.read_usages.Goals as goal
 
-abbrev usage_shown : List ℕ → ℕ → ClassName → ℕ → Usage
+abbrev usage_shown : List ℕ → ℕ → ClassName → ℕ → UsageRecord
 usage_shown ids place key value = record { provider = get_or ids place 0; class = class_bytes key; amount = value }
 
 pub returns-clause-value : goal.returns-clause-value
 unfolding amounts_of
 returns-clause-value c =
     let ids = c.args.inventories.now.ids.ids.items in
-    let said = usages_of (records_of c.args.text.now) in
+    let said = usages_said (records_of c.args.text.now) in
     of_each c.in-Ok.rows.items (map class_pair) (amounts_of said) ids _ (rw (sym c.len.ensures.value) c.in_ok-split.ensures.lists) (λ p h.
     shown_map (λ a b. text_cmp (class_bytes a) (class_bytes b)) (on_total class_bytes nat_list_cmp_total) nat_list_cmp_total (λ a b. is_eq-slice_cmp a b ∙ eq_turned a b ∙ sym (is_eq-slice_cmp b a))
-    class_bytes (λ a b. refl) (usage_shown ids) (length ids) said c.in-Ok.rows.items c.in-Ok.ensures.rows (λ (v : Usage). v.provider) (λ (v : Usage). (v.class, v.amount)) p (get_or ids p 0)
+    class_bytes (λ a b. refl) (usage_shown ids) (length ids) said c.in-Ok.rows.items c.in-Ok.ensures.rows (λ (v : UsageRecord). v.provider) (λ (v : UsageRecord). (v.class, v.amount)) p (get_or ids p 0)
     (λ r inside. same_place ids c.args.inventories.now.ids.rising r.place p inside h)
     (λ r. refl))
 
@@ -46,14 +46,14 @@ returns-clause-count c =
     ∙ sym (length-map table.read (row_shown (usage_shown c.args.inventories.now.ids.ids.items))) ∙ ap length table.shows
 
 pub returns-in-Err-clause-err : goal.returns-in-Err-clause-err
-returns-in-Err-clause-err c = λ holdings same.
+returns-in-Err-clause-err c = λ records same.
     subst (λ (o : Option TableFault). Tells o c.in-Err.fault)
-    (same_fault c.args.inventories.now.ids.ids.items holdings (holdings_shown c.args.inventories.now.ids.ids.items c.args.inventories.now.rows.items.items) (records_of c.args.text.now) same)
+    (same_fault c.args.inventories.now.ids.ids.items records (inventory_records_shown c.args.inventories.now.ids.ids.items c.args.inventories.now.rows.items.items) (records_of c.args.text.now) same)
     c.in-Err.ensures.fault
 
 pub returns-clause-ok : goal.returns-clause-ok
-returns-clause-ok c = λ holdings same.
-    sym (same_fault c.args.inventories.now.ids.ids.items holdings (holdings_shown c.args.inventories.now.ids.ids.items c.args.inventories.now.rows.items.items) (records_of c.args.text.now) same)
+returns-clause-ok c = λ records same.
+    sym (same_fault c.args.inventories.now.ids.ids.items records (inventory_records_shown c.args.inventories.now.ids.ids.items c.args.inventories.now.rows.items.items) (records_of c.args.text.now) same)
     ∙ c.in-Ok.ensures.ok
 
 pub returns-clause-few : goal.returns-clause-few

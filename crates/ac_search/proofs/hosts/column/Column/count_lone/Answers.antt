@@ -1,8 +1,8 @@
 use Rattle.std.proofs.Common.{arith}
 use Rattle.ac_query.specs.Asked.{slots_of}
-use Rattle.ac_search.specs.Accounts.{asked_in}
-use Rattle.ac_search.specs.Columns.{is_lone}
-use Rattle.ac_search.proofs.RootLemmas.{load_take}
+use Rattle.ac_search.specs.Left.Accounts.{asked_in}
+use Rattle.ac_search.specs.Loads.Columns.{is_lone}
+use Rattle.ac_search.proofs.Roots.RootLemmas.{load_take}
 use Rattle.ac_search.proofs.hosts.column.Column.count_lone.Goals as goal
 
 pub loop-s-preserved : goal.loop-s-preserved

@@ -1,7 +1,7 @@
 use Rattle.std.proofs.Common.{◌∙◌, ◌/◌, ap, arith}
 use Rattle.std.specs.Prelude.{min}
 use Rattle.ac_base.specs.Names.{class_bytes}
-use Rattle.ac_search.proofs.RootLemmas.{if_ok, lone_keep}
+use Rattle.ac_search.proofs.Roots.RootLemmas.{if_ok, lone_keep}
 use Rattle.ac_search.proofs.hosts.column.Column.limit_lone.Goals as goal
 
 pub returns : goal.returns

@@ -1,6 +1,6 @@
 use Rattle.std.proofs.Common.{◌∙◌, ◌/◌, ap, arith}
 use Rattle.ac_base.specs.Names.{class_bytes}
-use Rattle.ac_search.proofs.RootLemmas.{if_ok, pieces_keep}
+use Rattle.ac_search.proofs.Roots.RootLemmas.{if_ok, pieces_keep}
 use Rattle.ac_search.proofs.hosts.column.Column.limit_pieces.Goals as goal
 
 pub returns : goal.returns

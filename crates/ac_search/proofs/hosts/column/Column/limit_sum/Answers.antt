@@ -1,6 +1,6 @@
 use Rattle.std.proofs.Common.{◌∙◌}
 use Rattle.ac_base.specs.Names.{class_bytes}
-use Rattle.ac_search.proofs.RootLemmas.{if_ok, class_keeps}
+use Rattle.ac_search.proofs.Roots.RootLemmas.{if_ok, class_keeps}
 use Rattle.ac_search.proofs.hosts.column.Column.limit_sum.Goals as goal
 
 pub returns : goal.returns

@@ -1,5 +1,5 @@
 use Rattle.ac_base.specs.Names.{class_bytes}
-use Rattle.ac_search.proofs.RootLemmas.{lone_told}
+use Rattle.ac_search.proofs.Roots.RootLemmas.{lone_told}
 use Rattle.ac_search.proofs.hosts.column.Column.lone_asking.Goals as goal
 
 pub returns-then-wanted-amount : goal.returns-then-wanted-amount

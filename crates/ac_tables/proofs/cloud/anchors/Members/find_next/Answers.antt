@@ -1,8 +1,8 @@
-use Rattle.std.proofs.Common.{◌<◌, ◌∙◌, [], map, length, get_or, sym, ap, arith, true}
+use Rattle.std.proofs.Common.{◌<◌, ◌∙◌, [], map, length, sym, arith}
 use Rattle.std.proofs.lemmas.List.{get_or-map}
-use Rattle.ac_tables.specs.Anchors.{list_items, is_joining}
-use Rattle.ac_tables.specs.ListsOf.{lists_of}
-use Rattle.ac_tables.proofs.AnchorLists.{joined_some, joined_none}
+use Rattle.ac_tables.specs.Cloud.Anchors.{list_items}
+use Rattle.ac_tables.specs.Reader.ListsOf.{lists_of}
+use Rattle.ac_tables.proofs.Places.AnchorLists.{joined_some, joined_none}
 use Rattle.ac_tables.proofs.cloud.anchors.Members.find_next.Goals as goal
 
 pub returns-clause-joined : goal.returns-clause-joined

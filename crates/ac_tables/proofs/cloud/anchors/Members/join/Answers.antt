@@ -1,6 +1,5 @@
-use Rattle.std.proofs.Common.{map}
-use Rattle.ac_tables.specs.ListsOf.{lists_of}
-use Rattle.ac_tables.proofs.AnchorLists.{joined_list}
+use Rattle.ac_tables.specs.Reader.ListsOf.{lists_of}
+use Rattle.ac_tables.proofs.Places.AnchorLists.{joined_list}
 use Rattle.ac_tables.proofs.cloud.anchors.Members.join.Goals as goal
 
 pub returns : goal.returns

@@ -1,4 +1,4 @@
-use Rattle.ac_tables.proofs.Rising.{absent_place, found_value}
+use Rattle.ac_tables.proofs.Sorted.Rising.{absent_place, found_value}
 use Rattle.ac_tables.proofs.cloud.provider_index.Ids.find.Goals as goal
 
 pub returns-clause-absent : goal.returns-clause-absent

@@ -1,7 +1,7 @@
-use Rattle.std.proofs.Common.{◌<◌, ◌∙◌, ℕ, [], map, length, refl, sym, arith}
-use Rattle.ac_tables.specs.ListsOf.{lists_of}
-use Rattle.ac_tables.specs.Anchors.{is_met}
-use Rattle.ac_tables.proofs.GroupFacts.{meets_more}
+use Rattle.std.proofs.Common.{ℕ, refl}
+use Rattle.ac_tables.specs.Reader.ListsOf.{lists_of}
+use Rattle.ac_tables.specs.Cloud.Anchors.{is_met}
+use Rattle.ac_tables.proofs.Places.GroupFacts.{meets_more}
 use Rattle.ac_tables.proofs.cloud.roots_by_aggregate.Groups.gather.Goals as goal
 
 pub loop-place-preserved : goal.loop-place-preserved

@@ -1,5 +1,5 @@
 use Rattle.std.proofs.Common.{arith}
-use Rattle.ac_tables.proofs.ListFacts.{lists_sum}
+use Rattle.ac_tables.proofs.Sorted.ListFacts.{lists_sum}
 use Rattle.ac_tables.proofs.reader.lists.Lists.count.Goals as goal
 
 pub returns-clause-sum : goal.returns-clause-sum

@@ -1,5 +1,5 @@
-use Rattle.std.proofs.Common.{sym, ◌∙◌, arith}
-use Rattle.ac_tables.proofs.ListFacts.{lists_size}
+use Rattle.std.proofs.Common.{arith}
+use Rattle.ac_tables.proofs.Sorted.ListFacts.{lists_size}
 use Rattle.ac_tables.proofs.reader.lists.Lists.len.Goals as goal
 
 pub returns : goal.returns

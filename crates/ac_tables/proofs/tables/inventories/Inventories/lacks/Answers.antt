@@ -5,11 +5,11 @@ use Rattle.std.specs.List.Sorted.{IsStrictlySortedBy}
 use Rattle.std.specs.Str.{bytes_eq}
 use Rattle.ac_base.specs.Names.{class_bytes}
 use Rattle.ac_base.specs.Texts.{text_cmp}
-use Rattle.ac_base.specs.Quantities.{Stock}
+use Rattle.ac_base.specs.Quantities.{InventoryNumbers}
 use Rattle.ac_base.specs.declared.name.ClassName.{ClassName}
 use Rattle.ac_tables.specs.declared.reader.row.TableRow.{TableRow}
-use Rattle.ac_tables.proofs.UsageKeys.{any_filter}
-use Rattle.ac_tables.proofs.ListFacts.{lists_size, split_here}
+use Rattle.ac_tables.proofs.Records.UsageKeys.{any_filter}
+use Rattle.ac_tables.proofs.Sorted.ListFacts.{lists_size, split_here}
 use Rattle.ac_tables.proofs.tables.inventories.Inventories.lacks.Goals as goal
 
 pub of-requires : goal.of-requires
@@ -20,13 +20,13 @@ of-requires c =
 pub has_class-requires : goal.has_class-requires
 has_class-requires c =
     let own = c.args.self.now in
-    subst (λ (rs : List (TableRow ClassName Stock)). IsStrictlySortedBy text_cmp (map (λ (r : TableRow ClassName Stock). class_bytes r.key) rs)) (sym c.of.ensures)
+    subst (λ (rs : List (TableRow ClassName InventoryNumbers)). IsStrictlySortedBy text_cmp (map (λ (r : TableRow ClassName InventoryNumbers). class_bytes r.key) rs)) (sym c.of.ensures)
     (own.rise c.args.place [] (omega (arith, lists_size own.rows.items.items own.rows.starts.items, own.started.sized, c.requires)))
 
 pub returns : goal.returns
 returns c =
     let own = c.args.self.now in
-    let here = λ (r : TableRow ClassName Stock). r.place == c.args.place in
-    let like = λ (r : TableRow ClassName Stock). bytes_eq (class_bytes r.key) (class_bytes c.args.class.now) in
+    let here = λ (r : TableRow ClassName InventoryNumbers). r.place == c.args.place in
+    let like = λ (r : TableRow ClassName InventoryNumbers). bytes_eq (class_bytes r.key) (class_bytes c.args.class.now) in
     ap not (c.has_class.ensures ∙ ap (list_any like) (c.of.ensures ∙ split_here _ own.rows.items.items own.rows.starts.items own.started c.args.place c.requires)
     ∙ any_filter here like own.rows.items.items)

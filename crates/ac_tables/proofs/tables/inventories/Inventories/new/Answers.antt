@@ -3,13 +3,13 @@ use Rattle.std.specs.List.{All, filter, range_with_len}
 use Rattle.std.proofs.lemmas.Cmp.{nat_list_cmp_total}
 use Rattle.std.specs.Cmp.{on_total}
 use Rattle.ac_base.specs.Names.{class_bytes}
-use Rattle.ac_base.specs.Quantities.{Stock}
+use Rattle.ac_base.specs.Quantities.{InventoryNumbers}
 use Rattle.ac_base.specs.Texts.{text_cmp}
 use Rattle.ac_base.specs.declared.name.ClassName.{ClassName}
 use Rattle.ac_tables.specs.declared.reader.row.TableRow.{TableRow}
-use Rattle.ac_tables.proofs.InventoryLists.{stocks_here}
-use Rattle.ac_tables.proofs.RiseFacts.{stocks_rise}
-use Rattle.ac_tables.proofs.RowPlaces.{places_rise}
+use Rattle.ac_tables.proofs.Records.InventoryLists.{inventory_lists_here}
+use Rattle.ac_tables.proofs.Sorted.RiseFacts.{inventories_rise}
+use Rattle.ac_tables.proofs.Gathered.RowPlaces.{places_rise}
 use Rattle.ac_tables.proofs.tables.inventories.Inventories.new.Goals as goal
 
 pub split-requires-clause-sorted : goal.split-requires-clause-sorted
@@ -18,11 +18,11 @@ split-requires-clause-sorted c =
 
 pub invariant_of-result-clause-inside : goal.invariant_of-result-clause-inside
 invariant_of-result-clause-inside c =
-    subst (All (λ (r : TableRow ClassName Stock). r.place < length c.args.ids.ids.items)) (sym c.in_ok-rows.ensures.rows) c.requires.1.inside
+    subst (All (λ (r : TableRow ClassName InventoryNumbers). r.place < length c.args.ids.ids.items)) (sym c.in_ok-rows.ensures.rows) c.requires.1.inside
 
 pub invariant_of-result-clause-rise : goal.invariant_of-result-clause-rise
 invariant_of-result-clause-rise c =
     let ids = c.args.ids.ids.items in
     let lists = c.in_ok-rows.ensures.lists
-    ∙ ap (λ n. map (λ p. filter (λ (r : TableRow ClassName Stock). r.place == p) c.args.rows.items) (range_with_len 0 n)) c.len.ensures.value in
-    stocks_rise c.requires.0 ids _ (stocks_here ids c.args.ids.rising c.requires.0 c.args.rows.items c.requires.1 _ lists)
+    ∙ ap (λ n. map (λ p. filter (λ (r : TableRow ClassName InventoryNumbers). r.place == p) c.args.rows.items) (range_with_len 0 n)) c.len.ensures.value in
+    inventories_rise c.requires.0 ids _ (inventory_lists_here ids c.args.ids.rising c.requires.0 c.args.rows.items c.requires.1 _ lists)

@@ -1,19 +1,19 @@
 use Rattle.std.proofs.Common.{List, length, sym, ap, subst, arith}
-use Rattle.ac_tables.specs.InventoryTable.{Holding, holdings_of, inventories_fault}
-use Rattle.ac_tables.specs.Rows.{records_of}
-use Rattle.ac_tables.specs.InventoryRows.{holding_shown, holdings_shown}
+use Rattle.ac_tables.specs.Tables.InventoryTable.{InventoryRecord, inventories_said, inventories_fault}
+use Rattle.ac_tables.specs.Tables.Rows.{records_of}
+use Rattle.ac_tables.specs.Reader.InventoryRows.{inventory_shown, inventory_records_shown}
 use Rattle.std.specs.List.Sorted.{IsPermutation}
 use Rattle.std.proofs.lemmas.List.Sorted.{IsPermutation-map}
-use Rattle.ac_base.specs.Quantities.{Stock}
+use Rattle.ac_base.specs.Quantities.{InventoryNumbers}
 use Rattle.ac_base.specs.declared.name.ClassName.{ClassName}
-use Rattle.ac_tables.specs.TableRows.{row_shown}
+use Rattle.ac_tables.specs.Reader.TableRows.{row_shown}
 use Rattle.ac_tables.specs.declared.reader.row.TableRow.{TableRow}
-use Rattle.ac_tables.proofs.InventoryLists.{stocks_here}
+use Rattle.ac_tables.proofs.Records.InventoryLists.{inventory_lists_here}
 use Rattle.ac_tables.proofs.tables.inventories.Inventories.read.Goals as goal
 
 pub returns-clause-value : goal.returns-clause-value
 returns-clause-value c =
-    stocks_here c.args.ids.ids.items c.args.ids.rising (holdings_of (records_of c.args.text.now)) c.in-Ok.rows.items c.in-Ok.ensures.rows _ c.in_ok-new.ensures.lists
+    inventory_lists_here c.args.ids.ids.items c.args.ids.rising (inventories_said (records_of c.args.text.now)) c.in-Ok.rows.items c.in-Ok.ensures.rows _ c.in_ok-new.ensures.lists
 
 pub returns-in-Err-clause-err : goal.returns-in-Err-clause-err
 unfolding inventories_fault
@@ -26,11 +26,11 @@ returns-clause-ok c = c.in-Ok.ensures.ok
 pub returns-clause-said : goal.returns-clause-said
 returns-clause-said c =
     let ids = c.args.ids.ids.items in
-    let said = holdings_of (records_of c.args.text.now) in
+    let said = inventories_said (records_of c.args.text.now) in
     let table = c.in-Ok.ensures.rows in
-    subst (λ (l : List Holding). IsPermutation l (holdings_shown ids c.in_ok-new.field-0.rows.items.items)) table.shows
-    (subst (λ (l : List (TableRow ClassName Stock)). IsPermutation (holdings_shown ids table.read) (holdings_shown ids l)) (sym c.in_ok-new.ensures.rows)
-    (IsPermutation-map (row_shown (holding_shown ids)) table.read c.in-Ok.rows.items table.same))
+    subst (λ (l : List InventoryRecord). IsPermutation l (inventory_records_shown ids c.in_ok-new.field-0.rows.items.items)) table.shows
+    (subst (λ (l : List (TableRow ClassName InventoryNumbers)). IsPermutation (inventory_records_shown ids table.read) (inventory_records_shown ids l)) (sym c.in_ok-new.ensures.rows)
+    (IsPermutation-map (row_shown (inventory_shown ids)) table.read c.in-Ok.rows.items table.same))
 
 pub returns-clause-few : goal.returns-clause-few
 returns-clause-few c =

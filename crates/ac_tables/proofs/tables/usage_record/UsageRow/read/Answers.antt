@@ -1,7 +1,7 @@
 use Rattle.std.proofs.Common.{◌∙◌, ◌++◌, sym}
 use Rattle.csv.specs.Records.{fields_of}
-use Rattle.ac_tables.specs.InventoryTable.{owner_checks, class_checks}
-use Rattle.ac_tables.specs.UsageTable.{amount_checks, usage_field_checks}
+use Rattle.ac_tables.specs.Tables.InventoryTable.{owner_checks, class_checks}
+use Rattle.ac_tables.specs.Tables.UsageTable.{amount_checks, usage_field_checks}
 use Rattle.ac_tables.proofs.FirstFailing.{append_some, append_none, tells_front, tells_back, none_both, unless_err, unless_none}
 use Rattle.ac_tables.proofs.tables.usage_record.UsageRow.read.Goals as goal
 

@@ -1,0 +1,130 @@
+-- Where no pair has a fault, exactly one record is what the pairs ask for.
+use Rattle.std.proofs.Common.{◌≡◌, ℕ, suc, List, [], ◌∷◌, ◌++◌, map, Option, Some, None, refl, sym, ap, ap₂, ◌∙◌, subst}
+use Rattle.std.specs.List.{fold, filter_map, slice_get, AllByRecursion}
+use Rattle.std.specs.List.Sorted.{IsStrictlySortedBy}
+use Rattle.std.specs.Map.{keys_of}
+use Rattle.std.proofs.lemmas.Cmp.{nat_list_cmp_total, eq_by_cmp_equiv}
+use Rattle.std.proofs.lemmas.List.{map-append}
+use Rattle.std.proofs.lemmas.Map.Entries.{lookup_from_place}
+use Rattle.std.proofs.lemmas.Map.Keys.{IsDistinct-from_sorted}
+use Rattle.ac_base.specs.Texts.{text_cmp}
+use Rattle.ac_tables.proofs.Sorted.OrderFacts.{name_rising}
+use Rattle.ac_tables.proofs.Sorted.SortedSets.{rising_sorted}
+use Rattle.ac_query.specs.declared.version.Version.{Version}
+use Rattle.ac_query.specs.Pairs.Values.{Part, Given}
+use Rattle.ac_query.specs.Pairs.{given}
+use Rattle.ac_query.specs.Asked.{Group, Asked}
+use Rattle.ac_query.specs.Asks.{IsTold, needs_in, tree_in, AsksOfGroup, parts_of, unsuffixed, suffix_in, policy_in, limit_in, Asks}
+use Rattle.ac_query.specs.Laws.Gathered.{empty_group, nothing, with_part, plain_groups, of_suffix, as_asked, gathered, asked_by}
+use Rattle.ac_query.specs.Faults.{first_fault, pairs_conditions}
+use Rattle.ac_query.specs.Laws.{AsksOnce, OrderHolds}
+use Rattle.ac_query.proofs.Pairs.Once.{policy_once, limit_once, needs_once, tree_once}
+use Rattle.ac_query.proofs.Pairs.Gathering.{told_from_short, group_asks, policy_latest, limit_latest, subtrees_all, root_required_all, root_forbidden_all, grown_all, grown_there, plain_grown, suffixes_all, found_grown}
+
+-- ---- texts in byte order
+pub order_holds : OrderHolds
+order_holds texts = (rising_sorted nat_list_cmp_total texts, λ t. name_rising t texts)
+
+-- ---- all of a list
+all_from_places : {X : Type 0} (P : X → Type 0) (xs : List X) → ((i : ℕ) (x : X) → slice_get xs i ≡ Some x → P x) → AllByRecursion P xs
+all_from_places P [] h = tt
+all_from_places P (x ∷ xs) h = (h 0 x refl, all_from_places P xs (λ i y is. h (suc i) y is))
+
+all_map : {X Y : Type 0} (f : X → Y) (P : Y → Type 0) (xs : List X) → AllByRecursion (λ x. P (f x)) xs → AllByRecursion P (map f xs)
+all_map f P [] all = tt
+all_map f P (x ∷ xs) all = (all.0, all_map f P xs all.1)
+
+pub all_append : {X : Type 0} (P : X → Type 0) (xs ys : List X) → AllByRecursion P xs → AllByRecursion P ys → AllByRecursion P (xs ++ ys)
+all_append P [] ys a b = b
+all_append P (x ∷ xs) ys a b = (a.0, all_append P xs ys a.1 b)
+
+-- ---- the groups that are there
+-- a group of parts is the one that grew from them
+grown_is : (ps : List Part) (g : Group) → Some g ≡ grown_all None ps → g ≡ fold with_part empty_group ps
+grown_is [] g h = absurd (cc)
+grown_is (p ∷ ps) g h = let e : Some g ≡ Some (fold with_part (with_part empty_group p) ps) = h ∙ grown_there (with_part empty_group p) ps in cc
+
+plain_named : (ps : List Part) → map (λ e. e.0) (plain_groups (grown_all None ps)) ≡ unsuffixed ps
+plain_named [] = refl
+plain_named (p ∷ ps) = ap (λ o. map (λ e. e.0) (plain_groups o)) (grown_there (with_part empty_group p) ps)
+
+suffixes_named : (es : List (List ℕ × Group)) → map (λ e. e.0) (map of_suffix es) ≡ map (λ s. Some s) (keys_of es)
+suffixes_named [] = refl
+suffixes_named (e ∷ es) = ap (λ l. Some e.0 ∷ l) (suffixes_named es)
+
+module _ (version : Version) (pairs : List (List ℕ × List ℕ)) (fine : first_fault (pairs_conditions version 1 [] pairs) ≡ None) where
+  abbrev all : List Given
+  all = given version pairs
+
+  group_fits : (s : Option (List ℕ)) (g : Group) → Some g ≡ grown_all None (parts_of s all) → AsksOfGroup (parts_of s all) g
+  group_fits s g is =
+      subst (AsksOfGroup (parts_of s all)) (sym (grown_is (parts_of s all) g is)) (group_asks (parts_of s all) (needs_once version pairs fine s) (tree_once version pairs fine s))
+
+  plain_fits : (o : Option Group) → o ≡ grown_all None (parts_of None all) → AllByRecursion (λ e. AsksOfGroup (parts_of e.0 all) e.1) (plain_groups o)
+  plain_fits None is = tt
+  plain_fits (Some g) is = (group_fits None g is, tt)
+
+  sorted : IsStrictlySortedBy text_cmp (keys_of (gathered version pairs).suffixed)
+  sorted = subst (IsStrictlySortedBy text_cmp) (sym (suffixes_all nothing all)) (rising_sorted nat_list_cmp_total (filter_map suffix_in all))
+
+  suffixed_fits : AllByRecursion (λ e. AsksOfGroup (parts_of e.0 all) e.1) (map of_suffix (gathered version pairs).suffixed)
+  suffixed_fits =
+      all_map of_suffix (λ e. AsksOfGroup (parts_of e.0 all) e.1) (gathered version pairs).suffixed
+      (all_from_places _ (gathered version pairs).suffixed
+      (λ i e is. group_fits (Some e.0) e.1
+      (sym (lookup_from_place (eq_by_cmp_equiv nat_list_cmp_total) (gathered version pairs).suffixed i e.0 e.1 (IsDistinct-from_sorted text_cmp _ sorted) is)
+      ∙ found_grown e.0 nothing all)))
+
+  pub asks : Asks version pairs (as_asked (gathered version pairs))
+  asks = record {
+    groups =
+        map-append (λ e. e.0) (plain_groups (gathered version pairs).plain) (map of_suffix (gathered version pairs).suffixed)
+        ∙ ap₂ (λ a b. a ++ b)
+        (ap (λ o. map (λ e. e.0) (plain_groups o)) (plain_grown nothing all) ∙ plain_named (parts_of None all))
+        (suffixes_named (gathered version pairs).suffixed ∙ ap (map (λ s. Some s)) (suffixes_all nothing all));
+    parts = all_append _ (plain_groups (gathered version pairs).plain) _ (plain_fits (gathered version pairs).plain (plain_grown nothing all)) suffixed_fits;
+    policy = subst (λ v. IsTold None v (filter_map policy_in all)) (sym (policy_latest nothing all)) (told_from_short None (filter_map policy_in all) (policy_once version pairs fine));
+    subtrees = subtrees_all nothing all;
+    root_required = root_required_all nothing all;
+    root_forbidden = root_forbidden_all nothing all;
+    limit = subst (λ v. IsTold None v (filter_map limit_in all)) (sym (limit_latest nothing all)) (told_from_short None (filter_map limit_in all) (limit_once version pairs fine));
+  }
+
+-- ---- no other record
+told_same : {A : Type 0} (n a b : A) (xs : List A) → IsTold n a xs → IsTold n b xs → a ≡ b
+told_same n a b [] h k = h ∙ sym k
+told_same n a b (x ∷ []) h k = h ∙ sym k
+told_same n a b (x ∷ y ∷ xs) h k = absurd h
+
+group_same : (ps : List Part) (g h : Group) → AsksOfGroup ps g → AsksOfGroup ps h → g ≡ h
+group_same ps g h a b =
+    ap (λ v. record g { needs = v }) (told_same [] g.needs h.needs (filter_map needs_in ps) a.needs b.needs)
+    ∙ ap (λ v. record g { needs = h.needs; required = v }) (a.required ∙ sym b.required)
+    ∙ ap (λ v. record h { forbidden = v; any_of = g.any_of; member_of = g.member_of; in_tree = g.in_tree }) (a.forbidden ∙ sym b.forbidden)
+    ∙ ap (λ v. record h { any_of = v; member_of = g.member_of; in_tree = g.in_tree }) (a.any_of ∙ sym b.any_of)
+    ∙ ap (λ v. record h { member_of = v; in_tree = g.in_tree }) (a.member_of ∙ sym b.member_of)
+    ∙ ap (λ v. record h { in_tree = v }) (told_same None g.in_tree h.in_tree (filter_map tree_in ps) a.in_tree b.in_tree)
+
+groups_same : (gs : List Given) (es fs : List (Option (List ℕ) × Group)) → map (λ e. e.0) es ≡ map (λ e. e.0) fs
+    → AllByRecursion (λ e. AsksOfGroup (parts_of e.0 gs) e.1) es → AllByRecursion (λ e. AsksOfGroup (parts_of e.0 gs) e.1) fs → es ≡ fs
+groups_same gs [] [] same a b = refl
+groups_same gs [] (f ∷ fs) same a b = absurd (cc)
+groups_same gs (e ∷ es) [] same a b = absurd (cc)
+groups_same gs (e ∷ es) (f ∷ fs) same a b =
+    let first : e.0 ≡ f.0 = cc in
+    let later : map (λ d. d.0) es ≡ map (λ d. d.0) fs = cc in
+    let group : e.1 ≡ f.1 = group_same (parts_of f.0 gs) e.1 f.1 (subst (λ s. AsksOfGroup (parts_of s gs) e.1) first a.0) b.0 in
+    ap₂ (λ d l. d ∷ l) (ap₂ (λ s g. (s, g)) first group) (groups_same gs es fs later a.1 b.1)
+
+pub asked_same : (version : Version) (pairs : List (List ℕ × List ℕ)) (a b : Asked) → Asks version pairs a → Asks version pairs b → a ≡ b
+asked_same version pairs a b h k =
+    ap (λ v. record a { groups = v }) (groups_same (given version pairs) a.groups b.groups (h.groups ∙ sym k.groups) h.parts k.parts)
+    ∙ ap (λ v. record a { groups = b.groups; policy = v }) (told_same None a.policy b.policy (filter_map policy_in (given version pairs)) h.policy k.policy)
+    ∙ ap (λ v. record a { groups = b.groups; policy = b.policy; subtrees = v }) (h.subtrees ∙ sym k.subtrees)
+    ∙ ap (λ v. record b { root_required = v; root_forbidden = a.root_forbidden; limit = a.limit }) (h.root_required ∙ sym k.root_required)
+    ∙ ap (λ v. record b { root_forbidden = v; limit = a.limit }) (h.root_forbidden ∙ sym k.root_forbidden)
+    ∙ ap (λ v. record b { limit = v }) (told_same None a.limit b.limit (filter_map limit_in (given version pairs)) h.limit k.limit)
+
+pub asks_once : AsksOnce
+unfolding asked_by
+asks_once version pairs fine = (asks version pairs fine, λ a h. asked_same version pairs a (as_asked (gathered version pairs)) h (asks version pairs fine))

@@ -1,0 +1,67 @@
+-- What the conditions of a pair come to.
+use Rattle.std.proofs.Common.{◌≡◌, ℕ, Bool, true, false, not, ◌&&◌, List, [], ◌∷◌, ◌++◌, Option, Some, None, Result, Ok, Err, IfErr, IfSome, nat_lt, ◌<◌, ◌≤◌, arith, length, refl, sym, ap, subst, ◌∙◌}
+use Rattle.std.proofs.lemmas.Bool.Decides.{nat_tests}
+use Rattle.std.specs.Result.{IsErrAnd}
+use Rattle.ac_query.specs.declared.version.Version.{Version}
+use Rattle.ac_query.specs.Texts.{has_text}
+use Rattle.ac_query.specs.Pairs.Parameters.{Parameter, parameter, may_repeat}
+use Rattle.ac_query.specs.Pairs.Values.{Given, given_of, is_conflict}
+use Rattle.ac_query.specs.Pairs.{pairs_of}
+use Rattle.ac_query.specs.Faults.{Fault, too_long, repeated, bad_value, conflict, first_fault, is_repeat, pair_conditions, pairs_conditions, text_conditions}
+
+not-not : (b : Bool) → not (not b) ≡ b
+not-not true = refl
+not-not false = refl
+
+-- what is_repeat comes to
+pub not_again : (version : Version) (earlier : List (List ℕ)) (name : List ℕ) (q : Parameter) → may_repeat version q ≡ true → false ≡ is_repeat version earlier name q
+not_again version earlier name q may = rw may refl
+
+pub again_is : (version : Version) (earlier : List (List ℕ)) (name : List ℕ) (q : Parameter) (is_new : Bool) → may_repeat version q ≡ false → is_new ≡ not (has_text earlier name) → not is_new ≡ is_repeat version earlier name q
+again_is version earlier name q is_new may new = ap (λ b. not b) new ∙ not-not (has_text earlier name) ∙ sym (ap (λ b. not b && has_text earlier name) may)
+
+module _ (version : Version) (n : ℕ) (earlier : List (List ℕ)) (p : List ℕ × List ℕ) (q : Parameter) (known : parameter p.0 ≡ Some q) where
+  pub at_repeat : is_repeat version earlier p.0 q ≡ true → first_fault (pair_conditions version n earlier p) ≡ Some (repeated n)
+  at_repeat again = rw (known, again) refl
+
+  module _ (once : is_repeat version earlier p.0 q ≡ false) where
+    pub at_bad_value : given_of version q p.1 ≡ None → first_fault (pair_conditions version n earlier p) ≡ Some (bad_value n)
+    at_bad_value bad = rw (known, once, bad) refl
+
+    module _ (v : Given) (good : given_of version q p.1 ≡ Some v) where
+      pub at_conflict : is_conflict v ≡ true → first_fault (pair_conditions version n earlier p) ≡ Some (conflict n)
+      at_conflict clash = rw (known, once, good, clash) refl
+
+      pub at_fine : is_conflict v ≡ false → first_fault (pair_conditions version n earlier p) ≡ None
+      at_fine clash = rw (known, once, good, clash) refl
+
+-- an error that a `?` handed on as it was
+pub err_is : {T E : Type 0} (r : Result T E) (P : E → Type 0) (x : E) → IsErrAnd r (λ e. e ≡ x) → P x → IfErr r P
+err_is (Ok v) P x is told = tt
+err_is (Err e) P x is told = subst P (sym is) told
+
+-- the first fault of two lists of conditions
+pub first_fault-append : (a b : List (Bool × Fault)) → first_fault a ≡ None → first_fault (a ++ b) ≡ first_fault b
+first_fault-append [] b h = refl
+first_fault-append ((true, f) ∷ a) b h = absurd (cc)
+first_fault-append ((false, f) ∷ a) b h = first_fault-append a b h
+
+pub first_fault-found : (a b : List (Bool × Fault)) (f : Fault) → first_fault a ≡ Some f → first_fault (a ++ b) ≡ Some f
+first_fault-found [] b f h = absurd (cc)
+first_fault-found ((true, g) ∷ a) b f h = h
+first_fault-found ((false, g) ∷ a) b f h = first_fault-found a b f h
+
+-- a query that isn't too long
+module _ (version : Version) (query : List ℕ) (fits : length query ≤ 65536) where
+  short : nat_lt 65536 (length query) ≡ false
+  short = grind (arith, nat_tests)
+
+  pub pairs_are_fine : first_fault (pairs_conditions version 1 [] (pairs_of query)) ≡ None → first_fault (text_conditions version query) ≡ None
+  pairs_are_fine fine = rw short fine
+
+  pub pairs_tell : (o : Option Fault) → IfSome o (λ f. first_fault (pairs_conditions version 1 [] (pairs_of query)) ≡ Some f) → IfSome o (λ f. first_fault (text_conditions version query) ≡ Some f)
+  pairs_tell None told = tt
+  pairs_tell (Some f) told = rw short told
+
+pub is_too_long : (version : Version) (query : List ℕ) → 65536 < length query → first_fault (text_conditions version query) ≡ Some too_long
+is_too_long version query long = let h : nat_lt 65536 (length query) ≡ true = grind (arith, nat_tests) in rw h refl

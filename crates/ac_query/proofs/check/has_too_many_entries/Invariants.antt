@@ -1,8 +1,0 @@
-use Rattle.std.proofs.Common.{◌≡◌, ◌+◌, map, sum_by}
-use Rattle.ac_query.specs.Gathered.{of_suffix}
-use Rattle.ac_query.specs.Faults.{entry_count}
-use Rattle.ac_query.specs.DraftShown.{entry_shown, suffixed_shown}
-use Rattle.ac_query.proofs.check.has_too_many_entries.Given as goal
-
-abbrev pub invariant-loop-group : goal.invariant-loop-group
-invariant-loop-group l = l.count + sum_by entry_count (map of_suffix (map entry_shown l.group-iterator)) ≡ l.entries + sum_by entry_count (suffixed_shown l.groups)

@@ -1,0 +1,7 @@
+//! What no clause says of reading tables and queries, shown over their public calls: worked values, each fault, growths that are refused.
+#![tactic(auto)]
+
+#[cfg(test)]
+mod query;
+#[cfg(test)]
+mod tables;

@@ -1,0 +1,6 @@
+-- Pages, piece by piece and list by list.
+pub mod Joining
+pub mod LinesWritten
+pub mod Paging
+pub mod Wholes
+pub mod Summing

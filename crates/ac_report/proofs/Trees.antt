@@ -1,0 +1,8 @@
+-- The trees of JSON that a page is made of.
+pub mod Finding
+pub mod FindingSums
+pub mod Gathering
+pub mod Listed
+pub mod PlainTrees
+pub mod Rows
+pub mod Marking

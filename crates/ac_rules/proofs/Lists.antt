@@ -1,0 +1,8 @@
+-- All lists of numbers in order, and the candidates among them.
+pub mod AheadLemmas
+pub mod ListLemmas
+pub mod OdometerLemmas
+pub mod OrderLemmas
+pub mod ChosenLemmas
+pub mod RestLemmas
+pub mod PageLemmas

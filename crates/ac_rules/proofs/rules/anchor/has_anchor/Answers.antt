@@ -1,0 +1,27 @@
+use Rattle.std.proofs.Common.{◌<◌, length, sym, ap, ◌∙◌, subst}
+use Rattle.std.specs.List.{All, list_any}
+use Rattle.ac_query.specs.Asked.{slots_of}
+use Rattle.ac_query.specs.Shown.Queries.{asked_of}
+use Rattle.ac_tables.specs.Cloud.CloudWorld.{providers_of}
+use Rattle.ac_rules.proofs.EachSlot.AnchorLemmas.{anchors_list, anchor_first, anchor_none, anchors_within}
+use Rattle.ac_rules.proofs.rules.anchor.has_anchor.Goals as goal
+
+pub has_anchor_among-requires-clause-roots : goal.has_anchor_among-requires-clause-roots
+has_anchor_among-requires-clause-roots c =
+    let all = providers_of c.args.cloud.now in
+    subst (All (λ r. r < length all)) (sym c.anchors.ensures) (anchors_within all c.in-Some.ix.now)
+
+pub returns-in-Some : goal.returns-in-Some
+returns-in-Some c =
+    let all = providers_of c.args.cloud.now in
+    let asked = asked_of c.args.query.now in
+    let list = c.args.list.now in
+    c.has_anchor_among.ensures
+    ∙ (ap (list_any (λ r. anchors_list all asked list r)) c.anchors.ensures
+    ∙ anchor_first all asked (slots_of asked) list c.in-Some.ix.now c.in-Some.ensures.value c.requires.slots)
+
+pub returns-in-None : goal.returns-in-None
+returns-in-None c =
+    let asked = asked_of c.args.query.now in
+    c.takes_some_root.ensures
+    ∙ anchor_none (providers_of c.args.cloud.now) asked (slots_of asked) c.args.list.now c.in-None.ensures.value

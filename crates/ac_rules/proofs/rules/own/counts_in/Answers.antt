@@ -1,0 +1,16 @@
+use Rattle.std.proofs.Common.{sym, ◌∙◌}
+use Rattle.ac_query.specs.Shown.Queries.{asked_of}
+use Rattle.ac_tables.specs.Cloud.CloudWorld.{providers_of}
+use Rattle.ac_tables.proofs.ProvidersStated.{cloud_in_order}
+use Rattle.ac_rules.specs.Placed.{placed_at}
+use Rattle.ac_rules.proofs.PlaceLemmas.{root_counts}
+use Rattle.ac_rules.proofs.rules.own.counts_in.Goals as goal
+
+pub returns-then-not-is_suffixed : goal.returns-then-not-is_suffixed
+returns-then-not-is_suffixed c =
+    let all = providers_of c.args.cloud.now in
+    let order = (cloud_in_order c.args.cloud.now).order in
+    let x = placed_at (asked_of c.args.query.now) c.args.s c.args.ix in
+    c.in_aggregate-then-not-is_suffixed.ensures
+    ∙ root_counts all order x c.root.result c.args.aggregate c.root.ensures.inside c.root.ensures.id
+    (sym c.is_suffixed.ensures ∙ c.if-not-is_suffixed.true) (sym c.in_aggregate.ensures ∙ c.if-in_aggregate.false)

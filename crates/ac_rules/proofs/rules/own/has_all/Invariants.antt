@@ -1,0 +1,11 @@
+use Rattle.std.proofs.Common.{◌≡◌, map, drop}
+use Rattle.ac_base.specs.Names.{trait_bytes}
+use Rattle.ac_tables.specs.World.{provider_at}
+use Rattle.ac_tables.specs.Cloud.CloudWorld.{providers_of}
+use Rattle.ac_rules.specs.Own.{has_all}
+use Rattle.ac_rules.proofs.rules.own.has_all.Given as goal
+
+abbrev pub invariant-loop-name : goal.invariant-loop-name
+invariant-loop-name l =
+    let p = provider_at (providers_of l.cloud) l.ix in
+    has_all p (map trait_bytes (drop l.name-index l.names)) ≡ has_all p (map trait_bytes l.names)

@@ -1,0 +1,12 @@
+use Rattle.std.proofs.Common.{◌≡◌, ℕ, List, map, drop}
+use Rattle.std.specs.List.{list_all}
+use Rattle.ac_tables.specs.World.{provider_at}
+use Rattle.ac_query.specs.Shown.Groups.{need_entry}
+use Rattle.ac_tables.specs.Cloud.CloudWorld.{providers_of}
+use Rattle.ac_rules.specs.Own.{inventory_of, admits}
+use Rattle.ac_rules.proofs.rules.own.has_units.Given as goal
+
+abbrev pub invariant-loop-need : goal.invariant-loop-need
+invariant-loop-need l =
+    let fits = λ (need : List ℕ × ℕ). admits (inventory_of (provider_at (providers_of l.cloud) l.ix) need.0) need.1 in
+    list_all fits (map need_entry (drop l.need-index l.need-items)) ≡ list_all fits (map need_entry l.need-items)

@@ -1,0 +1,14 @@
+use Rattle.std.proofs.Common.{◌≡◌, ℕ, List, map, drop}
+use Rattle.std.specs.List.{list_all}
+use Rattle.ac_tables.specs.World.{provider_at}
+use Rattle.ac_query.specs.Shown.Groups.{need_entry}
+use Rattle.ac_query.specs.Shown.Queries.{asked_of}
+use Rattle.ac_tables.specs.Cloud.CloudWorld.{providers_of}
+use Rattle.ac_rules.specs.Placed.{assigned}
+use Rattle.ac_rules.specs.Together.{sum_on, holds}
+use Rattle.ac_rules.proofs.rules.sums.has_room_at.Given as goal
+
+abbrev pub invariant-loop-need : goal.invariant-loop-need
+invariant-loop-need l =
+    let fits = λ (need : List ℕ × ℕ). holds (provider_at (providers_of l.cloud) l.ix) need.0 (sum_on (assigned (asked_of l.query) l.list) l.ix need.0) in
+    list_all fits (map need_entry (drop l.need-index l.need-items)) ≡ list_all fits (map need_entry l.need-items)

@@ -1,0 +1,3 @@
+-- What sources show.
+pub mod Lists
+pub mod Plain

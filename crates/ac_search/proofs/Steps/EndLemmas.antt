@@ -1,0 +1,106 @@
+-- A walk ends: each step raises the front that it tries next, and there are finitely many fronts.
+use Rattle.std.proofs.Common.{◌≡◌, ℕ, ◌+◌, ◌-◌, ◌*◌, ◌<◌, ◌≤◌, ◌^◌, suc, true, List, [], ◌∷◌, length, take, Option, None, Some, IsSome, inl, inr, sym, ap, ◌∙◌, subst, arith, length-append, length-take-le}
+use Rattle.std.specs.List.{filter, slice_index, AllByRecursion as Each}
+use Rattle.std.proofs.lemmas.Bool.{cases_lt, not_from_false, not_from_true, not-true, false_from_ne_true, false≢true}
+use Rattle.std.proofs.lemmas.List.{get_or_past}
+use Rattle.std.specs.Option.{option_map}
+use Rattle.ac_base.specs.Devices.{Rises}
+use Rattle.ac_query.specs.Shown.Queries.{asked_of}
+use Rattle.ac_tables.specs.Cloud.CloudWorld.{providers_of}
+use Rattle.ac_tables.proofs.ProvidersStated.{cloud_in_order}
+use Rattle.ac_rules.specs.Order.{lex_lt}
+use Rattle.ac_search.specs.Search.{Search, all_shorter, choices_at, next_at, from, between}
+use Rattle.ac_search.specs.QuerySearch.{open_between}
+use Rattle.ac_search.specs.Shown.Walk.{cloud_in, query_in, token_in, search_in, front_in, left_of, IsSame, Tries}
+use Rattle.ac_search.specs.Search.Steps.{Goes, Gives, Ends, IsBounded, Advances, Finishes}
+use Rattle.ac_search.specs.declared.walk.Walk.{Walk}
+use Rattle.ac_rules.proofs.Elements.{each_append, each_weaker, each_all, count_more}
+use Rattle.ac_rules.proofs.Lists.OrderLemmas.{lex_irrefl, lex_trans}
+use Rattle.ac_search.proofs.Search.ShorterLemmas.{among_all_shorter}
+use Rattle.ac_search.proofs.Search.IdsLemmas.{between_by_ids}
+use Rattle.ac_search.proofs.Search.SoughtLemmas.{low_at}
+use Rattle.ac_search.proofs.Steps.MoveLemmas.{path_low}
+use Rattle.ac_search.proofs.Steps.StepLemmas.{laws_in, search_same, bounded_then}
+
+-- how many fronts from c on there are
+unfoldable pub fronts_from : Search → List ℕ → ℕ
+fronts_from m c = length (filter (λ t. from c t) (all_shorter (suc m.count) (suc m.width)))
+
+abbrev pub remaining : Walk → ℕ
+remaining w = fronts_from (search_in w) (front_in w)
+
+front_low : (w : Walk) → Each (λ p. p < suc (search_in w).count) (front_in w)
+front_low w =
+    let m = search_in w in
+    let n = m.count in
+    let j = slice_index w.places.items w.depth in
+    let last : next_at m w.depth j < suc n = elim (cases_lt j (length (choices_at m w.depth))) [
+      | inl l ↦ let low = low_at m (laws_in w) w.depth j w.sound.within l in omega arith
+      | inr g ↦ rw (get_or_past (choices_at m w.depth) j n g) (omega arith)
+    ] in
+    each_append (λ p. p < suc n) (take w.depth w.path.items) (next_at m w.depth j ∷ [])
+    (each_weaker (λ p. p < n) (λ p. p < suc n) (take w.depth w.path.items) (λ p l. omega arith)
+    (path_low m (laws_in w) w.least.items w.path.items w.places.items w.depth w.seeking w.probes w.sound))
+    (last, tt)
+
+fronts_fall : (w : Walk) (c : List ℕ) → lex_lt (front_in w) c ≡ true → fronts_from (search_in w) c < remaining w
+unfolding fronts_from
+fronts_fall w c up =
+    let m = search_in w in
+    let nodes = all_shorter (suc m.count) (suc m.width) in
+    let size : length (front_in w) < suc m.width =
+    omega (arith, length-append (take w.depth w.path.items) (next_at m w.depth (slice_index w.places.items w.depth) ∷ []), length-take-le w.depth w.path.items (omega (arith, w.sound.path_len, w.sound.within)), w.sound.within) in
+    let more : length (filter (λ t. from c t) nodes) + 1 ≤ length (filter (λ t. from (front_in w) t) nodes) = count_more (λ t. from c t) (λ t. from (front_in w) t) nodes (front_in w)
+    (each_all (λ u. from c u ≡ true → from (front_in w) u ≡ true) nodes (λ u e. not_from_false _ (false_from_ne_true _ (λ b. false≢true (sym (not-true _ e) ∙ lex_trans u (front_in w) c b up)))))
+    (among_all_shorter (suc m.count) (suc m.width) (front_in w) size (front_low w))
+    (not_from_true _ up) (not_from_false _ (lex_irrefl (front_in w))) in
+    omega arith
+
+-- each step leaves fewer
+pub remaining_falls : (w v : Walk) → Goes w v → remaining v < remaining w
+remaining_falls w v g = subst (λ (m : Search). fronts_from m (front_in v) < remaining w) (sym (search_same w v g.same)) (fronts_fall w (front_in v) g.up)
+
+-- what several steps keep
+pub record Comes (old new : Walk) : Type 0 where
+  pub same : IsSame old new
+  pub left : left_of new ≡ left_of old
+  pub kept : old.probes ≤ new.probes
+
+-- its tries, told by the ids of its token
+tries_told : (w v : Walk) (y : Option (List ℕ)) → IsBounded w y v → w.probes ≤ v.probes → (IsSome y → Rises w.probes v.probes) → Tries w y v
+tries_told w v y bounds kept rises =
+    let least : between (search_in w) w.least.items y ≡ open_between (cloud_in w) (query_in w) (token_in w) y =
+    ap (λ (x : List ℕ). between (search_in w) x y) w.resumed ∙ between_by_ids (cloud_in w) (cloud_in_order w.ledger.cloud.now).order (query_in w) (token_in w) y in
+    record {
+      cloud = ap (λ c. providers_of c.now) bounds.same.cloud;
+      query = ap (λ q. asked_of q.now) bounds.same.query;
+      token = ap (λ ids. option_map (λ v. v.items) ids) bounds.same.after;
+      bounded = subst (λ (ls : List (List ℕ)). v.probes ≤ length (cloud_in w) * length ls) least bounds.bounded;
+      kept = kept;
+      rises = rises;
+    }
+
+gives_then : (w u v : Walk) → Comes w u → Gives u v → Gives w v
+gives_then w u v a b = record {
+  head = sym a.left ∙ b.head;
+  bounds = bounded_then w u v (Some v.path.items) a.same b.bounds;
+  kept = omega (arith, a.kept, b.kept);
+  rises = λ h. elim (cases_lt u.probes (2 ^ 64 - 1)) [
+    | inl l ↦ let rise = b.rises l in let come = a.kept in omega arith
+    | inr g ↦ let come = b.kept in omega arith
+  ];
+}
+
+ends_then : (w u v : Walk) → Comes w u → Ends u v → Ends w v
+ends_then w u v a b = record { nothing = sym a.left ∙ b.nothing; none = b.none; bounds = bounded_then w u v None a.same b.bounds; kept = omega (arith, a.kept, b.kept) }
+
+-- what one step gives after those before it
+pub advances : (w u v : Walk) → Comes w u → Gives u v → Advances w v
+advances w u v a b =
+    let g = gives_then w u v a b in
+    record { head = g.head; tries = tries_told w v (Some v.path.items) g.bounds g.kept (λ _. g.rises) }
+
+pub finishes : (w u v : Walk) → Comes w u → Ends u v → Finishes w v
+finishes w u v a b =
+    let e = ends_then w u v a b in
+    record { nothing = e.nothing; none = e.none; tries = tries_told w v None e.bounds e.kept (λ some. absurd (cc)) }

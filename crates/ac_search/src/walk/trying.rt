@@ -1,0 +1,230 @@
+//! Trying a provider behind the path of a walk, and taking it back.
+ghost use Rattle.std.specs.Prelude.{◌≡◌, ◌+◌, ◌<◌, ◌≤◌, ◌++◌, ◌∷◌, [], length, take, true, false, suc, MatchOption, IsTrue, ◌↔◌, slice_index, slice_set};
+ghost use Rattle.ac_base.specs.Devices.{one_more};
+ghost use Rattle.ac_search.specs.Left.Accounts.{providers_in, asked_in};
+ghost use Rattle.ac_rules.specs.Judge.{is_open};
+ghost use Rattle.ac_search.specs.Search.{IsDead, IsStart, Enters, HasAt, least_at, choices_at, next_at};
+ghost use Rattle.ac_search.specs.QuerySearch.{completes};
+
+use super::{Step, Walk};
+use crate::open::completes;
+
+impl<'a> Walk<'a> {
+    ghost use Rattle.ac_search.specs.Shown.Walk.{search_in, IsSame};
+    ghost use Rattle.ac_search.specs.Search.Steps.{StepGives, Goes};
+
+    // The next provider to try, where the slot has one more.
+    pub(super) fn choice(&self) -> Option<u32>
+        ensures { MatchOption result (length (choices_at (search_in self.now) self.now.depth)
+            ≤ slice_index self.now.places.items self.now.depth)
+            (λ p. (slice_index self.now.places.items self.now.depth
+            < length (choices_at (search_in self.now) self.now.depth))
+            × (p ≡ next_at (search_in self.now) self.now.depth
+            (slice_index self.now.places.items self.now.depth))) }
+    {
+        let choices = &self.choices[self.depth];
+        let place = self.places[self.depth];
+        if place < choices.len() {
+            Some(choices[place])
+        } else {
+            None
+        }
+    }
+
+    // Writes the provider that is tried behind the path.
+    fn put(&mut self, provider: u32)
+        ensures same { IsSame self.old self.new }
+        ensures path { self.new.path.items ≡ slice_set self.old.path.items self.old.depth provider }
+        ensures places { self.new.places.items ≡ self.old.places.items }
+        ensures depth { self.new.depth ≡ self.old.depth }
+        ensures probes { self.new.probes ≡ self.old.probes }
+    {
+        self.path[self.depth] = provider;
+    }
+
+    // Whether the path is open with the provider that is put behind it; where it says no, no candidate goes on from there.
+    fn stays_open(&self) -> bool
+        requires among { slice_index self.now.places.items self.now.depth
+            < length (choices_at (search_in self.now) self.now.depth) }
+        requires put { slice_index self.now.path.items self.now.depth
+            ≡ next_at (search_in self.now) self.now.depth
+            (slice_index self.now.places.items self.now.depth) }
+        ensures opens { result ≡ true → is_open (providers_in self.now.ledger)
+            (asked_in self.now.ledger) (take (suc self.now.depth) self.now.path.items) ≡ true }
+        ensures dead { result ≡ false → IsDead (search_in self.now)
+            (take (suc self.now.depth) self.now.path.items) }
+    {
+        self.ledger
+            .admits(&self.path[..self.depth], self.path[self.depth])
+    }
+
+    // Whether the whole path meets what isn't asked of its fronts.
+    fn is_complete(&self) -> bool
+        requires among { slice_index self.now.places.items self.now.depth
+            < length (choices_at (search_in self.now) self.now.depth) }
+        requires put { slice_index self.now.path.items self.now.depth
+            ≡ next_at (search_in self.now) self.now.depth
+            (slice_index self.now.places.items self.now.depth) }
+        requires last { suc self.now.depth ≡ (search_in self.now).width }
+        ensures { result ≡ completes (providers_in self.now.ledger)
+            (asked_in self.now.ledger) self.now.path.items }
+    {
+        completes(self.ledger.cloud, self.ledger.query, self.path.as_slice())
+    }
+
+    // Goes on to the next choice of the slot, after so many tries.
+    fn skip(&mut self, tries: u64)
+        requires among { slice_index self.old.places.items self.old.depth
+            < length (choices_at (search_in self.old) self.old.depth) }
+        requires tried { tries ≤ self.old.probes + 1 }
+        ensures same { IsSame self.old self.new }
+        ensures path { self.new.path.items ≡ self.old.path.items }
+        ensures depth { self.new.depth ≡ self.old.depth }
+        ensures places { self.new.places.items ≡ slice_set self.old.places.items self.old.depth
+            (slice_index self.old.places.items self.old.depth + 1) }
+        ensures probes { self.new.probes ≡ tries }
+    {
+        self.probes = tries;
+        self.places[self.depth] += 1;
+        self.seeking = false;
+    }
+
+    // Where the next slot begins behind a provider, and whether the path is a front of the least list there.
+    fn entry(&self, provider: u32) -> (usize, bool)
+        requires among { slice_index self.now.places.items self.now.depth
+            < length (choices_at (search_in self.now) self.now.depth) }
+        requires next { provider ≡ next_at (search_in self.now) self.now.depth
+            (slice_index self.now.places.items self.now.depth) }
+        requires short { suc self.now.depth < (search_in self.now).width }
+        ensures within { result.0 ≤ length (choices_at (search_in self.now) (suc self.now.depth)) }
+        ensures enters { Enters (search_in self.now) self.now.least.items
+            (take self.now.depth self.now.path.items ++ provider ∷ [])
+            (suc self.now.depth) result.0 result.1 }
+        ensures seeks { result.1 ≡ true → take self.now.depth self.now.path.items ++ provider ∷ []
+            ≡ take (suc self.now.depth) self.now.least.items }
+    {
+        if self.seeking {
+            if has_at(&self.least, self.depth, provider) {
+                let next = self.depth + 1;
+                let start = start_of(&self.choices[next], &self.least, next);
+                return (start, true);
+            }
+        }
+        (0, false)
+    }
+
+    // Goes down behind the provider that is put, after so many tries.
+    fn place(&mut self, tries: u64)
+        requires among { slice_index self.old.places.items self.old.depth
+            < length (choices_at (search_in self.old) self.old.depth) }
+        requires put { slice_index self.old.path.items self.old.depth
+            ≡ next_at (search_in self.old) self.old.depth
+            (slice_index self.old.places.items self.old.depth) }
+        requires opens { is_open (providers_in self.old.ledger) (asked_in self.old.ledger)
+            (take (suc self.old.depth) self.old.path.items) ≡ true }
+        requires short { suc self.old.depth < (search_in self.old).width }
+        requires tried { tries ≤ self.old.probes + 1 }
+        requires kept { self.old.probes ≤ tries }
+        ensures goes { Goes self.old self.new }
+        ensures probes { self.new.probes ≡ tries }
+    {
+        let depth = self.depth;
+        let provider = self.path[depth];
+        let (start, seeking) = self.entry(provider);
+        self.ledger.take(&self.path[..depth], provider);
+        self.places[depth + 1] = start;
+        self.depth = depth + 1;
+        self.seeking = seeking;
+        self.probes = tries;
+    }
+
+    // Takes the last provider of the path back, and goes on to the next choice there.
+    fn take_back(&mut self)
+        requires deep { 0 < self.old.depth }
+        requires end { length (choices_at (search_in self.old) self.old.depth)
+            ≤ slice_index self.old.places.items self.old.depth }
+        ensures goes { Goes self.old self.new }
+        ensures probes { self.new.probes ≡ self.old.probes }
+    {
+        let depth = self.depth - 1;
+        self.ledger.give_back(&self.path[..depth], self.path[depth]);
+        self.places[depth] += 1;
+        self.depth = depth;
+        self.seeking = false;
+    }
+
+    // Tries a provider behind the path, and counts it. No other call counts a try, nor makes one.
+    pub(super) fn probe(&mut self, provider: u32) -> Step
+        requires among { slice_index self.old.places.items self.old.depth
+            < length (choices_at (search_in self.old) self.old.depth) }
+        requires next { provider ≡ next_at (search_in self.old) self.old.depth
+            (slice_index self.old.places.items self.old.depth) }
+        ensures gives { StepGives result self.old self.new }
+        ensures probes { self.new.probes ≡ one_more self.old.probes }
+    {
+        self.put(provider);
+        let tries = one_more(self.probes);
+        if !self.stays_open() {
+            self.skip(tries);
+            return Step::Went;
+        }
+        if self.depth + 1 < self.path.len() {
+            self.place(tries);
+            return Step::Went;
+        }
+        let complete = self.is_complete();
+        self.skip(tries);
+        if complete { Step::Given } else { Step::Went }
+    }
+
+    // Leaves a slot whose choices are at their end.
+    pub(super) fn leave(&mut self) -> Step
+        requires { length (choices_at (search_in self.old) self.old.depth)
+            ≤ slice_index self.old.places.items self.old.depth }
+        ensures gives { StepGives result self.old self.new }
+        ensures probes { self.new.probes ≡ self.old.probes }
+    {
+        if self.depth == 0 {
+            return Step::Ended;
+        }
+        self.take_back();
+        Step::Went
+    }
+}
+
+// A count and one more; it stays where it can't rise.
+fn one_more(count: u64) -> u64
+    ensures { result ≡ one_more count }
+{
+    count.saturating_add(1)
+}
+
+// Whether a list has a number at a place.
+fn has_at(list: &[u32], place: usize, number: u32) -> bool
+    ensures { IsTrue result ↔ HasAt list.now place number }
+{
+    place < list.len() && list[place] == number
+}
+
+// The first place of a list whose number isn't below the least.
+fn first_from(list: &[u32], least: u32) -> usize
+    ensures { IsStart list.now least result }
+{
+    for (i, number) in list.iter().enumerate() {
+        if *number >= least {
+            return i;
+        }
+    }
+    list.len()
+}
+
+// Where the choices at a depth begin, while the path is a front of the least list.
+pub(super) fn start_of(choices: &[u32], least: &[u32], depth: usize) -> usize
+    ensures { IsStart choices.now (least_at least.now depth) result }
+{
+    if depth < least.len() {
+        first_from(choices, least[depth])
+    } else {
+        0
+    }
+}

@@ -1,0 +1,13 @@
+-- The rows of a table, gathered from its records.
+pub mod FieldTexts
+pub mod GatheredRows
+pub mod Header
+pub mod JoinedFault
+pub mod Progress
+pub mod ProviderRows
+pub mod RowOrder
+pub mod RowPlaces
+pub mod RowSlices
+pub mod RowsLeft
+pub mod RowsRead
+pub mod Whole

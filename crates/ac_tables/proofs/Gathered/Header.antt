@@ -1,0 +1,88 @@
+-- The checks of a header, and then those of the records.
+use Rattle.std.proofs.Common.{◌≡◌, ◌∙◌, ◌++◌, ℕ, Bool, true, false, List, [], ◌∷◌, map, Option, Some, None, refl, sym, ap, inl, inr, Bor}
+use Rattle.std.proofs.lemmas.Bool.{cases_Bool}
+use Rattle.std.specs.List.{list_any}
+use Rattle.ac_tables.specs.Tables.Checks.{Row, Check, first_failing, record_checks, told, told_at, Tells}
+use Rattle.ac_tables.specs.Tables.Columns.{is_missing, is_double, header_checks, header_fault, table_checks, said_by, bytes_of}
+use Rattle.ac_tables.specs.declared.fault.Table.{Table}
+use Rattle.ac_tables.specs.declared.fault.TableKind.{TableKind}
+use Rattle.ac_tables.specs.declared.fault.TableKind.TheVariants as kind
+use Rattle.ac_tables.specs.declared.fault.TableFault.{TableFault}
+use Rattle.ac_tables.specs.declared.fault.TableFault.TheVariants as fault
+use Rattle.ac_tables.proofs.FirstFailing.{append_none, append_some, told_none, told_some}
+
+some_fails : (p : List ℕ → Bool) (k : TableKind) (names : List (Bor (List ℕ))) → list_any (λ n. p n.now) names ≡ true → first_failing (map (λ n. (p n, k)) (bytes_of names)) ≡ Some k
+some_fails p k [] h = absurd (cc)
+some_fails p k (n ∷ ns) h = elim (cases_Bool (p n.now)) [ inl e ↦ rw e refl | inr e ↦ rw e (some_fails p k ns (rw e at h)) ]
+
+none_fails : (p : List ℕ → Bool) (k : TableKind) (names : List (Bor (List ℕ))) → list_any (λ n. p n.now) names ≡ false → first_failing (map (λ n. (p n, k)) (bytes_of names)) ≡ None
+none_fails p k [] h = refl
+none_fails p k (n ∷ ns) h = elim (cases_Bool (p n.now)) [ inl e ↦ absurd (cc (rw e at h)) | inr e ↦ rw e (none_fails p k ns (rw e at h)) ]
+
+abbrev missing_checks : List (Bor (List ℕ)) → Row → List Check
+missing_checks names header = map (λ n. (is_missing header n, kind.MissingColumn)) (bytes_of names)
+
+abbrev double_checks : List (Bor (List ℕ)) → Row → List Check
+double_checks names header = map (λ n. (is_double header n, kind.DoubleColumn)) (bytes_of names)
+
+pub lacks : (names : List (Bor (List ℕ))) (header : Row) → list_any (λ n. is_missing header n.now) names ≡ true
+    → Some kind.MissingColumn ≡ first_failing (header_checks (bytes_of names) header)
+unfolding header_checks
+lacks names header h =
+    sym (append_some (missing_checks names header) (double_checks names header) kind.MissingColumn (some_fails (is_missing header) kind.MissingColumn names h))
+
+pub doubles : (names : List (Bor (List ℕ))) (header : Row) → list_any (λ n. is_missing header n.now) names ≡ false → list_any (λ n. is_double header n.now) names ≡ true
+    → Some kind.DoubleColumn ≡ first_failing (header_checks (bytes_of names) header)
+unfolding header_checks
+doubles names header h d =
+    sym (append_none (missing_checks names header) (double_checks names header) (none_fails (is_missing header) kind.MissingColumn names h)
+    ∙ some_fails (is_double header) kind.DoubleColumn names d)
+
+pub fine : (names : List (Bor (List ℕ))) (header : Row) → list_any (λ n. is_missing header n.now) names ≡ false → list_any (λ n. is_double header n.now) names ≡ false
+    → None ≡ first_failing (header_checks (bytes_of names) header)
+unfolding header_checks
+fine names header h d =
+    sym (append_none (missing_checks names header) (double_checks names header) (none_fails (is_missing header) kind.MissingColumn names h)
+    ∙ none_fails (is_double header) kind.DoubleColumn names d)
+
+-- what `open_table` tells
+pub no_header : (t : Table) (names : List (List ℕ)) (rows : List Row) → rows ≡ [] → header_fault t names rows ≡ Some (fault.At t 1 kind.NoHeader)
+unfolding header_fault
+no_header t names rows e = rw e refl
+
+pub header_tells : (t : Table) (names : List (List ℕ)) (rows rest : List Row) (header : Row) (k : TableKind) → rows ≡ header ∷ rest → Some k ≡ first_failing (header_checks names header)
+    → header_fault t names rows ≡ Some (fault.At t 1 k)
+unfolding header_fault
+header_tells t names rows rest header k e h = rw e (ap (told t 1) (sym h))
+
+pub header_fine : (t : Table) (names : List (List ℕ)) (rows rest : List Row) (header : Row) → rows ≡ header ∷ rest → None ≡ first_failing (header_checks names header)
+    → header_fault t names rows ≡ None
+unfolding header_fault
+header_fine t names rows rest header e h = rw e (ap (told t 1) (sym h))
+
+no_kind : (o : Option TableKind) (t : Table) (n : ℕ) → told t n o ≡ None → o ≡ None
+no_kind None t n e = refl
+no_kind (Some k) t n e = absurd (cc)
+
+told_cases : (t : Table) (n : ℕ) (checks : List Check) (rest : List (Bool × TableFault)) (o : Option TableKind) (u : Table) (r : ℕ) (k : TableKind)
+    → first_failing checks ≡ o → told t n o ≡ Some (fault.At u r k) → first_failing (told_at t n checks ++ rest) ≡ Some (fault.At u r k)
+told_cases t n checks rest None u r k same h = absurd (cc)
+told_cases t n checks rest (Some j) u r k same h = told_some t n checks rest j same ∙ h
+
+-- a fault of the header is the first of the table
+pub fault_of_header : {V : Type 0} (t : Table) (names : List (List ℕ)) (value : Row → Row → V) (checks : Row → List V → Row → List Check) (rows : List Row) (e : TableFault)
+    → Tells (header_fault t names rows) e → Tells (first_failing (table_checks t names value checks rows)) e
+unfolding header_fault
+fault_of_header t names value checks [] e h = h
+fault_of_header t names value checks (header ∷ rows) (fault.At u r k) h =
+    told_cases t 1 (header_checks names header) (record_checks t (value header) (checks header) [] rows) _ u r k refl h
+fault_of_header t names value checks (header ∷ rows) fault.NoMemory h = tt
+
+-- no fault of the header: what is left are the records
+pub records_left : {V : Type 0} (t : Table) (names : List (List ℕ)) (value : Row → Row → V) (checks : Row → List V → Row → List Check) (rows rest : List Row) (header : Row)
+    → rows ≡ header ∷ rest → header_fault t names rows ≡ None
+    → (first_failing (table_checks t names value checks rows) ≡ first_failing (record_checks t (value header) (checks header) [] rest)) × (said_by value rows ≡ map (value header) rest)
+unfolding header_fault
+records_left t names value checks rows rest header e h =
+    let none : first_failing (header_checks names header) ≡ None = no_kind _ t 1 (rw e at h) in
+    (rw e (told_none t 1 (header_checks names header) (record_checks t (value header) (checks header) [] rest) none), ap (said_by value) e)

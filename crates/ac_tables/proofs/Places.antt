@@ -1,0 +1,13 @@
+-- The parts of a cloud, by the places of providers.
+pub mod AnchorFacts
+pub mod AnchorLists
+pub mod AvailableFacts
+pub mod BuildFacts
+pub mod CloudFacts
+pub mod GroupFacts
+pub mod JoinFacts
+pub mod KeptFacts
+pub mod KinFacts
+pub mod WideAggregates
+pub mod WorldFacts
+pub mod LookupFacts

@@ -1,0 +1,84 @@
+-- The parents of providers by their places, and where their chains end.
+use Rattle.std.proofs.Common.{◌≡◌, ◌<◌, ◌+◌, ◌∙◌, ℕ, zero, suc, true, false, List, [], ◌∷◌, map, length, get_or, Option, Some, None, refl, sym, ap, subst, arith, rules, inl, inr}
+use Rattle.std.specs.Prelude.{◌==◌, IfSome}
+use Rattle.std.specs.Option.{option_map, option_and_then, is_some}
+use Rattle.std.specs.List.{position_from}
+use Rattle.std.proofs.lemmas.Bool.{cases_Bool}
+use Rattle.std.proofs.lemmas.List.{get_or-map, length-map}
+use Rattle.ac_tables.specs.Trees.{top, is_endless}
+use Rattle.ac_tables.specs.Cloud.Places.{rank, parent_in, AreWithin, AreParents}
+use Rattle.ac_tables.specs.Tables.ProviderTable.{ProviderRecord, said_parent}
+use Rattle.ac_tables.specs.Tables.InventoryTable.{is_one_of}
+use Rattle.ac_tables.proofs.Trees.PlaceTrees.{steps}
+
+equal_numbers : (a b : ℕ) → (a == b) ≡ true → a ≡ b
+equal_numbers a b h = search (arith, rules)
+
+found : (q k : ℕ) (xs : List ℕ) (j : ℕ) → position_from (λ p. p == q) k xs ≡ Some j → (m : ℕ) × (j ≡ k + m) × (m < length xs) × (get_or xs m 0 ≡ q)
+found q k [] j e = absurd (cc)
+found q k (x ∷ xs) j e = elim (cases_Bool (x == q)) [
+  | inl h ↦ let same : k ≡ j = cc (rw h at e) in (zero, omega (arith, same), omega arith, equal_numbers x q h)
+  | inr h ↦ let rest = found q (k + 1) xs j (rw h at e) in (suc rest.0, omega (arith, rest.1), omega (arith, rest.2), rest.3)
+]
+
+-- what has a place is there
+pub ranked : (ids : List ℕ) (q j : ℕ) → rank ids q ≡ Some j → (j < length ids) × (get_or ids j 0 ≡ q)
+ranked ids q j e =
+    let f = found q 0 ids j e in
+    let same : f.0 ≡ j = omega (arith, f.1) in
+    (omega (arith, f.1, f.2), subst (λ (m : ℕ). get_or ids m 0 ≡ q) same f.3)
+
+place_from : (q k : ℕ) (xs : List ℕ) → is_one_of xs q ≡ true → (j : ℕ) × (position_from (λ p. p == q) k xs ≡ Some j)
+place_from q k [] h = absurd (cc)
+place_from q k (x ∷ xs) h = elim (cases_Bool (x == q)) [
+  | inl e ↦ (k, rw e refl)
+  | inr e ↦ let rest = place_from q (k + 1) xs (rw e at h) in (rest.0, rw e rest.1)
+]
+
+-- what is there has a place
+pub has_rank : (ids : List ℕ) (q : ℕ) → is_one_of ids q ≡ true → (j : ℕ) × (rank ids q ≡ Some j)
+has_rank ids q h = place_from q 0 ids h
+
+module _ (ids : List ℕ) (rows : List ProviderRecord) (known : (i q : ℕ) → i < length ids → said_parent rows (get_or ids i 0) ≡ Some q → is_one_of ids q ≡ true) (parents : List (Option ℕ)) (are : parents ≡ map (λ id. option_and_then (rank ids) (said_parent rows id)) ids) where
+  abbrev name : ℕ → ℕ
+  name i = get_or ids i 0
+
+  at_place : (i : ℕ) → i < length ids → parent_in parents i ≡ option_and_then (rank ids) (said_parent rows (name i))
+  at_place i h = ap (λ (l : List (Option ℕ)). get_or l i None) are ∙ get_or-map (λ id. option_and_then (rank ids) (said_parent rows id)) ids i 0 None h
+
+  pub same_size : length parents ≡ length ids
+  same_size = ap length are ∙ length-map ids (λ id. option_and_then (rank ids) (said_parent rows id))
+
+  some_rank : (o : Option ℕ) (j : ℕ) → option_and_then (rank ids) o ≡ Some j → j < length ids
+  some_rank None j e = absurd (cc)
+  some_rank (Some q) j e = (ranked ids q j e).0
+
+  pub are_within : AreWithin (length ids) parents
+  are_within i j h e = some_rank (said_parent rows (name i)) j (sym (at_place i h) ∙ e)
+
+  if_some : (n i : ℕ) (o : Option ℕ) → ((j : ℕ) → o ≡ Some j → j < n) → IfSome o (λ j. j < n)
+  if_some n i None f = tt
+  if_some n i (Some j) f = f j refl
+
+  pub are_parents : AreParents parents
+  are_parents i h =
+      if_some (length parents) i (get_or parents i None) (λ j e. let k = are_within i j (omega (arith, h, same_size)) e in omega (arith, k, same_size))
+
+  agree_on : (i : ℕ) → i < length ids → (o : Option ℕ) → said_parent rows (name i) ≡ o → o ≡ option_map name (option_and_then (rank ids) o)
+  agree_on i h None e = refl
+  agree_on i h (Some q) e =
+      let r = has_rank ids q (known i q h e) in
+      ap (λ (x : ℕ). Some x) (sym (ranked ids q r.0 r.1).1) ∙ ap (option_map name) (sym r.1)
+
+  pub agree : (i : ℕ) → i < length ids → said_parent rows (name i) ≡ option_map name (parent_in parents i)
+  agree i h = agree_on i h (said_parent rows (name i)) refl ∙ ap (option_map name) (sym (at_place i h))
+
+  nothing : (o : Option ℕ) → is_some (option_map name o) ≡ false → o ≡ None
+  nothing None e = refl
+  nothing (Some q) e = absurd (cc)
+
+  pub chains_end : ((i : ℕ) → i < length ids → is_endless (said_parent rows) (length ids) (get_or ids i 0) ≡ false) → (i : ℕ) → i < length ids → parent_in parents (top (parent_in parents) (length ids) i) ≡ None
+  chains_end ends i h =
+      let s = steps (said_parent rows) name (length ids) parents are_within agree (length ids) i h in
+      nothing (parent_in parents (top (parent_in parents) (length ids) i))
+      (ap is_some (sym (agree (top (parent_in parents) (length ids) i) s.0)) ∙ ap (λ (x : ℕ). is_some (said_parent rows x)) (sym s.1) ∙ ends i h)

@@ -1,0 +1,59 @@
+-- Gathering roots one by one.
+use Rattle.std.proofs.Common.{◌≡◌, ◌∙◌, ◌<◌, ◌+◌, ℕ, zero, suc, Bool, true, false, List, [], take, length, get_or, refl, sym, ap, ap₂, arith}
+use Rattle.std.specs.Prelude.{◌==◌, ◌||◌, ◌&&◌, if◌then◌else◌}
+use Rattle.std.specs.List.{list_any, range_with_len}
+use Rattle.std.specs.Ordering.{nat_cmp}
+use Rattle.std.specs.BTreeMap.{is_at}
+use Rattle.std.proofs.lemmas.List.Folds.{list_any_more}
+use Rattle.ac_tables.specs.Cloud.Anchors.{is_among, meets_at, meets}
+
+or_assoc : (a b c : Bool) → ((a || b) || c) ≡ (a || (b || c))
+or_assoc true b c = refl
+or_assoc false b c = refl
+
+or_none : (a : Bool) → (a || false) ≡ a
+or_none true = refl
+or_none false = refl
+
+range_more : (f : ℕ → Bool) (n a : ℕ) → list_any f (range_with_len a (suc n)) ≡ (list_any f (range_with_len a n) || f (a + n))
+range_more f zero a =
+    let none : a ≡ a + zero = omega arith in
+    or_none (f a) ∙ ap f none
+range_more f (suc n) a =
+    let next : a + 1 + n ≡ a + suc n = omega arith in
+    ap (λ b. f a || b) (range_more f n (a + 1)) ∙ sym (or_assoc (f a) (list_any f (range_with_len (a + 1) n)) (f (a + 1 + n)))
+    ∙ ap (λ (j : ℕ). list_any f (range_with_len a (suc n)) || f j) next
+
+-- one more number of a range
+pub any_range_more : (f : ℕ → Bool) (n : ℕ) → list_any f (range_with_len 0 (n + 1)) ≡ (list_any f (range_with_len 0 n) || f n)
+any_range_more f n =
+    let one : n + 1 ≡ suc n = omega arith in
+    let same : 0 + n ≡ n = omega arith in
+    ap (λ (j : ℕ). list_any f (range_with_len 0 j)) one ∙ range_more f n 0 ∙ ap (λ (j : ℕ). list_any f (range_with_len 0 n) || f j) same
+
+-- the roots of the first providers and of one more
+pub meets_more : (roots : List ℕ) (aggregates : List (List ℕ)) (n a r : ℕ) (root : ℕ) (ids : List ℕ) (old new : Bool) → root ≡ get_or roots n 0 → ids ≡ get_or aggregates n []
+    → new ≡ (old || ((root == r) && is_among a ids)) → old ≡ meets roots aggregates n a r → new ≡ meets roots aggregates (n + 1) a r
+meets_more roots aggregates n a r root ids old new is_root is_ids e h =
+    e ∙ ap₂ (λ b c. b || c) h (ap₂ (λ (x : ℕ) l. (x == r) && is_among a l) is_root is_ids) ∙ sym (any_range_more (meets_at roots aggregates a r) n)
+
+at_root : (root r : ℕ) → is_at (nat_cmp root) r ≡ (root == r)
+at_root root r = grind arith
+
+or_last : (start here old : Bool) (b : Bool) → (if b then true else (start || old)) ≡ (start || (old || b))
+or_last true here old true = refl
+or_last true here old false = refl
+or_last false here true true = refl
+or_last false here true false = refl
+or_last false here false true = refl
+or_last false here false false = refl
+
+-- a set after one more root
+pub set_more : (roots : List ℕ) (i root r : ℕ) (start old new : Bool) → i < length roots → root ≡ get_or roots i 0
+    → new ≡ (if is_at (nat_cmp root) r then true else old) → old ≡ (start || list_any (λ (x : ℕ). x == r) (take i roots))
+    → new ≡ (start || list_any (λ (x : ℕ). x == r) (take (i + 1) roots))
+set_more roots i root r start old new inside is_root e h =
+    e ∙ ap₂ (λ (b : Bool) (o : Bool). if b then true else o) (at_root root r) h
+    ∙ or_last start true (list_any (λ (x : ℕ). x == r) (take i roots)) (root == r)
+    ∙ ap (λ (x : ℕ). start || (list_any (λ (y : ℕ). y == r) (take i roots) || (x == r))) is_root
+    ∙ ap (λ b. start || b) (sym (list_any_more (λ (x : ℕ). x == r) roots i 0 inside))

@@ -1,0 +1,115 @@
+-- The ids of a fine table of providers: their parents are there, and their chains end.
+use Rattle.std.proofs.Common.{◌≡◌, ◌<◌, ◌+◌, ◌∙◌, ℕ, zero, suc, Bool, true, false, List, [], ◌∷◌, map, length, get_or, Option, Some, None, refl, sym, ap, ap₂, subst, arith, rules, inl, inr, Ordering}
+use Rattle.std.specs.Prelude.{◌==◌, ◌||◌}
+use Rattle.std.specs.declared.cmp.Ordering.TheVariants.{Less, Equal, Greater}
+use Rattle.std.specs.Option.{is_some, option_and_then}
+use Rattle.std.specs.List.{position_from, fold}
+use Rattle.std.specs.Ordering.{nat_cmp, match_ordering}
+use Rattle.std.specs.BTreeSet.{insert_key}
+use Rattle.std.proofs.lemmas.Bool.{cases_Bool}
+use Rattle.std.proofs.lemmas.Map.Lookups.{exact_unsigned}
+use Rattle.ac_tables.specs.Sorted.{rising}
+use Rattle.ac_tables.specs.Tables.InventoryTable.{is_one_of}
+use Rattle.ac_tables.specs.Cloud.Kin.{AreKin}
+use Rattle.ac_tables.specs.Trees.{is_endless}
+use Rattle.ac_tables.specs.Cloud.DistinctIds.{AreTrees}
+use Rattle.ac_tables.specs.Tables.ProviderTable.{ProviderRecord, is_at, place_of, record_at, said_parent, no_record, has_endless_chain, endless_fault}
+use Rattle.ac_tables.specs.declared.fault.Table.TheVariants as table
+use Rattle.ac_tables.specs.declared.fault.TableKind.TheVariants as kind
+use Rattle.ac_tables.proofs.Records.ProviderFaults.{none_fails}
+use Rattle.ac_tables.proofs.Sorted.Rising.{one_of_place}
+
+equal_ids : (a b : ℕ) → (a == b) ≡ true → a ≡ b
+equal_ids a b h = search (arith, rules)
+
+-- a place that was found has that id
+found_at : (q i : ℕ) (xs : List ProviderRecord) (k : ℕ) → position_from (is_at q) i xs ≡ Some k → (m : ℕ) × (k ≡ i + m) × (m < length xs) × ((record_at xs m).id ≡ q)
+found_at q i [] k e = absurd (cc)
+found_at q i (x ∷ xs) k e = elim (cases_Bool (is_at q x)) [
+  | inl h ↦ let same : i ≡ k = cc (rw h at e) in (zero, omega (arith, same), omega arith, equal_ids x.id q h)
+  | inr h ↦ let rest = found_at q (i + 1) xs k (rw h at e) in (suc rest.0, omega (arith, rest.1), omega (arith, rest.2), rest.3)
+]
+
+pub place_found : (all : List ProviderRecord) (q j : ℕ) → place_of all q ≡ Some j → (j < length all) × ((record_at all j).id ≡ q)
+unfolding place_of
+place_found all q j e =
+    let f = found_at q 0 all j e in
+    let same : f.0 ≡ j = omega (arith, f.1) in
+    (omega (arith, f.1, f.2), subst (λ (m : ℕ). (record_at all m).id ≡ q) same f.3)
+
+swap_or : (a b c : Bool) → (a || (b || c)) ≡ (b || (a || c))
+swap_or true true c = refl
+swap_or true false c = refl
+swap_or false b c = refl
+
+twice_or : (b c : Bool) → (b || c) ≡ (b || (b || c))
+twice_or true c = refl
+twice_or false c = refl
+
+member_insert : (q : ℕ) (xs : List ℕ) (k : ℕ) → is_one_of (insert_key nat_cmp xs k) q ≡ ((k == q) || is_one_of xs q)
+member_insert q [] k = refl
+member_insert q (x ∷ xs) k = by_order (nat_cmp k x) refl (member_insert q xs k)
+  where
+    by_order : (o : Ordering) → nat_cmp k x ≡ o → is_one_of (insert_key nat_cmp xs k) q ≡ ((k == q) || is_one_of xs q)
+        → is_one_of (match_ordering o (k ∷ x ∷ xs) (x ∷ xs) (x ∷ insert_key nat_cmp xs k)) q ≡ ((k == q) || ((x == q) || is_one_of xs q))
+    by_order Less h rest = refl
+    by_order Equal h rest =
+        let same : k ≡ x = exact_unsigned k x h in
+        twice_or (x == q) (is_one_of xs q) ∙ ap (λ (y : ℕ). (y == q) || ((x == q) || is_one_of xs q)) (sym same)
+    by_order Greater h rest = ap (λ b. (x == q) || b) rest ∙ swap_or (x == q) (k == q) (is_one_of xs q)
+
+member_fold : (q : ℕ) (ks xs : List ℕ) → is_one_of (fold (insert_key nat_cmp) ks xs) q ≡ (is_one_of xs q || is_one_of ks q)
+member_fold q ks [] = refl
+member_fold q ks (x ∷ xs) =
+    member_fold q (insert_key nat_cmp ks x) xs ∙ ap (λ b. is_one_of xs q || b) (member_insert q ks x)
+    ∙ swap_or (is_one_of xs q) (x == q) (is_one_of ks q) ∙ assoc (x == q) (is_one_of xs q) (is_one_of ks q)
+  where
+    assoc : (a b c : Bool) → (a || (b || c)) ≡ ((a || b) || c)
+    assoc true b c = refl
+    assoc false b c = refl
+
+-- what is in a set
+pub member_rising : (q : ℕ) (xs : List ℕ) → is_one_of (rising nat_cmp xs) q ≡ is_one_of xs q
+member_rising q xs = member_fold q [] xs ∙ or_false (is_one_of xs q)
+  where
+    or_false : (b : Bool) → (b || false) ≡ b
+    or_false true = refl
+    or_false false = refl
+
+position_member : (q k : ℕ) (rows : List ProviderRecord) → is_some (position_from (is_at q) k rows) ≡ is_one_of (map (λ p. p.id) rows) q
+position_member q k [] = refl
+position_member q k (p ∷ rows) = elim (cases_Bool (p.id == q)) [ inl e ↦ rw e refl | inr e ↦ rw e (position_member q (k + 1) rows) ]
+
+pub place_member : (rows : List ProviderRecord) (q : ℕ) → is_some (place_of rows q) ≡ is_one_of (map (λ p. p.id) rows) q
+unfolding place_of
+place_member rows q = position_member q 0 rows
+
+some_of : (o : Option ℕ) → is_some o ≡ true → (j : ℕ) × (o ≡ Some j)
+some_of None e = absurd (cc)
+some_of (Some j) e = (j, refl)
+
+module _ (rows : List ProviderRecord) (ids : List ℕ) (all : ids ≡ rising nat_cmp (map (λ p. p.id) rows)) (count : length ids ≡ length rows) (trees : AreTrees rows) where
+  pub there : (q : ℕ) → is_one_of ids q ≡ is_some (place_of rows q)
+  there q = ap (λ l. is_one_of l q) all ∙ member_rising q (map (λ p. p.id) rows) ∙ sym (place_member rows q)
+
+  here : (i : ℕ) → i < length ids → (j : ℕ) × (place_of rows (get_or ids i 0) ≡ Some j)
+  here i h = some_of (place_of rows (get_or ids i 0)) (sym (there (get_or ids i 0)) ∙ one_of_place ids (get_or ids i 0) i h refl)
+
+  pub kin_known : (i q : ℕ) → i < length ids → said_parent rows (get_or ids i 0) ≡ Some q → is_one_of ids q ≡ true
+  kin_known i q h e =
+      let (j, at) = here i h in
+      let f = place_found rows (get_or ids i 0) j at in
+      let parent : (record_at rows j).parent ≡ Some q = sym (ap (option_and_then (λ (k : ℕ). (record_at rows k).parent)) at) ∙ e in
+      let k = trees.known j q f.0 parent in
+      there q ∙ ap is_some k.1
+
+  kin_ends : endless_fault rows ≡ None → (i : ℕ) → i < length ids → is_endless (said_parent rows) (length ids) (get_or ids i 0) ≡ false
+  unfolding endless_fault
+  kin_ends fine i h =
+      let (j, at) = here i h in
+      let f = place_found rows (get_or ids i 0) j at in
+      let ends : has_endless_chain rows (record_at rows j) ≡ false = none_fails table.Providers kind.ParentCycle (has_endless_chain rows) 2 rows no_record fine j f.0 in
+      ap₂ (λ (n : ℕ) (x : ℕ). is_endless (said_parent rows) n x) count (sym f.1) ∙ ends
+
+  pub are_kin : endless_fault rows ≡ None → AreKin ids rows
+  are_kin fine = record { known = kin_known; ends = kin_ends fine }

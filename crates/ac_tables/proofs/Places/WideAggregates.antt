@@ -1,0 +1,182 @@
+-- Aggregates of one tree add nothing to a provider of that tree.
+use Rattle.std.proofs.Common.{◌≡◌, ◌∙◌, ◌<◌, ◌+◌, ℕ, zero, suc, Bool, true, false, List, [], ◌∷◌, length, get_or, refl, sym, ap, ap₂, subst, arith, rules, inl, inr}
+use Rattle.std.specs.Prelude.{◌==◌, ◌&&◌, ◌||◌, not}
+use Rattle.std.specs.Global.{Vec}
+use Rattle.std.specs.Ordering.{nat_cmp}
+use Rattle.std.specs.List.{list_any, filter, range_with_len}
+use Rattle.std.specs.BTreeMap.{BTreeMap, get}
+use Rattle.std.proofs.lemmas.Bool.{cases_Bool, false≢true}
+use Rattle.std.proofs.lemmas.List.Folds.{list_any_at}
+use Rattle.std.proofs.lemmas.List.FromFn.{get_or-range_with_len, length-range_with_len}
+use Rattle.ac_tables.specs.Cloud.Anchors.{roots_in, is_met, is_among, meets_at, meets, is_joined, joined, is_joining, is_marked, is_lone, wide, shared_ids, asked_at}
+use Rattle.ac_tables.proofs.Places.AnchorFacts.{filter_range, one_item}
+
+first_true : (b : Bool) → (b || false) ≡ true → b ≡ true
+first_true true e = refl
+first_true false e = e
+
+one_root : (rs : List ℕ) (x y : ℕ) → (length rs == 1) ≡ true → list_any (λ (r : ℕ). r == x) rs ≡ true → list_any (λ (r : ℕ). r == y) rs ≡ true → x ≡ y
+one_root [] x y e f g = absurd (cc)
+one_root (r ∷ []) x y e f g =
+    let a = number r x (first_true (r == x) f) in
+    let b = number r y (first_true (r == y) g) in
+    sym a ∙ b
+  where
+    number : (p q : ℕ) → (p == q) ≡ true → p ≡ q
+    number p q h = search (arith, rules)
+one_root (r ∷ s ∷ rs) x y e f g = absurd (let same : length (r ∷ s ∷ rs) ≡ 1 = number (length (r ∷ s ∷ rs)) e in omega (arith, same))
+  where
+    number : (p : ℕ) → (p == 1) ≡ true → p ≡ 1
+    number p h = search (arith, rules)
+
+-- leaving out what fails a test anyway
+any_kept : (p q : ℕ → Bool) (ids : List ℕ) → ((k : ℕ) (d : ℕ) → k < length ids → q (get_or ids k d) ≡ false → p (get_or ids k d) ≡ false) → list_any p (filter q ids) ≡ list_any p ids
+any_kept p q [] h = refl
+any_kept p q (x ∷ ids) h =
+    let rest = any_kept p q ids (λ (k d : ℕ) i. h (suc k) d (omega arith)) in
+    elim (cases_Bool (q x)) [
+      | inl e ↦ rw e (ap (λ b. p x || b) rest)
+      | inr e ↦ rw e (rest ∙ ap (λ b. b || list_any p ids) (sym (h zero x (omega arith) e)))
+    ]
+
+first_kept : (p q : ℕ → Bool) (ids : List ℕ) (a : ℕ) (rest : List ℕ) → ((k : ℕ) (d : ℕ) → k < length ids → p (get_or ids k d) ≡ true) → filter q ids ≡ a ∷ rest → p a ≡ true
+first_kept p q [] a rest all e = absurd (cc)
+first_kept p q (x ∷ ids) a rest all e = elim (cases_Bool (q x)) [
+  | inl is ↦ (let same : x ≡ a = cc (rw is at e) in ap p (sym same) ∙ all zero x (omega arith))
+  | inr not ↦ first_kept p q ids a rest (λ (k d : ℕ) i. all (suc k) d (omega arith)) (rw not at e)
+]
+
+some_true : (p : ℕ → Bool) (ids : List ℕ) (a : ℕ) (rest : List ℕ) → ids ≡ a ∷ rest → p a ≡ true → list_any p ids ≡ true
+some_true p ids a rest e h = ap (list_any p) e ∙ ap (λ b. b || list_any p rest) h
+
+any_first : (p : ℕ → Bool) (ids : List ℕ) → ((k : ℕ) (d : ℕ) → k < length ids → p (get_or ids k d) ≡ true) → (q : ℕ → Bool) (a : ℕ) (rest : List ℕ) → filter q ids ≡ a ∷ rest → list_any p ids ≡ true
+any_first p [] all q a rest e = absurd (cc)
+any_first p (x ∷ ids) all q a rest e = ap (λ b. b || list_any p ids) (all zero x (omega arith))
+
+number_is : (x y : ℕ) → (x == y) ≡ true → x ≡ y
+number_is x y h = search (arith, rules)
+
+module _ (roots : List ℕ) (aggregates : List (List ℕ)) (groups : BTreeMap ℕ (Vec ℕ)) (gathered : (a r : ℕ) → is_met groups a r ≡ meets roots aggregates (length roots) a r) (j : ℕ) (inside : j < length roots) (own_inside : get_or roots j 0 < length roots) where
+  abbrev own : ℕ
+  own = get_or roots j 0
+
+  abbrev ids : List ℕ
+  ids = get_or aggregates j []
+
+  abbrev met : ℕ → ℕ → Bool
+  met r a = meets roots aggregates (length roots) a r
+
+  abbrev lone : ℕ → Bool
+  lone a = is_lone (roots_in (get nat_cmp groups a))
+
+  -- a provider is of its own aggregates
+  meets_own : (k d : ℕ) → k < length ids → met own (get_or ids k d) ≡ true
+  meets_own k d h =
+      let here : get_or (range_with_len 0 (length roots)) j 0 ≡ 0 + j = get_or-range_with_len 0 (length roots) j 0 inside in
+      let none : 0 + j ≡ j = omega arith in
+      let itself : is_among (get_or ids k d) ids ≡ true = list_any_at (λ (a : ℕ). a == get_or ids k d) ids k d h (same (get_or ids k d)) in
+      let test : meets_at roots aggregates (get_or ids k d) own j ≡ true = ap₂ (λ a b. a && b) (same own) itself in
+      list_any_at (meets_at roots aggregates (get_or ids k d) own) (range_with_len 0 (length roots)) j 0 (omega (arith, inside, length-range_with_len 0 (length roots))) (ap (meets_at roots aggregates (get_or ids k d) own) (here ∙ none) ∙ test)
+    where
+      same : (x : ℕ) → (x == x) ≡ true
+      same x = grind arith
+
+  -- at another root an aggregate of one tree meets nothing
+  lone_elsewhere : (r : ℕ) → (own == r) ≡ false → (k d : ℕ) → k < length ids → not (lone (get_or ids k d)) ≡ false → met r (get_or ids k d) ≡ false
+  lone_elsewhere r apart k d h e = elim (cases_Bool (met r (get_or ids k d))) [
+    | inl there ↦ absurd (
+        let one = one_root (roots_in (get nat_cmp groups (get_or ids k d))) own r (was (lone (get_or ids k d)) e) (gathered (get_or ids k d) own ∙ meets_own k d h) (gathered (get_or ids k d) r ∙ there) in
+        clash one)
+    | inr fine ↦ fine
+  ]
+    where
+      was : (b : Bool) → not b ≡ false → b ≡ true
+      was true g = refl
+      was false g = absurd (cc)
+
+      clash : own ≡ r → ⊥
+      clash one = false≢true (sym apart ∙ same own r one)
+        where
+          same : (x y : ℕ) → x ≡ y → (x == y) ≡ true
+          same x y g = search (arith, rules)
+
+  pub wide_joined : (a : ℕ) (rest : List ℕ) → wide groups ids ≡ a ∷ rest → joined roots aggregates (wide groups ids) ≡ joined roots aggregates ids
+  wide_joined a rest e = filter_range (is_joined roots aggregates (wide groups ids)) (is_joined roots aggregates ids) (length roots) 0 (λ (r : ℕ) h. at r)
+    where
+      at : (r : ℕ) → is_joined roots aggregates (wide groups ids) r ≡ is_joined roots aggregates ids r
+      at r = elim (cases_Bool (own == r)) [
+        | inl is ↦
+            let same : own ≡ r = number_is own r is in
+            subst (λ (s : ℕ). is_joined roots aggregates (wide groups ids) s ≡ is_joined roots aggregates ids s) same
+            (some_true (met own) (wide groups ids) a rest e (first_kept (met own) (λ a. not (lone a)) ids a rest meets_own e)
+            ∙ sym (any_first (met own) ids meets_own (λ a. not (lone a)) a rest e))
+        | inr apart ↦ any_kept (met r) (λ a. not (lone a)) ids (lone_elsewhere r apart)
+      ]
+
+  pub lone_joined : (a : ℕ) (rest : List ℕ) → ids ≡ a ∷ rest → wide groups ids ≡ [] → joined roots aggregates ids ≡ get_or roots j 0 ∷ []
+  lone_joined a rest some none = filter_range (is_joined roots aggregates ids) (λ (r : ℕ). own == r) (length roots) 0 (λ (r : ℕ) h. at r) ∙ sym (one_item own (length roots) own_inside)
+    where
+      at : (r : ℕ) → is_joined roots aggregates ids r ≡ (own == r)
+      at r = elim (cases_Bool (own == r)) [
+        | inl is ↦
+            let same : own ≡ r = number_is own r is in
+            subst (λ (s : ℕ). is_joined roots aggregates ids s ≡ (own == r)) same (some_true (met own) ids a rest some (meets_first some) ∙ sym is)
+        | inr apart ↦ sym (any_kept (met r) (λ b. not (lone b)) ids (lone_elsewhere r apart)) ∙ ap (list_any (met r)) none ∙ sym apart
+      ]
+        where
+          meets_first : ids ≡ a ∷ rest → met own a ≡ true
+          meets_first e =
+              let sized : length ids ≡ suc (length rest) = ap length e in
+              subst (λ (b : ℕ). met own b ≡ true) (ap (λ (l : List ℕ). get_or l 0 0) e) (meets_own 0 0 (omega (arith, sized)))
+
+-- what was asked of a provider
+module _ (roots : List ℕ) (aggregates : List (List ℕ)) (groups : BTreeMap ℕ (Vec ℕ)) (gathered : (a r : ℕ) → is_met groups a r ≡ meets roots aggregates (length roots) a r)
+    (own_inside : (j : ℕ) → j < length roots → get_or roots j 0 < length roots) (sharing : List Bool) (j : ℕ) (inside : j < length roots) (asked : List ℕ) (are : asked ≡ asked_at groups sharing aggregates j) where
+  -- who asked shares through an aggregate
+  pub asked_marked : is_joining true asked ≡ true → is_marked sharing aggregates j ≡ true
+  asked_marked some = at (get_or sharing j false) (get_or aggregates j []) (ap (is_joining true) (sym are) ∙ some)
+    where
+      at : (b : Bool) (l : List ℕ) → is_joining true (wide groups (shared_ids b l)) ≡ true → is_joining b l ≡ true
+      at true [] e = absurd (cc)
+      at true (x ∷ l) e = refl
+      at false l e = absurd (cc)
+
+  -- and its list is that of all its aggregates
+  pub asked_joined : is_joining true asked ≡ true → joined roots aggregates asked ≡ joined roots aggregates (get_or aggregates j [])
+  asked_joined some = at (get_or sharing j false) refl
+    where
+      first : (l : List ℕ) → is_joining true l ≡ true → (a : ℕ) × ((rest : List ℕ) × (l ≡ a ∷ rest))
+      first [] e = absurd (cc)
+      first (a ∷ rest) e = (a, (rest, refl))
+
+      at : (b : Bool) → get_or sharing j false ≡ b → joined roots aggregates asked ≡ joined roots aggregates (get_or aggregates j [])
+      at true is =
+          let e : asked ≡ wide groups (get_or aggregates j []) = are ∙ ap (λ b. wide groups (shared_ids b (get_or aggregates j []))) is in
+          let f = first asked some in
+          ap (joined roots aggregates) e ∙ wide_joined roots aggregates groups gathered j inside (own_inside j inside) f.0 f.1.0 (sym e ∙ f.1.1)
+      at false is =
+          let e : asked ≡ [] = are ∙ ap (λ b. wide groups (shared_ids b (get_or aggregates j []))) is in
+          absurd (let g : is_joining true [] ≡ true = ap (is_joining true) (sym e) ∙ some in cc)
+
+  -- who has nothing to ask is available in its own tree
+  pub asked_alone : is_joining true asked ≡ false → is_marked sharing aggregates j ≡ true → joined roots aggregates (get_or aggregates j []) ≡ get_or roots j 0 ∷ []
+  asked_alone nothing marked = at (get_or sharing j false) refl
+    where
+      empty : (l : List ℕ) → is_joining true l ≡ false → l ≡ []
+      empty [] e = refl
+      empty (a ∷ rest) e = absurd (cc)
+
+      first : (b : Bool) (l : List ℕ) → is_joining b l ≡ true → (a : ℕ) × ((rest : List ℕ) × (l ≡ a ∷ rest))
+      first b [] e = absurd (cc)
+      first b (a ∷ rest) e = (a, (rest, refl))
+
+      shares : (b : Bool) (l : List ℕ) → is_joining b l ≡ true → b ≡ true
+      shares b [] e = absurd (cc)
+      shares b (a ∷ rest) e = e
+
+      at : (b : Bool) → get_or sharing j false ≡ b → joined roots aggregates (get_or aggregates j []) ≡ get_or roots j 0 ∷ []
+      at true is =
+          let e : asked ≡ wide groups (get_or aggregates j []) = are ∙ ap (λ b. wide groups (shared_ids b (get_or aggregates j []))) is in
+          let f = first (get_or sharing j false) (get_or aggregates j []) marked in
+          lone_joined roots aggregates groups gathered j inside (own_inside j inside) f.0 f.1.0 f.1.1 (sym e ∙ empty asked nothing)
+      at false is = absurd (false≢true (sym is ∙ shares (get_or sharing j false) (get_or aggregates j []) marked))

@@ -1,0 +1,61 @@
+-- The providers of a cloud, place by place.
+use Rattle.std.proofs.Common.{◌≡◌, ◌<◌, ◌+◌, ◌∙◌, ℕ, zero, suc, List, [], ◌∷◌, map, length, get_or, Option, Some, refl, ap, arith}
+use Rattle.std.specs.Prelude.{◌==◌, if◌then◌else◌}
+use Rattle.std.specs.Option.{option_map, option_and_then}
+use Rattle.std.specs.List.{range_with_len, position_from}
+use Rattle.std.proofs.lemmas.List.FromFn.{get_or-map-range_with_len}
+use Rattle.std.proofs.lemmas.List.{length-map}
+use Rattle.ac_tables.specs.Sorted.{TextMap}
+use Rattle.ac_tables.specs.Trees.{top}
+use Rattle.ac_tables.specs.Cloud.Places.{rank, parent_in, AreWithin}
+use Rattle.ac_tables.specs.Cloud.RisingIds.{IsRising}
+use Rattle.ac_tables.specs.World.{UsedInventory, Provider, no_provider, provider_at, is_provider, place_of, parent_of, root_of}
+use Rattle.ac_tables.specs.Cloud.Numbered.{numbered_at, numbered}
+use Rattle.ac_tables.proofs.Sorted.Rising.{rank_at}
+use Rattle.ac_tables.proofs.Trees.PlaceTrees.{steps}
+
+range_size : (k n : ℕ) → length (range_with_len k n) ≡ n
+range_size k zero = refl
+range_size k (suc n) = ap suc (range_size (k + 1) n)
+
+module _ (ids : List ℕ) (parents : List (Option ℕ)) (entries : List (TextMap UsedInventory)) (traits : List (List (List ℕ))) (aggregates : List (List ℕ)) where
+  abbrev all : List Provider
+  all = numbered ids parents entries traits aggregates
+
+  abbrev at : ℕ → Provider
+  at = numbered_at ids parents entries traits aggregates
+
+  pub numbered_size : length (numbered ids parents entries traits aggregates) ≡ length ids
+  unfolding numbered
+  numbered_size = length-map (range_with_len 0 (length ids)) at ∙ range_size 0 (length ids)
+
+  pub numbered_here : (ix : ℕ) → ix < length ids → provider_at (numbered ids parents entries traits aggregates) ix ≡ numbered_at ids parents entries traits aggregates ix
+  unfolding numbered
+  numbered_here ix h = get_or-map-range_with_len at 0 (length ids) ix ix no_provider h (omega arith)
+
+  position_numbered : (id k : ℕ) (xs : List ℕ) → ((i : ℕ) → i < length xs → get_or ids (k + i) 0 ≡ get_or xs i 0)
+      → position_from (is_provider id) k (map at (range_with_len k (length xs))) ≡ position_from (λ p. p == id) k xs
+  position_numbered id k [] same = refl
+  position_numbered id k (x ∷ xs) same =
+      let first : get_or ids k 0 ≡ x = ap (λ (j : ℕ). get_or ids j 0) (omega arith) ∙ same zero (omega arith) in
+      ap (λ (y : ℕ). if y == id then Some k else position_from (is_provider id) (k + 1) (map at (range_with_len (k + 1) (length xs)))) first
+      ∙ ap (λ o. if x == id then Some k else o)
+      (position_numbered id (k + 1) xs (λ (i : ℕ) (h : i < length xs). ap (λ (j : ℕ). get_or ids j 0) (omega arith) ∙ same (suc i) (omega arith)))
+
+  pub numbered_place : (id : ℕ) → place_of (numbered ids parents entries traits aggregates) id ≡ rank ids id
+  unfolding numbered
+  numbered_place id = position_numbered id 0 ids (λ (i : ℕ) (h : i < length ids). ap (λ (j : ℕ). get_or ids j 0) (omega arith))
+
+  -- the parent of the provider at a place
+  pub numbered_parent : IsRising ids → (ix : ℕ) → ix < length ids
+      → parent_of (numbered ids parents entries traits aggregates) (get_or ids ix 0) ≡ option_map (λ j. get_or ids j 0) (parent_in parents ix)
+  numbered_parent rising ix h =
+      ap (option_and_then (λ (i : ℕ). (provider_at all i).parent)) (numbered_place (get_or ids ix 0) ∙ rank_at ids (get_or ids ix 0) ix rising h refl)
+      ∙ ap (λ (p : Provider). p.parent) (numbered_here ix h)
+
+  -- the root of the provider at a place
+  pub numbered_root : IsRising ids → AreWithin (length ids) parents → (ix : ℕ) → ix < length ids
+      → (top (parent_in parents) (length ids) ix < length ids) × (root_of (numbered ids parents entries traits aggregates) (get_or ids ix 0) ≡ get_or ids (top (parent_in parents) (length ids) ix) 0)
+  numbered_root rising within ix h =
+      let s = steps (parent_of all) (λ (i : ℕ). get_or ids i 0) (length ids) parents within (numbered_parent rising) (length ids) ix h in
+      (s.0, ap (λ (n : ℕ). top (parent_of all) n (get_or ids ix 0)) numbered_size ∙ s.1)

@@ -1,0 +1,13 @@
+-- What the records of the five tables say, and their faults.
+pub mod AllFaults
+pub mod IdsFit
+pub mod InventoryLists
+pub mod KnownFacts
+pub mod Limits
+pub mod ProviderIds
+pub mod ProviderRecords
+pub mod ProviderFaults
+pub mod Marks
+pub mod TreeChecks
+pub mod UsageChecks
+pub mod UsageKeys

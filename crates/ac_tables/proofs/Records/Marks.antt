@@ -1,0 +1,133 @@
+-- The first record of a marked row, and the first fault of a pass over all records.
+use Rattle.std.proofs.Common.{◌≡◌, ◌∙◌, ◌+◌, ◌<◌, ◌≤◌, ℕ, zero, suc, Bool, true, false, List, [], ◌∷◌, length, get_or, min, Option, Some, None, refl, sym, ap, subst, arith, inl, inr, ◌⊎◌}
+use Rattle.std.specs.Option.{option_map}
+use Rattle.std.proofs.lemmas.Bool.{cases_Bool, cases_lt}
+use Rattle.std.proofs.lemmas.List.{get_or-map, get_or_default, length-map}
+use Rattle.std.proofs.lemmas.List.Elements.{Contains-get_or}
+use Rattle.std.proofs.lemmas.List.Sorted.{Contains-permutation, IsPermutation-sym}
+use Rattle.std.specs.Ordering.{nat_cmp}
+use Rattle.ac_tables.specs.Tables.Checks.{first_failing, pass}
+use Rattle.ac_tables.specs.Reader.Listings.{IsFirstBelow, IsFirst}
+use Rattle.ac_tables.specs.Tables.ProviderTable.{ProviderRecord, no_record}
+use Rattle.ac_tables.specs.Reader.ProviderLaws.{provider_shown}
+use Rattle.ac_tables.specs.Reader.TableRows.{row_shown, sooner, IsTable}
+use Rattle.ac_tables.specs.declared.fault.Table.{Table}
+use Rattle.ac_tables.specs.declared.fault.TableKind.{TableKind}
+use Rattle.ac_tables.specs.declared.fault.TableFault.TheVariants as fault
+use Rattle.ac_tables.specs.declared.reader.row.TableRow.{TableRow}
+use Rattle.ac_tables.specs.declared.tables.provider_record.Named.{Named}
+
+-- below a place, or at it
+last_or : (i k : ℕ) → k < i + 1 → (k < i) ⊎ (k ≡ i)
+last_or i k h = elim (cases_lt k i) [ inl less ↦ inl less | inr more ↦ inr (omega arith) ]
+
+clash : (b : Bool) → b ≡ false → b ≡ true → ⊥
+clash b e f = cc
+
+module _ (rows : List (TableRow ℕ Named)) (marks : List Bool) (i : ℕ) where
+  pub unmarked : (first : Option ℕ) → get_or marks i false ≡ false → IsFirstBelow rows marks i first → IsFirstBelow rows marks (i + 1) first
+  unmarked None here h = λ k below. elim (last_or i k below) [
+    | inl less ↦ h k less
+    | inr same ↦ subst (λ (j : ℕ). get_or marks j false ≡ false) (sym same) here
+  ]
+  unmarked (Some n) here h = (
+    (λ k d below is. elim (last_or i k below) [
+      | inl less ↦ h.0 k d less is
+      | inr same ↦ absurd (clash (get_or marks k false) (subst (λ (j : ℕ). get_or marks j false ≡ false) (sym same) here) is)
+    ]),
+    (h.1.0, omega (arith, h.1.1), h.1.2, h.1.3),
+  )
+
+  pub marked : (n : ℕ) (first : Option ℕ) → get_or marks i false ≡ true → ((d : TableRow ℕ Named) → (get_or rows i d).number ≡ n) → IsFirstBelow rows marks i first
+      → IsFirstBelow rows marks (i + 1) (sooner first n)
+  marked n None here at h = (
+    (λ k d below is. elim (last_or i k below) [
+      | inl less ↦ absurd (clash (get_or marks k false) (h k less) is)
+      | inr same ↦ subst (λ (j : ℕ). n ≤ (get_or rows j d).number) (sym same) (same_low n _ (at d))
+    ]),
+    (i, omega arith, here, at),
+  )
+    where
+      same_low : (a b : ℕ) → b ≡ a → a ≤ b
+      same_low a b e = omega arith
+  marked n (Some m) here at h = (
+    (λ k d below is. elim (last_or i k below) [
+      | inl less ↦ low_left m n _ (h.0 k d less is)
+      | inr same ↦ subst (λ (j : ℕ). min m n ≤ (get_or rows j d).number) (sym same) (low_right m n _ (at d))
+    ]),
+    (elim (cases_lt m n) [
+      | inl less ↦ (h.1.0, omega (arith, h.1.1), h.1.2, λ d. least_left m n _ less (h.1.3 d))
+      | inr more ↦ (i, omega arith, here, λ d. least_right m n _ more (at d))
+    ]),
+  )
+    where
+      low_left : (m n a : ℕ) → m ≤ a → min m n ≤ a
+      low_left m n a h = omega arith
+
+      low_right : (m n a : ℕ) → a ≡ n → min m n ≤ a
+      low_right m n a h = omega arith
+
+      least_left : (m n a : ℕ) → m < n → a ≡ m → a ≡ min m n
+      least_left m n a h e = omega arith
+
+      least_right : (m n a : ℕ) → n ≤ m → a ≡ n → a ≡ min m n
+      least_right m n a h e = omega arith
+
+module _ {X : Type 0} (t : Table) (k : TableKind) (fails : X → Bool) (d : X) where
+  pass_none : (n : ℕ) (xs : List X) → ((i : ℕ) → i < length xs → fails (get_or xs i d) ≡ false) → first_failing (pass t k fails n xs) ≡ None
+  pass_none n [] all = refl
+  pass_none n (x ∷ xs) all = rw (all zero (omega arith)) (pass_none (n + 1) xs (λ i h. all (suc i) (omega arith)))
+
+  pass_some : (n : ℕ) (xs : List X) (j : ℕ) → j < length xs → fails (get_or xs j d) ≡ true → ((i : ℕ) → i < j → fails (get_or xs i d) ≡ false)
+      → first_failing (pass t k fails n xs) ≡ Some (fault.At t (n + j) k)
+  pass_some n [] j h e before = absurd (omega (arith, h))
+  pass_some n (x ∷ xs) zero h e before = let same : n ≡ n + zero = omega arith in rw e (ap (λ (m : ℕ). Some (fault.At t m k)) same)
+  pass_some n (x ∷ xs) (suc j) h e before =
+      let more : n + 1 + j ≡ n + suc j = omega arith in
+      rw (before zero (omega arith)) (pass_some (n + 1) xs j (omega arith) e (λ i less. before (suc i) (omega arith)) ∙ ap (λ (m : ℕ). Some (fault.At t m k)) more)
+
+module _ (said : List ProviderRecord) (rows : List (TableRow ℕ Named)) (t : IsTable nat_cmp provider_shown 1 true said rows) where
+  -- what is said, in the order of its records
+  pub size : length said ≡ length t.read
+  size = ap length (sym t.shows) ∙ length-map t.read (row_shown provider_shown)
+
+  pub said_at : (i : ℕ) (d : TableRow ℕ Named) (e : ProviderRecord) → i < length t.read → get_or said i e ≡ row_shown provider_shown (get_or t.read i d)
+  said_at i d e h = ap (λ (l : List ProviderRecord). get_or l i e) (sym t.shows) ∙ get_or-map (row_shown provider_shown) t.read i d e h
+
+  -- where a record's row stands, and a row's record
+  pub row_of : (i : ℕ) (d : TableRow ℕ Named) → i < length t.read → (k : ℕ) × (k < length rows) × (get_or rows k d ≡ get_or t.read i d)
+  row_of i d h =
+      let c = Contains-permutation t.read rows (get_or t.read i d) t.same (Contains-get_or t.read i d h) in
+      (c.0, c.1, get_or_default rows c.0 d (get_or t.read i d) c.1 ∙ c.2)
+
+  pub record_of : (k : ℕ) (d : TableRow ℕ Named) → k < length rows → (i : ℕ) × (i < length t.read) × (get_or t.read i d ≡ get_or rows k d)
+  record_of k d h =
+      let c = Contains-permutation rows t.read (get_or rows k d) (IsPermutation-sym t.read rows t.same) (Contains-get_or rows k d h) in
+      (c.0, c.1, get_or_default t.read c.0 d (get_or rows k d) c.1 ∙ c.2)
+
+  -- the first fault of a pass is that of the first marked record
+  pub passed : (tab : Table) (kind : TableKind) (fails : ProviderRecord → Bool) (marks : List Bool) (d : TableRow ℕ Named)
+      → ((k : ℕ) → k < length rows → get_or marks k false ≡ fails (row_shown provider_shown (get_or rows k d)))
+      → (first : Option ℕ) → IsFirst rows marks first → first_failing (pass tab kind fails 2 said) ≡ option_map (λ n. fault.At tab n kind) first
+  passed tab kind fails marks d same None none =
+      pass_none tab kind fails no_record 2 said (λ i h.
+      let inside : i < length t.read = omega (arith, h, size) in
+      let r = row_of i d inside in
+      ap fails (said_at i d no_record inside ∙ ap (row_shown provider_shown) (sym r.2)) ∙ sym (same r.0 r.1) ∙ none r.0 r.1)
+  passed tab kind fails marks d same (Some n) least =
+      let k = least.1.0 in
+      let r = record_of least.1.0 d least.1.1 in
+      let number : n ≡ r.0 + 2 = sym (least.1.3 d) ∙ ap (λ (x : TableRow ℕ Named). x.number) (sym r.2) ∙ t.numbered r.0 d r.1 in
+      let here : fails (get_or said r.0 no_record) ≡ true =
+      ap fails (said_at r.0 d no_record r.1 ∙ ap (row_shown provider_shown) r.2) ∙ sym (same least.1.0 least.1.1) ∙ least.1.2 in
+      let before : (i : ℕ) → i < r.0 → fails (get_or said i no_record) ≡ false = λ i less.
+      (let first_in = r.1 in
+      let inside : i < length t.read = omega (arith, less, first_in) in
+      let q = row_of i d inside in
+      let is = ap fails (said_at i d no_record inside ∙ ap (row_shown provider_shown) (sym q.2)) ∙ sym (same q.0 q.1) in
+      elim (cases_Bool (get_or marks q.0 false)) [
+        | inl found ↦ absurd (let low = least.0 q.0 d q.1 found in let at = ap (λ (x : TableRow ℕ Named). x.number) q.2 in let its = t.numbered i d inside in omega (arith, low, at, its, number, less))
+        | inr not ↦ is ∙ not
+      ]) in
+      let up : 2 + r.0 ≡ n = omega (arith, number) in
+      pass_some tab kind fails no_record 2 said r.0 (let i = r.1 in omega (arith, i, size)) here before ∙ ap (λ (m : ℕ). Some (fault.At tab m kind)) up

@@ -1,0 +1,215 @@
+-- The rows of the table of providers say what its records say: their ids, who is whose parent, and what is wrong with a provider.
+use Rattle.std.proofs.Common.{◌≡◌, ◌∙◌, ◌+◌, ◌<◌, ℕ, zero, suc, Bool, true, false, List, [], ◌∷◌, map, length, get_or, Option, Some, None, refl, sym, ap, ap₂, subst, arith, rules, inl, inr}
+use Rattle.std.specs.Prelude.{◌==◌, ◌&&◌, not}
+use Rattle.std.specs.declared.cmp.Ordering.{Ordering}
+use Rattle.std.specs.declared.cmp.Ordering.TheVariants.{Less, Equal, Greater}
+use Rattle.std.specs.Ordering.{nat_cmp, ordering_then, ordering_reverse, is_eq, is_lt}
+use Rattle.std.specs.Cmp.{tied_itself, nat_cmp_total, unsigned_tied}
+use Rattle.std.specs.Option.{is_some, is_none, unwrap_or, option_map, option_and_then}
+use Rattle.std.specs.List.{Contains, position_from}
+use Rattle.std.specs.List.Sorted.{IsPermutation, IsStrictlySortedBy}
+use Rattle.std.proofs.lemmas.Bool.{cases_Bool}
+use Rattle.std.proofs.lemmas.List.{get_or-map, length-map}
+use Rattle.std.proofs.lemmas.List.Sorted.{All-permutation, Contains-permutation, IsPermutation-sym, IsPermutation-map, length_permutation}
+use Rattle.std.proofs.lemmas.Map.Keys.{sorted_from_all_adjacent}
+use Rattle.std.proofs.lemmas.Map.Lookups.{exact_unsigned}
+use Rattle.ac_tables.specs.Cloud.DistinctIds.{AreDistinct, AreTrees}
+use Rattle.ac_tables.specs.Tables.InventoryTable.{is_one_of}
+use Rattle.ac_tables.specs.Cloud.Places.{rank, parent_in, AreParents}
+use Rattle.ac_tables.specs.Reader.ProviderLaws.{provider_shown}
+use Rattle.ac_tables.specs.Tables.ProviderTable.{ProviderRecord, is_at, is_known, place_of, no_record, record_at, said_parent, has_unknown_parent, has_endless_chain, has_wrong_root, unknown_fault}
+use Rattle.ac_tables.specs.Sorted.{rising}
+use Rattle.ac_tables.specs.Reader.TableRows.{row_cmp, row_shown, IsTable}
+use Rattle.ac_tables.specs.Trees.{top}
+use Rattle.ac_tables.specs.declared.reader.row.TableRow.{TableRow}
+use Rattle.ac_tables.specs.declared.tables.provider_record.Named.{Named}
+use Rattle.ac_tables.proofs.Places.BuildFacts.{agree, are_within, are_parents, same_size, has_rank}
+use Rattle.ac_tables.proofs.Places.KinFacts.{kin_known, member_rising, place_member}
+use Rattle.ac_tables.proofs.Records.ProviderFaults.{are_trees}
+use Rattle.ac_tables.proofs.Records.Marks.{record_of, said_at, size}
+use Rattle.ac_tables.proofs.Trees.PlaceTrees.{steps}
+use Rattle.ac_tables.proofs.Sorted.Rising.{rank_none}
+use Rattle.ac_tables.proofs.Sorted.SameItems.{same_items, rising_has, has_rising}
+use Rattle.ac_tables.proofs.Sorted.SearchFacts.{map_itself}
+use Rattle.ac_tables.proofs.Sorted.SortedSets.{rising_sorted}
+
+abbrev ListingRow : Type 0
+ListingRow = TableRow ℕ Named
+
+-- a row for the places past the end
+pub no_row : ListingRow
+no_row = record { place = 0; number = 0; key = 0; value = record { root = 0; parent = None } }
+
+abbrev pub key : ListingRow → ℕ
+key r = r.key
+
+abbrev pub parent_of : ListingRow → Option ℕ
+parent_of r = r.value.parent
+
+shown_ids : (rs : List ListingRow) → map (λ (p : ProviderRecord). p.id) (map (row_shown provider_shown) rs) ≡ map key rs
+shown_ids [] = refl
+shown_ids (r ∷ rs) = ap (λ l. r.key ∷ l) (shown_ids rs)
+
+position_at : {X : Type 0} (p : X → Bool) (k : ℕ) (xs : List X) (i : ℕ) (d : X) → i < length xs → p (get_or xs i d) ≡ true → ((j : ℕ) → j < i → p (get_or xs j d) ≡ false) → position_from p k xs ≡ Some (k + i)
+position_at p k [] i d h e before = absurd (omega (arith, h))
+position_at p k (x ∷ xs) zero d h e before = let same : k ≡ k + zero = omega arith in rw e (ap (λ (n : ℕ). Some n) same)
+position_at p k (x ∷ xs) (suc i) d h e before =
+    let more : k + 1 + i ≡ k + suc i = omega arith in
+    rw (before zero (omega arith)) (position_at p (k + 1) xs i d (omega arith) e (λ j less. before (suc j) (omega arith)) ∙ ap (λ (n : ℕ). Some n) more)
+
+map_at : {A B : Type 0} (f g : A → B) (xs : List A) (d : A) → ((k : ℕ) → k < length xs → f (get_or xs k d) ≡ g (get_or xs k d)) → map f xs ≡ map g xs
+map_at f g [] d same = refl
+map_at f g (x ∷ xs) d same = ap₂ (λ a l. a ∷ l) (same zero (omega arith)) (map_at f g xs d (λ k h. same (suc k) (omega arith)))
+
+map_twice : {A B C : Type 0} (f : B → C) (g : A → B) (xs : List A) → map f (map g xs) ≡ map (λ x. f (g x)) xs
+map_twice f g [] = refl
+map_twice f g (x ∷ xs) = ap (λ l. f (g x) ∷ l) (map_twice f g xs)
+
+module _ (said : List ProviderRecord) (rows : List ListingRow) (t : IsTable nat_cmp provider_shown 1 true said rows) where
+  abbrev ids : List ℕ
+  ids = map key rows
+
+  zero_place : (n : ℕ) → n < 1 → n ≡ 0
+  zero_place n h = omega (arith, h)
+
+  by_key : (a b : ListingRow) → a.place < 1 → b.place < 1 → row_cmp nat_cmp a b ≡ nat_cmp a.key b.key
+  by_key a b ha hb =
+      ap₂ (λ m n. ordering_then (nat_cmp m n) (nat_cmp a.key b.key)) (zero_place a.place ha) (zero_place b.place hb)
+      ∙ ap (λ o. ordering_then o (nat_cmp a.key b.key)) (tied_itself nat_cmp_total 0)
+
+  less_of : (a b : ℕ) → is_lt (nat_cmp b a) ≡ false → is_eq (nat_cmp a b) ≡ false → nat_cmp a b ≡ Less
+  less_of a b e f = by_order (nat_cmp a b) refl
+    where
+      by_order : (r : Ordering) → nat_cmp a b ≡ r → nat_cmp a b ≡ Less
+      by_order Less is = is
+      by_order Equal is = absurd (let g : is_eq (nat_cmp a b) ≡ true = ap is_eq is in cc)
+      by_order Greater is = absurd (let g : is_lt (nat_cmp b a) ≡ true = ap is_lt (nat_cmp_total.antisymm b a ∙ ap ordering_reverse is) in cc)
+
+  key_at : (k : ℕ) → k < length rows → get_or ids k 0 ≡ (get_or rows k no_row).key
+  key_at k h = get_or-map key rows k no_row 0 h
+
+  pub keys_rise : IsStrictlySortedBy nat_cmp ids
+  keys_rise = sorted_from_all_adjacent nat_cmp_total ids 0 (λ k inside.
+      let next : k + 1 < length rows = omega (arith, inside, length-map rows key) in
+      let a = t.inside k no_row (omega arith) in
+      let b = t.inside (k + 1) no_row next in
+      ap₂ nat_cmp (key_at k (omega arith)) (key_at (k + 1) next)
+      ∙ less_of (get_or rows k no_row).key (get_or rows (k + 1) no_row).key
+      (ap is_lt (sym (by_key (get_or rows (k + 1) no_row) (get_or rows k no_row) b a)) ∙ t.sorted k no_row (omega arith) next)
+      (ap is_eq (sym (by_key (get_or rows k no_row) (get_or rows (k + 1) no_row) a b)) ∙ t.apart refl k no_row next))
+
+  said_ids : map (λ (p : ProviderRecord). p.id) said ≡ map key t.read
+  said_ids = ap (map (λ (p : ProviderRecord). p.id)) (sym t.shows) ∙ shown_ids t.read
+
+  -- the ids of all providers
+  pub ids_are : map (λ r. r.key) rows ≡ rising nat_cmp (map (λ p. p.id) said)
+  ids_are =
+      let all : List ℕ = map (λ (p : ProviderRecord). p.id) said in
+      let moved : IsPermutation (map key t.read) ids = IsPermutation-map key t.read rows t.same in
+      same_items (λ (y : ℕ). y) nat_cmp_total ids (rising nat_cmp all)
+      (rw (map_itself ids) keys_rise) (rw (map_itself (rising nat_cmp all)) (rising_sorted nat_cmp_total all))
+      (λ y c. has_rising exact_unsigned all y (subst (λ l. Contains l y) (sym said_ids) (Contains-permutation ids (map key t.read) y (IsPermutation-sym (map key t.read) ids moved) c)))
+      (λ y c. Contains-permutation (map key t.read) ids y moved (subst (λ l. Contains l y) said_ids (rising_has exact_unsigned all y c)))
+
+  pub count : length (map (λ (r : ListingRow). r.key) rows) ≡ length said
+  count = length_permutation (map key t.read) ids (IsPermutation-map key t.read rows t.same) ∙ ap length (sym said_ids) ∙ length-map said (λ (p : ProviderRecord). p.id)
+
+  pub said_sized : length rows ≡ length said
+  said_sized = sym (length-map rows key) ∙ count
+
+  -- all ids are different
+  pub distinct : AreDistinct said
+  unfolding place_of
+  distinct i h =
+      let inside : i < length t.read = omega (arith, h, size said rows t) in
+      let id : ℕ = (record_at said i).id in
+      let same : is_at id (get_or said i no_record) ≡ true = equal id in
+      position_at (is_at id) 0 said i no_record h same (λ j less.
+      let earlier : j < length t.read = omega (arith, less, inside) in
+      ap₂ (λ (a b : ProviderRecord). a.id == b.id) (said_at said rows t j no_row no_record earlier) (said_at said rows t i no_row no_record inside)
+      ∙ sym (unsigned_tied (get_or t.read j no_row).key (get_or t.read i no_row).key)
+      ∙ ap is_eq (sym (by_key (get_or t.read j no_row) (get_or t.read i no_row) (placed j earlier) (placed i inside)))
+      ∙ t.once refl j i no_row less inside)
+      ∙ ap (λ (n : ℕ). Some n) (omega arith)
+    where
+      equal : (a : ℕ) → (a == a) ≡ true
+      equal a = search (arith, rules)
+
+      placed : (k : ℕ) → k < length t.read → (get_or t.read k no_row).place < 1
+      placed k h = All-permutation (λ (r : ListingRow). r.place < 1) rows t.read (IsPermutation-sym t.read rows t.same) t.inside k no_row h
+
+  -- the parent of a row's provider
+  pub parent_here : (k : ℕ) → k < length rows → said_parent said (get_or rows k no_row).key ≡ (get_or rows k no_row).value.parent
+  parent_here k h =
+      let r = record_of said rows t k no_row h in
+      let at : record_at said r.0 ≡ row_shown provider_shown (get_or rows k no_row) = said_at said rows t r.0 no_row no_record r.1 ∙ ap (row_shown provider_shown) r.2 in
+      ap (λ (q : ℕ). said_parent said q) (ap (λ (p : ProviderRecord). p.id) (sym at))
+      ∙ ap (option_and_then (λ (i : ℕ). (record_at said i).parent)) (distinct r.0 (let i = r.1 in omega (arith, i, size said rows t)))
+      ∙ ap (λ (p : ProviderRecord). p.parent) at
+
+  module _ (parents : List (Option ℕ)) (are : parents ≡ map (λ r. option_and_then (rank (map (λ r. r.key) rows)) r.value.parent) rows) where
+    pub parents_are : parents ≡ map (λ id. option_and_then (rank (map (λ r. r.key) rows)) (said_parent said id)) (map (λ r. r.key) rows)
+    parents_are =
+        are
+        ∙ map_at (λ r. option_and_then (rank ids) (parent_of r)) (λ r. option_and_then (rank ids) (said_parent said r.key)) rows no_row (λ k h. ap (option_and_then (rank ids)) (sym (parent_here k h)))
+        ∙ sym (map_twice (λ id. option_and_then (rank ids) (said_parent said id)) key rows)
+
+    parent_at : (k : ℕ) → k < length rows → get_or parents k None ≡ option_and_then (rank ids) (get_or rows k no_row).value.parent
+    parent_at k h = ap (λ (l : List (Option ℕ)). get_or l k None) are ∙ get_or-map (λ r. option_and_then (rank ids) (parent_of r)) rows k no_row None h
+
+    there : (q : ℕ) → is_one_of ids q ≡ is_some (place_of said q)
+    there q = ap (λ l. is_one_of l q) ids_are ∙ member_rising q (map (λ (p : ProviderRecord). p.id) said) ∙ sym (place_member said q)
+
+    no_rank : (q : ℕ) → is_none (rank ids q) ≡ not (is_some (place_of said q))
+    no_rank q = elim (cases_Bool (is_one_of ids q)) [
+      | inl found ↦ let r = has_rank ids q found in let is : is_some (place_of said q) ≡ true = sym (there q) ∙ found in ap is_none r.1 ∙ ap not (sym is)
+      | inr lost ↦ let is : is_some (place_of said q) ≡ false = sym (there q) ∙ lost in ap is_none (rank_none ids q lost) ∙ ap not (sym is)
+    ]
+
+    by_parent : (o p : Option ℕ) → p ≡ option_and_then (rank ids) o → (is_some o && is_none p) ≡ (is_some o && not (is_known said (unwrap_or o 0)))
+    by_parent None p e = refl
+    by_parent (Some q) p e = ap is_none e ∙ no_rank q
+
+    -- what is wrong with a provider, by its row
+    pub unknown_same : (k : ℕ) → k < length rows → (is_some (get_or rows k no_row).value.parent && is_none (get_or parents k None)) ≡ has_unknown_parent said (row_shown provider_shown (get_or rows k no_row))
+    unknown_same k h = by_parent (get_or rows k no_row).value.parent (get_or parents k None) (parent_at k h)
+
+    module _ (known : unknown_fault said ≡ None) where
+      pub trees : AreTrees said
+      trees = are_trees said distinct known
+
+      known_here : (i q : ℕ) → i < length ids → said_parent said (get_or ids i 0) ≡ Some q → is_one_of ids q ≡ true
+      known_here = kin_known said ids ids_are count trees
+
+      pub as_many : length parents ≡ length (map (λ (r : ListingRow). r.key) rows)
+      as_many = same_size ids said known_here parents parents_are
+
+      pub are_places : AreParents parents
+      are_places = are_parents ids said known_here parents parents_are
+
+      some_map : (f : ℕ → ℕ) (o : Option ℕ) → is_some (option_map f o) ≡ is_some o
+      some_map f None = refl
+      some_map f (Some q) = refl
+
+      abbrev top_of : ℕ → ℕ
+      top_of i = top (parent_in parents) (length parents) i
+
+      within : (i : ℕ) → i < length rows → i < length ids
+      within i h = omega (arith, h, length-map rows key)
+
+      pub top_inside : (i : ℕ) → i < length rows → top (parent_in parents) (length parents) i < length (map (λ (r : ListingRow). r.key) rows)
+      top_inside i h =
+          let s = steps (said_parent said) (λ (j : ℕ). get_or ids j 0) (length ids) parents (are_within ids said known_here parents parents_are) (agree ids said known_here parents parents_are) (length ids) i (within i h) in
+          subst (λ (n : ℕ). top (parent_in parents) n i < length ids) (sym as_many) s.0
+
+      top_at : (i : ℕ) → i < length rows → top (said_parent said) (length said) (get_or rows i no_row).key ≡ get_or ids (top_of i) 0
+      top_at i h =
+          let s = steps (said_parent said) (λ (j : ℕ). get_or ids j 0) (length ids) parents (are_within ids said known_here parents parents_are) (agree ids said known_here parents parents_are) (length ids) i (within i h) in
+          ap₂ (λ (n q : ℕ). top (said_parent said) n q) (sym count) (sym (key_at i h)) ∙ s.1 ∙ ap (λ (n : ℕ). get_or ids (top (parent_in parents) n i) 0) (sym as_many)
+
+      pub endless_same : (i : ℕ) → i < length rows → is_some (get_or parents (top (parent_in parents) (length parents) i) None) ≡ has_endless_chain said (row_shown provider_shown (get_or rows i no_row))
+      endless_same i h =
+          sym (ap (λ (q : ℕ). is_some (said_parent said q)) (top_at i h) ∙ ap is_some (agree ids said known_here parents parents_are (top_of i) (top_inside i h)) ∙ some_map (λ (j : ℕ). get_or ids j 0) (get_or parents (top_of i) None))
+
+      pub wrong_same : (i : ℕ) → i < length rows → not (get_or (map (λ (r : ListingRow). r.key) rows) (top (parent_in parents) (length parents) i) 0 == (get_or rows i no_row).value.root) ≡ has_wrong_root said (row_shown provider_shown (get_or rows i no_row))
+      wrong_same i h = ap (λ (q : ℕ). not (q == (get_or rows i no_row).value.root)) (sym (top_at i h))

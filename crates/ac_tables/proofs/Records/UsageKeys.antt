@@ -1,0 +1,64 @@
+-- The checks of a usage's key.
+use Rattle.std.proofs.Common.{◌≡◌, ◌∙◌, ◌<◌, ◌++◌, ℕ, zero, suc, Bool, true, false, List, [], ◌∷◌, length, get_or, Some, None, refl, sym, ap, ap₂, arith, inl, inr}
+use Rattle.std.specs.Prelude.{◌==◌, ◌&&◌, ◌||◌, not}
+use Rattle.std.specs.List.{All, filter, list_any}
+use Rattle.std.specs.Str.{bytes_eq}
+use Rattle.std.proofs.lemmas.Bool.{cases_Bool}
+use Rattle.ac_base.specs.Names.{class_bytes}
+use Rattle.ac_base.specs.Quantities.{InventoryNumbers}
+use Rattle.ac_base.specs.declared.name.ClassName.{ClassName}
+use Rattle.ac_tables.specs.Tables.Checks.{Row, first_failing}
+use Rattle.ac_tables.specs.Tables.Columns.{id_in, text_in}
+use Rattle.ac_tables.specs.Cloud.RisingIds.{IsRising}
+use Rattle.ac_tables.specs.Tables.InventoryTable.{InventoryRecord, provider_name, class_name, is_inventory_of, is_one_of}
+use Rattle.ac_tables.specs.Tables.UsageTable.{usage_field_checks}
+use Rattle.ac_tables.specs.Reader.InventoryRows.{inventory_records_shown}
+use Rattle.ac_tables.specs.Reader.RecordLaws.{same_place, eq_turned}
+use Rattle.ac_tables.specs.Reader.UsageLaws.{lone_checks}
+use Rattle.ac_tables.specs.declared.reader.row.TableRow.{TableRow}
+use Rattle.ac_tables.specs.declared.fault.TableKind.TheVariants as kind
+use Rattle.ac_tables.proofs.FirstFailing.{append_none}
+
+pub any_filter : {X : Type 0} (p q : X → Bool) (xs : List X) → list_any q (filter p xs) ≡ list_any (λ x. p x && q x) xs
+any_filter p q [] = refl
+any_filter p q (x ∷ xs) = elim (cases_Bool (p x)) [
+  | inl passes ↦ rw passes (ap (λ b. q x || b) (any_filter p q xs))
+  | inr fails ↦ rw fails (any_filter p q xs)
+]
+
+module _ (ids : List ℕ) (rising : IsRising ids) (place : ℕ) (inside : place < length ids) (class : List ℕ) where
+  pub any_shown : (rows : List (TableRow ClassName InventoryNumbers)) → All (λ r. r.place < length ids) rows
+      → list_any (λ r. (r.place == place) && bytes_eq (class_bytes r.key) class) rows ≡ list_any (is_inventory_of (get_or ids place 0) class) (inventory_records_shown ids rows)
+  any_shown [] all = refl
+  any_shown (r ∷ rows) all =
+      ap₂ (λ a b. a || b) (ap₂ (λ a b. a && b) (sym (same_place ids rising r.place place (all zero r (omega arith)) inside)) (eq_turned (class_bytes r.key) class))
+      (any_shown rows (λ k d h. all (suc k) d (omega arith)))
+
+module _ (ids : List ℕ) (records : List InventoryRecord) (header row : Row) (id : ℕ) (class : List ℕ) (none : first_failing (usage_field_checks header row) ≡ None)
+    (e : id ≡ id_in header provider_name row) (f : class ≡ text_in header class_name row) where
+  abbrev told : Type 0
+  told = first_failing (usage_field_checks header row ++ lone_checks ids records (id_in header provider_name row) (text_in header class_name row)) ≡ first_failing (lone_checks ids records id class)
+
+  fields_fine : told
+  fields_fine =
+      append_none (usage_field_checks header row) (lone_checks ids records (id_in header provider_name row) (text_in header class_name row)) none
+      ∙ ap₂ (λ i c. first_failing (lone_checks ids records i c)) (sym e) (sym f)
+
+  pub lone_unknown : is_one_of ids id ≡ false → first_failing (usage_field_checks header row ++ lone_checks ids records (id_in header provider_name row) (text_in header class_name row)) ≡ Some kind.UnknownProvider
+  lone_unknown absent = fields_fine ∙ rw absent refl
+
+  pub lone_nothing : is_one_of ids id ≡ true → list_any (is_inventory_of id class) records ≡ false
+      → first_failing (usage_field_checks header row ++ lone_checks ids records (id_in header provider_name row) (text_in header class_name row)) ≡ Some kind.NoInventory
+  lone_nothing there nothing = fields_fine ∙ rw (there, nothing) refl
+
+  pub lone_fine : is_one_of ids id ≡ true → list_any (is_inventory_of id class) records ≡ true
+      → first_failing (usage_field_checks header row ++ lone_checks ids records (id_in header provider_name row) (text_in header class_name row)) ≡ None
+  lone_fine there some = fields_fine ∙ rw (there, some) refl
+
+pub not_true : (b : Bool) → not b ≡ true → b ≡ false
+not_true true e = absurd (cc)
+not_true false e = refl
+
+pub not_false : (b : Bool) → not b ≡ false → b ≡ true
+not_false true e = refl
+not_false false e = absurd (cc)

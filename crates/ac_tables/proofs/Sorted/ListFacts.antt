@@ -1,0 +1,185 @@
+-- Lists that stand one after the other in one list.
+use Rattle.std.proofs.Common.{◌≡◌, ◌∙◌, ◌+◌, ◌-◌, ◌<◌, ◌≤◌, ℕ, zero, suc, List, [], ◌∷◌, ◌++◌, map, length, get_or, subst, take, drop, inl, inr, ◌⊎◌, rules, refl, sym, ap, ap₂, arith, length-drop}
+use Rattle.std.specs.Prelude.{◌==◌}
+use Rattle.std.specs.List.{All, filter, fold, range_with_len, sum_by}
+use Rattle.std.proofs.Math.Seq.{get_or-append_seam}
+use Rattle.std.proofs.lemmas.List.{length-append, length-map, get_or-map, length-take-le}
+use Rattle.std.proofs.lemmas.List.FromFn.{get_or-map-range_with_len}
+use Rattle.ac_tables.specs.Reader.TableRows.{IsStart, AreStarts}
+use Rattle.ac_tables.specs.Reader.ListBounds.{AreBounds, list_at, lists_in}
+use Rattle.ac_tables.specs.declared.reader.row.TableRow.{TableRow}
+use Rattle.ac_tables.proofs.Gathered.RowSlices.{start_order, slice_kept}
+
+pub range_size : (k n : ℕ) → length (range_with_len k n) ≡ n
+range_size k zero = refl
+range_size k (suc n) = ap suc (range_size (k + 1) n)
+
+pub map_same : {X Y : Type 0} (f g : X → Y) → ((x : X) → f x ≡ g x) → (xs : List X) → map f xs ≡ map g xs
+map_same f g same [] = refl
+map_same f g same (x ∷ xs) = ap₂ (λ y l. y ∷ l) (same x) (map_same f g same xs)
+
+pub map_map : {X Y Z : Type 0} (f : X → Y) (g : Y → Z) (xs : List X) → map g (map f xs) ≡ map (λ x. g (f x)) xs
+map_map f g [] = refl
+map_map f g (x ∷ xs) = ap (λ l. g (f x) ∷ l) (map_map f g xs)
+
+-- the first items, and one more
+pub take_more : {X : Type 0} (k : ℕ) (xs : List X) (d : X) → k < length xs → take (k + 1) xs ≡ take k xs ++ get_or xs k d ∷ []
+take_more k [] d h = absurd (omega (arith, h))
+take_more zero (x ∷ xs) d h = refl
+take_more (suc k) (x ∷ xs) d h =
+    let next : suc k + 1 ≡ suc (k + 1) = omega arith in
+    ap (λ (n : ℕ). take n (x ∷ xs)) next ∙ ap (λ l. x ∷ l) (take_more k xs d (omega arith))
+
+pub take_whole : {X : Type 0} (k : ℕ) (xs : List X) → length xs ≤ k → take k xs ≡ xs
+take_whole zero [] h = refl
+take_whole (suc k) [] h = refl
+take_whole zero (x ∷ xs) h = absurd (omega (arith, h))
+take_whole (suc k) (x ∷ xs) h = ap (λ l. x ∷ l) (take_whole k xs (omega arith))
+
+-- equal at each number of a range
+pub range_same : {X : Type 0} (f g : ℕ → X) (k n : ℕ) → ((p : ℕ) → k ≤ p → p < k + n → f p ≡ g p) → map f (range_with_len k n) ≡ map g (range_with_len k n)
+range_same f g k zero same = refl
+range_same f g k (suc n) same = ap₂ (λ y l. y ∷ l) (same k (omega arith) (omega arith)) (range_same f g (k + 1) n (λ p low high. same p (omega arith) (omega arith)))
+
+drop_map : {X Y : Type 0} (f : X → Y) (n : ℕ) (xs : List X) → drop n (map f xs) ≡ map f (drop n xs)
+drop_map f zero xs = refl
+drop_map f (suc n) [] = refl
+drop_map f (suc n) (x ∷ xs) = drop_map f n xs
+
+map_take : {X Y : Type 0} (f : X → Y) (n : ℕ) (xs : List X) → map f (take n xs) ≡ take n (map f xs)
+map_take f zero xs = refl
+map_take f (suc n) [] = refl
+map_take f (suc n) (x ∷ xs) = ap (λ l. f x ∷ l) (map_take f n xs)
+
+module _ {X : Type 0} (items : List X) (starts : List ℕ) where
+  pub lists_size : length (lists_in items starts) ≡ length starts - 1
+  unfolding lists_in
+  lists_size = length-map (range_with_len 0 (length starts - 1)) (list_at items starts) ∙ range_size 0 (length starts - 1)
+
+  pub list_here : (p : ℕ) → p < length (lists_in items starts) → get_or (lists_in items starts) p [] ≡ list_at items starts p
+  unfolding lists_in
+  list_here p h =
+      let inside : p < length starts - 1 = omega (arith, h, length-map (range_with_len 0 (length starts - 1)) (list_at items starts), range_size 0 (length starts - 1)) in
+      get_or-map-range_with_len (list_at items starts) 0 (length starts - 1) p p [] inside (omega arith)
+
+  sum_from : (k n total : ℕ) → ((p : ℕ) → k ≤ p → p < k + n → get_or starts p 0 ≤ get_or starts (p + 1) 0) → ((p : ℕ) → p ≤ k + n → get_or starts p 0 ≤ length items)
+      → fold (λ a l. a + length l) total (map (list_at items starts) (range_with_len k n)) ≡ total + (get_or starts (k + n) 0 - get_or starts k 0)
+  sum_from k zero total order inside =
+      let same : k + zero ≡ k = omega arith in
+      omega (arith, ap (λ j. get_or starts j 0) same)
+  sum_from k (suc n) total order inside =
+      let a : ℕ = get_or starts k 0 in
+      let b : ℕ = get_or starts (k + 1) 0 in
+      let up : get_or starts k 0 ≤ get_or starts (k + 1) 0 = order k (omega arith) (omega arith) in
+      let low : get_or starts (k + 1) 0 ≤ length items = inside (k + 1) (omega arith) in
+      let size : length (list_at items starts k) ≡ get_or starts (k + 1) 0 - get_or starts k 0 = length-take-le (get_or starts (k + 1) 0 - get_or starts k 0) (drop (get_or starts k 0) items) (omega (arith, length-drop (get_or starts k 0) items)) in
+      let rest = sum_from (k + 1) n (total + length (list_at items starts k)) (λ p l h. order p (omega arith) (omega arith)) (λ p h. inside p (omega arith)) in
+      let end : get_or starts (k + 1 + n) 0 ≡ get_or starts (k + suc n) 0 = ap (λ j. get_or starts j 0) (omega arith) in
+      let far : get_or starts (k + 1) 0 ≤ get_or starts (k + 1 + n) 0 = rising_to (k + 1) n (λ p l h. order p (omega arith) (omega arith)) in
+      rest ∙ omega (arith, size, end, up, far)
+    where
+      rising_to : (k n : ℕ) → ((p : ℕ) → k ≤ p → p < k + n → get_or starts p 0 ≤ get_or starts (p + 1) 0) → get_or starts k 0 ≤ get_or starts (k + n) 0
+      rising_to k zero order = let same : k + zero ≡ k = omega arith in omega (arith, ap (λ j. get_or starts j 0) same)
+      rising_to k (suc n) order =
+          let rest = rising_to (k + 1) n (λ p l h. order p (omega arith) (omega arith)) in
+          let here = order k (omega arith) (omega arith) in
+          let same : k + 1 + n ≡ k + suc n = omega arith in
+          omega (arith, ap (λ j. get_or starts j 0) same)
+
+  pub lists_sum : AreBounds (length items) starts → length items ≡ sum_by length (lists_in items starts)
+  unfolding lists_in
+  lists_sum b =
+      let n = length starts - 1 in
+      let some = b.some in
+      let sum = sum_from 0 (length starts - 1) 0 (λ p l h. b.order p (omega arith)) (λ p h. b.inside p (omega arith)) in
+      let first = b.first in
+      let last = b.last in
+      let same : get_or starts (0 + (length starts - 1)) 0 ≡ get_or starts (length starts - 1) 0 = ap (λ j. get_or starts j 0) (omega arith) in
+      let whole : sum_by length (lists_in items starts) ≡ 0 + (get_or starts (0 + (length starts - 1)) 0 - get_or starts 0 0) = sum in
+      omega (arith, whole, first, last, same)
+
+  pub lists_map : {Y : Type 0} (f : X → Y) → lists_in (map f items) starts ≡ map (map f) (lists_in items starts)
+  unfolding lists_in
+  lists_map f =
+      map_same (list_at (map f items) starts) (λ p. map f (list_at items starts p)) (λ p.
+      ap (take (get_or starts (p + 1) 0 - get_or starts p 0)) (drop_map f (get_or starts p 0) items)
+      ∙ sym (map_take f (get_or starts (p + 1) 0 - get_or starts p 0) (drop (get_or starts p 0) items))) (range_with_len 0 (length starts - 1))
+      ∙ sym (map_map (list_at items starts) (map f) (range_with_len 0 (length starts - 1)))
+
+below_or_at : (s n : ℕ) → s ≤ n → (s ≡ n) ⊎ (s < n)
+below_or_at s n h = search (arith, rules)
+
+module _ {K X : Type 0} (count : ℕ) (rows : List (TableRow K X)) (starts : List ℕ) (are : AreStarts count rows starts) where
+  pub bounds : All (λ (r : TableRow K X). r.place < count) rows → AreBounds (length rows) starts
+  bounds inside =
+      let size = are.sized in
+      record {
+        some = omega arith;
+        first = low (get_or starts 0 0) (are.at 0 (omega arith));
+        last = let e : length starts - 1 ≡ count = omega arith in high (get_or starts (length starts - 1) 0) (length starts - 1) e (are.at (length starts - 1) (omega arith));
+        order = λ p h. (start_order rows p _ _ (are.at p (omega arith)) (are.at (p + 1) h)).0;
+        inside = λ p h. (are.at p h).inside;
+      }
+    where
+      low : (s : ℕ) → IsStart rows 0 s → s ≡ 0
+      low zero st = refl
+      low (suc s) st = at rows st.inside st.below
+        where
+          at : (l : List (TableRow K X)) → suc s ≤ length l → ((k : ℕ) (d : TableRow K X) → k < suc s → (get_or l k d).place < 0) → suc s ≡ 0
+          at [] h below = absurd (omega (arith, h))
+          at (r ∷ l) h below = absurd (let b = below 0 r (omega arith) in omega (arith, b))
+
+      high : (s p : ℕ) → p ≡ count → IsStart rows p s → s ≡ length rows
+      high s p e st = at rows inside st.inside st.above
+        where
+          at : (l : List (TableRow K X)) → All (λ (r : TableRow K X). r.place < count) l → s ≤ length l → ((k : ℕ) (d : TableRow K X) → s ≤ k → k < length l → p ≤ (get_or l k d).place) → s ≡ length l
+          at [] all h above = omega (arith, h)
+          at (r ∷ l) all h above = elim (below_or_at s (suc (length l)) h) [
+            | inl e ↦ e
+            | inr less ↦ absurd (let a = above s r (omega arith) less in let b = all s r less in omega (arith, a, b))
+          ]
+
+  pub split_lists : lists_in rows starts ≡ map (λ p. filter (λ (r : TableRow K X). r.place == p) rows) (range_with_len 0 count)
+  unfolding lists_in
+  split_lists =
+      let size = are.sized in
+      let n : length starts - 1 ≡ count = omega arith in
+      range_same (list_at rows starts) (λ p. filter (λ (r : TableRow K X). r.place == p) rows) 0 (length starts - 1)
+      (λ p l h. slice_kept rows p _ _ (are.at p (omega arith)) (are.at (p + 1) (omega arith)))
+      ∙ ap (λ m. map (λ p. filter (λ (r : TableRow K X). r.place == p) rows) (range_with_len 0 m)) n
+
+  pub split_here : (p : ℕ) → p < count → get_or (lists_in rows starts) p [] ≡ filter (λ (r : TableRow K X). r.place == p) rows
+  split_here p h =
+      let size = are.sized in
+      list_here rows starts p (omega (arith, lists_size rows starts)) ∙ slice_kept rows p _ _ (are.at p (omega arith)) (are.at (p + 1) (omega arith))
+
+-- what is made of each place is what is made of each item
+pub by_places : {X : Type 0} (f : ℕ → X) (g : ℕ → X) (k : ℕ) (xs : List ℕ) → ((i : ℕ) → i < length xs → f (k + i) ≡ g (get_or xs i 0)) → map f (range_with_len k (length xs)) ≡ map g xs
+by_places f g k [] same = refl
+by_places f g k (x ∷ xs) same =
+    ap₂ (λ y l. y ∷ l) (ap f (omega arith) ∙ same zero (omega arith))
+    (by_places f g (k + 1) xs (λ (i : ℕ) (h : i < length xs). ap f (omega arith) ∙ same (suc i) (omega arith)))
+
+-- what is made of the rows of each provider, where it is known provider by provider
+pub of_each : {K X G : Type 0} (rows : List (TableRow K X)) (show : List (TableRow K X) → G) (gather : ℕ → G) (ids : List ℕ) (lists : List (List (TableRow K X)))
+    → lists ≡ map (λ p. filter (λ (r : TableRow K X). r.place == p) rows) (range_with_len 0 (length ids))
+    → ((p : ℕ) → p < length ids → show (filter (λ (r : TableRow K X). r.place == p) rows) ≡ gather (get_or ids p 0)) → map show lists ≡ map gather ids
+of_each rows show gather ids lists are here =
+    ap (map show) are ∙ map_map (λ p. filter (λ r. r.place == p) rows) show (range_with_len 0 (length ids))
+    ∙ by_places (λ p. show (filter (λ r. r.place == p) rows)) gather 0 ids (λ (p : ℕ) h. ap (λ (q : ℕ). show (filter (λ r. r.place == q) rows)) (omega arith) ∙ here p h)
+
+-- what holds of what is gathered holds of each list
+pub all_gathered : {X G : Type 0} (P : G → Type 0) (show : X → G) (gather : ℕ → G) (lists : List X) (ids : List ℕ) → map show lists ≡ map gather ids → ((id : ℕ) → P (gather id)) → All (λ l. P (show l)) lists
+all_gathered P show gather lists ids e holds k d inside =
+    let size : length ids ≡ length lists = sym (length-map ids gather) ∙ ap length (sym e) ∙ length-map lists show in
+    subst P (sym (sym (get_or-map show lists k d (show d) inside) ∙ ap (λ l. get_or l k (show d)) e ∙ get_or-map gather ids k 0 (show d) (omega arith))) (holds (get_or ids k 0))
+
+pub nothing_left : {X : Type 0} (l : List X) → length l ≡ 0 → l ≡ []
+nothing_left [] h = refl
+nothing_left (x ∷ xs) h = absurd (omega arith)
+
+-- the next of some items is one of them
+pub next_inside : {X : Type 0} (all done left rest : List X) (x : X) (P : X → Type 0) → all ≡ done ++ left → left ≡ x ∷ rest → All P all → P x
+next_inside {X} all done left rest x P e f holds =
+    let whole : all ≡ done ++ x ∷ rest = e ∙ ap (λ l. done ++ l) f in
+    subst P (get_or-append_seam done x rest x) (subst (λ (l : List X). P (get_or l (length done) x)) whole (holds (length done) x (omega (arith, ap length whole, length-append done (x ∷ rest)))))

@@ -1,0 +1,13 @@
+use Rattle.std.proofs.Common.{◌≡◌, ◌<◌, ℕ, false, None, length, get_or}
+use Rattle.std.specs.Prelude.{◌&&◌}
+use Rattle.std.specs.Option.{is_some, is_none}
+use Rattle.ac_tables.specs.declared.reader.row.TableRow.{TableRow}
+use Rattle.ac_tables.specs.declared.tables.provider_record.Named.{Named}
+use Rattle.ac_tables.proofs.tables.listing.mark_unknown.Given as goal
+
+abbrev pub invariant-loop-i : goal.invariant-loop-i
+invariant-loop-i l =
+    record {
+      count : length l.marks.items ≡ l.i;
+      done : (k : ℕ) (d : TableRow ℕ Named) → k < l.i → get_or l.marks.items k false ≡ (is_some (get_or l.rows k d).value.parent && is_none (get_or l.parents k None));
+    }

@@ -1,0 +1,21 @@
+-- The world that a cloud stands for.
+use Rattle.std.specs.Prelude.{List, map}
+use Rattle.ac_tables.specs.World.{Provider, Sizes, World}
+use Rattle.ac_base.specs.Names.{trait_bytes}
+use Rattle.ac_tables.specs.Cloud.Entries.{entry_pair}
+use Rattle.ac_tables.specs.Reader.ListsOf.{lists_of}
+use Rattle.ac_tables.specs.Cloud.Numbered.{numbered}
+use Rattle.ac_tables.specs.declared.cloud.Cloud.{Cloud}
+use Rattle.ac_tables.specs.declared.cloud.Counts.{Counts}
+
+-- the sizes that counts tell
+abbrev pub sizes_of : Counts → Sizes
+sizes_of c = record { providers = c.providers; inventories = c.inventories; usages = c.usages; traits = c.traits; aggregates = c.aggregates }
+
+-- the providers of a cloud, in the order of their ids
+unfoldable pub providers_of : Cloud → List Provider
+providers_of cloud = numbered cloud.ids.ids.items cloud.parents.items (map (map entry_pair) (lists_of cloud.entries)) (map (map trait_bytes) (lists_of cloud.traits)) (lists_of cloud.aggregates)
+
+-- the world of a cloud
+abbrev pub world_of : Cloud → World
+world_of cloud = record { providers = providers_of cloud; sizes = sizes_of cloud.counts }

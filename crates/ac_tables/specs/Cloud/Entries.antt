@@ -1,0 +1,17 @@
+-- What an entry shows.
+use Rattle.std.specs.Prelude.{ℕ, List}
+use Rattle.ac_base.specs.Names.{class_bytes}
+use Rattle.ac_tables.specs.World.{UsedInventory}
+use Rattle.ac_tables.specs.declared.cloud.entry.Entry.{Entry}
+
+-- its class
+abbrev pub entry_class : Entry → List ℕ
+entry_class e = class_bytes e.class
+
+-- its inventory, and how much is used
+abbrev pub entry_value : Entry → UsedInventory
+entry_value e = record { inventory = e.inventory; used = e.used }
+
+-- both
+abbrev pub entry_pair : Entry → List ℕ × UsedInventory
+entry_pair e = (entry_class e, entry_value e)

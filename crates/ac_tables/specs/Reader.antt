@@ -1,0 +1,10 @@
+-- The rows of a table, as its reader gathers them.
+pub mod TableRows
+pub mod RecordLaws
+pub mod InventoryRows
+pub mod UsageLaws
+pub mod ProviderLaws
+pub mod Listings
+pub mod ColumnPlaces
+pub mod ListBounds
+pub mod ListsOf

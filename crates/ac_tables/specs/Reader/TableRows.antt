@@ -1,0 +1,96 @@
+-- A table as one flat list of rows.
+use Rattle.std.specs.Prelude.{◌≡◌, ⊤, ℕ, ◌+◌, ◌<◌, ◌≤◌, Bool, true, false, List, [], ◌∷◌, ◌++◌, map, length, min, get_or, slice_index_or, Option, Some, None}
+use Rattle.std.specs.List.{All, AllPairs, list_any}
+use Rattle.std.specs.Ordering.{nat_cmp, ordering_then, is_lt, is_eq}
+use Rattle.std.specs.declared.cmp.Ordering.{Ordering}
+use Rattle.ac_tables.specs.Tables.Checks.{Row, Check, first_failing}
+use Rattle.std.specs.List.Sorted.{IsPermutation, IsSortedBy}
+use Rattle.ac_tables.specs.declared.fault.TableKind.{TableKind}
+use Rattle.ac_tables.specs.declared.fault.TableKind.TheVariants as kind
+use Rattle.ac_tables.specs.declared.reader.row.TableRow.{TableRow}
+
+-- how rows stand to each other, by provider and key
+abbrev pub row_cmp : {K X : Type 0} → (K → K → Ordering) → TableRow K X → TableRow K X → Ordering
+row_cmp cmp a b = ordering_then (nat_cmp a.place b.place) (cmp a.key b.key)
+
+abbrev pub row_lt : {K X : Type 0} → (K → K → Ordering) → TableRow K X → TableRow K X → Bool
+row_lt cmp a b = is_lt (row_cmp cmp a b)
+
+-- two rows are of one provider and key
+abbrev pub row_ties : {K X : Type 0} → (K → K → Ordering) → TableRow K X → TableRow K X → Bool
+row_ties cmp a b = is_eq (row_cmp cmp a b)
+
+-- the least number of an item that ties with the one before it, of the items below a place
+abbrev pub IsLeastBelow : {X : Type 0} → (X → X → Bool) → (X → ℕ) → List X → ℕ → Option ℕ → Type 0
+IsLeastBelow {X} same number xs high None = (k : ℕ) (d : X) → k + 1 < high → same (slice_index_or xs k d) (slice_index_or xs (k + 1) d) ≡ false
+IsLeastBelow {X} same number xs high (Some n) =
+    ((k : ℕ) (d : X) → k + 1 < high → same (slice_index_or xs k d) (slice_index_or xs (k + 1) d) ≡ true → n ≤ number (slice_index_or xs (k + 1) d))
+    × ((k : ℕ) × (k + 1 < high) × ((d : X) → (same (slice_index_or xs k d) (slice_index_or xs (k + 1) d) ≡ true) × (number (slice_index_or xs (k + 1) d) ≡ n)))
+
+abbrev pub IsLeast : {X : Type 0} → (X → X → Bool) → (X → ℕ) → List X → Option ℕ → Type 0
+IsLeast same number xs first = IsLeastBelow same number xs (length xs) first
+
+-- the sooner of two records
+abbrev pub sooner : Option ℕ → ℕ → Option ℕ
+sooner None n = Some n
+sooner (Some m) n = Some (min m n)
+
+abbrev pub IsLeastRepeat : {K X : Type 0} → (K → K → Ordering) → List (TableRow K X) → Option ℕ → Type 0
+IsLeastRepeat {K} {X} cmp rows first = IsLeast (row_ties cmp) (λ (r : TableRow K X). r.number) rows first
+
+-- the record after those that were read has this fault of its own, or there is none
+abbrev pub Stops : (Row → List Check) → List Row → Option TableKind → Type 0
+Stops alone [] None = ⊤
+Stops alone [] (Some kind) = ⊥
+Stops alone (row ∷ rows) None = ⊥
+Stops alone (row ∷ rows) (Some kind) = first_failing (alone row) ≡ Some kind
+
+-- what a row shows
+abbrev pub row_shown : {V K X : Type 0} → (ℕ → K → X → V) → TableRow K X → V
+row_shown shown r = shown r.place r.key r.value
+
+-- some records were read and have no fault of their own; the others are left
+pub record IsReadSoFar {V K X : Type 0} (says : Row → V) (alone : Row → List Check) (shown : ℕ → K → X → V) (count : ℕ) (all left : List Row) (number : ℕ) (rows : List (TableRow K X)) : Type 0 where
+  pub done : List Row
+  pub whole : all ≡ done ++ left
+  pub said : map (row_shown shown) rows ≡ map says done
+  pub fine : All (λ row. first_failing (alone row) ≡ None) done
+  pub numbered : (k : ℕ) (d : TableRow K X) → k < length rows → (get_or rows k d).number ≡ k + 2
+  pub inside : (k : ℕ) (d : TableRow K X) → k < length rows → (get_or rows k d).place < count
+  pub counted : number ≡ length done + 2
+
+-- records were read up to the first that has a fault of its own
+pub record IsReadUpTo {V K X : Type 0} (says : Row → V) (alone : Row → List Check) (shown : ℕ → K → X → V) (count : ℕ) (all : List Row) (rows : List (TableRow K X)) (fault : Option TableKind) : Type 0 where
+  pub left : List Row
+  pub number : ℕ
+  pub so_far : IsReadSoFar says alone shown count all left number rows
+  pub stopped : Stops alone left fault
+
+-- A record's checks are those that it has alone, and that no record before it has its key.
+pub record IsKeyed {V : Type 0} (says : Row → V) (checks : List V → Row → List Check) (alone : Row → List Check) (same : V → V → Bool) : Type 0 where
+  pub fresh : (before : List V) (row : Row) → list_any (same (says row)) before ≡ false → first_failing (checks before row) ≡ first_failing (alone row)
+  pub again : (before : List V) (row : Row) → first_failing (alone row) ≡ None → list_any (same (says row)) before ≡ true → first_failing (checks before row) ≡ Some kind.Duplicate
+  pub first : (before : List Row) (row : Row) (k : TableKind) → All (λ r. first_failing (alone r) ≡ None) before → first_failing (alone row) ≡ Some k
+      → first_failing (checks (map says before) row) ≡ Some k
+
+-- the rows of a table in order; they show what its records say
+pub record IsTable {V K X : Type 0} (cmp : K → K → Ordering) (shown : ℕ → K → X → V) (count : ℕ) (unique : Bool) (said : List V) (rows : List (TableRow K X)) : Type 0 where
+  pub read : List (TableRow K X)
+  pub shows : map (row_shown shown) read ≡ said
+  pub same : IsPermutation read rows
+  pub sorted : IsSortedBy (row_lt cmp) rows
+  pub inside : All (λ r. r.place < count) rows
+  pub numbered : (k : ℕ) (d : TableRow K X) → k < length read → (get_or read k d).number ≡ k + 2
+  pub once : unique ≡ true → AllPairs (λ a b. row_ties cmp a b ≡ false) read
+  pub apart : unique ≡ true → (k : ℕ) (d : TableRow K X) → k + 1 < length rows → row_ties cmp (slice_index_or rows k d) (slice_index_or rows (k + 1) d) ≡ false
+
+-- a place in the list before which all rows are of lower providers, and from which none is
+pub record IsStart {K X : Type 0} (rows : List (TableRow K X)) (place start : ℕ) : Type 0 where
+  pub inside : start ≤ length rows
+  pub below : (k : ℕ) (d : TableRow K X) → k < start → (slice_index_or rows k d).place < place
+  pub above : (k : ℕ) (d : TableRow K X) → start ≤ k → k < length rows → place ≤ (slice_index_or rows k d).place
+
+-- the starts of all providers, and where all rows end
+pub record AreStarts {K X : Type 0} (count : ℕ) (rows : List (TableRow K X)) (starts : List ℕ) : Type 0 where
+  pub sized : length starts ≡ count + 1
+  pub at : (p : ℕ) → p < length starts → IsStart rows p (get_or starts p 0)
