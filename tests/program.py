@@ -52,12 +52,12 @@ def check(*tables):
     return over(['check'], *tables)
 
 
-def toolchain():
-    """The line by which the toolchain names itself."""
+def logic():
+    """The logic of the toolchain, as this names itself."""
     try:
-        return subprocess.run(['rt', 'version'], capture_output=True, text=True, check=True).stdout.strip()
-    except (OSError, subprocess.CalledProcessError):
-        return 'a toolchain that is missing: `rt version` says nothing'
+        return re.search(r'logic \w+', subprocess.run(['rt', 'version'], capture_output=True, text=True, check=True).stdout)[0]
+    except (OSError, subprocess.CalledProcessError, TypeError):
+        return 'logic that is missing: `rt version` names none'
 
 
 def refused(name, words, *says):
@@ -82,7 +82,7 @@ HELP = [
       for name in COMMANDS if name != 'check'),
     *(Case(f'help of {name} tells --after', [name, '--help'], SOME, has=('--after', 'QUERY')) for name in ('candidates', 'tokens')),
     Case('help of verify tells both words', ['verify', '--help'], SOME, has=('QUERY', 'TOKEN')),
-    *(Case(f'version: {word}', [word], f'ac_cli 1.0.0, proved with {toolchain()}\n') for word in ('--version', '-V')),
+    *(Case(f'version: {word}', [word], f"ac_cli 1.0.0, proved with Rattle's {logic()}\n") for word in ('--version', '-V')),
 ]
 
 WORDS = [
@@ -197,7 +197,7 @@ GROWTHS = [
 
 # The calls that take memory, each by itself: those of the libraries, and of the program.
 REFUSALS = [Case(f'each growth refused, in the tests of {name}', ['sh', '-c', f'exec python3 -B tests/refusals.py {name}'], SOME)
-            for name in ('ac_base', 'ac_read_tests', 'ac_search_tests search::', 'ac_search_tests report::', 'ac_run_tests', 'ac_cli')]
+            for name in ('ac_base', 'ac_read_tests', 'ac_search_tests search::', 'ac_search_tests report::', 'ac_run_tests')]
 
 
 def status_of(text):

@@ -1,4 +1,1 @@
-pub mod EnteredCommand
-pub mod FilledRows
-pub mod FilledWalk
 pub mod RanTasks

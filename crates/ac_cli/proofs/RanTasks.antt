@@ -2,7 +2,7 @@
 use Rattle.std.proofs.Common.{◌≡◌, ◌∙◌, ℕ, List, Option, ap, subst}
 use Rattle.ac_query.specs.declared.version.Version.{Version}
 use Rattle.ac_run.specs.Answer.{Task}
-use Rattle.ac_run.specs.declared.job.Command.{Command}
+use Rattle.ac_query.specs.declared.job.Command.{Command}
 use Rattle.ac_tables.specs.declared.read.FiveTables.{FiveTables}
 use Rattle.ac_cli.specs.Program.{Ran, Streams}
 

@@ -2,7 +2,7 @@
 use Rattle.std.specs.Prelude.{◌≡◌, ⊤, List, ℕ, Option, Some, None}
 use Rattle.ac_tables.specs.declared.fault.Table.{Table}
 use Rattle.ac_tables.specs.declared.fault.Table.TheVariants as table
-use Rattle.ac_cli.specs.Words.{Line, path_of}
+use Rattle.ac_words.specs.Words.{Line, path_of}
 use Rattle.ac_tables.specs.declared.read.FiveTables.{FiveTables}
 
 abbrev pub feed_of : {R : Type 0} → FiveTables R → Table → Option R

@@ -13,10 +13,10 @@ use Rattle.ac_run.specs.Feeds.{Bytes, FeedRose, TellBytes}
 use Rattle.ac_run.specs.Lines.{memory_line, output_line, unreadable_line}
 use Rattle.ac_run.specs.Run.{FailsOr, IsAnswered, IsRefused, IsUnread}
 use Rattle.ac_run.specs.Writing.{TakesLine}
-use Rattle.ac_run.specs.declared.job.Command.TheVariants.{Tokens}
+use Rattle.ac_query.specs.declared.job.Command.TheVariants.{Tokens}
 use Rattle.ac_tables.specs.declared.read.FiveTables.{FiveTables}
 use Rattle.ac_cli.specs.Opening.{AreOpened}
-use Rattle.ac_cli.specs.Words.{Line, Says, faults, named, path_of}
+use Rattle.ac_words.specs.Words.{Line, Says, faults, named, path_of}
 
 -- ---- the streams
 

@@ -5,10 +5,10 @@ mod host;
 mod opening;
 mod program;
 mod sample;
-mod words;
 
 use ac_base::ToWrite;
 pub use ac_run::{Command, Inputs, Job, run};
+pub use ac_words::{WordFault, Words, read_words};
 use std::process::ExitCode;
 
 fn main(rt: HostRuntime) -> ExitCode {

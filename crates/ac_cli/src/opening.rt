@@ -1,12 +1,12 @@
 //! The files of the tables.
 ghost use Rattle.std.specs.Prelude.{◌≡◌, IfErr, IfOk, Some, is_some, true};
 ghost use Rattle.ac_cli.specs.Opening.{AreOpened, IsOpened, IsRefusedPath};
-ghost use Rattle.ac_cli.specs.Words.{path_of};
+ghost use Rattle.ac_words.specs.Words.{path_of};
 
 use crate::host::Host;
-use crate::words::Words;
 use ac_run::Inputs;
 use ac_tables::Table;
+use ac_words::Words;
 
 // Opens the file of a table; a refusal is told as the table's.
 fn opened<H: Host>(host: &H, path: &str, table: Table) -> Result<H::File, Table>

@@ -2,15 +2,16 @@
 ghost use Rattle.std.specs.Prelude.{map, option_map, string_bytes};
 ghost use Rattle.std.specs.Io.KnownBytes.{Appends};
 ghost use Rattle.ac_base.specs.Devices.{Rises, TakesPart};
-ghost use Rattle.ac_run.specs.Jobs.{HasToken, task_of};
+ghost use Rattle.ac_query.specs.Jobs.{HasToken};
+ghost use Rattle.ac_run.specs.Jobs.{task_of};
 ghost use Rattle.ac_cli.specs.Program.{EndsForLine, EndsForWords, EndsProgram, IsShown, Ran, RanSample, seen};
 
 use crate::host::{Host, Unworded};
 use crate::opening::opened_inputs;
 use crate::sample;
-use crate::words::{WordFault, Words, read_words};
 use ac_base::{Feed, FromRead, Sink, push_all};
 use ac_run::{Inputs, Job, Refusal, run_gathered, tell};
+use ac_words::{WordFault, Words, read_words};
 use std::alloc::Global;
 
 // Tells a text. What the sink doesn't take of it is dropped.

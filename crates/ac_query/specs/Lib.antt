@@ -8,3 +8,4 @@ pub mod Shown
 pub mod Tokens
 pub mod Laws
 pub mod Located
+pub mod Jobs

@@ -5,6 +5,7 @@
 
 pub mod fault;
 pub mod group;
+pub mod job;
 pub mod laws;
 pub mod locate;
 pub mod query;
@@ -16,6 +17,7 @@ pub mod write;
 
 pub use fault::QueryFault;
 pub use group::{AggregateRule, AnyOf, Group, Need};
+pub use job::{Command, Job};
 pub use query::Query;
 pub use slot::Slot;
 pub use token::{Token, TokenFault};

@@ -9,8 +9,8 @@ use Rattle.ac_run.specs.Jobs.{ExplainsWanted}
 use Rattle.ac_run.specs.Run.{ExplainsOutcome}
 use Rattle.ac_run.specs.declared.refusal.Refusal.{Refusal}
 use Rattle.ac_run.specs.declared.refusal.Refusal.TheVariants as why
-use Rattle.ac_run.specs.declared.job.Command.{Command}
-use Rattle.ac_run.specs.declared.job.Command.TheVariants as command
+use Rattle.ac_query.specs.declared.job.Command.{Command}
+use Rattle.ac_query.specs.declared.job.Command.TheVariants as command
 
 pub keeps : (s : Option (List ℕ)) → Keeps s s
 keeps None = tt

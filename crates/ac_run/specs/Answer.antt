@@ -25,8 +25,8 @@ use Rattle.ac_run.specs.Outputs.{counts, verdict_status, verdict_text}
 use Rattle.ac_run.specs.Explanation.{explanation_status, explanation_text, has_candidate}
 use Rattle.ac_run.specs.Feeds.{Bytes, too_large}
 use Rattle.ac_run.specs.Lines.{too_large_line, record_line, query_line, token_line, memory_line}
-use Rattle.ac_run.specs.declared.job.Command.{Command}
-use Rattle.ac_run.specs.declared.job.Command.TheVariants as command
+use Rattle.ac_query.specs.declared.job.Command.{Command}
+use Rattle.ac_query.specs.declared.job.Command.TheVariants as command
 
 -- what is asked: the query, the version that reads it, and perhaps a token
 pub record Task : Type 0 where

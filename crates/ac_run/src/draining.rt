@@ -6,11 +6,13 @@ ghost use Rattle.ac_tables.specs.Drain.{AllBytes, AreTooMany, most_bytes};
 ghost use Rattle.ac_run.specs.Feeds.{Bytes, TellBytes, RisesIn, too_large};
 ghost use Rattle.ac_run.specs.Draining.{AreTooManyThere, ExplainsDraining, ExplainsReading, GaveAll, texts_shown};
 
-use crate::job::Inputs;
 use crate::refusal::Refusal;
 use ac_base::Feed;
 use ac_tables::{FiveTables, ReadFault, Table, drain};
 use std::alloc::Global;
+
+/// The feeds of the tables.
+pub type Inputs<R> = FiveTables<R>;
 
 /// The bytes of the tables.
 pub type Texts = FiveTables<Vec<u8>>;
@@ -52,7 +54,7 @@ fn drain_some<R: Feed>(
 }
 
 /// Reads all tables to their ends, in their order.
-pub fn read_tables<R: Feed>(alloc: Global, inputs: &mut Inputs<R>) -> Result<Texts, Refusal>
+pub(crate) fn read_tables<R: Feed>(alloc: Global, inputs: &mut Inputs<R>) -> Result<Texts, Refusal>
     ensures bytes { IfOk result (λ texts. (b : Bytes) → TellBytes R.remaining inputs.old b
         → texts_shown texts ≡ b) }
     ensures few { IfOk result (λ texts. too_large (texts_shown texts) ≡ None) }

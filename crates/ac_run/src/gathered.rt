@@ -3,19 +3,21 @@ ghost use Rattle.std.specs.Prelude.{◌≡◌, ◌≢◌, ◌≤◌, Option, opt
 ghost use Rattle.std.specs.Io.KnownBytes.{append_known};
 ghost use Rattle.ac_base.specs.Devices.{Rises};
 ghost use Rattle.ac_base.specs.Gathered.{IsFirstPart};
+ghost use Rattle.ac_query.specs.Jobs.{HasToken};
 ghost use Rattle.ac_tables.specs.declared.fault.Table.{Table};
 ghost use Rattle.ac_run.specs.Answer.{answer};
 ghost use Rattle.ac_run.specs.Feeds.{Bytes, FeedRose, TellBytes};
-ghost use Rattle.ac_run.specs.Jobs.{HasToken, task_of};
+ghost use Rattle.ac_run.specs.Jobs.{task_of};
 ghost use Rattle.ac_run.specs.Lines.{memory_line, output_line};
 ghost use Rattle.ac_run.specs.Run.{FailsOr, IsAnswered, IsRefused, IsTold, IsUnread};
 ghost use Rattle.ac_run.specs.Writing.{TakesLine};
 
-use crate::job::{Inputs, Job};
+use crate::draining::Inputs;
 use crate::refusal::Refusal;
 use crate::running::run;
 use crate::telling::tell;
 use ac_base::{Feed, Gathering, Sink};
+use ac_query::Job;
 use std::alloc::Global;
 
 // How many bytes of output are gathered before they are handed on.

@@ -8,15 +8,15 @@ mod asking;
 mod draining;
 mod explanation;
 pub mod gathered;
-pub mod job;
 mod outputs;
 mod pieces;
 pub mod refusal;
 pub mod running;
 pub mod telling;
 
+pub use ac_query::{Command, Job};
+pub use draining::Inputs;
 pub use gathered::run_gathered;
-pub use job::{Command, Inputs, Job};
 pub use refusal::Refusal;
 pub use running::run;
 pub use telling::tell;

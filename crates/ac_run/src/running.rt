@@ -3,6 +3,7 @@ ghost use Rattle.std.specs.Prelude.{◌≡◌, ◌≢◌, ◌≤◌, IfOk, IfErr
 ghost use Rattle.std.specs.Io.KnownBytes.{Keeps};
 ghost use Rattle.ac_base.specs.Devices.{Rises, TakesPart};
 ghost use Rattle.ac_query.specs.Asked.{slots_of};
+ghost use Rattle.ac_query.specs.Jobs.{HasToken};
 ghost use Rattle.ac_query.specs.Shown.Queries.{asked_of};
 ghost use Rattle.ac_query.specs.Tokens.{ids_of};
 ghost use Rattle.ac_tables.specs.Cloud.CloudWorld.{world_of};
@@ -12,19 +13,17 @@ ghost use Rattle.ac_run.specs.Feeds.{Bytes, FeedRose, TellBytes};
 ghost use Rattle.ac_run.specs.Jobs.{ExplainsWanted, task_of};
 ghost use Rattle.ac_run.specs.Lines.{memory_line, output_line};
 ghost use Rattle.ac_run.specs.Run.{Explains, ExplainsOutcome, FailsOr, IsAnswered, IsRefused, IsUnread, IsWritten};
-ghost use Rattle.ac_run.specs.Jobs.{HasToken};
 ghost use Rattle.ac_run.specs.Writing.{TakesLine};
 
 use crate::answering::{
     read_cloud, write_body, write_counts, write_explanation, write_lines, write_verdict,
 };
 use crate::asking::{read_query, read_token};
-use crate::draining::read_tables;
-use crate::job::{Command, Inputs, Job};
+use crate::draining::{Inputs, read_tables};
 use crate::refusal::Refusal;
 use crate::telling::tell;
 use ac_base::{Feed, Sink};
-use ac_query::{Query, Token};
+use ac_query::{Command, Job, Query, Token};
 use ac_tables::Cloud;
 use std::alloc::Global;
 

@@ -1,6 +1,6 @@
 //! Runs over devices in memory.
 ghost use Rattle.std.specs.Option.{option_map};
-ghost use Rattle.ac_run.specs.Jobs.{HasToken};
+ghost use Rattle.ac_query.specs.Jobs.{HasToken};
 
 use ac_base::{MemFeed, MemSink, Turn};
 use ac_query::Version;

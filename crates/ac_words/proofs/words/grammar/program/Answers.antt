@@ -1,7 +1,7 @@
 use Rattle.std.proofs.Common.{◌≡◌, ◌∙◌, ap, ap₂, codes}
 use Rattle.clap.specs.Words.{App, app_of, new_app, with_subcommand}
-use Rattle.ac_cli.specs.Words.{as_program}
-use Rattle.ac_cli.proofs.words.grammar.program.Goals as goal
+use Rattle.ac_words.specs.Words.{as_program}
+use Rattle.ac_words.proofs.words.grammar.program.Goals as goal
 
 pub returns : goal.returns
 returns c =

@@ -10,12 +10,12 @@ use Rattle.ac_tables.specs.declared.fault.Table.{Table}
 use Rattle.ac_tables.specs.declared.fault.Table.TheVariants.{Providers, Inventories, Usages, Traits, Aggregates}
 use Rattle.ac_query.specs.declared.version.Version.{Version}
 use Rattle.ac_query.specs.declared.version.Version.TheVariants.{V136, V139}
-use Rattle.ac_run.specs.Jobs.{HasToken}
-use Rattle.ac_run.specs.declared.job.Command.{Command}
-use Rattle.ac_run.specs.declared.job.Command.TheVariants.{Check, Candidates, Tokens, Verify, Explain}
-use Rattle.ac_cli.specs.declared.words.WordFault.{WordFault}
-use Rattle.ac_cli.specs.declared.words.WordFault.TheVariants.{Refused, Help, NoMemory}
-use Rattle.ac_cli.specs.declared.words.WordFault.TheVariants as fault
+use Rattle.ac_query.specs.Jobs.{HasToken}
+use Rattle.ac_query.specs.declared.job.Command.{Command}
+use Rattle.ac_query.specs.declared.job.Command.TheVariants.{Check, Candidates, Tokens, Verify, Explain}
+use Rattle.ac_words.specs.declared.words.WordFault.{WordFault}
+use Rattle.ac_words.specs.declared.words.WordFault.TheVariants.{Refused, Help, NoMemory}
+use Rattle.ac_words.specs.declared.words.WordFault.TheVariants as fault
 
 -- ---- what `clap` is told
 

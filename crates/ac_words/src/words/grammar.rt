@@ -2,7 +2,7 @@
 ghost use Rattle.std.specs.Prelude.{◌≡◌, IfOk, false};
 ghost use Rattle.clap.specs.Words.{app_of, rule_of};
 ghost use Rattle.clap.specs.declared.builder.command.Command.TheViews.{out-Command as fields_of};
-ghost use Rattle.ac_cli.specs.Words.{check_app, explain_app, needed_rule, option_rule, program, query_app, search_app, verify_app, with_options, with_tables, word_rule};
+ghost use Rattle.ac_words.specs.Words.{check_app, explain_app, needed_rule, option_rule, program, query_app, search_app, verify_app, with_options, with_tables, word_rule};
 
 use clap::{Arg, Command};
 use std::alloc::{AllocError, Global};
@@ -23,8 +23,8 @@ Example, at the top of the repository:
   ./ac_cli tokens 'resources=VCPU:2' \\
       --providers examples/providers.csv --inventories examples/inventories.csv";
 
-// The program's version, and that of the toolchain by which it is proved, as `rt version` prints it.
-const VERSION: &str = "1.0.0, proved with rattle-kit-13f logic dac8208d650f15bf";
+// The program's version, and the logic by which it is proved, as `rt version` names it: toolchains of several names have it.
+const VERSION: &str = "1.0.0, proved with Rattle's logic dac8208d650f15bf";
 
 // A word that has to be given.
 fn word<'a>(alloc: Global, name: &'a str, shown: &'a str, help: &'a str) -> Arg<'a>
@@ -186,7 +186,7 @@ fn explain<'a>(alloc: Global) -> Result<Command<'a>, AllocError>
 }
 
 // The whole command line.
-pub fn program<'a>(alloc: Global) -> Result<Command<'a>, AllocError>
+pub(super) fn program<'a>(alloc: Global) -> Result<Command<'a>, AllocError>
     ensures { IfOk result (λ c. app_of c ≡ program) }
 {
     let command = Command::new(alloc, "ac_cli")

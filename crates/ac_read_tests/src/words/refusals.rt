@@ -1,7 +1,8 @@
 //! Words read with each growth refused in turn: what they say, or want of memory.
 use super::words_of;
-use crate::words::{Command, Job, Table, WordFault, read_words};
-use ac_query::Version;
+use ac_query::{Command, Job, Version};
+use ac_tables::Table;
+use ac_words::{WordFault, read_words};
 
 #[test]
 fn accepted(rt: HostRuntime) {

@@ -12,7 +12,7 @@ use Rattle.clap.specs.Simple.{Shape}
 use Rattle.clap.specs.Walk.{Held, Names, Outcome, Row, Rule, Step, Text, Waiting, Walk, after_flag, after_step, arg_by_id, arg_by_index, arg_by_long, arg_by_short, attached_value, bundle, bundle_met, bundle_step, default_rows, done, flag_met, has_long, has_row, has_short, idle, is_pending, long_met, long_or_other, next, option, option_met, option_word, plain, plain_word, positional, reacted, reading_by, refused, settled, settled_rows, short_met, short_or_plain, subcommand, subcommand_met, subcommand_or_other, takes_several, takes_values, to_positional, trailing, used_by_id, value, waits, walked, walked_from, with_default, word_met}
 use Rattle.clap.specs.declared.error.ErrorKind.TheVariants as kind
 use Rattle.clap.specs.declared.parser.ValueSource.TheVariants.{DefaultValue}
-use Rattle.ac_cli.proofs.FilledRows.{Filled, KeptOption, asks_or_takes, filled-used, filled-with_values, first_free, kept-find, then_free}
+use Rattle.ac_words.proofs.FilledRows.{Filled, KeptOption, asks_or_takes, filled-used, filled-with_values, first_free, kept-find, then_free}
 
 -- where none of these faults comes, the rows are filled
 abbrev pub Keeps : Kinds → Held → Type 0

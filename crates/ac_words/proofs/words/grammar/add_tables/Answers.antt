@@ -1,6 +1,6 @@
 use Rattle.std.proofs.Common.{◌∙◌, ap₂, refl}
 use Rattle.clap.specs.Words.{with_rule}
-use Rattle.ac_cli.proofs.words.grammar.add_tables.Goals as goal
+use Rattle.ac_words.proofs.words.grammar.add_tables.Goals as goal
 
 pub returns-clause-app : goal.returns-clause-app
 returns-clause-app c =

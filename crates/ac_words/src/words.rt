@@ -1,15 +1,14 @@
 //! The words of a command line, read by `clap`.
 ghost use Rattle.std.specs.Prelude.{◌≡◌, IfErr, IfOk, IsTrue, OnOk, Some, [], map, option_map, string_bytes};
-ghost use Rattle.ac_cli.specs.Words.{Line, Says, Tells, faults, is_taken, named, path_of};
+ghost use Rattle.ac_words.specs.Words.{Line, Says, Tells, faults, is_taken, named, path_of};
 ghost use Rattle.clap.specs.Words.{HasKind, Kinds};
-ghost use Rattle.ac_cli.specs.declared.words.WordFault.TheVariants.{NoMemory};
+ghost use Rattle.ac_words.specs.declared.words.WordFault.TheVariants.{NoMemory};
 
 mod entries;
 mod grammar;
 
-use ac_query::Version;
-pub use ac_run::{Command, Job};
-pub use ac_tables::Table;
+use ac_query::{Command, Job, Version};
+use ac_tables::Table;
 use clap::error::ErrorKind;
 use std::alloc::{AllocError, Global};
 use std::marker::Model;
@@ -121,6 +120,3 @@ pub fn read_words(alloc: Global, words: &[String]) -> Result<Words, WordFault>
         Err(error) => Err(fault_of(alloc, &error)?),
     }
 }
-
-#[cfg(test)]
-mod tests;

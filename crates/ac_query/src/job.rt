@@ -1,6 +1,5 @@
-//! What a run is given: a job, and the feeds of the tables.
-use ac_query::Version;
-use ac_tables::FiveTables;
+//! What is to be done with a query, and for which one.
+use crate::version::Version;
 
 /// What is to be done.
 #[derive(Clone, Copy, Debug, PartialEq, Eq)]
@@ -28,6 +27,3 @@ pub struct Job<'a> {
     /// For `Verify` the token to judge, which is there; for `Candidates` and `Tokens` the one to begin after; none for `Check` and `Explain`.
     pub token: Option<&'a str>,
 }
-
-/// The feeds of the tables.
-pub type Inputs<R> = FiveTables<R>;

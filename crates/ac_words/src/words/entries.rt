@@ -1,10 +1,10 @@
 //! What the matches of `clap` hold.
 ghost use Rattle.std.specs.Prelude.{◌≡◌, ⊤, IfErr, IfOk, None, OnOk, Some, [], is_some, option_map, string_bytes, true};
 ghost use Rattle.clap.specs.Words.{first_of, found_of, rows_of, subcommand_rows_of};
-ghost use Rattle.ac_cli.specs.Words.{HasEntry, HasNeeded, IsComplete, IsMadeOf, Says, Tells, name_of, query_of, token_of, version_faults, version_kinds, version_named, version_of};
+ghost use Rattle.ac_words.specs.Words.{HasEntry, HasNeeded, IsComplete, IsMadeOf, Says, Tells, name_of, query_of, token_of, version_faults, version_kinds, version_named, version_of};
 
-use super::{Command, WordFault, Words, fault_of, grammar};
-use ac_query::Version;
+use super::{WordFault, Words, fault_of, grammar};
+use ac_query::{Command, Version};
 use clap::ArgMatches;
 use clap::error::ErrorKind;
 use std::alloc::{AllocError, Global};
@@ -148,7 +148,7 @@ fn words_with(
 }
 
 // The words of the command that was found.
-pub fn words_of(alloc: Global, matches: &ArgMatches<'_>) -> Result<Words, WordFault>
+pub(super) fn words_of(alloc: Global, matches: &ArgMatches<'_>) -> Result<Words, WordFault>
     requires { IsComplete (subcommand_rows_of matches.now) }
     ensures entries { IfOk result (Says (subcommand_rows_of matches.now)) }
     ensures known { OnOk result (version_faults (subcommand_rows_of matches.now) ≡ []) }

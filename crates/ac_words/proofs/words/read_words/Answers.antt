@@ -6,12 +6,12 @@ use Rattle.clap.specs.Walk.{is_empty}
 use Rattle.clap.specs.Words.{App, Text, fault_of, is_simple, is_simple_and_free, subcommand_of, takes}
 use Rattle.clap.proofs.OnLiterals.{clap_on_literals}
 use Rattle.clap.proofs.SimpleLemmas.{is_nil}
-use Rattle.ac_cli.specs.Words.{IsComplete, Tells, faults, is_taken, named, program, version_faults}
-use Rattle.ac_cli.specs.declared.words.WordFault.{WordFault}
-use Rattle.ac_cli.specs.declared.words.WordFault.TheVariants.{Refused, Help, NoMemory}
-use Rattle.ac_cli.specs.declared.words.WordFault.TheVariants as fault
-use Rattle.ac_cli.proofs.EnteredCommand.{named-complete}
-use Rattle.ac_cli.proofs.words.read_words.Goals as goal
+use Rattle.ac_words.specs.Words.{IsComplete, Tells, faults, is_taken, named, program, version_faults}
+use Rattle.ac_words.specs.declared.words.WordFault.{WordFault}
+use Rattle.ac_words.specs.declared.words.WordFault.TheVariants.{Refused, Help, NoMemory}
+use Rattle.ac_words.specs.declared.words.WordFault.TheVariants as fault
+use Rattle.ac_words.proofs.EnteredCommand.{named-complete}
+use Rattle.ac_words.proofs.words.read_words.Goals as goal
 
 program_simple : is_simple program ≡ true
 unfolding clap_on_literals

@@ -15,12 +15,12 @@ use Rattle.clap.specs.Takes.{is_given}
 use Rattle.clap.specs.Walk.{Held, Names, Outcome, Row, Rule, Step, Text, Waiting, Walk, after_flag, after_step, answers_to, arg_by_index, arg_by_long, bundle, done, finished, idle, is_empty, long_met, long_or_other, next, nothing_held, option, plain, plain_word, positional, refused, rows_after, settled, short_or_plain, subcommand, subcommand_met, subcommand_or_other, to_positional, trailing, value, waits, walk, walk_from, walked, walked_from, word_met}
 use Rattle.clap.proofs.SimpleLemmas.{is_nil}
 use Rattle.clap.proofs.OnLiterals.{clap_on_literals}
-use Rattle.ac_cli.specs.Words.{HasEntry, IsComplete, name_of, named, program, query_of, token_of}
-use Rattle.ac_run.specs.Jobs.{HasToken}
-use Rattle.ac_run.specs.declared.job.Command.{Command}
-use Rattle.ac_run.specs.declared.job.Command.TheVariants.{Check, Candidates, Tokens, Verify, Explain}
-use Rattle.ac_cli.proofs.FilledRows.{Filled, HasValue, asks_or_takes, first_free, then_free}
-use Rattle.ac_cli.proofs.FilledWalk.{keeps-defaults, keeps-settled, keeps-walk}
+use Rattle.ac_words.specs.Words.{HasEntry, IsComplete, name_of, named, program, query_of, token_of}
+use Rattle.ac_query.specs.Jobs.{HasToken}
+use Rattle.ac_query.specs.declared.job.Command.{Command}
+use Rattle.ac_query.specs.declared.job.Command.TheVariants.{Check, Candidates, Tokens, Verify, Explain}
+use Rattle.ac_words.proofs.FilledRows.{Filled, HasValue, asks_or_takes, first_free, then_free}
+use Rattle.ac_words.proofs.FilledWalk.{keeps-defaults, keeps-settled, keeps-walk}
 
 -- ---- the walk stops at no call for help
 

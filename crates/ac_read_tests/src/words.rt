@@ -1,6 +1,7 @@
 //! What the words of a command line answer, and the texts that come with it.
-use crate::words::{Command, Job, Table, WordFault, read_words};
-use ac_query::Version;
+use ac_query::{Command, Job, Version};
+use ac_tables::Table;
+use ac_words::{WordFault, read_words};
 use std::alloc::{AllocError, Global};
 use std::test::Fail;
 

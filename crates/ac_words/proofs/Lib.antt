@@ -1,0 +1,3 @@
+pub mod EnteredCommand
+pub mod FilledRows
+pub mod FilledWalk

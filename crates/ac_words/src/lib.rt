@@ -1,0 +1,6 @@
+//! The words of a command line: what they ask for, and why they are refused.
+#![tactic(auto)]
+
+pub mod words;
+
+pub use words::{WordFault, Words, read_words};
