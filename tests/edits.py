@@ -3,9 +3,9 @@
 lets through.
 
 Edits are tried together, as long as they change different functions: the prover says of each function by itself whether it is proved, and a caller
-knows of it only its contract. So an edit is refused if a function whose body it changes isn't proved for a reason of its own. An edit for which
-this isn't so is tried again alone, as is each that changes something else than bodies: then the crate has to be refused. Either way the edited text has
-to be one that the prover can read.
+knows of it only its contract. So an edit is refused if a function whose body it changes isn't proved for a reason of its own. Where an edit changes
+a constant or a definition, lines `refused: FUNCTION` name the functions that it is about. An edit of which none is refused is tried again alone, as
+is each of which no function is known: then the crate has to be refused. Either way the edited text has to be one that the prover can read.
 
 What the crates stand on has to be built below FOLDER, else in this repository; what `rt check` has kept there is taken up. With --beside the crates
 are awaited: LOG is what `rt ci` writes while it proves them. With --all each edit is named, with what refused it. The last line is `N passed, M failed`."""
@@ -38,6 +38,7 @@ class Edit:
 
     def __init__(self, folder, path):
         self.folder, self.name, self.changes, file, old = folder, os.path.basename(path).removesuffix('.edit'), [], '', ''
+        named = set()
         for line in read(path).splitlines():
             word, _, text = line.partition(': ')
             if word == 'file':
@@ -46,25 +47,36 @@ class Edit:
                 old = text
             elif word.rstrip(':') == 'new':
                 self.changes.append((file, old, text))
+            elif word == 'refused':
+                named.add(re.escape(text) + '$')
+        self.functions = named or self.bodies()
 
     def made(self, texts):
-        """The texts with this edit, or None where it can't be made."""
+        """The texts, by their files, with this edit, or None where it can't be made."""
         texts = dict(texts)
         for file, old, new in self.changes:
-            text = texts.get(file) or read(os.path.join(self.folder, file))
+            text = texts.get(file) or self.text(file)
             if text.count(old) != 1:
                 return None
             texts[file] = text.replace(old, new)
-        return texts
+        return texts if self.changes else None
 
-    def functions(self):
+    def text(self, file):
+        path = os.path.join(self.folder, file)
+        return read(path) if os.path.isfile(path) else ''
+
+    def bodies(self):
         """The functions whose bodies it changes, as patterns of their names, or none where it changes something else too."""
-        found = {function_at(file, read(os.path.join(self.folder, file)), old) for file, old, _ in self.changes}
+        found = {function_at(file, self.text(file), old) for file, old, _ in self.changes}
         return set() if None in found else found
+
+    def among(self, names):
+        """Those of the names that are of a function which it changes."""
+        return sorted(name for name in names if any(re.match(function, name) for function in self.functions))
 
 
 def function_at(file, text, old):
-    """The function in whose body this text stands, as a pattern of its name, or None."""
+    """The function in whose body this text stands, as a pattern of its name, or None. The text is laid out by `rt fmt`."""
     if not file.startswith('src/') or old not in text:
         return None
     lines = text.split('\n')
@@ -72,12 +84,12 @@ def function_at(file, text, old):
     heads = [(place, *found.groups()) for place, line in enumerate(lines[:at]) if (found := re.match(r'( *)(?:pub(?:\(\w+\))? )?fn (\w+)', line))]
     if not heads:
         return None
-    place, indent, name = heads[-1]
-    body = next((it for it in range(place, len(lines)) if lines[it] == indent + '{' or lines[it].endswith(' {') and lines[it][len(indent)] not in ' })'), at)
-    end = next((it for it in range(body, len(lines)) if lines[it] == indent + '}'), body)
-    if not body < at < end:
+    head, indent, name = heads[-1]
+    opens = [place for place in range(head, at) if lines[place] == indent + '{' or lines[place].endswith(' {') and (place == head or lines[place].startswith(indent + ')'))]
+    ends = [place for place in range(head, at) if lines[place] == indent + '}']
+    if not opens or ends:
         return None
-    kinds = re.findall(r'^impl(?:<.*?>)? (?:.* for )?(\w+)', '\n'.join(lines[:place]), re.M) if indent else []
+    kinds = re.findall(r'^impl(?:<.*?>)? (?:.* for )?(\w+)', '\n'.join(lines[:head]), re.M) if indent else []
     module = re.sub(r'^src/|\.rt$', '', file).replace('/', '::')
     path = '' if module in ('lib', 'main') else module + '::'
     return path + (kinds[-1] + r'\w*::' if kinds else '') + name + '$'
@@ -103,8 +115,8 @@ class Crate:
         return [*words, '--antt-project', f'{kit}/rattle/logic/antt-project.json', '--logic-built', f'{kit}/logic_built', '--jobs', '1']
 
 
-def check(crate, command, texts, kept):
-    """What the prover says of the crate with these texts, over what it proved before."""
+def check(crate, command, texts, kept, names=()):
+    """What the prover says of the crate with these texts, or of these functions alone, over what it proved before."""
     with tempfile.TemporaryDirectory(prefix='edit-') as room:
         for part in ('src', 'specs', 'proofs'):
             if os.path.isdir(os.path.join(crate.own, part)):
@@ -112,55 +124,59 @@ def check(crate, command, texts, kept):
         for path, text in texts.items():
             with open(os.path.join(room, path), 'w', encoding='utf-8') as file:
                 file.write(text)
-        ran = subprocess.run([*command, '--incremental', kept], cwd=room, stdin=subprocess.DEVNULL, stdout=subprocess.PIPE, stderr=subprocess.STDOUT,
-                             text=True, errors='replace')
+        only = [word for name in names for word in ('--only', name)]
+        ran = subprocess.run([*command, *only, '--incremental', kept], cwd=room, stdin=subprocess.DEVNULL, stdout=subprocess.PIPE,
+                             stderr=subprocess.STDOUT, text=True, errors='replace')
     return ran.stdout
 
 
+def functions(said):
+    return set(re.findall(r'^fn \w+::(\S+): ', said, re.M))
+
+
 def refused(said):
-    """The functions that aren't proved for a reason of their own."""
+    """The functions that aren't proved for a reason of their own; none where the prover couldn't read the texts."""
+    if UNREAD.search(said) or not re.search(r'^(logic=not-proved|only=)', said, re.M):
+        return set()
     lines = [re.match(r'fn \w+::(\S+): (no proof|not proved)(.*)', line) for line in said.splitlines()]
     return {line[1] for line in lines if line and (line[2] == 'not proved' or CALLS.sub('', line[3]).strip(': '))}
 
 
-def reads(said):
-    return not UNREAD.search(said) and bool(re.search(r'^logic=not-proved', said, re.M))
-
-
 def rounds(edits):
-    """Edits that may be tried together: no two change one function."""
+    """Lists of edits that may be tried together, since no two change one function, each with the texts that they make."""
     found = []
     for edit in edits:
-        wants = edit.functions()
-        place = next((it for it in found if wants and it[1] and not wants & it[1] and edit.made(it[2])), None)
-        if place:
-            place[0].append(edit)
-            place[1] |= wants
-            place[2] = edit.made(place[2])
+        for together, texts in found:
+            taken = {function for other in together for function in other.functions}
+            made = edit.made(texts) if edit.functions and taken and not edit.functions & taken else None
+            if made:
+                together.append(edit)
+                texts.update(made)
+                break
         else:
-            found.append([[edit], wants, edit.made({})])
+            found.append(([edit], edit.made({})))
     return found
 
 
 def tried(crate, command):
-    """For each edit its name, whether it is refused, and by what."""
+    """For each edit its name, and what refuses it; for one that isn't refused nothing, and what the prover says of it. The first check proves the
+    other functions too, and names all; those after it ask of the functions that they change alone."""
     with tempfile.TemporaryDirectory(prefix='edits-') as room:
         kept, before = os.path.join(room, 'kept'), os.path.join(crate.folder, 'out', 'incremental')
         if os.path.isdir(before):
             shutil.copytree(before, kept)
-        whole = check(crate, command, {}, kept)
-        if not re.search(r'^logic=proved', whole, re.M):
-            return [(crate.name, False, f'the crate is not proved: {whole[-300:]}')]
-        found = []
-        for edits, _, texts in rounds(crate.edits):
-            said = check(crate, command, texts, kept) if texts else ''
-            names = refused(said) if reads(said) else set()
+        found = [(edit.name, [], 'it has no text to change, or one that does not stand once in its file') for edit in crate.edits if edit.made({}) is None]
+        known = set()
+        for edits, texts in rounds([edit for edit in crate.edits if edit.made({})]):
+            said = check(crate, command, texts, kept, {name for edit in edits for name in edit.among(known)})
+            known = known or functions(said)
+            names = refused(said)
             for edit in edits:
-                by = sorted(name for name in names if any(re.match(function, name) for function in edit.functions()))
-                alone = '' if by or edit.made({}) is None else said if len(edits) == 1 else check(crate, command, edit.made({}), kept)
-                by = by or sorted(refused(alone)) if by or reads(alone) else []
-                why = by or 'an old text is not there once' if edit.made({}) is None else by or f'not refused: {alone[-300:]}'
-                found.append((edit.name, bool(by), why))
+                by, alone = edit.among(names), ''
+                if not by:
+                    alone = check(crate, command, edit.made({}), kept)
+                    by = sorted(refused(alone))
+                found.append((edit.name, by, f'let through, or not read: {alone[-300:]}'))
     return found
 
 
@@ -194,7 +210,7 @@ def main(given):
         built = below(crate)
         while given.beside and (states := [proved(given.beside, name) for name in built]) and not all(states):
             if None in states:
-                return [(crate.name, False, 'what it stands on is not proved')]
+                return [(crate.name, [], 'what it stands on is not proved')]
             time.sleep(1)
         return tried(crate, crate.words(kit, built))
 
@@ -202,10 +218,10 @@ def main(given):
     count = [0, 0]
     with ThreadPoolExecutor(max(1, (os.cpu_count() or 1) // 2)) as pool:
         for crate, found in zip(wanted, pool.map(work, wanted)):
-            for name, good, by in found:
-                count[not good] += 1
-                if given.all or not good:
-                    print(f'{crate.name}/{name}: {"refused: " + ", ".join(by) if good else by}', flush=True)
+            for name, by, why in found:
+                count[not by] += 1
+                if given.all or not by:
+                    print(f'{crate.name}/{name}: {"refused: " + ", ".join(by) if by else why}', flush=True)
     print(f'{count[0]} passed, {count[1]} failed')
     return 1 if count[1] else 0
 

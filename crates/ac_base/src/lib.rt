@@ -24,6 +24,3 @@ pub use inventory::Inventory;
 pub use memory::Turn;
 pub use name::{ClassName, Names, NoMemory, Suffix, TraitName};
 pub use number::{Ratio, read_count};
-
-#[cfg(test)]
-mod tests;

@@ -1,5 +1,5 @@
 //! A reader and a writer of our own that fail, under the feeds and sinks that stand over them.
-use crate::{Feed, FromRead, Gathering, MemSink, Pull, Push, Sink, ToWrite, Turn, push_all};
+use ac_base::{Feed, FromRead, Gathering, MemSink, Pull, Push, Sink, ToWrite, Turn, push_all};
 use std::alloc::{AllocError, Global};
 use std::io::{self, Error, ErrorKind, Read, Write};
 use std::test::Fail;

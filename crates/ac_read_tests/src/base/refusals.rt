@@ -1,5 +1,5 @@
 //! Each reader that takes memory, run with each of its growths refused in turn: its value, or want of memory.
-use crate::{ClassName, Names, NoMemory, Suffix, TraitName};
+use ac_base::{ClassName, Names, NoMemory, Suffix, TraitName};
 use std::test::Fail;
 
 #[test]

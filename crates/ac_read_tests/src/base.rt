@@ -1,5 +1,5 @@
 //! Worked values, and each reader that takes memory once with ample memory.
-use crate::{ClassName, Inventory, Ratio, Suffix, TraitName};
+use ac_base::{ClassName, Inventory, Ratio, Suffix, TraitName};
 use std::test::Fail;
 
 mod devices;
