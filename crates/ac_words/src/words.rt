@@ -80,7 +80,7 @@ pub enum WordFault {
     Refused(String),
     /// They ask for help: `clap`'s text of it.
     Help(String),
-    /// They ask for the version: the program's, and the toolchain's by which it is proved.
+    /// They ask for the version: that of the program, and the logic in which it is proved.
     Version(String),
     /// A growth was refused.
     NoMemory,
