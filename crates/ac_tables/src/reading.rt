@@ -34,6 +34,9 @@ impl From<AllocError> for ReadFault {
 /// The most bytes of a table.
 const MOST_BYTES: usize = 67_108_864;
 
+/// How many bytes are asked for at once.
+const PIECE: usize = 65_536;
+
 /// How many interrupted calls in a row are borne.
 const MOST_AGAIN: u32 = 1000;
 
@@ -47,7 +50,7 @@ pub fn drain<R: Feed>(alloc: Global, feed: &mut R) -> Result<Vec<u8>, ReadFault>
         → Rises (R.failures feed.old) (R.failures feed.new) }
 {
     let mut bytes = Vec::new(alloc);
-    let mut piece = [0; 4096];
+    let mut piece = [0; PIECE];
     let mut again = 0;
     loop {
         match feed.pull(&mut piece) {

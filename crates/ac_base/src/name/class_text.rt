@@ -4,7 +4,6 @@ ghost use Rattle.std.specs.Option.{option_map};
 ghost use Rattle.ac_base.specs.Texts.{name_value};
 ghost use Rattle.ac_base.specs.Names.{class_bytes};
 
-use super::texts::is_name;
 use super::{ClassName, Names, NoMemory};
 use std::alloc::Global;
 
@@ -26,14 +25,13 @@ impl ClassName {
 
 impl Names {
     /// Reads the name of a resource class as `ClassName::read` does.
-    #[tactic(auto, using(crate::proofs::NameFacts::text_name))]
+    #[tactic(auto, using(crate::proofs::NameFacts::value_named))]
     pub fn class(&mut self, text: &[u8]) -> Result<Option<ClassName>, NoMemory>
         ensures { IfOk result (λ name. option_map class_bytes name ≡ name_value text.now) }
     {
-        if !is_name(text) {
-            return Ok(None);
+        match self.share(text)? {
+            Some(text) => Ok(Some(ClassName { text })),
+            None => Ok(None),
         }
-        let text = self.share(text)?;
-        Ok(Some(ClassName { text }))
     }
 }

@@ -1,10 +1,12 @@
 //! Names that share their texts.
-ghost use Rattle.std.specs.Prelude.{◌≡◌, Some, IfOk};
-ghost use Rattle.ac_base.specs.Texts.{id_value};
+ghost use Rattle.std.specs.Prelude.{◌≡◌, Some, IfOk, IsTrue};
+ghost use Rattle.std.specs.Option.{option_map};
+ghost use Rattle.ac_base.specs.Texts.{id_value, is_name, name_value};
 ghost use Rattle.std.specs.Rc.{rc_str_bytes};
 ghost use Rattle.std.specs.Str.{IsUtf8};
 
 use super::NoMemory;
+use super::texts::is_name;
 use crate::id::Id;
 use std::alloc::Global;
 use std::collections::BTreeSet;
@@ -16,7 +18,7 @@ use std::rc::RcStr;
 pub struct Names {
     alloc: Global,
     texts: BTreeSet<RcStr>,
-    recent: Vec<Option<RcStr>>,
+    recent: Vec<Option<KnownName>>,
     last: Option<ReadId>,
 }
 
@@ -28,12 +30,25 @@ struct ReadId {
     ghost reads: { id_value text ≡ Some id },
 }
 
+// How many names that were read lately are kept, and how many bytes at its end tell a name's slot.
+const SLOTS: usize = 256;
+
+const TOLD_BY: usize = 4;
+
+// The text of a name, which equal names share.
+#[derive(Drop)]
+struct KnownName {
+    text: RcStr,
+    ghost named: { IsTrue (is_name (rc_str_bytes text)) },
+}
+
 // Where a name is kept that was read lately.
 fn slot_of(text: &[u8]) -> usize {
-    match text.last() {
-        Some(last) => (text.len() % 64 * 5 + *last as usize) % 64,
-        None => 0,
+    let mut slot = text.len();
+    for byte in text.iter().rev().take(TOLD_BY) {
+        slot = slot.wrapping_mul(31).wrapping_add(*byte as usize);
     }
+    slot % SLOTS
 }
 
 impl Names {
@@ -86,31 +101,37 @@ impl Names {
     }
 
     // Keeps a name where it is looked for first.
-    fn keep(&mut self, slot: usize, shared: &RcStr) -> Result<(), NoMemory> {
+    fn keep(&mut self, slot: usize, shared: &RcStr) -> Result<(), NoMemory>
+        requires { IsTrue (is_name (rc_str_bytes shared.now)) }
+    {
         if self.recent.is_empty() {
-            for _ in 0..64 {
+            for _ in 0..SLOTS {
                 self.recent.push(None)?;
             }
         }
         if let Some(place) = self.recent.get_mut(slot) {
-            *place = Some(shared.clone()?);
+            let text = shared.clone()?;
+            *place = Some(KnownName { text });
         }
         Ok(())
     }
 
-    // The text that equal names share.
-    pub(super) fn share(&mut self, text: &[u8]) -> Result<RcStr, NoMemory>
-        requires { IsUtf8 text.now }
-        ensures { IfOk result (λ shared. rc_str_bytes shared ≡ text.now) }
+    // The text of a name, which equal names share; every other text is no name.
+    #[tactic(auto, using(crate::proofs::NameFacts::text_name))]
+    pub(super) fn share(&mut self, text: &[u8]) -> Result<Option<RcStr>, NoMemory>
+        ensures { IfOk result (λ name. option_map rc_str_bytes name ≡ name_value text.now) }
     {
         let slot = slot_of(text);
         if let Some(Some(known)) = self.recent.get(slot) {
-            if known.as_str().as_bytes() == text {
-                return Ok(known.clone()?);
+            if known.text.as_str().as_bytes() == text {
+                return Ok(Some(known.text.clone()?));
             }
+        }
+        if !is_name(text) {
+            return Ok(None);
         }
         let shared = self.find(text)?;
         self.keep(slot, &shared)?;
-        Ok(shared)
+        Ok(Some(shared))
     }
 }

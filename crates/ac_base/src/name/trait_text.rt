@@ -4,7 +4,6 @@ ghost use Rattle.std.specs.Option.{option_map};
 ghost use Rattle.ac_base.specs.Texts.{name_value};
 ghost use Rattle.ac_base.specs.Names.{trait_bytes};
 
-use super::texts::is_name;
 use super::{Names, NoMemory, TraitName};
 use std::alloc::Global;
 
@@ -26,14 +25,13 @@ impl TraitName {
 
 impl Names {
     /// Reads the name of a trait as `TraitName::read` does.
-    #[tactic(auto, using(crate::proofs::NameFacts::text_name))]
+    #[tactic(auto, using(crate::proofs::NameFacts::value_named))]
     pub fn trait_name(&mut self, text: &[u8]) -> Result<Option<TraitName>, NoMemory>
         ensures { IfOk result (λ name. option_map trait_bytes name ≡ name_value text.now) }
     {
-        if !is_name(text) {
-            return Ok(None);
+        match self.share(text)? {
+            Some(text) => Ok(Some(TraitName { text })),
+            None => Ok(None),
         }
-        let text = self.share(text)?;
-        Ok(Some(TraitName { text }))
     }
 }

@@ -1,6 +1,7 @@
 -- Parents as places in a list.
-use Rattle.std.specs.List.{position_from}
+use Rattle.std.specs.List.{All, position_from}
 use Rattle.std.specs.Prelude.{◌≡◌, ◌==◌, Some, ℕ, ◌<◌, List, length, get_or, Option, None, IfSome}
+use Rattle.ac_tables.specs.declared.cloud.provider_index.Listed.{Listed}
 
 -- the parent of a place, where it has one
 abbrev pub parent_in : List (Option ℕ) → ℕ → Option ℕ
@@ -25,3 +26,7 @@ rank ids id = position_from (λ p. p == id) 0 ids
 -- every parent is one of the first n places
 abbrev pub AreWithin : ℕ → List (Option ℕ) → Type 0
 AreWithin n parents = (i j : ℕ) → i < n → get_or parents i None ≡ Some j → j < n
+
+-- each provider that is listed stands at its place
+abbrev pub ArePlaced : List ℕ → List Listed → Type 0
+ArePlaced ids listed = All (λ l. (l.place < length ids) × (get_or ids l.place 0 ≡ l.id)) listed

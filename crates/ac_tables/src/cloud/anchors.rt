@@ -151,6 +151,24 @@ fn find_lists(alloc: Global, members: &Members) -> Result<Anchors, AllocError>
     })
 }
 
+// Whether some provider shares.
+fn shares_any(sharing: &[bool]) -> bool
+    ensures { result ≡ false → (j : ℕ) → get_or sharing.now j false ≡ false }
+{
+    sharing.contains(&true)
+}
+
+// No lists, for so many providers.
+fn no_lists(alloc: Global, count: usize) -> Result<Anchors, AllocError>
+    ensures length { IfOk result (λ anchors. length anchors.places.items ≡ count) }
+    ensures none { IfOk result (λ anchors. (j : ℕ) → get_or anchors.places.items j None ≡ None) }
+{
+    Ok(Anchors {
+        lists: Vec::new(alloc),
+        places: vec![in alloc; None; count]?,
+    })
+}
+
 // The lists of all providers.
 pub(crate) fn find_anchors(
     alloc: Global,
@@ -173,6 +191,9 @@ pub(crate) fn find_anchors(
         → is_marked sharing.now (lists_of aggregates.now) j ≡ true
         → IsAlone roots.now (lists_of aggregates.now) j) }
 {
+    if !shares_any(sharing) {
+        return no_lists(alloc, roots.len());
+    }
     let groups = Groups::gather(alloc, roots, aggregates)?;
     let asked = groups.ask(alloc, sharing, aggregates)?;
     let members = Members {

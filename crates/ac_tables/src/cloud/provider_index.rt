@@ -4,7 +4,8 @@ ghost use Rattle.std.specs.List.{All};
 ghost use Rattle.ac_tables.specs.Sorted.{rising};
 ghost use Rattle.ac_tables.specs.Cloud.RisingIds.{IsRising};
 ghost use Rattle.ac_tables.specs.Tables.InventoryTable.{is_one_of};
-ghost use Rattle.ac_tables.specs.Cloud.Places.{rank};
+ghost use Rattle.ac_tables.specs.Cloud.Places.{rank, ArePlaced};
+ghost use Rattle.std.proofs.Props.{props};
 
 use ac_base::Id;
 use std::alloc::{AllocError, Global};
@@ -15,14 +16,50 @@ const BEGINNINGS: usize = 65_536;
 // How many places are looked at where ids begin alike, before all are searched.
 const NEAR: usize = 8;
 
+// A provider as it is listed in its table, with its place.
+#[derive(Clone, Copy)]
+pub(crate) struct Listed {
+    pub(crate) id: Id,
+    pub(crate) place: u32,
+}
+
 #[derive(Drop)]
 pub(crate) struct Ids {
     pub(crate) ids: Vec<Id>,
+    // The providers by the turns in which their table lists them, and the turn of each place: other tables mostly keep that order.
+    listed: Vec<Listed>,
+    turns: Vec<u32>,
     // Where to look first: by the beginning of an id, the first place of an id that begins so. What is found there is checked.
     first: Vec<u16>,
     ghost rising: { IsRising ids.items },
     ghost fit: { All (λ id. id < 2 ^ 128) ids.items },
     ghost few: { length ids.items ≤ 65536 },
+    ghost placed: { ArePlaced ids.items listed.items } by { Prim.hlevel props },
+}
+
+// The providers by their turns.
+fn list_by_turns(alloc: Global, ids: &[Id], turns: &[u32]) -> Result<Vec<Listed>, AllocError>
+    requires few { length ids.now ≤ 65536 }
+    requires turns { length turns.now ≡ length ids.now }
+    ensures { IfOk result (λ listed. ArePlaced ids.now listed.items) }
+{
+    let mut listed = Vec::new(alloc);
+    for place in 0..ids.len() {
+        listed.push(Listed {
+            id: ids[place],
+            place: place as u32,
+        })?;
+    }
+    for place in 0..ids.len() {
+        let turn = turns[place] as usize;
+        if turn < listed.len() {
+            listed[turn] = Listed {
+                id: ids[place],
+                place: place as u32,
+            };
+        }
+    }
+    Ok(listed)
 }
 
 // The first 16 bits of an id.
@@ -46,15 +83,22 @@ fn first_places(alloc: Global, ids: &[Id]) -> Result<Vec<u16>, AllocError>
 }
 
 impl Ids {
-    // Of ids that rise.
-    pub(crate) fn new(alloc: Global, ids: Vec<Id>) -> Result<Ids, AllocError>
+    // Of ids that rise, each with the turn in which it is listed.
+    pub(crate) fn new(alloc: Global, ids: Vec<Id>, turns: Vec<u32>) -> Result<Ids, AllocError>
         requires rising { IsRising ids.items }
         requires fit { All (λ id. id < 2 ^ 128) ids.items }
         requires few { length ids.items ≤ 65536 }
+        requires turns { length turns.items ≡ length ids.items }
         ensures { IfOk result (λ new. new.ids ≡ ids) }
     {
         let first = first_places(alloc, &ids)?;
-        Ok(Ids { ids, first })
+        let listed = list_by_turns(alloc, &ids, &turns)?;
+        Ok(Ids {
+            ids,
+            listed,
+            turns,
+            first,
+        })
     }
 
     // From where on an id may stand.
@@ -92,26 +136,61 @@ impl Ids {
         place < self.ids.len() && self.ids[place] == id
     }
 
-    // The place of a provider, which is looked for at this place and the next one first, then where ids begin as it does.
-    pub(crate) fn find_near(&self, guess: usize, id: Id) -> Option<usize>
-        ensures inside { IfSome result (λ place. place < length self.now.ids.items) }
-        ensures found { IfSome result (λ place. get_or self.now.ids.items place 0 ≡ id) }
-        ensures absent { IfNone result (is_one_of self.now.ids.items id ≡ false) }
-        ensures value { result ≡ rank self.now.ids.items id }
+    // The place of a provider, where it is listed in this turn.
+    fn in_turn(&self, turn: usize, id: Id) -> Option<usize>
+        ensures { IfSome result (λ place. (place < length self.now.ids.items)
+            × (get_or self.now.ids.items place 0 ≡ id)) }
     {
-        if self.is_at(guess, id) {
-            return Some(guess);
+        let listed = *self.listed.get(turn)?;
+        if listed.id == id {
+            Some(listed.place as usize)
+        } else {
+            None
         }
-        let next = guess.wrapping_add(1);
-        if self.is_at(next, id) {
-            return Some(next);
-        }
+    }
+
+    // The place of a provider among the first whose ids begin as its id does.
+    fn find_alike(&self, id: Id) -> Option<usize>
+        ensures { IfSome result (λ place. (place < length self.now.ids.items)
+            × (get_or self.now.ids.items place 0 ≡ id)) }
+    {
         let first = self.first_of(id);
         for place in first..first.saturating_add(NEAR) {
             if self.is_at(place, id) {
                 return Some(place);
             }
         }
-        self.find(id)
+        None
+    }
+
+    // The place of a provider, where it is listed in this turn or the next one, or stands where ids begin as its id does. The turn
+    // becomes that of the provider.
+    fn guess(&self, turn: &mut usize, id: Id) -> Option<usize>
+        ensures { IfSome result (λ place. (place < length self.now.ids.items)
+            × (get_or self.now.ids.items place 0 ≡ id)) }
+    {
+        if let Some(place) = self.in_turn(*turn, id) {
+            return Some(place);
+        }
+        *turn = turn.wrapping_add(1);
+        if let Some(place) = self.in_turn(*turn, id) {
+            return Some(place);
+        }
+        let place = self.find_alike(id)?;
+        *turn = *self.turns.get(place)? as usize;
+        Some(place)
+    }
+
+    // The place of a provider, which is guessed before it is searched for.
+    pub(crate) fn find_near(&self, turn: &mut usize, id: Id) -> Option<usize>
+        ensures inside { IfSome result (λ place. place < length self.now.ids.items) }
+        ensures found { IfSome result (λ place. get_or self.now.ids.items place 0 ≡ id) }
+        ensures absent { IfNone result (is_one_of self.now.ids.items id ≡ false) }
+        ensures value { result ≡ rank self.now.ids.items id }
+    {
+        match self.guess(turn, id) {
+            Some(place) => Some(place),
+            None => self.find(id),
+        }
     }
 }

@@ -40,7 +40,7 @@ pub(crate) fn read_rows<T: Record>(
     let mut row = ByteRecord::new(alloc);
     let mut seen = Seen {
         names: Names::new(alloc),
-        place: 0,
+        turn: 0,
     };
     let mut rows = Vec::new(alloc);
     let mut number = 2u32;

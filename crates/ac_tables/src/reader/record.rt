@@ -15,7 +15,7 @@ use csv::ByteRecord;
 #[derive(Drop)]
 pub(crate) struct Seen {
     pub(crate) names: Names,
-    pub(crate) place: usize,
+    pub(crate) turn: usize,
 }
 
 // A table's record.

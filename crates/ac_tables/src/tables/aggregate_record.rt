@@ -147,11 +147,8 @@ impl Record for AggregateTable {
             Ok(found) => found,
             Err(kind) => return Err(RecordFault::Kind(kind)),
         };
-        match ids.find_near(seen.place, found.provider) {
-            Some(place) => {
-                seen.place = place;
-                Ok((place as u32, found.aggregate, ()))
-            }
+        match ids.find_near(&mut seen.turn, found.provider) {
+            Some(place) => Ok((place as u32, found.aggregate, ())),
             None => Err(RecordFault::Kind(TableKind::UnknownProvider)),
         }
     }

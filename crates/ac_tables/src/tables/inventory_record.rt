@@ -214,11 +214,8 @@ impl Record for InventoryTable {
             Ok(found) => found,
             Err(fault) => return Err(fault),
         };
-        match ids.find_near(seen.place, found.provider) {
-            Some(place) => {
-                seen.place = place;
-                Ok((place as u32, found.class, found.inventory))
-            }
+        match ids.find_near(&mut seen.turn, found.provider) {
+            Some(place) => Ok((place as u32, found.class, found.inventory)),
             None => Err(RecordFault::Kind(TableKind::UnknownProvider)),
         }
     }

@@ -21,22 +21,31 @@ fn keys(alloc: Global, rows: &[TableRow<Id, Named>]) -> Result<Vec<Id>, AllocErr
     rows.iter().map(|row| row.key).collect(alloc)
 }
 
+// The turns in which the table lists its rows.
+fn turns(alloc: Global, rows: &[TableRow<Id, Named>]) -> Result<Vec<u32>, AllocError>
+    ensures { IfOk result (λ turns. length turns.items ≡ length rows.now) }
+{
+    rows.iter()
+        .map(|row| row.number.saturating_sub(2))
+        .collect(alloc)
+}
+
 // The ids of the providers, rising.
 pub(crate) fn find_ids(alloc: Global, rows: &[TableRow<Id, Named>]) -> Result<Ids, AllocError>
     requires { (said : List ProviderRecord) × IsListing said rows.now }
     ensures { IfOk result (λ ids. ids.ids.items ≡ map (λ r. r.key) rows.now) }
 {
     let ids = keys(alloc, rows)?;
-    Ids::new(alloc, ids)
+    let turns = turns(alloc, rows)?;
+    Ids::new(alloc, ids, turns)
 }
 
 // The place of the parent that a row names; it is looked for near the one that was named last.
-fn find_parent(ids: &Ids, guess: &mut usize, parent: Option<Id>) -> Option<u32>
+fn find_parent(ids: &Ids, turn: &mut usize, parent: Option<Id>) -> Option<u32>
     ensures { result ≡ option_and_then (rank ids.now.ids.items) parent }
 {
     let _count = ids.len();
-    let place = ids.find_near(*guess, parent?)?;
-    *guess = place;
+    let place = ids.find_near(turn, parent?)?;
     Some(place as u32)
 }
 
@@ -49,10 +58,10 @@ pub(crate) fn find_parents(
     ensures { IfOk result (λ parents. parents.items
         ≡ map (λ r. option_and_then (rank ids.now.ids.items) r.value.parent) rows.now) }
 {
-    let mut guess = 0usize;
+    let mut turn = 0usize;
     let mut parents = Vec::new(alloc);
     for row in rows {
-        parents.push(find_parent(ids, &mut guess, row.value.parent))?;
+        parents.push(find_parent(ids, &mut turn, row.value.parent))?;
     }
     Ok(parents)
 }

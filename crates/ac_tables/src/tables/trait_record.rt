@@ -162,11 +162,8 @@ impl Record for TraitTable {
             Ok(mark) => mark,
             Err(fault) => return Err(fault),
         };
-        match ids.find_near(seen.place, mark.provider) {
-            Some(place) => {
-                seen.place = place;
-                Ok((place as u32, mark.name, ()))
-            }
+        match ids.find_near(&mut seen.turn, mark.provider) {
+            Some(place) => Ok((place as u32, mark.name, ())),
             None => Err(RecordFault::Kind(TableKind::UnknownProvider)),
         }
     }

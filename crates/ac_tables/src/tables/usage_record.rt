@@ -169,10 +169,9 @@ impl Record for UsageTable {
             Err(fault) => return Err(fault),
         };
         let _count = inventories.ids.len();
-        let Some(place) = inventories.ids.find_near(seen.place, usage.provider) else {
+        let Some(place) = inventories.ids.find_near(&mut seen.turn, usage.provider) else {
             return Err(RecordFault::Kind(TableKind::UnknownProvider));
         };
-        seen.place = place;
         if inventories.lacks(place, &usage.class) {
             return Err(RecordFault::Kind(TableKind::NoInventory));
         }
