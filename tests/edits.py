@@ -8,7 +8,7 @@ a constant or a definition, lines `refused: FUNCTION` name the functions that it
 is each of which no function is known: then the crate has to be refused. Either way the edited text has to be one that the prover can read.
 
 What the crates stand on has to be built below FOLDER, else in this repository; what `rt check` has kept there is taken up. With --beside the crates
-are awaited: LOG is what `rt ci` writes while it proves them. With --all each edit is named, with what refused it. The last line is `N passed, M failed`."""
+are awaited: LOG is what `rt ci` writes while it proves them, and names their functions. With --all each edit is named, with what refused it. The last line is `N passed, M failed`."""
 from __future__ import annotations
 
 import argparse
@@ -92,7 +92,8 @@ def function_at(file, text, old):
     kinds = re.findall(r'^impl(?:<.*?>)? (?:.* for )?(\w+)', '\n'.join(lines[:head]), re.M) if indent else []
     module = re.sub(r'^src/|\.rt$', '', file).replace('/', '::')
     path = '' if module in ('lib', 'main') else module + '::'
-    return path + (kinds[-1] + r'\w*::' if kinds else '') + name + '$'
+    # a method is named after its type, wherever its `impl` stands
+    return (r'(\w+::)*' + kinds[-1] + r'\w*::' if kinds else path) + name + '$'
 
 
 class Crate:
@@ -130,8 +131,8 @@ def check(crate, command, texts, kept, names=()):
     return ran.stdout
 
 
-def functions(said):
-    return set(re.findall(r'^fn \w+::(\S+): ', said, re.M))
+def functions(said, crate):
+    return set(re.findall(rf'^fn {crate.name}::(\S+): ', said, re.M))
 
 
 def refused(said):
@@ -158,18 +159,17 @@ def rounds(edits):
     return found
 
 
-def tried(crate, command):
-    """For each edit its name, and what refuses it; for one that isn't refused nothing, and what the prover says of it. The first check proves the
-    other functions too, and names all; those after it ask of the functions that they change alone."""
+def tried(crate, command, known):
+    """For each edit its name, and what refuses it; for one that isn't refused nothing, and what the prover says of it. A check asks of the functions
+    that it changes alone; where none are known yet, the first one proves the others too, and names all."""
     with tempfile.TemporaryDirectory(prefix='edits-') as room:
         kept, before = os.path.join(room, 'kept'), os.path.join(crate.folder, 'out', 'incremental')
         if os.path.isdir(before):
             shutil.copytree(before, kept)
         found = [(edit.name, [], 'it has no text to change, or one that does not stand once in its file') for edit in crate.edits if edit.made({}) is None]
-        known = set()
         for edits, texts in rounds([edit for edit in crate.edits if edit.made({})]):
             said = check(crate, command, texts, kept, {name for edit in edits for name in edit.among(known)})
-            known = known or functions(said)
+            known = known or functions(said, crate)
             names = refused(said)
             for edit in edits:
                 by, alone = edit.among(names), ''
@@ -208,15 +208,16 @@ def main(given):
 
     def work(crate):
         built = below(crate)
-        while given.beside and (states := [proved(given.beside, name) for name in built]) and not all(states):
+        while given.beside and not all(states := [proved(given.beside, name) for name in [*built, crate.name]]):
             if None in states:
-                return [(crate.name, [], 'what it stands on is not proved')]
+                return [(crate.name, [], 'it is not proved, or what it stands on')]
             time.sleep(1)
-        return tried(crate, crate.words(kit, built))
+        known = functions(read(given.beside), crate) if given.beside else set()
+        return tried(crate, crate.words(kit, built), known)
 
     wanted = [crate for name, crate in crates.items() if crate.edits and (not given.names or name in given.names)]
     count = [0, 0]
-    with ThreadPoolExecutor(max(1, (os.cpu_count() or 1) // 2)) as pool:
+    with ThreadPoolExecutor(max(1, (os.cpu_count() or 1) - 1)) as pool:
         for crate, found in zip(wanted, pool.map(work, wanted)):
             for name, by, why in found:
                 count[not by] += 1

@@ -4,6 +4,7 @@ pub mod Records
 pub mod Sorted
 pub mod Gathered
 pub mod FirstFailing
+pub mod Small
 mod Literals
 pub mod NameFacts
 pub mod StatedWorld

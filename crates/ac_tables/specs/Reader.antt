@@ -2,7 +2,6 @@
 pub mod TableRows
 pub mod RecordLaws
 pub mod InventoryRows
-pub mod UsageLaws
 pub mod ProviderLaws
 pub mod Listings
 pub mod ColumnPlaces

@@ -11,6 +11,7 @@ use Rattle.ac_tables.specs.declared.fault.TableKind.TheVariants as kind
 use Rattle.ac_tables.specs.declared.fault.RecordFault.TheVariants as record_fault
 use Rattle.ac_tables.specs.declared.fault.TableFault.TheVariants as fault
 use Rattle.ac_tables.proofs.Gathered.Progress.{Progress, progress_start, progress_end, progress_fault, progress_more}
+use Rattle.std.proofs.lemmas.List.{append-nil}
 
 -- each of these has a key that none before it has
 abbrev pub Fresh : {V : Type 0} → (V → V → Bool) → List V → List V → Type 0
@@ -18,10 +19,6 @@ Fresh same before [] = Unit {0}
 Fresh same before (v ∷ vs) = (list_any (same v) before ≡ false) × Fresh same (before ++ v ∷ []) vs
 
 module _ {V : Type 0} (t : Table) (says : Row → V) (checks : List V → Row → List Check) (alone : Row → List Check) (same : V → V → Bool) (keyed : IsKeyed says checks alone same) where
-  append-nil : (xs : List V) → xs ++ [] ≡ xs
-  append-nil [] = refl
-  append-nil (x ∷ xs) = ap (λ (r : List V). x ∷ r) (append-nil xs)
-
   -- records with no fault of their own and with different keys have no fault
   walk : (all rows left : List Row) (number : ℕ) (before : List V) → Progress t says checks all (rows ++ left) number before
       → All (λ r. first_failing (alone r) ≡ None) rows → Fresh same before (map says rows) → Progress t says checks all left (number + length rows) (before ++ map says rows)

@@ -7,6 +7,7 @@ use Rattle.ac_tables.specs.declared.fault.RecordFault.{RecordFault}
 use Rattle.ac_tables.specs.declared.fault.RecordFault.TheVariants as record_fault
 use Rattle.ac_tables.specs.declared.fault.TableFault.{TableFault}
 use Rattle.ac_tables.proofs.FirstFailing.{told_none, told_some}
+use Rattle.std.proofs.lemmas.List.{append-nil}
 
 -- The first of these rows say `before`, and none of them has a fault; the others are left.
 pub record Progress {V : Type 0} (t : Table) (value : Row → V) (checks : List V → Row → List Check) (rows left : List Row) (number : ℕ) (before : List V) : Type 0 where
@@ -25,10 +26,6 @@ module _ {V : Type 0} (t : Table) (value : Row → V) (checks : List V → Row �
   unfolding rows_fault
   progress_end rows left number before p e =
       (sym (append-nil before) ∙ ap (λ (x : List Row). before ++ map value x) (sym e) ∙ p.whole, p.ahead ∙ ap (λ (x : List Row). first_failing (record_checks t value checks before x)) e)
-    where
-      append-nil : (xs : List V) → xs ++ [] ≡ xs
-      append-nil [] = refl
-      append-nil (x ∷ xs) = ap (λ (r : List V). x ∷ r) (append-nil xs)
 
   told_cases : (n : ℕ) (cs : List Check) (rest : List (Bool × TableFault)) (e : RecordFault) → TellsKind (first_failing cs) e → Tells (first_failing (told_at t n cs ++ rest)) (fault_at t n e)
   told_cases n cs rest (record_fault.Kind k) h = told_some t n cs rest k h

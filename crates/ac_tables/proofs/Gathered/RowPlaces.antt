@@ -10,6 +10,7 @@ use Rattle.std.proofs.lemmas.List.Sorted.{sorted_far}
 use Rattle.ac_tables.specs.Reader.TableRows.{row_lt}
 use Rattle.ac_tables.specs.declared.reader.row.TableRow.{TableRow}
 use Rattle.ac_tables.proofs.Gathered.RowOrder.{row_weak}
+use Rattle.ac_tables.proofs.Small.{clash}
 
 pub places_rise : {K X : Type 0} (cmp : K → K → Ordering) → IsTotalOrder cmp → (rows : List (TableRow K X)) → IsSortedBy (row_lt cmp) rows → IsNonDecreasingBy (λ (r : TableRow K X). r.place) rows
 places_rise {K} {X} cmp total rows sorted i j d le inside = elim (cases_lt (get_or rows j d).place (get_or rows i d).place) [
@@ -19,6 +20,3 @@ places_rise {K} {X} cmp total rows sorted i j d le inside = elim (cases_lt (get_
       absurd (clash _ (sorted_far (row_lt cmp) (row_weak {X = X} total) rows sorted i j d le inside) below)
   | inr fine ↦ fine
 ]
-  where
-    clash : (b : Bool) → b ≡ false → b ≡ true → ⊥
-    clash b e f = cc

@@ -7,6 +7,7 @@ use Rattle.std.proofs.lemmas.Bool.{cases_lt}
 use Rattle.std.proofs.lemmas.List.{get_or_append_left, get_or_push, length-append}
 use Rattle.ac_tables.specs.Reader.TableRows.{IsStart}
 use Rattle.ac_tables.specs.declared.reader.row.TableRow.{TableRow}
+use Rattle.ac_tables.proofs.Small.{equal, differ}
 
 module _ {X : Type 0} (p : X → Bool) where
   none_kept : (xs : List X) → ((k : ℕ) (d : X) → k < length xs → p (get_or xs k d) ≡ false) → filter p xs ≡ []
@@ -36,12 +37,6 @@ module _ {X : Type 0} (p : X → Bool) where
       rw (low zero x (omega arith))
       (ap (λ n. take n (drop a xs)) less
       ∙ middle_kept xs a b (omega arith) (omega arith) (λ k d h. low (suc k) d (omega arith)) (λ k d h i. mid (suc k) d (omega arith) (omega arith)) (λ k d h i. high (suc k) d (omega arith) (omega arith)))
-
-equal : (a b : ℕ) → a ≡ b → (a == b) ≡ true
-equal a b e = search (arith, rules)
-
-differ : (a b : ℕ) → a ≢ b → (a == b) ≡ false
-differ a b ne = search (arith, rules)
 
 module _ {K X : Type 0} (rows : List (TableRow K X)) where
   -- one more start

@@ -21,6 +21,7 @@ use Rattle.ac_tables.proofs.Places.CloudFacts.{traits_here, aggregates_here, siz
 use Rattle.ac_tables.proofs.Places.AvailableFacts.{root_test, root_here as root_is_here}
 use Rattle.ac_tables.proofs.Sorted.SearchFacts.{no_any}
 use Rattle.ac_tables.proofs.Places.AnchorLists.{rising_filter}
+use Rattle.std.proofs.Math.Bool.{or-false}
 
 -- a test of the items of a list is a test of its places
 any_from : {A : Type 0} (f : A → Bool) (g : ℕ → A) (k : ℕ) (xs : List A) (d : A) → ((i : ℕ) → i < length xs → g (k + i) ≡ get_or xs i d) → list_any f xs ≡ list_any (λ (q : ℕ). f (g q)) (range_with_len k (length xs))
@@ -72,12 +73,8 @@ unfolding IsStrictlySortedBy
 alone x = (tt, tt)
 
 pub one_item : (x n : ℕ) → x < n → (x ∷ []) ≡ filter (λ (r : ℕ). x == r) (range_with_len 0 n)
-one_item x n h = rising_filter n (λ (r : ℕ). x == r) (x ∷ []) (alone x) (λ (r : ℕ). or_none (x == r)) (λ (r : ℕ) (e : (x == r) ≡ true). below x r n h e)
+one_item x n h = rising_filter n (λ (r : ℕ). x == r) (x ∷ []) (alone x) (λ (r : ℕ). or-false (x == r)) (λ (r : ℕ) (e : (x == r) ≡ true). below x r n h e)
   where
-    or_none : (b : Bool) → (b || false) ≡ b
-    or_none true = refl
-    or_none false = refl
-
     below : (x r n : ℕ) → x < n → (x == r) ≡ true → r < n
     below x r n h e = grind (arith, h, e)
 

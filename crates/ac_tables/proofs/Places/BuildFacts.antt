@@ -10,14 +10,12 @@ use Rattle.ac_tables.specs.Cloud.Places.{rank, parent_in, AreWithin, AreParents}
 use Rattle.ac_tables.specs.Tables.ProviderTable.{ProviderRecord, said_parent}
 use Rattle.ac_tables.specs.Tables.InventoryTable.{is_one_of}
 use Rattle.ac_tables.proofs.Trees.PlaceTrees.{steps}
-
-equal_numbers : (a b : ℕ) → (a == b) ≡ true → a ≡ b
-equal_numbers a b h = search (arith, rules)
+use Rattle.ac_tables.proofs.Small.{are_equal}
 
 found : (q k : ℕ) (xs : List ℕ) (j : ℕ) → position_from (λ p. p == q) k xs ≡ Some j → (m : ℕ) × (j ≡ k + m) × (m < length xs) × (get_or xs m 0 ≡ q)
 found q k [] j e = absurd (cc)
 found q k (x ∷ xs) j e = elim (cases_Bool (x == q)) [
-  | inl h ↦ let same : k ≡ j = cc (rw h at e) in (zero, omega (arith, same), omega arith, equal_numbers x q h)
+  | inl h ↦ let same : k ≡ j = cc (rw h at e) in (zero, omega (arith, same), omega arith, are_equal x q h)
   | inr h ↦ let rest = found q (k + 1) xs j (rw h at e) in (suc rest.0, omega (arith, rest.1), omega (arith, rest.2), rest.3)
 ]
 

@@ -18,15 +18,14 @@ use Rattle.ac_tables.specs.declared.fault.Table.TheVariants as table
 use Rattle.ac_tables.specs.declared.fault.TableKind.TheVariants as kind
 use Rattle.ac_tables.proofs.Records.ProviderFaults.{none_fails}
 use Rattle.ac_tables.proofs.Sorted.Rising.{one_of_place}
-
-equal_ids : (a b : ℕ) → (a == b) ≡ true → a ≡ b
-equal_ids a b h = search (arith, rules)
+use Rattle.ac_tables.proofs.Small.{are_equal, or_again, or_swapped, or_grouped}
+use Rattle.std.proofs.Math.Bool.{or-false}
 
 -- a place that was found has that id
 found_at : (q i : ℕ) (xs : List ProviderRecord) (k : ℕ) → position_from (is_at q) i xs ≡ Some k → (m : ℕ) × (k ≡ i + m) × (m < length xs) × ((record_at xs m).id ≡ q)
 found_at q i [] k e = absurd (cc)
 found_at q i (x ∷ xs) k e = elim (cases_Bool (is_at q x)) [
-  | inl h ↦ let same : i ≡ k = cc (rw h at e) in (zero, omega (arith, same), omega arith, equal_ids x.id q h)
+  | inl h ↦ let same : i ≡ k = cc (rw h at e) in (zero, omega (arith, same), omega arith, are_equal x.id q h)
   | inr h ↦ let rest = found_at q (i + 1) xs k (rw h at e) in (suc rest.0, omega (arith, rest.1), omega (arith, rest.2), rest.3)
 ]
 
@@ -37,15 +36,6 @@ place_found all q j e =
     let same : f.0 ≡ j = omega (arith, f.1) in
     (omega (arith, f.1, f.2), subst (λ (m : ℕ). (record_at all m).id ≡ q) same f.3)
 
-swap_or : (a b c : Bool) → (a || (b || c)) ≡ (b || (a || c))
-swap_or true true c = refl
-swap_or true false c = refl
-swap_or false b c = refl
-
-twice_or : (b c : Bool) → (b || c) ≡ (b || (b || c))
-twice_or true c = refl
-twice_or false c = refl
-
 member_insert : (q : ℕ) (xs : List ℕ) (k : ℕ) → is_one_of (insert_key nat_cmp xs k) q ≡ ((k == q) || is_one_of xs q)
 member_insert q [] k = refl
 member_insert q (x ∷ xs) k = by_order (nat_cmp k x) refl (member_insert q xs k)
@@ -55,26 +45,18 @@ member_insert q (x ∷ xs) k = by_order (nat_cmp k x) refl (member_insert q xs k
     by_order Less h rest = refl
     by_order Equal h rest =
         let same : k ≡ x = exact_unsigned k x h in
-        twice_or (x == q) (is_one_of xs q) ∙ ap (λ (y : ℕ). (y == q) || ((x == q) || is_one_of xs q)) (sym same)
-    by_order Greater h rest = ap (λ b. (x == q) || b) rest ∙ swap_or (x == q) (k == q) (is_one_of xs q)
+        or_again (x == q) (is_one_of xs q) ∙ ap (λ (y : ℕ). (y == q) || ((x == q) || is_one_of xs q)) (sym same)
+    by_order Greater h rest = ap (λ b. (x == q) || b) rest ∙ or_swapped (x == q) (k == q) (is_one_of xs q)
 
 member_fold : (q : ℕ) (ks xs : List ℕ) → is_one_of (fold (insert_key nat_cmp) ks xs) q ≡ (is_one_of xs q || is_one_of ks q)
 member_fold q ks [] = refl
 member_fold q ks (x ∷ xs) =
     member_fold q (insert_key nat_cmp ks x) xs ∙ ap (λ b. is_one_of xs q || b) (member_insert q ks x)
-    ∙ swap_or (is_one_of xs q) (x == q) (is_one_of ks q) ∙ assoc (x == q) (is_one_of xs q) (is_one_of ks q)
-  where
-    assoc : (a b c : Bool) → (a || (b || c)) ≡ ((a || b) || c)
-    assoc true b c = refl
-    assoc false b c = refl
+    ∙ or_swapped (is_one_of xs q) (x == q) (is_one_of ks q) ∙ or_grouped (x == q) (is_one_of xs q) (is_one_of ks q)
 
 -- what is in a set
 pub member_rising : (q : ℕ) (xs : List ℕ) → is_one_of (rising nat_cmp xs) q ≡ is_one_of xs q
-member_rising q xs = member_fold q [] xs ∙ or_false (is_one_of xs q)
-  where
-    or_false : (b : Bool) → (b || false) ≡ b
-    or_false true = refl
-    or_false false = refl
+member_rising q xs = member_fold q [] xs ∙ or-false (is_one_of xs q)
 
 position_member : (q k : ℕ) (rows : List ProviderRecord) → is_some (position_from (is_at q) k rows) ≡ is_one_of (map (λ p. p.id) rows) q
 position_member q k [] = refl

@@ -10,6 +10,7 @@ use Rattle.std.proofs.lemmas.List.Folds.{list_any_at}
 use Rattle.std.proofs.lemmas.List.FromFn.{get_or-range_with_len, length-range_with_len}
 use Rattle.ac_tables.specs.Cloud.Anchors.{roots_in, is_met, is_among, meets_at, meets, is_joined, joined, is_joining, is_marked, is_lone, wide, shared_ids, asked_at}
 use Rattle.ac_tables.proofs.Places.AnchorFacts.{filter_range, one_item}
+use Rattle.ac_tables.proofs.Small.{not_false}
 
 first_true : (b : Bool) → (b || false) ≡ true → b ≡ true
 first_true true e = refl
@@ -85,15 +86,11 @@ module _ (roots : List ℕ) (aggregates : List (List ℕ)) (groups : BTreeMap �
   lone_elsewhere : (r : ℕ) → (own == r) ≡ false → (k d : ℕ) → k < length ids → not (lone (get_or ids k d)) ≡ false → met r (get_or ids k d) ≡ false
   lone_elsewhere r apart k d h e = elim (cases_Bool (met r (get_or ids k d))) [
     | inl there ↦ absurd (
-        let one = one_root (roots_in (get nat_cmp groups (get_or ids k d))) own r (was (lone (get_or ids k d)) e) (gathered (get_or ids k d) own ∙ meets_own k d h) (gathered (get_or ids k d) r ∙ there) in
+        let one = one_root (roots_in (get nat_cmp groups (get_or ids k d))) own r (not_false (lone (get_or ids k d)) e) (gathered (get_or ids k d) own ∙ meets_own k d h) (gathered (get_or ids k d) r ∙ there) in
         clash one)
     | inr fine ↦ fine
   ]
     where
-      was : (b : Bool) → not b ≡ false → b ≡ true
-      was true g = refl
-      was false g = absurd (cc)
-
       clash : own ≡ r → ⊥
       clash one = false≢true (sym apart ∙ same own r one)
         where

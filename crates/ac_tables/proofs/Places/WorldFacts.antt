@@ -13,10 +13,7 @@ use Rattle.ac_tables.specs.World.{UsedInventory, Provider, no_provider, provider
 use Rattle.ac_tables.specs.Cloud.Numbered.{numbered_at, numbered}
 use Rattle.ac_tables.proofs.Sorted.Rising.{rank_at}
 use Rattle.ac_tables.proofs.Trees.PlaceTrees.{steps}
-
-range_size : (k n : ℕ) → length (range_with_len k n) ≡ n
-range_size k zero = refl
-range_size k (suc n) = ap suc (range_size (k + 1) n)
+use Rattle.std.proofs.lemmas.List.FromFn.{length-range_with_len}
 
 module _ (ids : List ℕ) (parents : List (Option ℕ)) (entries : List (TextMap UsedInventory)) (traits : List (List (List ℕ))) (aggregates : List (List ℕ)) where
   abbrev all : List Provider
@@ -27,7 +24,7 @@ module _ (ids : List ℕ) (parents : List (Option ℕ)) (entries : List (TextMap
 
   pub numbered_size : length (numbered ids parents entries traits aggregates) ≡ length ids
   unfolding numbered
-  numbered_size = length-map (range_with_len 0 (length ids)) at ∙ range_size 0 (length ids)
+  numbered_size = length-map (range_with_len 0 (length ids)) at ∙ length-range_with_len 0 (length ids)
 
   pub numbered_here : (ix : ℕ) → ix < length ids → provider_at (numbered ids parents entries traits aggregates) ix ≡ numbered_at ids parents entries traits aggregates ix
   unfolding numbered

@@ -16,13 +16,11 @@ use Rattle.ac_tables.specs.declared.fault.TableKind.{TableKind}
 use Rattle.ac_tables.specs.declared.fault.TableFault.TheVariants as fault
 use Rattle.ac_tables.specs.declared.reader.row.TableRow.{TableRow}
 use Rattle.ac_tables.specs.declared.tables.provider_record.Named.{Named}
+use Rattle.ac_tables.proofs.Small.{clash, min_left, min_right, is_min_left, is_min_right}
 
 -- below a place, or at it
 last_or : (i k : ℕ) → k < i + 1 → (k < i) ⊎ (k ≡ i)
 last_or i k h = elim (cases_lt k i) [ inl less ↦ inl less | inr more ↦ inr (omega arith) ]
-
-clash : (b : Bool) → b ≡ false → b ≡ true → ⊥
-clash b e f = cc
 
 module _ (rows : List (TableRow ℕ Named)) (marks : List Bool) (i : ℕ) where
   pub unmarked : (first : Option ℕ) → get_or marks i false ≡ false → IsFirstBelow rows marks i first → IsFirstBelow rows marks (i + 1) first
@@ -52,26 +50,14 @@ module _ (rows : List (TableRow ℕ Named)) (marks : List Bool) (i : ℕ) where
       same_low a b e = omega arith
   marked n (Some m) here at h = (
     (λ k d below is. elim (last_or i k below) [
-      | inl less ↦ low_left m n _ (h.0 k d less is)
-      | inr same ↦ subst (λ (j : ℕ). min m n ≤ (get_or rows j d).number) (sym same) (low_right m n _ (at d))
+      | inl less ↦ min_left m n _ (h.0 k d less is)
+      | inr same ↦ subst (λ (j : ℕ). min m n ≤ (get_or rows j d).number) (sym same) (min_right m n _ (at d))
     ]),
     (elim (cases_lt m n) [
-      | inl less ↦ (h.1.0, omega (arith, h.1.1), h.1.2, λ d. least_left m n _ less (h.1.3 d))
-      | inr more ↦ (i, omega arith, here, λ d. least_right m n _ more (at d))
+      | inl less ↦ (h.1.0, omega (arith, h.1.1), h.1.2, λ d. is_min_left m n _ less (h.1.3 d))
+      | inr more ↦ (i, omega arith, here, λ d. is_min_right m n _ more (at d))
     ]),
   )
-    where
-      low_left : (m n a : ℕ) → m ≤ a → min m n ≤ a
-      low_left m n a h = omega arith
-
-      low_right : (m n a : ℕ) → a ≡ n → min m n ≤ a
-      low_right m n a h = omega arith
-
-      least_left : (m n a : ℕ) → m < n → a ≡ m → a ≡ min m n
-      least_left m n a h e = omega arith
-
-      least_right : (m n a : ℕ) → n ≤ m → a ≡ n → a ≡ min m n
-      least_right m n a h e = omega arith
 
 module _ {X : Type 0} (t : Table) (k : TableKind) (fails : X → Bool) (d : X) where
   pass_none : (n : ℕ) (xs : List X) → ((i : ℕ) → i < length xs → fails (get_or xs i d) ≡ false) → first_failing (pass t k fails n xs) ≡ None

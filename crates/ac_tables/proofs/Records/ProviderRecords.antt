@@ -30,7 +30,7 @@ use Rattle.ac_tables.proofs.Records.Marks.{record_of, said_at, size}
 use Rattle.ac_tables.proofs.Trees.PlaceTrees.{steps}
 use Rattle.ac_tables.proofs.Sorted.Rising.{rank_none}
 use Rattle.ac_tables.proofs.Sorted.SameItems.{same_items, rising_has, has_rising}
-use Rattle.ac_tables.proofs.Sorted.SearchFacts.{map_itself}
+use Rattle.std.proofs.lemmas.List.{map-id}
 use Rattle.ac_tables.proofs.Sorted.SortedSets.{rising_sorted}
 
 abbrev ListingRow : Type 0
@@ -107,7 +107,7 @@ module _ (said : List ProviderRecord) (rows : List ListingRow) (t : IsTable nat_
       let all : List ℕ = map (λ (p : ProviderRecord). p.id) said in
       let moved : IsPermutation (map key t.read) ids = IsPermutation-map key t.read rows t.same in
       same_items (λ (y : ℕ). y) nat_cmp_total ids (rising nat_cmp all)
-      (rw (map_itself ids) keys_rise) (rw (map_itself (rising nat_cmp all)) (rising_sorted nat_cmp_total all))
+      (rw (map-id ids) keys_rise) (rw (map-id (rising nat_cmp all)) (rising_sorted nat_cmp_total all))
       (λ y c. has_rising exact_unsigned all y (subst (λ l. Contains l y) (sym said_ids) (Contains-permutation ids (map key t.read) y (IsPermutation-sym (map key t.read) ids moved) c)))
       (λ y c. Contains-permutation (map key t.read) ids y moved (subst (λ l. Contains l y) said_ids (rising_has exact_unsigned all y c)))
 

@@ -14,7 +14,7 @@ use Rattle.ac_tables.specs.Tables.InventoryTable.{InventoryRecord, provider_name
 use Rattle.ac_tables.specs.Tables.UsageTable.{usage_field_checks}
 use Rattle.ac_tables.specs.Reader.InventoryRows.{inventory_records_shown}
 use Rattle.ac_tables.specs.Reader.RecordLaws.{same_place, eq_turned}
-use Rattle.ac_tables.specs.Reader.UsageLaws.{lone_checks}
+use Rattle.ac_tables.specs.Reader.RecordLaws.{lone_checks}
 use Rattle.ac_tables.specs.declared.reader.row.TableRow.{TableRow}
 use Rattle.ac_tables.specs.declared.fault.TableKind.TheVariants as kind
 use Rattle.ac_tables.proofs.FirstFailing.{append_none}
@@ -55,10 +55,3 @@ module _ (ids : List ℕ) (records : List InventoryRecord) (header row : Row) (i
       → first_failing (usage_field_checks header row ++ lone_checks ids records (id_in header provider_name row) (text_in header class_name row)) ≡ None
   lone_fine there some = fields_fine ∙ rw (there, some) refl
 
-pub not_true : (b : Bool) → not b ≡ true → b ≡ false
-not_true true e = absurd (cc)
-not_true false e = refl
-
-pub not_false : (b : Bool) → not b ≡ false → b ≡ true
-not_false true e = refl
-not_false false e = absurd (cc)

@@ -9,10 +9,7 @@ use Rattle.ac_tables.specs.Reader.TableRows.{IsStart, AreStarts}
 use Rattle.ac_tables.specs.Reader.ListBounds.{AreBounds, list_at, lists_in}
 use Rattle.ac_tables.specs.declared.reader.row.TableRow.{TableRow}
 use Rattle.ac_tables.proofs.Gathered.RowSlices.{start_order, slice_kept}
-
-pub range_size : (k n : ℕ) → length (range_with_len k n) ≡ n
-range_size k zero = refl
-range_size k (suc n) = ap suc (range_size (k + 1) n)
+use Rattle.std.proofs.lemmas.List.FromFn.{length-range_with_len}
 
 pub map_same : {X Y : Type 0} (f g : X → Y) → ((x : X) → f x ≡ g x) → (xs : List X) → map f xs ≡ map g xs
 map_same f g same [] = refl
@@ -54,12 +51,12 @@ map_take f (suc n) (x ∷ xs) = ap (λ l. f x ∷ l) (map_take f n xs)
 module _ {X : Type 0} (items : List X) (starts : List ℕ) where
   pub lists_size : length (lists_in items starts) ≡ length starts - 1
   unfolding lists_in
-  lists_size = length-map (range_with_len 0 (length starts - 1)) (list_at items starts) ∙ range_size 0 (length starts - 1)
+  lists_size = length-map (range_with_len 0 (length starts - 1)) (list_at items starts) ∙ length-range_with_len 0 (length starts - 1)
 
   pub list_here : (p : ℕ) → p < length (lists_in items starts) → get_or (lists_in items starts) p [] ≡ list_at items starts p
   unfolding lists_in
   list_here p h =
-      let inside : p < length starts - 1 = omega (arith, h, length-map (range_with_len 0 (length starts - 1)) (list_at items starts), range_size 0 (length starts - 1)) in
+      let inside : p < length starts - 1 = omega (arith, h, length-map (range_with_len 0 (length starts - 1)) (list_at items starts), length-range_with_len 0 (length starts - 1)) in
       get_or-map-range_with_len (list_at items starts) 0 (length starts - 1) p p [] inside (omega arith)
 
   sum_from : (k n total : ℕ) → ((p : ℕ) → k ≤ p → p < k + n → get_or starts p 0 ≤ get_or starts (p + 1) 0) → ((p : ℕ) → p ≤ k + n → get_or starts p 0 ≤ length items)

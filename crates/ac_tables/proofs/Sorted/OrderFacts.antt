@@ -17,7 +17,9 @@ use Rattle.ac_base.specs.Texts.{text_cmp}
 use Rattle.ac_tables.specs.Sorted.{TextMap, map_of, rising}
 use Rattle.ac_tables.specs.Laws.{IsMapOf, OrderHolds}
 use Rattle.ac_tables.proofs.Places.KinFacts.{member_rising}
-use Rattle.ac_tables.proofs.Sorted.SortedFacts.{again, insert_keys, or_assoc, or_false, swapped}
+use Rattle.ac_tables.proofs.Sorted.SortedFacts.{insert_keys}
+use Rattle.ac_tables.proofs.Small.{or_again, or_grouped, or_swapped}
+use Rattle.std.proofs.Math.Bool.{or-false}
 use Rattle.ac_tables.proofs.Sorted.SortedSets.{empty_sorted, insert_sorted, rising_sorted}
 
 -- ---- names
@@ -32,19 +34,19 @@ module _ (q : List ℕ) where
       by_order : (o : Ordering) → text_cmp k n ≡ o → is_name (insert_key text_cmp names k) ≡ (bytes_eq q k || is_name names)
           → is_name (match_ordering o (k ∷ n ∷ names) (n ∷ names) (n ∷ insert_key text_cmp names k)) ≡ (bytes_eq q k || is_name (n ∷ names))
       by_order Less is later = refl
-      by_order Equal is later = again (bytes_eq q n) (is_name names) ∙ ap (λ t. bytes_eq q t || is_name (n ∷ names)) (sym (exact_bytes k n is))
-      by_order Greater is later = ap (λ b. bytes_eq q n || b) later ∙ swapped (bytes_eq q n) (bytes_eq q k) (is_name names)
+      by_order Equal is later = or_again (bytes_eq q n) (is_name names) ∙ ap (λ t. bytes_eq q t || is_name (n ∷ names)) (sym (exact_bytes k n is))
+      by_order Greater is later = ap (λ b. bytes_eq q n || b) later ∙ or_swapped (bytes_eq q n) (bytes_eq q k) (is_name names)
 
   names_in : (have names : List (List ℕ)) → is_name (fold (insert_key text_cmp) have names) ≡ (is_name names || is_name have)
   names_in have [] = refl
   names_in have (k ∷ names) =
       names_in (insert_key text_cmp have k) names
       ∙ ap (λ b. is_name names || b) (name_after have k)
-      ∙ swapped (is_name names) (bytes_eq q k) (is_name have)
-      ∙ or_assoc (bytes_eq q k) (is_name names) (is_name have)
+      ∙ or_swapped (is_name names) (bytes_eq q k) (is_name have)
+      ∙ or_grouped (bytes_eq q k) (is_name names) (is_name have)
 
   pub name_rising : (names : List (List ℕ)) → is_name (rising text_cmp names) ≡ is_name names
-  name_rising names = names_in [] names ∙ or_false (is_name names)
+  name_rising names = names_in [] names ∙ or-false (is_name names)
 
 -- ---- maps
 abbrev first_or : {X : Type 0} → Option X → Option X → Option X

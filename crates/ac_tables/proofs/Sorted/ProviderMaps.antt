@@ -21,6 +21,7 @@ use Rattle.ac_tables.proofs.Sorted.SortedTies.{ties_adjacent}
 use Rattle.ac_tables.proofs.Gathered.GatheredRows.{ties_equal}
 use Rattle.ac_tables.proofs.Sorted.SameItems.{map_of_entries}
 use Rattle.ac_tables.proofs.Gathered.ProviderRows.{filter_has, has_filter, map_has, has_map, of_provider}
+use Rattle.ac_tables.proofs.Small.{clash}
 
 module _ {V K X : Type 0} (cmp : K → K → Ordering) (total : IsTotalOrder cmp) (text_total : IsTotalOrder text_cmp) (flips : (a b : List ℕ) → eq_by_cmp text_cmp a b ≡ eq_by_cmp text_cmp b a)
     (bytes : K → List ℕ) (same : (a b : K) → cmp a b ≡ text_cmp (bytes a) (bytes b))
@@ -55,9 +56,6 @@ module _ {V K X : Type 0} (cmp : K → K → Ordering) (total : IsTotalOrder cmp
         absurd (clash _ far (sym (ties_equal (row_total {X = X} total) (get_or rows (j - 1) d) (get_or rows j d)) ∙ near))
     | inr fine ↦ fine
   ]
-    where
-      clash : (b : Bool) → b ≡ false → b ≡ true → ⊥
-      clash b e f = cc
 
   passing : (rs : List (TableRow K X)) (k : ℕ) (d : TableRow K X) → k < length (filter here rs) → here (get_or (filter here rs) k d) ≡ true
   passing rs k d inside = (has_filter here rs (get_or (filter here rs) k d) (k, inside, get_or_default (filter here rs) k _ d inside)).1

@@ -9,6 +9,7 @@ use Rattle.std.specs.List.{All, Any, AllByRecursion, Contains, dedup, filter}
 use Rattle.std.specs.List.Sorted.{IsSortedBy, IsNonDecreasingBy, IsStrictlySortedBy}
 use Rattle.std.proofs.lemmas.Bool.{cases_Bool, cases_eq, cases_lt}
 use Rattle.std.proofs.lemmas.Map.Keys.{Less-from_sorted}
+use Rattle.std.proofs.lemmas.List.{map-id}
 use Rattle.std.proofs.lemmas.Cmp.{eq_by_cmp_equiv}
 use Rattle.std.proofs.lemmas.List.Kept.{IsStrictlySortedBy-filter, IsStrictlySortedBy-dedup, Any-dedup, Contains-from_dedup}
 use Rattle.std.proofs.lemmas.List.Sorted.{IsPermutation-sym, Contains-permutation, All-permutation}
@@ -20,10 +21,6 @@ use Rattle.ac_tables.proofs.Gathered.RowOrder.{row_total}
 use Rattle.ac_tables.proofs.Sorted.SortedSets.{rising_sorted}
 use Rattle.ac_tables.proofs.Sorted.SameItems.{same_items, rising_has, has_rising}
 use Rattle.ac_tables.proofs.Gathered.ProviderRows.{filter_has, has_filter, map_has, has_map, of_provider}
-
-map_itself : {X : Type 0} (xs : List X) → map (λ x. x) xs ≡ xs
-map_itself [] = refl
-map_itself (x ∷ xs) = ap (λ l. x ∷ l) (map_itself xs)
 
 passes_all : {X : Type 0} (p : X → Bool) (xs : List X) → AllByRecursion (λ x. p x ≡ true) (filter p xs)
 passes_all p [] = tt
@@ -127,6 +124,6 @@ module _ {V K X Y : Type 0} (cmp : K → K → Ordering) (total : IsTotalOrder c
   shown_set =
       let M : List Y = map shows (filter here t.read) in
       same_items (λ (y : Y). y) order_total (map shows (filter here once)) (rising order M)
-      (rw (map_itself (map shows (filter here once))) set_rises) (rw (map_itself (rising order M)) (rising_sorted order_total M))
+      (rw (map-id (map shows (filter here once))) set_rises) (rw (map-id (rising order M)) (rising_sorted order_total M))
       (λ y c. has_rising exact M y (there y c)) (λ y c. back y (rising_has exact M y c))
       ∙ ap (rising order) (sym (of_provider shown count provider part shows p id whose what t.read read_inside) ∙ ap (λ vs. map part (filter (λ v. provider v == id) vs)) t.shows)

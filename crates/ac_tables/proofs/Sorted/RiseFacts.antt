@@ -21,7 +21,7 @@ use Rattle.ac_tables.specs.declared.reader.row.TableRow.{TableRow}
 use Rattle.ac_tables.specs.declared.tables.inventories.Inventories.{Inventories}
 use Rattle.ac_tables.proofs.Sorted.SortedSets.{rising_sorted}
 use Rattle.ac_tables.proofs.Sorted.SameItems.{keys_inserted}
-use Rattle.ac_tables.proofs.Sorted.SearchFacts.{map_itself}
+use Rattle.std.proofs.lemmas.List.{map-id}
 use Rattle.ac_tables.proofs.Sorted.ListFacts.{all_gathered}
 
 -- what the rows of the inventories show, beside ids that are equal
@@ -58,4 +58,4 @@ names_rise said ids lists e = all_gathered (IsStrictlySortedBy text_cmp) (map tr
 pub aggregates_rise : (said : List AggregateRecord) (ids : List ℕ) (lists : List (List ℕ)) → lists ≡ map (aggregates_of said) ids → All (λ all. IsStrictlySortedBy nat_cmp all) lists
 unfolding aggregates_of
 aggregates_rise said ids lists e =
-    all_gathered (IsStrictlySortedBy nat_cmp) (λ (l : List ℕ). l) (aggregates_of said) lists ids (map_itself lists ∙ e) (λ id. rising_sorted nat_cmp_total (map (λ (m : AggregateRecord). m.aggregate) (filter (λ (m : AggregateRecord). m.provider == id) said)))
+    all_gathered (IsStrictlySortedBy nat_cmp) (λ (l : List ℕ). l) (aggregates_of said) lists ids (map-id lists ∙ e) (λ id. rising_sorted nat_cmp_total (map (λ (m : AggregateRecord). m.aggregate) (filter (λ (m : AggregateRecord). m.provider == id) said)))

@@ -5,12 +5,13 @@ use Rattle.std.specs.Result.{result_ok}
 use Rattle.std.specs.List.{position_from}
 use Rattle.std.specs.Ordering.{nat_cmp}
 use Rattle.std.specs.List.Sorted.{IsBinarySearchResult, IsStrictlySortedBy}
-use Rattle.std.proofs.lemmas.Bool.{cases_Bool, cases_eq}
+use Rattle.std.proofs.lemmas.Bool.{cases_lt, cases_Bool, cases_eq}
 use Rattle.std.proofs.lemmas.List.Sorted.{searched}
 use Rattle.std.proofs.lemmas.Map.Keys.{below_from_sorted}
 use Rattle.ac_tables.specs.Cloud.RisingIds.{IsRising}
 use Rattle.ac_tables.specs.Tables.InventoryTable.{is_one_of}
 use Rattle.ac_tables.specs.Cloud.Places.{rank}
+use Rattle.ac_tables.proofs.Small.{differ}
 
 pub rising_from_sorted : (xs : List ℕ) → IsStrictlySortedBy nat_cmp xs → IsRising xs
 rising_from_sorted xs h i j less inside = below_from_sorted xs i j 0 h less inside
@@ -33,9 +34,6 @@ nowhere [] x h = refl
 nowhere (y ∷ xs) x h =
     let first : (y == x) ≡ false = differ y x (h zero (omega arith)) in
     rw first (nowhere xs x (λ (k : ℕ) (inside : k < length xs). h (suc k) (omega arith)))
-  where
-    differ : (a b : ℕ) → a ≢ b → (a == b) ≡ false
-    differ a b ne = search (arith, rules)
 
 -- the place of a number in a rising list
 pub found_place : (xs : List ℕ) (x : ℕ) (r : Result ℕ ℕ) → IsRising xs → IsBinarySearchResult (λ y. nat_cmp y x) xs r
@@ -47,14 +45,11 @@ pub absent_place : (xs : List ℕ) (x : ℕ) (r : Result ℕ ℕ) → IsRising x
 absent_place xs x (Ok i) h s = tt
 absent_place xs x (Err i) h s =
     let f = searched xs x (Err i) s (at_most xs h) in
-    nowhere xs x (λ (k : ℕ) (inside : k < length xs) (e : get_or xs k 0 ≡ x). differ xs x i k f inside e)
+    nowhere xs x (λ (k : ℕ) (inside : k < length xs) (e : get_or xs k 0 ≡ x). away xs x i k f inside e)
   where
-    differ : (xs : List ℕ) (x i k : ℕ) → (i ≤ length xs) × ((k : ℕ) → k < i → get_or xs k 0 < x) × ((k : ℕ) → i ≤ k → k < length xs → x < get_or xs k 0)
+    away : (xs : List ℕ) (x i k : ℕ) → (i ≤ length xs) × ((k : ℕ) → k < i → get_or xs k 0 < x) × ((k : ℕ) → i ≤ k → k < length xs → x < get_or xs k 0)
         → k < length xs → get_or xs k 0 ≡ x → ⊥
-    differ xs x i k f inside e = elim (below_or k i) [ inl less ↦ omega (arith, f.1 k less, e) | inr more ↦ omega (arith, f.2 k more inside, e) ]
-      where
-        below_or : (k i : ℕ) → (k < i) ⊎ (i ≤ k)
-        below_or k i = search (arith, rules)
+    away xs x i k f inside e = elim (cases_lt k i) [ inl less ↦ omega (arith, f.1 k less, e) | inr more ↦ omega (arith, f.2 k more inside, e) ]
 
 -- what is at a place is there
 pub one_of_place : (xs : List ℕ) (x i : ℕ) → i < length xs → get_or xs i 0 ≡ x → is_one_of xs x ≡ true
@@ -65,11 +60,8 @@ one_of_place (y ∷ xs) x (suc i) h e = elim (cases_Bool (y == x)) [ inl k ↦ r
 position_shift : (x k : ℕ) (xs : List ℕ) → ((i : ℕ) → i < length xs → get_or xs i 0 ≢ x) → position_from (λ p. p == x) k xs ≡ None
 position_shift x k [] h = refl
 position_shift x k (y ∷ xs) h =
-    let first : (y == x) ≡ false = apart y x (h zero (omega arith)) in
+    let first : (y == x) ≡ false = differ y x (h zero (omega arith)) in
     rw first (position_shift x (k + 1) xs (λ (i : ℕ) (inside : i < length xs). h (suc i) (omega arith)))
-  where
-    apart : (a b : ℕ) → a ≢ b → (a == b) ≡ false
-    apart a b ne = search (arith, rules)
 
 position_here : (x k : ℕ) (xs : List ℕ) (i : ℕ) → i < length xs → get_or xs i 0 ≡ x → ((j : ℕ) → j < i → get_or xs j 0 ≢ x) → position_from (λ p. p == x) k xs ≡ Some (k + i)
 position_here x k [] i h e before = absurd (omega (arith, h))
@@ -78,12 +70,9 @@ position_here x k (y ∷ xs) zero h e before =
     let none : k ≡ k + zero = omega arith in
     rw first (ap (λ (n : ℕ). Some n) none)
 position_here x k (y ∷ xs) (suc i) h e before =
-    let first : (y == x) ≡ false = apart y x (before zero (omega arith)) in
+    let first : (y == x) ≡ false = differ y x (before zero (omega arith)) in
     let more : k + 1 + i ≡ k + suc i = omega arith in
     rw first (position_here x (k + 1) xs i (omega arith) e (λ (j : ℕ) (less : j < i). before (suc j) (omega arith)) ∙ ap (λ (n : ℕ). Some n) more)
-  where
-    apart : (a b : ℕ) → a ≢ b → (a == b) ≡ false
-    apart a b ne = search (arith, rules)
 
 -- the place of what is at a place
 pub rank_at : (xs : List ℕ) (x i : ℕ) → IsRising xs → i < length xs → get_or xs i 0 ≡ x → rank xs x ≡ Some i

@@ -15,6 +15,7 @@ use Rattle.std.proofs.lemmas.Map.Keys.{sorted_head, sorted_tail, IsDistinct-head
 use Rattle.ac_tables.specs.Sorted.{rising}
 use Rattle.ac_tables.proofs.Sorted.SortedFacts.{insert_keys}
 use Rattle.ac_tables.proofs.Sorted.SortedSets.{rising_sorted}
+use Rattle.std.proofs.lemmas.List.{append-nil}
 
 module _ {K : Type 0} {R : K → K → Ordering} (o : IsTotalOrder R) where
   never_less : (x : K) → R x x ≡ Less → ⊥
@@ -103,10 +104,6 @@ module _ {K X : Type 0} {R : K → K → Ordering} (o : IsTotalOrder R) where
 
     fold_moves : (m M : List (K × X)) → IsDistinct (eq_by_cmp R) (keys (m ++ M)) → IsPermutation (m ++ M) (fold (λ m p. insert_entry R m p.0 p.1) m M)
     fold_moves m [] d = subst (λ (l : List (K × X)). IsPermutation l m) (sym (append-nil m)) (IsPermutation-refl m)
-      where
-        append-nil : (xs : List (K × X)) → xs ++ [] ≡ xs
-        append-nil [] = refl
-        append-nil (x ∷ xs) = ap (λ (r : List (K × X)). x ∷ r) (append-nil xs)
     fold_moves m (p ∷ M) d =
         let one : IsPermutation (m ++ p ∷ []) (insert_entry R m p.0 p.1) = insert_moves m p.0 p.1 (front_differs m p M d) flips in
         let more : IsPermutation (m ++ p ∷ M) (insert_entry R m p.0 p.1 ++ M) =

@@ -12,6 +12,7 @@ use Rattle.std.proofs.lemmas.List.Folds.{list_any_at}
 use Rattle.std.proofs.lemmas.List.Sorted.{searchable_from_sorted}
 use Rattle.std.proofs.lemmas.Map.Keys.{Less-from_sorted}
 use Rattle.std.proofs.lemmas.Cmp.{alike_right}
+use Rattle.std.proofs.lemmas.Bool.{cases_lt}
 
 -- looking up by equal tests
 pub lookup_same : {K X : Type 0} (p q : K → Bool) (same : (k : K) → p k ≡ q k) (es : List (K × X)) → lookup p es ≡ lookup q es
@@ -41,10 +42,6 @@ any_same p q same (x ∷ xs) = ap₂ (λ a b. a || b) (same x) (any_same p q sam
 pub is_eq_nat : (a b : ℕ) → is_eq (nat_cmp a b) ≡ (b == a)
 is_eq_nat a b = grind arith
 
-pub map_itself : {X : Type 0} (xs : List X) → map (λ x. x) xs ≡ xs
-map_itself [] = refl
-map_itself (x ∷ xs) = ap (λ l. x ∷ l) (map_itself xs)
-
 module _ {X K : Type 0} (key : X → K) {R : K → K → Ordering} (o : IsTotalOrder R) where
   -- an earlier key is below a later one
   below : (xs : List X) (i j : ℕ) (d : X) → IsStrictlySortedBy R (map key xs) → i < j → j < length xs → R (key (get_or xs i d)) (key (get_or xs j d)) ≡ Less
@@ -65,13 +62,10 @@ module _ {X K : Type 0} (key : X → K) {R : K → K → Ordering} (o : IsTotalO
   found xs x (Ok i) h range s = (range, s)
   found xs x (Err i) h range s = λ k d inside.
       let parts = s (searchable_from_sorted o key xs x (in_order xs h)) in
-      elim (below_or k i) [
+      elim (cases_lt k i) [
         | inl less ↦ ap is_eq (parts.0 k d (omega arith) less)
         | inr more ↦ ap is_eq (parts.1 k d more inside)
       ]
-    where
-      below_or : (k i : ℕ) → (k < i) ⊎ (i ≤ k)
-      below_or k i = search (arith, rules)
 
   -- whether a key is there
   pub found_any : (xs : List X) (x : K) (r : Result ℕ ℕ) → Finds xs x r → is_ok r ≡ list_any (λ y. is_eq (R x (key y))) xs

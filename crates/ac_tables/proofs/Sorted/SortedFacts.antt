@@ -14,6 +14,8 @@ use Rattle.std.specs.BTreeMap.{insert_entry, is_at}
 use Rattle.std.specs.BTreeSet.{insert_key}
 use Rattle.ac_base.specs.Texts.{text_cmp}
 use Rattle.ac_tables.specs.Sorted.{TextMap, rising, map_of}
+use Rattle.ac_tables.proofs.Small.{or_again, or_grouped, or_swapped}
+use Rattle.std.proofs.Math.Bool.{or-false}
 
 pub fold_more : {A B : Type 0} (f : B → A → B) (b : B) (xs : List A) (x : A) → fold f b (xs ++ x ∷ []) ≡ f (fold f b xs) x
 fold_more f b [] x = refl
@@ -35,23 +37,6 @@ found_first : {X : Type 0} (b : Bool) (v : X) (o : Option X) → is_some (if b t
 found_first true v o = refl
 found_first false v o = refl
 
-pub again : (b c : Bool) → (b || c) ≡ (b || (b || c))
-again true c = refl
-again false c = refl
-
-pub swapped : (a b c : Bool) → (a || (b || c)) ≡ (b || (a || c))
-swapped true true c = refl
-swapped true false c = refl
-swapped false b c = refl
-
-pub or_assoc : (a b c : Bool) → (a || (b || c)) ≡ ((a || b) || c)
-or_assoc true b c = refl
-or_assoc false b c = refl
-
-pub or_false : (b : Bool) → (b || false) ≡ b
-or_false true = refl
-or_false false = refl
-
 -- whether a key is found
 module _ {X : Type 0} (q : List ℕ) where
   abbrev is_there : TextMap X → Bool
@@ -68,13 +53,13 @@ module _ {X : Type 0} (q : List ℕ) where
       by_order Equal h rest =
           let same : k ≡ e.0 = exact_bytes k e.0 h in
           found_first (is_at (text_cmp q) e.0) v (lookup (is_at (text_cmp q)) es)
-          ∙ again (is_at (text_cmp q) e.0) (is_there es)
+          ∙ or_again (is_at (text_cmp q) e.0) (is_there es)
           ∙ ap (λ b. is_at (text_cmp q) e.0 || b) (sym (found_first (is_at (text_cmp q) e.0) e.1 (lookup (is_at (text_cmp q)) es)))
           ∙ ap (λ x. is_at (text_cmp q) x || is_there (e ∷ es)) (sym same)
       by_order Greater h rest =
           found_first (is_at (text_cmp q) e.0) e.1 (lookup (is_at (text_cmp q)) (insert_entry text_cmp es k v))
           ∙ ap (λ b. is_at (text_cmp q) e.0 || b) rest
-          ∙ swapped (is_at (text_cmp q) e.0) (is_at (text_cmp q) k) (is_there es)
+          ∙ or_swapped (is_at (text_cmp q) e.0) (is_at (text_cmp q) k) (is_there es)
           ∙ ap (λ b. is_at (text_cmp q) k || b) (sym (found_first (is_at (text_cmp q) e.0) e.1 (lookup (is_at (text_cmp q)) es)))
 
   there_in : (m : TextMap X) (pairs : List (List ℕ × X)) → is_there (fold (λ m p. insert_entry text_cmp m p.0 p.1) m pairs) ≡ (list_any (λ p. bytes_eq q p.0) pairs || is_there m)
@@ -82,10 +67,10 @@ module _ {X : Type 0} (q : List ℕ) where
   there_in m (p ∷ pairs) =
       there_in (insert_entry text_cmp m p.0 p.1) pairs
       ∙ ap (λ b. list_any (λ r. bytes_eq q r.0) pairs || b) (there_after m p.0 p.1)
-      ∙ swapped (list_any (λ r. bytes_eq q r.0) pairs) (is_at (text_cmp q) p.0) (is_there m)
+      ∙ or_swapped (list_any (λ r. bytes_eq q r.0) pairs) (is_at (text_cmp q) p.0) (is_there m)
       ∙ ap (λ b. b || (list_any (λ r. bytes_eq q r.0) pairs || is_there m)) (is_eq-slice_cmp q p.0)
-      ∙ or_assoc (bytes_eq q p.0) (list_any (λ r. bytes_eq q r.0) pairs) (is_there m)
+      ∙ or_grouped (bytes_eq q p.0) (list_any (λ r. bytes_eq q r.0) pairs) (is_there m)
 
   -- a key is in the map of some pairs where it is one of theirs
   pub there_of : (pairs : List (List ℕ × X)) → is_some (lookup (is_at (text_cmp q)) (map_of pairs)) ≡ list_any (λ p. bytes_eq q p.0) pairs
-  there_of pairs = there_in [] pairs ∙ or_false (list_any (λ p. bytes_eq q p.0) pairs)
+  there_of pairs = there_in [] pairs ∙ or-false (list_any (λ p. bytes_eq q p.0) pairs)

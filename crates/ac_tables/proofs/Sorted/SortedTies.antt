@@ -10,6 +10,7 @@ use Rattle.std.proofs.lemmas.List.Kept.{AllPairs-filter}
 use Rattle.std.proofs.lemmas.List.Elements.{Contains-get_or, All-head, All-tail}
 use Rattle.std.proofs.lemmas.List.Sorted.{sorted_far, Contains-permutation, IsPermutation-sym}
 use Rattle.ac_tables.specs.Reader.TableRows.{IsLeast}
+use Rattle.ac_tables.proofs.Small.{clash}
 
 module _ {X : Type 0} (lt : X → X → Bool) (o : IsStrictWeakOrder lt) where
   -- neither is less
@@ -127,12 +128,9 @@ module _ {X : Type 0} (lt : X → X → Bool) (number : X → ℕ) (xs ys : List
   no_repeat none i j d less inside = elim (cases_Bool (ties lt (get_or xs i d) (get_or xs j d))) [
     | inl t ↦
         let n = neighbour (get_or xs i d) (get_or xs j d) (Contains-get_or xs i d (omega arith)) (Contains-get_or xs j d inside) (s.rising i j d less inside) t in
-        absurd (apart _ (none n.0 d n.1) (n.2 d).0)
+        absurd (clash _ (none n.0 d n.1) (n.2 d).0)
     | inr f ↦ f
   ]
-    where
-      apart : (b : Bool) → b ≡ false → b ≡ true → ⊥
-      apart b e f = cc
 
   -- the least number of a neighbour that ties is that of the first repeated item
   pub none_sooner : (n : ℕ) → IsLeast (ties lt) number ys (Some n) → (i j : ℕ) (d : X) → i < j → j < length xs → ties lt (get_or xs i d) (get_or xs j d) ≡ true → n ≤ number (get_or xs j d)
@@ -146,10 +144,7 @@ module _ {X : Type 0} (lt : X → X → Bool) (number : X → ℕ) (xs ys : List
   repeated n least = with_head ys (Repeat lt number xs n) (let k = least.1.1 in omega (arith, k)) (λ (d : X). at least.1.0 least.1.1 d ((least.1.2 d).0) ((least.1.2 d).1))
     where
       itself : (x : X) → ties lt x x ≡ true
-      itself x = elim (cases_Bool (lt x x)) [ inl e ↦ absurd (apart (lt x x) (s.weak.one_way x x e) e) | inr e ↦ same_less lt s.weak x x e e ]
-        where
-          apart : (b : Bool) → b ≡ false → b ≡ true → ⊥
-          apart b e f = cc
+      itself x = elim (cases_Bool (lt x x)) [ inl e ↦ absurd (clash (lt x x) (s.weak.one_way x x e) e) | inr e ↦ same_less lt s.weak x x e e ]
 
       at : (k : ℕ) → k + 1 < length ys → (d : X) → ties lt (get_or ys k d) (get_or ys (k + 1) d) ≡ true → number (get_or ys (k + 1) d) ≡ n → Repeat lt number xs n
       at k inside d t e =

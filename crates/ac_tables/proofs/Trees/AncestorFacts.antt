@@ -10,12 +10,8 @@ use Rattle.ac_tables.specs.Cloud.CloudWorld.{providers_of}
 use Rattle.ac_tables.specs.declared.cloud.Cloud.{Cloud}
 use Rattle.ac_tables.proofs.Sorted.Rising.{rising_apart}
 use Rattle.ac_tables.proofs.Places.CloudFacts.{id_here, parent_here, parts}
-
-equal : (a b : ℕ) → a ≡ b → (a == b) ≡ true
-equal a b e = search (arith, rules)
-
-differ : (a b : ℕ) → a ≢ b → (a == b) ≡ false
-differ a b ne = search (arith, rules)
+use Rattle.ac_tables.proofs.Small.{equal, differ}
+use Rattle.std.proofs.Math.Bool.{or-false}
 
 -- a provider is in its own chain
 pub chain_here : (parent : ℕ → Option ℕ) (k a b : ℕ) → (b == a) ≡ true → is_in_chain parent k a b ≡ true
@@ -32,11 +28,7 @@ pub chain_goes : (parent : ℕ → Option ℕ) (k a b p : ℕ) → (b == a) ≡ 
 chain_goes parent k a b p e some = rw (e, some) refl
 
 pub chain_last : (parent : ℕ → Option ℕ) (a b : ℕ) → is_in_chain parent zero a b ≡ (b == a)
-chain_last parent a b = or_false (b == a)
-  where
-    or_false : (x : Bool) → (x || false) ≡ x
-    or_false true = refl
-    or_false false = refl
+chain_last parent a b = or-false (b == a)
 
 -- places are equal where their ids are
 pub same_test : (c : Cloud) (i j : ℕ) → i < length c.ids.ids.items → j < length c.ids.ids.items → (id_at (providers_of c) i == id_at (providers_of c) j) ≡ (i == j)

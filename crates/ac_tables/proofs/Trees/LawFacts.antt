@@ -10,10 +10,7 @@ use Rattle.ac_tables.specs.Laws.{ChainIsAbove, CloudIsForest, TopIsRoot}
 use Rattle.ac_tables.proofs.Trees.PlaceTrees.{above_climb}
 use Rattle.ac_tables.proofs.Trees.AncestorFacts.{chain_here, chain_ends, chain_goes, chain_last}
 use Rattle.ac_tables.proofs.Places.CloudFacts.{inside, parent_here, root_here, root_inside, parts}
-
-some_or_none : (o : Option ℕ) → ((q : ℕ) × (o ≡ Some q)) ⊎ (o ≡ None)
-some_or_none None = inr refl
-some_or_none (Some q) = inl (q, refl)
+use Rattle.ac_tables.proofs.Small.{some_or_none}
 
 none_is : (o : Option ℕ) → is_some o ≡ false → o ≡ None
 none_is None e = refl

@@ -6,10 +6,7 @@ use Rattle.ac_tables.specs.Cloud.Places.{parent_in, along, AreWithin}
 use Rattle.ac_tables.specs.Trees.{is_in_chain}
 use Rattle.ac_tables.specs.Cloud.Visits.{AreVisits, IsPlaced}
 use Rattle.ac_tables.proofs.Trees.AncestorFacts.{chain_here, chain_ends, chain_goes, chain_last}
-
-some_or_none : (o : Option ℕ) → ((q : ℕ) × (o ≡ Some q)) ⊎ (o ≡ None)
-some_or_none None = inr refl
-some_or_none (Some q) = inl (q, refl)
+use Rattle.ac_tables.proofs.Small.{some_or_none}
 
 three : (x y : ℕ) → (x < y) ⊎ ((x ≡ y) ⊎ (y < x))
 three x y = search (arith, rules)

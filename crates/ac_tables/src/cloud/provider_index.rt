@@ -16,6 +16,28 @@ const BEGINNINGS: usize = 65_536;
 // How many places are looked at where ids begin alike, before all are searched.
 const NEAR: usize = 8;
 
+// How many guesses of the next provider may fail in a row before none is made any more.
+const MOST_FAILED: u32 = 16;
+
+// Which provider a row is expected to be of: that of the row before, or the next one in the table of providers.
+#[derive(Clone, Copy, Drop)]
+pub(crate) struct Expected {
+    place: usize,
+    turn: usize,
+    failed: u32,
+}
+
+impl Expected {
+    // The first provider of the table.
+    pub(crate) fn new() -> Expected {
+        Expected {
+            place: 0,
+            turn: usize::MAX,
+            failed: 0,
+        }
+    }
+}
+
 // A provider as it is listed in its table, with its place.
 #[derive(Clone, Copy)]
 pub(crate) struct Listed {
@@ -149,6 +171,24 @@ impl Ids {
         }
     }
 
+    // The place of a provider, where it is listed after the one before.
+    fn find_next(&self, expected: &mut Expected, id: Id) -> Option<usize>
+        ensures { IfSome result (λ place. (place < length self.now.ids.items)
+            × (get_or self.now.ids.items place 0 ≡ id)) }
+    {
+        if expected.failed == MOST_FAILED {
+            return None;
+        }
+        let turn = expected.turn.wrapping_add(1);
+        let place = self.in_turn(turn, id)?;
+        *expected = Expected {
+            place,
+            turn,
+            failed: 0,
+        };
+        Some(place)
+    }
+
     // The place of a provider among the first whose ids begin as its id does.
     fn find_alike(&self, id: Id) -> Option<usize>
         ensures { IfSome result (λ place. (place < length self.now.ids.items)
@@ -163,32 +203,42 @@ impl Ids {
         None
     }
 
-    // The place of a provider, where it is listed in this turn or the next one, or stands where ids begin as its id does. The turn
-    // becomes that of the provider.
-    fn guess(&self, turn: &mut usize, id: Id) -> Option<usize>
+    // What is expected after a provider that was not.
+    fn expect(&self, expected: &mut Expected, place: usize) {
+        expected.place = place;
+        if expected.failed < MOST_FAILED {
+            expected.failed += 1;
+            if let Some(turn) = self.turns.get(place) {
+                expected.turn = *turn as usize;
+            }
+        }
+    }
+
+    // The place of a provider, where it is the expected one, or stands where ids begin as its id does.
+    fn guess(&self, expected: &mut Expected, id: Id) -> Option<usize>
         ensures { IfSome result (λ place. (place < length self.now.ids.items)
             × (get_or self.now.ids.items place 0 ≡ id)) }
     {
-        if let Some(place) = self.in_turn(*turn, id) {
+        let place = expected.place;
+        if self.is_at(place, id) {
             return Some(place);
         }
-        *turn = turn.wrapping_add(1);
-        if let Some(place) = self.in_turn(*turn, id) {
+        if let Some(place) = self.find_next(expected, id) {
             return Some(place);
         }
         let place = self.find_alike(id)?;
-        *turn = *self.turns.get(place)? as usize;
+        self.expect(expected, place);
         Some(place)
     }
 
     // The place of a provider, which is guessed before it is searched for.
-    pub(crate) fn find_near(&self, turn: &mut usize, id: Id) -> Option<usize>
+    pub(crate) fn find_near(&self, expected: &mut Expected, id: Id) -> Option<usize>
         ensures inside { IfSome result (λ place. place < length self.now.ids.items) }
         ensures found { IfSome result (λ place. get_or self.now.ids.items place 0 ≡ id) }
         ensures absent { IfNone result (is_one_of self.now.ids.items id ≡ false) }
         ensures value { result ≡ rank self.now.ids.items id }
     {
-        match self.guess(turn, id) {
+        match self.guess(expected, id) {
             Some(place) => Some(place),
             None => self.find(id),
         }

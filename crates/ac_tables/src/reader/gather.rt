@@ -7,6 +7,7 @@ ghost use Rattle.ac_tables.specs.Drain.{most_bytes};
 ghost use Rattle.ac_tables.specs.Reader.TableRows.{IsReadUpTo, IsLeastRepeat, IsTable};
 ghost use Rattle.ac_tables.specs.Tables.Rows.{IsReading, rows_left, records_of};
 
+use crate::cloud::provider_index::Expected;
 use crate::fault::{RecordFault, TableFault, TableKind};
 use crate::reader::header::open_table;
 use crate::reader::record::{Record, Seen};
@@ -40,7 +41,7 @@ pub(crate) fn read_rows<T: Record>(
     let mut row = ByteRecord::new(alloc);
     let mut seen = Seen {
         names: Names::new(alloc),
-        turn: 0,
+        expected: Expected::new(),
     };
     let mut rows = Vec::new(alloc);
     let mut number = 2u32;

@@ -7,6 +7,7 @@ ghost use Rattle.ac_tables.specs.Reader.TableRows.{IsKeyed};
 ghost use Rattle.ac_tables.specs.Tables.Checks.{Row, Check, first_failing, TellsKind};
 ghost use Rattle.ac_tables.specs.Tables.Columns.{bytes_of};
 
+use crate::cloud::provider_index::Expected;
 use crate::fault::{RecordFault, Table};
 use ac_base::Names;
 use csv::ByteRecord;
@@ -15,7 +16,7 @@ use csv::ByteRecord;
 #[derive(Drop)]
 pub(crate) struct Seen {
     pub(crate) names: Names,
-    pub(crate) turn: usize,
+    pub(crate) expected: Expected,
 }
 
 // A table's record.

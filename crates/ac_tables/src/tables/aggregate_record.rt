@@ -147,7 +147,7 @@ impl Record for AggregateTable {
             Ok(found) => found,
             Err(kind) => return Err(RecordFault::Kind(kind)),
         };
-        match ids.find_near(&mut seen.turn, found.provider) {
+        match ids.find_near(&mut seen.expected, found.provider) {
             Some(place) => Ok((place as u32, found.aggregate, ())),
             None => Err(RecordFault::Kind(TableKind::UnknownProvider)),
         }

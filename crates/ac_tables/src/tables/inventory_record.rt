@@ -6,7 +6,7 @@ ghost use Rattle.ac_tables.specs.Tables.Checks.{first_failing, unless, TellsKind
 ghost use Rattle.ac_tables.specs.Tables.Columns.{id_in, text_in};
 ghost use Rattle.ac_tables.specs.Tables.InventoryTable.{provider_name, class_name, numbers_said, number_checks, inventory_field_checks, InventoryRecord, inventory_columns, inventory_said, inventory_record_checks, known_checks, is_inventory_of};
 ghost use Rattle.ac_tables.specs.Reader.ColumnPlaces.{inventory_places};
-ghost use Rattle.ac_tables.specs.Reader.RecordLaws.{inventories_keyed, inventories_apart};
+ghost use Rattle.ac_tables.specs.Reader.RecordLaws.{inventories_keyed, keys_apart};
 ghost use Rattle.ac_tables.specs.declared.fault.Table.TheVariants as table;
 
 use crate::cloud::provider_index::Ids;
@@ -214,7 +214,7 @@ impl Record for InventoryTable {
             Ok(found) => found,
             Err(fault) => return Err(fault),
         };
-        match ids.find_near(&mut seen.turn, found.provider) {
+        match ids.find_near(&mut seen.expected, found.provider) {
             Some(place) => Ok((place as u32, found.class, found.inventory)),
             None => Err(RecordFault::Kind(TableKind::UnknownProvider)),
         }
@@ -222,5 +222,5 @@ impl Record for InventoryTable {
 
     ghost keyed = { λ ids header. inventories_keyed ids.ids.items header };
 
-    ghost apart = { λ ids. inventories_apart ids.ids.items ids.rising };
+    ghost apart = { λ ids. keys_apart ids.ids.items ids.rising };
 }

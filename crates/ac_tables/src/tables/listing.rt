@@ -7,7 +7,7 @@ ghost use Rattle.ac_tables.specs.Tables.ProviderTable.{ProviderRecord};
 ghost use Rattle.ac_tables.specs.declared.reader.row.TableRow.{TableRow as ListingRow};
 ghost use Rattle.ac_tables.specs.declared.tables.provider_record.Named.{Named as NamedShown};
 
-use crate::cloud::provider_index::Ids;
+use crate::cloud::provider_index::{Expected, Ids};
 use crate::fault::{Table, TableFault, TableKind};
 use crate::reader::row::{TableRow, sooner};
 use crate::tables::provider_record::Named;
@@ -41,11 +41,11 @@ pub(crate) fn find_ids(alloc: Global, rows: &[TableRow<Id, Named>]) -> Result<Id
 }
 
 // The place of the parent that a row names; it is looked for near the one that was named last.
-fn find_parent(ids: &Ids, turn: &mut usize, parent: Option<Id>) -> Option<u32>
+fn find_parent(ids: &Ids, expected: &mut Expected, parent: Option<Id>) -> Option<u32>
     ensures { result ≡ option_and_then (rank ids.now.ids.items) parent }
 {
     let _count = ids.len();
-    let place = ids.find_near(turn, parent?)?;
+    let place = ids.find_near(expected, parent?)?;
     Some(place as u32)
 }
 
@@ -58,10 +58,10 @@ pub(crate) fn find_parents(
     ensures { IfOk result (λ parents. parents.items
         ≡ map (λ r. option_and_then (rank ids.now.ids.items) r.value.parent) rows.now) }
 {
-    let mut turn = 0usize;
+    let mut expected = Expected::new();
     let mut parents = Vec::new(alloc);
     for row in rows {
-        parents.push(find_parent(ids, &mut turn, row.value.parent))?;
+        parents.push(find_parent(ids, &mut expected, row.value.parent))?;
     }
     Ok(parents)
 }

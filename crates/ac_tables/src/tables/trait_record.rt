@@ -162,7 +162,7 @@ impl Record for TraitTable {
             Ok(mark) => mark,
             Err(fault) => return Err(fault),
         };
-        match ids.find_near(&mut seen.turn, mark.provider) {
+        match ids.find_near(&mut seen.expected, mark.provider) {
             Some(place) => Ok((place as u32, mark.name, ())),
             None => Err(RecordFault::Kind(TableKind::UnknownProvider)),
         }

@@ -8,7 +8,7 @@ ghost use Rattle.ac_tables.specs.Reader.ColumnPlaces.{place_in, usage_places};
 ghost use Rattle.ac_tables.specs.Tables.InventoryTable.{provider_name, class_name};
 ghost use Rattle.ac_tables.specs.Tables.UsageTable.{usage_name, amount_checks, usage_field_checks, UsageRecord, usage_columns, usage_said, usage_row_checks, is_usage};
 ghost use Rattle.ac_tables.specs.Reader.InventoryRows.{inventory_records_shown};
-ghost use Rattle.ac_tables.specs.Reader.UsageLaws.{lone_checks, usages_keyed, usages_apart};
+ghost use Rattle.ac_tables.specs.Reader.RecordLaws.{lone_checks, usages_keyed, keys_apart};
 ghost use Rattle.ac_tables.specs.declared.fault.Table.TheVariants as table;
 
 use crate::fault::{RecordFault, Table, TableKind};
@@ -169,7 +169,7 @@ impl Record for UsageTable {
             Err(fault) => return Err(fault),
         };
         let _count = inventories.ids.len();
-        let Some(place) = inventories.ids.find_near(&mut seen.turn, usage.provider) else {
+        let Some(place) = inventories.ids.find_near(&mut seen.expected, usage.provider) else {
             return Err(RecordFault::Kind(TableKind::UnknownProvider));
         };
         if inventories.lacks(place, &usage.class) {
@@ -180,5 +180,5 @@ impl Record for UsageTable {
 
     ghost keyed = { λ b header. usages_keyed b.ids.ids.items (inventory_records_shown b.ids.ids.items b.rows.items.items) header };
 
-    ghost apart = { λ b. usages_apart b.ids.ids.items b.ids.rising };
+    ghost apart = { λ b. keys_apart b.ids.ids.items b.ids.rising };
 }

@@ -3,7 +3,8 @@ use Rattle.std.proofs.lemmas.Cmp.{nat_cmp_total}
 use Rattle.ac_tables.specs.Cloud.CloudWorld.{providers_of}
 use Rattle.ac_tables.specs.World.{anchors_of, is_available_at}
 use Rattle.ac_tables.proofs.Places.KeptFacts.{kept_has, kept_rise}
-use Rattle.ac_tables.proofs.Sorted.SearchFacts.{found, found_any, map_itself}
+use Rattle.ac_tables.proofs.Sorted.SearchFacts.{found, found_any}
+use Rattle.std.proofs.lemmas.List.{map-id}
 use Rattle.ac_tables.proofs.cloud.Cloud.available.Goals as goal
 
 pub returns : goal.returns
@@ -11,7 +12,7 @@ returns c =
     let all = providers_of c.args.self.now in
     let list = anchors_of all c.args.ix in
     let test = is_available_at all c.args.ix in
-    let place = found (λ (x : ℕ). x) nat_cmp_total list c.args.root c.binary_search.result (rw (map_itself list) (kept_rise (length all) test))
+    let place = found (λ (x : ℕ). x) nat_cmp_total list c.args.root c.binary_search.result (rw (map-id list) (kept_rise (length all) test))
     (rw c.anchors.ensures at c.binary_search.ensures.bound) (rw c.anchors.ensures at c.binary_search.ensures.position) in
     c.is_ok.ensures.value ∙ found_any (λ (x : ℕ). x) nat_cmp_total list c.args.root c.binary_search.result place
     ∙ kept_has (length all) c.args.root test c.requires.root

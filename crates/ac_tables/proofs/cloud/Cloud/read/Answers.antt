@@ -16,7 +16,7 @@ use Rattle.ac_tables.specs.Cloud.Kin.{AreKin}
 use Rattle.ac_tables.specs.Reader.InventoryRows.{class_pair}
 use Rattle.ac_tables.specs.Cloud.EntryLists.{with_used_lists}
 use Rattle.ac_tables.specs.Reader.ListsOf.{lists_of}
-use Rattle.ac_tables.proofs.Sorted.SearchFacts.{map_itself}
+use Rattle.std.proofs.lemmas.List.{map-id}
 use Rattle.ac_tables.proofs.Sorted.RiseFacts.{said_here, inventories_rise, amounts_rise, names_rise, aggregates_rise}
 use Rattle.std.proofs.lemmas.List.Sorted.{length_permutation}
 use Rattle.ac_tables.specs.Cloud.Numbered.{numbered}
@@ -178,7 +178,7 @@ returns-clause-world c =
     ∙ counted (map trait_bytes) (λ l. length-map l trait_bytes) (lists_of c.in-Ok-read_traits.traits) (names_of (traits_said t.traits)) ids names
     ∙ ap (sum_by (λ id. length (names_of (traits_said t.traits) id))) all in
     let s5 = c.count-4.ensures.sum
-    ∙ counted (λ (l : List ℕ). l) (λ l. refl) (lists_of c.in-Ok-read_aggregates.aggregates) (aggregates_of (aggregates_said t.aggregates)) ids (map_itself gs ∙ aggregates)
+    ∙ counted (λ (l : List ℕ). l) (λ l. refl) (lists_of c.in-Ok-read_aggregates.aggregates) (aggregates_of (aggregates_said t.aggregates)) ids (map-id gs ∙ aggregates)
     ∙ ap (sum_by (λ id. length (aggregates_of (aggregates_said t.aggregates) id))) all in
     let sizes = ap sizes_of c.in_ok-build.ensures.counts ∙ same_sizes (sizes_of _) (world_stated t).sizes s1 s2 s3 s4 s5 in
     λ i. record { providers = providers i; sizes = sizes i }

@@ -6,10 +6,11 @@ use Rattle.ac_tables.specs.Tables.Columns.{id_in, text_in}
 use Rattle.ac_tables.specs.Tables.InventoryTable.{provider_name, class_name, is_inventory_of}
 use Rattle.ac_tables.specs.Tables.UsageTable.{usage_said, usage_field_checks}
 use Rattle.ac_tables.specs.Reader.InventoryRows.{inventory_records_shown}
-use Rattle.ac_tables.specs.Reader.UsageLaws.{lone_checks}
+use Rattle.ac_tables.specs.Reader.RecordLaws.{lone_checks}
 use Rattle.ac_tables.proofs.Sorted.Rising.{one_of_place}
 use Rattle.ac_tables.proofs.FirstFailing.{tells_front}
-use Rattle.ac_tables.proofs.Records.UsageKeys.{any_shown, lone_unknown, lone_nothing, lone_fine, not_true, not_false}
+use Rattle.ac_tables.proofs.Records.UsageKeys.{any_shown, lone_unknown, lone_nothing, lone_fine}
+use Rattle.ac_tables.proofs.Small.{not_true, not_false}
 use Rattle.ac_tables.proofs.tables.usage_record.UsageTableRecord.read.Goals as goal
 
 pub returns-in-Err-clause-fault : goal.returns-in-Err-clause-fault

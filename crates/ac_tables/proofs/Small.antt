@@ -1,0 +1,52 @@
+-- Small facts of numbers, of truth values and of options.
+use Rattle.std.proofs.Common.{◌≡◌, ◌≢◌, ◌<◌, ◌≤◌, ℕ, Bool, true, false, Option, Some, None, refl, arith, rules, inl, inr, ◌⊎◌}
+use Rattle.std.specs.Prelude.{◌==◌, ◌||◌, min, not}
+
+pub clash : (b : Bool) → b ≡ false → b ≡ true → ⊥
+clash b e f = cc
+
+pub not_true : (b : Bool) → not b ≡ true → b ≡ false
+not_true true e = absurd (cc)
+not_true false e = refl
+
+pub not_false : (b : Bool) → not b ≡ false → b ≡ true
+not_false true e = refl
+not_false false e = absurd (cc)
+
+pub or_again : (b c : Bool) → (b || c) ≡ (b || (b || c))
+or_again true c = refl
+or_again false c = refl
+
+pub or_swapped : (a b c : Bool) → (a || (b || c)) ≡ (b || (a || c))
+or_swapped true true c = refl
+or_swapped true false c = refl
+or_swapped false b c = refl
+
+pub or_grouped : (a b c : Bool) → (a || (b || c)) ≡ ((a || b) || c)
+or_grouped true b c = refl
+or_grouped false b c = refl
+
+pub equal : (a b : ℕ) → a ≡ b → (a == b) ≡ true
+equal a b e = search (arith, rules)
+
+pub differ : (a b : ℕ) → a ≢ b → (a == b) ≡ false
+differ a b ne = search (arith, rules)
+
+pub are_equal : (a b : ℕ) → (a == b) ≡ true → a ≡ b
+are_equal a b h = search (arith, rules)
+
+pub min_left : (m n a : ℕ) → m ≤ a → min m n ≤ a
+min_left m n a h = omega arith
+
+pub min_right : (m n a : ℕ) → a ≡ n → min m n ≤ a
+min_right m n a h = omega arith
+
+pub is_min_left : (m n a : ℕ) → m < n → a ≡ m → a ≡ min m n
+is_min_left m n a h e = omega arith
+
+pub is_min_right : (m n a : ℕ) → n ≤ m → a ≡ n → a ≡ min m n
+is_min_right m n a h e = omega arith
+
+pub some_or_none : (o : Option ℕ) → ((q : ℕ) × (o ≡ Some q)) ⊎ (o ≡ None)
+some_or_none None = inr refl
+some_or_none (Some q) = inl (q, refl)
