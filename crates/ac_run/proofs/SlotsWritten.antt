@@ -13,9 +13,6 @@ module _ (a b c : Option (List ℕ)) (whole : List ℕ) where
     next : Leaves a b whole (flat_map f (map e (get_or xs i d ∷ drop (suc i) xs)))
     next = subst (λ ys. Leaves a b whole (flat_map f (map e ys))) (drop-cons xs i d h) leaves
 
-    pub element_written : Appends b c (f (e (get_or xs i d))) → Leaves a c whole (flat_map f (map e (drop (i + 1) xs)))
-    element_written k = rw add-one (leaves_appends a b c whole (f (e (get_or xs i d))) (flat_map f (map e (drop (suc i) xs))) next k)
-
     pub element_part : TakesPart b c (f (e (get_or xs i d))) → TakesPart a c whole
     element_part k = leaves_takes_part a b c whole (f (e (get_or xs i d))) (flat_map f (map e (drop (suc i) xs))) next k
 

@@ -3,7 +3,6 @@
 pub(crate) mod ancestry;
 pub(crate) mod anchors;
 pub(crate) mod build;
-pub(crate) mod draft;
 pub(crate) mod entries;
 pub mod entry;
 pub(crate) mod kept_lists;

@@ -5,8 +5,6 @@ pub(crate) mod gather;
 pub(crate) mod header;
 pub(crate) mod lists;
 pub(crate) mod record;
-pub(crate) mod record_error;
 pub(crate) mod records;
 pub(crate) mod row;
 pub(crate) mod split;
-pub(crate) mod starts;

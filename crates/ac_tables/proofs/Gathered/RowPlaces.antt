@@ -1,5 +1,5 @@
 -- Rows in order stand in the order of their places.
-use Rattle.std.proofs.Common.{◌≡◌, Bool, true, false, List, get_or, sym, ap, inl, inr}
+use Rattle.std.proofs.Common.{◌≡◌, true, List, get_or, sym, ap, inl, inr}
 use Rattle.std.specs.declared.cmp.Ordering.{Ordering}
 use Rattle.std.specs.declared.cmp.Ordering.TheVariants.{Less}
 use Rattle.std.specs.Ordering.{nat_cmp, ordering_then, is_lt}

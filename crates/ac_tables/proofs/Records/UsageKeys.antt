@@ -1,6 +1,6 @@
 -- The checks of a usage's key.
 use Rattle.std.proofs.Common.{◌≡◌, ◌∙◌, ◌<◌, ◌++◌, ℕ, zero, suc, Bool, true, false, List, [], ◌∷◌, length, get_or, Some, None, refl, sym, ap, ap₂, arith, inl, inr}
-use Rattle.std.specs.Prelude.{◌==◌, ◌&&◌, ◌||◌, not}
+use Rattle.std.specs.Prelude.{◌==◌, ◌&&◌, ◌||◌}
 use Rattle.std.specs.List.{All, filter, list_any}
 use Rattle.std.specs.Str.{bytes_eq}
 use Rattle.std.proofs.lemmas.Bool.{cases_Bool}
@@ -54,4 +54,3 @@ module _ (ids : List ℕ) (records : List InventoryRecord) (header row : Row) (i
   pub lone_fine : is_one_of ids id ≡ true → list_any (is_inventory_of id class) records ≡ true
       → first_failing (usage_field_checks header row ++ lone_checks ids records (id_in header provider_name row) (text_in header class_name row)) ≡ None
   lone_fine there some = fields_fine ∙ rw (there, some) refl
-

@@ -1,5 +1,5 @@
 -- Binary search in a list whose keys rise.
-use Rattle.std.proofs.Common.{◌≡◌, ◌∙◌, ◌<◌, ◌≤◌, ◌+◌, ℕ, zero, suc, Bool, true, false, List, [], ◌∷◌, map, length, get_or, Some, None, refl, sym, ap, ap₂, arith, rules, Ordering, inl, inr, ◌⊎◌}
+use Rattle.std.proofs.Common.{◌≡◌, ◌∙◌, ◌<◌, ◌+◌, ℕ, zero, suc, Bool, true, false, List, [], ◌∷◌, map, length, get_or, Some, None, refl, sym, ap, ap₂, arith, Ordering, inl, inr}
 use Rattle.std.specs.Prelude.{Result, Ok, Err, is_ok, ◌==◌, MatchResult, ◌||◌, if◌then◌else◌}
 use Rattle.std.specs.declared.cmp.Ordering.TheVariants.{Less, Equal, Greater}
 use Rattle.std.specs.Ordering.{is_lt, is_eq, ordering_reverse, nat_cmp}

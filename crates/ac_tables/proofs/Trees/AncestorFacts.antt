@@ -1,6 +1,6 @@
 -- Walking up a chain of parents.
-use Rattle.std.proofs.Common.{◌≡◌, ◌≢◌, ◌<◌, ◌∙◌, ℕ, zero, suc, Bool, true, false, length, get_or, Option, Some, None, refl, sym, ap, arith, rules, inl, inr}
-use Rattle.std.specs.Prelude.{◌==◌, ◌||◌, IfSome}
+use Rattle.std.proofs.Common.{◌≡◌, ◌<◌, ◌∙◌, ℕ, zero, suc, true, false, length, get_or, Option, Some, None, refl, sym, ap, inl, inr}
+use Rattle.std.specs.Prelude.{◌==◌, IfSome}
 use Rattle.std.specs.Option.{option_map}
 use Rattle.std.proofs.lemmas.Bool.{cases_eq, cases_Bool}
 use Rattle.ac_tables.specs.Trees.{is_in_chain}

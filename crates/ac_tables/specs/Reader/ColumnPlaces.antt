@@ -7,10 +7,10 @@ use Rattle.ac_tables.specs.Tables.ProviderTable.{uuid_name, root_name, parent_na
 use Rattle.ac_tables.specs.Tables.InventoryTable.{provider_name, class_name, total_name, reserved_name, min_unit_name, max_unit_name, step_size_name, ratio_name}
 use Rattle.ac_tables.specs.Tables.UsageTable.{usage_name}
 use Rattle.ac_tables.specs.Tables.TraitTable.{name_name}
-use Rattle.ac_tables.specs.declared.tables.usage_record.UsageColumns.{UsageColumns}
-use Rattle.ac_tables.specs.declared.tables.trait_record.TraitColumns.{TraitColumns}
-use Rattle.ac_tables.specs.declared.tables.aggregate_record.AggregateColumns.{AggregateColumns}
-use Rattle.ac_tables.specs.declared.tables.inventory_record.InventoryColumns.{InventoryColumns}
+use Rattle.ac_tables.specs.declared.tables.usages.UsageColumns.{UsageColumns}
+use Rattle.ac_tables.specs.declared.tables.traits.TraitColumns.{TraitColumns}
+use Rattle.ac_tables.specs.declared.tables.aggregates.AggregateColumns.{AggregateColumns}
+use Rattle.ac_tables.specs.declared.tables.inventories.InventoryColumns.{InventoryColumns}
 use Rattle.ac_tables.specs.declared.tables.provider_record.ProviderColumns.{ProviderColumns}
 
 -- the place of a column that is there

@@ -1,14 +1,60 @@
 //! Rows in order, made into a list for each provider.
-ghost use Rattle.std.specs.Prelude.{◌≡◌, ◌≤◌, ◌<◌, ◌==◌, map, length, IfOk};
-ghost use Rattle.std.specs.List.{All, filter, range_with_len};
-ghost use Rattle.std.specs.List.Sorted.{IsNonDecreasingBy};
+ghost use Rattle.std.specs.Prelude.{◌≡◌, ◌≤◌, ◌<◌, ◌+◌, ◌==◌, ℕ, slice_index_or, List, map, get_or, take, drop, ◌-◌, length, IfOk};
+ghost use Rattle.std.specs.List.{filter, All, range_with_len};
+ghost use Rattle.std.specs.List.Sorted.{IsNonDecreasingBy, IsStrictlySortedBy};
+ghost use Rattle.std.specs.Map.{lookup};
+ghost use Rattle.std.specs.Option.{option_map, option_copied};
+ghost use Rattle.std.specs.Str.{bytes_eq};
+ghost use Rattle.ac_base.specs.Names.{class_bytes};
+ghost use Rattle.ac_base.specs.Texts.{text_cmp};
+ghost use Rattle.ac_tables.specs.Tables.InventoryTable.{InventoryRecord};
+ghost use Rattle.ac_tables.specs.Tables.{inventories_of};
+ghost use Rattle.ac_tables.specs.Reader.InventoryRows.{AreInventories};
 ghost use Rattle.ac_tables.specs.Reader.TableRows.{AreStarts};
 ghost use Rattle.ac_tables.specs.Reader.ListsOf.{lists_of};
 
+use crate::cloud::provider_index::Ids;
 use crate::reader::lists::Lists;
 use crate::reader::row::TableRow;
-use crate::reader::starts::find_starts;
+use ac_base::{ClassName, Inventory};
 use std::alloc::{AllocError, Global};
+
+// The first row from a place on that is of this provider or a later one.
+fn skip_below<K, X>(rows: &[TableRow<K, X>], from: usize, place: u32) -> usize
+    requires from { from ≤ length rows.now }
+    ensures from { from ≤ result }
+    ensures inside { result ≤ length rows.now }
+    ensures below { (k : ℕ) (d : TableRow K X) → from ≤ k → k < result
+        → (slice_index_or rows.now k d).place < place }
+    ensures next { (d : TableRow K X) → result < length rows.now
+        → place ≤ (slice_index_or rows.now result d).place }
+{
+    for at in from..rows.len() {
+        if rows[at].place >= place {
+            return at;
+        }
+    }
+    rows.len()
+}
+
+// Where the rows of each provider begin, and where all end.
+pub(crate) fn find_starts<K, X>(
+    alloc: Global,
+    count: u32,
+    rows: &[TableRow<K, X>],
+) -> Result<Vec<usize>, AllocError>
+    requires sorted { IsNonDecreasingBy (λ (r : TableRow K X). r.place) rows.now }
+    requires few { count ≤ 65536 }
+    ensures { IfOk result (λ starts. AreStarts count rows.now starts.items) }
+{
+    let mut starts = Vec::new(alloc);
+    let mut at = 0usize;
+    for place in 0..count + 1 {
+        at = skip_below(rows, at, place);
+        starts.push(at)?;
+    }
+    Ok(starts)
+}
 
 // Rows in the order of their providers, as a list for each.
 pub(crate) fn split<K: Drop, X: Drop>(

@@ -1,29 +1,245 @@
-//! The inventories of all providers.
-ghost use Rattle.std.specs.Prelude.{◌≡◌, ◌≤◌, ◌<◌, ◌==◌, ◌&&◌, None, not, List, map, length, get_or, IfOk, IfErr};
+//! The table of inventories: what a record of it says, and the inventories of all providers.
+ghost use Rattle.std.specs.Prelude.{◌≡◌, None, IfOk, IfErr, ◌++◌, ◌==◌, true, length, get_or, ◌≤◌, ◌<◌, ◌&&◌, not, List, map};
+ghost use Rattle.csv.specs.Records.{fields_of};
+ghost use Rattle.ac_base.specs.Names.{class_bytes};
+ghost use Rattle.ac_tables.specs.Tables.Checks.{first_failing, unless, TellsKind, Tells};
+ghost use Rattle.ac_tables.specs.Tables.Columns.{id_in, text_in};
+ghost use Rattle.ac_tables.specs.Tables.InventoryTable.{provider_name, class_name, numbers_said, number_checks, inventory_field_checks, InventoryRecord, inventory_columns, inventory_said, inventory_record_checks, known_checks, is_inventory_of, inventories_said, inventories_fault};
+ghost use Rattle.ac_tables.specs.Reader.ColumnPlaces.{inventory_places};
+ghost use Rattle.ac_tables.specs.Reader.RecordLaws.{inventories_keyed, keys_apart};
 ghost use Rattle.std.specs.List.{All, filter, list_any, range_with_len};
 ghost use Rattle.std.specs.List.Sorted.{IsPermutation, IsStrictlySortedBy};
 ghost use Rattle.std.specs.Str.{bytes_eq};
 ghost use Rattle.std.proofs.Props.{props};
-ghost use Rattle.ac_base.specs.Names.{class_bytes};
 ghost use Rattle.ac_base.specs.Texts.{text_cmp};
-ghost use Rattle.ac_tables.specs.Tables.Checks.{Tells};
 ghost use Rattle.ac_tables.specs.Drain.{most_bytes};
 ghost use Rattle.ac_tables.specs.Reader.TableRows.{AreStarts};
 ghost use Rattle.ac_tables.specs.Reader.InventoryRows.{AreInventories, class_pair, inventory_records_shown};
-ghost use Rattle.ac_tables.specs.Tables.InventoryTable.{InventoryRecord, inventories_said, inventories_fault};
 ghost use Rattle.ac_tables.specs.Reader.ListsOf.{lists_of};
 ghost use Rattle.ac_tables.specs.Tables.Rows.{records_of};
 ghost use Rattle.ac_tables.specs.Tables.{inventories_of};
+ghost use Rattle.ac_tables.specs.declared.fault.Table.TheVariants as table;
 
 use crate::cloud::provider_index::Ids;
-use crate::fault::TableFault;
+use crate::fault::{RecordFault, Table, TableFault, TableKind};
+use crate::reader::fields::{read_class, read_owner};
 use crate::reader::gather::read_table;
+use crate::reader::header::column_at;
 use crate::reader::lists::Lists;
+use crate::reader::record::{Record, Seen};
+use crate::reader::records::text_at;
 use crate::reader::row::TableRow;
 use crate::reader::split::split;
-use crate::tables::inventory_record::InventoryTable;
-use ac_base::{ClassName, Inventory};
+use ac_base::{ClassName, Id, Inventory, Names, Ratio, read_count};
+use csv::ByteRecord;
 use std::alloc::{AllocError, Global};
+
+const INVENTORY_COLUMNS: [&[u8]; 8] = [
+    b"resource_provider",
+    b"resource_class",
+    b"total",
+    b"reserved",
+    b"min_unit",
+    b"max_unit",
+    b"step_size",
+    b"allocation_ratio",
+];
+
+// Where the columns stand.
+#[derive(Clone, Copy, Debug, PartialEq, Eq)]
+pub(crate) struct InventoryColumns {
+    provider: usize,
+    class: usize,
+    total: usize,
+    reserved: usize,
+    min_unit: usize,
+    max_unit: usize,
+    step_size: usize,
+    ratio: usize,
+}
+
+impl InventoryColumns {
+    ghost use Rattle.ac_tables.specs.Reader.ColumnPlaces.{inventory_places};
+
+    #[tactic(auto, unfolding(crate::specs::Reader::ColumnPlaces::inventory_places, crate::specs::Tables::InventoryTable::provider_name, crate::specs::Tables::InventoryTable::class_name, crate::specs::Tables::InventoryTable::total_name, crate::specs::Tables::InventoryTable::reserved_name, crate::specs::Tables::InventoryTable::min_unit_name, crate::specs::Tables::InventoryTable::max_unit_name, crate::specs::Tables::InventoryTable::step_size_name, crate::specs::Tables::InventoryTable::ratio_name))]
+    pub(crate) fn of(header: &ByteRecord) -> InventoryColumns
+        ensures { result ≡ inventory_places (fields_of header.now) }
+    {
+        InventoryColumns {
+            provider: column_at(header, b"resource_provider"),
+            class: column_at(header, b"resource_class"),
+            total: column_at(header, b"total"),
+            reserved: column_at(header, b"reserved"),
+            min_unit: column_at(header, b"min_unit"),
+            max_unit: column_at(header, b"max_unit"),
+            step_size: column_at(header, b"step_size"),
+            ratio: column_at(header, b"allocation_ratio"),
+        }
+    }
+}
+
+// What a record says.
+#[derive(Debug, Drop, PartialEq, Eq)]
+pub(crate) struct InventoryRow {
+    pub(crate) provider: Id,
+    pub(crate) class: ClassName,
+    pub(crate) inventory: Inventory,
+}
+
+impl InventoryRow {
+    ghost use Rattle.ac_tables.specs.Reader.ColumnPlaces.{inventory_places};
+
+    // The inventory of a record, or the first fault of its fields.
+    #[tactic(auto, unfolding(crate::specs::Reader::ColumnPlaces::inventory_places, crate::specs::Tables::InventoryTable::numbers_said, crate::specs::Tables::InventoryTable::number_checks))]
+    fn read_inventory(
+        header: &ByteRecord,
+        columns: InventoryColumns,
+        row: &ByteRecord,
+    ) -> Result<Inventory, TableKind>
+        requires { columns ≡ inventory_places (fields_of header.now) }
+        ensures { result
+            ≡ unless (first_failing (number_checks (fields_of header.now) (fields_of row.now)))
+            (numbers_said (fields_of header.now) (fields_of row.now)) }
+    {
+        let Some(total) = read_count(text_at(row, columns.total)) else {
+            return Err(TableKind::BadNumber);
+        };
+        let Some(reserved) = read_count(text_at(row, columns.reserved)) else {
+            return Err(TableKind::BadNumber);
+        };
+        let Some(min_unit) = read_count(text_at(row, columns.min_unit)) else {
+            return Err(TableKind::BadNumber);
+        };
+        let Some(max_unit) = read_count(text_at(row, columns.max_unit)) else {
+            return Err(TableKind::BadNumber);
+        };
+        let Some(step_size) = read_count(text_at(row, columns.step_size)) else {
+            return Err(TableKind::BadNumber);
+        };
+        let Some(ratio) = Ratio::read(text_at(row, columns.ratio)) else {
+            return Err(TableKind::BadRatio);
+        };
+        if step_size == 0 {
+            return Err(TableKind::ZeroStep);
+        }
+        if reserved > total {
+            return Err(TableKind::ReservedOverTotal);
+        }
+        match Inventory::new(total, reserved, min_unit, max_unit, step_size, ratio) {
+            Some(inventory) => Ok(inventory),
+            None => unreachable!(),
+        }
+    }
+
+    // What a record says, or the first fault of its fields.
+    #[tactic(auto, unfolding(crate::specs::Reader::ColumnPlaces::inventory_places))]
+    pub(crate) fn read(
+        names: &mut Names,
+        header: &ByteRecord,
+        columns: InventoryColumns,
+        row: &ByteRecord,
+    ) -> Result<InventoryRow, RecordFault>
+        requires { columns ≡ inventory_places (fields_of header.now) }
+        ensures ok { IfOk result (λ _.
+            first_failing (inventory_field_checks (fields_of header.now) (fields_of row.now))
+            ≡ None) }
+        ensures provider { IfOk result (λ h. h.provider
+            ≡ id_in (fields_of header.now) provider_name (fields_of row.now)) }
+        ensures class { IfOk result (λ h. class_bytes h.class
+            ≡ text_in (fields_of header.now) class_name (fields_of row.now)) }
+        ensures inventory { IfOk result (λ h. h.inventory
+            ≡ numbers_said (fields_of header.now) (fields_of row.now)) }
+        ensures fault { IfErr result (λ e.
+            TellsKind (first_failing (inventory_field_checks (fields_of header.now)
+            (fields_of row.now))) e) }
+    {
+        let provider = match read_owner(names, header, columns.provider, row) {
+            Ok(provider) => provider,
+            Err(kind) => return Err(RecordFault::Kind(kind)),
+        };
+        let class = match read_class(names, header, columns.class, row) {
+            Ok(class) => class,
+            Err(fault) => return Err(fault),
+        };
+        match InventoryRow::read_inventory(header, columns, row) {
+            Ok(inventory) => Ok(InventoryRow {
+                provider,
+                class,
+                inventory,
+            }),
+            Err(kind) => Err(RecordFault::Kind(kind)),
+        }
+    }
+}
+
+// The table of inventories.
+pub(crate) struct InventoryTable;
+
+impl Record for InventoryTable {
+    type Beside = Ids;
+
+    type Columns = InventoryColumns;
+
+    type Key = ClassName;
+
+    type Value = Inventory;
+
+    const TABLE: Table = Table::Inventories;
+
+    ghost TABLE = { table.Inventories };
+
+    ghost NAMES = { inventory_columns };
+
+    const UNIQUE: bool = true;
+
+    ghost UNIQUE = { true };
+
+    ghost Said = { InventoryRecord };
+
+    ghost says = { inventory_said };
+
+    ghost checks = { λ ids. inventory_record_checks ids.ids.items };
+
+    ghost alone = { λ ids header row. inventory_field_checks header row ++ known_checks ids.ids.items (id_in header provider_name row) };
+
+    ghost same = { λ v h. is_inventory_of v.provider v.class h };
+
+    ghost count = { λ ids. length ids.ids.items };
+
+    ghost shown = { λ ids place key value. record { provider = get_or ids.ids.items place 0; class = class_bytes key; inventory = value } };
+
+    ghost places = { inventory_places };
+
+    #[tactic(auto, unfolding(crate::specs::Tables::InventoryTable::inventory_columns, crate::specs::Tables::InventoryTable::provider_name, crate::specs::Tables::InventoryTable::class_name, crate::specs::Tables::InventoryTable::total_name, crate::specs::Tables::InventoryTable::reserved_name, crate::specs::Tables::InventoryTable::min_unit_name, crate::specs::Tables::InventoryTable::max_unit_name, crate::specs::Tables::InventoryTable::step_size_name, crate::specs::Tables::InventoryTable::ratio_name))]
+    fn names() -> &'static [&'static [u8]] {
+        &INVENTORY_COLUMNS
+    }
+
+    fn columns(header: &ByteRecord) -> InventoryColumns {
+        InventoryColumns::of(header)
+    }
+
+    fn read(
+        seen: &mut Seen,
+        ids: &Ids,
+        header: &ByteRecord,
+        columns: InventoryColumns,
+        row: &ByteRecord,
+    ) -> Result<(u32, ClassName, Inventory), RecordFault> {
+        let found = match InventoryRow::read(&mut seen.names, header, columns, row) {
+            Ok(found) => found,
+            Err(fault) => return Err(fault),
+        };
+        match ids.find_near(&mut seen.expected, found.provider) {
+            Some(place) => Ok((place as u32, found.class, found.inventory)),
+            None => Err(RecordFault::Kind(TableKind::UnknownProvider)),
+        }
+    }
+
+    ghost keyed = { λ ids header. inventories_keyed ids.ids.items header };
+
+    ghost apart = { λ ids. keys_apart ids.ids.items ids.rising };
+}
 
 // All providers, and the inventories of each in the order of their classes.
 #[derive(Drop)]

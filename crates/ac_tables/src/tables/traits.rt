@@ -1,22 +1,186 @@
-//! The traits of all providers.
-ghost use Rattle.std.specs.Prelude.{◌≡◌, ◌≤◌, None, map, length, IfOk, IfErr};
+//! The table of traits: what a record of it says, and the traits of all providers.
+ghost use Rattle.std.specs.Prelude.{◌≡◌, None, IfOk, IfErr, false, [], length, get_or, ◌≤◌, map};
+ghost use Rattle.csv.specs.Records.{fields_of};
 ghost use Rattle.ac_base.specs.Names.{trait_bytes};
-ghost use Rattle.ac_tables.specs.Tables.Checks.{Tells};
+ghost use Rattle.ac_tables.specs.Tables.Checks.{first_failing, TellsKind, Tells};
+ghost use Rattle.ac_tables.specs.Tables.Columns.{id_in, text_in};
+ghost use Rattle.ac_tables.specs.Reader.ColumnPlaces.{place_in, trait_places};
+ghost use Rattle.ac_tables.specs.Tables.InventoryTable.{provider_name};
+ghost use Rattle.ac_tables.specs.Tables.TraitTable.{name_name, name_checks, trait_field_checks, TraitRecord, trait_columns, trait_said, trait_record_checks, traits_said, traits_fault};
+ghost use Rattle.ac_tables.specs.Reader.RecordLaws.{traits_keyed, traits_apart};
 ghost use Rattle.ac_tables.specs.Drain.{most_bytes};
 ghost use Rattle.ac_tables.specs.Reader.ListsOf.{lists_of};
 ghost use Rattle.ac_tables.specs.Tables.Rows.{records_of};
 ghost use Rattle.ac_tables.specs.Tables.{names_of};
-ghost use Rattle.ac_tables.specs.Tables.TraitTable.{traits_said, traits_fault};
+ghost use Rattle.ac_tables.specs.declared.fault.Table.TheVariants as table;
 
 use crate::cloud::provider_index::Ids;
-use crate::fault::TableFault;
+use crate::fault::{RecordFault, Table, TableFault, TableKind};
+use crate::reader::fields::read_owner;
 use crate::reader::gather::read_table;
+use crate::reader::header::column_at;
 use crate::reader::lists::Lists;
+use crate::reader::record::{Record, Seen};
+use crate::reader::records::text_at;
 use crate::reader::row::keep_first;
 use crate::reader::split::{keys_of, split};
-use crate::tables::trait_record::TraitTable;
-use ac_base::TraitName;
+use ac_base::{Id, Names, TraitName};
+use csv::ByteRecord;
 use std::alloc::Global;
+
+const TRAIT_COLUMNS: [&[u8]; 2] = [b"resource_provider", b"name"];
+
+// Where the columns stand.
+#[derive(Clone, Copy, Debug, PartialEq, Eq)]
+pub(crate) struct TraitColumns {
+    provider: usize,
+    name: usize,
+}
+
+impl TraitColumns {
+    ghost use Rattle.ac_tables.specs.Reader.ColumnPlaces.{trait_places};
+
+    #[tactic(auto, unfolding(crate::specs::Reader::ColumnPlaces::trait_places, crate::specs::Tables::InventoryTable::provider_name, crate::specs::Tables::TraitTable::name_name))]
+    pub(crate) fn of(header: &ByteRecord) -> TraitColumns
+        ensures { result ≡ trait_places (fields_of header.now) }
+    {
+        TraitColumns {
+            provider: column_at(header, b"resource_provider"),
+            name: column_at(header, b"name"),
+        }
+    }
+}
+
+// What a record says.
+#[derive(Debug, Drop, PartialEq, Eq)]
+pub(crate) struct TraitRow {
+    pub(crate) provider: Id,
+    pub(crate) name: TraitName,
+}
+
+// The trait of a record.
+#[tactic(auto, unfolding(crate::specs::Tables::TraitTable::name_checks), using(crate::proofs::NameFacts::named))]
+fn read_name(
+    names: &mut Names,
+    header: &ByteRecord,
+    place: usize,
+    row: &ByteRecord,
+) -> Result<TraitName, RecordFault>
+    requires { place ≡ place_in (fields_of header.now) name_name }
+    ensures ok { IfOk result (λ _.
+        first_failing (name_checks (fields_of header.now) (fields_of row.now)) ≡ None) }
+    ensures name { IfOk result (λ name. trait_bytes name
+        ≡ text_in (fields_of header.now) name_name (fields_of row.now)) }
+    ensures fault { IfErr result (λ e.
+        TellsKind (first_failing (name_checks (fields_of header.now) (fields_of row.now))) e) }
+{
+    match names.trait_name(text_at(row, place))? {
+        Some(name) => Ok(name),
+        None => Err(RecordFault::Kind(TableKind::BadTrait)),
+    }
+}
+
+impl TraitRow {
+    ghost use Rattle.ac_tables.specs.Reader.ColumnPlaces.{trait_places};
+
+    // What a record says, or the first fault of its fields.
+    #[tactic(auto, unfolding(crate::specs::Reader::ColumnPlaces::trait_places))]
+    pub(crate) fn read(
+        names: &mut Names,
+        header: &ByteRecord,
+        columns: TraitColumns,
+        row: &ByteRecord,
+    ) -> Result<TraitRow, RecordFault>
+        requires { columns ≡ trait_places (fields_of header.now) }
+        ensures ok { IfOk result (λ _.
+            first_failing (trait_field_checks (fields_of header.now) (fields_of row.now)) ≡ None) }
+        ensures provider { IfOk result (λ m. m.provider
+            ≡ id_in (fields_of header.now) provider_name (fields_of row.now)) }
+        ensures name { IfOk result (λ m. trait_bytes m.name
+            ≡ text_in (fields_of header.now) name_name (fields_of row.now)) }
+        ensures fault { IfErr result (λ e.
+            TellsKind (first_failing
+            (trait_field_checks (fields_of header.now) (fields_of row.now))) e) }
+    {
+        let provider = match read_owner(names, header, columns.provider, row) {
+            Ok(provider) => provider,
+            Err(kind) => return Err(RecordFault::Kind(kind)),
+        };
+        match read_name(names, header, columns.name, row) {
+            Ok(name) => Ok(TraitRow { provider, name }),
+            Err(fault) => Err(fault),
+        }
+    }
+}
+
+// The table of traits.
+pub(crate) struct TraitTable;
+
+impl Record for TraitTable {
+    type Beside = Ids;
+
+    type Columns = TraitColumns;
+
+    type Key = TraitName;
+
+    type Value = ();
+
+    const TABLE: Table = Table::Traits;
+
+    ghost TABLE = { table.Traits };
+
+    ghost NAMES = { trait_columns };
+
+    const UNIQUE: bool = false;
+
+    ghost UNIQUE = { false };
+
+    ghost Said = { TraitRecord };
+
+    ghost says = { trait_said };
+
+    ghost checks = { λ ids. trait_record_checks ids.ids.items };
+
+    ghost alone = { λ ids header row. trait_record_checks ids.ids.items header [] row };
+
+    ghost same = { λ _ _. false };
+
+    ghost count = { λ ids. length ids.ids.items };
+
+    ghost shown = { λ ids place key _. record { provider = get_or ids.ids.items place 0; name = trait_bytes key } };
+
+    ghost places = { trait_places };
+
+    #[tactic(auto, unfolding(crate::specs::Tables::TraitTable::trait_columns, crate::specs::Tables::InventoryTable::provider_name, crate::specs::Tables::TraitTable::name_name))]
+    fn names() -> &'static [&'static [u8]] {
+        &TRAIT_COLUMNS
+    }
+
+    fn columns(header: &ByteRecord) -> TraitColumns {
+        TraitColumns::of(header)
+    }
+
+    fn read(
+        seen: &mut Seen,
+        ids: &Ids,
+        header: &ByteRecord,
+        columns: TraitColumns,
+        row: &ByteRecord,
+    ) -> Result<(u32, TraitName, ()), RecordFault> {
+        let mark = match TraitRow::read(&mut seen.names, header, columns, row) {
+            Ok(mark) => mark,
+            Err(fault) => return Err(fault),
+        };
+        match ids.find_near(&mut seen.expected, mark.provider) {
+            Some(place) => Ok((place as u32, mark.name, ())),
+            None => Err(RecordFault::Kind(TableKind::UnknownProvider)),
+        }
+    }
+
+    ghost keyed = { λ ids header. traits_keyed ids.ids.items header };
+
+    ghost apart = { λ ids. traits_apart ids.ids.items };
+}
 
 // The traits of each provider in byte order, each once, or the first fault of the table.
 pub(crate) fn read_traits(

@@ -1,24 +1,200 @@
-//! How much of their inventories the providers have used.
-ghost use Rattle.std.specs.Prelude.{◌≡◌, ◌≤◌, None, List, map, length, IfOk, IfErr};
+//! The table of usages: what a record of it says, and how much of their inventories the providers have used.
+ghost use Rattle.std.specs.Prelude.{◌≡◌, None, IfOk, IfErr, ◌<◌, ◌++◌, true, length, get_or, ◌≤◌, List, map};
+ghost use Rattle.csv.specs.Records.{fields_of};
+ghost use Rattle.ac_base.specs.Names.{class_bytes};
+ghost use Rattle.ac_tables.specs.Tables.Checks.{first_failing, unless, TellsKind, Tells};
+ghost use Rattle.ac_tables.specs.Tables.Columns.{id_in, text_in, number_in};
+ghost use Rattle.ac_tables.specs.Reader.ColumnPlaces.{place_in, usage_places};
+ghost use Rattle.ac_tables.specs.Tables.InventoryTable.{provider_name, class_name, InventoryRecord};
+ghost use Rattle.ac_tables.specs.Tables.UsageTable.{usage_name, amount_checks, usage_field_checks, UsageRecord, usage_columns, usage_said, usage_row_checks, is_usage, usages_said, usages_fault};
+ghost use Rattle.ac_tables.specs.Reader.InventoryRows.{inventory_records_shown, class_pair};
+ghost use Rattle.ac_tables.specs.Reader.RecordLaws.{lone_checks, usages_keyed, keys_apart};
 ghost use Rattle.std.specs.List.Sorted.{IsPermutation};
-ghost use Rattle.ac_tables.specs.Tables.Checks.{Tells};
 ghost use Rattle.ac_tables.specs.Drain.{most_bytes};
-ghost use Rattle.ac_tables.specs.Reader.InventoryRows.{class_pair, inventory_records_shown};
-ghost use Rattle.ac_tables.specs.Tables.InventoryTable.{InventoryRecord};
 ghost use Rattle.ac_tables.specs.Reader.ListsOf.{lists_of};
 ghost use Rattle.ac_tables.specs.Tables.Rows.{records_of};
 ghost use Rattle.ac_tables.specs.Tables.{amounts_of};
-ghost use Rattle.ac_tables.specs.Tables.UsageTable.{usages_said, usages_fault};
+ghost use Rattle.ac_tables.specs.declared.fault.Table.TheVariants as table;
 
-use crate::fault::TableFault;
+use crate::fault::{RecordFault, Table, TableFault, TableKind};
+use crate::reader::fields::{read_class, read_owner};
 use crate::reader::gather::read_table;
+use crate::reader::header::column_at;
 use crate::reader::lists::Lists;
+use crate::reader::record::{Record, Seen};
+use crate::reader::records::text_at;
 use crate::reader::row::TableRow;
 use crate::reader::split::split;
 use crate::tables::inventories::Inventories;
-use crate::tables::usage_record::UsageTable;
-use ac_base::ClassName;
+use ac_base::{ClassName, Id, Names, read_count};
+use csv::ByteRecord;
 use std::alloc::Global;
+
+const USAGE_COLUMNS: [&[u8]; 3] = [b"resource_provider", b"resource_class", b"usage"];
+
+// Where the columns stand.
+#[derive(Clone, Copy, Debug, PartialEq, Eq)]
+pub(crate) struct UsageColumns {
+    provider: usize,
+    class: usize,
+    amount: usize,
+}
+
+impl UsageColumns {
+    ghost use Rattle.ac_tables.specs.Reader.ColumnPlaces.{usage_places};
+
+    #[tactic(auto, unfolding(crate::specs::Reader::ColumnPlaces::usage_places, crate::specs::Tables::InventoryTable::provider_name, crate::specs::Tables::InventoryTable::class_name, crate::specs::Tables::UsageTable::usage_name))]
+    pub(crate) fn of(header: &ByteRecord) -> UsageColumns
+        ensures { result ≡ usage_places (fields_of header.now) }
+    {
+        UsageColumns {
+            provider: column_at(header, b"resource_provider"),
+            class: column_at(header, b"resource_class"),
+            amount: column_at(header, b"usage"),
+        }
+    }
+}
+
+// What a record says.
+#[derive(Debug, Drop, PartialEq, Eq)]
+pub(crate) struct UsageRow {
+    pub(crate) provider: Id,
+    pub(crate) class: ClassName,
+    pub(crate) amount: u32,
+}
+
+// How much a record says to be used.
+#[tactic(auto, unfolding(crate::specs::Tables::UsageTable::amount_checks))]
+fn read_amount(header: &ByteRecord, place: usize, row: &ByteRecord) -> Result<u32, TableKind>
+    requires { place ≡ place_in (fields_of header.now) usage_name }
+    ensures { result
+        ≡ unless (first_failing (amount_checks (fields_of header.now) (fields_of row.now)))
+        (number_in (fields_of header.now) usage_name (fields_of row.now)) }
+{
+    match read_count(text_at(row, place)) {
+        Some(amount) => Ok(amount),
+        None => Err(TableKind::BadNumber),
+    }
+}
+
+impl UsageRow {
+    ghost use Rattle.ac_tables.specs.Reader.ColumnPlaces.{usage_places};
+
+    // What a record says, or the first fault of its fields.
+    #[tactic(auto, unfolding(crate::specs::Reader::ColumnPlaces::usage_places))]
+    pub(crate) fn read(
+        names: &mut Names,
+        header: &ByteRecord,
+        columns: UsageColumns,
+        row: &ByteRecord,
+    ) -> Result<UsageRow, RecordFault>
+        requires { columns ≡ usage_places (fields_of header.now) }
+        ensures ok { IfOk result (λ _.
+            first_failing (usage_field_checks (fields_of header.now) (fields_of row.now)) ≡ None) }
+        ensures provider { IfOk result (λ u. u.provider
+            ≡ id_in (fields_of header.now) provider_name (fields_of row.now)) }
+        ensures class { IfOk result (λ u. class_bytes u.class
+            ≡ text_in (fields_of header.now) class_name (fields_of row.now)) }
+        ensures amount { IfOk result (λ u. u.amount
+            ≡ number_in (fields_of header.now) usage_name (fields_of row.now)) }
+        ensures fault { IfErr result (λ e.
+            TellsKind (first_failing (usage_field_checks (fields_of header.now)
+            (fields_of row.now))) e) }
+    {
+        let provider = match read_owner(names, header, columns.provider, row) {
+            Ok(provider) => provider,
+            Err(kind) => return Err(RecordFault::Kind(kind)),
+        };
+        let class = match read_class(names, header, columns.class, row) {
+            Ok(class) => class,
+            Err(fault) => return Err(fault),
+        };
+        match read_amount(header, columns.amount, row) {
+            Ok(amount) => Ok(UsageRow {
+                provider,
+                class,
+                amount,
+            }),
+            Err(kind) => Err(RecordFault::Kind(kind)),
+        }
+    }
+}
+
+// The table of usages.
+pub(crate) struct UsageTable;
+
+impl Record for UsageTable {
+    type Beside = Inventories;
+
+    type Columns = UsageColumns;
+
+    type Key = ClassName;
+
+    type Value = u32;
+
+    const TABLE: Table = Table::Usages;
+
+    ghost TABLE = { table.Usages };
+
+    ghost NAMES = { usage_columns };
+
+    const UNIQUE: bool = true;
+
+    ghost UNIQUE = { true };
+
+    ghost Said = { UsageRecord };
+
+    ghost says = { usage_said };
+
+    ghost checks = { λ b. usage_row_checks b.ids.ids.items (inventory_records_shown b.ids.ids.items b.rows.items.items) };
+
+    ghost alone = { λ b header row. usage_field_checks header row ++ lone_checks b.ids.ids.items (inventory_records_shown b.ids.ids.items b.rows.items.items) (id_in header provider_name row) (text_in header class_name row) };
+
+    ghost same = { λ v u. is_usage v.provider v.class u };
+
+    ghost count = { λ b. length b.ids.ids.items };
+
+    ghost shown = { λ b place key value. record { provider = get_or b.ids.ids.items place 0; class = class_bytes key; amount = value } };
+
+    ghost places = { usage_places };
+
+    #[tactic(auto, unfolding(crate::specs::Tables::UsageTable::usage_columns, crate::specs::Tables::InventoryTable::provider_name, crate::specs::Tables::InventoryTable::class_name, crate::specs::Tables::UsageTable::usage_name))]
+    fn names() -> &'static [&'static [u8]] {
+        &USAGE_COLUMNS
+    }
+
+    fn columns(header: &ByteRecord) -> UsageColumns {
+        UsageColumns::of(header)
+    }
+
+    fn read(
+        seen: &mut Seen,
+        inventories: &Inventories,
+        header: &ByteRecord,
+        columns: UsageColumns,
+        row: &ByteRecord,
+    ) -> Result<(u32, ClassName, u32), RecordFault> {
+        let usage = match UsageRow::read(&mut seen.names, header, columns, row) {
+            Ok(usage) => usage,
+            Err(fault) => return Err(fault),
+        };
+        let _count = inventories.ids.len();
+        let Some(place) = inventories
+            .ids
+            .find_near(&mut seen.expected, usage.provider)
+        else {
+            return Err(RecordFault::Kind(TableKind::UnknownProvider));
+        };
+        if inventories.lacks(place, &usage.class) {
+            return Err(RecordFault::Kind(TableKind::NoInventory));
+        }
+        Ok((place as u32, usage.class, usage.amount))
+    }
+
+    ghost keyed = { λ b header. usages_keyed b.ids.ids.items (inventory_records_shown b.ids.ids.items b.rows.items.items) header };
+
+    ghost apart = { λ b. keys_apart b.ids.ids.items b.ids.rising };
+}
 
 // What each provider has used of its classes, in their order, or the first fault of the table.
 pub(crate) fn read_usages(
