@@ -7,8 +7,9 @@ knows of it only its contract. So an edit is refused if a function whose body it
 a constant or a definition, lines `refused: FUNCTION` name the functions that it is about. An edit of which none is refused is tried again alone, as
 is each of which no function is known: then the crate has to be refused. Either way the edited text has to be one that the prover can read.
 
-What the crates stand on has to be built below FOLDER, else in this repository; what `rt check` has kept there is taken up. With --beside the crates
-are awaited: LOG is what `rt ci` writes while it proves them, and names their functions. With --all each edit is named, with what refused it. The last line is `N passed, M failed`."""
+What the crates stand on has to be built below FOLDER, else in this repository; what `rt check` has kept there is taken up. With --beside each crate
+is awaited: LOG is what `rt ci` writes while it proves them, and names their functions. With --all each edit is named, with what refused it. The
+last line is `N passed, M failed`."""
 from __future__ import annotations
 
 import argparse

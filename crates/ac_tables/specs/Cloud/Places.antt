@@ -1,6 +1,7 @@
 -- Parents as places in a list.
 use Rattle.std.specs.List.{All, position_from}
 use Rattle.std.specs.Prelude.{◌≡◌, ◌==◌, Some, ℕ, ◌<◌, List, length, get_or, Option, None, IfSome}
+use Rattle.std.proofs.Props.{props}
 use Rattle.ac_tables.specs.declared.cloud.provider_index.Listed.{Listed}
 
 -- the parent of a place, where it has one
@@ -27,6 +28,10 @@ rank ids id = position_from (λ p. p == id) 0 ids
 abbrev pub AreWithin : ℕ → List (Option ℕ) → Type 0
 AreWithin n parents = (i j : ℕ) → i < n → get_or parents i None ≡ Some j → j < n
 
--- each provider that is listed stands at its place
-abbrev pub ArePlaced : List ℕ → List Listed → Type 0
+-- Each provider that is listed stands at its place. This is one word, so that a proof which only asks a cloud looks through none of it.
+unfoldable pub ArePlaced : List ℕ → List Listed → Type 0
 ArePlaced ids listed = All (λ l. (l.place < length ids) × (get_or ids l.place 0 ≡ l.id)) listed
+
+pub ArePlaced-prop : (ids : List ℕ) (listed : List Listed) → IsProp (ArePlaced ids listed)
+unfolding ArePlaced
+ArePlaced-prop ids listed = Prim.hlevel props

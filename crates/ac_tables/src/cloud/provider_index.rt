@@ -4,8 +4,7 @@ ghost use Rattle.std.specs.List.{All};
 ghost use Rattle.ac_tables.specs.Sorted.{rising};
 ghost use Rattle.ac_tables.specs.Cloud.RisingIds.{IsRising};
 ghost use Rattle.ac_tables.specs.Tables.InventoryTable.{is_one_of};
-ghost use Rattle.ac_tables.specs.Cloud.Places.{rank, ArePlaced};
-ghost use Rattle.std.proofs.Props.{props};
+ghost use Rattle.ac_tables.specs.Cloud.Places.{rank, ArePlaced, ArePlaced-prop};
 
 use ac_base::Id;
 use std::alloc::{AllocError, Global};
@@ -56,10 +55,11 @@ pub(crate) struct Ids {
     ghost rising: { IsRising ids.items },
     ghost fit: { All (λ id. id < 2 ^ 128) ids.items },
     ghost few: { length ids.items ≤ 65536 },
-    ghost placed: { ArePlaced ids.items listed.items } by { Prim.hlevel props },
+    ghost placed: { ArePlaced ids.items listed.items } by { ArePlaced-prop ids.items listed.items },
 }
 
 // The providers by their turns.
+#[tactic(auto, unfolding(crate::specs::Cloud::Places::ArePlaced))]
 fn list_by_turns(alloc: Global, ids: &[Id], turns: &[u32]) -> Result<Vec<Listed>, AllocError>
     requires few { length ids.now ≤ 65536 }
     requires turns { length turns.now ≡ length ids.now }
@@ -159,6 +159,7 @@ impl Ids {
     }
 
     // The place of a provider, where it is listed in this turn.
+    #[tactic(auto, unfolding(crate::specs::Cloud::Places::ArePlaced))]
     fn in_turn(&self, turn: usize, id: Id) -> Option<usize>
         ensures { IfSome result (λ place. (place < length self.now.ids.items)
             × (get_or self.now.ids.items place 0 ≡ id)) }
