@@ -73,6 +73,7 @@ cloud() {
     tables=(--providers "${files[0]}" --inventories "${files[1]}" --usages "${files[2]}" --traits "${files[3]}" --aggregates "${files[4]}")
     printf '%s, %d providers, rows %s: %d rows, %d bytes\n' "${*:3}" "$1" "$2" "$(cat "${files[@]}" | wc -l)" "$(cat "${files[@]}" | wc -c)"
     best 'ac_cli check' "$program" check "${tables[@]}"
+    [[ -z $ported ]] || best 'ported csv alone' "$ported" "${files[@]}"
 }
 
 # search QUERY [whole]: times both writers with a limit, from the start and after the last line of that page, and the verdict on that line;
@@ -96,7 +97,6 @@ search() {
 [[ $# -gt 0 ]] || set -- 4096 16384 65536
 for providers; do
     cloud "$providers" shuffled flat
-    [[ -z $ported ]] || best 'ported csv alone' "$ported" "${files[@]}"
     [[ -z $anchor ]] || best 'splitting, plain Rust' "$anchor" "${files[@]}"
     best 'wc -l' wc -l "${files[@]}"
     best "Python's csv, started" "$python" -c "$read_by_python" "${files[@]}"

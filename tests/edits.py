@@ -182,9 +182,9 @@ def tried(crate, command, known):
 
 
 def proved(log, name):
-    """Whether rt ci has proved the crate, or None where it has ended without."""
+    """Whether rt ci has proved the crate, now or in an earlier run whose proofs it kept, or None where it has ended without."""
     said = read(log) if os.path.exists(log) else ''
-    if re.search(rf'^rt: {name} proved$', said, re.M):
+    if re.search(rf'^rt: {name} (proved$|is kept: )', said, re.M):
         return True
     return None if re.search(r'^\d+ passed, \d+ failed$', said, re.M) else False
 
