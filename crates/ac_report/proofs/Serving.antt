@@ -29,7 +29,7 @@ use Rattle.ac_tables.specs.World.{Provider}
 use Rattle.ac_rules.specs.Together.{is_empty}
 use Rattle.ac_report.specs.Trees.{gathered, gives, hosts, needs_on, mapping, mappings_from}
 use Rattle.ac_report.proofs.Trees.Rows.{row_insert, row_look, rising_push, rising_sorted, not_eq}
-use Rattle.ac_tables.proofs.Places.KinFacts.{member_rising}
+use Rattle.ac_tables.proofs.Sorted.SameItems.{member_rising}
 
 -- ---- slots and their providers
 

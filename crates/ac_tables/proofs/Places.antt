@@ -10,4 +10,3 @@ pub mod KeptFacts
 pub mod KinFacts
 pub mod WideAggregates
 pub mod WorldFacts
-pub mod LookupFacts

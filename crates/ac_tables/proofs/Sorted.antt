@@ -4,7 +4,6 @@ pub mod OrderFacts
 pub mod Rising
 pub mod RiseFacts
 pub mod SameItems
-pub mod SortedFacts
 pub mod SortedSets
 pub mod SortedTies
 pub mod SearchFacts

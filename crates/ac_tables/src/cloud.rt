@@ -172,14 +172,6 @@ impl Cloud {
         has_name(self.traits.of(ix as usize), name)
     }
 
-    // A provider's aggregates, rising.
-    fn aggregates(&self, ix: u32) -> &[Id]
-        requires { ix < length (providers_of self.now) }
-        ensures { result.now ≡ (provider_at (providers_of self.now) ix).aggregates }
-    {
-        self.aggregates.of(ix as usize)
-    }
-
     /// Whether a provider itself belongs to an aggregate.
     pub fn in_aggregate(&self, ix: u32, aggregate: Id) -> bool
         requires { ix < length (providers_of self.now) }

@@ -6,10 +6,11 @@ use Rattle.std.specs.Map.{lookup}
 use Rattle.std.specs.Option.{option_and_then, option_map}
 use Rattle.std.specs.BTreeMap.{insert_entry, is_at}
 use Rattle.std.specs.Str.{bytes_eq}
+use Rattle.std.proofs.lemmas.Cmp.{nat_list_cmp_total}
 use Rattle.std.proofs.lemmas.Map.Text.{is_eq-slice_cmp}
 use Rattle.ac_base.specs.Texts.{text_cmp}
 use Rattle.ac_tables.specs.Sorted.{TextMap, map_of}
-use Rattle.ac_tables.proofs.Sorted.SortedFacts.{there_after}
+use Rattle.ac_tables.proofs.Sorted.SameItems.{there_after}
 use Rattle.ac_query.specs.Texts.{has_text, items_of}
 use Rattle.ac_query.specs.Pairs.Values.{need_value, needs_value, with_need, with_need_item}
 use Rattle.ac_query.specs.Laws.{are_apart, by_class, values_of}
@@ -79,7 +80,7 @@ none_after : (m : TextMap ℕ) (need : Need) (needs : List Need)
 none_after m need [] = refl
 none_after m need (n ∷ needs) =
     ap₂ (λ a b. not a && b)
-    (there_after n.0 m need.0 need.1 ∙ ap (λ b. b || is_there m n.0) (is_eq-slice_cmp n.0 need.0 ∙ eq_turned n.0 need.0))
+    (there_after nat_list_cmp_total n.0 m need.0 need.1 ∙ ap (λ b. b || is_there m n.0) (is_eq-slice_cmp n.0 need.0 ∙ eq_turned n.0 need.0))
     (none_after m need needs)
     ∙ among_two (bytes_eq need.0 n.0) (is_there m n.0) (has_text (map (λ n. n.0) needs) need.0) (none_there m needs)
 

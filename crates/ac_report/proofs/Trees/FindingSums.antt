@@ -13,7 +13,7 @@ use Rattle.ac_report.specs.Trees.{gathered, gives, needs_on, provider_text, sum,
 use Rattle.ac_report.proofs.Trees.Finding.{find, find_put, onto, AreTold}
 use Rattle.ac_tables.specs.Reader.RecordLaws.{eq_turned}
 use Rattle.ac_report.proofs.Trees.Gathering.{Named, bytes_eq_refl, sum_on_is}
-use Rattle.ac_tables.proofs.Places.KinFacts.{member_rising}
+use Rattle.ac_tables.proofs.Sorted.SameItems.{member_rising}
 use Rattle.ac_report.proofs.Serving.{needs_none}
 
 abbrev pub here : List Provider → List Placed → ℕ → Named

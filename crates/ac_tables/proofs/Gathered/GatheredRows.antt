@@ -1,5 +1,5 @@
 -- Rows in order, and the first fault of their records.
-use Rattle.std.proofs.Common.{◌≡◌, ◌∙◌, ◌+◌, ◌<◌, ◌≤◌, ◌++◌, ℕ, zero, suc, Bool, true, false, List, [], ◌∷◌, map, length, get_or, take, Option, Some, None, refl, sym, ap, ap₂, subst, arith, append_assoc, inl, inr}
+use Rattle.std.proofs.Common.{◌≡◌, ◌∙◌, ◌+◌, ◌<◌, ◌≤◌, ◌++◌, ℕ, Bool, true, false, List, [], ◌∷◌, map, length, get_or, take, Option, Some, None, refl, sym, ap, ap₂, subst, arith, append_assoc, inl, inr}
 use Rattle.std.specs.Prelude.{not, ◌&&◌}
 use Rattle.std.specs.declared.cmp.Ordering.{Ordering}
 use Rattle.std.specs.declared.cmp.Ordering.TheVariants.{Less, Equal, Greater}
@@ -8,8 +8,8 @@ use Rattle.std.specs.Cmp.{IsTotalOrder}
 use Rattle.std.specs.List.{All, AllPairs, list_any}
 use Rattle.std.specs.List.Sorted.{IsPermutation, IsSortedBy, IsStableBy, ties}
 use Rattle.std.proofs.lemmas.Bool.{cases_Bool}
-use Rattle.std.proofs.lemmas.List.{length-append, length-map, map-append, get_or-map, get_or_append_left, get_or-take, length-take-le, take-map}
-use Rattle.std.proofs.lemmas.List.Folds.{list_any_at}
+use Rattle.std.proofs.lemmas.List.{append-nil, length-append, length-map, map-append, get_or-map, get_or_append_left, get_or-take, length-take-le, take-map}
+use Rattle.std.proofs.lemmas.List.Folds.{list_any_at, list_any_none}
 use Rattle.std.proofs.Math.Seq.{get_or-append_seam}
 use Rattle.std.proofs.lemmas.List.Sorted.{All-permutation, length_permutation}
 use Rattle.ac_tables.specs.Tables.Checks.{Row, Check, rows_fault}
@@ -19,7 +19,7 @@ use Rattle.ac_tables.specs.declared.fault.Table.{Table}
 use Rattle.ac_tables.specs.declared.fault.TableKind.{TableKind}
 use Rattle.ac_tables.specs.declared.fault.TableKind.TheVariants as kind
 use Rattle.ac_tables.specs.declared.fault.TableFault.TheVariants as fault
-use Rattle.ac_tables.proofs.Gathered.RowOrder.{row_total, row_weak}
+use Rattle.ac_tables.proofs.Gathered.RowOrder.{row_total, row_weak, rows_strict}
 use Rattle.ac_tables.proofs.Sorted.SortedTies.{Sorting, Repeat, no_repeat, none_sooner, repeated, with_head}
 use Rattle.ac_tables.proofs.Gathered.JoinedFault.{Fresh, joined_none, joined_alone, joined_again}
 
@@ -31,10 +31,6 @@ ties_equal {X} {R} o x y = by_order (R x y) (R y x) refl (o.antisymm y x)
     by_order Less s e f = refl
     by_order Equal s e f = rw (f ∙ ap ordering_reverse e) refl
     by_order Greater s e f = rw (f ∙ ap ordering_reverse e) refl
-
-any_none : {V : Type 0} (p : V → Bool) (vs : List V) → All (λ v. p v ≡ false) vs → list_any p vs ≡ false
-any_none p [] all = refl
-any_none p (v ∷ vs) all = rw (all zero v (omega arith)) (any_none p vs (λ k d inside. all (suc k) d (omega arith)))
 
 -- items of which no two have one key
 fresh_pairs : {V R : Type 0} (show : R → V) (same : V → V → Bool) (earlier rows : List R) → AllPairs (λ a b. same (show b) (show a) ≡ false) (earlier ++ rows) → Fresh same (map show earlier) (map show rows)
@@ -50,7 +46,7 @@ fresh_pairs {V} {R} show same earlier (r ∷ rows) h =
     (h k (length earlier) r below (omega arith)))) in
     let rest : Fresh same (map show (earlier ++ r ∷ [])) (map show rows) =
     fresh_pairs show same (earlier ++ r ∷ []) rows (subst (AllPairs (λ a b. same (show b) (show a) ≡ false)) (sym (append_assoc earlier (r ∷ []) rows)) h) in
-    (any_none (same (show r)) (map show earlier) before, subst (λ (b : List V). Fresh same b (map show rows)) (map-append show earlier (r ∷ [])) rest)
+    (list_any_none (same (show r)) (map show earlier) before, subst (λ (b : List V). Fresh same b (map show rows)) (map-append show earlier (r ∷ [])) rest)
 
 no_more : (alone : Row → List Check) (left : List Row) → Stops alone left None → left ≡ []
 no_more alone [] h = refl
@@ -101,10 +97,6 @@ module _ {V K X : Type 0} (t : Table) (says : Row → V) (checks : List V → Ro
   gathered_fine none once =
       joined_none t says checks alone same keyed all r.so_far.done r.left r.so_far.whole r.so_far.fine (fresh_done once) (no_more alone r.left (subst (λ (o : Option TableKind). Stops alone r.left o) none r.stopped))
 
-  append-nil : (xs : List Row) → xs ++ [] ≡ xs
-  append-nil [] = refl
-  append-nil (x ∷ xs) = ap (λ (l : List Row). x ∷ l) (append-nil xs)
-
   pub gathered_table : first ≡ None → (unique ≡ true → IsLeastRepeat cmp rows None) → IsTable cmp shown count unique (map says all) rows
   gathered_table none once =
       let end : r.left ≡ [] = no_more alone r.left (subst (λ (o : Option TableKind). Stops alone r.left o) none r.stopped) in
@@ -116,8 +108,7 @@ module _ {V K X : Type 0} (t : Table) (says : Row → V) (checks : List V → Ro
         sorted = sorted;
         numbered = r.so_far.numbered;
         inside = All-permutation (λ (a : TableRow K X). a.place < count) read rows moved r.so_far.inside;
-        apart = once;
-        once = λ is. λ i j d less inside. sym (lt_ties (get_or read i d) (get_or read j d)) ∙ no_repeat (row_lt cmp) (λ a. a.number) read rows sorting (least_ties None (once is)) i j d less inside;
+        strict = λ is. rows_strict total rows sorted (once is);
       }
 
   -- the fault that a record has alone

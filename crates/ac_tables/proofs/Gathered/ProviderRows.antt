@@ -1,11 +1,19 @@
 -- The rows of one provider, and what is said of it.
-use Rattle.std.proofs.Common.{◌≡◌, ◌∙◌, ◌<◌, ℕ, zero, suc, Bool, true, List, [], ◌∷◌, map, refl, sym, ap, ap₂, arith, inl, inr}
+use Rattle.std.proofs.Common.{◌≡◌, ◌∙◌, ◌<◌, ℕ, zero, suc, Bool, true, List, [], ◌∷◌, map, refl, sym, ap, ap₂, subst, arith, inl, inr}
 use Rattle.std.specs.Prelude.{◌==◌}
-use Rattle.std.specs.List.{All, Contains, filter}
+use Rattle.std.specs.declared.cmp.Ordering.{Ordering}
+use Rattle.std.specs.declared.cmp.Ordering.TheVariants.{Less}
+use Rattle.std.specs.Ordering.{nat_cmp, ordering_then}
+use Rattle.std.specs.List.{All, AllByRecursion, Contains, filter}
+use Rattle.std.specs.List.Sorted.{IsStrictlySortedBy}
 use Rattle.std.proofs.lemmas.Bool.{cases_Bool}
+use Rattle.std.proofs.lemmas.Cmp.{nat_cmp_total, tied_itself}
 use Rattle.std.proofs.lemmas.List.{get_or-map, length-map}
-use Rattle.ac_tables.specs.Reader.TableRows.{row_shown}
+use Rattle.std.proofs.lemmas.List.Elements.{All-weaker, filter_passes, recursion_from_All}
+use Rattle.std.proofs.lemmas.List.Kept.{IsStrictlySortedBy-filter}
+use Rattle.ac_tables.specs.Reader.TableRows.{row_cmp, row_shown}
 use Rattle.ac_tables.specs.declared.reader.row.TableRow.{TableRow}
+use Rattle.ac_tables.proofs.Small.{are_equal}
 
 module _ {X : Type 0} (p : X → Bool) where
   pub filter_has : (xs : List X) (x : X) → Contains xs x → p x ≡ true → Contains (filter p xs) x
@@ -37,6 +45,35 @@ module _ {X Y : Type 0} (f : X → Y) where
   has_map [] y c = let i = c.1 in absurd (omega (arith, i))
   has_map (x ∷ xs) y (zero, inside, here) = (x, (zero, omega arith, refl), here)
   has_map (x ∷ xs) y (suc k, inside, here) = let r = has_map xs y (k, omega arith, here) in (r.0, (suc r.1.0, (let i = r.1.1 in omega (arith, i)), r.1.2), r.2)
+
+-- what is made of the items that pass, in a list that has all of another
+pub own_moved : {X Y : Type 0} (p : X → Bool) (f : X → Y) (xs ys : List X) → ((x : X) → Contains xs x → Contains ys x) → (y : Y) → Contains (map f (filter p xs)) y → Contains (map f (filter p ys)) y
+own_moved p f xs ys moved y c =
+    let r = has_map f (filter p xs) y c in
+    let h = has_filter p xs r.0 r.1 in
+    subst (Contains (map f (filter p ys))) r.2 (map_has f (filter p ys) r.0 (filter_has p ys r.0 (moved r.0 h.0) h.1))
+
+-- rows of one provider compare by their keys
+module _ {K X Y : Type 0} (cmp : K → K → Ordering) (order : Y → Y → Ordering) (bytes : K → Y) (same : (a b : K) → cmp a b ≡ order (bytes a) (bytes b)) (p : ℕ) where
+  by_key : (a b : TableRow K X) → a.place ≡ p → b.place ≡ p → row_cmp cmp a b ≡ order (bytes a.key) (bytes b.key)
+  by_key a b e f =
+      ap₂ (λ m n. ordering_then (nat_cmp m n) (cmp a.key b.key)) e f ∙ ap (λ o. ordering_then o (cmp a.key b.key)) (tied_itself nat_cmp_total p) ∙ same a.key b.key
+
+  all_below : (a : TableRow K X) (rs : List (TableRow K X)) → a.place ≡ p → AllByRecursion (λ r. r.place ≡ p) rs → AllByRecursion (λ r. row_cmp cmp a r ≡ Less) rs
+      → AllByRecursion (λ y. order (bytes a.key) y ≡ Less) (map (λ r. bytes r.key) rs)
+  all_below a [] e here less = tt
+  all_below a (r ∷ rs) e here less = (sym (by_key a r e here.0) ∙ less.0, all_below a rs e here.1 less.1)
+
+  pub keys_sorted : (rs : List (TableRow K X)) → AllByRecursion (λ r. r.place ≡ p) rs → IsStrictlySortedBy (row_cmp cmp) rs → IsStrictlySortedBy order (map (λ r. bytes r.key) rs)
+  unfolding IsStrictlySortedBy
+  keys_sorted [] here sorted = tt
+  keys_sorted (r ∷ rs) here sorted = (all_below r rs here.0 here.1 sorted.0, keys_sorted rs here.1 sorted.1)
+
+  pub own_keys_sorted : (rs : List (TableRow K X)) → IsStrictlySortedBy (row_cmp cmp) rs → IsStrictlySortedBy order (map (λ r. bytes r.key) (filter (λ r. r.place == p) rs))
+  own_keys_sorted rs sorted = keys_sorted (filter (λ r. r.place == p) rs) (here rs) (IsStrictlySortedBy-filter (row_cmp cmp) (λ r. r.place == p) rs sorted)
+    where
+      here : (rs : List (TableRow K X)) → AllByRecursion (λ r. r.place ≡ p) (filter (λ r. r.place == p) rs)
+      here rs = recursion_from_All (λ r. r.place ≡ p) _ (All-weaker _ _ (λ r e. are_equal r.place p e) _ (filter_passes (λ r. r.place == p) rs))
 
 module _ {V K X Y : Type 0} (shown : ℕ → K → X → V) (count : ℕ) (provider : V → ℕ) (part : V → Y) (show : TableRow K X → Y) (p id : ℕ)
     (whose : (r : TableRow K X) → r.place < count → (provider (row_shown shown r) == id) ≡ (r.place == p))

@@ -16,10 +16,9 @@ use Rattle.ac_tables.specs.Cloud.Anchors.{is_among, meets_at, meets, is_joined, 
 use Rattle.ac_tables.specs.World.{Provider, no_provider, provider_at, id_at, root_of, is_root, shares, is_associated, have_common_aggregate, is_available_at, anchors_of}
 use Rattle.ac_tables.specs.Cloud.CloudWorld.{providers_of}
 use Rattle.ac_tables.specs.declared.cloud.Cloud.{Cloud}
-use Rattle.ac_tables.proofs.Places.LookupFacts.{any_map}
+use Rattle.ac_tables.proofs.Sorted.SearchFacts.{any_map, no_any}
 use Rattle.ac_tables.proofs.Places.CloudFacts.{traits_here, aggregates_here, size, parent_is, root_inside, root_here, parts}
 use Rattle.ac_tables.proofs.Places.AvailableFacts.{root_test, root_here as root_is_here}
-use Rattle.ac_tables.proofs.Sorted.SearchFacts.{no_any}
 use Rattle.ac_tables.proofs.Places.AnchorLists.{rising_filter}
 use Rattle.std.proofs.Math.Bool.{or-false}
 

@@ -1,13 +1,10 @@
 -- The ids of a fine table of providers: their parents are there, and their chains end.
-use Rattle.std.proofs.Common.{◌≡◌, ◌<◌, ◌+◌, ◌∙◌, ℕ, zero, suc, true, false, List, [], ◌∷◌, map, length, get_or, Option, Some, None, refl, sym, ap, ap₂, subst, arith, inl, inr, Ordering}
-use Rattle.std.specs.Prelude.{◌==◌, ◌||◌}
-use Rattle.std.specs.declared.cmp.Ordering.TheVariants.{Less, Equal, Greater}
+use Rattle.std.proofs.Common.{◌≡◌, ◌<◌, ◌+◌, ◌∙◌, ℕ, zero, suc, true, false, List, [], ◌∷◌, map, length, get_or, Option, Some, None, refl, sym, ap, ap₂, subst, arith, inl, inr}
+use Rattle.std.specs.Prelude.{◌==◌}
 use Rattle.std.specs.Option.{is_some, option_and_then}
-use Rattle.std.specs.List.{position_from, fold}
-use Rattle.std.specs.Ordering.{nat_cmp, match_ordering}
-use Rattle.std.specs.BTreeSet.{insert_key}
+use Rattle.std.specs.List.{position_from}
+use Rattle.std.specs.Ordering.{nat_cmp}
 use Rattle.std.proofs.lemmas.Bool.{cases_Bool}
-use Rattle.std.proofs.lemmas.Map.Lookups.{exact_unsigned}
 use Rattle.ac_tables.specs.Sorted.{rising}
 use Rattle.ac_tables.specs.Tables.InventoryTable.{is_one_of}
 use Rattle.ac_tables.specs.Cloud.Kin.{AreKin}
@@ -18,8 +15,8 @@ use Rattle.ac_tables.specs.declared.fault.Table.TheVariants as table
 use Rattle.ac_tables.specs.declared.fault.TableKind.TheVariants as kind
 use Rattle.ac_tables.proofs.Records.ProviderFaults.{none_fails}
 use Rattle.ac_tables.proofs.Sorted.Rising.{one_of_place}
-use Rattle.ac_tables.proofs.Small.{are_equal, or_again, or_swapped, or_grouped}
-use Rattle.std.proofs.Math.Bool.{or-false}
+use Rattle.ac_tables.proofs.Sorted.SameItems.{member_rising}
+use Rattle.ac_tables.proofs.Small.{are_equal}
 
 -- a place that was found has that id
 found_at : (q i : ℕ) (xs : List ProviderRecord) (k : ℕ) → position_from (is_at q) i xs ≡ Some k → (m : ℕ) × (k ≡ i + m) × (m < length xs) × ((record_at xs m).id ≡ q)
@@ -35,28 +32,6 @@ place_found all q j e =
     let f = found_at q 0 all j e in
     let same : f.0 ≡ j = omega (arith, f.1) in
     (omega (arith, f.1, f.2), subst (λ (m : ℕ). (record_at all m).id ≡ q) same f.3)
-
-member_insert : (q : ℕ) (xs : List ℕ) (k : ℕ) → is_one_of (insert_key nat_cmp xs k) q ≡ ((k == q) || is_one_of xs q)
-member_insert q [] k = refl
-member_insert q (x ∷ xs) k = by_order (nat_cmp k x) refl (member_insert q xs k)
-  where
-    by_order : (o : Ordering) → nat_cmp k x ≡ o → is_one_of (insert_key nat_cmp xs k) q ≡ ((k == q) || is_one_of xs q)
-        → is_one_of (match_ordering o (k ∷ x ∷ xs) (x ∷ xs) (x ∷ insert_key nat_cmp xs k)) q ≡ ((k == q) || ((x == q) || is_one_of xs q))
-    by_order Less h rest = refl
-    by_order Equal h rest =
-        let same : k ≡ x = exact_unsigned k x h in
-        or_again (x == q) (is_one_of xs q) ∙ ap (λ (y : ℕ). (y == q) || ((x == q) || is_one_of xs q)) (sym same)
-    by_order Greater h rest = ap (λ b. (x == q) || b) rest ∙ or_swapped (x == q) (k == q) (is_one_of xs q)
-
-member_fold : (q : ℕ) (ks xs : List ℕ) → is_one_of (fold (insert_key nat_cmp) ks xs) q ≡ (is_one_of xs q || is_one_of ks q)
-member_fold q ks [] = refl
-member_fold q ks (x ∷ xs) =
-    member_fold q (insert_key nat_cmp ks x) xs ∙ ap (λ b. is_one_of xs q || b) (member_insert q ks x)
-    ∙ or_swapped (is_one_of xs q) (x == q) (is_one_of ks q) ∙ or_grouped (x == q) (is_one_of xs q) (is_one_of ks q)
-
--- what is in a set
-pub member_rising : (q : ℕ) (xs : List ℕ) → is_one_of (rising nat_cmp xs) q ≡ is_one_of xs q
-member_rising q xs = member_fold q [] xs ∙ or-false (is_one_of xs q)
 
 position_member : (q k : ℕ) (rows : List ProviderRecord) → is_some (position_from (is_at q) k rows) ≡ is_one_of (map (λ p. p.id) rows) q
 position_member q k [] = refl

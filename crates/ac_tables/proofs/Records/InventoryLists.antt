@@ -1,9 +1,6 @@
 -- The inventories of each provider, of rows in order.
-use Rattle.std.proofs.Common.{◌≡◌, ◌∙◌, ◌==◌, ℕ, List, map, length, get_or, refl, sym}
+use Rattle.std.proofs.Common.{◌≡◌, ◌==◌, ℕ, List, map, length, get_or, refl}
 use Rattle.std.specs.List.{filter, range_with_len}
-use Rattle.std.specs.Cmp.{on_total}
-use Rattle.std.proofs.lemmas.Cmp.{nat_list_cmp_total}
-use Rattle.std.proofs.lemmas.Map.Text.{is_eq-slice_cmp}
 use Rattle.ac_base.specs.Names.{class_bytes}
 use Rattle.ac_base.specs.Quantities.{InventoryNumbers}
 use Rattle.ac_base.specs.Texts.{text_cmp}
@@ -11,7 +8,7 @@ use Rattle.ac_base.specs.declared.name.ClassName.{ClassName}
 use Rattle.ac_tables.specs.Cloud.RisingIds.{IsRising}
 use Rattle.ac_tables.specs.Reader.InventoryRows.{AreInventories, class_pair, inventory_shown}
 use Rattle.ac_tables.specs.Tables.InventoryTable.{InventoryRecord}
-use Rattle.ac_tables.specs.Reader.RecordLaws.{same_place, eq_turned}
+use Rattle.ac_tables.specs.Reader.RecordLaws.{same_place}
 use Rattle.ac_tables.specs.Tables.{inventories_of}
 use Rattle.ac_tables.specs.declared.reader.row.TableRow.{TableRow}
 use Rattle.ac_tables.proofs.Sorted.ListFacts.{of_each}
@@ -23,7 +20,6 @@ pub inventory_lists_here : (ids : List ℕ) → IsRising ids → (said : List In
 unfolding inventories_of
 inventory_lists_here ids rising said rows table lists are =
     of_each rows (map class_pair) (inventories_of said) ids lists are (λ p h.
-    shown_map (λ a b. text_cmp (class_bytes a) (class_bytes b)) (on_total class_bytes nat_list_cmp_total) nat_list_cmp_total (λ a b. is_eq-slice_cmp a b ∙ eq_turned a b ∙ sym (is_eq-slice_cmp b a))
-    class_bytes (λ a b. refl) (inventory_shown ids) (length ids) said rows table (λ (v : InventoryRecord). v.provider) (λ (v : InventoryRecord). (v.class, v.inventory)) p (get_or ids p 0)
+    shown_map (λ a b. text_cmp (class_bytes a) (class_bytes b)) class_bytes (λ a b. refl) (inventory_shown ids) (length ids) said rows table (λ (v : InventoryRecord). v.provider) (λ (v : InventoryRecord). (v.class, v.inventory)) p (get_or ids p 0)
     (λ r inside. same_place ids rising r.place p inside h)
     (λ r. refl))

@@ -1,17 +1,17 @@
 -- The rows of the table of providers say what its records say: their ids, who is whose parent, and what is wrong with a provider.
 use Rattle.std.proofs.Common.{◌≡◌, ◌∙◌, ◌+◌, ◌<◌, ℕ, zero, suc, Bool, true, false, List, [], ◌∷◌, map, length, get_or, Option, Some, None, refl, sym, ap, ap₂, subst, arith, rules, inl, inr}
 use Rattle.std.specs.Prelude.{◌==◌, ◌&&◌, not}
-use Rattle.std.specs.declared.cmp.Ordering.{Ordering}
-use Rattle.std.specs.declared.cmp.Ordering.TheVariants.{Less, Equal, Greater}
-use Rattle.std.specs.Ordering.{nat_cmp, ordering_then, ordering_reverse, is_eq, is_lt}
-use Rattle.std.specs.Cmp.{tied_itself, nat_cmp_total, unsigned_tied}
+use Rattle.std.specs.Ordering.{nat_cmp, eq_by_cmp}
+use Rattle.std.specs.Cmp.{nat_cmp_total, unsigned_tied}
 use Rattle.std.specs.Option.{is_some, is_none, unwrap_or, option_map, option_and_then}
-use Rattle.std.specs.List.{Contains, position_from}
+use Rattle.std.specs.List.{IsDistinct, position_from}
 use Rattle.std.specs.List.Sorted.{IsPermutation, IsStrictlySortedBy}
 use Rattle.std.proofs.lemmas.Bool.{cases_Bool}
 use Rattle.std.proofs.lemmas.List.{get_or-map, length-map}
-use Rattle.std.proofs.lemmas.List.Sorted.{All-permutation, Contains-permutation, IsPermutation-sym, IsPermutation-map, length_permutation}
-use Rattle.std.proofs.lemmas.Map.Keys.{sorted_from_all_adjacent}
+use Rattle.std.proofs.lemmas.List.Elements.{All-weaker, recursion_from_All}
+use Rattle.std.proofs.lemmas.List.Sorted.{Contains-permutation, IsPermutation-sym, IsPermutation-map, length_permutation}
+use Rattle.std.proofs.lemmas.Map.Keys.{IsDistinct-from_sorted, IsDistinct-IsPermutation, apart_from_distinct}
+use Rattle.std.proofs.lemmas.Cmp.{eq_by_cmp_equiv}
 use Rattle.std.proofs.lemmas.Map.Lookups.{exact_unsigned}
 use Rattle.ac_tables.specs.Cloud.DistinctIds.{AreDistinct, AreTrees}
 use Rattle.ac_tables.specs.Tables.InventoryTable.{is_one_of}
@@ -19,19 +19,19 @@ use Rattle.ac_tables.specs.Cloud.Places.{rank, parent_in, AreParents}
 use Rattle.ac_tables.specs.Reader.ProviderLaws.{provider_shown}
 use Rattle.ac_tables.specs.Tables.ProviderTable.{ProviderRecord, is_at, is_known, place_of, no_record, record_at, said_parent, has_unknown_parent, has_endless_chain, has_wrong_root, unknown_fault}
 use Rattle.ac_tables.specs.Sorted.{rising}
-use Rattle.ac_tables.specs.Reader.TableRows.{row_cmp, row_shown, IsTable}
+use Rattle.ac_tables.specs.Reader.TableRows.{row_shown, IsTable}
 use Rattle.ac_tables.specs.Trees.{top}
 use Rattle.ac_tables.specs.declared.reader.row.TableRow.{TableRow}
 use Rattle.ac_tables.specs.declared.tables.provider_record.Named.{Named}
 use Rattle.ac_tables.proofs.Places.BuildFacts.{agree, are_within, are_parents, same_size, has_rank}
-use Rattle.ac_tables.proofs.Places.KinFacts.{kin_known, member_rising, place_member}
+use Rattle.ac_tables.proofs.Places.KinFacts.{kin_known, place_member}
 use Rattle.ac_tables.proofs.Records.ProviderFaults.{are_trees}
 use Rattle.ac_tables.proofs.Records.Marks.{record_of, said_at, size}
 use Rattle.ac_tables.proofs.Trees.PlaceTrees.{steps}
 use Rattle.ac_tables.proofs.Sorted.Rising.{rank_none}
-use Rattle.ac_tables.proofs.Sorted.SameItems.{same_items, rising_has, has_rising}
-use Rattle.std.proofs.lemmas.List.{map-id}
-use Rattle.ac_tables.proofs.Sorted.SortedSets.{rising_sorted}
+use Rattle.ac_tables.proofs.Sorted.SameItems.{is_rising, member_rising}
+use Rattle.ac_tables.proofs.Gathered.ProviderRows.{keys_sorted}
+use mathlib.Core.List.{map-map}
 
 abbrev ListingRow : Type 0
 ListingRow = TableRow ℕ Named
@@ -61,42 +61,16 @@ map_at : {A B : Type 0} (f g : A → B) (xs : List A) (d : A) → ((k : ℕ) →
 map_at f g [] d same = refl
 map_at f g (x ∷ xs) d same = ap₂ (λ a l. a ∷ l) (same zero (omega arith)) (map_at f g xs d (λ k h. same (suc k) (omega arith)))
 
-map_twice : {A B C : Type 0} (f : B → C) (g : A → B) (xs : List A) → map f (map g xs) ≡ map (λ x. f (g x)) xs
-map_twice f g [] = refl
-map_twice f g (x ∷ xs) = ap (λ l. f (g x) ∷ l) (map_twice f g xs)
-
 module _ (said : List ProviderRecord) (rows : List ListingRow) (t : IsTable nat_cmp provider_shown 1 true said rows) where
   abbrev ids : List ℕ
   ids = map key rows
-
-  zero_place : (n : ℕ) → n < 1 → n ≡ 0
-  zero_place n h = omega (arith, h)
-
-  by_key : (a b : ListingRow) → a.place < 1 → b.place < 1 → row_cmp nat_cmp a b ≡ nat_cmp a.key b.key
-  by_key a b ha hb =
-      ap₂ (λ m n. ordering_then (nat_cmp m n) (nat_cmp a.key b.key)) (zero_place a.place ha) (zero_place b.place hb)
-      ∙ ap (λ o. ordering_then o (nat_cmp a.key b.key)) (tied_itself nat_cmp_total 0)
-
-  less_of : (a b : ℕ) → is_lt (nat_cmp b a) ≡ false → is_eq (nat_cmp a b) ≡ false → nat_cmp a b ≡ Less
-  less_of a b e f = by_order (nat_cmp a b) refl
-    where
-      by_order : (r : Ordering) → nat_cmp a b ≡ r → nat_cmp a b ≡ Less
-      by_order Less is = is
-      by_order Equal is = absurd (let g : is_eq (nat_cmp a b) ≡ true = ap is_eq is in cc)
-      by_order Greater is = absurd (let g : is_lt (nat_cmp b a) ≡ true = ap is_lt (nat_cmp_total.antisymm b a ∙ ap ordering_reverse is) in cc)
 
   key_at : (k : ℕ) → k < length rows → get_or ids k 0 ≡ (get_or rows k no_row).key
   key_at k h = get_or-map key rows k no_row 0 h
 
   pub keys_rise : IsStrictlySortedBy nat_cmp ids
-  keys_rise = sorted_from_all_adjacent nat_cmp_total ids 0 (λ k inside.
-      let next : k + 1 < length rows = omega (arith, inside, length-map rows key) in
-      let a = t.inside k no_row (omega arith) in
-      let b = t.inside (k + 1) no_row next in
-      ap₂ nat_cmp (key_at k (omega arith)) (key_at (k + 1) next)
-      ∙ less_of (get_or rows k no_row).key (get_or rows (k + 1) no_row).key
-      (ap is_lt (sym (by_key (get_or rows (k + 1) no_row) (get_or rows k no_row) b a)) ∙ t.sorted k no_row (omega arith) next)
-      (ap is_eq (sym (by_key (get_or rows k no_row) (get_or rows (k + 1) no_row) a b)) ∙ t.apart refl k no_row next))
+  keys_rise =
+      keys_sorted nat_cmp nat_cmp (λ (q : ℕ). q) (λ a b. refl) 0 rows (recursion_from_All (λ (r : ListingRow). r.place ≡ 0) rows (All-weaker (λ r. r.place < 1) (λ r. r.place ≡ 0) (λ r h. omega (arith, h)) rows t.inside)) (t.strict refl)
 
   said_ids : map (λ (p : ProviderRecord). p.id) said ≡ map key t.read
   said_ids = ap (map (λ (p : ProviderRecord). p.id)) (sym t.shows) ∙ shown_ids t.read
@@ -104,12 +78,10 @@ module _ (said : List ProviderRecord) (rows : List ListingRow) (t : IsTable nat_
   -- the ids of all providers
   pub ids_are : map (λ r. r.key) rows ≡ rising nat_cmp (map (λ p. p.id) said)
   ids_are =
-      let all : List ℕ = map (λ (p : ProviderRecord). p.id) said in
       let moved : IsPermutation (map key t.read) ids = IsPermutation-map key t.read rows t.same in
-      same_items (λ (y : ℕ). y) nat_cmp_total ids (rising nat_cmp all)
-      (rw (map-id ids) keys_rise) (rw (map-id (rising nat_cmp all)) (rising_sorted nat_cmp_total all))
-      (λ y c. has_rising exact_unsigned all y (subst (λ l. Contains l y) (sym said_ids) (Contains-permutation ids (map key t.read) y (IsPermutation-sym (map key t.read) ids moved) c)))
-      (λ y c. Contains-permutation (map key t.read) ids y moved (subst (λ l. Contains l y) said_ids (rising_has exact_unsigned all y c)))
+      is_rising nat_cmp_total exact_unsigned ids (map key t.read) keys_rise
+      (λ y. Contains-permutation ids (map key t.read) y (IsPermutation-sym (map key t.read) ids moved)) (λ y. Contains-permutation (map key t.read) ids y moved)
+      ∙ ap (rising nat_cmp) (sym said_ids)
 
   pub count : length (map (λ (r : ListingRow). r.key) rows) ≡ length said
   count = length_permutation (map key t.read) ids (IsPermutation-map key t.read rows t.same) ∙ ap length (sym said_ids) ∙ length-map said (λ (p : ProviderRecord). p.id)
@@ -121,22 +93,21 @@ module _ (said : List ProviderRecord) (rows : List ListingRow) (t : IsTable nat_
   pub distinct : AreDistinct said
   unfolding place_of
   distinct i h =
-      let inside : i < length t.read = omega (arith, h, size said rows t) in
-      let id : ℕ = (record_at said i).id in
-      let same : is_at id (get_or said i no_record) ≡ true = equal id in
-      position_at (is_at id) 0 said i no_record h same (λ j less.
-      let earlier : j < length t.read = omega (arith, less, inside) in
-      ap₂ (λ (a b : ProviderRecord). a.id == b.id) (said_at said rows t j no_row no_record earlier) (said_at said rows t i no_row no_record inside)
-      ∙ sym (unsigned_tied (get_or t.read j no_row).key (get_or t.read i no_row).key)
-      ∙ ap is_eq (sym (by_key (get_or t.read j no_row) (get_or t.read i no_row) (placed j earlier) (placed i inside)))
-      ∙ t.once refl j i no_row less inside)
+      let all : List ℕ = map (λ (p : ProviderRecord). p.id) said in
+      let apart : IsDistinct (eq_by_cmp nat_cmp) (map (λ (p : ProviderRecord). p.id) said) =
+      subst (IsDistinct (eq_by_cmp nat_cmp)) (sym said_ids)
+      (IsDistinct-IsPermutation (eq_by_cmp nat_cmp) turned ids (map key t.read) (IsPermutation-sym (map key t.read) ids (IsPermutation-map key t.read rows t.same)) (IsDistinct-from_sorted nat_cmp ids keys_rise)) in
+      position_at (is_at (record_at said i).id) 0 said i no_record h (equal (record_at said i).id) (λ j less.
+      ap₂ (λ a b. a == b) (sym (get_or-map (λ (p : ProviderRecord). p.id) said j no_record 0 (omega arith))) (sym (get_or-map (λ (p : ProviderRecord). p.id) said i no_record 0 h))
+      ∙ sym (unsigned_tied (get_or all j 0) (get_or all i 0))
+      ∙ apart_from_distinct (eq_by_cmp nat_cmp) all j i 0 apart less (omega (arith, h, length-map said (λ (p : ProviderRecord). p.id))))
       ∙ ap (λ (n : ℕ). Some n) (omega arith)
     where
       equal : (a : ℕ) → (a == a) ≡ true
       equal a = search (arith, rules)
 
-      placed : (k : ℕ) → k < length t.read → (get_or t.read k no_row).place < 1
-      placed k h = All-permutation (λ (r : ListingRow). r.place < 1) rows t.read (IsPermutation-sym t.read rows t.same) t.inside k no_row h
+      turned : (a b : ℕ) → eq_by_cmp nat_cmp a b ≡ eq_by_cmp nat_cmp b a
+      turned a b = (eq_by_cmp_equiv nat_cmp_total).symm a b
 
   -- the parent of a row's provider
   pub parent_here : (k : ℕ) → k < length rows → said_parent said (get_or rows k no_row).key ≡ (get_or rows k no_row).value.parent
@@ -152,7 +123,7 @@ module _ (said : List ProviderRecord) (rows : List ListingRow) (t : IsTable nat_
     parents_are =
         are
         ∙ map_at (λ r. option_and_then (rank ids) (parent_of r)) (λ r. option_and_then (rank ids) (said_parent said r.key)) rows no_row (λ k h. ap (option_and_then (rank ids)) (sym (parent_here k h)))
-        ∙ sym (map_twice (λ id. option_and_then (rank ids) (said_parent said id)) key rows)
+        ∙ sym (map-map (λ id. option_and_then (rank ids) (said_parent said id)) key rows)
 
     parent_at : (k : ℕ) → k < length rows → get_or parents k None ≡ option_and_then (rank ids) (get_or rows k no_row).value.parent
     parent_at k h = ap (λ (l : List (Option ℕ)). get_or l k None) are ∙ get_or-map (λ r. option_and_then (rank ids) (parent_of r)) rows k no_row None h

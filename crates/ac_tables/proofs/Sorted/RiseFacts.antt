@@ -10,7 +10,7 @@ use Rattle.ac_base.specs.Texts.{text_cmp}
 use Rattle.ac_base.specs.Quantities.{InventoryNumbers}
 use Rattle.ac_base.specs.declared.name.ClassName.{ClassName}
 use Rattle.ac_base.specs.declared.name.TraitName.{TraitName}
-use Rattle.ac_tables.specs.Sorted.{TextMap, map_of}
+use Rattle.ac_tables.specs.Sorted.{TextMap}
 use Rattle.ac_tables.specs.Tables.InventoryTable.{InventoryRecord}
 use Rattle.ac_tables.specs.Tables.UsageTable.{UsageRecord}
 use Rattle.ac_tables.specs.Tables.TraitTable.{TraitRecord}
@@ -20,16 +20,13 @@ use Rattle.ac_tables.specs.Reader.InventoryRows.{class_pair, inventory_records_s
 use Rattle.ac_tables.specs.declared.reader.row.TableRow.{TableRow}
 use Rattle.ac_tables.specs.declared.tables.inventories.Inventories.{Inventories}
 use Rattle.ac_tables.proofs.Sorted.SortedSets.{rising_sorted}
-use Rattle.ac_tables.proofs.Sorted.SameItems.{keys_inserted}
+use Rattle.ac_tables.proofs.Sorted.SameItems.{map_rises}
 use Rattle.std.proofs.lemmas.List.{map-id}
 use Rattle.ac_tables.proofs.Sorted.ListFacts.{all_gathered}
 
 -- what the rows of the inventories show, beside ids that are equal
 pub said_here : (own : Inventories) (ids : List ℕ) (said : List InventoryRecord) → own.ids.ids.items ≡ ids → IsPermutation said (inventory_records_shown ids own.rows.items.items) → IsPermutation said (inventory_records_shown own.ids.ids.items own.rows.items.items)
 said_here own ids said e h = subst (λ (l : List ℕ). IsPermutation said (inventory_records_shown l own.rows.items.items)) (sym e) h
-
-map_rises : {X : Type 0} (pairs : List (List ℕ × X)) → IsStrictlySortedBy text_cmp (map (λ (e : List ℕ × X). e.0) (map_of pairs))
-map_rises {X} pairs = subst (IsStrictlySortedBy text_cmp) (sym (keys_inserted nat_list_cmp_total [] pairs)) (rising_sorted nat_list_cmp_total (map (λ (e : List ℕ × X). e.0) pairs))
 
 first_of_pairs : {X : Type 0} (rs : List (TableRow ClassName X)) → map (λ (e : List ℕ × X). e.0) (map class_pair rs) ≡ map (λ (r : TableRow ClassName X). class_bytes r.key) rs
 first_of_pairs [] = refl
@@ -44,12 +41,12 @@ classes_rise {X} gather ids lists e rise k d inside =
 pub inventories_rise : (said : List InventoryRecord) (ids : List ℕ) (lists : List (List (TableRow ClassName InventoryNumbers))) → map (map class_pair) lists ≡ map (inventories_of said) ids
     → All (λ rs. IsStrictlySortedBy text_cmp (map (λ (r : TableRow ClassName InventoryNumbers). class_bytes r.key) rs)) lists
 unfolding inventories_of
-inventories_rise said ids lists e = classes_rise (inventories_of said) ids lists e (λ id. map_rises (map (λ (h : InventoryRecord). (h.class, h.inventory)) (filter (λ (h : InventoryRecord). h.provider == id) said)))
+inventories_rise said ids lists e = classes_rise (inventories_of said) ids lists e (λ id. map_rises nat_list_cmp_total (map (λ (h : InventoryRecord). (h.class, h.inventory)) (filter (λ (h : InventoryRecord). h.provider == id) said)))
 
 pub amounts_rise : (said : List UsageRecord) (ids : List ℕ) (lists : List (List (TableRow ClassName ℕ))) → map (map class_pair) lists ≡ map (amounts_of said) ids
     → All (λ rs. IsStrictlySortedBy text_cmp (map (λ (r : TableRow ClassName ℕ). class_bytes r.key) rs)) lists
 unfolding amounts_of
-amounts_rise said ids lists e = classes_rise (amounts_of said) ids lists e (λ id. map_rises (map (λ (u : UsageRecord). (u.class, u.amount)) (filter (λ (u : UsageRecord). u.provider == id) said)))
+amounts_rise said ids lists e = classes_rise (amounts_of said) ids lists e (λ id. map_rises nat_list_cmp_total (map (λ (u : UsageRecord). (u.class, u.amount)) (filter (λ (u : UsageRecord). u.provider == id) said)))
 
 pub names_rise : (said : List TraitRecord) (ids : List ℕ) (lists : List (List TraitName)) → map (map trait_bytes) lists ≡ map (names_of said) ids → All (λ names. IsStrictlySortedBy text_cmp (map trait_bytes names)) lists
 unfolding names_of

@@ -1,197 +1,189 @@
--- Lists in the order of their keys that have the same items are equal: so are the map and the set of given items.
-use Rattle.std.proofs.Common.{◌≡◌, ◌∙◌, ◌++◌, zero, suc, true, false, List, [], ◌∷◌, map, length, get_or, refl, sym, ap, ap₂, subst, arith, append_assoc, inl, inr, ◌⊎◌}
-use Rattle.std.specs.declared.cmp.Ordering.{Ordering}
-use Rattle.std.specs.declared.cmp.Ordering.TheVariants.{Less, Equal, Greater}
-use Rattle.std.specs.Ordering.{ordering_reverse, eq_by_cmp, is_eq}
-use Rattle.std.specs.Cmp.{IsTotalOrder, tied_itself}
-use Rattle.std.specs.BTreeMap.{insert_entry}
+-- Sets and maps in the order of their keys: what they have of the items that they are gathered of, and that those with the same items are equal.
+use Rattle.std.proofs.Common.{◌≡◌, ◌∙◌, ◌||◌, ◌==◌, ◌++◌, ℕ, Bool, true, false, List, [], ◌∷◌, map, reverse, Option, Some, None, Contains, fold, Ordering, Less, Equal, Greater, refl, sym, ap, inl}
+use Rattle.std.specs.Prelude.{if◌then◌else◌, IsSome}
+use Rattle.std.specs.Ordering.{is_eq, nat_cmp, eq_by_cmp, match_ordering}
+use Rattle.std.specs.Cmp.{IsTotalOrder, both_ways}
+use Rattle.std.specs.List.{list_any}
+use Rattle.std.specs.List.Sorted.{IsStrictlySortedBy}
+use Rattle.std.specs.Map.{keys_of, lookup}
+use Rattle.std.specs.Option.{is_some, option_or}
+use Rattle.std.specs.BTreeMap.{insert_entry, is_at}
 use Rattle.std.specs.BTreeSet.{insert_key}
-use Rattle.std.specs.List.{All, Contains, IsDistinct, fold}
-use Rattle.std.specs.List.Sorted.{IsPermutation, IsStrictlySortedBy}
-use Rattle.std.proofs.lemmas.List.{get_or-map, length-map}
-use Rattle.std.proofs.lemmas.List.Elements.{All-from_recursion}
-use Rattle.std.proofs.lemmas.List.Sorted.{IsPermutation-refl, IsPermutation-to_front, IsPermutation-cons, IsPermutation-append_left, IsPermutation-trans, IsPermutation-sym, IsPermutation-map, Contains-permutation}
-use Rattle.std.proofs.lemmas.Map.Keys.{sorted_head, sorted_tail, IsDistinct-head, IsDistinct-tail, IsDistinct-IsPermutation}
+use Rattle.std_collections.specs.Layout.BTreeMap.{btree_map}
+use Rattle.std_collections.specs.Layout.BTreeSet.{btree_set}
+use Rattle.std.proofs.Math.Bool.{or-false}
+use Rattle.std.proofs.lemmas.Cmp.{nat_cmp_total, alike_right, tied_back, eq_by_cmp_equiv}
+use Rattle.std.proofs.lemmas.List.{reverse-append}
+use Rattle.std.proofs.lemmas.List.Sorted.{Contains-permutation, IsPermutation-reverse, IsPermutation-sym}
+use Rattle.std.proofs.lemmas.Map.Keys.{IsDistinct-from_sorted}
+use Rattle.std.proofs.lemmas.Map.Lookups.{CmpEqualImpliesEq, btree_map_from_get, btree_set_from_contains}
+use Rattle.std.proofs.lemmas.Map.Views.{Contains-from_any, list_any-from_Contains, Contains-from_lookup, lookup-from_Contains, IsSome-lookup_from_Contains, tells_apart}
 use Rattle.ac_tables.specs.Sorted.{rising}
-use Rattle.ac_tables.proofs.Sorted.SortedFacts.{insert_keys}
+use Rattle.ac_tables.specs.Tables.InventoryTable.{is_one_of}
+use Rattle.ac_tables.proofs.Gathered.ProviderRows.{map_has}
+use Rattle.ac_tables.proofs.Sorted.SearchFacts.{any_same, is_eq_nat}
 use Rattle.ac_tables.proofs.Sorted.SortedSets.{rising_sorted}
-use Rattle.std.proofs.lemmas.List.{append-nil}
+use Rattle.ac_tables.proofs.Small.{or_again, or_grouped, or_swapped}
 
+-- ---- sets
 module _ {K : Type 0} {R : K → K → Ordering} (o : IsTotalOrder R) where
-  never_less : (x : K) → R x x ≡ Less → ⊥
-  never_less x e = let t = tied_itself o x in cc
+  abbrev has : K → List K → Bool
+  has q ks = list_any (is_at (R q)) ks
 
-  not_both : (x y : K) → R x y ≡ Less → R y x ≡ Less → ⊥
-  not_both x y e f = let t = o.antisymm x y in let r : R x y ≡ Greater = t ∙ ap ordering_reverse f in cc
-
-module _ {E K : Type 0} (key : E → K) {R : K → K → Ordering} (o : IsTotalOrder R) where
-  -- an item, or one of the others
-  head_or : (e f : E) (es : List E) → Contains (e ∷ es) f → (e ≡ f) ⊎ Contains es f
-  head_or e f es (zero, inside, here) = inl here
-  head_or e f es (suc k, inside, here) = inr (k, omega arith, here)
-
-  in_tail : (e f : E) (es : List E) → Contains es f → Contains (e ∷ es) f
-  in_tail e f es (k, inside, here) = (suc k, omega arith, here)
-
-  above_head : (e f : E) (es : List E) → IsStrictlySortedBy R (map key (e ∷ es)) → Contains es f → R (key e) (key f) ≡ Less
-  above_head e f es sorted c =
-      let size : length (map key es) ≡ length es = length-map es key in
-      let all : All (λ y. R (key e) y ≡ Less) (map key es) = All-from_recursion (λ y. R (key e) y ≡ Less) (map key es) (sorted_head R (key e) (map key es) sorted) in
-      let at : get_or (map key es) c.0 (key f) ≡ key f = get_or-map key es c.0 f (key f) c.1 ∙ ap key c.2 in
-      subst (λ (y : K). R (key e) y ≡ Less) at (all c.0 (key f) (let i = c.1 in omega (arith, i, size)))
-
-  -- items with rising keys, of which two lists have the same
-  pub same_items : (xs ys : List E) → IsStrictlySortedBy R (map key xs) → IsStrictlySortedBy R (map key ys)
-      → ((e : E) → Contains xs e → Contains ys e) → ((e : E) → Contains ys e → Contains xs e) → xs ≡ ys
-  same_items [] [] s t there back = refl
-  same_items [] (y ∷ ys) s t there back = absurd (none (back y (zero, omega arith, refl)))
+  pub has_inserted : (q : K) (ks : List K) (k : K) → list_any (is_at (R q)) (insert_key R ks k) ≡ (is_at (R q) k || list_any (is_at (R q)) ks)
+  has_inserted q [] k = refl
+  has_inserted q (y ∷ ks) k = by_order (R k y) refl (has_inserted q ks k)
     where
-      none : {A : Type 0} {a : A} → Contains [] a → ⊥
-      none c = let i = c.1 in omega (arith, i)
-  same_items (x ∷ xs) [] s t there back = absurd (none (there x (zero, omega arith, refl)))
-    where
-      none : {A : Type 0} {a : A} → Contains [] a → ⊥
-      none c = let i = c.1 in omega (arith, i)
-  same_items (x ∷ xs) (y ∷ ys) s t there back =
-      let first : x ≡ y = firsts (head_or y x ys (there x (zero, omega arith, refl))) (head_or x y xs (back y (zero, omega arith, refl))) in
-      ap₂ (λ a l. a ∷ l) first (same_items xs ys (sorted_tail R (key x) (map key xs) s) (sorted_tail R (key y) (map key ys) t)
-      (λ e c. past y e ys (λ same. never_less o (key x) (subst (λ (k : E). R (key x) (key k) ≡ Less) (sym same ∙ sym first) (above_head x e xs s c))) (head_or y e ys (there e (in_tail x e xs c))))
-      (λ e c. past x e xs (λ same. never_less o (key y) (subst (λ (k : E). R (key y) (key k) ≡ Less) (sym same ∙ first) (above_head y e ys t c))) (head_or x e xs (back e (in_tail y e ys c)))))
-    where
-      past : (a e : E) (l : List E) → (a ≡ e → ⊥) → (a ≡ e) ⊎ Contains l e → Contains l e
-      past a e l apart (inl same) = absurd (apart same)
-      past a e l apart (inr c) = c
+      by_order : (r : Ordering) → R k y ≡ r → has q (insert_key R ks k) ≡ (is_at (R q) k || has q ks)
+          → has q (match_ordering r (k ∷ y ∷ ks) (y ∷ ks) (y ∷ insert_key R ks k)) ≡ (is_at (R q) k || has q (y ∷ ks))
+      by_order Less is later = refl
+      by_order Equal is later = or_again (is_at (R q) y) (has q ks) ∙ ap (λ r. is_eq r || has q (y ∷ ks)) (sym (alike_right o k y q is))
+      by_order Greater is later = ap (λ b. is_at (R q) y || b) later ∙ or_swapped (is_at (R q) y) (is_at (R q) k) (has q ks)
 
-      firsts : (y ≡ x) ⊎ Contains ys x → (x ≡ y) ⊎ Contains xs y → x ≡ y
-      firsts (inl e) b = sym e
-      firsts (inr c) (inl e) = e
-      firsts (inr c) (inr d) = absurd (not_both o (key x) (key y) (above_head x y xs s d) (above_head y x ys t c))
+  has_gathered : (q : K) (ks xs : List K) → has q (fold (insert_key R) ks xs) ≡ (has q xs || has q ks)
+  has_gathered q ks [] = refl
+  has_gathered q ks (x ∷ xs) =
+      has_gathered q (insert_key R ks x) xs
+      ∙ ap (λ b. has q xs || b) (has_inserted q ks x)
+      ∙ or_swapped (has q xs) (is_at (R q) x) (has q ks)
+      ∙ or_grouped (is_at (R q) x) (has q xs) (has q ks)
+
+  -- a set has just what it is gathered of
+  pub any_rising : (q : K) (xs : List K) → list_any (is_at (R q)) (rising R xs) ≡ list_any (is_at (R q)) xs
+  any_rising q xs = has_gathered q [] xs ∙ or-false (has q xs)
+
+  module _ (exact : CmpEqualImpliesEq R) where
+    there : (ks : List K) (q : K) → Contains ks q → has q ks ≡ true
+    there ks q c = list_any-from_Contains (eq_by_cmp_equiv o) q ks c
+
+    found : (ks : List K) (q : K) → has q ks ≡ true → Contains ks q
+    found ks q e = Contains-from_any {eq = eq_by_cmp R} (tells_apart exact) q ks e
+
+    -- the set of these items, if it rises and has the same
+    pub is_rising : (ks xs : List K) → IsStrictlySortedBy R ks → ((x : K) → Contains ks x → Contains xs x) → ((x : K) → Contains xs x → Contains ks x) → ks ≡ rising R xs
+    is_rising ks xs sorted known all =
+        btree_set_from_contains o (btree_set ks) (btree_set (rising R xs)) sorted (rising_sorted o xs)
+        (λ q. both_ways _ _ (λ e. there xs q (known q (found ks q e))) (λ e. there ks q (all q (found xs q e))) ∙ sym (any_rising q xs)) exact
+
+-- the same of numbers
+pub member_rising : (q : ℕ) (xs : List ℕ) → is_one_of (rising nat_cmp xs) q ≡ is_one_of xs q
+member_rising q xs =
+    any_same (λ p. p == q) (is_at (nat_cmp q)) (λ p. sym (is_eq_nat q p)) (rising nat_cmp xs)
+    ∙ any_rising nat_cmp_total q xs
+    ∙ any_same (is_at (nat_cmp q)) (λ p. p == q) (is_eq_nat q) xs
+
+-- ---- maps
+map_match : {A B : Type 0} (f : A → B) (r : Ordering) (x y z : List A) → map f (match_ordering r x y z) ≡ match_ordering r (map f x) (map f y) (map f z)
+map_match f Less x y z = refl
+map_match f Equal x y z = refl
+map_match f Greater x y z = refl
+
+-- the keys of a map are a set in the same order
+insert_keys : {K X : Type 0} (R : K → K → Ordering) (es : List (K × X)) (k : K) (v : X) → keys_of (insert_entry R es k v) ≡ insert_key R (keys_of es) k
+insert_keys R [] k v = refl
+insert_keys {K} {X} R (e ∷ es) k v =
+    map_match (λ (d : K × X). d.0) (R k e.0) ((k, v) ∷ e ∷ es) ((e.0, v) ∷ es) (e ∷ insert_entry R es k v)
+    ∙ ap (λ l. match_ordering (R k e.0) (k ∷ e.0 ∷ keys_of es) (e.0 ∷ keys_of es) (e.0 ∷ l)) (insert_keys R es k v)
 
 module _ {K X : Type 0} {R : K → K → Ordering} (o : IsTotalOrder R) where
-  abbrev keys : List (K × X) → List K
-  keys es = map (λ e. e.0) es
+  abbrev value_at : K → List (K × X) → Option X
+  value_at q es = lookup (is_at (R q)) es
 
-  -- an entry of a new key goes to its place
-  insert_moves : (es : List (K × X)) (k : K) (v : X) → All (λ y. eq_by_cmp R y k ≡ false) (keys es) → (eq : (x y : K) → eq_by_cmp R x y ≡ eq_by_cmp R y x)
-      → IsPermutation (es ++ (k, v) ∷ []) (insert_entry R es k v)
-  insert_moves [] k v new flips = IsPermutation-refl ((k, v) ∷ [])
-  insert_moves (e ∷ es) k v new flips = by_order (R k e.0) refl (insert_moves es k v (λ j d inside. new (suc j) d (omega arith)) flips)
+  value_after : (q : K) (m : List (K × X)) (k : K) (v : X) → value_at q (insert_entry R m k v) ≡ (if is_at (R q) k then Some v else value_at q m)
+  value_after q [] k v = refl
+  value_after q (e ∷ es) k v = by_order (R k e.0) refl (value_after q es k v)
     where
-      by_order : (r : Ordering) → R k e.0 ≡ r → IsPermutation (es ++ (k, v) ∷ []) (insert_entry R es k v) → IsPermutation ((e ∷ es) ++ (k, v) ∷ []) (insert_entry R (e ∷ es) k v)
-      by_order Less is rest = rw is (IsPermutation-to_front (e ∷ es) (k, v))
-      by_order Equal is rest = absurd (clash (new zero e.0 (omega arith)))
-        where
-          clash : eq_by_cmp R e.0 k ≡ false → ⊥
-          clash h = let f : eq_by_cmp R k e.0 ≡ false = flips k e.0 ∙ h in let g : eq_by_cmp R k e.0 ≡ true = ap is_eq is in cc
-      by_order Greater is rest = rw is (IsPermutation-cons e (es ++ (k, v) ∷ []) (insert_entry R es k v) rest)
+      hidden : (b : Bool) (x y : X) (w : Option X) → (if b then Some x else w) ≡ (if b then Some x else if b then Some y else w)
+      hidden true x y w = refl
+      hidden false x y w = refl
 
-  pub keys_inserted : (m M : List (K × X)) → keys (fold (λ m p. insert_entry R m p.0 p.1) m M) ≡ fold (insert_key R) (keys m) (keys M)
-  keys_inserted m [] = refl
-  keys_inserted m (p ∷ M) = keys_inserted (insert_entry R m p.0 p.1) M ∙ ap (λ (l : List K). fold (insert_key R) l (keys M)) (insert_keys R m p.0 p.1)
+      turned : (b c : Bool) (x y : X) (w : Option X) → (b ≡ true → c ≡ true → ⊥) → (if b then Some x else if c then Some y else w) ≡ (if c then Some y else if b then Some x else w)
+      turned true true x y w apart = absurd (apart refl refl)
+      turned true false x y w apart = refl
+      turned false true x y w apart = refl
+      turned false false x y w apart = refl
 
-  module _ (flips : (x y : K) → eq_by_cmp R x y ≡ eq_by_cmp R y x) where
-    -- keys of a list in front differ from one behind
-    front_differs : (m : List (K × X)) (p : K × X) (M : List (K × X)) → IsDistinct (eq_by_cmp R) (keys (m ++ p ∷ M)) → All (λ y. eq_by_cmp R y p.0 ≡ false) (keys m)
-    front_differs [] p M d j e inside = absurd (omega (arith, inside))
-    front_differs (f ∷ m) p M d zero e inside =
-        let all : All (λ y. eq_by_cmp R f.0 y ≡ false) (keys (m ++ p ∷ M)) = All-from_recursion (λ y. eq_by_cmp R f.0 y ≡ false) (keys (m ++ p ∷ M)) (IsDistinct-head (eq_by_cmp R) f.0 (keys (m ++ p ∷ M)) d) in
-        at m all
+      tied : (r : Ordering) → is_eq r ≡ true → r ≡ Equal
+      tied Less e = absurd (cc)
+      tied Equal e = refl
+      tied Greater e = absurd (cc)
+
+      by_order : (r : Ordering) → R k e.0 ≡ r → value_at q (insert_entry R es k v) ≡ (if is_at (R q) k then Some v else value_at q es)
+          → value_at q (match_ordering r ((k, v) ∷ e ∷ es) ((e.0, v) ∷ es) (e ∷ insert_entry R es k v)) ≡ (if is_at (R q) k then Some v else value_at q (e ∷ es))
+      by_order Less is later = refl
+      by_order Equal is later = hidden (is_at (R q) e.0) v e.1 (value_at q es) ∙ ap (λ r. if is_eq r then Some v else value_at q (e ∷ es)) (sym (alike_right o k e.0 q is))
+      by_order Greater is later =
+          ap (λ w. if is_at (R q) e.0 then Some e.1 else w) later
+          ∙ turned (is_at (R q) e.0) (is_at (R q) k) e.1 v (value_at q es) (λ a b.
+          let same : R k e.0 ≡ Equal = sym (alike_right o q e.0 k (tied (R q e.0) a)) ∙ tied_back o q k (tied (R q k) b) in
+          cc)
+
+  -- a key is there after an insertion where it is the new one, or was there
+  pub there_after : (q : K) (m : List (K × X)) (k : K) (v : X) → is_some (lookup (is_at (R q)) (insert_entry R m k v)) ≡ (is_at (R q) k || is_some (lookup (is_at (R q)) m))
+  there_after q m k v = ap is_some (value_after q m k v) ∙ at (is_at (R q) k)
+    where
+      at : (b : Bool) → is_some (if b then Some v else value_at q m) ≡ (b || is_some (value_at q m))
+      at true = refl
+      at false = refl
+
+  value_behind : (q : K) (xs : List (K × X)) (p : K × X) (w : Option X) → option_or (value_at q (xs ++ p ∷ [])) w ≡ option_or (value_at q xs) (if is_at (R q) p.0 then Some p.1 else w)
+  value_behind q [] p w = at (is_at (R q) p.0)
+    where
+      at : (b : Bool) → option_or (if b then Some p.1 else None) w ≡ (if b then Some p.1 else w)
+      at true = refl
+      at false = refl
+  value_behind q (x ∷ xs) p w = at (is_at (R q) x.0) (value_behind q xs p w)
+    where
+      at : (b : Bool) → option_or (value_at q (xs ++ p ∷ [])) w ≡ option_or (value_at q xs) (if is_at (R q) p.0 then Some p.1 else w)
+          → option_or (if b then Some x.1 else value_at q (xs ++ p ∷ [])) w ≡ option_or (if b then Some x.1 else value_at q xs) (if is_at (R q) p.0 then Some p.1 else w)
+      at true later = refl
+      at false later = later
+
+  value_gathered : (q : K) (m pairs : List (K × X)) → value_at q (fold (λ m p. insert_entry R m p.0 p.1) m pairs) ≡ option_or (value_at q (reverse pairs)) (value_at q m)
+  value_gathered q m [] = refl
+  value_gathered q m (p ∷ pairs) =
+      value_gathered q (insert_entry R m p.0 p.1) pairs
+      ∙ ap (option_or (value_at q (reverse pairs))) (value_after q m p.0 p.1)
+      ∙ sym (value_behind q (reverse pairs) p (value_at q m))
+      ∙ ap (λ l. option_or (value_at q l) (value_at q m)) (sym (reverse-append (p ∷ []) pairs))
+
+  -- the value of a key is the last that it is given
+  pub last_given : (q : K) (pairs : List (K × X)) → lookup (is_at (R q)) (fold (λ m p. insert_entry R m p.0 p.1) [] pairs) ≡ lookup (is_at (R q)) (reverse pairs)
+  last_given q pairs = value_gathered q [] pairs ∙ no_other (value_at q (reverse pairs))
+    where
+      no_other : (w : Option X) → option_or w None ≡ w
+      no_other None = refl
+      no_other (Some v) = refl
+
+  pub keys_gathered : (m pairs : List (K × X)) → keys_of (fold (λ m p. insert_entry R m p.0 p.1) m pairs) ≡ fold (insert_key R) (keys_of m) (keys_of pairs)
+  keys_gathered m [] = refl
+  keys_gathered m (p ∷ pairs) = keys_gathered (insert_entry R m p.0 p.1) pairs ∙ ap (λ l. fold (insert_key R) l (keys_of pairs)) (insert_keys R m p.0 p.1)
+
+  pub map_rises : (pairs : List (K × X)) → IsStrictlySortedBy R (keys_of (fold (λ m p. insert_entry R m p.0 p.1) [] pairs))
+  map_rises pairs = rw (keys_gathered [] pairs) (rising_sorted o (keys_of pairs))
+
+  module _ (exact : CmpEqualImpliesEq R) where
+    same_value : (q : K) (es fs : List (K × X)) → IsStrictlySortedBy R (keys_of es) → ((e : K × X) → Contains es e → Contains fs e) → ((e : K × X) → Contains fs e → Contains es e)
+        → value_at q es ≡ value_at q fs
+    same_value q es fs sorted known all = by_value (value_at q fs) refl
       where
-        at : (l : List (K × X)) → All (λ y. eq_by_cmp R f.0 y ≡ false) (keys (l ++ p ∷ M)) → eq_by_cmp R f.0 p.0 ≡ false
-        at [] all = all zero p.0 (omega arith)
-        at (g ∷ l) all = at l (λ k c i. all (suc k) c (omega arith))
-    front_differs (f ∷ m) p M d (suc j) e inside = front_differs m p M (IsDistinct-tail (eq_by_cmp R) f.0 (keys (m ++ p ∷ M)) d) j e (omega arith)
+        missing : (w : Option X) → value_at q es ≡ w → value_at q fs ≡ None → w ≡ None
+        missing None e f = refl
+        missing (Some v) e f =
+            let c = known (q, v) (Contains-from_lookup {eq = eq_by_cmp R} (tells_apart exact) q v es e) in
+            let some : IsSome (value_at q fs) = IsSome-lookup_from_Contains (eq_by_cmp_equiv o) q fs (map_has (λ e. e.0) fs (q, v) c) in
+            absurd (cc)
 
-    fold_moves : (m M : List (K × X)) → IsDistinct (eq_by_cmp R) (keys (m ++ M)) → IsPermutation (m ++ M) (fold (λ m p. insert_entry R m p.0 p.1) m M)
-    fold_moves m [] d = subst (λ (l : List (K × X)). IsPermutation l m) (sym (append-nil m)) (IsPermutation-refl m)
-    fold_moves m (p ∷ M) d =
-        let one : IsPermutation (m ++ p ∷ []) (insert_entry R m p.0 p.1) = insert_moves m p.0 p.1 (front_differs m p M d) flips in
-        let more : IsPermutation (m ++ p ∷ M) (insert_entry R m p.0 p.1 ++ M) =
-        subst (λ (l : List (K × X)). IsPermutation l (insert_entry R m p.0 p.1 ++ M)) (append_assoc m (p ∷ []) M) (IsPermutation-append_left M (m ++ p ∷ []) (insert_entry R m p.0 p.1) one) in
-        let apart : IsDistinct (eq_by_cmp R) (keys (insert_entry R m p.0 p.1 ++ M)) =
-        IsDistinct-IsPermutation (eq_by_cmp R) flips (keys (m ++ p ∷ M)) (keys (insert_entry R m p.0 p.1 ++ M)) (IsPermutation-map (λ (e : K × X). e.0) (m ++ p ∷ M) (insert_entry R m p.0 p.1 ++ M) more) d in
-        IsPermutation-trans (m ++ p ∷ M) (insert_entry R m p.0 p.1 ++ M) _ more (fold_moves (insert_entry R m p.0 p.1) M apart)
+        by_value : (w : Option X) → value_at q fs ≡ w → value_at q es ≡ value_at q fs
+        by_value (Some w) f =
+            lookup-from_Contains (eq_by_cmp_equiv o) q w es (IsDistinct-from_sorted R (keys_of es) sorted) (all (q, w) (Contains-from_lookup {eq = eq_by_cmp R} (tells_apart exact) q w fs f)) ∙ sym f
+        by_value None f = missing (value_at q es) refl f ∙ sym f
 
-    -- entries in the order of their keys are the map of the same entries in any order, where all keys differ
-    pub map_of_entries : (M L : List (K × X)) → IsDistinct (eq_by_cmp R) (keys M) → IsStrictlySortedBy R (keys L) → ((e : K × X) → Contains L e → Contains M e) → ((e : K × X) → Contains M e → Contains L e)
-        → L ≡ fold (λ m p. insert_entry R m p.0 p.1) [] M
-    map_of_entries M L d s there back =
-        let moved : IsPermutation M (fold (λ m p. insert_entry R m p.0 p.1) [] M) = fold_moves [] M d in
-        let sorted : IsStrictlySortedBy R (keys (fold (λ m p. insert_entry R m p.0 p.1) [] M)) = subst (IsStrictlySortedBy R) (sym (keys_inserted [] M)) (rising_sorted o (keys M)) in
-        same_items (λ (e : K × X). e.0) o L (fold (λ m p. insert_entry R m p.0 p.1) [] M) s sorted
-        (λ e c. Contains-permutation M _ e moved (there e c))
-        (λ e c. back e (Contains-permutation _ M e (IsPermutation-sym M _ moved) c))
-
--- a set in its order has what it was made of
-module _ {K : Type 0} {R : K → K → Ordering} (exact : (x y : K) → R x y ≡ Equal → x ≡ y) where
-  has_insert : (ks : List K) (k x : K) → Contains ks x → Contains (insert_key R ks k) x
-  has_insert [] k x c = let i = c.1 in absurd (omega (arith, i))
-  has_insert (y ∷ ks) k x c = by_order (R k y) refl c (λ d. has_insert ks k x d)
-    where
-      by_order : (r : Ordering) → R k y ≡ r → Contains (y ∷ ks) x → (Contains ks x → Contains (insert_key R ks k) x) → Contains (insert_key R (y ∷ ks) k) x
-      by_order Less is d later = rw is (suc d.0, (let i = d.1 in omega (arith, i)), d.2)
-      by_order Equal is d later = rw is d
-      by_order Greater is (zero, inside, here) later = rw is (zero, omega arith, here)
-      by_order Greater is (suc j, inside, here) later = rw is (let d = later (j, omega arith, here) in (suc d.0, (let i = d.1 in omega (arith, i)), d.2))
-
-  has_new : (ks : List K) (k : K) → Contains (insert_key R ks k) k
-  has_new [] k = (zero, omega arith, refl)
-  has_new (y ∷ ks) k = by_order (R k y) refl (has_new ks k)
-    where
-      by_order : (r : Ordering) → R k y ≡ r → Contains (insert_key R ks k) k → Contains (insert_key R (y ∷ ks) k) k
-      by_order Less is later = rw is (zero, omega arith, refl)
-      by_order Equal is later = rw is (zero, omega arith, sym (exact k y is))
-      by_order Greater is later = rw is (suc later.0, (let i = later.1 in omega (arith, i)), later.2)
-
-  insert_has : (ks : List K) (k x : K) → Contains (insert_key R ks k) x → (k ≡ x) ⊎ Contains ks x
-  insert_has [] k x (zero, inside, here) = inl here
-  insert_has [] k x (suc j, inside, here) = absurd (omega (arith, inside))
-  insert_has (y ∷ ks) k x c = by_order (R k y) refl c (λ d. insert_has ks k x d)
-    where
-      later_or : (k ≡ x) ⊎ Contains ks x → (k ≡ x) ⊎ Contains (y ∷ ks) x
-      later_or (inl e) = inl e
-      later_or (inr d) = inr (suc d.0, (let i = d.1 in omega (arith, i)), d.2)
-
-      by_order : (r : Ordering) → R k y ≡ r → Contains (insert_key R (y ∷ ks) k) x → (Contains (insert_key R ks k) x → (k ≡ x) ⊎ Contains ks x) → (k ≡ x) ⊎ Contains (y ∷ ks) x
-      by_order Less is d later = at (rw is at d)
-        where
-          at : Contains (k ∷ y ∷ ks) x → (k ≡ x) ⊎ Contains (y ∷ ks) x
-          at (zero, inside, here) = inl here
-          at (suc j, inside, here) = inr (j, omega arith, here)
-      by_order Equal is d later = inr (rw is at d)
-      by_order Greater is d later = at (rw is at d)
-        where
-          at : Contains (y ∷ insert_key R ks k) x → (k ≡ x) ⊎ Contains (y ∷ ks) x
-          at (zero, inside, here) = inr (zero, omega arith, here)
-          at (suc j, inside, here) = later_or (later (j, omega arith, here))
-
-  fold_has : (ks xs : List K) (x : K) → Contains (fold (insert_key R) ks xs) x → Contains ks x ⊎ Contains xs x
-  fold_has ks [] x c = inl c
-  fold_has ks (y ∷ xs) x c = at (fold_has (insert_key R ks y) xs x c)
-    where
-      first : (y ≡ x) ⊎ Contains ks x → Contains ks x ⊎ Contains (y ∷ xs) x
-      first (inl e) = inr (zero, omega arith, e)
-      first (inr d) = inl d
-
-      at : Contains (insert_key R ks y) x ⊎ Contains xs x → Contains ks x ⊎ Contains (y ∷ xs) x
-      at (inl d) = first (insert_has ks y x d)
-      at (inr d) = inr (suc d.0, (let i = d.1 in omega (arith, i)), d.2)
-
-  has_kept : (ks xs : List K) (x : K) → Contains ks x → Contains (fold (insert_key R) ks xs) x
-  has_kept ks [] x c = c
-  has_kept ks (y ∷ xs) x c = has_kept (insert_key R ks y) xs x (has_insert ks y x c)
-
-  has_fold : (ks xs : List K) (x : K) → Contains xs x → Contains (fold (insert_key R) ks xs) x
-  has_fold ks [] x c = let i = c.1 in absurd (omega (arith, i))
-  has_fold ks (y ∷ xs) x (zero, inside, here) = has_kept (insert_key R ks y) xs x (subst (Contains (insert_key R ks y)) here (has_new ks y))
-  has_fold ks (y ∷ xs) x (suc j, inside, here) = has_fold (insert_key R ks y) xs x (j, omega arith, here)
-
-  pub rising_has : (xs : List K) (x : K) → Contains (rising R xs) x → Contains xs x
-  rising_has xs x c = at (fold_has [] xs x c)
-    where
-      at : Contains [] x ⊎ Contains xs x → Contains xs x
-      at (inl d) = let i = d.1 in absurd (omega (arith, i))
-      at (inr d) = d
-
-  pub has_rising : (xs : List K) (x : K) → Contains xs x → Contains (rising R xs) x
-  has_rising xs x c = has_fold [] xs x c
+    -- the map of these pairs, if its keys rise and it has the same
+    pub is_map : (es pairs : List (K × X)) → IsStrictlySortedBy R (keys_of es) → ((e : K × X) → Contains es e → Contains pairs e) → ((e : K × X) → Contains pairs e → Contains es e)
+        → es ≡ fold (λ m p. insert_entry R m p.0 p.1) [] pairs
+    is_map es pairs sorted known all =
+        let turned = IsPermutation-reverse pairs in
+        btree_map_from_get o (btree_map es (inl tt)) (btree_map (fold (λ m p. insert_entry R m p.0 p.1) [] pairs) (inl tt)) sorted (map_rises pairs)
+        (λ q. same_value q es (reverse pairs) sorted (λ e c. Contains-permutation pairs (reverse pairs) e turned (known e c))
+        (λ e c. all e (Contains-permutation (reverse pairs) pairs e (IsPermutation-sym pairs (reverse pairs) turned) c)) ∙ sym (last_given q pairs)) exact

@@ -39,6 +39,10 @@ pub any_same : {X : Type 0} (p q : X → Bool) → ((x : X) → p x ≡ q x) →
 any_same p q same [] = refl
 any_same p q same (x ∷ xs) = ap₂ (λ a b. a || b) (same x) (any_same p q same xs)
 
+pub any_map : {A B : Type 0} (p : A → Bool) (q : B → Bool) (f : A → B) (same : (a : A) → p a ≡ q (f a)) (xs : List A) → list_any p xs ≡ list_any q (map f xs)
+any_map p q f same [] = refl
+any_map p q f same (x ∷ xs) = ap₂ (λ a b. a || b) (same x) (any_map p q f same xs)
+
 pub is_eq_nat : (a b : ℕ) → is_eq (nat_cmp a b) ≡ (b == a)
 is_eq_nat a b = grind arith
 
@@ -49,7 +53,7 @@ module _ {X K : Type 0} (key : X → K) {R : K → K → Ordering} (o : IsTotalO
       let here : R (get_or (map key xs) i (key d)) (get_or (map key xs) j (key d)) ≡ Less = Less-from_sorted R (map key xs) i j (key d) h less (omega (arith, inside, length-map xs key)) in
       rw (get_or-map key xs i d (key d) (omega (arith, less, inside)), get_or-map key xs j d (key d) inside) at here
 
-  in_order : (xs : List X) → IsStrictlySortedBy R (map key xs) → IsSortedBy (λ a b. is_lt (R (key a) (key b))) xs
+  pub in_order : (xs : List X) → IsStrictlySortedBy R (map key xs) → IsSortedBy (λ a b. is_lt (R (key a) (key b))) xs
   in_order xs h = λ k d low inside.
       less_back (R (key (get_or xs k d)) (key (get_or xs (k + 1) d))) (R (key (get_or xs (k + 1) d)) (key (get_or xs k d)))
       (o.antisymm (key (get_or xs (k + 1) d)) (key (get_or xs k d))) (below xs k (k + 1) d h (omega arith) inside)

@@ -1,10 +1,10 @@
 -- A table as one flat list of rows.
 use Rattle.std.specs.Prelude.{◌≡◌, ⊤, ℕ, ◌+◌, ◌<◌, ◌≤◌, Bool, true, false, List, [], ◌∷◌, ◌++◌, map, length, min, get_or, slice_index_or, Option, Some, None}
-use Rattle.std.specs.List.{All, AllPairs, list_any}
+use Rattle.std.specs.List.{All, list_any}
 use Rattle.std.specs.Ordering.{nat_cmp, ordering_then, is_lt, is_eq}
 use Rattle.std.specs.declared.cmp.Ordering.{Ordering}
 use Rattle.ac_tables.specs.Tables.Checks.{Row, Check, first_failing}
-use Rattle.std.specs.List.Sorted.{IsPermutation, IsSortedBy}
+use Rattle.std.specs.List.Sorted.{IsPermutation, IsSortedBy, IsStrictlySortedBy}
 use Rattle.ac_tables.specs.declared.fault.TableKind.{TableKind}
 use Rattle.ac_tables.specs.declared.fault.TableKind.TheVariants as kind
 use Rattle.ac_tables.specs.declared.reader.row.TableRow.{TableRow}
@@ -81,8 +81,7 @@ pub record IsTable {V K X : Type 0} (cmp : K → K → Ordering) (shown : ℕ �
   pub sorted : IsSortedBy (row_lt cmp) rows
   pub inside : All (λ r. r.place < count) rows
   pub numbered : (k : ℕ) (d : TableRow K X) → k < length read → (get_or read k d).number ≡ k + 2
-  pub once : unique ≡ true → AllPairs (λ a b. row_ties cmp a b ≡ false) read
-  pub apart : unique ≡ true → (k : ℕ) (d : TableRow K X) → k + 1 < length rows → row_ties cmp (slice_index_or rows k d) (slice_index_or rows (k + 1) d) ≡ false
+  pub strict : unique ≡ true → IsStrictlySortedBy (row_cmp cmp) rows
 
 -- a place in the list before which all rows are of lower providers, and from which none is
 pub record IsStart {K X : Type 0} (rows : List (TableRow K X)) (place start : ℕ) : Type 0 where

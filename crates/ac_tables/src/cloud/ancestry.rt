@@ -42,33 +42,13 @@ fn look(list: &[Option<u32>], place: u32) -> Option<u32> {
     }
 }
 
-fn no_places(alloc: Global, count: usize) -> Result<Vec<Option<u32>>, AllocError>
-    ensures { IfOk result (λ list. length list.items ≡ count) }
-{
-    let mut list = Vec::new(alloc);
-    for _place in 0..count {
-        list.push(None)?;
-    }
-    Ok(list)
-}
-
-fn zeros(alloc: Global, count: usize) -> Result<Vec<u32>, AllocError>
-    ensures { IfOk result (λ list. length list.items ≡ count) }
-{
-    let mut list = Vec::new(alloc);
-    for _place in 0..count {
-        list.push(0u32)?;
-    }
-    Ok(list)
-}
-
 fn find_family(alloc: Global, parents: &[Option<u32>]) -> Result<Family, AllocError>
     requires few { length parents.now ≤ 65536 }
     requires known { AreParents parents.now }
     ensures { IfOk result (λ family. length family.before.items ≡ length parents.now) }
 {
     let mut before = Vec::new(alloc);
-    let mut last = no_places(alloc, parents.len())?;
+    let mut last = vec![in alloc; None; parents.len()]?;
     let mut last_root = None;
     for place in 0..parents.len() {
         match parents[place] {
@@ -97,9 +77,9 @@ fn make_draft(alloc: Global, parents: &[Option<u32>]) -> Result<Draft, AllocErro
 {
     let count = parents.len();
     let family = find_family(alloc, parents)?;
-    let mut entered = zeros(alloc, count)?;
-    let mut left = zeros(alloc, count)?;
-    let mut order = zeros(alloc, count)?;
+    let mut entered = vec![in alloc; 0u32; count]?;
+    let mut left = vec![in alloc; 0u32; count]?;
+    let mut order = vec![in alloc; 0u32; count]?;
     let mut turn = count as u32;
     let mut at = family.last_root;
     let mut entering = true;

@@ -150,7 +150,7 @@ impl Groups {
     {
         let set = self.union(alloc, aggregates)?;
         let _count = set.len();
-        items_of(alloc, set)
+        set.into_iter().collect(alloc)
     }
 }
 
@@ -185,10 +185,4 @@ fn with_roots(set: BTreeSet<u32>, roots: &[u32]) -> Result<BTreeSet<u32>, AllocE
         all.insert(*root)?;
     }
     Ok(all)
-}
-
-fn items_of(alloc: Global, set: BTreeSet<u32>) -> Result<Vec<u32>, AllocError>
-    ensures { IfOk result (λ list. list.items ≡ set.keys) }
-{
-    set.into_iter().collect(alloc)
 }

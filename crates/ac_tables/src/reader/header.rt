@@ -31,12 +31,6 @@ pub(crate) fn column_at(header: &ByteRecord, name: &[u8]) -> usize
     find_column(header, name).unwrap_or(0)
 }
 
-fn is_missing(header: &ByteRecord, name: &[u8]) -> bool
-    ensures { result ≡ is_missing (fields_of header.now) name.now }
-{
-    find_column(header, name).is_none()
-}
-
 // Whether a column of this name is there twice.
 fn is_double(header: &ByteRecord, name: &[u8]) -> bool
     ensures { result ≡ is_double (fields_of header.now) name.now }
@@ -53,7 +47,7 @@ fn is_double(header: &ByteRecord, name: &[u8]) -> bool
 fn lacks_one(header: &ByteRecord, names: &[&[u8]]) -> bool
     ensures { result ≡ list_any (λ name. is_missing (fields_of header.now) name.now) names.now }
 {
-    names.iter().any(|name| is_missing(header, name))
+    names.iter().any(|name| find_column(header, name).is_none())
 }
 
 fn doubles_one(header: &ByteRecord, names: &[&[u8]]) -> bool

@@ -14,6 +14,7 @@ ghost use Rattle.ac_tables.specs.declared.fault.Table.TheVariants as table;
 
 use crate::cloud::provider_index::Ids;
 use crate::fault::{RecordFault, Table, TableFault, TableKind};
+use crate::reader::fields::read_owner;
 use crate::reader::gather::read_table;
 use crate::reader::header::column_at;
 use crate::reader::lists::Lists;
@@ -21,10 +22,9 @@ use crate::reader::record::{Record, Seen};
 use crate::reader::records::text_at;
 use crate::reader::row::keep_first;
 use crate::reader::split::{keys_of, split};
-use ac_base::{Id, Names};
+use ac_base::Id;
 use csv::ByteRecord;
 use std::alloc::Global;
-use std::marker::Model;
 
 const AGGREGATE_COLUMNS: [&[u8]; 2] = [b"resource_provider", b"uuid"];
 
@@ -33,69 +33,6 @@ const AGGREGATE_COLUMNS: [&[u8]; 2] = [b"resource_provider", b"uuid"];
 pub(crate) struct AggregateColumns {
     provider: usize,
     aggregate: usize,
-}
-
-impl AggregateColumns {
-    ghost use Rattle.ac_tables.specs.Reader.ColumnPlaces.{aggregate_places};
-
-    #[tactic(auto, unfolding(crate::specs::Reader::ColumnPlaces::aggregate_places, crate::specs::Tables::InventoryTable::provider_name, crate::specs::Tables::ProviderTable::uuid_name))]
-    pub(crate) fn of(header: &ByteRecord) -> AggregateColumns
-        ensures { result ≡ aggregate_places (fields_of header.now) }
-    {
-        AggregateColumns {
-            provider: column_at(header, b"resource_provider"),
-            aggregate: column_at(header, b"uuid"),
-        }
-    }
-}
-
-// What a record says.
-#[derive(Clone, Copy, Debug, PartialEq, Eq)]
-pub(crate) struct AggregateRow {
-    pub(crate) provider: Id,
-    pub(crate) aggregate: Id,
-}
-
-impl Model for AggregateRow {
-    ghost use Rattle.ac_tables.specs.Tables.AggregateTable.{AggregateRecord};
-
-    ghost Value = { AggregateRecord };
-
-    ghost view = { λ a. record { provider = a.provider; aggregate = a.aggregate } };
-
-    ghost inverse = { λ m. record { provider = m.provider; aggregate = m.aggregate } };
-}
-
-impl AggregateRow {
-    ghost use Rattle.ac_tables.specs.Reader.ColumnPlaces.{aggregate_places};
-
-    // What a record says, or the first fault of its fields.
-    #[tactic(auto, unfolding(crate::specs::Reader::ColumnPlaces::aggregate_places, crate::specs::Tables::AggregateTable::aggregate_said, crate::specs::Tables::AggregateTable::aggregate_field_checks, crate::specs::Tables::InventoryTable::owner_checks))]
-    pub(crate) fn read(
-        names: &mut Names,
-        header: &ByteRecord,
-        columns: AggregateColumns,
-        row: &ByteRecord,
-    ) -> Result<AggregateRow, TableKind>
-        requires { columns ≡ aggregate_places (fields_of header.now) }
-        ensures { result
-            ≡ unless (first_failing (aggregate_field_checks (fields_of header.now)
-            (fields_of row.now))) (aggregate_said (fields_of header.now) (fields_of row.now)) }
-    {
-        if row.len() != header.len() {
-            return Err(TableKind::Width);
-        }
-        let Some(provider) = names.id(text_at(row, columns.provider)) else {
-            return Err(TableKind::BadUuid);
-        };
-        let Some(aggregate) = Id::read(text_at(row, columns.aggregate)) else {
-            return Err(TableKind::BadUuid);
-        };
-        Ok(AggregateRow {
-            provider,
-            aggregate,
-        })
-    }
 }
 
 // The table of aggregates.
@@ -141,10 +78,15 @@ impl Record for AggregateTable {
         &AGGREGATE_COLUMNS
     }
 
+    #[tactic(auto, unfolding(crate::specs::Reader::ColumnPlaces::aggregate_places, crate::specs::Tables::InventoryTable::provider_name, crate::specs::Tables::ProviderTable::uuid_name))]
     fn columns(header: &ByteRecord) -> AggregateColumns {
-        AggregateColumns::of(header)
+        AggregateColumns {
+            provider: column_at(header, b"resource_provider"),
+            aggregate: column_at(header, b"uuid"),
+        }
     }
 
+    #[tactic(auto, unfolding(crate::specs::Reader::ColumnPlaces::aggregate_places))]
     fn read(
         seen: &mut Seen,
         ids: &Ids,
@@ -152,12 +94,15 @@ impl Record for AggregateTable {
         columns: AggregateColumns,
         row: &ByteRecord,
     ) -> Result<(u32, Id, ()), RecordFault> {
-        let found = match AggregateRow::read(&mut seen.names, header, columns, row) {
-            Ok(found) => found,
+        let provider = match read_owner(&mut seen.names, header, columns.provider, row) {
+            Ok(provider) => provider,
             Err(kind) => return Err(RecordFault::Kind(kind)),
         };
-        match ids.find_near(&mut seen.expected, found.provider) {
-            Some(place) => Ok((place as u32, found.aggregate, ())),
+        let Some(aggregate) = Id::read(text_at(row, columns.aggregate)) else {
+            return Err(RecordFault::Kind(TableKind::BadUuid));
+        };
+        match ids.find_near(&mut seen.expected, provider) {
+            Some(place) => Ok((place as u32, aggregate, ())),
             None => Err(RecordFault::Kind(TableKind::UnknownProvider)),
         }
     }

@@ -58,117 +58,45 @@ pub(crate) struct InventoryColumns {
     ratio: usize,
 }
 
-impl InventoryColumns {
-    ghost use Rattle.ac_tables.specs.Reader.ColumnPlaces.{inventory_places};
-
-    #[tactic(auto, unfolding(crate::specs::Reader::ColumnPlaces::inventory_places, crate::specs::Tables::InventoryTable::provider_name, crate::specs::Tables::InventoryTable::class_name, crate::specs::Tables::InventoryTable::total_name, crate::specs::Tables::InventoryTable::reserved_name, crate::specs::Tables::InventoryTable::min_unit_name, crate::specs::Tables::InventoryTable::max_unit_name, crate::specs::Tables::InventoryTable::step_size_name, crate::specs::Tables::InventoryTable::ratio_name))]
-    pub(crate) fn of(header: &ByteRecord) -> InventoryColumns
-        ensures { result ≡ inventory_places (fields_of header.now) }
-    {
-        InventoryColumns {
-            provider: column_at(header, b"resource_provider"),
-            class: column_at(header, b"resource_class"),
-            total: column_at(header, b"total"),
-            reserved: column_at(header, b"reserved"),
-            min_unit: column_at(header, b"min_unit"),
-            max_unit: column_at(header, b"max_unit"),
-            step_size: column_at(header, b"step_size"),
-            ratio: column_at(header, b"allocation_ratio"),
-        }
+// The inventory of a record, or the first fault of its fields.
+#[tactic(auto, unfolding(crate::specs::Reader::ColumnPlaces::inventory_places, crate::specs::Tables::InventoryTable::numbers_said, crate::specs::Tables::InventoryTable::number_checks))]
+fn read_inventory(
+    header: &ByteRecord,
+    columns: InventoryColumns,
+    row: &ByteRecord,
+) -> Result<Inventory, TableKind>
+    requires { columns ≡ inventory_places (fields_of header.now) }
+    ensures { result
+        ≡ unless (first_failing (number_checks (fields_of header.now) (fields_of row.now)))
+        (numbers_said (fields_of header.now) (fields_of row.now)) }
+{
+    let Some(total) = read_count(text_at(row, columns.total)) else {
+        return Err(TableKind::BadNumber);
+    };
+    let Some(reserved) = read_count(text_at(row, columns.reserved)) else {
+        return Err(TableKind::BadNumber);
+    };
+    let Some(min_unit) = read_count(text_at(row, columns.min_unit)) else {
+        return Err(TableKind::BadNumber);
+    };
+    let Some(max_unit) = read_count(text_at(row, columns.max_unit)) else {
+        return Err(TableKind::BadNumber);
+    };
+    let Some(step_size) = read_count(text_at(row, columns.step_size)) else {
+        return Err(TableKind::BadNumber);
+    };
+    let Some(ratio) = Ratio::read(text_at(row, columns.ratio)) else {
+        return Err(TableKind::BadRatio);
+    };
+    if step_size == 0 {
+        return Err(TableKind::ZeroStep);
     }
-}
-
-// What a record says.
-#[derive(Debug, Drop, PartialEq, Eq)]
-pub(crate) struct InventoryRow {
-    pub(crate) provider: Id,
-    pub(crate) class: ClassName,
-    pub(crate) inventory: Inventory,
-}
-
-impl InventoryRow {
-    ghost use Rattle.ac_tables.specs.Reader.ColumnPlaces.{inventory_places};
-
-    // The inventory of a record, or the first fault of its fields.
-    #[tactic(auto, unfolding(crate::specs::Reader::ColumnPlaces::inventory_places, crate::specs::Tables::InventoryTable::numbers_said, crate::specs::Tables::InventoryTable::number_checks))]
-    fn read_inventory(
-        header: &ByteRecord,
-        columns: InventoryColumns,
-        row: &ByteRecord,
-    ) -> Result<Inventory, TableKind>
-        requires { columns ≡ inventory_places (fields_of header.now) }
-        ensures { result
-            ≡ unless (first_failing (number_checks (fields_of header.now) (fields_of row.now)))
-            (numbers_said (fields_of header.now) (fields_of row.now)) }
-    {
-        let Some(total) = read_count(text_at(row, columns.total)) else {
-            return Err(TableKind::BadNumber);
-        };
-        let Some(reserved) = read_count(text_at(row, columns.reserved)) else {
-            return Err(TableKind::BadNumber);
-        };
-        let Some(min_unit) = read_count(text_at(row, columns.min_unit)) else {
-            return Err(TableKind::BadNumber);
-        };
-        let Some(max_unit) = read_count(text_at(row, columns.max_unit)) else {
-            return Err(TableKind::BadNumber);
-        };
-        let Some(step_size) = read_count(text_at(row, columns.step_size)) else {
-            return Err(TableKind::BadNumber);
-        };
-        let Some(ratio) = Ratio::read(text_at(row, columns.ratio)) else {
-            return Err(TableKind::BadRatio);
-        };
-        if step_size == 0 {
-            return Err(TableKind::ZeroStep);
-        }
-        if reserved > total {
-            return Err(TableKind::ReservedOverTotal);
-        }
-        match Inventory::new(total, reserved, min_unit, max_unit, step_size, ratio) {
-            Some(inventory) => Ok(inventory),
-            None => unreachable!(),
-        }
+    if reserved > total {
+        return Err(TableKind::ReservedOverTotal);
     }
-
-    // What a record says, or the first fault of its fields.
-    #[tactic(auto, unfolding(crate::specs::Reader::ColumnPlaces::inventory_places))]
-    pub(crate) fn read(
-        names: &mut Names,
-        header: &ByteRecord,
-        columns: InventoryColumns,
-        row: &ByteRecord,
-    ) -> Result<InventoryRow, RecordFault>
-        requires { columns ≡ inventory_places (fields_of header.now) }
-        ensures ok { IfOk result (λ _.
-            first_failing (inventory_field_checks (fields_of header.now) (fields_of row.now))
-            ≡ None) }
-        ensures provider { IfOk result (λ h. h.provider
-            ≡ id_in (fields_of header.now) provider_name (fields_of row.now)) }
-        ensures class { IfOk result (λ h. class_bytes h.class
-            ≡ text_in (fields_of header.now) class_name (fields_of row.now)) }
-        ensures inventory { IfOk result (λ h. h.inventory
-            ≡ numbers_said (fields_of header.now) (fields_of row.now)) }
-        ensures fault { IfErr result (λ e.
-            TellsKind (first_failing (inventory_field_checks (fields_of header.now)
-            (fields_of row.now))) e) }
-    {
-        let provider = match read_owner(names, header, columns.provider, row) {
-            Ok(provider) => provider,
-            Err(kind) => return Err(RecordFault::Kind(kind)),
-        };
-        let class = match read_class(names, header, columns.class, row) {
-            Ok(class) => class,
-            Err(fault) => return Err(fault),
-        };
-        match InventoryRow::read_inventory(header, columns, row) {
-            Ok(inventory) => Ok(InventoryRow {
-                provider,
-                class,
-                inventory,
-            }),
-            Err(kind) => Err(RecordFault::Kind(kind)),
-        }
+    match Inventory::new(total, reserved, min_unit, max_unit, step_size, ratio) {
+        Some(inventory) => Ok(inventory),
+        None => unreachable!(),
     }
 }
 
@@ -215,10 +143,21 @@ impl Record for InventoryTable {
         &INVENTORY_COLUMNS
     }
 
+    #[tactic(auto, unfolding(crate::specs::Reader::ColumnPlaces::inventory_places, crate::specs::Tables::InventoryTable::provider_name, crate::specs::Tables::InventoryTable::class_name, crate::specs::Tables::InventoryTable::total_name, crate::specs::Tables::InventoryTable::reserved_name, crate::specs::Tables::InventoryTable::min_unit_name, crate::specs::Tables::InventoryTable::max_unit_name, crate::specs::Tables::InventoryTable::step_size_name, crate::specs::Tables::InventoryTable::ratio_name))]
     fn columns(header: &ByteRecord) -> InventoryColumns {
-        InventoryColumns::of(header)
+        InventoryColumns {
+            provider: column_at(header, b"resource_provider"),
+            class: column_at(header, b"resource_class"),
+            total: column_at(header, b"total"),
+            reserved: column_at(header, b"reserved"),
+            min_unit: column_at(header, b"min_unit"),
+            max_unit: column_at(header, b"max_unit"),
+            step_size: column_at(header, b"step_size"),
+            ratio: column_at(header, b"allocation_ratio"),
+        }
     }
 
+    #[tactic(auto, unfolding(crate::specs::Reader::ColumnPlaces::inventory_places))]
     fn read(
         seen: &mut Seen,
         ids: &Ids,
@@ -226,12 +165,20 @@ impl Record for InventoryTable {
         columns: InventoryColumns,
         row: &ByteRecord,
     ) -> Result<(u32, ClassName, Inventory), RecordFault> {
-        let found = match InventoryRow::read(&mut seen.names, header, columns, row) {
-            Ok(found) => found,
+        let provider = match read_owner(&mut seen.names, header, columns.provider, row) {
+            Ok(provider) => provider,
+            Err(kind) => return Err(RecordFault::Kind(kind)),
+        };
+        let class = match read_class(&mut seen.names, header, columns.class, row) {
+            Ok(class) => class,
             Err(fault) => return Err(fault),
         };
-        match ids.find_near(&mut seen.expected, found.provider) {
-            Some(place) => Ok((place as u32, found.class, found.inventory)),
+        let inventory = match read_inventory(header, columns, row) {
+            Ok(inventory) => inventory,
+            Err(kind) => return Err(RecordFault::Kind(kind)),
+        };
+        match ids.find_near(&mut seen.expected, provider) {
+            Some(place) => Ok((place as u32, class, inventory)),
             None => Err(RecordFault::Kind(TableKind::UnknownProvider)),
         }
     }

@@ -21,22 +21,17 @@ fn keys(alloc: Global, rows: &[TableRow<Id, Named>]) -> Result<Vec<Id>, AllocErr
     rows.iter().map(|row| row.key).collect(alloc)
 }
 
-// The turns in which the table lists its rows.
-fn turns(alloc: Global, rows: &[TableRow<Id, Named>]) -> Result<Vec<u32>, AllocError>
-    ensures { IfOk result (λ turns. length turns.items ≡ length rows.now) }
-{
-    rows.iter()
-        .map(|row| row.number.saturating_sub(2))
-        .collect(alloc)
-}
-
 // The ids of the providers, rising.
 pub(crate) fn find_ids(alloc: Global, rows: &[TableRow<Id, Named>]) -> Result<Ids, AllocError>
     requires { (said : List ProviderRecord) × IsListing said rows.now }
     ensures { IfOk result (λ ids. ids.ids.items ≡ map (λ r. r.key) rows.now) }
 {
     let ids = keys(alloc, rows)?;
-    let turns = turns(alloc, rows)?;
+    // The turns in which the table lists its rows.
+    let turns = rows
+        .iter()
+        .map(|row| row.number.saturating_sub(2))
+        .collect(alloc)?;
     Ids::new(alloc, ids, turns)
 }
 

@@ -13,7 +13,6 @@ use crate::reader::record::{Record, Seen};
 use crate::reader::records::text_at;
 use ac_base::Id;
 use csv::ByteRecord;
-use std::marker::Model;
 
 // The needed columns, in the order in which they are checked.
 const PROVIDER_COLUMNS: [&[u8]; 3] = [b"uuid", b"root_provider_uuid", b"parent_provider_uuid"];
@@ -26,86 +25,10 @@ pub(crate) struct ProviderColumns {
     parent: usize,
 }
 
-impl ProviderColumns {
-    ghost use Rattle.ac_tables.specs.Reader.ColumnPlaces.{provider_places};
-
-    #[tactic(auto, unfolding(crate::specs::Reader::ColumnPlaces::provider_places, crate::specs::Tables::ProviderTable::uuid_name, crate::specs::Tables::ProviderTable::root_name, crate::specs::Tables::ProviderTable::parent_name))]
-    pub(crate) fn of(header: &ByteRecord) -> ProviderColumns
-        ensures { result ≡ provider_places (fields_of header.now) }
-    {
-        ProviderColumns {
-            id: column_at(header, b"uuid"),
-            root: column_at(header, b"root_provider_uuid"),
-            parent: column_at(header, b"parent_provider_uuid"),
-        }
-    }
-}
-
-// What a record says.
-#[derive(Clone, Copy, Debug, PartialEq, Eq)]
-pub(crate) struct ProviderRow {
-    pub(crate) id: Id,
-    pub(crate) root: Id,
-    pub(crate) parent: Option<Id>,
-}
-
-impl Model for ProviderRow {
-    ghost use Rattle.ac_tables.specs.Tables.ProviderTable.{ProviderRecord};
-
-    ghost Value = { ProviderRecord };
-
-    ghost view = { λ a. record { id = a.id; root = a.root; parent = a.parent } };
-
-    ghost inverse = { λ p. record { id = p.id; root = p.root; parent = p.parent } };
-}
-
 fn says_none(text: &[u8]) -> bool
     ensures { result ≡ says_none text.now }
 {
     text.is_empty() || text == b"None".as_slice()
-}
-
-impl ProviderRow {
-    ghost use Rattle.ac_tables.specs.Reader.ColumnPlaces.{provider_places};
-
-    // What a record says, or the first fault of its fields.
-    #[tactic(auto, unfolding(crate::specs::Reader::ColumnPlaces::provider_places, crate::specs::Tables::ProviderTable::provider_said, crate::specs::Tables::ProviderTable::provider_field_checks))]
-    pub(crate) fn read(
-        header: &ByteRecord,
-        columns: ProviderColumns,
-        row: &ByteRecord,
-    ) -> Result<ProviderRow, TableKind>
-        requires { columns ≡ provider_places (fields_of header.now) }
-        ensures { result
-            ≡ unless (first_failing (provider_field_checks (fields_of header.now)
-            (fields_of row.now))) (provider_said (fields_of header.now) (fields_of row.now)) }
-    {
-        if row.len() != header.len() {
-            return Err(TableKind::Width);
-        }
-        let Some(id) = Id::read(text_at(row, columns.id)) else {
-            return Err(TableKind::BadUuid);
-        };
-        let Some(root) = Id::read(text_at(row, columns.root)) else {
-            return Err(TableKind::BadUuid);
-        };
-        let text = text_at(row, columns.parent);
-        if says_none(text) {
-            return Ok(ProviderRow {
-                id,
-                root,
-                parent: None,
-            });
-        }
-        let Some(parent) = Id::read(text) else {
-            return Err(TableKind::BadUuid);
-        };
-        Ok(ProviderRow {
-            id,
-            root,
-            parent: Some(parent),
-        })
-    }
 }
 
 // What a record names beside its own id.
@@ -158,10 +81,16 @@ impl Record for ProviderTable {
         &PROVIDER_COLUMNS
     }
 
+    #[tactic(auto, unfolding(crate::specs::Reader::ColumnPlaces::provider_places, crate::specs::Tables::ProviderTable::uuid_name, crate::specs::Tables::ProviderTable::root_name, crate::specs::Tables::ProviderTable::parent_name))]
     fn columns(header: &ByteRecord) -> ProviderColumns {
-        ProviderColumns::of(header)
+        ProviderColumns {
+            id: column_at(header, b"uuid"),
+            root: column_at(header, b"root_provider_uuid"),
+            parent: column_at(header, b"parent_provider_uuid"),
+        }
     }
 
+    #[tactic(auto, unfolding(crate::specs::Reader::ColumnPlaces::provider_places, crate::specs::Tables::ProviderTable::provider_said, crate::specs::Tables::ProviderTable::provider_field_checks))]
     fn read(
         _seen: &mut Seen,
         _beside: &(),
@@ -169,10 +98,24 @@ impl Record for ProviderTable {
         columns: ProviderColumns,
         row: &ByteRecord,
     ) -> Result<(u32, Id, Named), RecordFault> {
-        match ProviderRow::read(header, columns, row) {
-            Ok(ProviderRow { id, root, parent }) => Ok((0, id, Named { root, parent })),
-            Err(kind) => Err(RecordFault::Kind(kind)),
+        if row.len() != header.len() {
+            return Err(RecordFault::Kind(TableKind::Width));
         }
+        let Some(id) = Id::read(text_at(row, columns.id)) else {
+            return Err(RecordFault::Kind(TableKind::BadUuid));
+        };
+        let Some(root) = Id::read(text_at(row, columns.root)) else {
+            return Err(RecordFault::Kind(TableKind::BadUuid));
+        };
+        let text = text_at(row, columns.parent);
+        if says_none(text) {
+            return Ok((0, id, Named { root, parent: None }));
+        }
+        let Some(parent) = Id::read(text) else {
+            return Err(RecordFault::Kind(TableKind::BadUuid));
+        };
+        let parent = Some(parent);
+        Ok((0, id, Named { root, parent }))
     }
 
     ghost keyed = { λ _ header. providers_keyed header };

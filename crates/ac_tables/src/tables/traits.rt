@@ -37,27 +37,6 @@ pub(crate) struct TraitColumns {
     name: usize,
 }
 
-impl TraitColumns {
-    ghost use Rattle.ac_tables.specs.Reader.ColumnPlaces.{trait_places};
-
-    #[tactic(auto, unfolding(crate::specs::Reader::ColumnPlaces::trait_places, crate::specs::Tables::InventoryTable::provider_name, crate::specs::Tables::TraitTable::name_name))]
-    pub(crate) fn of(header: &ByteRecord) -> TraitColumns
-        ensures { result ≡ trait_places (fields_of header.now) }
-    {
-        TraitColumns {
-            provider: column_at(header, b"resource_provider"),
-            name: column_at(header, b"name"),
-        }
-    }
-}
-
-// What a record says.
-#[derive(Debug, Drop, PartialEq, Eq)]
-pub(crate) struct TraitRow {
-    pub(crate) provider: Id,
-    pub(crate) name: TraitName,
-}
-
 // The trait of a record.
 #[tactic(auto, unfolding(crate::specs::Tables::TraitTable::name_checks), using(crate::proofs::NameFacts::named))]
 fn read_name(
@@ -77,39 +56,6 @@ fn read_name(
     match names.trait_name(text_at(row, place))? {
         Some(name) => Ok(name),
         None => Err(RecordFault::Kind(TableKind::BadTrait)),
-    }
-}
-
-impl TraitRow {
-    ghost use Rattle.ac_tables.specs.Reader.ColumnPlaces.{trait_places};
-
-    // What a record says, or the first fault of its fields.
-    #[tactic(auto, unfolding(crate::specs::Reader::ColumnPlaces::trait_places))]
-    pub(crate) fn read(
-        names: &mut Names,
-        header: &ByteRecord,
-        columns: TraitColumns,
-        row: &ByteRecord,
-    ) -> Result<TraitRow, RecordFault>
-        requires { columns ≡ trait_places (fields_of header.now) }
-        ensures ok { IfOk result (λ _.
-            first_failing (trait_field_checks (fields_of header.now) (fields_of row.now)) ≡ None) }
-        ensures provider { IfOk result (λ m. m.provider
-            ≡ id_in (fields_of header.now) provider_name (fields_of row.now)) }
-        ensures name { IfOk result (λ m. trait_bytes m.name
-            ≡ text_in (fields_of header.now) name_name (fields_of row.now)) }
-        ensures fault { IfErr result (λ e.
-            TellsKind (first_failing
-            (trait_field_checks (fields_of header.now) (fields_of row.now))) e) }
-    {
-        let provider = match read_owner(names, header, columns.provider, row) {
-            Ok(provider) => provider,
-            Err(kind) => return Err(RecordFault::Kind(kind)),
-        };
-        match read_name(names, header, columns.name, row) {
-            Ok(name) => Ok(TraitRow { provider, name }),
-            Err(fault) => Err(fault),
-        }
     }
 }
 
@@ -156,10 +102,15 @@ impl Record for TraitTable {
         &TRAIT_COLUMNS
     }
 
+    #[tactic(auto, unfolding(crate::specs::Reader::ColumnPlaces::trait_places, crate::specs::Tables::InventoryTable::provider_name, crate::specs::Tables::TraitTable::name_name))]
     fn columns(header: &ByteRecord) -> TraitColumns {
-        TraitColumns::of(header)
+        TraitColumns {
+            provider: column_at(header, b"resource_provider"),
+            name: column_at(header, b"name"),
+        }
     }
 
+    #[tactic(auto, unfolding(crate::specs::Reader::ColumnPlaces::trait_places))]
     fn read(
         seen: &mut Seen,
         ids: &Ids,
@@ -167,12 +118,16 @@ impl Record for TraitTable {
         columns: TraitColumns,
         row: &ByteRecord,
     ) -> Result<(u32, TraitName, ()), RecordFault> {
-        let mark = match TraitRow::read(&mut seen.names, header, columns, row) {
-            Ok(mark) => mark,
+        let provider = match read_owner(&mut seen.names, header, columns.provider, row) {
+            Ok(provider) => provider,
+            Err(kind) => return Err(RecordFault::Kind(kind)),
+        };
+        let name = match read_name(&mut seen.names, header, columns.name, row) {
+            Ok(name) => name,
             Err(fault) => return Err(fault),
         };
-        match ids.find_near(&mut seen.expected, mark.provider) {
-            Some(place) => Ok((place as u32, mark.name, ())),
+        match ids.find_near(&mut seen.expected, provider) {
+            Some(place) => Ok((place as u32, name, ())),
             None => Err(RecordFault::Kind(TableKind::UnknownProvider)),
         }
     }

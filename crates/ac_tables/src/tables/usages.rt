@@ -40,29 +40,6 @@ pub(crate) struct UsageColumns {
     amount: usize,
 }
 
-impl UsageColumns {
-    ghost use Rattle.ac_tables.specs.Reader.ColumnPlaces.{usage_places};
-
-    #[tactic(auto, unfolding(crate::specs::Reader::ColumnPlaces::usage_places, crate::specs::Tables::InventoryTable::provider_name, crate::specs::Tables::InventoryTable::class_name, crate::specs::Tables::UsageTable::usage_name))]
-    pub(crate) fn of(header: &ByteRecord) -> UsageColumns
-        ensures { result ≡ usage_places (fields_of header.now) }
-    {
-        UsageColumns {
-            provider: column_at(header, b"resource_provider"),
-            class: column_at(header, b"resource_class"),
-            amount: column_at(header, b"usage"),
-        }
-    }
-}
-
-// What a record says.
-#[derive(Debug, Drop, PartialEq, Eq)]
-pub(crate) struct UsageRow {
-    pub(crate) provider: Id,
-    pub(crate) class: ClassName,
-    pub(crate) amount: u32,
-}
-
 // How much a record says to be used.
 #[tactic(auto, unfolding(crate::specs::Tables::UsageTable::amount_checks))]
 fn read_amount(header: &ByteRecord, place: usize, row: &ByteRecord) -> Result<u32, TableKind>
@@ -74,49 +51,6 @@ fn read_amount(header: &ByteRecord, place: usize, row: &ByteRecord) -> Result<u3
     match read_count(text_at(row, place)) {
         Some(amount) => Ok(amount),
         None => Err(TableKind::BadNumber),
-    }
-}
-
-impl UsageRow {
-    ghost use Rattle.ac_tables.specs.Reader.ColumnPlaces.{usage_places};
-
-    // What a record says, or the first fault of its fields.
-    #[tactic(auto, unfolding(crate::specs::Reader::ColumnPlaces::usage_places))]
-    pub(crate) fn read(
-        names: &mut Names,
-        header: &ByteRecord,
-        columns: UsageColumns,
-        row: &ByteRecord,
-    ) -> Result<UsageRow, RecordFault>
-        requires { columns ≡ usage_places (fields_of header.now) }
-        ensures ok { IfOk result (λ _.
-            first_failing (usage_field_checks (fields_of header.now) (fields_of row.now)) ≡ None) }
-        ensures provider { IfOk result (λ u. u.provider
-            ≡ id_in (fields_of header.now) provider_name (fields_of row.now)) }
-        ensures class { IfOk result (λ u. class_bytes u.class
-            ≡ text_in (fields_of header.now) class_name (fields_of row.now)) }
-        ensures amount { IfOk result (λ u. u.amount
-            ≡ number_in (fields_of header.now) usage_name (fields_of row.now)) }
-        ensures fault { IfErr result (λ e.
-            TellsKind (first_failing (usage_field_checks (fields_of header.now)
-            (fields_of row.now))) e) }
-    {
-        let provider = match read_owner(names, header, columns.provider, row) {
-            Ok(provider) => provider,
-            Err(kind) => return Err(RecordFault::Kind(kind)),
-        };
-        let class = match read_class(names, header, columns.class, row) {
-            Ok(class) => class,
-            Err(fault) => return Err(fault),
-        };
-        match read_amount(header, columns.amount, row) {
-            Ok(amount) => Ok(UsageRow {
-                provider,
-                class,
-                amount,
-            }),
-            Err(kind) => Err(RecordFault::Kind(kind)),
-        }
     }
 }
 
@@ -163,10 +97,16 @@ impl Record for UsageTable {
         &USAGE_COLUMNS
     }
 
+    #[tactic(auto, unfolding(crate::specs::Reader::ColumnPlaces::usage_places, crate::specs::Tables::InventoryTable::provider_name, crate::specs::Tables::InventoryTable::class_name, crate::specs::Tables::UsageTable::usage_name))]
     fn columns(header: &ByteRecord) -> UsageColumns {
-        UsageColumns::of(header)
+        UsageColumns {
+            provider: column_at(header, b"resource_provider"),
+            class: column_at(header, b"resource_class"),
+            amount: column_at(header, b"usage"),
+        }
     }
 
+    #[tactic(auto, unfolding(crate::specs::Reader::ColumnPlaces::usage_places))]
     fn read(
         seen: &mut Seen,
         inventories: &Inventories,
@@ -174,21 +114,26 @@ impl Record for UsageTable {
         columns: UsageColumns,
         row: &ByteRecord,
     ) -> Result<(u32, ClassName, u32), RecordFault> {
-        let usage = match UsageRow::read(&mut seen.names, header, columns, row) {
-            Ok(usage) => usage,
+        let provider = match read_owner(&mut seen.names, header, columns.provider, row) {
+            Ok(provider) => provider,
+            Err(kind) => return Err(RecordFault::Kind(kind)),
+        };
+        let class = match read_class(&mut seen.names, header, columns.class, row) {
+            Ok(class) => class,
             Err(fault) => return Err(fault),
         };
+        let amount = match read_amount(header, columns.amount, row) {
+            Ok(amount) => amount,
+            Err(kind) => return Err(RecordFault::Kind(kind)),
+        };
         let _count = inventories.ids.len();
-        let Some(place) = inventories
-            .ids
-            .find_near(&mut seen.expected, usage.provider)
-        else {
+        let Some(place) = inventories.ids.find_near(&mut seen.expected, provider) else {
             return Err(RecordFault::Kind(TableKind::UnknownProvider));
         };
-        if inventories.lacks(place, &usage.class) {
+        if inventories.lacks(place, &class) {
             return Err(RecordFault::Kind(TableKind::NoInventory));
         }
-        Ok((place as u32, usage.class, usage.amount))
+        Ok((place as u32, class, amount))
     }
 
     ghost keyed = { λ b header. usages_keyed b.ids.ids.items (inventory_records_shown b.ids.ids.items b.rows.items.items) header };

@@ -1,4 +1,4 @@
-use Rattle.std.proofs.Common.{◌≡◌, ◌∙◌, ℕ, Option, List, map, length, refl, sym, ap, ap₂, subst}
+use Rattle.std.proofs.Common.{◌≡◌, ◌∙◌, ℕ, Option, None, List, map, length, refl, sym, ap, ap₂, subst}
 use Rattle.std.specs.List.{sum_by}
 use Rattle.std.proofs.lemmas.List.{length-map}
 use Rattle.ac_base.specs.Names.{trait_bytes}
@@ -25,6 +25,26 @@ use Rattle.ac_tables.proofs.StatedWorld.{stated, counted, same_sizes}
 use Rattle.ac_tables.specs.Source.{tables_of}
 use Rattle.ac_tables.proofs.Records.AllFaults.{tells_providers, tells_inventories, tells_usages, tells_traits, tells_aggregates, none_at_all, usage_text, trait_text, aggregate_text}
 use Rattle.ac_tables.proofs.cloud.Cloud.read.Goals as goal
+use Rattle.ac_tables.proofs.cloud.Cloud.read.Goals.{In-Ok-read, In-Ok-read_usages, In-Ok-read_traits}
+
+-- where a table has no fault
+fine_inventories : (c : In-Ok-read) → inventories_fault (ids_of (tables_of c.args.src.now).providers) (tables_of c.args.src.now).inventories ≡ None
+unfolding ids_of
+fine_inventories c = ap (λ (l : List ℕ). inventories_fault l (tables_of c.args.src.now).inventories) (sym c.in-Ok.ensures.ids) ∙ c.in-Ok-read.ensures.ok
+
+fine_usages : (c : In-Ok-read_usages) → usages_fault (ids_of (tables_of c.args.src.now).providers) (inventories_said (tables_of c.args.src.now).inventories) (tables_of c.args.src.now).usages ≡ None
+unfolding ids_of
+fine_usages c =
+    let t = tables_of c.args.src.now in
+    let said = said_here c.in-Ok-read.inventories c.in-Ok.providers.ids.ids.items (inventories_said t.inventories) c.in-Ok-read.ensures.ids c.in-Ok-read.ensures.said in
+    ap₂ (λ (l : List ℕ) (rows : List Row). usages_fault l (inventories_said t.inventories) rows) (sym (c.in-Ok-read.ensures.ids ∙ c.in-Ok.ensures.ids)) (sym (ap records_of c.text_or-text.ensures ∙ usage_text c.args.src.now.usages))
+    ∙ c.in-Ok-read_usages.ensures.ok (inventories_said t.inventories) said
+
+fine_traits : (c : In-Ok-read_traits) → traits_fault (ids_of (tables_of c.args.src.now).providers) (tables_of c.args.src.now).traits ≡ None
+unfolding ids_of
+fine_traits c =
+    ap₂ (λ (l : List ℕ) (rows : List Row). traits_fault l rows) (sym (c.in-Ok-read.ensures.ids ∙ c.in-Ok.ensures.ids)) (sym (ap records_of c.text_or-text-2.ensures ∙ trait_text c.args.src.now.traits))
+    ∙ c.in-Ok-read_traits.ensures.ok
 
 pub returns-in-Err-clause-fault : goal.returns-in-Err-clause-fault
 returns-in-Err-clause-fault c = tells_providers (tables_of c.args.src.now) c.in-Err.fault c.in-Err.ensures.fault
@@ -33,76 +53,47 @@ pub returns-in-Err-read-clause-fault : goal.returns-in-Err-read-clause-fault
 unfolding ids_of
 returns-in-Err-read-clause-fault c =
     let t = tables_of c.args.src.now in
-    let ok = c.in-Ok.ensures.ok in
-    let all : c.in-Ok.providers.ids.ids.items ≡ ids_of t.providers = c.in-Ok.ensures.ids in
-    tells_inventories t c.in-Err-read.fault ok
-    (subst (λ (l : List ℕ). Tells (inventories_fault l t.inventories) c.in-Err-read.fault) all c.in-Err-read.ensures.err)
+    tells_inventories t c.in-Err-read.fault c.in-Ok.ensures.ok
+    (subst (λ (l : List ℕ). Tells (inventories_fault l t.inventories) c.in-Err-read.fault) c.in-Ok.ensures.ids c.in-Err-read.ensures.err)
 
 pub returns-in-Err-read_usages-clause-fault : goal.returns-in-Err-read_usages-clause-fault
 unfolding ids_of
 returns-in-Err-read_usages-clause-fault c =
     let t = tables_of c.args.src.now in
-    let ok = c.in-Ok.ensures.ok in
-    let all : c.in-Ok.providers.ids.ids.items ≡ ids_of t.providers = c.in-Ok.ensures.ids in
-    let i = ap (λ (l : List ℕ). inventories_fault l t.inventories) (sym all) ∙ c.in-Ok-read.ensures.ok in
-    let own : c.in-Ok-read.inventories.ids.ids.items ≡ ids_of t.providers = c.in-Ok-read.ensures.ids ∙ all in
     let said = said_here c.in-Ok-read.inventories c.in-Ok.providers.ids.ids.items (inventories_said t.inventories) c.in-Ok-read.ensures.ids c.in-Ok-read.ensures.said in
-    let usage_rows = ap records_of c.text_or-text.ensures ∙ usage_text c.args.src.now.usages in
-    tells_usages t c.in-Err-read_usages.fault ok i
-    (subst (λ (l : List ℕ). Tells (usages_fault l (inventories_said t.inventories) t.usages) c.in-Err-read_usages.fault) own
-    (subst (λ (rows : List Row). Tells (usages_fault c.in-Ok-read.inventories.ids.ids.items (inventories_said t.inventories) rows) c.in-Err-read_usages.fault) usage_rows
+    tells_usages t c.in-Err-read_usages.fault c.in-Ok.ensures.ok (fine_inventories (goal.at.returns-in-Err-read_usages-clause-fault c).In-Ok-read)
+    (subst (λ (l : List ℕ). Tells (usages_fault l (inventories_said t.inventories) t.usages) c.in-Err-read_usages.fault) (c.in-Ok-read.ensures.ids ∙ c.in-Ok.ensures.ids)
+    (subst (λ (rows : List Row). Tells (usages_fault c.in-Ok-read.inventories.ids.ids.items (inventories_said t.inventories) rows) c.in-Err-read_usages.fault)
+    (ap records_of c.text_or-text.ensures ∙ usage_text c.args.src.now.usages)
     (c.in-Err-read_usages.ensures.err (inventories_said t.inventories) said)))
 
 pub returns-in-Err-read_traits-clause-fault : goal.returns-in-Err-read_traits-clause-fault
 unfolding ids_of
 returns-in-Err-read_traits-clause-fault c =
     let t = tables_of c.args.src.now in
-    let ok = c.in-Ok.ensures.ok in
-    let all : c.in-Ok.providers.ids.ids.items ≡ ids_of t.providers = c.in-Ok.ensures.ids in
-    let i = ap (λ (l : List ℕ). inventories_fault l t.inventories) (sym all) ∙ c.in-Ok-read.ensures.ok in
-    let own : c.in-Ok-read.inventories.ids.ids.items ≡ ids_of t.providers = c.in-Ok-read.ensures.ids ∙ all in
-    let said = said_here c.in-Ok-read.inventories c.in-Ok.providers.ids.ids.items (inventories_said t.inventories) c.in-Ok-read.ensures.ids c.in-Ok-read.ensures.said in
-    let usage_rows = ap records_of c.text_or-text.ensures ∙ usage_text c.args.src.now.usages in
-    let u = ap₂ (λ (l : List ℕ) (rows : List Row). usages_fault l (inventories_said t.inventories) rows) (sym own) (sym usage_rows) ∙ c.in-Ok-read_usages.ensures.ok (inventories_said t.inventories) said in
-    let trait_rows = ap records_of c.text_or-text-2.ensures ∙ trait_text c.args.src.now.traits in
-    tells_traits t c.in-Err-read_traits.fault ok i u
-    (subst (λ (l : List ℕ). Tells (traits_fault l t.traits) c.in-Err-read_traits.fault) own
-    (subst (λ (rows : List Row). Tells (traits_fault c.in-Ok-read.inventories.ids.ids.items rows) c.in-Err-read_traits.fault) trait_rows c.in-Err-read_traits.ensures.err))
+    let at = goal.at.returns-in-Err-read_traits-clause-fault c in
+    tells_traits t c.in-Err-read_traits.fault c.in-Ok.ensures.ok (fine_inventories at.In-Ok-read) (fine_usages at.In-Ok-read_usages)
+    (subst (λ (l : List ℕ). Tells (traits_fault l t.traits) c.in-Err-read_traits.fault) (c.in-Ok-read.ensures.ids ∙ c.in-Ok.ensures.ids)
+    (subst (λ (rows : List Row). Tells (traits_fault c.in-Ok-read.inventories.ids.ids.items rows) c.in-Err-read_traits.fault)
+    (ap records_of c.text_or-text-2.ensures ∙ trait_text c.args.src.now.traits) c.in-Err-read_traits.ensures.err))
 
 pub returns-in-Err-read_aggregates-clause-fault : goal.returns-in-Err-read_aggregates-clause-fault
 unfolding ids_of
 returns-in-Err-read_aggregates-clause-fault c =
     let t = tables_of c.args.src.now in
-    let ok = c.in-Ok.ensures.ok in
-    let all : c.in-Ok.providers.ids.ids.items ≡ ids_of t.providers = c.in-Ok.ensures.ids in
-    let i = ap (λ (l : List ℕ). inventories_fault l t.inventories) (sym all) ∙ c.in-Ok-read.ensures.ok in
-    let own : c.in-Ok-read.inventories.ids.ids.items ≡ ids_of t.providers = c.in-Ok-read.ensures.ids ∙ all in
-    let said = said_here c.in-Ok-read.inventories c.in-Ok.providers.ids.ids.items (inventories_said t.inventories) c.in-Ok-read.ensures.ids c.in-Ok-read.ensures.said in
-    let usage_rows = ap records_of c.text_or-text.ensures ∙ usage_text c.args.src.now.usages in
-    let u = ap₂ (λ (l : List ℕ) (rows : List Row). usages_fault l (inventories_said t.inventories) rows) (sym own) (sym usage_rows) ∙ c.in-Ok-read_usages.ensures.ok (inventories_said t.inventories) said in
-    let trait_rows = ap records_of c.text_or-text-2.ensures ∙ trait_text c.args.src.now.traits in
-    let m = ap₂ (λ (l : List ℕ) (rows : List Row). traits_fault l rows) (sym own) (sym trait_rows) ∙ c.in-Ok-read_traits.ensures.ok in
-    let aggregate_rows = ap records_of c.text_or-text-3.ensures ∙ aggregate_text c.args.src.now.aggregates in
-    tells_aggregates t c.in-Err-read_aggregates.fault ok i u m
-    (subst (λ (l : List ℕ). Tells (aggregates_fault l t.aggregates) c.in-Err-read_aggregates.fault) own
-    (subst (λ (rows : List Row). Tells (aggregates_fault c.in-Ok-read.inventories.ids.ids.items rows) c.in-Err-read_aggregates.fault) aggregate_rows c.in-Err-read_aggregates.ensures.err))
+    let at = goal.at.returns-in-Err-read_aggregates-clause-fault c in
+    tells_aggregates t c.in-Err-read_aggregates.fault c.in-Ok.ensures.ok (fine_inventories at.In-Ok-read) (fine_usages at.In-Ok-read_usages) (fine_traits at.In-Ok-read_traits)
+    (subst (λ (l : List ℕ). Tells (aggregates_fault l t.aggregates) c.in-Err-read_aggregates.fault) (c.in-Ok-read.ensures.ids ∙ c.in-Ok.ensures.ids)
+    (subst (λ (rows : List Row). Tells (aggregates_fault c.in-Ok-read.inventories.ids.ids.items rows) c.in-Err-read_aggregates.fault)
+    (ap records_of c.text_or-text-3.ensures ∙ aggregate_text c.args.src.now.aggregates) c.in-Err-read_aggregates.ensures.err))
 
 pub returns-clause-ok : goal.returns-clause-ok
 unfolding ids_of
 returns-clause-ok c =
-    let t = tables_of c.args.src.now in
-    let ok = c.in-Ok.ensures.ok in
-    let all : c.in-Ok.providers.ids.ids.items ≡ ids_of t.providers = c.in-Ok.ensures.ids in
-    let i = ap (λ (l : List ℕ). inventories_fault l t.inventories) (sym all) ∙ c.in-Ok-read.ensures.ok in
-    let own : c.in-Ok-read.inventories.ids.ids.items ≡ ids_of t.providers = c.in-Ok-read.ensures.ids ∙ all in
-    let said = said_here c.in-Ok-read.inventories c.in-Ok.providers.ids.ids.items (inventories_said t.inventories) c.in-Ok-read.ensures.ids c.in-Ok-read.ensures.said in
-    let usage_rows = ap records_of c.text_or-text.ensures ∙ usage_text c.args.src.now.usages in
-    let u = ap₂ (λ (l : List ℕ) (rows : List Row). usages_fault l (inventories_said t.inventories) rows) (sym own) (sym usage_rows) ∙ c.in-Ok-read_usages.ensures.ok (inventories_said t.inventories) said in
-    let trait_rows = ap records_of c.text_or-text-2.ensures ∙ trait_text c.args.src.now.traits in
-    let m = ap₂ (λ (l : List ℕ) (rows : List Row). traits_fault l rows) (sym own) (sym trait_rows) ∙ c.in-Ok-read_traits.ensures.ok in
-    let aggregate_rows = ap records_of c.text_or-text-3.ensures ∙ aggregate_text c.args.src.now.aggregates in
-    let a = ap₂ (λ (l : List ℕ) (rows : List Row). aggregates_fault l rows) (sym own) (sym aggregate_rows) ∙ c.in-Ok-read_aggregates.ensures.ok in
-    none_at_all t ok i u m a
+    let at = goal.at.returns-clause-ok c in
+    none_at_all (tables_of c.args.src.now) c.in-Ok.ensures.ok (fine_inventories at.In-Ok-read) (fine_usages at.In-Ok-read_usages) (fine_traits at.In-Ok-read_traits)
+    (ap₂ (λ (l : List ℕ) (rows : List Row). aggregates_fault l rows) (sym (c.in-Ok-read.ensures.ids ∙ c.in-Ok.ensures.ids)) (sym (ap records_of c.text_or-text-3.ensures ∙ aggregate_text c.args.src.now.aggregates))
+    ∙ c.in-Ok-read_aggregates.ensures.ok)
 
 pub build-requires-clause-kin : goal.build-requires-clause-kin
 build-requires-clause-kin c =

@@ -10,8 +10,7 @@ use Rattle.ac_base.specs.Texts.{text_cmp}
 use Rattle.ac_base.specs.declared.name.ClassName.{ClassName}
 use Rattle.ac_tables.specs.Reader.RecordLaws.{eq_turned}
 use Rattle.ac_tables.specs.declared.reader.row.TableRow.{TableRow}
-use Rattle.ac_tables.proofs.Places.LookupFacts.{any_same}
-use Rattle.ac_tables.proofs.Sorted.SearchFacts.{found, found_any}
+use Rattle.ac_tables.proofs.Sorted.SearchFacts.{any_same, found, found_any}
 use Rattle.ac_tables.proofs.tables.inventories.has_class.Goals as goal
 
 pub returns : goal.returns

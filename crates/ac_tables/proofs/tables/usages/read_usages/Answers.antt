@@ -3,7 +3,6 @@ use Rattle.std.specs.Cmp.{on_total}
 use Rattle.std.proofs.lemmas.Cmp.{nat_list_cmp_total}
 use Rattle.std.proofs.lemmas.List.{length-map}
 use Rattle.std.proofs.lemmas.List.Sorted.{length_permutation}
-use Rattle.std.proofs.lemmas.Map.Text.{is_eq-slice_cmp}
 use Rattle.ac_base.specs.Names.{class_bytes}
 use Rattle.ac_base.specs.Texts.{text_cmp}
 use Rattle.ac_base.specs.declared.name.ClassName.{ClassName}
@@ -13,7 +12,7 @@ use Rattle.ac_tables.specs.Tables.UsageTable.{UsageRecord, usages_said}
 use Rattle.ac_tables.specs.Tables.Rows.{records_of}
 use Rattle.ac_tables.specs.Tables.{amounts_of}
 use Rattle.ac_tables.specs.Reader.InventoryRows.{class_pair, inventory_records_shown}
-use Rattle.ac_tables.specs.Reader.RecordLaws.{same_place, eq_turned}
+use Rattle.ac_tables.specs.Reader.RecordLaws.{same_place}
 use Rattle.ac_tables.specs.declared.fault.TableFault.{TableFault}
 use Rattle.ac_tables.proofs.Gathered.RowPlaces.{places_rise}
 use Rattle.ac_tables.proofs.Sorted.ProviderMaps.{shown_map}
@@ -30,8 +29,7 @@ returns-clause-value c =
     let ids = c.args.inventories.now.ids.ids.items in
     let said = usages_said (records_of c.args.text.now) in
     of_each c.in-Ok.rows.items (map class_pair) (amounts_of said) ids _ (rw (sym c.len.ensures.value) c.in_ok-split.ensures.lists) (λ p h.
-    shown_map (λ a b. text_cmp (class_bytes a) (class_bytes b)) (on_total class_bytes nat_list_cmp_total) nat_list_cmp_total (λ a b. is_eq-slice_cmp a b ∙ eq_turned a b ∙ sym (is_eq-slice_cmp b a))
-    class_bytes (λ a b. refl) (usage_shown ids) (length ids) said c.in-Ok.rows.items c.in-Ok.ensures.rows (λ (v : UsageRecord). v.provider) (λ (v : UsageRecord). (v.class, v.amount)) p (get_or ids p 0)
+    shown_map (λ a b. text_cmp (class_bytes a) (class_bytes b)) class_bytes (λ a b. refl) (usage_shown ids) (length ids) said c.in-Ok.rows.items c.in-Ok.ensures.rows (λ (v : UsageRecord). v.provider) (λ (v : UsageRecord). (v.class, v.amount)) p (get_or ids p 0)
     (λ r inside. same_place ids c.args.inventories.now.ids.rising r.place p inside h)
     (λ r. refl))
 

@@ -1,41 +1,73 @@
-use Rattle.std.proofs.Common.{◌≡◌, ◌∙◌, ℕ, [], sym, ap}
+use Rattle.std.proofs.Common.{◌≡◌, ◌∙◌, ◌++◌, ◌∷◌, [], None, get_or, unwrap_or, refl, sym, ap}
 use Rattle.csv.specs.Records.{fields_of}
 use Rattle.ac_tables.specs.Tables.Checks.{first_failing}
-use Rattle.ac_tables.specs.Tables.InventoryTable.{known_checks}
-use Rattle.ac_tables.specs.Tables.AggregateTable.{AggregateRecord}
+use Rattle.ac_base.specs.Texts.{id_value}
+use Rattle.ac_tables.specs.Reader.ColumnPlaces.{aggregate_places}
+use Rattle.ac_tables.specs.Tables.Columns.{bad_id, id_in, text_in}
+use Rattle.ac_tables.specs.declared.fault.TableKind.TheVariants as kind
+use Rattle.ac_tables.specs.Tables.ProviderTable.{uuid_name}
+use Rattle.ac_tables.specs.Tables.InventoryTable.{owner_checks, known_checks, provider_name}
+use Rattle.ac_tables.specs.Tables.AggregateTable.{aggregate_field_checks, aggregate_record_checks, aggregate_said}
 use Rattle.ac_tables.proofs.Sorted.Rising.{one_of_place}
-use Rattle.ac_tables.proofs.FirstFailing.{unless_err, unless_none, unless_value}
-use Rattle.ac_tables.proofs.Records.KnownFacts.{aggregate_fields_tell, aggregate_fields_fine, known, unknown}
+use Rattle.ac_tables.proofs.FirstFailing.{append_none, append_some, none_both, unless_err, unless_none, unless_value}
+use Rattle.ac_tables.proofs.Records.KnownFacts.{known, unknown}
 use Rattle.ac_tables.proofs.tables.aggregates.AggregateTableRecord.read.Goals as goal
+use Rattle.ac_tables.proofs.tables.aggregates.AggregateTableRecord.read.Goals.{In-Ok, In-Some, After-read}
+
+id : (c : In-Ok) → c.in-Ok.provider ≡ id_in (fields_of c.args.header.now) provider_name (fields_of c.args.row.now)
+id c = unless_value _ _ c.in-Ok.provider (sym c.read_owner.ensures ∙ c.in-Ok.is)
+
+owner_fine : (c : In-Ok) → first_failing (owner_checks (fields_of c.args.header.now) (fields_of c.args.row.now)) ≡ None
+owner_fine c = unless_none _ _ c.in-Ok.provider (sym c.read_owner.ensures ∙ c.in-Ok.is)
 
 pub returns-in-Err-clause-fault : goal.returns-in-Err-clause-fault
+unfolding aggregate_record_checks aggregate_field_checks
 returns-in-Err-clause-fault c =
-    aggregate_fields_tell c.args.ids.now.ids.items (fields_of c.args.header.now) [] (fields_of c.args.row.now) c.in-Err.kind (unless_err _ _ c.in-Err.kind (sym c.read.ensures ∙ c.in-Err.is))
+    let header = fields_of c.args.header.now in
+    let row = fields_of c.args.row.now in
+    append_some (owner_checks header row ++ bad_id header uuid_name row ∷ []) (known_checks c.args.ids.now.ids.items (id_in header provider_name row)) c.in-Err.kind
+    (append_some (owner_checks header row) (bad_id header uuid_name row ∷ []) c.in-Err.kind (unless_err _ _ c.in-Err.kind (sym c.read_owner.ensures ∙ c.in-Err.is)))
 
-pub returns-in-Some-clause-ok : goal.returns-in-Some-clause-ok
-returns-in-Some-clause-ok c =
+-- what the text of the aggregate spells
+id_is : (c : After-read) → id_value (text_in (fields_of c.args.header.now) uuid_name (fields_of c.args.row.now)) ≡ c.read.result
+unfolding aggregate_places
+id_is c = sym (c.read.ensures ∙ ap id_value (c.text_at.ensures ∙ ap (λ k. get_or (fields_of c.args.row.now) k.aggregate []) c.requires))
+
+pub returns-in_default-clause-fault : goal.returns-in_default-clause-fault
+unfolding aggregate_record_checks aggregate_field_checks
+returns-in_default-clause-fault c =
+    let at = goal.at.returns-in_default-clause-fault c in
+    let header = fields_of c.args.header.now in
+    let row = fields_of c.args.row.now in
+    append_some (owner_checks header row ++ bad_id header uuid_name row ∷ []) (known_checks c.args.ids.now.ids.items (id_in header provider_name row)) kind.BadUuid
+    (append_none (owner_checks header row) (bad_id header uuid_name row ∷ []) (owner_fine at.In-Ok) ∙ rw (id_is at.After-read ∙ c.in_default.is) refl)
+
+fields_fine : (c : In-Some) → first_failing (owner_checks (fields_of c.args.header.now) (fields_of c.args.row.now)) ≡ None → id_value (text_in (fields_of c.args.header.now) uuid_name (fields_of c.args.row.now)) ≡ c.read.result
+    → first_failing (owner_checks (fields_of c.args.header.now) (fields_of c.args.row.now) ++ bad_id (fields_of c.args.header.now) uuid_name (fields_of c.args.row.now) ∷ []) ≡ None
+fields_fine c fine same = none_both (owner_checks (fields_of c.args.header.now) (fields_of c.args.row.now)) (bad_id (fields_of c.args.header.now) uuid_name (fields_of c.args.row.now) ∷ []) fine (rw (same ∙ c.in-Some.is) refl)
+
+pub returns-in-Some-find_near-clause-ok : goal.returns-in-Some-find_near-clause-ok
+unfolding aggregate_record_checks aggregate_field_checks
+returns-in-Some-find_near-clause-ok c =
+    let at = goal.at.returns-in-Some-find_near-clause-ok c in
     let ids = c.args.ids.now.ids.items in
-    let none = unless_none _ _ c.in-Ok.found (sym c.read.ensures ∙ c.in-Ok.is) in
-    let value = unless_value _ _ c.in-Ok.found (sym c.read.ensures ∙ c.in-Ok.is) in
-    let same : c.in-Ok.found.provider ≡ c.found.inside.provider = ap (λ (m : AggregateRecord). m.provider) (sym c.found.view_is) in
-    aggregate_fields_fine ids (fields_of c.args.header.now) [] (fields_of c.args.row.now) none
-    ∙ ap (λ (m : AggregateRecord). first_failing (known_checks ids m.provider)) (sym value)
-    ∙ ap (λ (i : ℕ). first_failing (known_checks ids i)) same
-    ∙ known ids c.found.inside.provider (one_of_place ids c.found.inside.provider c.in-Some.place c.in-Some.ensures.inside c.in-Some.ensures.found)
+    append_none (owner_checks (fields_of c.args.header.now) (fields_of c.args.row.now) ++ bad_id (fields_of c.args.header.now) uuid_name (fields_of c.args.row.now) ∷ []) _ (fields_fine at.In-Some (owner_fine at.In-Ok) (id_is at.After-read))
+    ∙ ap (λ i. first_failing (known_checks ids i)) (sym (id at.In-Ok))
+    ∙ known ids c.in-Ok.provider (one_of_place ids c.in-Ok.provider c.in-Some-find_near.place c.in-Some-find_near.ensures.inside c.in-Some-find_near.ensures.found)
 
-pub returns-in-Some-clause-value : goal.returns-in-Some-clause-value
-returns-in-Some-clause-value c =
-    let value = unless_value _ _ c.in-Ok.found (sym c.read.ensures ∙ c.in-Ok.is) in
-    let p = c.in-Some.ensures.found in
+pub returns-in-Some-find_near-clause-value : goal.returns-in-Some-find_near-clause-value
+unfolding aggregate_said
+returns-in-Some-find_near-clause-value c =
+    let at = goal.at.returns-in-Some-find_near-clause-value c in
+    let p = c.in-Some-find_near.ensures.found ∙ id at.In-Ok in
+    let a : c.in-Some.aggregate ≡ id_in (fields_of c.args.header.now) uuid_name (fields_of c.args.row.now) = ap (λ o. unwrap_or o 0) (sym (id_is at.After-read ∙ c.in-Some.is)) in
     cc
 
 pub returns-in-None-clause-fault : goal.returns-in-None-clause-fault
+unfolding aggregate_record_checks aggregate_field_checks
 returns-in-None-clause-fault c =
+    let at = goal.at.returns-in-None-clause-fault c in
     let ids = c.args.ids.now.ids.items in
-    let none = unless_none _ _ c.in-Ok.found (sym c.read.ensures ∙ c.in-Ok.is) in
-    let value = unless_value _ _ c.in-Ok.found (sym c.read.ensures ∙ c.in-Ok.is) in
-    let same : c.in-Ok.found.provider ≡ c.found.inside.provider = ap (λ (m : AggregateRecord). m.provider) (sym c.found.view_is) in
-    aggregate_fields_fine ids (fields_of c.args.header.now) [] (fields_of c.args.row.now) none
-    ∙ ap (λ (m : AggregateRecord). first_failing (known_checks ids m.provider)) (sym value)
-    ∙ ap (λ (i : ℕ). first_failing (known_checks ids i)) same
-    ∙ unknown ids c.found.inside.provider c.in-None.ensures.absent
+    append_none (owner_checks (fields_of c.args.header.now) (fields_of c.args.row.now) ++ bad_id (fields_of c.args.header.now) uuid_name (fields_of c.args.row.now) ∷ []) _ (fields_fine at.In-Some (owner_fine at.In-Ok) (id_is at.After-read))
+    ∙ ap (λ i. first_failing (known_checks ids i)) (sym (id at.In-Ok))
+    ∙ unknown ids c.in-Ok.provider c.in-None.ensures.absent

@@ -1,47 +1,89 @@
-use Rattle.std.proofs.Common.{◌∙◌, sym, ap}
+use Rattle.std.proofs.Common.{◌≡◌, ◌∙◌, ◌++◌, None, sym, ap}
 use Rattle.std.specs.List.{list_any}
 use Rattle.csv.specs.Records.{fields_of}
 use Rattle.ac_base.specs.Names.{class_bytes}
+use Rattle.ac_tables.specs.Tables.Checks.{first_failing}
 use Rattle.ac_tables.specs.Tables.Columns.{id_in, text_in}
-use Rattle.ac_tables.specs.Tables.InventoryTable.{provider_name, class_name, is_inventory_of}
-use Rattle.ac_tables.specs.Tables.UsageTable.{usage_said, usage_field_checks}
+use Rattle.ac_tables.specs.Tables.InventoryTable.{provider_name, class_name, owner_checks, class_checks, is_inventory_of}
+use Rattle.ac_tables.specs.Tables.UsageTable.{usage_said, usage_field_checks, amount_checks}
 use Rattle.ac_tables.specs.Reader.InventoryRows.{inventory_records_shown}
 use Rattle.ac_tables.specs.Reader.RecordLaws.{lone_checks}
 use Rattle.ac_tables.proofs.Sorted.Rising.{one_of_place}
-use Rattle.ac_tables.proofs.FirstFailing.{tells_front}
+use Rattle.ac_tables.proofs.FirstFailing.{append_none, append_some, none_both, tells_back, tells_front, unless_err, unless_none, unless_value}
 use Rattle.ac_tables.proofs.Records.UsageKeys.{any_shown, lone_unknown, lone_nothing, lone_fine}
 use Rattle.ac_tables.proofs.Small.{not_true, not_false}
 use Rattle.ac_tables.proofs.tables.usages.UsageTableRecord.read.Goals as goal
+use Rattle.ac_tables.proofs.tables.usages.UsageTableRecord.read.Goals.{In-Ok, In-Ok-read_class, In-Ok-read_amount}
+
+id : (c : In-Ok) → c.in-Ok.provider ≡ id_in (fields_of c.args.header.now) provider_name (fields_of c.args.row.now)
+id c = unless_value _ _ c.in-Ok.provider (sym c.read_owner.ensures ∙ c.in-Ok.is)
+
+class_fine : (c : In-Ok-read_class) → first_failing (owner_checks (fields_of c.args.header.now) (fields_of c.args.row.now) ++ class_checks (fields_of c.args.header.now) (fields_of c.args.row.now)) ≡ None
+class_fine c = none_both (owner_checks (fields_of c.args.header.now) (fields_of c.args.row.now)) (class_checks (fields_of c.args.header.now) (fields_of c.args.row.now)) (unless_none _ _ c.in-Ok.provider (sym c.read_owner.ensures ∙ c.in-Ok.is)) c.in-Ok-read_class.ensures.ok
+
+fields_fine : (c : In-Ok-read_amount) → first_failing (owner_checks (fields_of c.args.header.now) (fields_of c.args.row.now) ++ class_checks (fields_of c.args.header.now) (fields_of c.args.row.now)) ≡ None
+    → first_failing (usage_field_checks (fields_of c.args.header.now) (fields_of c.args.row.now)) ≡ None
+unfolding usage_field_checks
+fields_fine c front = none_both (owner_checks (fields_of c.args.header.now) (fields_of c.args.row.now) ++ class_checks (fields_of c.args.header.now) (fields_of c.args.row.now)) (amount_checks (fields_of c.args.header.now) (fields_of c.args.row.now)) front
+    (unless_none _ _ c.in-Ok-read_amount.amount (sym c.read_amount.ensures ∙ c.in-Ok-read_amount.is))
 
 pub returns-in-Err-clause-fault : goal.returns-in-Err-clause-fault
+unfolding usage_field_checks
 returns-in-Err-clause-fault c =
-    tells_front (usage_field_checks (fields_of c.args.header.now) (fields_of c.args.row.now)) (lone_checks c.args.inventories.now.ids.ids.items (inventory_records_shown c.args.inventories.now.ids.ids.items c.args.inventories.now.rows.items.items)
-    (id_in (fields_of c.args.header.now) provider_name (fields_of c.args.row.now)) (text_in (fields_of c.args.header.now) class_name (fields_of c.args.row.now))) _ c.in-Err.ensures.fault
+    let header = fields_of c.args.header.now in
+    let row = fields_of c.args.row.now in
+    let ids = c.args.inventories.now.ids.ids.items in
+    append_some (usage_field_checks header row) (lone_checks ids (inventory_records_shown ids c.args.inventories.now.rows.items.items) (id_in header provider_name row) (text_in header class_name row)) c.in-Err.kind
+    (append_some (owner_checks header row ++ class_checks header row) (amount_checks header row) c.in-Err.kind
+    (append_some (owner_checks header row) (class_checks header row) c.in-Err.kind (unless_err _ _ c.in-Err.kind (sym c.read_owner.ensures ∙ c.in-Err.is))))
+
+pub returns-in-Err-read_class-clause-fault : goal.returns-in-Err-read_class-clause-fault
+unfolding usage_field_checks
+returns-in-Err-read_class-clause-fault c =
+    let header = fields_of c.args.header.now in
+    let row = fields_of c.args.row.now in
+    let ids = c.args.inventories.now.ids.ids.items in
+    tells_front (usage_field_checks header row) (lone_checks ids (inventory_records_shown ids c.args.inventories.now.rows.items.items) (id_in header provider_name row) (text_in header class_name row)) c.in-Err-read_class.fault
+    (tells_front (owner_checks header row ++ class_checks header row) (amount_checks header row) c.in-Err-read_class.fault
+    (tells_back (owner_checks header row) (class_checks header row) c.in-Err-read_class.fault (unless_none _ _ c.in-Ok.provider (sym c.read_owner.ensures ∙ c.in-Ok.is)) c.in-Err-read_class.ensures.fault))
+
+pub returns-in-Err-read_amount-clause-fault : goal.returns-in-Err-read_amount-clause-fault
+unfolding usage_field_checks
+returns-in-Err-read_amount-clause-fault c =
+    let header = fields_of c.args.header.now in
+    let row = fields_of c.args.row.now in
+    let ids = c.args.inventories.now.ids.ids.items in
+    append_some (usage_field_checks header row) (lone_checks ids (inventory_records_shown ids c.args.inventories.now.rows.items.items) (id_in header provider_name row) (text_in header class_name row)) c.in-Err-read_amount.kind
+    (append_none (owner_checks header row ++ class_checks header row) (amount_checks header row) (class_fine (goal.at.returns-in-Err-read_amount-clause-fault c).In-Ok-read_class)
+    ∙ unless_err _ _ c.in-Err-read_amount.kind (sym c.read_amount.ensures ∙ c.in-Err-read_amount.is))
 
 pub returns-in_default-clause-fault : goal.returns-in_default-clause-fault
 returns-in_default-clause-fault c =
+    let at = goal.at.returns-in_default-clause-fault c in
     let ids = c.args.inventories.now.ids.ids.items in
-    lone_unknown ids (inventory_records_shown ids c.args.inventories.now.rows.items.items) (fields_of c.args.header.now) (fields_of c.args.row.now) c.in-Ok.usage.provider (class_bytes c.in-Ok.usage.class) c.in-Ok.ensures.ok c.in-Ok.ensures.provider c.in-Ok.ensures.class
-    (rw c.in_default.is at c.find_near.ensures.absent)
+    lone_unknown ids (inventory_records_shown ids c.args.inventories.now.rows.items.items) (fields_of c.args.header.now) (fields_of c.args.row.now) c.in-Ok.provider (class_bytes c.in-Ok-read_class.class)
+    (fields_fine at.In-Ok-read_amount (class_fine at.In-Ok-read_class)) (id at.In-Ok) c.in-Ok-read_class.ensures.class (rw c.in_default.is at c.find_near.ensures.absent)
 
 pub returns-then-lacks-clause-fault : goal.returns-then-lacks-clause-fault
 returns-then-lacks-clause-fault c =
+    let at = goal.at.returns-then-lacks-clause-fault c in
     let ids = c.args.inventories.now.ids.ids.items in
-    let class = class_bytes c.in-Ok.usage.class in
+    let class = class_bytes c.in-Ok-read_class.class in
     let shown = inventory_records_shown ids c.args.inventories.now.rows.items.items in
-    lone_nothing ids shown (fields_of c.args.header.now) (fields_of c.args.row.now) c.in-Ok.usage.provider class c.in-Ok.ensures.ok c.in-Ok.ensures.provider c.in-Ok.ensures.class
-    (one_of_place ids c.in-Ok.usage.provider c.in-Some.place c.in-Some.ensures.inside c.in-Some.ensures.found)
+    lone_nothing ids shown (fields_of c.args.header.now) (fields_of c.args.row.now) c.in-Ok.provider class (fields_fine at.In-Ok-read_amount (class_fine at.In-Ok-read_class)) (id at.In-Ok) c.in-Ok-read_class.ensures.class
+    (one_of_place ids c.in-Ok.provider c.in-Some.place c.in-Some.ensures.inside c.in-Some.ensures.found)
     (ap (λ i. list_any (is_inventory_of i class) shown) (sym c.in-Some.ensures.found)
     ∙ sym (any_shown ids c.args.inventories.now.ids.rising c.in-Some.place c.in-Some.ensures.inside class c.args.inventories.now.rows.items.items c.args.inventories.now.inside)
     ∙ not_true _ (sym c.lacks.ensures ∙ c.if-lacks.true))
 
 pub returns-clause-ok : goal.returns-clause-ok
 returns-clause-ok c =
+    let at = goal.at.returns-clause-ok c in
     let ids = c.args.inventories.now.ids.ids.items in
-    let class = class_bytes c.in-Ok.usage.class in
+    let class = class_bytes c.in-Ok-read_class.class in
     let shown = inventory_records_shown ids c.args.inventories.now.rows.items.items in
-    lone_fine ids shown (fields_of c.args.header.now) (fields_of c.args.row.now) c.in-Ok.usage.provider class c.in-Ok.ensures.ok c.in-Ok.ensures.provider c.in-Ok.ensures.class
-    (one_of_place ids c.in-Ok.usage.provider c.in-Some.place c.in-Some.ensures.inside c.in-Some.ensures.found)
+    lone_fine ids shown (fields_of c.args.header.now) (fields_of c.args.row.now) c.in-Ok.provider class (fields_fine at.In-Ok-read_amount (class_fine at.In-Ok-read_class)) (id at.In-Ok) c.in-Ok-read_class.ensures.class
+    (one_of_place ids c.in-Ok.provider c.in-Some.place c.in-Some.ensures.inside c.in-Some.ensures.found)
     (ap (λ i. list_any (is_inventory_of i class) shown) (sym c.in-Some.ensures.found)
     ∙ sym (any_shown ids c.args.inventories.now.ids.rising c.in-Some.place c.in-Some.ensures.inside class c.args.inventories.now.rows.items.items c.args.inventories.now.inside)
     ∙ not_false _ (sym c.lacks.ensures ∙ c.if-lacks.false))
@@ -49,7 +91,7 @@ returns-clause-ok c =
 pub returns-clause-value : goal.returns-clause-value
 unfolding usage_said
 returns-clause-value c =
-    let p = c.in-Some.ensures.found ∙ c.in-Ok.ensures.provider in
-    let n = c.in-Ok.ensures.class in
-    let a = c.in-Ok.ensures.amount in
+    let p = c.in-Some.ensures.found ∙ id (goal.at.returns-clause-value c).In-Ok in
+    let n = c.in-Ok-read_class.ensures.class in
+    let a = unless_value _ _ c.in-Ok-read_amount.amount (sym c.read_amount.ensures ∙ c.in-Ok-read_amount.is) in
     cc
