@@ -1,12 +1,7 @@
 -- The first check that fails, in lists that are joined.
-use Rattle.std.proofs.Common.{◌≡◌, ◌∙◌, ℕ, Bool, true, false, List, [], ◌∷◌, ◌++◌, Option, Some, None, refl}
-use Rattle.std.specs.Prelude.{Ok, Err}
-use Rattle.ac_tables.specs.Tables.Checks.{first_failing, told_at, unless, TellsKind}
-use Rattle.ac_tables.specs.declared.fault.Table.{Table}
-use Rattle.ac_tables.specs.declared.fault.TableKind.{TableKind}
-use Rattle.ac_tables.specs.declared.fault.RecordFault.{RecordFault}
+use Rattle.ac_tables.proofs.Common.{◌≡◌, ◌∙◌, ℕ, Bool, true, false, List, [], ◌∷◌, ◌++◌, Option, Some, None, refl, Ok, Err, first_failing, told_at, TellsKind, Table, TableKind, RecordFault, TableFault}
+use Rattle.ac_tables.specs.Tables.Checks.{unless}
 use Rattle.ac_tables.specs.declared.fault.RecordFault.TheVariants as record_fault
-use Rattle.ac_tables.specs.declared.fault.TableFault.{TableFault}
 use Rattle.ac_tables.specs.declared.fault.TableFault.TheVariants as fault
 
 pub append_none : {X : Type 0} (xs ys : List (Bool × X)) → first_failing xs ≡ None → first_failing (xs ++ ys) ≡ first_failing ys

@@ -1,3 +1,4 @@
+pub mod Common
 pub mod Trees
 pub mod Places
 pub mod Records

@@ -1,20 +1,17 @@
 -- The definitions computed on small texts.
-use Rattle.std.proofs.Common.{◌≡◌, ℕ, List, [], ◌++◌, Option, Some, None, refl}
-use Rattle.std.specs.Prelude.{codes}
+use Rattle.ac_tables.proofs.Common.{◌≡◌, ℕ, List, [], ◌++◌, Option, Some, None, refl, codes, records_of, records_or_header, TableFault}
 use Rattle.uuid.proofs.OnLiterals.{uuid_on_literals}
 use Rattle.csv.proofs.OnLiterals.{csv_on_literals}
 use Rattle.ac_base.specs.Texts.{number, count_value, in_millionths, ratio_value}
-use Rattle.ac_tables.specs.Tables.Rows.{records_of}
 use Rattle.ac_tables.specs.Tables.Columns.{header_checks}
 use Rattle.ac_tables.specs.Tables.ProviderTable.{uuid_name, root_name, parent_name, provider_columns, provider_said, place_of, provider_field_checks, place_checks, provider_record_checks}
 use Rattle.ac_tables.specs.Tables.InventoryTable.{provider_name, class_name, total_name, reserved_name, min_unit_name, max_unit_name, step_size_name, ratio_name, inventory_columns, numbers_said, inventory_said, number_checks, owner_checks, class_checks, inventory_field_checks, once_checks, inventory_record_checks}
 use Rattle.ac_tables.specs.Tables.UsageTable.{usage_name, usage_columns}
 use Rattle.ac_tables.specs.Tables.TraitTable.{name_name, trait_columns}
 use Rattle.ac_tables.specs.Tables.AggregateTable.{aggregate_columns}
-use Rattle.ac_tables.specs.Tables.{records_or_header, ids_of, tables_fault}
+use Rattle.ac_tables.specs.Tables.{ids_of, tables_fault}
 use Rattle.ac_tables.specs.declared.fault.Table.TheVariants as table
 use Rattle.ac_tables.specs.declared.fault.TableKind.TheVariants as kind
-use Rattle.ac_tables.specs.declared.fault.TableFault.{TableFault}
 use Rattle.ac_tables.specs.declared.fault.TableFault.TheVariants as fault
 
 -- the first fault of providers and inventories alone

@@ -1,6 +1,5 @@
 -- What a name's reading says.
-use Rattle.std.proofs.Common.{◌≡◌, ℕ, List, Some, inl, inr}
-use Rattle.std.proofs.lemmas.Bool.{cases_Bool}
+use Rattle.ac_tables.proofs.Common.{◌≡◌, ℕ, List, Some, inl, inr, cases_Bool}
 use Rattle.ac_base.specs.Texts.{is_name, name_value}
 
 -- a name is the text that it was read from

@@ -1,15 +1,7 @@
 -- The providers that tables state are in order, and so are those of a cloud.
-use Rattle.std.proofs.Common.{◌≡◌, ◌<◌, ℕ, List, map, length, get_or, ap, arith}
-use Rattle.std.specs.List.{All}
-use Rattle.std.proofs.lemmas.Cmp.{nat_cmp_total}
-use Rattle.std.proofs.lemmas.List.{get_or-map, length-map}
-use Rattle.ac_tables.specs.Tables.Checks.{Row}
-use Rattle.ac_tables.specs.Cloud.CloudWorld.{providers_of}
-use Rattle.ac_tables.specs.Cloud.RisingIds.{IsRising}
+use Rattle.ac_tables.proofs.Common.{◌≡◌, ◌<◌, ℕ, List, map, length, get_or, ap, arith, All, nat_cmp_total, get_or-map, length-map, Row, providers_of, IsRising, providers_said, gathered, Provider, no_provider, id_at}
 use Rattle.ac_tables.specs.Laws.{AreProviders, ProvidersInOrder, CloudInOrder}
-use Rattle.ac_tables.specs.Tables.ProviderTable.{providers_said}
-use Rattle.ac_tables.specs.Tables.{ids_of, gathered, world_stated}
-use Rattle.ac_tables.specs.World.{Provider, no_provider, id_at}
+use Rattle.ac_tables.specs.Tables.{ids_of, world_stated}
 use Rattle.ac_tables.proofs.Places.CloudFacts.{size, id_here}
 use Rattle.ac_tables.proofs.Records.ProviderIds.{Fits, said_fit, ids_fit}
 use Rattle.ac_tables.proofs.Sorted.Rising.{rising_from_sorted}

@@ -1,6 +1,5 @@
 -- Small facts of numbers, of truth values and of options.
-use Rattle.std.proofs.Common.{◌≡◌, ◌≢◌, ◌<◌, ◌≤◌, ℕ, Bool, true, false, Option, Some, None, refl, arith, rules, inl, inr, ◌⊎◌}
-use Rattle.std.specs.Prelude.{◌==◌, ◌||◌, min, not}
+use Rattle.ac_tables.proofs.Common.{◌≡◌, ◌≢◌, ◌<◌, ◌≤◌, ℕ, Bool, true, false, Option, Some, None, refl, arith, rules, inl, inr, ◌⊎◌, ◌==◌, ◌||◌, min, not}
 
 pub clash : (b : Bool) → b ≡ false → b ≡ true → ⊥
 clash b e f = cc

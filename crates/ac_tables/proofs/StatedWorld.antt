@@ -1,21 +1,7 @@
 -- What was gathered is the world that the tables state.
-use Rattle.std.proofs.Common.{◌≡◌, ◌<◌, ◌+◌, ◌∙◌, ℕ, List, [], ◌∷◌, map, length, get_or, refl, sym, ap, ap₂, arith}
-use Rattle.std.specs.Option.{option_and_then}
-use Rattle.std.specs.List.{sum_by, fold}
-use Rattle.std.proofs.lemmas.List.{get_or-map}
-use Rattle.ac_base.specs.Quantities.{InventoryNumbers}
-use Rattle.ac_tables.specs.Sorted.{TextMap}
-use Rattle.ac_tables.specs.Cloud.Places.{rank}
-use Rattle.ac_tables.specs.Tables.ProviderTable.{providers_said, said_parent}
-use Rattle.ac_tables.specs.Tables.InventoryTable.{inventories_said}
-use Rattle.ac_tables.specs.Tables.UsageTable.{usages_said}
-use Rattle.ac_tables.specs.Tables.TraitTable.{traits_said}
-use Rattle.ac_tables.specs.Tables.AggregateTable.{aggregates_said}
-use Rattle.ac_tables.specs.Cloud.Kin.{AreKin}
-use Rattle.ac_tables.specs.World.{Provider, Sizes}
-use Rattle.ac_tables.specs.Cloud.EntryLists.{with_used_lists}
-use Rattle.ac_tables.specs.Cloud.Numbered.{numbered_at, numbered}
-use Rattle.ac_tables.specs.Tables.{Tables, inventories_of, amounts_of, names_of, aggregates_of, with_used, gathered}
+use Rattle.ac_tables.proofs.Common.{◌≡◌, ◌<◌, ◌+◌, ◌∙◌, ℕ, List, [], ◌∷◌, map, length, get_or, refl, sym, ap, ap₂, option_and_then, sum_by, fold, get_or-map, InventoryNumbers, TextMap, rank, providers_said, said_parent, inventories_said, usages_said, traits_said, aggregates_said, AreKin, Provider, with_used_lists, numbered_at, Tables, inventories_of, amounts_of, names_of, aggregates_of, with_used, gathered}
+use Rattle.ac_tables.specs.World.{Sizes}
+use Rattle.ac_tables.specs.Cloud.Numbered.{numbered}
 use Rattle.ac_tables.proofs.Places.BuildFacts.{agree}
 use Rattle.ac_tables.proofs.Places.JoinFacts.{zip_maps}
 use Rattle.ac_tables.proofs.Sorted.ListFacts.{by_places}
@@ -32,10 +18,9 @@ stated t ids us ss ns gs kin eu es en ea =
     let parents = map (λ id. option_and_then (rank ids) (said_parent (providers_said t.providers) id)) ids in
     let own_entry : with_used_lists us ss ≡ map (λ id. with_used (amounts_of (usages_said t.usages) id) (inventories_of (inventories_said t.inventories) id)) ids =
     ap₂ with_used_lists eu es ∙ zip_maps (amounts_of (usages_said t.usages)) (inventories_of (inventories_said t.inventories)) ids in
-    by_places (numbered_at ids parents (with_used_lists us ss) ns gs) (gathered t) 0 ids
+    by_places (numbered_at ids parents (with_used_lists us ss) ns gs) (gathered t) ids
     (λ (i : ℕ) (h : i < length ids).
-    ap (numbered_at ids parents (with_used_lists us ss) ns gs) (omega arith)
-    ∙ same_provider (numbered_at ids parents (with_used_lists us ss) ns gs i) (gathered t (get_or ids i 0)) refl
+    same_provider (numbered_at ids parents (with_used_lists us ss) ns gs i) (gathered t (get_or ids i 0)) refl
     (sym (agree ids (providers_said t.providers) kin.known parents refl i h))
     (ap (λ l. get_or l i []) own_entry ∙ get_or-map (λ id. with_used (amounts_of (usages_said t.usages) id) (inventories_of (inventories_said t.inventories) id)) ids i 0 [] h)
     (ap (λ l. get_or l i []) en ∙ get_or-map (names_of (traits_said t.traits)) ids i 0 [] h)

@@ -1,22 +1,8 @@
 -- Rows in order, and the first fault of their records.
-use Rattle.std.proofs.Common.{◌≡◌, ◌∙◌, ◌+◌, ◌<◌, ◌≤◌, ◌++◌, ℕ, Bool, true, false, List, [], ◌∷◌, map, length, get_or, take, Option, Some, None, refl, sym, ap, ap₂, subst, arith, append_assoc, inl, inr}
-use Rattle.std.specs.Prelude.{not, ◌&&◌}
-use Rattle.std.specs.declared.cmp.Ordering.{Ordering}
-use Rattle.std.specs.declared.cmp.Ordering.TheVariants.{Less, Equal, Greater}
-use Rattle.std.specs.Ordering.{nat_cmp, ordering_then, ordering_reverse, is_lt, is_eq}
-use Rattle.std.specs.Cmp.{IsTotalOrder}
-use Rattle.std.specs.List.{All, AllPairs, list_any}
-use Rattle.std.specs.List.Sorted.{IsPermutation, IsSortedBy, IsStableBy, ties}
-use Rattle.std.proofs.lemmas.Bool.{cases_Bool}
-use Rattle.std.proofs.lemmas.List.{append-nil, length-append, length-map, map-append, get_or-map, get_or_append_left, get_or-take, length-take-le, take-map}
-use Rattle.std.proofs.lemmas.List.Folds.{list_any_at, list_any_none}
-use Rattle.std.proofs.Math.Seq.{get_or-append_seam}
-use Rattle.std.proofs.lemmas.List.Sorted.{All-permutation, length_permutation}
-use Rattle.ac_tables.specs.Tables.Checks.{Row, Check, rows_fault}
-use Rattle.ac_tables.specs.Reader.TableRows.{row_lt, row_ties, row_shown, IsLeast, IsLeastRepeat, Stops, IsReadUpTo, IsKeyed, IsTable}
-use Rattle.ac_tables.specs.declared.reader.row.TableRow.{TableRow}
-use Rattle.ac_tables.specs.declared.fault.Table.{Table}
-use Rattle.ac_tables.specs.declared.fault.TableKind.{TableKind}
+use Rattle.ac_tables.proofs.Common.{◌≡◌, ◌∙◌, ◌+◌, ◌<◌, ◌≤◌, ◌++◌, ℕ, Bool, true, false, List, [], ◌∷◌, map, length, get_or, take, Option, Some, None, refl, sym, ap, ap₂, subst, arith, append_assoc, inl, inr, not, ◌&&◌, Ordering, Less, Equal, Greater, nat_cmp, ordering_then, ordering_reverse, is_lt, is_eq, IsTotalOrder, All, AllPairs, list_any, IsPermutation, IsSortedBy, IsStableBy, ties, cases_Bool, append-nil, length-append, length-map, map-append, get_or-map, get_or_append_left, length-take-le, list_any_at, get_or-append_seam, All-permutation, length_permutation, Row, Check, rows_fault, row_lt, row_ties, row_shown, IsLeast, IsLeastRepeat, IsKeyed, IsTable, TableRow, Table, TableKind}
+use Rattle.std.proofs.lemmas.List.{get_or-take, take-map}
+use Rattle.std.proofs.lemmas.List.Folds.{list_any_none}
+use Rattle.ac_tables.specs.Reader.TableRows.{Stops, IsReadUpTo}
 use Rattle.ac_tables.specs.declared.fault.TableKind.TheVariants as kind
 use Rattle.ac_tables.specs.declared.fault.TableFault.TheVariants as fault
 use Rattle.ac_tables.proofs.Gathered.RowOrder.{row_total, row_weak, rows_strict}

@@ -1,13 +1,8 @@
 -- The checks of a header, and then those of the records.
-use Rattle.std.proofs.Common.{◌≡◌, ◌∙◌, ◌++◌, ℕ, Bool, true, false, List, [], ◌∷◌, map, Option, Some, None, refl, sym, ap, inl, inr, Bor}
-use Rattle.std.proofs.lemmas.Bool.{cases_Bool}
-use Rattle.std.specs.List.{list_any}
-use Rattle.ac_tables.specs.Tables.Checks.{Row, Check, first_failing, record_checks, told, told_at, Tells}
-use Rattle.ac_tables.specs.Tables.Columns.{is_missing, is_double, header_checks, header_fault, table_checks, said_by, bytes_of}
-use Rattle.ac_tables.specs.declared.fault.Table.{Table}
-use Rattle.ac_tables.specs.declared.fault.TableKind.{TableKind}
+use Rattle.ac_tables.proofs.Common.{◌≡◌, ◌∙◌, ◌++◌, ℕ, Bool, true, false, List, [], ◌∷◌, map, Option, Some, None, refl, sym, ap, inl, inr, Bor, cases_Bool, list_any, Row, Check, first_failing, record_checks, told_at, Tells, table_checks, Table, TableKind, TableFault}
+use Rattle.ac_tables.specs.Tables.Checks.{told}
+use Rattle.ac_tables.specs.Tables.Columns.{is_missing, is_double, header_checks, header_fault, said_by, bytes_of}
 use Rattle.ac_tables.specs.declared.fault.TableKind.TheVariants as kind
-use Rattle.ac_tables.specs.declared.fault.TableFault.{TableFault}
 use Rattle.ac_tables.specs.declared.fault.TableFault.TheVariants as fault
 use Rattle.ac_tables.proofs.FirstFailing.{append_none, append_some, told_none, told_some}
 

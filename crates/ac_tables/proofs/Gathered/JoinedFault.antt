@@ -1,17 +1,11 @@
 -- The first fault of records, where each has checks of its own and a key that no other may have.
-use Rattle.std.proofs.Common.{◌≡◌, ◌∙◌, ◌+◌, ◌<◌, ◌++◌, ℕ, zero, suc, Bool, true, false, List, [], ◌∷◌, map, length, get_or, take, drop, Some, None, refl, sym, ap, subst, arith, append_assoc, drop-cons}
-use Rattle.std.specs.List.{All, list_any}
+use Rattle.ac_tables.proofs.Common.{◌≡◌, ◌∙◌, ◌+◌, ◌<◌, ◌++◌, ℕ, zero, suc, Bool, true, false, List, [], ◌∷◌, map, length, get_or, take, drop, Some, None, refl, sym, ap, subst, arith, append_assoc, drop-cons, All, list_any, All-head, All-tail, Row, Check, first_failing, rows_fault, IsKeyed, Table, TableKind, append-nil}
 use Rattle.std.proofs.lemmas.List.{take-append-drop}
-use Rattle.std.proofs.lemmas.List.Elements.{All-head, All-tail, All-take}
-use Rattle.ac_tables.specs.Tables.Checks.{Row, Check, first_failing, rows_fault}
-use Rattle.ac_tables.specs.Reader.TableRows.{IsKeyed}
-use Rattle.ac_tables.specs.declared.fault.Table.{Table}
-use Rattle.ac_tables.specs.declared.fault.TableKind.{TableKind}
+use Rattle.std.proofs.lemmas.List.Elements.{All-take}
 use Rattle.ac_tables.specs.declared.fault.TableKind.TheVariants as kind
 use Rattle.ac_tables.specs.declared.fault.RecordFault.TheVariants as record_fault
 use Rattle.ac_tables.specs.declared.fault.TableFault.TheVariants as fault
 use Rattle.ac_tables.proofs.Gathered.Progress.{Progress, progress_start, progress_end, progress_fault, progress_more}
-use Rattle.std.proofs.lemmas.List.{append-nil}
 
 -- each of these has a key that none before it has
 abbrev pub Fresh : {V : Type 0} → (V → V → Bool) → List V → List V → Type 0

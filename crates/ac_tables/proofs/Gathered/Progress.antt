@@ -1,13 +1,8 @@
 -- Reading the records of a table one by one.
-use Rattle.std.proofs.Common.{◌≡◌, ◌∙◌, ◌+◌, ℕ, Bool, List, [], ◌∷◌, ◌++◌, map, length, Option, None, refl, sym, ap, subst, arith, append_assoc}
-use Rattle.std.proofs.lemmas.List.{length-append}
-use Rattle.ac_tables.specs.Tables.Checks.{Row, Check, first_failing, record_checks, rows_fault, told_at, Tells, TellsKind, fault_at}
-use Rattle.ac_tables.specs.declared.fault.Table.{Table}
-use Rattle.ac_tables.specs.declared.fault.RecordFault.{RecordFault}
+use Rattle.ac_tables.proofs.Common.{◌≡◌, ◌∙◌, ◌+◌, ℕ, Bool, List, [], ◌∷◌, ◌++◌, map, length, Option, None, refl, sym, ap, subst, arith, append_assoc, length-append, Row, Check, first_failing, record_checks, told_at, Tells, TellsKind, Table, RecordFault, TableFault, append-nil}
+use Rattle.ac_tables.specs.Tables.Checks.{rows_fault, fault_at}
 use Rattle.ac_tables.specs.declared.fault.RecordFault.TheVariants as record_fault
-use Rattle.ac_tables.specs.declared.fault.TableFault.{TableFault}
 use Rattle.ac_tables.proofs.FirstFailing.{told_none, told_some}
-use Rattle.std.proofs.lemmas.List.{append-nil}
 
 -- The first of these rows say `before`, and none of them has a fault; the others are left.
 pub record Progress {V : Type 0} (t : Table) (value : Row → V) (checks : List V → Row → List Check) (rows left : List Row) (number : ℕ) (before : List V) : Type 0 where

@@ -1,14 +1,6 @@
 -- Rows in order stand in the order of their places.
-use Rattle.std.proofs.Common.{◌≡◌, true, List, get_or, sym, ap, inl, inr}
-use Rattle.std.specs.declared.cmp.Ordering.{Ordering}
-use Rattle.std.specs.declared.cmp.Ordering.TheVariants.{Less}
-use Rattle.std.specs.Ordering.{nat_cmp, ordering_then, is_lt}
-use Rattle.std.specs.Cmp.{IsTotalOrder, nat_cmp_is}
-use Rattle.std.specs.List.Sorted.{IsSortedBy, IsNonDecreasingBy}
-use Rattle.std.proofs.lemmas.Bool.{cases_lt}
-use Rattle.std.proofs.lemmas.List.Sorted.{sorted_far}
-use Rattle.ac_tables.specs.Reader.TableRows.{row_lt}
-use Rattle.ac_tables.specs.declared.reader.row.TableRow.{TableRow}
+use Rattle.ac_tables.proofs.Common.{◌≡◌, true, List, get_or, sym, ap, inl, inr, Ordering, Less, nat_cmp, ordering_then, is_lt, IsTotalOrder, IsSortedBy, IsNonDecreasingBy, cases_lt, sorted_far, row_lt, TableRow}
+use Rattle.std.specs.Cmp.{nat_cmp_is}
 use Rattle.ac_tables.proofs.Gathered.RowOrder.{row_weak}
 use Rattle.ac_tables.proofs.Small.{clash}
 

@@ -1,12 +1,6 @@
 -- The rows of one provider, cut out of a sorted list.
-use Rattle.std.proofs.Common.{◌≡◌, ◌∙◌, ◌+◌, ◌-◌, ◌<◌, ◌≤◌, ◌++◌, ℕ, zero, suc, Bool, true, false, List, [], ◌∷◌, length, get_or, take, drop, refl, sym, ap, subst, arith, inl, inr}
-use Rattle.std.specs.Prelude.{◌==◌}
-use Rattle.std.specs.List.{filter}
-use Rattle.std.specs.List.Sorted.{IsNonDecreasingBy}
-use Rattle.std.proofs.lemmas.Bool.{cases_lt}
-use Rattle.std.proofs.lemmas.List.{get_or_append_left, get_or_push, length-append}
-use Rattle.ac_tables.specs.Reader.TableRows.{IsStart}
-use Rattle.ac_tables.specs.declared.reader.row.TableRow.{TableRow}
+use Rattle.ac_tables.proofs.Common.{◌≡◌, ◌∙◌, ◌+◌, ◌-◌, ◌<◌, ◌≤◌, ◌++◌, ℕ, zero, suc, Bool, true, false, List, [], ◌∷◌, length, get_or, take, drop, refl, sym, ap, subst, arith, inl, inr, ◌==◌, filter, IsNonDecreasingBy, cases_lt, get_or_append_left, length-append, IsStart, TableRow}
+use Rattle.std.proofs.lemmas.List.{get_or_push}
 use Rattle.ac_tables.proofs.Small.{equal, differ}
 
 module _ {X : Type 0} (p : X → Bool) where

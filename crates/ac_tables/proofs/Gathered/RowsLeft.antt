@@ -1,19 +1,15 @@
 -- Reading one record takes the first of the records that are left.
-use Rattle.std.proofs.Common.{◌≤◌, ◌≡◌, ◌<◌, ◌+◌, ◌∙◌, ℕ, zero, suc, Bool, true, false, List, [], ◌∷◌, length, Option, Some, None, Bor, refl, ap, subst, arith, ◌⊎◌, inl, inr}
-use Rattle.csv.specs.Machine.{Read, ends_at_end, next_record}
-use Rattle.std.specs.Prelude.{Result, Ok, Err, IfOk, OnOk}
-use Rattle.std.specs.Option.{ok_or}
-use Rattle.std.specs.Result.{result_ok}
+use Rattle.ac_tables.proofs.Common.{◌≤◌, ◌≡◌, ◌<◌, ◌+◌, ◌∙◌, ℕ, zero, suc, Bool, true, false, List, [], ◌∷◌, length, Option, Some, None, Bor, refl, ap, subst, arith, ◌⊎◌, inl, inr, Read, ends_at_end, Result, Ok, Err, result_ok, cases_Bool, State, rows_left, records_of, IsReading}
+use Rattle.csv.specs.Machine.{next_record}
+use Rattle.std.proofs.Common.{IfOk, OnOk, ok_or}
 use Rattle.ac_base.specs.declared.name.NoMemory.{NoMemory}
 use Rattle.csv.specs.declared.error.Error.{Error}
-use Rattle.csv.specs.declared.reader.Trim.TheVariants as trim
-use Rattle.std.proofs.lemmas.Bool.{cases_Bool}
 use Rattle.csv.specs.Reading.{is_bom, Ready, Reached, ReadRecord, default_config, records_from, source_of, strip_bom}
-use Rattle.csv.specs.declared.parser.State.{State}
-use Rattle.csv.specs.declared.parser.State.TheVariants as st
 use Rattle.csv.specs.declared.reader.Reader.{Reader}
 use Rattle.csv.proofs.ReadFacts.{rows-end, rows-more}
-use Rattle.ac_tables.specs.Tables.Rows.{rows_from, rows_left, records_of, IsReading, Gives}
+use Rattle.ac_tables.specs.Tables.Rows.{rows_from, Gives}
+use Rattle.csv.specs.declared.reader.Trim.TheVariants as trim
+use Rattle.csv.specs.declared.parser.State.TheVariants as st
 use Rattle.ac_tables.proofs.Gathered.Whole.{next-leaves, next-takes}
 
 -- the next record, or that there is none

@@ -1,10 +1,6 @@
 -- Reading rows one by one, up to the first that has a fault of its own.
-use Rattle.std.proofs.Common.{◌≡◌, ◌∙◌, ◌+◌, ◌<◌, ◌++◌, ℕ, zero, suc, List, [], ◌∷◌, map, length, get_or, None, sym, ap, ap₂, arith, append_assoc}
-use Rattle.std.proofs.lemmas.List.{length-append, length-map, map-append}
+use Rattle.ac_tables.proofs.Common.{◌≡◌, ◌∙◌, ◌+◌, ◌<◌, ◌++◌, ℕ, zero, suc, List, [], ◌∷◌, map, length, get_or, None, sym, ap, ap₂, arith, append_assoc, length-append, length-map, map-append, Row, Check, first_failing, IsReadSoFar, row_shown, TableRow}
 use Rattle.std.proofs.lemmas.List.Elements.{All-push}
-use Rattle.ac_tables.specs.Tables.Checks.{Row, Check, first_failing}
-use Rattle.ac_tables.specs.Reader.TableRows.{IsReadSoFar, row_shown}
-use Rattle.ac_tables.specs.declared.reader.row.TableRow.{TableRow}
 
 -- what holds of each item and its place, after one more
 each_more : {X : Type 0} (P : ℕ → X → Type 0) (xs : List X) (x : X) → ((k : ℕ) (d : X) → k < length xs → P k (get_or xs k d)) → P (length xs) x

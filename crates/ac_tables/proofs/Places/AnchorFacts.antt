@@ -1,26 +1,11 @@
 -- The roots of the trees in which a provider is available.
-use Rattle.std.proofs.Common.{◌≡◌, ◌∙◌, ◌<◌, ◌+◌, ℕ, zero, suc, Bool, true, false, List, [], ◌∷◌, length, get_or, None, refl, sym, ap, ap₂, arith, inl, inr}
-use Rattle.std.specs.Prelude.{◌==◌, ◌&&◌, ◌||◌, codes, if◌then◌else◌}
-use Rattle.std.specs.Option.{is_some}
-use Rattle.std.specs.Str.{bytes_eq}
-use Rattle.std.specs.Ordering.{nat_cmp}
-use Rattle.std.specs.List.{list_any, filter, range_with_len}
+use Rattle.ac_tables.proofs.Common.{◌≡◌, ◌∙◌, ◌<◌, ◌+◌, ℕ, zero, suc, Bool, true, false, List, [], ◌∷◌, length, get_or, None, refl, sym, ap, ap₂, arith, inl, inr, ◌==◌, ◌&&◌, ◌||◌, codes, if◌then◌else◌, is_some, bytes_eq, nat_cmp, list_any, filter, range_with_len, cases_Bool, false≢true, list_any_at, get_or-range_with_len, length-range_with_len, parent_in, trait_bytes, lists_of, is_among, meets_at, meets, is_joined, joined, is_joining, is_marked, Provider, no_provider, provider_at, id_at, root_of, is_root, is_available_at, anchors_of, providers_of, Cloud, or-false}
 use Rattle.std.specs.List.Sorted.{IsStrictlySortedBy}
-use Rattle.std.proofs.lemmas.Bool.{cases_Bool, false≢true}
-use Rattle.std.proofs.lemmas.List.Folds.{list_any_at}
-use Rattle.std.proofs.lemmas.List.FromFn.{get_or-range_with_len, length-range_with_len}
-use Rattle.ac_tables.specs.Cloud.Places.{parent_in}
-use Rattle.ac_base.specs.Names.{trait_bytes}
-use Rattle.ac_tables.specs.Reader.ListsOf.{lists_of}
-use Rattle.ac_tables.specs.Cloud.Anchors.{is_among, meets_at, meets, is_joined, joined, is_joining, is_marked}
-use Rattle.ac_tables.specs.World.{Provider, no_provider, provider_at, id_at, root_of, is_root, shares, is_associated, have_common_aggregate, is_available_at, anchors_of}
-use Rattle.ac_tables.specs.Cloud.CloudWorld.{providers_of}
-use Rattle.ac_tables.specs.declared.cloud.Cloud.{Cloud}
+use Rattle.ac_tables.specs.World.{shares, is_associated, have_common_aggregate}
 use Rattle.ac_tables.proofs.Sorted.SearchFacts.{any_map, no_any}
 use Rattle.ac_tables.proofs.Places.CloudFacts.{traits_here, aggregates_here, size, parent_is, root_inside, root_here, parts}
 use Rattle.ac_tables.proofs.Places.AvailableFacts.{root_test, root_here as root_is_here}
 use Rattle.ac_tables.proofs.Places.AnchorLists.{rising_filter}
-use Rattle.std.proofs.Math.Bool.{or-false}
 
 -- a test of the items of a list is a test of its places
 any_from : {A : Type 0} (f : A → Bool) (g : ℕ → A) (k : ℕ) (xs : List A) (d : A) → ((i : ℕ) → i < length xs → g (k + i) ≡ get_or xs i d) → list_any f xs ≡ list_any (λ (q : ℕ). f (g q)) (range_with_len k (length xs))

@@ -1,19 +1,13 @@
 -- Lists of roots: rising, kept once, one for each provider.
-use Rattle.std.proofs.Common.{◌≡◌, ◌∙◌, ◌<◌, ◌≤◌, ◌+◌, ℕ, zero, suc, Bool, true, false, List, [], ◌∷◌, ◌++◌, length, get_or, Option, Some, None, refl, sym, ap, ap₂, subst, arith, rules, inl, inr, ◌⊎◌}
-use Rattle.std.specs.Prelude.{⊤, ◌==◌, ◌&&◌, ◌||◌, IfSome}
-use Rattle.std.specs.Option.{is_some, unwrap_or}
-use Rattle.std.specs.Global.{Vec}
-use Rattle.std.specs.Ordering.{nat_cmp}
-use Rattle.std.specs.declared.cmp.Ordering.TheVariants.{Less}
-use Rattle.std.specs.List.{list_any, filter, range_with_len, AllByRecursion}
+use Rattle.ac_tables.proofs.Common.{◌≡◌, ◌∙◌, ◌<◌, ◌≤◌, ◌+◌, ℕ, Bool, true, false, List, [], ◌∷◌, ◌++◌, length, get_or, Option, Some, None, refl, sym, ap, subst, arith, rules, inl, inr, ◌⊎◌, ◌==◌, ◌&&◌, IfSome, is_some, unwrap_or, Vec, nat_cmp, list_any, filter, range_with_len, false≢true, length-append, get_or_append_left, get_or-range_with_len, length-range_with_len, BTreeMap, ArePlaces, is_met, is_among, meets_at, meets, is_joined, joined, list_of, AreAsked, is_at, nat_cmp_total, eq_by_cmp, eq_by_cmp_equiv, exact_unsigned, list_any_at, IsStrictlySortedBy-filter}
+use Rattle.ac_tables.proofs.Small.{equal}
+use Rattle.std.proofs.lemmas.Map.Views.{tells_apart}
+use Rattle.std.proofs.lemmas.Map.Made.{is_member-filter}
+use Rattle.std.proofs.lemmas.Map.Lookups.{btree_set_from_contains}
+use Rattle.std.proofs.lemmas.Map.Keys.{sorted_from_strictly_increasing}
+use Rattle.std_collections.specs.Layout.BTreeSet.{btree_set}
 use Rattle.std.specs.List.Sorted.{IsStrictlySortedBy}
-use Rattle.std.proofs.lemmas.Bool.{false≢true}
-use Rattle.std.proofs.lemmas.List.{length-append, get_or_append_left}
-use Rattle.std.proofs.lemmas.List.FromFn.{get_or-range_with_len, length-range_with_len}
-use Rattle.std.specs.BTreeMap.{BTreeMap}
-use Rattle.ac_tables.specs.Cloud.Places.{ArePlaces}
-use Rattle.ac_tables.proofs.Sorted.SearchFacts.{no_any, any_same}
-use Rattle.ac_tables.specs.Cloud.Anchors.{is_met, is_among, meets_at, meets, is_joined, joined, list_of, AreAsked}
+use Rattle.ac_tables.proofs.Sorted.SearchFacts.{no_any, any_same, is_eq_nat}
 
 -- the provider at a place, where it has a list
 pub some_place : (places : List (Option ℕ)) (i : ℕ) (Q : ℕ → Type 0) → i < length places → Q i
@@ -24,70 +18,29 @@ some_place places i Q h q = by_case (get_or places i None) refl
     by_case None e = tt
     by_case (Some k) e = (i, h, e, q)
 
--- from a number on, each item is above those before it
-RisesFrom : ℕ → List ℕ → Type 0
-RisesFrom a [] = ⊤
-RisesFrom a (x ∷ xs) = (a ≤ x) × RisesFrom (suc x) xs
-
-less_than : (x y : ℕ) → nat_cmp x y ≡ Less → x < y
-less_than x y h = grind arith
-
-rises_sorted : (a : ℕ) (xs : List ℕ) → AllByRecursion (λ y. a ≤ y) xs → IsStrictlySortedBy nat_cmp xs → RisesFrom a xs
-unfolding RisesFrom IsStrictlySortedBy
-rises_sorted a [] low h = tt
-rises_sorted a (x ∷ xs) low h = (low.0, rises_sorted (suc x) xs (above xs h.0) h.1)
-  where
-    above : (ys : List ℕ) → AllByRecursion (λ y. nat_cmp x y ≡ Less) ys → AllByRecursion (λ y. suc x ≤ y) ys
-    above [] l = tt
-    above (y ∷ ys) l = (less_than x y l.0, above ys l.1)
-
-all_from_zero : (xs : List ℕ) → AllByRecursion (λ y. zero ≤ y) xs
-all_from_zero [] = tt
-all_from_zero (x ∷ xs) = (omega arith, all_from_zero xs)
-
-no_earlier : (a r : ℕ) (xs : List ℕ) → RisesFrom a xs → r < a → list_any (λ (x : ℕ). x == r) xs ≡ false
-unfolding RisesFrom
-no_earlier a r [] h less = refl
-no_earlier a r (x ∷ xs) h less =
-    let apart : (x == r) ≡ false = differ x r (omega (arith, h.0, less)) in
-    rw apart (no_earlier (suc x) r xs h.1 (omega (arith, h.0, less)))
-  where
-    differ : (x r : ℕ) → r < x → (x == r) ≡ false
-    differ x r h = grind arith
-
 -- a rising list is the numbers that are in it
-rising_is : (n a : ℕ) (p : ℕ → Bool) (xs : List ℕ) → RisesFrom a xs → ((r : ℕ) → a ≤ r → list_any (λ (x : ℕ). x == r) xs ≡ p r) → ((r : ℕ) → p r ≡ true → r < a + n)
-    → xs ≡ filter p (range_with_len a n)
-unfolding RisesFrom
-rising_is zero a p [] rises same below = refl
-rising_is zero a p (x ∷ xs) rises same below =
-    let itself : (x == x) ≡ true = grind arith in
-    let there : p x ≡ true = sym (same x rises.0) ∙ ap (λ b. b || list_any (λ (y : ℕ). y == x) xs) itself in
-    absurd (omega (arith, below x there, rises.0))
-rising_is (suc n) a p [] rises same below =
-    rw (sym (same a (omega arith))) (rising_is n (a + 1) p [] tt (λ (r : ℕ) (h : a + 1 ≤ r). same r (omega (arith, h))) (λ (r : ℕ) (h : p r ≡ true). omega (arith, below r h)))
-rising_is (suc n) a p (x ∷ xs) rises same below = elim (at_or_above x a rises.0) [
-  | inl e ↦
-      let itself : (x == a) ≡ true = grind (arith, e) in
-      let here : p a ≡ true = sym (same a (omega arith)) ∙ ap (λ b. b || list_any (λ (y : ℕ). y == a) xs) itself in
-      let from : RisesFrom (a + 1) xs = subst (λ (m : ℕ). RisesFrom m xs) (omega (arith, e)) rises.1 in
-      rw here (ap₂ (λ (y : ℕ) l. y ∷ l) e
-      (rising_is n (a + 1) p xs from
-      (λ (r : ℕ) (h : a + 1 ≤ r). let apart : (x == r) ≡ false = differ x r (omega (arith, e, h)) in sym (ap (λ b. b || list_any (λ (y : ℕ). y == r) xs) apart) ∙ same r (omega (arith, h)))
-      (λ (r : ℕ) (h : p r ≡ true). omega (arith, below r h))))
-  | inr more ↦
-      let none : p a ≡ false = sym (same a (omega arith)) ∙ no_earlier (a + 1) a (x ∷ xs) (more, rises.1) (omega arith) in
-      rw none (rising_is n (a + 1) p (x ∷ xs) (more, rises.1) (λ (r : ℕ) (h : a + 1 ≤ r). same r (omega (arith, h))) (λ (r : ℕ) (h : p r ≡ true). omega (arith, below r h)))
-]
-  where
-    at_or_above : (x a : ℕ) → a ≤ x → (x ≡ a) ⊎ (a + 1 ≤ x)
-    at_or_above x a h = search (arith, rules)
-
-    differ : (x r : ℕ) → x < r → (x == r) ≡ false
-    differ x r h = grind arith
-
 pub rising_filter : (n : ℕ) (p : ℕ → Bool) (xs : List ℕ) → IsStrictlySortedBy nat_cmp xs → ((r : ℕ) → list_any (λ (x : ℕ). x == r) xs ≡ p r) → ((r : ℕ) → p r ≡ true → r < n) → xs ≡ filter p (range_with_len 0 n)
-rising_filter n p xs sorted same below = rising_is n 0 p xs (rises_sorted 0 xs (all_from_zero xs) sorted) (λ (r : ℕ) (h : 0 ≤ r). same r) (λ (r : ℕ) (h : p r ≡ true). omega (arith, below r h))
+rising_filter n p xs sorted same below =
+    btree_set_from_contains nat_cmp_total (btree_set xs) (btree_set (filter p (range_with_len 0 n))) sorted (IsStrictlySortedBy-filter nat_cmp p (range_with_len 0 n) rises)
+    (λ q. any_same (is_at (nat_cmp q)) (λ x. x == q) (is_eq_nat q) xs ∙ same q ∙ sym (in_range q)) exact_unsigned
+  where
+    rises : IsStrictlySortedBy nat_cmp (range_with_len 0 n)
+    rises = sorted_from_strictly_increasing (range_with_len 0 n) (λ k inside.
+        let small : k + 1 < n = omega (arith, inside, length-range_with_len 0 n) in
+        omega (arith, get_or-range_with_len 0 n k 0 (omega arith), get_or-range_with_len 0 n (k + 1) 0 small))
+
+    in_range : (q : ℕ) → list_any (is_at (nat_cmp q)) (filter p (range_with_len 0 n)) ≡ p q
+    in_range q = is_member-filter {eq = eq_by_cmp nat_cmp} (eq_by_cmp_equiv nat_cmp_total) p q (λ x e. ap p (tells_apart exact_unsigned q x e)) (range_with_len 0 n) ∙ by_test (p q) (below q)
+      where
+        by_test : (b : Bool) → (b ≡ true → q < n) → (list_any (is_at (nat_cmp q)) (range_with_len 0 n) && b) ≡ b
+        by_test false small = no (list_any (is_at (nat_cmp q)) (range_with_len 0 n))
+          where
+            no : (a : Bool) → (a && false) ≡ false
+            no true = refl
+            no false = refl
+        by_test true small =
+            ap (λ a. a && true) (list_any_at (is_at (nat_cmp q)) (range_with_len 0 n) q 0 (omega (arith, small refl, length-range_with_len 0 n))
+            (is_eq_nat q (get_or (range_with_len 0 n) q 0) ∙ equal (get_or (range_with_len 0 n) q 0) q (get_or-range_with_len 0 n q 0 (small refl) ∙ (omega arith))))
 
 -- only roots are met
 module _ (roots : List ℕ) (aggregates : List (List ℕ)) (inside : ArePlaces (length roots) roots) where

@@ -1,10 +1,5 @@
 -- A root is told by its place, and is known by having no parent.
-use Rattle.std.proofs.Common.{◌≡◌, ◌<◌, ◌∙◌, ℕ, Bool, true, false, length, Option, Some, None, refl, sym, ap}
-use Rattle.std.specs.Prelude.{◌==◌, ◌&&◌}
-use Rattle.std.specs.Option.{is_some, is_none, option_map}
-use Rattle.ac_tables.specs.World.{id_at, place_of, parent_of, root_of, is_root}
-use Rattle.ac_tables.specs.Cloud.CloudWorld.{providers_of}
-use Rattle.ac_tables.specs.declared.cloud.Cloud.{Cloud}
+use Rattle.ac_tables.proofs.Common.{◌≡◌, ◌<◌, ◌∙◌, ℕ, Bool, true, false, length, Option, Some, None, refl, sym, ap, ◌==◌, ◌&&◌, is_some, is_none, option_map, id_at, place_of, parent_of, root_of, is_root, providers_of, Cloud}
 use Rattle.ac_tables.proofs.Sorted.Rising.{rank_at}
 use Rattle.ac_tables.proofs.Places.CloudFacts.{id_here, place_here}
 use Rattle.ac_tables.proofs.Trees.AncestorFacts.{same_test}

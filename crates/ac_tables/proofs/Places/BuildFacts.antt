@@ -1,14 +1,5 @@
 -- The parents of providers by their places, and where their chains end.
-use Rattle.std.proofs.Common.{◌≡◌, ◌<◌, ◌+◌, ◌∙◌, ℕ, zero, suc, true, false, List, [], ◌∷◌, map, length, get_or, Option, Some, None, refl, sym, ap, subst, arith, inl, inr}
-use Rattle.std.specs.Prelude.{◌==◌, IfSome}
-use Rattle.std.specs.Option.{option_map, option_and_then, is_some}
-use Rattle.std.specs.List.{position_from}
-use Rattle.std.proofs.lemmas.Bool.{cases_Bool}
-use Rattle.std.proofs.lemmas.List.{get_or-map, length-map}
-use Rattle.ac_tables.specs.Trees.{top, is_endless}
-use Rattle.ac_tables.specs.Cloud.Places.{rank, parent_in, AreWithin, AreParents}
-use Rattle.ac_tables.specs.Tables.ProviderTable.{ProviderRecord, said_parent}
-use Rattle.ac_tables.specs.Tables.InventoryTable.{is_one_of}
+use Rattle.ac_tables.proofs.Common.{◌≡◌, ◌<◌, ◌+◌, ◌∙◌, ℕ, zero, suc, true, false, List, [], ◌∷◌, map, length, get_or, Option, Some, None, refl, sym, ap, subst, arith, inl, inr, ◌==◌, IfSome, option_map, option_and_then, is_some, position_from, cases_Bool, get_or-map, length-map, top, is_endless, rank, parent_in, AreWithin, AreParents, ProviderRecord, said_parent, is_one_of}
 use Rattle.ac_tables.proofs.Trees.PlaceTrees.{steps}
 use Rattle.ac_tables.proofs.Small.{are_equal}
 

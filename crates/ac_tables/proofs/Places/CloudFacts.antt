@@ -1,17 +1,7 @@
 -- A cloud's fields and the world that it stands for.
-use Rattle.std.proofs.Common.{◌≡◌, ◌<◌, ◌∙◌, ℕ, List, [], map, length, get_or, Option, Some, None, refl, sym, ap, subst, arith}
-use Rattle.std.specs.Prelude.{IfSome}
-use Rattle.std.specs.Option.{option_map}
-use Rattle.std.proofs.lemmas.List.{get_or-map}
-use Rattle.ac_tables.specs.Cloud.Places.{parent_in, rank}
-use Rattle.ac_tables.specs.World.{provider_at, id_at, place_of, parent_of, root_of}
-use Rattle.ac_base.specs.Names.{trait_bytes}
-use Rattle.ac_tables.specs.Cloud.Entries.{entry_pair}
-use Rattle.ac_tables.specs.Reader.ListsOf.{lists_of}
-use Rattle.ac_tables.specs.Cloud.Numbered.{numbered_at}
+use Rattle.ac_tables.proofs.Common.{◌≡◌, ◌<◌, ◌∙◌, ℕ, List, [], map, length, get_or, Option, Some, None, refl, sym, ap, subst, arith, IfSome, option_map, get_or-map, parent_in, rank, provider_at, id_at, place_of, parent_of, root_of, trait_bytes, entry_pair, lists_of, numbered_at, Cloud}
 use Rattle.ac_tables.specs.Cloud.CloudParts.{AreParts, BelongTogether}
 use Rattle.ac_tables.specs.Cloud.CloudWorld.{providers_of}
-use Rattle.ac_tables.specs.declared.cloud.Cloud.{Cloud}
 use Rattle.ac_tables.proofs.Places.WorldFacts.{numbered_size, numbered_here, numbered_place, numbered_parent, numbered_root}
 
 module _ (c : Cloud) where

@@ -1,27 +1,15 @@
 -- Gathering roots one by one.
-use Rattle.std.proofs.Common.{◌≡◌, ◌∙◌, ◌<◌, ◌+◌, ℕ, zero, suc, Bool, true, false, List, [], take, length, get_or, refl, sym, ap, ap₂, arith}
-use Rattle.std.specs.Prelude.{◌==◌, ◌||◌, ◌&&◌, if◌then◌else◌}
-use Rattle.std.specs.List.{list_any, range_with_len}
-use Rattle.std.specs.Ordering.{nat_cmp}
-use Rattle.std.specs.BTreeMap.{is_at}
+use Rattle.ac_tables.proofs.Common.{◌≡◌, ◌∙◌, ◌<◌, ◌+◌, ℕ, zero, suc, Bool, true, false, List, [], take, length, get_or, refl, sym, ap, ap₂, arith, ◌==◌, ◌||◌, ◌&&◌, if◌then◌else◌, list_any, range_with_len, nat_cmp, is_at, is_among, meets_at, meets, or-false}
 use Rattle.std.proofs.lemmas.List.Folds.{list_any_more}
-use Rattle.ac_tables.specs.Cloud.Anchors.{is_among, meets_at, meets}
-
-or_assoc : (a b c : Bool) → ((a || b) || c) ≡ (a || (b || c))
-or_assoc true b c = refl
-or_assoc false b c = refl
-
-or_none : (a : Bool) → (a || false) ≡ a
-or_none true = refl
-or_none false = refl
+use Rattle.ac_tables.proofs.Small.{or_grouped}
 
 range_more : (f : ℕ → Bool) (n a : ℕ) → list_any f (range_with_len a (suc n)) ≡ (list_any f (range_with_len a n) || f (a + n))
 range_more f zero a =
     let none : a ≡ a + zero = omega arith in
-    or_none (f a) ∙ ap f none
+    or-false (f a) ∙ ap f none
 range_more f (suc n) a =
     let next : a + 1 + n ≡ a + suc n = omega arith in
-    ap (λ b. f a || b) (range_more f n (a + 1)) ∙ sym (or_assoc (f a) (list_any f (range_with_len (a + 1) n)) (f (a + 1 + n)))
+    ap (λ b. f a || b) (range_more f n (a + 1)) ∙ or_grouped (f a) (list_any f (range_with_len (a + 1) n)) (f (a + 1 + n))
     ∙ ap (λ (j : ℕ). list_any f (range_with_len a (suc n)) || f j) next
 
 -- one more number of a range

@@ -1,22 +1,7 @@
 -- Inventories beside how much of each is used.
-use Rattle.std.proofs.Common.{◌≡◌, ◌<◌, ◌+◌, ◌∙◌, ℕ, zero, suc, true, List, [], ◌∷◌, map, length, get_or, drop, subst, refl, sym, ap, ap₂, arith, rules, inl, inr}
-use Rattle.std.specs.Prelude.{◌==◌}
-use Rattle.std.specs.List.{All, filter, range_with_len}
-use Rattle.std.proofs.lemmas.Bool.{cases_Bool}
-use Rattle.ac_base.specs.Quantities.{InventoryNumbers}
-use Rattle.ac_base.specs.declared.name.ClassName.{ClassName}
-use Rattle.ac_tables.specs.Sorted.{TextMap}
-use Rattle.ac_tables.specs.World.{UsedInventory}
-use Rattle.ac_tables.specs.Tables.{with_used}
-use Rattle.ac_tables.specs.Cloud.Entries.{entry_class, entry_pair}
-use Rattle.ac_tables.specs.declared.cloud.entry.Entry.{Entry}
-use Rattle.ac_base.specs.Names.{class_bytes}
-use Rattle.ac_tables.specs.Reader.InventoryRows.{class_pair}
-use Rattle.ac_tables.specs.Reader.TableRows.{AreStarts}
-use Rattle.ac_tables.specs.Reader.ListBounds.{lists_in}
-use Rattle.ac_tables.specs.Cloud.EntryLists.{entry_of, with_used_lists}
-use Rattle.ac_tables.specs.declared.reader.row.TableRow.{TableRow}
-use Rattle.ac_tables.proofs.Sorted.ListFacts.{map_map, range_same, lists_map, split_lists}
+use Rattle.ac_tables.proofs.Common.{◌≡◌, ◌∙◌, ℕ, zero, suc, true, List, [], ◌∷◌, map, length, get_or, drop, subst, refl, sym, ap, ap₂, arith, rules, inl, inr, ◌==◌, All, filter, range_with_len, cases_Bool, InventoryNumbers, ClassName, TextMap, UsedInventory, with_used, entry_class, entry_pair, Entry, class_bytes, class_pair, AreStarts, lists_in, entry_of, with_used_lists, TableRow, map-map}
+use Rattle.std.proofs.lemmas.List.FromFn.{fill_by_all}
+use Rattle.ac_tables.proofs.Sorted.ListFacts.{range_same, lists_map, split_lists}
 
 -- of maps of one list
 pub zip_maps : (f : ℕ → TextMap ℕ) (g : ℕ → TextMap InventoryNumbers) (ids : List ℕ) → with_used_lists (map f ids) (map g ids) ≡ map (λ id. with_used (f id) (g id)) ids
@@ -28,13 +13,6 @@ zip_size [] [] e = refl
 zip_size [] (s ∷ ss) e = absurd (omega (arith, e))
 zip_size (u ∷ us) [] e = absurd (omega (arith, e))
 zip_size (u ∷ us) (s ∷ ss) e = ap suc (zip_size us ss (omega (arith, e)))
-
--- a list by its places
-by_place : {X : Type 0} (k : ℕ) (xs all : List X) (d : X) → ((i : ℕ) → i < length xs → get_or all (k + i) d ≡ get_or xs i d) → xs ≡ map (λ p. get_or all p d) (range_with_len k (length xs))
-by_place k [] all d same = refl
-by_place k (x ∷ xs) all d same =
-    ap₂ (λ y l. y ∷ l) (sym (same zero (omega arith)) ∙ ap (λ i. get_or all i d) (omega arith))
-    (by_place (k + 1) xs all d (λ (i : ℕ) (h : i < length xs). ap (λ j. get_or all j d) (omega arith) ∙ same (suc i) (omega arith)))
 
 -- an entry for each inventory of a provider
 of_place : (us : List (List (TableRow ClassName ℕ))) (p : ℕ) (rows : List (TableRow ClassName InventoryNumbers))
@@ -60,12 +38,12 @@ joined_lists us rows starts are =
     let here = λ (p : ℕ). filter (λ (r : TableRow ClassName InventoryNumbers). r.place == p) rows in
     let range = range_with_len 0 (length us) in
     let used : map (map class_pair) us ≡ map (λ p. map class_pair (get_or us p [])) (range_with_len 0 (length us)) =
-    ap (map (map class_pair)) (by_place 0 us us [] (λ i h. ap (λ j. get_or us j []) (omega arith))) ∙ map_map (λ p. get_or us p []) (map class_pair) (range_with_len 0 (length us)) in
+    ap (map (map class_pair)) (fill_by_all (λ p. get_or us p []) us (length us) [] refl (λ k h. refl)) ∙ map-map (map class_pair) (λ p. get_or us p []) (range_with_len 0 (length us)) in
     let own : map (map class_pair) (lists_in rows starts) ≡ map (λ p. map class_pair (filter (λ (r : TableRow ClassName InventoryNumbers). r.place == p) rows)) (range_with_len 0 (length us)) =
-    ap (map (map class_pair)) (split_lists (length us) rows starts are) ∙ map_map (λ p. filter (λ (r : TableRow ClassName InventoryNumbers). r.place == p) rows) (map class_pair) (range_with_len 0 (length us)) in
+    ap (map (map class_pair)) (split_lists (length us) rows starts are) ∙ map-map (map class_pair) (λ p. filter (λ (r : TableRow ClassName InventoryNumbers). r.place == p) rows) (range_with_len 0 (length us)) in
     ap (map (map entry_pair)) (lists_map rows starts (entry_of us) ∙ ap (map (map (entry_of us))) (split_lists (length us) rows starts are)
-    ∙ map_map (λ p. filter (λ (r : TableRow ClassName InventoryNumbers). r.place == p) rows) (map (entry_of us)) (range_with_len 0 (length us)))
-    ∙ map_map (λ p. map (entry_of us) (filter (λ (r : TableRow ClassName InventoryNumbers). r.place == p) rows)) (map entry_pair) (range_with_len 0 (length us))
+    ∙ map-map (map (entry_of us)) (λ p. filter (λ (r : TableRow ClassName InventoryNumbers). r.place == p) rows) (range_with_len 0 (length us)))
+    ∙ map-map (map entry_pair) (λ p. map (entry_of us) (filter (λ (r : TableRow ClassName InventoryNumbers). r.place == p) rows)) (range_with_len 0 (length us))
     ∙ range_same _ (λ p. with_used (map class_pair (get_or us p [])) (map class_pair (filter (λ (r : TableRow ClassName InventoryNumbers). r.place == p) rows))) 0 (length us) (λ p l h. of_place us p rows)
     ∙ sym (zip_maps (λ p. map class_pair (get_or us p [])) (λ p. map class_pair (filter (λ (r : TableRow ClassName InventoryNumbers). r.place == p) rows)) (range_with_len 0 (length us)))
     ∙ ap₂ with_used_lists (sym used) (sym own)

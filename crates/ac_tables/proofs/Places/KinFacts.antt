@@ -1,16 +1,6 @@
 -- The ids of a fine table of providers: their parents are there, and their chains end.
-use Rattle.std.proofs.Common.{◌≡◌, ◌<◌, ◌+◌, ◌∙◌, ℕ, zero, suc, true, false, List, [], ◌∷◌, map, length, get_or, Option, Some, None, refl, sym, ap, ap₂, subst, arith, inl, inr}
-use Rattle.std.specs.Prelude.{◌==◌}
-use Rattle.std.specs.Option.{is_some, option_and_then}
-use Rattle.std.specs.List.{position_from}
-use Rattle.std.specs.Ordering.{nat_cmp}
-use Rattle.std.proofs.lemmas.Bool.{cases_Bool}
-use Rattle.ac_tables.specs.Sorted.{rising}
-use Rattle.ac_tables.specs.Tables.InventoryTable.{is_one_of}
-use Rattle.ac_tables.specs.Cloud.Kin.{AreKin}
-use Rattle.ac_tables.specs.Trees.{is_endless}
-use Rattle.ac_tables.specs.Cloud.DistinctIds.{AreTrees}
-use Rattle.ac_tables.specs.Tables.ProviderTable.{ProviderRecord, is_at, place_of, record_at, said_parent, no_record, has_endless_chain, endless_fault}
+use Rattle.ac_tables.proofs.Common.{◌≡◌, ◌<◌, ◌+◌, ◌∙◌, ℕ, zero, suc, true, false, List, [], ◌∷◌, map, length, get_or, Option, Some, None, refl, sym, ap, ap₂, subst, arith, inl, inr, ◌==◌, is_some, option_and_then, position_from, nat_cmp, cases_Bool, rising, is_one_of, AreKin, is_endless, AreTrees, ProviderRecord, record_at, said_parent, no_record, has_endless_chain}
+use Rattle.ac_tables.specs.Tables.ProviderTable.{is_at, place_of, endless_fault}
 use Rattle.ac_tables.specs.declared.fault.Table.TheVariants as table
 use Rattle.ac_tables.specs.declared.fault.TableKind.TheVariants as kind
 use Rattle.ac_tables.proofs.Records.ProviderFaults.{none_fails}

@@ -1,16 +1,9 @@
 -- Aggregates of one tree add nothing to a provider of that tree.
-use Rattle.std.proofs.Common.{◌≡◌, ◌∙◌, ◌<◌, ◌+◌, ℕ, zero, suc, Bool, true, false, List, [], ◌∷◌, length, get_or, refl, sym, ap, ap₂, subst, arith, rules, inl, inr}
-use Rattle.std.specs.Prelude.{◌==◌, ◌&&◌, ◌||◌, not}
-use Rattle.std.specs.Global.{Vec}
-use Rattle.std.specs.Ordering.{nat_cmp}
-use Rattle.std.specs.List.{list_any, filter, range_with_len}
-use Rattle.std.specs.BTreeMap.{BTreeMap, get}
-use Rattle.std.proofs.lemmas.Bool.{cases_Bool, false≢true}
-use Rattle.std.proofs.lemmas.List.Folds.{list_any_at}
-use Rattle.std.proofs.lemmas.List.FromFn.{get_or-range_with_len, length-range_with_len}
-use Rattle.ac_tables.specs.Cloud.Anchors.{roots_in, is_met, is_among, meets_at, meets, is_joined, joined, is_joining, is_marked, is_lone, wide, shared_ids, asked_at}
+use Rattle.ac_tables.proofs.Common.{◌≡◌, ◌∙◌, ◌<◌, ◌+◌, ℕ, zero, suc, Bool, true, false, List, [], ◌∷◌, length, get_or, refl, sym, ap, ap₂, subst, arith, inl, inr, ◌==◌, ◌&&◌, ◌||◌, not, Vec, nat_cmp, list_any, filter, range_with_len, BTreeMap, cases_Bool, false≢true, list_any_at, get_or-range_with_len, length-range_with_len, is_met, is_among, meets_at, meets, is_joined, joined, is_joining, is_marked, wide, shared_ids, asked_at}
+use Rattle.std.specs.BTreeMap.{get}
+use Rattle.ac_tables.specs.Cloud.Anchors.{roots_in, is_lone}
 use Rattle.ac_tables.proofs.Places.AnchorFacts.{filter_range, one_item}
-use Rattle.ac_tables.proofs.Small.{not_false}
+use Rattle.ac_tables.proofs.Small.{are_equal, equal, not_false}
 
 first_true : (b : Bool) → (b || false) ≡ true → b ≡ true
 first_true true e = refl
@@ -19,16 +12,8 @@ first_true false e = e
 one_root : (rs : List ℕ) (x y : ℕ) → (length rs == 1) ≡ true → list_any (λ (r : ℕ). r == x) rs ≡ true → list_any (λ (r : ℕ). r == y) rs ≡ true → x ≡ y
 one_root [] x y e f g = absurd (cc)
 one_root (r ∷ []) x y e f g =
-    let a = number r x (first_true (r == x) f) in
-    let b = number r y (first_true (r == y) g) in
-    sym a ∙ b
-  where
-    number : (p q : ℕ) → (p == q) ≡ true → p ≡ q
-    number p q h = search (arith, rules)
-one_root (r ∷ s ∷ rs) x y e f g = absurd (let same : length (r ∷ s ∷ rs) ≡ 1 = number (length (r ∷ s ∷ rs)) e in omega (arith, same))
-  where
-    number : (p : ℕ) → (p == 1) ≡ true → p ≡ 1
-    number p h = search (arith, rules)
+    sym (are_equal r x (first_true (r == x) f)) ∙ are_equal r y (first_true (r == y) g)
+one_root (r ∷ s ∷ rs) x y e f g = absurd (let same = are_equal (length (r ∷ s ∷ rs)) 1 e in omega (arith, same))
 
 -- leaving out what fails a test anyway
 any_kept : (p q : ℕ → Bool) (ids : List ℕ) → ((k : ℕ) (d : ℕ) → k < length ids → q (get_or ids k d) ≡ false → p (get_or ids k d) ≡ false) → list_any p (filter q ids) ≡ list_any p ids
@@ -54,9 +39,6 @@ any_first : (p : ℕ → Bool) (ids : List ℕ) → ((k : ℕ) (d : ℕ) → k <
 any_first p [] all q a rest e = absurd (cc)
 any_first p (x ∷ ids) all q a rest e = ap (λ b. b || list_any p ids) (all zero x (omega arith))
 
-number_is : (x y : ℕ) → (x == y) ≡ true → x ≡ y
-number_is x y h = search (arith, rules)
-
 module _ (roots : List ℕ) (aggregates : List (List ℕ)) (groups : BTreeMap ℕ (Vec ℕ)) (gathered : (a r : ℕ) → is_met groups a r ≡ meets roots aggregates (length roots) a r) (j : ℕ) (inside : j < length roots) (own_inside : get_or roots j 0 < length roots) where
   abbrev own : ℕ
   own = get_or roots j 0
@@ -75,12 +57,9 @@ module _ (roots : List ℕ) (aggregates : List (List ℕ)) (groups : BTreeMap �
   meets_own k d h =
       let here : get_or (range_with_len 0 (length roots)) j 0 ≡ 0 + j = get_or-range_with_len 0 (length roots) j 0 inside in
       let none : 0 + j ≡ j = omega arith in
-      let itself : is_among (get_or ids k d) ids ≡ true = list_any_at (λ (a : ℕ). a == get_or ids k d) ids k d h (same (get_or ids k d)) in
-      let test : meets_at roots aggregates (get_or ids k d) own j ≡ true = ap₂ (λ a b. a && b) (same own) itself in
+      let itself : is_among (get_or ids k d) ids ≡ true = list_any_at (λ (a : ℕ). a == get_or ids k d) ids k d h (equal (get_or ids k d) (get_or ids k d) refl) in
+      let test : meets_at roots aggregates (get_or ids k d) own j ≡ true = ap₂ (λ a b. a && b) (equal own own refl) itself in
       list_any_at (meets_at roots aggregates (get_or ids k d) own) (range_with_len 0 (length roots)) j 0 (omega (arith, inside, length-range_with_len 0 (length roots))) (ap (meets_at roots aggregates (get_or ids k d) own) (here ∙ none) ∙ test)
-    where
-      same : (x : ℕ) → (x == x) ≡ true
-      same x = grind arith
 
   -- at another root an aggregate of one tree meets nothing
   lone_elsewhere : (r : ℕ) → (own == r) ≡ false → (k d : ℕ) → k < length ids → not (lone (get_or ids k d)) ≡ false → met r (get_or ids k d) ≡ false
@@ -92,10 +71,7 @@ module _ (roots : List ℕ) (aggregates : List (List ℕ)) (groups : BTreeMap �
   ]
     where
       clash : own ≡ r → ⊥
-      clash one = false≢true (sym apart ∙ same own r one)
-        where
-          same : (x y : ℕ) → x ≡ y → (x == y) ≡ true
-          same x y g = search (arith, rules)
+      clash one = false≢true (sym apart ∙ equal own r one)
 
   pub wide_joined : (a : ℕ) (rest : List ℕ) → wide groups ids ≡ a ∷ rest → joined roots aggregates (wide groups ids) ≡ joined roots aggregates ids
   wide_joined a rest e = filter_range (is_joined roots aggregates (wide groups ids)) (is_joined roots aggregates ids) (length roots) 0 (λ (r : ℕ) h. at r)
@@ -103,7 +79,7 @@ module _ (roots : List ℕ) (aggregates : List (List ℕ)) (groups : BTreeMap �
       at : (r : ℕ) → is_joined roots aggregates (wide groups ids) r ≡ is_joined roots aggregates ids r
       at r = elim (cases_Bool (own == r)) [
         | inl is ↦
-            let same : own ≡ r = number_is own r is in
+            let same : own ≡ r = are_equal own r is in
             subst (λ (s : ℕ). is_joined roots aggregates (wide groups ids) s ≡ is_joined roots aggregates ids s) same
             (some_true (met own) (wide groups ids) a rest e (first_kept (met own) (λ a. not (lone a)) ids a rest meets_own e)
             ∙ sym (any_first (met own) ids meets_own (λ a. not (lone a)) a rest e))
@@ -116,7 +92,7 @@ module _ (roots : List ℕ) (aggregates : List (List ℕ)) (groups : BTreeMap �
       at : (r : ℕ) → is_joined roots aggregates ids r ≡ (own == r)
       at r = elim (cases_Bool (own == r)) [
         | inl is ↦
-            let same : own ≡ r = number_is own r is in
+            let same : own ≡ r = are_equal own r is in
             subst (λ (s : ℕ). is_joined roots aggregates ids s ≡ (own == r)) same (some_true (met own) ids a rest some (meets_first some) ∙ sym is)
         | inr apart ↦ sym (any_kept (met r) (λ b. not (lone b)) ids (lone_elsewhere r apart)) ∙ ap (list_any (met r)) none ∙ sym apart
       ]
@@ -125,6 +101,10 @@ module _ (roots : List ℕ) (aggregates : List (List ℕ)) (groups : BTreeMap �
           meets_first e =
               let sized : length ids ≡ suc (length rest) = ap length e in
               subst (λ (b : ℕ). met own b ≡ true) (ap (λ (l : List ℕ). get_or l 0 0) e) (meets_own 0 0 (omega (arith, sized)))
+
+first : (b : Bool) (l : List ℕ) → is_joining b l ≡ true → (a : ℕ) × ((rest : List ℕ) × (l ≡ a ∷ rest))
+first b [] e = absurd (cc)
+first b (a ∷ rest) e = (a, (rest, refl))
 
 -- what was asked of a provider
 module _ (roots : List ℕ) (aggregates : List (List ℕ)) (groups : BTreeMap ℕ (Vec ℕ)) (gathered : (a r : ℕ) → is_met groups a r ≡ meets roots aggregates (length roots) a r)
@@ -142,14 +122,10 @@ module _ (roots : List ℕ) (aggregates : List (List ℕ)) (groups : BTreeMap �
   pub asked_joined : is_joining true asked ≡ true → joined roots aggregates asked ≡ joined roots aggregates (get_or aggregates j [])
   asked_joined some = at (get_or sharing j false) refl
     where
-      first : (l : List ℕ) → is_joining true l ≡ true → (a : ℕ) × ((rest : List ℕ) × (l ≡ a ∷ rest))
-      first [] e = absurd (cc)
-      first (a ∷ rest) e = (a, (rest, refl))
-
       at : (b : Bool) → get_or sharing j false ≡ b → joined roots aggregates asked ≡ joined roots aggregates (get_or aggregates j [])
       at true is =
           let e : asked ≡ wide groups (get_or aggregates j []) = are ∙ ap (λ b. wide groups (shared_ids b (get_or aggregates j []))) is in
-          let f = first asked some in
+          let f = first true asked some in
           ap (joined roots aggregates) e ∙ wide_joined roots aggregates groups gathered j inside (own_inside j inside) f.0 f.1.0 (sym e ∙ f.1.1)
       at false is =
           let e : asked ≡ [] = are ∙ ap (λ b. wide groups (shared_ids b (get_or aggregates j []))) is in
@@ -162,10 +138,6 @@ module _ (roots : List ℕ) (aggregates : List (List ℕ)) (groups : BTreeMap �
       empty : (l : List ℕ) → is_joining true l ≡ false → l ≡ []
       empty [] e = refl
       empty (a ∷ rest) e = absurd (cc)
-
-      first : (b : Bool) (l : List ℕ) → is_joining b l ≡ true → (a : ℕ) × ((rest : List ℕ) × (l ≡ a ∷ rest))
-      first b [] e = absurd (cc)
-      first b (a ∷ rest) e = (a, (rest, refl))
 
       shares : (b : Bool) (l : List ℕ) → is_joining b l ≡ true → b ≡ true
       shares b [] e = absurd (cc)

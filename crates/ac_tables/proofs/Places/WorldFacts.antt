@@ -1,19 +1,9 @@
 -- The providers of a cloud, place by place.
-use Rattle.std.proofs.Common.{◌≡◌, ◌<◌, ◌+◌, ◌∙◌, ℕ, zero, suc, List, [], ◌∷◌, map, length, get_or, Option, Some, refl, ap, arith}
-use Rattle.std.specs.Prelude.{◌==◌, if◌then◌else◌}
-use Rattle.std.specs.Option.{option_map, option_and_then}
-use Rattle.std.specs.List.{range_with_len, position_from}
-use Rattle.std.proofs.lemmas.List.FromFn.{get_or-map-range_with_len}
-use Rattle.std.proofs.lemmas.List.{length-map}
-use Rattle.ac_tables.specs.Sorted.{TextMap}
-use Rattle.ac_tables.specs.Trees.{top}
-use Rattle.ac_tables.specs.Cloud.Places.{rank, parent_in, AreWithin}
-use Rattle.ac_tables.specs.Cloud.RisingIds.{IsRising}
-use Rattle.ac_tables.specs.World.{UsedInventory, Provider, no_provider, provider_at, is_provider, place_of, parent_of, root_of}
-use Rattle.ac_tables.specs.Cloud.Numbered.{numbered_at, numbered}
+use Rattle.ac_tables.proofs.Common.{◌≡◌, ◌<◌, ◌+◌, ◌∙◌, ℕ, zero, suc, List, [], ◌∷◌, map, length, get_or, Option, Some, refl, ap, arith, ◌==◌, if◌then◌else◌, option_map, option_and_then, range_with_len, position_from, get_or-map-range_with_len, length-map, TextMap, top, rank, parent_in, AreWithin, IsRising, UsedInventory, Provider, no_provider, provider_at, place_of, parent_of, root_of, numbered_at, length-range_with_len}
+use Rattle.ac_tables.specs.World.{is_provider}
+use Rattle.ac_tables.specs.Cloud.Numbered.{numbered}
 use Rattle.ac_tables.proofs.Sorted.Rising.{rank_at}
 use Rattle.ac_tables.proofs.Trees.PlaceTrees.{steps}
-use Rattle.std.proofs.lemmas.List.FromFn.{length-range_with_len}
 
 module _ (ids : List ℕ) (parents : List (Option ℕ)) (entries : List (TextMap UsedInventory)) (traits : List (List (List ℕ))) (aggregates : List (List ℕ)) where
   abbrev all : List Provider

@@ -1,19 +1,13 @@
 -- The faults of the tables, in their order.
-use Rattle.std.proofs.Common.{◌≡◌, ◌∙◌, ◌++◌, ℕ, Bool, List, Option, Some, None, refl}
-use Rattle.std.specs.Prelude.{codes}
-use Rattle.std.specs.Borrow.{Bor}
-use Rattle.std.specs.Option.{option_map}
+use Rattle.ac_tables.proofs.Common.{◌≡◌, ◌∙◌, ◌++◌, ℕ, Bool, List, Option, Some, None, refl, codes, Bor, option_map, Tells, records_of, inventories_said, Tables, records_or_header, TableFault}
 use Rattle.csv.proofs.OnLiterals.{csv_on_literals}
-use Rattle.ac_tables.specs.Tables.Checks.{Tells}
-use Rattle.ac_tables.specs.Tables.Rows.{records_of}
 use Rattle.ac_tables.specs.SourceText.{text_or}
 use Rattle.ac_tables.specs.Tables.ProviderTable.{provider_checks, providers_fault, uuid_name}
-use Rattle.ac_tables.specs.Tables.InventoryTable.{inventories_said, inventory_checks, inventories_fault, provider_name, class_name}
+use Rattle.ac_tables.specs.Tables.InventoryTable.{inventory_checks, inventories_fault, provider_name, class_name}
 use Rattle.ac_tables.specs.Tables.UsageTable.{usage_checks, usages_fault, usage_columns, usage_name}
 use Rattle.ac_tables.specs.Tables.TraitTable.{trait_checks, traits_fault, trait_columns, name_name}
 use Rattle.ac_tables.specs.Tables.AggregateTable.{aggregate_checks, aggregates_fault, aggregate_columns}
-use Rattle.ac_tables.specs.Tables.{Tables, ids_of, tables_fault, records_or_header}
-use Rattle.ac_tables.specs.declared.fault.TableFault.{TableFault}
+use Rattle.ac_tables.specs.Tables.{ids_of, tables_fault}
 use Rattle.ac_tables.proofs.FirstFailing.{append_none}
 use Rattle.ac_tables.proofs.Records.ProviderFaults.{tells_first, tells_next}
 

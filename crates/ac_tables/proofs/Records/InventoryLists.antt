@@ -1,16 +1,7 @@
 -- The inventories of each provider, of rows in order.
-use Rattle.std.proofs.Common.{◌≡◌, ◌==◌, ℕ, List, map, length, get_or, refl}
-use Rattle.std.specs.List.{filter, range_with_len}
-use Rattle.ac_base.specs.Names.{class_bytes}
-use Rattle.ac_base.specs.Quantities.{InventoryNumbers}
-use Rattle.ac_base.specs.Texts.{text_cmp}
-use Rattle.ac_base.specs.declared.name.ClassName.{ClassName}
-use Rattle.ac_tables.specs.Cloud.RisingIds.{IsRising}
-use Rattle.ac_tables.specs.Reader.InventoryRows.{AreInventories, class_pair, inventory_shown}
-use Rattle.ac_tables.specs.Tables.InventoryTable.{InventoryRecord}
-use Rattle.ac_tables.specs.Reader.RecordLaws.{same_place}
+use Rattle.ac_tables.proofs.Common.{◌≡◌, ◌==◌, ℕ, List, map, length, get_or, refl, filter, range_with_len, class_bytes, InventoryNumbers, text_cmp, ClassName, IsRising, class_pair, inventory_shown, InventoryRecord, same_place, TableRow}
+use Rattle.ac_tables.specs.Reader.InventoryRows.{AreInventories}
 use Rattle.ac_tables.specs.Tables.{inventories_of}
-use Rattle.ac_tables.specs.declared.reader.row.TableRow.{TableRow}
 use Rattle.ac_tables.proofs.Sorted.ListFacts.{of_each}
 use Rattle.ac_tables.proofs.Sorted.ProviderMaps.{shown_map}
 

@@ -1,13 +1,9 @@
 -- Whether a provider is there, and the checks of the records of traits and aggregates.
-use Rattle.std.proofs.Common.{◌≡◌, ◌∙◌, ℕ, true, false, List, Some, None, refl, sym, ap}
-use Rattle.ac_tables.specs.Tables.Checks.{Row, first_failing, TellsKind}
-use Rattle.ac_tables.specs.Tables.Columns.{id_in}
-use Rattle.ac_tables.specs.Tables.InventoryTable.{provider_name, is_one_of, known_checks}
-use Rattle.ac_tables.specs.Tables.TraitTable.{TraitRecord, trait_field_checks, trait_record_checks}
-use Rattle.ac_tables.specs.Tables.AggregateTable.{AggregateRecord, aggregate_said, aggregate_field_checks, aggregate_record_checks}
-use Rattle.ac_tables.specs.declared.fault.TableKind.{TableKind}
+use Rattle.ac_tables.proofs.Common.{◌≡◌, ◌∙◌, ℕ, true, false, List, Some, None, refl, sym, ap, Row, first_failing, TellsKind, id_in, provider_name, is_one_of, TraitRecord, AggregateRecord, TableKind, RecordFault}
+use Rattle.ac_tables.specs.Tables.InventoryTable.{known_checks}
+use Rattle.ac_tables.specs.Tables.TraitTable.{trait_field_checks, trait_record_checks}
+use Rattle.ac_tables.specs.Tables.AggregateTable.{aggregate_said, aggregate_field_checks, aggregate_record_checks}
 use Rattle.ac_tables.specs.declared.fault.TableKind.TheVariants as kind
-use Rattle.ac_tables.specs.declared.fault.RecordFault.{RecordFault}
 use Rattle.ac_tables.proofs.FirstFailing.{tells_front, append_none, append_some}
 
 pub unknown : (ids : List ℕ) (id : ℕ) → is_one_of ids id ≡ false → first_failing (known_checks ids id) ≡ Some kind.UnknownProvider

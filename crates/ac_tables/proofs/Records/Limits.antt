@@ -1,18 +1,10 @@
 -- The limit on the number of providers, beside all other checks of their table.
-use Rattle.std.proofs.Common.{◌≡◌, ◌∙◌, ◌+◌, ◌<◌, ◌≤◌, ◌++◌, ℕ, Bool, true, false, List, [], ◌∷◌, map, length, Option, Some, None, refl, sym, ap, ap₂, arith, rules, inl, inr, ◌⊎◌}
-use Rattle.std.specs.Prelude.{nat_lt, nat_le, if◌then◌else◌}
-use Rattle.std.specs.Option.{is_some}
-use Rattle.std.specs.List.{list_any, position_from}
-use Rattle.std.proofs.lemmas.Bool.{cases_Bool, cases_lt}
-use Rattle.std.proofs.lemmas.List.{length-append, length-map}
-use Rattle.ac_tables.specs.Tables.Checks.{Row, Check, first_failing, record_checks, told_at, Tells}
-use Rattle.ac_tables.specs.Tables.Columns.{header_checks, table_checks}
-use Rattle.ac_tables.specs.Tables.ProviderTable.{ProviderRecord, is_at, place_of, is_known, provider_said, provider_field_checks, place_checks, provider_record_checks, providers_said, provider_records_fault, provider_columns}
+use Rattle.ac_tables.proofs.Common.{◌≡◌, ◌∙◌, ◌+◌, ◌<◌, ◌≤◌, ◌++◌, ℕ, Bool, true, false, List, [], ◌∷◌, map, length, Option, Some, None, refl, sym, ap, ap₂, arith, rules, inl, inr, ◌⊎◌, nat_lt, nat_le, if◌then◌else◌, is_some, list_any, position_from, cases_Bool, cases_lt, length-append, length-map, Row, Check, first_failing, record_checks, told_at, Tells, table_checks, ProviderRecord, is_known, providers_said, provider_columns, TableKind, TableFault}
+use Rattle.ac_tables.specs.Tables.Columns.{header_checks}
+use Rattle.ac_tables.specs.Tables.ProviderTable.{is_at, place_of, provider_said, provider_field_checks, place_checks, provider_record_checks, provider_records_fault}
 use Rattle.ac_tables.specs.Reader.ProviderLaws.{named_checks, limited, one_too_many}
 use Rattle.ac_tables.specs.declared.fault.Table.TheVariants as table
-use Rattle.ac_tables.specs.declared.fault.TableKind.{TableKind}
 use Rattle.ac_tables.specs.declared.fault.TableKind.TheVariants as kind
-use Rattle.ac_tables.specs.declared.fault.TableFault.{TableFault}
 use Rattle.ac_tables.specs.declared.fault.TableFault.TheVariants as fault
 use Rattle.ac_tables.proofs.FirstFailing.{told_none, told_some}
 

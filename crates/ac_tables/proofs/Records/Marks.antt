@@ -1,21 +1,6 @@
 -- The first record of a marked row, and the first fault of a pass over all records.
-use Rattle.std.proofs.Common.{◌≡◌, ◌∙◌, ◌+◌, ◌<◌, ◌≤◌, ℕ, zero, suc, Bool, true, false, List, [], ◌∷◌, length, get_or, min, Option, Some, None, refl, sym, ap, subst, arith, inl, inr, ◌⊎◌}
-use Rattle.std.specs.Option.{option_map}
-use Rattle.std.proofs.lemmas.Bool.{cases_Bool, cases_lt}
-use Rattle.std.proofs.lemmas.List.{get_or-map, get_or_default, length-map}
-use Rattle.std.proofs.lemmas.List.Elements.{Contains-get_or}
-use Rattle.std.proofs.lemmas.List.Sorted.{Contains-permutation, IsPermutation-sym}
-use Rattle.std.specs.Ordering.{nat_cmp}
-use Rattle.ac_tables.specs.Tables.Checks.{first_failing, pass}
-use Rattle.ac_tables.specs.Reader.Listings.{IsFirstBelow, IsFirst}
-use Rattle.ac_tables.specs.Tables.ProviderTable.{ProviderRecord, no_record}
-use Rattle.ac_tables.specs.Reader.ProviderLaws.{provider_shown}
-use Rattle.ac_tables.specs.Reader.TableRows.{row_shown, sooner, IsTable}
-use Rattle.ac_tables.specs.declared.fault.Table.{Table}
-use Rattle.ac_tables.specs.declared.fault.TableKind.{TableKind}
+use Rattle.ac_tables.proofs.Common.{◌≡◌, ◌∙◌, ◌+◌, ◌<◌, ◌≤◌, ℕ, zero, suc, Bool, true, false, List, [], ◌∷◌, length, get_or, min, Option, Some, None, refl, sym, ap, subst, arith, inl, inr, ◌⊎◌, option_map, cases_Bool, cases_lt, get_or-map, get_or_default, length-map, Contains-get_or, Contains-permutation, IsPermutation-sym, nat_cmp, first_failing, pass, IsFirstBelow, IsFirst, ProviderRecord, no_record, provider_shown, row_shown, sooner, IsTable, Table, TableKind, TableRow, Named}
 use Rattle.ac_tables.specs.declared.fault.TableFault.TheVariants as fault
-use Rattle.ac_tables.specs.declared.reader.row.TableRow.{TableRow}
-use Rattle.ac_tables.specs.declared.tables.provider_record.Named.{Named}
 use Rattle.ac_tables.proofs.Small.{clash, min_left, min_right, is_min_left, is_min_right}
 
 -- below a place, or at it

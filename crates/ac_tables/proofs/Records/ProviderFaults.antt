@@ -1,17 +1,8 @@
 -- The faults of the parts, in their order, are the fault of the whole.
-use Rattle.std.proofs.Common.{◌≡◌, ◌<◌, ◌∙◌, ◌++◌, ℕ, Bool, true, false, List, [], ◌∷◌, length, get_or, Option, Some, None, refl, arith, zero, suc, ◌+◌, inl, inr}
-use Rattle.std.specs.Prelude.{◌&&◌, not}
-use Rattle.std.specs.Option.{is_some, unwrap_or}
-use Rattle.std.proofs.lemmas.Bool.{cases_Bool}
-use Rattle.ac_tables.specs.Tables.Checks.{first_failing, pass, Tells}
-use Rattle.ac_tables.specs.Tables.Columns.{table_checks}
-use Rattle.ac_tables.specs.Cloud.DistinctIds.{AreTrees, AreDistinct}
-use Rattle.ac_tables.specs.Tables.ProviderTable.{ProviderRecord, place_of, record_at, no_record, providers_said, provider_columns, provider_said, provider_record_checks, tree_checks, has_unknown_parent, has_endless_chain, has_wrong_root, unknown_fault, endless_fault, root_fault, trees_fault, provider_records_fault, providers_fault}
-use Rattle.ac_tables.specs.declared.fault.Table.{Table}
+use Rattle.ac_tables.proofs.Common.{◌≡◌, ◌<◌, ◌∙◌, ◌++◌, ℕ, Bool, true, false, List, [], ◌∷◌, length, get_or, Option, Some, None, refl, arith, zero, suc, ◌+◌, inl, inr, ◌&&◌, not, is_some, unwrap_or, cases_Bool, first_failing, pass, Tells, table_checks, AreTrees, AreDistinct, ProviderRecord, record_at, no_record, providers_said, provider_columns, has_unknown_parent, has_endless_chain, has_wrong_root, Table, TableKind, TableFault}
+use Rattle.ac_tables.specs.Tables.ProviderTable.{place_of, provider_said, provider_record_checks, tree_checks, unknown_fault, endless_fault, root_fault, trees_fault, provider_records_fault, providers_fault}
 use Rattle.ac_tables.specs.declared.fault.Table.TheVariants as table
-use Rattle.ac_tables.specs.declared.fault.TableKind.{TableKind}
 use Rattle.ac_tables.specs.declared.fault.TableKind.TheVariants as kind
-use Rattle.ac_tables.specs.declared.fault.TableFault.{TableFault}
 use Rattle.ac_tables.specs.declared.fault.TableFault.TheVariants as fault
 use Rattle.ac_tables.proofs.FirstFailing.{append_none, append_some}
 

@@ -1,14 +1,8 @@
 -- The ids of providers are numbers of 128 bits.
-use Rattle.std.proofs.Common.{◌<◌, ◌^◌, ℕ, zero, suc, List, [], ◌∷◌, map, arith}
-use Rattle.std.specs.List.{All, fold}
-use Rattle.std.specs.Ordering.{nat_cmp}
-use Rattle.std.specs.BTreeSet.{insert_key}
+use Rattle.ac_tables.proofs.Common.{◌<◌, ◌^◌, ℕ, zero, suc, List, [], ◌∷◌, map, arith, All, fold, nat_cmp, insert_key, Row, text_in, ProviderRecord, uuid_name, providers_said, rising}
 use Rattle.std.proofs.lemmas.List.Elements.{All-map}
 use Rattle.std.proofs.lemmas.Map.Views.{All-insert_key}
-use Rattle.ac_tables.specs.Tables.Checks.{Row}
-use Rattle.ac_tables.specs.Tables.Columns.{text_in}
-use Rattle.ac_tables.specs.Tables.ProviderTable.{ProviderRecord, uuid_name, provider_said, providers_said}
-use Rattle.ac_tables.specs.Sorted.{rising}
+use Rattle.ac_tables.specs.Tables.ProviderTable.{provider_said}
 use Rattle.ac_tables.proofs.Records.IdsFit.{id_fits}
 
 abbrev pub Fits : ℕ → Type 0

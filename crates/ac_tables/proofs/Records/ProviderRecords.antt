@@ -1,28 +1,9 @@
 -- The rows of the table of providers say what its records say: their ids, who is whose parent, and what is wrong with a provider.
-use Rattle.std.proofs.Common.{◌≡◌, ◌∙◌, ◌+◌, ◌<◌, ℕ, zero, suc, Bool, true, false, List, [], ◌∷◌, map, length, get_or, Option, Some, None, refl, sym, ap, ap₂, subst, arith, rules, inl, inr}
-use Rattle.std.specs.Prelude.{◌==◌, ◌&&◌, not}
-use Rattle.std.specs.Ordering.{nat_cmp, eq_by_cmp}
+use Rattle.ac_tables.proofs.Common.{◌≡◌, ◌∙◌, ◌+◌, ◌<◌, ℕ, zero, suc, Bool, true, false, List, [], ◌∷◌, map, length, get_or, Option, Some, None, refl, sym, ap, ap₂, subst, arith, rules, inl, inr, ◌==◌, ◌&&◌, not, nat_cmp, eq_by_cmp, is_some, is_none, unwrap_or, option_map, option_and_then, position_from, IsPermutation, IsStrictlySortedBy, cases_Bool, get_or-map, length-map, All-weaker, recursion_from_All, Contains-permutation, IsPermutation-sym, IsPermutation-map, length_permutation, IsDistinct-from_sorted, eq_by_cmp_equiv, exact_unsigned, AreDistinct, AreTrees, is_one_of, rank, parent_in, AreParents, provider_shown, ProviderRecord, is_known, no_record, record_at, said_parent, has_unknown_parent, has_endless_chain, has_wrong_root, unknown_fault, rising, row_shown, IsTable, top, TableRow, Named, map-map}
 use Rattle.std.specs.Cmp.{nat_cmp_total, unsigned_tied}
-use Rattle.std.specs.Option.{is_some, is_none, unwrap_or, option_map, option_and_then}
-use Rattle.std.specs.List.{IsDistinct, position_from}
-use Rattle.std.specs.List.Sorted.{IsPermutation, IsStrictlySortedBy}
-use Rattle.std.proofs.lemmas.Bool.{cases_Bool}
-use Rattle.std.proofs.lemmas.List.{get_or-map, length-map}
-use Rattle.std.proofs.lemmas.List.Elements.{All-weaker, recursion_from_All}
-use Rattle.std.proofs.lemmas.List.Sorted.{Contains-permutation, IsPermutation-sym, IsPermutation-map, length_permutation}
-use Rattle.std.proofs.lemmas.Map.Keys.{IsDistinct-from_sorted, IsDistinct-IsPermutation, apart_from_distinct}
-use Rattle.std.proofs.lemmas.Cmp.{eq_by_cmp_equiv}
-use Rattle.std.proofs.lemmas.Map.Lookups.{exact_unsigned}
-use Rattle.ac_tables.specs.Cloud.DistinctIds.{AreDistinct, AreTrees}
-use Rattle.ac_tables.specs.Tables.InventoryTable.{is_one_of}
-use Rattle.ac_tables.specs.Cloud.Places.{rank, parent_in, AreParents}
-use Rattle.ac_tables.specs.Reader.ProviderLaws.{provider_shown}
-use Rattle.ac_tables.specs.Tables.ProviderTable.{ProviderRecord, is_at, is_known, place_of, no_record, record_at, said_parent, has_unknown_parent, has_endless_chain, has_wrong_root, unknown_fault}
-use Rattle.ac_tables.specs.Sorted.{rising}
-use Rattle.ac_tables.specs.Reader.TableRows.{row_shown, IsTable}
-use Rattle.ac_tables.specs.Trees.{top}
-use Rattle.ac_tables.specs.declared.reader.row.TableRow.{TableRow}
-use Rattle.ac_tables.specs.declared.tables.provider_record.Named.{Named}
+use Rattle.std.specs.List.{IsDistinct}
+use Rattle.std.proofs.lemmas.Map.Keys.{IsDistinct-IsPermutation, apart_from_distinct}
+use Rattle.ac_tables.specs.Tables.ProviderTable.{is_at, place_of}
 use Rattle.ac_tables.proofs.Places.BuildFacts.{agree, are_within, are_parents, same_size, has_rank}
 use Rattle.ac_tables.proofs.Places.KinFacts.{kin_known, place_member}
 use Rattle.ac_tables.proofs.Records.ProviderFaults.{are_trees}
@@ -31,7 +12,6 @@ use Rattle.ac_tables.proofs.Trees.PlaceTrees.{steps}
 use Rattle.ac_tables.proofs.Sorted.Rising.{rank_none}
 use Rattle.ac_tables.proofs.Sorted.SameItems.{is_rising, member_rising}
 use Rattle.ac_tables.proofs.Gathered.ProviderRows.{keys_sorted}
-use mathlib.Core.List.{map-map}
 
 abbrev ListingRow : Type 0
 ListingRow = TableRow ℕ Named

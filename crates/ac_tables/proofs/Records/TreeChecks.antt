@@ -1,23 +1,9 @@
 -- What is told of the trees of the table of providers, by its rows.
-use Rattle.std.proofs.Common.{◌≡◌, ◌∙◌, ◌<◌, ℕ, Bool, true, false, List, map, length, get_or, Option, Some, None, sym, ap, subst, arith}
-use Rattle.std.specs.Prelude.{◌==◌, ◌&&◌, not}
-use Rattle.std.specs.Option.{is_some, is_none, option_map, option_and_then}
-use Rattle.std.specs.Ordering.{nat_cmp}
-use Rattle.std.proofs.lemmas.List.{length-map}
-use Rattle.ac_tables.specs.Tables.Checks.{Tells}
-use Rattle.ac_tables.specs.Cloud.Kin.{AreKin}
-use Rattle.ac_tables.specs.Reader.Listings.{IsFirst}
-use Rattle.ac_tables.specs.Cloud.Places.{rank, parent_in, AreParents}
-use Rattle.ac_tables.specs.Reader.ProviderLaws.{provider_shown}
-use Rattle.ac_tables.specs.Tables.ProviderTable.{ProviderRecord, said_parent, has_unknown_parent, has_endless_chain, has_wrong_root, unknown_fault, endless_fault, root_fault}
-use Rattle.ac_tables.specs.Reader.TableRows.{IsTable}
-use Rattle.ac_tables.specs.Trees.{top}
+use Rattle.ac_tables.proofs.Common.{◌≡◌, ◌∙◌, ◌<◌, ℕ, Bool, true, false, List, map, length, get_or, Option, Some, None, sym, ap, subst, arith, ◌==◌, ◌&&◌, not, is_some, is_none, option_map, option_and_then, nat_cmp, length-map, Tells, AreKin, IsFirst, rank, parent_in, AreParents, provider_shown, ProviderRecord, said_parent, has_unknown_parent, has_endless_chain, has_wrong_root, IsTable, top, TableFault, TableRow, Named}
+use Rattle.ac_tables.specs.Tables.ProviderTable.{unknown_fault, endless_fault, root_fault}
 use Rattle.ac_tables.specs.declared.fault.Table.TheVariants as table
 use Rattle.ac_tables.specs.declared.fault.TableKind.TheVariants as kind
-use Rattle.ac_tables.specs.declared.fault.TableFault.{TableFault}
 use Rattle.ac_tables.specs.declared.fault.TableFault.TheVariants as fault
-use Rattle.ac_tables.specs.declared.reader.row.TableRow.{TableRow}
-use Rattle.ac_tables.specs.declared.tables.provider_record.Named.{Named}
 use Rattle.ac_tables.proofs.Places.KinFacts.{are_kin}
 use Rattle.ac_tables.proofs.Records.ProviderRecords.{no_row, ids_are, count, parents_are, unknown_same, trees, as_many, are_places, top_inside, endless_same, wrong_same}
 use Rattle.ac_tables.proofs.Records.Marks.{passed}

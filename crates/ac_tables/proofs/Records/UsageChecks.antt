@@ -1,13 +1,7 @@
 -- The checks of usages ask of the inventories only which there are.
-use Rattle.std.proofs.Common.{◌≡◌, ◌++◌, ℕ, List, [], ◌∷◌, sym, ap}
-use Rattle.std.specs.Prelude.{not}
-use Rattle.std.specs.List.{list_any}
-use Rattle.std.specs.List.Sorted.{IsPermutation}
+use Rattle.ac_tables.proofs.Common.{◌≡◌, ◌++◌, ℕ, List, [], ◌∷◌, sym, ap, not, list_any, IsPermutation, Row, first_failing, id_in, text_in, table_checks, InventoryRecord, provider_name, class_name, is_inventory_of, is_one_of, UsageRecord, usage_field_checks}
 use Rattle.std.proofs.lemmas.List.Sorted.{list_any-IsPermutation}
-use Rattle.ac_tables.specs.Tables.Checks.{Row, first_failing}
-use Rattle.ac_tables.specs.Tables.Columns.{id_in, text_in, table_checks}
-use Rattle.ac_tables.specs.Tables.InventoryTable.{InventoryRecord, provider_name, class_name, is_inventory_of, is_one_of}
-use Rattle.ac_tables.specs.Tables.UsageTable.{UsageRecord, usage_said, usage_columns, usage_field_checks, usage_row_checks, used_checks, usages_fault, is_usage}
+use Rattle.ac_tables.specs.Tables.UsageTable.{usage_said, usage_columns, usage_row_checks, used_checks, usages_fault, is_usage}
 use Rattle.ac_tables.specs.declared.fault.Table.TheVariants as table
 use Rattle.ac_tables.specs.declared.fault.TableKind.TheVariants as kind
 

@@ -1,21 +1,5 @@
 -- The checks of a usage's key.
-use Rattle.std.proofs.Common.{◌≡◌, ◌∙◌, ◌<◌, ◌++◌, ℕ, zero, suc, Bool, true, false, List, [], ◌∷◌, length, get_or, Some, None, refl, sym, ap, ap₂, arith, inl, inr}
-use Rattle.std.specs.Prelude.{◌==◌, ◌&&◌, ◌||◌}
-use Rattle.std.specs.List.{All, filter, list_any}
-use Rattle.std.specs.Str.{bytes_eq}
-use Rattle.std.proofs.lemmas.Bool.{cases_Bool}
-use Rattle.ac_base.specs.Names.{class_bytes}
-use Rattle.ac_base.specs.Quantities.{InventoryNumbers}
-use Rattle.ac_base.specs.declared.name.ClassName.{ClassName}
-use Rattle.ac_tables.specs.Tables.Checks.{Row, first_failing}
-use Rattle.ac_tables.specs.Tables.Columns.{id_in, text_in}
-use Rattle.ac_tables.specs.Cloud.RisingIds.{IsRising}
-use Rattle.ac_tables.specs.Tables.InventoryTable.{InventoryRecord, provider_name, class_name, is_inventory_of, is_one_of}
-use Rattle.ac_tables.specs.Tables.UsageTable.{usage_field_checks}
-use Rattle.ac_tables.specs.Reader.InventoryRows.{inventory_records_shown}
-use Rattle.ac_tables.specs.Reader.RecordLaws.{same_place, eq_turned}
-use Rattle.ac_tables.specs.Reader.RecordLaws.{lone_checks}
-use Rattle.ac_tables.specs.declared.reader.row.TableRow.{TableRow}
+use Rattle.ac_tables.proofs.Common.{◌≡◌, ◌∙◌, ◌<◌, ◌++◌, ℕ, zero, suc, Bool, true, false, List, [], ◌∷◌, length, get_or, Some, None, refl, sym, ap, ap₂, arith, inl, inr, ◌==◌, ◌&&◌, ◌||◌, All, filter, list_any, bytes_eq, cases_Bool, class_bytes, InventoryNumbers, ClassName, Row, first_failing, id_in, text_in, IsRising, InventoryRecord, provider_name, class_name, is_inventory_of, is_one_of, usage_field_checks, inventory_records_shown, same_place, eq_turned, lone_checks, TableRow}
 use Rattle.ac_tables.specs.declared.fault.TableKind.TheVariants as kind
 use Rattle.ac_tables.proofs.FirstFailing.{append_none}
 

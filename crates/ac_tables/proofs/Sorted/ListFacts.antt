@@ -1,52 +1,19 @@
 -- Lists that stand one after the other in one list.
-use Rattle.std.proofs.Common.{◌≡◌, ◌∙◌, ◌+◌, ◌-◌, ◌<◌, ◌≤◌, ℕ, zero, suc, List, [], ◌∷◌, ◌++◌, map, length, get_or, subst, take, drop, inl, inr, ◌⊎◌, rules, refl, sym, ap, ap₂, arith, length-drop}
-use Rattle.std.specs.Prelude.{◌==◌}
-use Rattle.std.specs.List.{All, filter, fold, range_with_len, sum_by}
-use Rattle.std.proofs.Math.Seq.{get_or-append_seam}
-use Rattle.std.proofs.lemmas.List.{length-append, length-map, get_or-map, length-take-le}
-use Rattle.std.proofs.lemmas.List.FromFn.{get_or-map-range_with_len}
-use Rattle.ac_tables.specs.Reader.TableRows.{IsStart, AreStarts}
+use Rattle.ac_tables.proofs.Common.{◌≡◌, ◌∙◌, ◌+◌, ◌-◌, ◌<◌, ◌≤◌, ℕ, zero, suc, List, [], ◌∷◌, ◌++◌, map, length, get_or, subst, take, drop, inl, inr, ◌⊎◌, rules, refl, sym, ap, ap₂, arith, ◌==◌, All, filter, fold, range_with_len, sum_by, get_or-append_seam, length-append, length-map, get_or-map, length-take-le, get_or-map-range_with_len, IsStart, AreStarts, TableRow, length-range_with_len, map-map}
+use Rattle.std.proofs.lemmas.List.FromFn.{fill_by_all}
+use Rattle.std.proofs.lemmas.List.{drop-map, take-map}
+use Rattle.std.proofs.Common.{length-drop}
 use Rattle.ac_tables.specs.Reader.ListBounds.{AreBounds, list_at, lists_in}
-use Rattle.ac_tables.specs.declared.reader.row.TableRow.{TableRow}
 use Rattle.ac_tables.proofs.Gathered.RowSlices.{start_order, slice_kept}
-use Rattle.std.proofs.lemmas.List.FromFn.{length-range_with_len}
 
 pub map_same : {X Y : Type 0} (f g : X → Y) → ((x : X) → f x ≡ g x) → (xs : List X) → map f xs ≡ map g xs
 map_same f g same [] = refl
 map_same f g same (x ∷ xs) = ap₂ (λ y l. y ∷ l) (same x) (map_same f g same xs)
 
-pub map_map : {X Y Z : Type 0} (f : X → Y) (g : Y → Z) (xs : List X) → map g (map f xs) ≡ map (λ x. g (f x)) xs
-map_map f g [] = refl
-map_map f g (x ∷ xs) = ap (λ l. g (f x) ∷ l) (map_map f g xs)
-
--- the first items, and one more
-pub take_more : {X : Type 0} (k : ℕ) (xs : List X) (d : X) → k < length xs → take (k + 1) xs ≡ take k xs ++ get_or xs k d ∷ []
-take_more k [] d h = absurd (omega (arith, h))
-take_more zero (x ∷ xs) d h = refl
-take_more (suc k) (x ∷ xs) d h =
-    let next : suc k + 1 ≡ suc (k + 1) = omega arith in
-    ap (λ (n : ℕ). take n (x ∷ xs)) next ∙ ap (λ l. x ∷ l) (take_more k xs d (omega arith))
-
-pub take_whole : {X : Type 0} (k : ℕ) (xs : List X) → length xs ≤ k → take k xs ≡ xs
-take_whole zero [] h = refl
-take_whole (suc k) [] h = refl
-take_whole zero (x ∷ xs) h = absurd (omega (arith, h))
-take_whole (suc k) (x ∷ xs) h = ap (λ l. x ∷ l) (take_whole k xs (omega arith))
-
 -- equal at each number of a range
 pub range_same : {X : Type 0} (f g : ℕ → X) (k n : ℕ) → ((p : ℕ) → k ≤ p → p < k + n → f p ≡ g p) → map f (range_with_len k n) ≡ map g (range_with_len k n)
 range_same f g k zero same = refl
 range_same f g k (suc n) same = ap₂ (λ y l. y ∷ l) (same k (omega arith) (omega arith)) (range_same f g (k + 1) n (λ p low high. same p (omega arith) (omega arith)))
-
-drop_map : {X Y : Type 0} (f : X → Y) (n : ℕ) (xs : List X) → drop n (map f xs) ≡ map f (drop n xs)
-drop_map f zero xs = refl
-drop_map f (suc n) [] = refl
-drop_map f (suc n) (x ∷ xs) = drop_map f n xs
-
-map_take : {X Y : Type 0} (f : X → Y) (n : ℕ) (xs : List X) → map f (take n xs) ≡ take n (map f xs)
-map_take f zero xs = refl
-map_take f (suc n) [] = refl
-map_take f (suc n) (x ∷ xs) = ap (λ l. f x ∷ l) (map_take f n xs)
 
 module _ {X : Type 0} (items : List X) (starts : List ℕ) where
   pub lists_size : length (lists_in items starts) ≡ length starts - 1
@@ -99,9 +66,9 @@ module _ {X : Type 0} (items : List X) (starts : List ℕ) where
   unfolding lists_in
   lists_map f =
       map_same (list_at (map f items) starts) (λ p. map f (list_at items starts p)) (λ p.
-      ap (take (get_or starts (p + 1) 0 - get_or starts p 0)) (drop_map f (get_or starts p 0) items)
-      ∙ sym (map_take f (get_or starts (p + 1) 0 - get_or starts p 0) (drop (get_or starts p 0) items))) (range_with_len 0 (length starts - 1))
-      ∙ sym (map_map (list_at items starts) (map f) (range_with_len 0 (length starts - 1)))
+      ap (take (get_or starts (p + 1) 0 - get_or starts p 0)) (drop-map f (get_or starts p 0) items)
+      ∙ take-map f (get_or starts (p + 1) 0 - get_or starts p 0) (drop (get_or starts p 0) items)) (range_with_len 0 (length starts - 1))
+      ∙ sym (map-map (map f) (list_at items starts) (range_with_len 0 (length starts - 1)))
 
 below_or_at : (s n : ℕ) → s ≤ n → (s ≡ n) ⊎ (s < n)
 below_or_at s n h = search (arith, rules)
@@ -151,19 +118,16 @@ module _ {K X : Type 0} (count : ℕ) (rows : List (TableRow K X)) (starts : Lis
       list_here rows starts p (omega (arith, lists_size rows starts)) ∙ slice_kept rows p _ _ (are.at p (omega arith)) (are.at (p + 1) (omega arith))
 
 -- what is made of each place is what is made of each item
-pub by_places : {X : Type 0} (f : ℕ → X) (g : ℕ → X) (k : ℕ) (xs : List ℕ) → ((i : ℕ) → i < length xs → f (k + i) ≡ g (get_or xs i 0)) → map f (range_with_len k (length xs)) ≡ map g xs
-by_places f g k [] same = refl
-by_places f g k (x ∷ xs) same =
-    ap₂ (λ y l. y ∷ l) (ap f (omega arith) ∙ same zero (omega arith))
-    (by_places f g (k + 1) xs (λ (i : ℕ) (h : i < length xs). ap f (omega arith) ∙ same (suc i) (omega arith)))
+pub by_places : {X : Type 0} (f : ℕ → X) (g : ℕ → X) (xs : List ℕ) → ((i : ℕ) → i < length xs → f i ≡ g (get_or xs i 0)) → map f (range_with_len 0 (length xs)) ≡ map g xs
+by_places f g xs same = sym (fill_by_all f (map g xs) (length xs) (f 0) (length-map xs g) (λ k h. get_or-map g xs k 0 (f 0) h ∙ sym (same k h)))
 
 -- what is made of the rows of each provider, where it is known provider by provider
 pub of_each : {K X G : Type 0} (rows : List (TableRow K X)) (show : List (TableRow K X) → G) (gather : ℕ → G) (ids : List ℕ) (lists : List (List (TableRow K X)))
     → lists ≡ map (λ p. filter (λ (r : TableRow K X). r.place == p) rows) (range_with_len 0 (length ids))
     → ((p : ℕ) → p < length ids → show (filter (λ (r : TableRow K X). r.place == p) rows) ≡ gather (get_or ids p 0)) → map show lists ≡ map gather ids
 of_each rows show gather ids lists are here =
-    ap (map show) are ∙ map_map (λ p. filter (λ r. r.place == p) rows) show (range_with_len 0 (length ids))
-    ∙ by_places (λ p. show (filter (λ r. r.place == p) rows)) gather 0 ids (λ (p : ℕ) h. ap (λ (q : ℕ). show (filter (λ r. r.place == q) rows)) (omega arith) ∙ here p h)
+    ap (map show) are ∙ map-map show (λ p. filter (λ r. r.place == p) rows) (range_with_len 0 (length ids))
+    ∙ by_places (λ p. show (filter (λ r. r.place == p) rows)) gather ids here
 
 -- what holds of what is gathered holds of each list
 pub all_gathered : {X G : Type 0} (P : G → Type 0) (show : X → G) (gather : ℕ → G) (lists : List X) (ids : List ℕ) → map show lists ≡ map gather ids → ((id : ℕ) → P (gather id)) → All (λ l. P (show l)) lists

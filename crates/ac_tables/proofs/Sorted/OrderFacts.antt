@@ -1,12 +1,5 @@
 -- What is gathered in order: it rises, and is just what it was gathered of.
-use Rattle.std.proofs.Common.{◌≡◌, ◌∙◌, ℕ, List, reverse, sym}
-use Rattle.std.specs.List.{list_any}
-use Rattle.std.specs.Str.{bytes_eq}
-use Rattle.std.specs.BTreeMap.{is_at}
-use Rattle.std.proofs.lemmas.Cmp.{nat_cmp_total, nat_list_cmp_total}
-use Rattle.std.proofs.lemmas.Map.Text.{is_eq-slice_cmp}
-use Rattle.ac_base.specs.Texts.{text_cmp}
-use Rattle.ac_tables.specs.Sorted.{map_of, rising}
+use Rattle.ac_tables.proofs.Common.{◌≡◌, ◌∙◌, ℕ, List, reverse, sym, list_any, bytes_eq, is_at, nat_cmp_total, nat_list_cmp_total, is_eq-slice_cmp, text_cmp, map_of, rising}
 use Rattle.ac_tables.specs.Laws.{IsMapOf, OrderHolds}
 use Rattle.ac_tables.proofs.Sorted.SameItems.{any_rising, last_given, map_rises, member_rising}
 use Rattle.ac_tables.proofs.Sorted.SearchFacts.{any_same, lookup_same}

@@ -1,18 +1,7 @@
 -- What the rows of one provider show, in their order, is the map of all that is said of it.
-use Rattle.std.proofs.Common.{◌≡◌, ◌∙◌, ◌<◌, ℕ, Bool, true, List, map, refl, sym, ap}
-use Rattle.std.specs.Prelude.{◌==◌}
-use Rattle.std.specs.declared.cmp.Ordering.{Ordering}
-use Rattle.std.specs.List.{filter}
-use Rattle.std.proofs.lemmas.Cmp.{nat_list_cmp_total}
-use Rattle.std.proofs.lemmas.List.Sorted.{Contains-permutation, IsPermutation-sym, All-permutation}
-use Rattle.std.proofs.lemmas.Map.Lookups.{exact_bytes}
-use Rattle.ac_base.specs.Texts.{text_cmp}
-use Rattle.ac_tables.specs.Sorted.{map_of}
-use Rattle.ac_tables.specs.Reader.TableRows.{row_shown, IsTable}
-use Rattle.ac_tables.specs.declared.reader.row.TableRow.{TableRow}
+use Rattle.ac_tables.proofs.Common.{◌≡◌, ◌∙◌, ◌<◌, ℕ, Bool, true, List, map, refl, sym, ap, ◌==◌, Ordering, filter, nat_list_cmp_total, Contains-permutation, IsPermutation-sym, All-permutation, exact_bytes, text_cmp, map_of, row_shown, IsTable, TableRow, map-map}
 use Rattle.ac_tables.proofs.Sorted.SameItems.{is_map}
 use Rattle.ac_tables.proofs.Gathered.ProviderRows.{own_moved, own_keys_sorted, of_provider}
-use mathlib.Core.List.{map-map}
 
 module _ {V K X : Type 0} (cmp : K → K → Ordering) (bytes : K → List ℕ) (same : (a b : K) → cmp a b ≡ text_cmp (bytes a) (bytes b))
     (shown : ℕ → K → X → V) (count : ℕ) (said : List V) (rows : List (TableRow K X)) (t : IsTable cmp shown count true said rows)

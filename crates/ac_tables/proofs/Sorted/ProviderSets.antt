@@ -1,20 +1,7 @@
 -- The keys of one provider's rows, of which equal ones are left out, are the set of all that is said of it.
-use Rattle.std.proofs.Common.{◌≡◌, ◌∙◌, ◌<◌, ℕ, Bool, true, List, map, refl, sym, ap, subst}
-use Rattle.std.specs.Prelude.{◌==◌}
-use Rattle.std.specs.declared.cmp.Ordering.{Ordering}
-use Rattle.std.specs.declared.cmp.Ordering.TheVariants.{Less, Equal, Greater}
-use Rattle.std.specs.Ordering.{is_eq, nat_cmp, ordering_then}
-use Rattle.std.specs.Cmp.{IsTotalOrder}
-use Rattle.std.specs.List.{Any, Contains, dedup, filter}
-use Rattle.std.specs.List.Sorted.{IsSortedBy, IsNonDecreasingBy, IsStrictlySortedBy}
-use Rattle.std.proofs.lemmas.List.{map-id}
-use Rattle.std.proofs.lemmas.Cmp.{eq_by_cmp_equiv}
+use Rattle.ac_tables.proofs.Common.{◌≡◌, ◌∙◌, ◌<◌, ℕ, Bool, true, List, map, refl, sym, ap, subst, ◌==◌, Ordering, Less, Equal, Greater, is_eq, nat_cmp, ordering_then, IsTotalOrder, Contains, dedup, filter, IsSortedBy, IsNonDecreasingBy, IsStrictlySortedBy, map-id, eq_by_cmp_equiv, IsPermutation-sym, Contains-permutation, All-permutation, exact_unsigned, rising, row_cmp, row_lt, row_ties, row_shown, IsTable, TableRow}
+use Rattle.std.proofs.Common.{Any}
 use Rattle.std.proofs.lemmas.List.Kept.{IsStrictlySortedBy-dedup, Any-dedup, Contains-from_dedup}
-use Rattle.std.proofs.lemmas.List.Sorted.{IsPermutation-sym, Contains-permutation, All-permutation}
-use Rattle.std.proofs.lemmas.Map.Lookups.{exact_unsigned}
-use Rattle.ac_tables.specs.Sorted.{rising}
-use Rattle.ac_tables.specs.Reader.TableRows.{row_cmp, row_lt, row_ties, row_shown, IsTable}
-use Rattle.ac_tables.specs.declared.reader.row.TableRow.{TableRow}
 use Rattle.ac_tables.proofs.Gathered.RowOrder.{row_total}
 use Rattle.ac_tables.proofs.Sorted.SameItems.{is_rising}
 use Rattle.ac_tables.proofs.Gathered.ProviderRows.{filter_has, has_filter, map_has, has_map, own_moved, own_keys_sorted, of_provider}

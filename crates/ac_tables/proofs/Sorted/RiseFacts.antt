@@ -1,27 +1,8 @@
 -- What is gathered of each provider rises.
-use Rattle.std.proofs.Common.{◌≡◌, ◌∙◌, ℕ, List, [], ◌∷◌, map, get_or, refl, sym, ap, subst}
-use Rattle.std.specs.Ordering.{nat_cmp}
-use Rattle.std.specs.Prelude.{◌==◌}
-use Rattle.std.specs.List.{All, filter}
-use Rattle.std.specs.List.Sorted.{IsPermutation, IsStrictlySortedBy}
-use Rattle.std.proofs.lemmas.Cmp.{nat_cmp_total, nat_list_cmp_total}
-use Rattle.ac_base.specs.Names.{class_bytes, trait_bytes}
-use Rattle.ac_base.specs.Texts.{text_cmp}
-use Rattle.ac_base.specs.Quantities.{InventoryNumbers}
-use Rattle.ac_base.specs.declared.name.ClassName.{ClassName}
-use Rattle.ac_base.specs.declared.name.TraitName.{TraitName}
-use Rattle.ac_tables.specs.Sorted.{TextMap}
-use Rattle.ac_tables.specs.Tables.InventoryTable.{InventoryRecord}
-use Rattle.ac_tables.specs.Tables.UsageTable.{UsageRecord}
-use Rattle.ac_tables.specs.Tables.TraitTable.{TraitRecord}
-use Rattle.ac_tables.specs.Tables.AggregateTable.{AggregateRecord}
+use Rattle.ac_tables.proofs.Common.{◌≡◌, ◌∙◌, ℕ, List, [], ◌∷◌, map, get_or, refl, sym, ap, subst, nat_cmp, ◌==◌, All, filter, IsPermutation, IsStrictlySortedBy, nat_cmp_total, nat_list_cmp_total, class_bytes, trait_bytes, text_cmp, InventoryNumbers, ClassName, TraitName, TextMap, InventoryRecord, UsageRecord, TraitRecord, AggregateRecord, class_pair, inventory_records_shown, TableRow, Inventories, map-id}
 use Rattle.ac_tables.specs.Tables.{inventories_of, amounts_of, names_of, aggregates_of}
-use Rattle.ac_tables.specs.Reader.InventoryRows.{class_pair, inventory_records_shown}
-use Rattle.ac_tables.specs.declared.reader.row.TableRow.{TableRow}
-use Rattle.ac_tables.specs.declared.tables.inventories.Inventories.{Inventories}
 use Rattle.ac_tables.proofs.Sorted.SortedSets.{rising_sorted}
 use Rattle.ac_tables.proofs.Sorted.SameItems.{map_rises}
-use Rattle.std.proofs.lemmas.List.{map-id}
 use Rattle.ac_tables.proofs.Sorted.ListFacts.{all_gathered}
 
 -- what the rows of the inventories show, beside ids that are equal

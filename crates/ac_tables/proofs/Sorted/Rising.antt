@@ -1,16 +1,8 @@
 -- Rising lists of numbers.
-use Rattle.std.proofs.Common.{◌≡◌, ◌≢◌, ◌<◌, ◌≤◌, ℕ, zero, suc, true, false, List, [], ◌∷◌, length, get_or, refl, subst, arith, rules, inl, inr, ◌⊎◌, ◌+◌, ◌∙◌, Some, None, sym, ap}
-use Rattle.std.specs.Prelude.{Result, Ok, Err, IfSome, IfNone, ◌==◌}
-use Rattle.std.specs.Result.{result_ok}
-use Rattle.std.specs.List.{position_from}
-use Rattle.std.specs.Ordering.{nat_cmp}
-use Rattle.std.specs.List.Sorted.{IsBinarySearchResult, IsStrictlySortedBy}
-use Rattle.std.proofs.lemmas.Bool.{cases_lt, cases_Bool, cases_eq}
+use Rattle.ac_tables.proofs.Common.{◌≡◌, ◌≢◌, ◌<◌, ◌≤◌, ℕ, zero, suc, true, false, List, [], ◌∷◌, length, get_or, refl, subst, arith, rules, inl, inr, ◌⊎◌, ◌+◌, ◌∙◌, Some, None, sym, ap, Result, Ok, Err, IfSome, ◌==◌, result_ok, position_from, nat_cmp, IsBinarySearchResult, IsStrictlySortedBy, cases_lt, cases_Bool, cases_eq, IsRising, is_one_of, rank}
+use Rattle.std.proofs.Common.{IfNone}
 use Rattle.std.proofs.lemmas.List.Sorted.{searched}
 use Rattle.std.proofs.lemmas.Map.Keys.{below_from_sorted}
-use Rattle.ac_tables.specs.Cloud.RisingIds.{IsRising}
-use Rattle.ac_tables.specs.Tables.InventoryTable.{is_one_of}
-use Rattle.ac_tables.specs.Cloud.Places.{rank}
 use Rattle.ac_tables.proofs.Small.{differ}
 
 pub rising_from_sorted : (xs : List ℕ) → IsStrictlySortedBy nat_cmp xs → IsRising xs

@@ -1,25 +1,18 @@
 -- Sets and maps in the order of their keys: what they have of the items that they are gathered of, and that those with the same items are equal.
-use Rattle.std.proofs.Common.{◌≡◌, ◌∙◌, ◌||◌, ◌==◌, ◌++◌, ℕ, Bool, true, false, List, [], ◌∷◌, map, reverse, Option, Some, None, Contains, fold, Ordering, Less, Equal, Greater, refl, sym, ap, inl}
-use Rattle.std.specs.Prelude.{if◌then◌else◌, IsSome}
-use Rattle.std.specs.Ordering.{is_eq, nat_cmp, eq_by_cmp, match_ordering}
-use Rattle.std.specs.Cmp.{IsTotalOrder, both_ways}
-use Rattle.std.specs.List.{list_any}
-use Rattle.std.specs.List.Sorted.{IsStrictlySortedBy}
-use Rattle.std.specs.Map.{keys_of, lookup}
-use Rattle.std.specs.Option.{is_some, option_or}
-use Rattle.std.specs.BTreeMap.{insert_entry, is_at}
-use Rattle.std.specs.BTreeSet.{insert_key}
+use Rattle.ac_tables.proofs.Common.{◌≡◌, ◌∙◌, ◌||◌, ◌==◌, ◌++◌, ℕ, Bool, true, false, List, [], ◌∷◌, map, reverse, Option, Some, None, Contains, fold, Ordering, Less, Equal, Greater, refl, sym, ap, inl, if◌then◌else◌, is_eq, nat_cmp, eq_by_cmp, IsTotalOrder, list_any, IsStrictlySortedBy, lookup, is_some, is_at, insert_key, or-false, nat_cmp_total, alike_right, eq_by_cmp_equiv, Contains-permutation, IsPermutation-sym, IsDistinct-from_sorted, rising, is_one_of}
+use Rattle.std.proofs.Common.{IsSome}
+use Rattle.std.specs.Ordering.{match_ordering}
+use Rattle.std.specs.Cmp.{both_ways}
+use Rattle.std.specs.Map.{keys_of}
+use Rattle.std.specs.Option.{option_or}
+use Rattle.std.specs.BTreeMap.{insert_entry}
 use Rattle.std_collections.specs.Layout.BTreeMap.{btree_map}
 use Rattle.std_collections.specs.Layout.BTreeSet.{btree_set}
-use Rattle.std.proofs.Math.Bool.{or-false}
-use Rattle.std.proofs.lemmas.Cmp.{nat_cmp_total, alike_right, tied_back, eq_by_cmp_equiv}
+use Rattle.std.proofs.lemmas.Cmp.{tied_back}
 use Rattle.std.proofs.lemmas.List.{reverse-append}
-use Rattle.std.proofs.lemmas.List.Sorted.{Contains-permutation, IsPermutation-reverse, IsPermutation-sym}
-use Rattle.std.proofs.lemmas.Map.Keys.{IsDistinct-from_sorted}
+use Rattle.std.proofs.lemmas.List.Sorted.{IsPermutation-reverse}
 use Rattle.std.proofs.lemmas.Map.Lookups.{CmpEqualImpliesEq, btree_map_from_get, btree_set_from_contains}
 use Rattle.std.proofs.lemmas.Map.Views.{Contains-from_any, list_any-from_Contains, Contains-from_lookup, lookup-from_Contains, IsSome-lookup_from_Contains, tells_apart}
-use Rattle.ac_tables.specs.Sorted.{rising}
-use Rattle.ac_tables.specs.Tables.InventoryTable.{is_one_of}
 use Rattle.ac_tables.proofs.Gathered.ProviderRows.{map_has}
 use Rattle.ac_tables.proofs.Sorted.SearchFacts.{any_same, is_eq_nat}
 use Rattle.ac_tables.proofs.Sorted.SortedSets.{rising_sorted}

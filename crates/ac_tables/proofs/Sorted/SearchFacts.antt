@@ -1,18 +1,9 @@
 -- Binary search in a list whose keys rise.
-use Rattle.std.proofs.Common.{◌≡◌, ◌∙◌, ◌<◌, ◌+◌, ℕ, zero, suc, Bool, true, false, List, [], ◌∷◌, map, length, get_or, Some, None, refl, sym, ap, ap₂, arith, Ordering, inl, inr}
-use Rattle.std.specs.Prelude.{Result, Ok, Err, is_ok, ◌==◌, MatchResult, ◌||◌, if◌then◌else◌}
-use Rattle.std.specs.declared.cmp.Ordering.TheVariants.{Less, Equal, Greater}
-use Rattle.std.specs.Ordering.{is_lt, is_eq, ordering_reverse, nat_cmp}
-use Rattle.std.specs.Cmp.{IsTotalOrder}
-use Rattle.std.specs.List.{list_any}
-use Rattle.std.specs.Map.{lookup}
-use Rattle.std.specs.List.Sorted.{IsBinarySearchResult, IsStrictlySortedBy, IsSortedBy, IsSearchInRange}
-use Rattle.std.proofs.lemmas.List.{get_or-map, length-map}
-use Rattle.std.proofs.lemmas.List.Folds.{list_any_at}
+use Rattle.ac_tables.proofs.Common.{◌≡◌, ◌∙◌, ◌<◌, ◌+◌, ℕ, zero, suc, Bool, true, false, List, [], ◌∷◌, map, length, get_or, Some, None, refl, sym, ap, ap₂, arith, Ordering, inl, inr, Result, Ok, Err, ◌==◌, ◌||◌, if◌then◌else◌, Less, Equal, Greater, is_lt, is_eq, ordering_reverse, nat_cmp, IsTotalOrder, list_any, lookup, IsBinarySearchResult, IsStrictlySortedBy, IsSortedBy, get_or-map, length-map, list_any_at, alike_right, cases_lt}
+use Rattle.std.proofs.Common.{is_ok, MatchResult}
+use Rattle.std.specs.List.Sorted.{IsSearchInRange}
 use Rattle.std.proofs.lemmas.List.Sorted.{searchable_from_sorted}
 use Rattle.std.proofs.lemmas.Map.Keys.{Less-from_sorted}
-use Rattle.std.proofs.lemmas.Cmp.{alike_right}
-use Rattle.std.proofs.lemmas.Bool.{cases_lt}
 
 -- looking up by equal tests
 pub lookup_same : {K X : Type 0} (p q : K → Bool) (same : (k : K) → p k ≡ q k) (es : List (K × X)) → lookup p es ≡ lookup q es

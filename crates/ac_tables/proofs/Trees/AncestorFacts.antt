@@ -1,17 +1,8 @@
 -- Walking up a chain of parents.
-use Rattle.std.proofs.Common.{◌≡◌, ◌<◌, ◌∙◌, ℕ, zero, suc, true, false, length, get_or, Option, Some, None, refl, sym, ap, inl, inr}
-use Rattle.std.specs.Prelude.{◌==◌, IfSome}
-use Rattle.std.specs.Option.{option_map}
-use Rattle.std.proofs.lemmas.Bool.{cases_eq, cases_Bool}
-use Rattle.ac_tables.specs.Trees.{is_in_chain}
-use Rattle.ac_tables.specs.Cloud.Places.{parent_in}
-use Rattle.ac_tables.specs.World.{id_at, parent_of}
-use Rattle.ac_tables.specs.Cloud.CloudWorld.{providers_of}
-use Rattle.ac_tables.specs.declared.cloud.Cloud.{Cloud}
+use Rattle.ac_tables.proofs.Common.{◌≡◌, ◌<◌, ◌∙◌, ℕ, zero, suc, true, false, length, get_or, Option, Some, None, refl, sym, ap, inl, inr, ◌==◌, IfSome, option_map, cases_eq, cases_Bool, is_in_chain, parent_in, id_at, parent_of, providers_of, Cloud, or-false}
 use Rattle.ac_tables.proofs.Sorted.Rising.{rising_apart}
 use Rattle.ac_tables.proofs.Places.CloudFacts.{id_here, parent_here, parts}
 use Rattle.ac_tables.proofs.Small.{equal, differ}
-use Rattle.std.proofs.Math.Bool.{or-false}
 
 -- a provider is in its own chain
 pub chain_here : (parent : ℕ → Option ℕ) (k a b : ℕ) → (b == a) ≡ true → is_in_chain parent k a b ≡ true

@@ -1,11 +1,6 @@
 -- Chains of parents, and lists that lead up.
-use Rattle.std.proofs.Common.{◌≡◌, ◌<◌, ◌∙◌, ℕ, zero, suc, true, false, List, [], ◌∷◌, Option, Some, None, refl, sym, ap, arith, inl, inr, get_or, length}
-use Rattle.std.specs.Prelude.{◌==◌}
-use Rattle.std.specs.Option.{is_some, option_map, unwrap_or}
-use Rattle.std.proofs.lemmas.Bool.{cases_Bool, false≢true}
-use Rattle.ac_tables.specs.Trees.{LeadsUp, Above, up, climb, top, is_endless, is_in_chain}
-use Rattle.ac_tables.specs.World.{id_at, parent_of, root_of}
-use Rattle.ac_tables.specs.Cloud.CloudWorld.{providers_of}
+use Rattle.ac_tables.proofs.Common.{◌≡◌, ◌<◌, ◌∙◌, ℕ, zero, suc, true, false, List, [], ◌∷◌, Option, Some, None, refl, sym, ap, arith, inl, inr, get_or, length, ◌==◌, is_some, option_map, unwrap_or, cases_Bool, false≢true, Above, up, climb, top, is_endless, is_in_chain, id_at, parent_of, root_of, providers_of}
+use Rattle.ac_tables.specs.Trees.{LeadsUp}
 use Rattle.ac_tables.specs.Laws.{ChainIsAbove, CloudIsForest, TopIsRoot}
 use Rattle.ac_tables.proofs.Trees.PlaceTrees.{above_climb}
 use Rattle.ac_tables.proofs.Trees.AncestorFacts.{chain_here, chain_ends, chain_goes, chain_last}

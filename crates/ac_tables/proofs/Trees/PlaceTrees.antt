@@ -1,8 +1,5 @@
 -- Trees by places and trees by ids.
-use Rattle.std.proofs.Common.{◌≡◌, ◌<◌, ◌∙◌, ℕ, zero, suc, List, [], ◌∷◌, Option, Some, None, refl, sym, ap, subst, inl, inr, ◌⊎◌}
-use Rattle.std.specs.Option.{option_map, unwrap_or}
-use Rattle.ac_tables.specs.Trees.{climb, up, Above}
-use Rattle.ac_tables.specs.Cloud.Places.{parent_in, AreWithin}
+use Rattle.ac_tables.proofs.Common.{◌≡◌, ◌<◌, ◌∙◌, ℕ, zero, suc, List, [], ◌∷◌, Option, Some, None, refl, sym, ap, subst, inl, inr, ◌⊎◌, option_map, unwrap_or, climb, up, Above, parent_in, AreWithin}
 
 option_cases : (o : Option ℕ) → (o ≡ None) ⊎ ((q : ℕ) × (o ≡ Some q))
 option_cases None = inl refl

@@ -1,9 +1,6 @@
 -- Steps that are taken two at a time.
-use Rattle.std.proofs.Common.{◌≡◌, ◌<◌, ◌+◌, ◌/◌, ◌%◌, ◌∙◌, ℕ, zero, suc, List, get_or, length, Option, Some, None, refl, ap, sym, subst, arith}
-use Rattle.std.specs.Prelude.{IfSome}
-use Rattle.std.specs.Option.{unwrap_or}
-use Rattle.ac_tables.specs.Trees.{climb, up}
-use Rattle.ac_tables.specs.Cloud.Places.{along, AreParents, ArePlaces, parent_in}
+use Rattle.ac_tables.proofs.Common.{◌≡◌, ◌<◌, ◌+◌, ◌%◌, ◌∙◌, ℕ, zero, suc, List, get_or, length, Option, Some, None, refl, ap, sym, subst, arith, IfSome, unwrap_or, climb, up, along, AreParents, ArePlaces, parent_in}
+use Rattle.std.proofs.Common.{◌/◌}
 
 -- half as many double steps lead to the same place
 climb_twice : (n : ℕ) (f g : ℕ → ℕ) (inside : (i : ℕ) → i < n → g i < n) (same : (i : ℕ) → i < n → f i ≡ g (g i)) (k i : ℕ) → i < n → climb f k i ≡ climb g (k + k) i

@@ -1,10 +1,7 @@
 -- Visits that agree with their neighbours tell who is above whom.
-use Rattle.std.proofs.Common.{◌≡◌, ◌≢◌, ◌∙◌, ◌<◌, ◌≤◌, ◌+◌, ℕ, zero, suc, Bool, true, false, List, length, get_or, Option, Some, None, refl, sym, ap, subst, arith, rules, inl, inr, ◌⊎◌}
-use Rattle.std.specs.Prelude.{◌==◌, ◌&&◌, nat_le, nat_lt}
-use Rattle.std.proofs.lemmas.Bool.{cases_Bool, and_parts, false≢true}
-use Rattle.ac_tables.specs.Cloud.Places.{parent_in, along, AreWithin}
-use Rattle.ac_tables.specs.Trees.{is_in_chain}
-use Rattle.ac_tables.specs.Cloud.Visits.{AreVisits, IsPlaced}
+use Rattle.ac_tables.proofs.Common.{◌≡◌, ◌≢◌, ◌∙◌, ◌<◌, ◌≤◌, ◌+◌, ℕ, zero, suc, Bool, true, false, List, length, get_or, Option, Some, None, refl, sym, ap, subst, arith, rules, inl, inr, ◌⊎◌, ◌==◌, ◌&&◌, nat_le, nat_lt, cases_Bool, false≢true, parent_in, along, AreWithin, is_in_chain, IsPlaced}
+use Rattle.std.proofs.lemmas.Bool.{and_parts}
+use Rattle.ac_tables.specs.Cloud.Visits.{AreVisits}
 use Rattle.ac_tables.proofs.Trees.AncestorFacts.{chain_here, chain_ends, chain_goes, chain_last}
 use Rattle.ac_tables.proofs.Small.{some_or_none}
 

@@ -1,9 +1,4 @@
-use Rattle.std.proofs.Common.{◌≡◌, ◌∙◌, ◌<◌, ◌+◌, ◌-◌, ℕ, List, Some, None, [], length, get_or, take, drop, drop-cons, sym, ap, arith, inl, inr}
-use Rattle.std.specs.Option.{is_some}
-use Rattle.std.proofs.lemmas.List.{get_or-map, get_or_read}
-use Rattle.std.proofs.lemmas.Bool.{cases_Bool}
-use Rattle.ac_tables.specs.Reader.ListsOf.{lists_of}
-use Rattle.ac_tables.specs.Cloud.Anchors.{list_items, is_marked}
+use Rattle.ac_tables.proofs.Common.{◌≡◌, ◌∙◌, ◌<◌, ◌+◌, ◌-◌, ℕ, List, Some, None, [], length, get_or, take, drop, drop-cons, sym, ap, arith, inl, inr, is_some, get_or-map, get_or_read, cases_Bool, lists_of, list_items, is_marked}
 use Rattle.ac_tables.proofs.Places.CloudFacts.{inside, parts}
 use Rattle.ac_tables.proofs.Places.AnchorFacts.{anchors_alone, anchors_joined}
 use Rattle.ac_tables.proofs.cloud.Cloud.anchors.Goals as goal

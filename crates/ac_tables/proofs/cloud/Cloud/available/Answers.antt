@@ -1,10 +1,6 @@
-use Rattle.std.proofs.Common.{◌∙◌, ℕ, length}
-use Rattle.std.proofs.lemmas.Cmp.{nat_cmp_total}
-use Rattle.ac_tables.specs.Cloud.CloudWorld.{providers_of}
-use Rattle.ac_tables.specs.World.{anchors_of, is_available_at}
+use Rattle.ac_tables.proofs.Common.{◌∙◌, ℕ, length, nat_cmp_total, providers_of, anchors_of, is_available_at, map-id}
 use Rattle.ac_tables.proofs.Places.KeptFacts.{kept_has, kept_rise}
 use Rattle.ac_tables.proofs.Sorted.SearchFacts.{found, found_any}
-use Rattle.std.proofs.lemmas.List.{map-id}
 use Rattle.ac_tables.proofs.cloud.Cloud.available.Goals as goal
 
 pub returns : goal.returns

@@ -1,15 +1,5 @@
-use Rattle.std.proofs.Common.{◌≡◌, ◌<◌, ◌∙◌, ℕ, Bool, false, List, [], get_or, length, map, sym, ap, subst, arith}
-use Rattle.ac_tables.specs.Trees.{top}
-use Rattle.ac_tables.specs.Cloud.Places.{parent_in, AreParents, ArePlaces}
-use Rattle.std.proofs.lemmas.List.{length-map, get_or-map}
-use Rattle.std.specs.List.Sorted.{IsStrictlySortedBy}
-use Rattle.ac_base.specs.Texts.{text_cmp}
-use Rattle.ac_tables.specs.Cloud.Anchors.{shares_by}
+use Rattle.ac_tables.proofs.Common.{◌≡◌, ◌<◌, ◌∙◌, ℕ, Bool, false, List, [], get_or, length, map, sym, ap, subst, arith, top, parent_in, AreParents, ArePlaces, length-map, get_or-map, IsStrictlySortedBy, text_cmp, shares_by, Inventories, entry_pair, class_pair, lists_of}
 use Rattle.ac_tables.specs.Cloud.CloudParts.{BelongTogether}
-use Rattle.ac_tables.specs.declared.tables.inventories.Inventories.{Inventories}
-use Rattle.ac_tables.specs.Cloud.Entries.{entry_pair}
-use Rattle.ac_tables.specs.Reader.InventoryRows.{class_pair}
-use Rattle.ac_tables.specs.Reader.ListsOf.{lists_of}
 use Rattle.ac_tables.proofs.Places.WorldFacts.{numbered_root}
 use Rattle.ac_tables.proofs.Places.BuildFacts.{same_size, are_within, are_parents, chains_end}
 use Rattle.ac_tables.proofs.Places.JoinFacts.{zip_size, entries_rise}
@@ -33,14 +23,6 @@ find_anchors-requires-clause-inside c =
     let r = numbered_root ids parents [] [] [] c.args.parts.inventories.ids.rising within i inside in
     let e : get_or c.args.parts.roots.items i 0 ≡ top (parent_in parents) (length ids) i = tops i (omega (arith, inside, size)) ∙ ap (λ (n : ℕ). top (parent_in parents) n i) size in
     omega (arith, e, r.0, sized))
-
-pub find_anchors-requires-clause-sharing : goal.find_anchors-requires-clause-sharing
-find_anchors-requires-clause-sharing c =
-    ap length c.deref-2.ensures.value ∙ ap length c.in_ok-sharing.ensures ∙ length-map (lists_of c.args.parts.traits) shares_by ∙ c.requires.traits
-    ∙ sym (ap length c.deref.ensures.value ∙ c.requires.sized ∙ same_size c.args.parts.inventories.ids.ids.items c.requires.kin.0 c.requires.kin.1.known c.args.parts.parents.items c.requires.kin.2)
-
-pub find_anchors-requires-clause-aggregates : goal.find_anchors-requires-clause-aggregates
-find_anchors-requires-clause-aggregates c = c.requires.aggregates ∙ sym (ap length c.deref.ensures.value ∙ c.requires.sized ∙ same_size c.args.parts.inventories.ids.ids.items c.requires.kin.0 c.requires.kin.1.known c.args.parts.parents.items c.requires.kin.2)
 
 pub walk-requires-clause-known : goal.walk-requires-clause-known
 walk-requires-clause-known c =

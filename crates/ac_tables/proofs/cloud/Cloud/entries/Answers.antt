@@ -1,5 +1,4 @@
-use Rattle.std.proofs.Common.{◌∙◌, arith, ap, map}
-use Rattle.ac_tables.specs.Cloud.Entries.{entry_pair}
+use Rattle.ac_tables.proofs.Common.{◌∙◌, arith, ap, map, entry_pair}
 use Rattle.ac_tables.proofs.Places.CloudFacts.{inside, inventory_records_here, parts}
 use Rattle.ac_tables.proofs.cloud.Cloud.entries.Goals as goal
 

@@ -1,11 +1,4 @@
-use Rattle.std.proofs.Common.{◌∙◌, arith, ap, map, sym, subst, List, []}
-use Rattle.std.specs.List.Sorted.{IsStrictlySortedBy}
-use Rattle.std.specs.Map.{lookup}
-use Rattle.std.specs.Str.{bytes_eq}
-use Rattle.ac_base.specs.Names.{class_bytes}
-use Rattle.ac_base.specs.Texts.{text_cmp}
-use Rattle.ac_tables.specs.Cloud.Entries.{entry_class, entry_pair}
-use Rattle.ac_tables.specs.declared.cloud.entry.Entry.{Entry}
+use Rattle.ac_tables.proofs.Common.{◌∙◌, arith, ap, map, sym, subst, List, [], IsStrictlySortedBy, lookup, bytes_eq, class_bytes, text_cmp, entry_class, entry_pair, Entry}
 use Rattle.ac_tables.proofs.Places.CloudFacts.{inside, inventory_records_here, parts}
 use Rattle.ac_tables.proofs.cloud.Cloud.find_entry.Goals as goal
 

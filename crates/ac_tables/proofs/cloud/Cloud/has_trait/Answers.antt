@@ -1,10 +1,4 @@
-use Rattle.std.proofs.Common.{◌∙◌, arith, ap, map, sym, subst, List, []}
-use Rattle.std.specs.List.{list_any}
-use Rattle.std.specs.List.Sorted.{IsStrictlySortedBy}
-use Rattle.std.specs.Str.{bytes_eq}
-use Rattle.ac_base.specs.Names.{trait_bytes}
-use Rattle.ac_base.specs.Texts.{text_cmp}
-use Rattle.ac_base.specs.declared.name.TraitName.{TraitName}
+use Rattle.ac_tables.proofs.Common.{◌∙◌, arith, ap, map, sym, subst, List, [], list_any, IsStrictlySortedBy, bytes_eq, trait_bytes, text_cmp, TraitName}
 use Rattle.ac_tables.proofs.Places.CloudFacts.{inside, traits_here, parts}
 use Rattle.ac_tables.proofs.cloud.Cloud.has_trait.Goals as goal
 

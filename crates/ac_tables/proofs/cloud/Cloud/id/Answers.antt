@@ -1,5 +1,4 @@
-use Rattle.std.proofs.Common.{◌∙◌, sym, arith}
-use Rattle.std.proofs.lemmas.List.{get_or_read}
+use Rattle.ac_tables.proofs.Common.{◌∙◌, sym, arith, get_or_read}
 use Rattle.ac_tables.proofs.Places.CloudFacts.{inside, id_here}
 use Rattle.ac_tables.proofs.cloud.Cloud.id.Goals as goal
 

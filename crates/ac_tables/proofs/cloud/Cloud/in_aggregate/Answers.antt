@@ -1,8 +1,4 @@
-use Rattle.std.proofs.Common.{◌∙◌, arith, ap, sym, subst, ℕ, []}
-use Rattle.std.specs.Prelude.{◌==◌}
-use Rattle.std.specs.List.{list_any}
-use Rattle.std.specs.List.Sorted.{IsStrictlySortedBy}
-use Rattle.std.specs.Ordering.{nat_cmp}
+use Rattle.ac_tables.proofs.Common.{◌∙◌, arith, ap, sym, subst, ℕ, [], ◌==◌, list_any, IsStrictlySortedBy, nat_cmp}
 use Rattle.ac_tables.proofs.Places.CloudFacts.{inside, aggregates_here, parts}
 use Rattle.ac_tables.proofs.cloud.Cloud.in_aggregate.Goals as goal
 

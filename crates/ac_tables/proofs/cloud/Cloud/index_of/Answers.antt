@@ -1,4 +1,4 @@
-use Rattle.std.proofs.Common.{◌∙◌, sym}
+use Rattle.ac_tables.proofs.Common.{◌∙◌, sym}
 use Rattle.ac_tables.proofs.Places.CloudFacts.{place_here}
 use Rattle.ac_tables.proofs.cloud.Cloud.index_of.Goals as goal
 

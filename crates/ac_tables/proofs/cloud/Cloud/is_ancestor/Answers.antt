@@ -1,7 +1,4 @@
-use Rattle.std.proofs.Common.{◌≡◌, ◌∙◌, ℕ, length, sym, ap, arith}
-use Rattle.ac_tables.specs.Trees.{is_in_chain}
-use Rattle.ac_tables.specs.World.{id_at, parent_of}
-use Rattle.ac_tables.specs.Cloud.CloudWorld.{providers_of}
+use Rattle.ac_tables.proofs.Common.{◌≡◌, ◌∙◌, ℕ, length, sym, ap, arith, is_in_chain, id_at, parent_of, providers_of}
 use Rattle.ac_tables.proofs.Places.CloudFacts.{size, inside, parts}
 use Rattle.ac_tables.proofs.Trees.AncestorFacts.{chain_places}
 use Rattle.ac_tables.proofs.cloud.Cloud.is_ancestor.Goals as goal

@@ -1,21 +1,10 @@
-use Rattle.std.proofs.Common.{◌≡◌, ◌∙◌, ◌<◌, ◌+◌, ◌-◌, ℕ, suc, true, false, length, sym, ap, arith, rules, None}
-use Rattle.std.specs.Prelude.{◌==◌}
-use Rattle.std.proofs.lemmas.List.{get_or_read}
-use Rattle.ac_tables.specs.Trees.{is_in_chain}
-use Rattle.ac_tables.specs.World.{id_at, parent_of}
-use Rattle.ac_tables.specs.Cloud.CloudWorld.{providers_of}
+use Rattle.ac_tables.proofs.Common.{◌≡◌, ◌∙◌, ◌<◌, ◌+◌, ◌-◌, ℕ, suc, false, length, sym, ap, arith, rules, None, ◌==◌, get_or_read, is_in_chain, id_at, parent_of, providers_of}
 use Rattle.ac_tables.proofs.Places.CloudFacts.{size, inside, parent_is, parts}
-use Rattle.ac_tables.proofs.Trees.AncestorFacts.{chain_here, chain_ends, chain_goes, chain_last, same_test, some_name, no_name, some_inside}
+use Rattle.ac_tables.proofs.Trees.AncestorFacts.{chain_ends, chain_goes, chain_last, same_test, some_name, no_name, some_inside}
 use Rattle.ac_tables.proofs.cloud.Cloud.leads_to.Goals as goal
 
 pub index-requires : goal.index-requires
 index-requires c = omega (arith, inside c.args.self.now c.loop-step.at c.loop-step.invariant.0, c.args.self.now.parents.ok.0, (parts c.args.self.now).with_parents)
-
-pub returns-then-at-a : goal.returns-then-at-a
-returns-then-at-a c =
-    let all = providers_of c.args.self.now in
-    let same : (id_at all c.loop-step.at == id_at all c.args.a) ≡ true = search (arith, rules, ap (id_at all) c.if-at-a.true) in
-    sym (chain_here (parent_of all) (length all - c.loop-step._step) (id_at all c.args.a) (id_at all c.loop-step.at) same) ∙ c.loop-step.invariant.1
 
 pub returns-in-None : goal.returns-in-None
 returns-in-None c =

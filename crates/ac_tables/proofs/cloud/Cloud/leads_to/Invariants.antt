@@ -1,7 +1,4 @@
-use Rattle.std.proofs.Common.{◌≡◌, ◌<◌, ◌-◌, length}
-use Rattle.ac_tables.specs.Trees.{is_in_chain}
-use Rattle.ac_tables.specs.World.{id_at, parent_of}
-use Rattle.ac_tables.specs.Cloud.CloudWorld.{providers_of}
+use Rattle.ac_tables.proofs.Common.{◌≡◌, ◌<◌, ◌-◌, length, is_in_chain, id_at, parent_of, providers_of}
 use Rattle.ac_tables.proofs.cloud.Cloud.leads_to.Given as goal
 
 -- from where it stands the rest of the chain decides

@@ -1,6 +1,5 @@
-use Rattle.std.proofs.Common.{◌<◌, length, None, arith}
+use Rattle.ac_tables.proofs.Common.{◌<◌, length, None, arith, get_or_read}
 use Rattle.ac_tables.proofs.Places.CloudFacts.{inside, parent_is, parts}
-use Rattle.std.proofs.lemmas.List.{get_or_read}
 use Rattle.ac_tables.proofs.cloud.Cloud.parent.Goals as goal
 
 pub index-requires : goal.index-requires

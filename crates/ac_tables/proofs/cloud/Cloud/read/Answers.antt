@@ -1,28 +1,14 @@
-use Rattle.std.proofs.Common.{◌≡◌, ◌∙◌, ℕ, Option, None, List, map, length, refl, sym, ap, ap₂, subst}
-use Rattle.std.specs.List.{sum_by}
-use Rattle.std.proofs.lemmas.List.{length-map}
-use Rattle.ac_base.specs.Names.{trait_bytes}
-use Rattle.ac_tables.specs.Tables.Checks.{Row, Tells}
-use Rattle.ac_tables.specs.Tables.Rows.{records_of}
-use Rattle.ac_tables.specs.Tables.ProviderTable.{providers_said, said_parent}
-use Rattle.ac_tables.specs.Tables.InventoryTable.{inventories_said, inventories_fault}
-use Rattle.ac_tables.specs.Tables.UsageTable.{usages_said, usages_fault}
-use Rattle.ac_tables.specs.Tables.TraitTable.{traits_said, traits_fault}
-use Rattle.ac_tables.specs.Tables.AggregateTable.{aggregates_said, aggregates_fault}
-use Rattle.ac_tables.specs.Tables.{ids_of, inventories_of, amounts_of, names_of, aggregates_of, world_stated, gathered}
-use Rattle.std.specs.Option.{option_and_then}
-use Rattle.ac_tables.specs.Cloud.Places.{rank}
-use Rattle.ac_tables.specs.Cloud.Kin.{AreKin}
-use Rattle.ac_tables.specs.Reader.InventoryRows.{class_pair}
-use Rattle.ac_tables.specs.Cloud.EntryLists.{with_used_lists}
-use Rattle.ac_tables.specs.Reader.ListsOf.{lists_of}
-use Rattle.std.proofs.lemmas.List.{map-id}
-use Rattle.ac_tables.proofs.Sorted.RiseFacts.{said_here, inventories_rise, amounts_rise, names_rise, aggregates_rise}
-use Rattle.std.proofs.lemmas.List.Sorted.{length_permutation}
+use Rattle.ac_tables.proofs.Common.{◌≡◌, ◌∙◌, ℕ, Option, None, List, map, length, refl, sym, ap, ap₂, subst, sum_by, length-map, trait_bytes, Row, Tells, records_of, providers_said, said_parent, inventories_said, usages_said, traits_said, aggregates_said, inventories_of, amounts_of, names_of, aggregates_of, gathered, option_and_then, rank, AreKin, class_pair, with_used_lists, lists_of, map-id, length_permutation}
+use Rattle.ac_tables.specs.Tables.InventoryTable.{inventories_fault}
+use Rattle.ac_tables.specs.Tables.UsageTable.{usages_fault}
+use Rattle.ac_tables.specs.Tables.TraitTable.{traits_fault}
+use Rattle.ac_tables.specs.Tables.AggregateTable.{aggregates_fault}
+use Rattle.ac_tables.specs.Tables.{ids_of, world_stated}
 use Rattle.ac_tables.specs.Cloud.Numbered.{numbered}
 use Rattle.ac_tables.specs.Cloud.CloudWorld.{sizes_of}
-use Rattle.ac_tables.proofs.StatedWorld.{stated, counted, same_sizes}
 use Rattle.ac_tables.specs.Source.{tables_of}
+use Rattle.ac_tables.proofs.Sorted.RiseFacts.{said_here, amounts_rise, names_rise, aggregates_rise}
+use Rattle.ac_tables.proofs.StatedWorld.{stated, counted, same_sizes}
 use Rattle.ac_tables.proofs.Records.AllFaults.{tells_providers, tells_inventories, tells_usages, tells_traits, tells_aggregates, none_at_all, usage_text, trait_text, aggregate_text}
 use Rattle.ac_tables.proofs.cloud.Cloud.read.Goals as goal
 use Rattle.ac_tables.proofs.cloud.Cloud.read.Goals.{In-Ok-read, In-Ok-read_usages, In-Ok-read_traits}
@@ -102,25 +88,6 @@ build-requires-clause-kin c =
       subst (λ (l : List ℕ). AreKin l said) (sym c.in-Ok-read.ensures.ids) c.in-Ok.ensures.kin,
       subst (λ (l : List ℕ). c.in-Ok.providers.parents.items ≡ map (λ id. option_and_then (rank l) (said_parent said id)) l) (sym c.in-Ok-read.ensures.ids) c.in-Ok.ensures.parents,
     )
-
-pub build-requires-clause-usages : goal.build-requires-clause-usages
-build-requires-clause-usages c =
-    let ids = c.in-Ok-read.inventories.ids.ids.items in
-    sym (length-map (lists_of c.in-Ok-read_usages.usages) (map class_pair)) ∙ ap length c.in-Ok-read_usages.ensures.value ∙ length-map ids _
-
-pub build-requires-clause-traits : goal.build-requires-clause-traits
-build-requires-clause-traits c =
-    let ids = c.in-Ok-read.inventories.ids.ids.items in
-    sym (length-map (lists_of c.in-Ok-read_traits.traits) (map trait_bytes)) ∙ ap length c.in-Ok-read_traits.ensures.value ∙ length-map ids _
-
-pub build-requires-clause-aggregates : goal.build-requires-clause-aggregates
-build-requires-clause-aggregates c =
-    let ids = c.in-Ok-read.inventories.ids.ids.items in
-    ap length c.in-Ok-read_aggregates.ensures.value ∙ length-map ids _
-
-pub build-requires-clause-classes_rise : goal.build-requires-clause-classes_rise
-build-requires-clause-classes_rise c =
-    inventories_rise _ c.in-Ok.providers.ids.ids.items (lists_of c.in-Ok-read.inventories.rows) c.in-Ok-read.ensures.value
 
 pub build-requires-clause-used_rise : goal.build-requires-clause-used_rise
 build-requires-clause-used_rise c =

@@ -1,8 +1,4 @@
-use Rattle.std.proofs.Common.{◌<◌, ◌∙◌, ℕ, length, sym, ap, arith}
-use Rattle.std.proofs.Common.{subst}
-use Rattle.std.proofs.lemmas.List.{get_or_read}
-use Rattle.ac_tables.specs.World.{id_at}
-use Rattle.ac_tables.specs.Cloud.CloudWorld.{providers_of}
+use Rattle.ac_tables.proofs.Common.{◌<◌, ◌∙◌, ℕ, length, sym, ap, arith, subst, get_or_read, id_at, providers_of}
 use Rattle.ac_tables.proofs.Places.CloudFacts.{inside, outside, root_inside, root_here, parts}
 use Rattle.ac_tables.proofs.cloud.Cloud.root.Goals as goal
 

@@ -1,5 +1,4 @@
-use Rattle.std.proofs.Common.{◌∙◌, sym, arith, false}
-use Rattle.std.proofs.lemmas.List.{get_or_read}
+use Rattle.ac_tables.proofs.Common.{◌∙◌, sym, arith, false, get_or_read}
 use Rattle.ac_tables.proofs.Places.CloudFacts.{inside, parts}
 use Rattle.ac_tables.proofs.Places.AnchorFacts.{shares_here}
 use Rattle.ac_tables.proofs.cloud.Cloud.shares.Goals as goal

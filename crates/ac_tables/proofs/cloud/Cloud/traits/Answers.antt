@@ -1,5 +1,4 @@
-use Rattle.std.proofs.Common.{◌∙◌, arith, ap, map}
-use Rattle.ac_base.specs.Names.{trait_bytes}
+use Rattle.ac_tables.proofs.Common.{◌∙◌, arith, ap, map, trait_bytes}
 use Rattle.ac_tables.proofs.Places.CloudFacts.{inside, traits_here, parts}
 use Rattle.ac_tables.proofs.cloud.Cloud.traits.Goals as goal
 

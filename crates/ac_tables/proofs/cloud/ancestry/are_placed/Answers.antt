@@ -1,4 +1,4 @@
-use Rattle.ac_tables.specs.Cloud.Visits.{IsPlaced}
+use Rattle.ac_tables.proofs.Common.{IsPlaced}
 use Rattle.ac_tables.proofs.Trees.VisitFacts.{one_more}
 use Rattle.ac_tables.proofs.cloud.ancestry.are_placed.Goals as goal
 

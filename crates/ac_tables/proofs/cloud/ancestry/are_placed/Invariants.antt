@@ -1,5 +1,4 @@
-use Rattle.std.proofs.Common.{◌<◌, ℕ}
-use Rattle.ac_tables.specs.Cloud.Visits.{IsPlaced}
+use Rattle.ac_tables.proofs.Common.{◌<◌, ℕ, IsPlaced}
 use Rattle.ac_tables.proofs.cloud.ancestry.are_placed.Given as goal
 
 abbrev pub invariant-loop-place : goal.invariant-loop-place

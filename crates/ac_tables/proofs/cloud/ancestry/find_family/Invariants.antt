@@ -1,4 +1,4 @@
-use Rattle.std.proofs.Common.{◌≡◌, length}
+use Rattle.ac_tables.proofs.Common.{◌≡◌, length}
 use Rattle.ac_tables.proofs.cloud.ancestry.find_family.Given as goal
 
 abbrev pub invariant-loop-place : goal.invariant-loop-place

@@ -1,4 +1,4 @@
-use Rattle.std.proofs.Common.{◌≡◌, length}
+use Rattle.ac_tables.proofs.Common.{◌≡◌, length}
 use Rattle.ac_tables.proofs.cloud.ancestry.make_draft.Given as goal
 
 abbrev pub invariant-loop-step : goal.invariant-loop-step

@@ -1,4 +1,4 @@
-use Rattle.std.proofs.Common.{◌≡◌, ◌<◌, ◌∙◌, ℕ, Some, None, length, get_or}
+use Rattle.ac_tables.proofs.Common.{◌≡◌, ◌<◌, ◌∙◌, ℕ, Some, None, length, get_or}
 use Rattle.ac_tables.proofs.Trees.AncestorFacts.{some_inside}
 use Rattle.ac_tables.proofs.Trees.VisitFacts.{visits_tell}
 use Rattle.ac_tables.proofs.cloud.ancestry.walk.Goals as goal

@@ -1,7 +1,4 @@
-use Rattle.std.proofs.Common.{◌≡◌, ◌∙◌, ◌<◌, ℕ, length, sym, ap, [], arith}
-use Rattle.std.specs.Cmp.Lexicographic.{same_text}
-use Rattle.std.proofs.lemmas.List.{get_or-map}
-use Rattle.ac_tables.specs.Cloud.Anchors.{list_items, list_of}
+use Rattle.ac_tables.proofs.Common.{◌≡◌, ◌∙◌, ◌<◌, ℕ, length, sym, ap, [], arith, same_text, get_or-map, list_items, list_of}
 use Rattle.ac_tables.proofs.Places.AnchorLists.{some_place}
 use Rattle.ac_tables.proofs.cloud.anchors.find_alike.Goals as goal
 

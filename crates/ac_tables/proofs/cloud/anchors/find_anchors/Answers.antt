@@ -1,9 +1,5 @@
-use Rattle.std.proofs.Common.{◌≡◌, ◌<◌, ◌∙◌, ℕ, List, length, sym, ap, arith}
-use Rattle.std.specs.Option.{is_some}
-use Rattle.std.specs.Global.{Vec}
-use Rattle.ac_tables.specs.Reader.ListsOf.{lists_of}
-use Rattle.ac_tables.specs.Cloud.Anchors.{list_of}
-use Rattle.ac_tables.proofs.Places.WideAggregates.{asked_marked, asked_joined, asked_alone}
+use Rattle.ac_tables.proofs.Common.{◌≡◌, ◌<◌, ◌∙◌, ℕ, List, length, sym, ap, arith, is_some, Vec, lists_of, list_of}
+use Rattle.ac_tables.proofs.Places.WideAggregates.{asked_joined, asked_alone}
 use Rattle.ac_tables.proofs.cloud.anchors.find_anchors.Goals as goal
 
 pub returns-clause-joined : goal.returns-clause-joined
@@ -19,12 +15,6 @@ returns-clause-joined c = λ (j k : ℕ) below is.
       list.1 ∙ asked_joined roots aggregates c.in_ok-groups.groups.map c.in_ok-groups.ensures c.requires.inside c.args.sharing.now j inside (list_of c.deref.result.now j)
           (same ∙ c.in_ok-asked.ensures.each j (omega (arith, inside, c.requires.sharing))) (sym some),
     )
-
-pub returns-clause-marked : goal.returns-clause-marked
-returns-clause-marked c = λ (j : ℕ) inside is.
-    let same : list_of c.deref.result.now j ≡ list_of c.in_ok-asked.asked.items j = ap (λ (l : List (Vec ℕ)). list_of l j) c.deref.ensures.value in
-    asked_marked c.args.roots.now (lists_of c.args.aggregates.now) c.in_ok-groups.groups.map c.in_ok-groups.ensures c.requires.inside c.args.sharing.now j inside (list_of c.deref.result.now j)
-    (same ∙ c.in_ok-asked.ensures.each j (omega (arith, inside, c.requires.sharing))) (sym (c.in_ok-anchors.ensures.marked j inside) ∙ is)
 
 pub returns-clause-alone : goal.returns-clause-alone
 returns-clause-alone c = λ (j : ℕ) inside is marked.

@@ -1,7 +1,4 @@
-use Rattle.std.proofs.Common.{◌≡◌, ◌<◌, ◌+◌, ◌∙◌, ℕ, List, Option, None, map, length, get_or, sym, ap, subst, true, arith}
-use Rattle.std.specs.Option.{is_some}
-use Rattle.ac_tables.specs.Reader.ListsOf.{lists_of}
-use Rattle.ac_tables.specs.Cloud.Anchors.{list_items, list_of, is_joining, AreAsked}
+use Rattle.ac_tables.proofs.Common.{◌≡◌, ◌<◌, ◌+◌, ◌∙◌, ℕ, List, Option, None, map, length, get_or, sym, ap, subst, true, arith, is_some, lists_of, list_items, list_of, is_joining, AreAsked}
 use Rattle.ac_tables.proofs.Places.AnchorLists.{marked_more, length_more}
 use Rattle.ac_tables.proofs.cloud.anchors.find_lists.Goals as goal
 

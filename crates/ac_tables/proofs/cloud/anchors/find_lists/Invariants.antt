@@ -1,7 +1,4 @@
-use Rattle.std.proofs.Common.{◌≡◌, ◌<◌, ◌≤◌, ℕ, true, None, length, get_or, map}
-use Rattle.std.specs.Option.{is_some}
-use Rattle.ac_tables.specs.Cloud.Anchors.{list_items, list_of, is_joining, AreAsked}
-use Rattle.ac_tables.specs.Reader.ListsOf.{lists_of}
+use Rattle.ac_tables.proofs.Common.{◌≡◌, ◌<◌, ◌≤◌, ℕ, true, None, length, get_or, map, is_some, list_items, list_of, is_joining, AreAsked, lists_of}
 use Rattle.ac_tables.proofs.cloud.anchors.find_lists.Given as goal
 
 abbrev pub invariant-loop-i : goal.invariant-loop-i

@@ -1,7 +1,4 @@
-use Rattle.std.proofs.Common.{◌∙◌, map, ap}
-use Rattle.ac_tables.specs.Cloud.Entries.{entry_pair}
-use Rattle.ac_tables.specs.Reader.ListBounds.{lists_in}
-use Rattle.ac_tables.specs.Reader.ListsOf.{lists_of}
+use Rattle.ac_tables.proofs.Common.{◌∙◌, map, ap, entry_pair, lists_in, lists_of}
 use Rattle.ac_tables.proofs.Places.JoinFacts.{joined_lists}
 use Rattle.ac_tables.proofs.cloud.entries.join.Goals as goal
 

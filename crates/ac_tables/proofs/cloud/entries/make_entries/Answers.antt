@@ -1,17 +1,5 @@
-use Rattle.std.proofs.Common.{◌≡◌, ◌∙◌, ◌<◌, ◌++◌, ◌∷◌, [], List, ℕ, map, length, sym, ap, subst, arith, append_assoc, append-nil}
-use Rattle.std.proofs.lemmas.List.{map-append}
-use Rattle.std.specs.List.Sorted.{IsStrictlySortedBy}
-use Rattle.std.specs.Map.{lookup}
-use Rattle.std.specs.Option.{unwrap_or}
-use Rattle.std.specs.Str.{bytes_eq}
-use Rattle.std.specs.Vec.Iter.{into_iter_items}
-use Rattle.ac_base.specs.Names.{class_bytes}
-use Rattle.ac_base.specs.Texts.{text_cmp}
-use Rattle.ac_base.specs.declared.name.ClassName.{ClassName}
-use Rattle.ac_tables.specs.Reader.InventoryRows.{class_pair}
-use Rattle.ac_tables.specs.declared.reader.row.TableRow.{TableRow}
-use Rattle.ac_tables.specs.Cloud.EntryLists.{entry_of}
-use Rattle.ac_tables.specs.Reader.ListsOf.{lists_of}
+use Rattle.ac_tables.proofs.Common.{◌≡◌, ◌∙◌, ◌<◌, ◌++◌, ◌∷◌, [], List, ℕ, map, length, sym, ap, subst, arith, append_assoc, map-append, IsStrictlySortedBy, lookup, unwrap_or, bytes_eq, into_iter_items, class_bytes, text_cmp, ClassName, class_pair, TableRow, entry_of, lists_of}
+use Rattle.std.proofs.Common.{append-nil}
 use Rattle.ac_tables.proofs.Sorted.ListFacts.{next_inside, nothing_left}
 use Rattle.ac_tables.proofs.cloud.entries.make_entries.Goals as goal
 

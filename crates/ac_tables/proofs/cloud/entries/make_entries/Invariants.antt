@@ -1,7 +1,5 @@
-use Rattle.std.proofs.Common.{◌≡◌, ◌++◌, map, length}
-use Rattle.std.specs.Vec.Iter.{into_iter_items, into_iter_len}
-use Rattle.ac_tables.specs.Cloud.EntryLists.{entry_of}
-use Rattle.ac_tables.specs.Reader.ListsOf.{lists_of}
+use Rattle.ac_tables.proofs.Common.{◌≡◌, ◌++◌, map, length, into_iter_items, entry_of, lists_of}
+use Rattle.std.specs.Vec.Iter.{into_iter_len}
 use Rattle.ac_tables.proofs.cloud.entries.make_entries.Given as goal
 
 abbrev pub invariant-loop-row : goal.invariant-loop-row

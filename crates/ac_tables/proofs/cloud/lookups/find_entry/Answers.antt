@@ -1,12 +1,5 @@
-use Rattle.std.proofs.Common.{◌∙◌, map, sym, ap, rules, Some}
-use Rattle.std.specs.Ordering.{is_eq}
-use Rattle.std.specs.Str.{bytes_eq}
-use Rattle.std.proofs.lemmas.Cmp.{nat_list_cmp_total}
-use Rattle.std.proofs.lemmas.Fn.{always_returns_same}
-use Rattle.std.proofs.lemmas.Map.Text.{is_eq-slice_cmp}
-use Rattle.ac_base.specs.Texts.{text_cmp}
-use Rattle.ac_base.specs.Names.{class_bytes}
-use Rattle.ac_tables.specs.Cloud.Entries.{entry_class, entry_value, entry_pair}
+use Rattle.ac_tables.proofs.Common.{◌∙◌, map, sym, ap, rules, Some, is_eq, bytes_eq, nat_list_cmp_total, always_returns_same, is_eq-slice_cmp, text_cmp, class_bytes, entry_class, entry_pair}
+use Rattle.ac_tables.specs.Cloud.Entries.{entry_value}
 use Rattle.ac_tables.proofs.Sorted.SearchFacts.{lookup_same, found, found_value, missed_value}
 use Rattle.ac_tables.proofs.cloud.lookups.find_entry.Goals as goal
 

@@ -1,6 +1,4 @@
-use Rattle.std.proofs.Common.{◌≡◌, map, take}
-use Rattle.ac_tables.specs.Cloud.Anchors.{shares_by}
-use Rattle.ac_tables.specs.Reader.ListsOf.{lists_of}
+use Rattle.ac_tables.proofs.Common.{◌≡◌, map, take, shares_by, lists_of}
 use Rattle.ac_tables.proofs.cloud.lookups.find_sharing.Given as goal
 
 abbrev pub invariant-loop-place : goal.invariant-loop-place

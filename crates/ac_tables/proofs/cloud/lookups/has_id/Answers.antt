@@ -1,9 +1,5 @@
-use Rattle.std.proofs.Common.{◌∙◌, ℕ, sym}
-use Rattle.std.specs.Prelude.{◌==◌}
-use Rattle.std.specs.Ordering.{is_eq, nat_cmp}
-use Rattle.std.proofs.lemmas.Cmp.{nat_cmp_total}
+use Rattle.ac_tables.proofs.Common.{◌∙◌, ℕ, sym, ◌==◌, is_eq, nat_cmp, nat_cmp_total, map-id}
 use Rattle.ac_tables.proofs.Sorted.SearchFacts.{found, found_any, any_same, is_eq_nat}
-use Rattle.std.proofs.lemmas.List.{map-id}
 use Rattle.ac_tables.proofs.cloud.lookups.has_id.Goals as goal
 
 pub returns : goal.returns

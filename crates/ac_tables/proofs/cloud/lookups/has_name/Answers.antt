@@ -1,10 +1,4 @@
-use Rattle.std.proofs.Common.{◌∙◌}
-use Rattle.std.specs.Ordering.{is_eq}
-use Rattle.std.specs.Str.{bytes_eq}
-use Rattle.std.proofs.lemmas.Cmp.{nat_list_cmp_total}
-use Rattle.std.proofs.lemmas.Map.Text.{is_eq-slice_cmp}
-use Rattle.ac_base.specs.Texts.{text_cmp}
-use Rattle.ac_base.specs.Names.{trait_bytes}
+use Rattle.ac_tables.proofs.Common.{◌∙◌, is_eq, bytes_eq, nat_list_cmp_total, is_eq-slice_cmp, text_cmp, trait_bytes}
 use Rattle.ac_tables.proofs.Sorted.SearchFacts.{any_map, found, found_any}
 use Rattle.ac_tables.proofs.cloud.lookups.has_name.Goals as goal
 

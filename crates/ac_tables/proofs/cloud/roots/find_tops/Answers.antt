@@ -1,6 +1,4 @@
-use Rattle.std.proofs.Common.{◌≡◌, ◌<◌, ◌∙◌, ◌%◌, ℕ, length, get_or, ap, sym, subst, arith}
-use Rattle.ac_tables.specs.Trees.{climb, up}
-use Rattle.ac_tables.specs.Cloud.Places.{along, ArePlaces, parent_in}
+use Rattle.ac_tables.proofs.Common.{◌≡◌, ◌<◌, ◌∙◌, ◌%◌, ℕ, length, get_or, ap, sym, subst, arith, climb, up, along, ArePlaces, parent_in}
 use Rattle.ac_tables.proofs.Trees.StepsUp.{steps_inside, climb_list, twice_inside, after_inside, ahead_halved}
 use Rattle.ac_tables.proofs.cloud.roots.find_tops.Goals as goal
 

@@ -1,6 +1,4 @@
-use Rattle.std.proofs.Common.{◌≡◌, ◌<◌, ℕ, length, get_or}
-use Rattle.ac_tables.specs.Trees.{climb, top}
-use Rattle.ac_tables.specs.Cloud.Places.{along, ArePlaces, parent_in}
+use Rattle.ac_tables.proofs.Common.{◌≡◌, ◌<◌, ℕ, length, get_or, climb, top, along, ArePlaces, parent_in}
 use Rattle.ac_tables.proofs.cloud.roots.find_tops.Given as goal
 
 -- what is left of the steps leads from the places so far to the tops

@@ -1,4 +1,4 @@
-use Rattle.std.proofs.Common.{◌≡◌, ◌<◌, ℕ, length, get_or}
+use Rattle.ac_tables.proofs.Common.{◌≡◌, ◌<◌, ℕ, length, get_or}
 use Rattle.ac_tables.proofs.cloud.roots.identity.Given as goal
 
 abbrev pub invariant-loop-i : goal.invariant-loop-i

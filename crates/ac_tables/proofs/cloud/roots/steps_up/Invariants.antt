@@ -1,6 +1,4 @@
-use Rattle.std.proofs.Common.{◌≡◌, ◌<◌, ℕ, length, get_or}
-use Rattle.ac_tables.specs.Trees.{up}
-use Rattle.ac_tables.specs.Cloud.Places.{parent_in}
+use Rattle.ac_tables.proofs.Common.{◌≡◌, ◌<◌, ℕ, length, get_or, up, parent_in}
 use Rattle.ac_tables.proofs.cloud.roots.steps_up.Given as goal
 
 abbrev pub invariant-loop-i : goal.invariant-loop-i

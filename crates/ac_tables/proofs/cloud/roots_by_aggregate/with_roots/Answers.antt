@@ -1,6 +1,4 @@
-use Rattle.std.proofs.Common.{◌<◌, ℕ, length, refl, arith}
-use Rattle.std.specs.Ordering.{nat_cmp}
-use Rattle.std.specs.BTreeSet.{contains}
+use Rattle.ac_tables.proofs.Common.{◌<◌, ℕ, length, refl, arith, nat_cmp, contains}
 use Rattle.ac_tables.proofs.Places.GroupFacts.{set_more}
 use Rattle.ac_tables.proofs.cloud.roots_by_aggregate.with_roots.Goals as goal
 

@@ -1,8 +1,4 @@
-use Rattle.std.proofs.Common.{◌≡◌, ℕ, take}
-use Rattle.std.specs.Prelude.{◌==◌, ◌||◌}
-use Rattle.std.specs.List.{list_any}
-use Rattle.std.specs.Ordering.{nat_cmp}
-use Rattle.std.specs.BTreeSet.{contains}
+use Rattle.ac_tables.proofs.Common.{◌≡◌, ℕ, take, ◌==◌, ◌||◌, list_any, nat_cmp, contains}
 use Rattle.ac_tables.proofs.cloud.roots_by_aggregate.with_roots.Given as goal
 
 abbrev pub invariant-loop-root : goal.invariant-loop-root

@@ -1,5 +1,4 @@
-use Rattle.std.proofs.Common.{◌+◌, arith}
-use Rattle.csv.specs.Records.{fields_of}
+use Rattle.ac_tables.proofs.Common.{◌+◌, arith, fields_of}
 use Rattle.ac_tables.proofs.Gathered.GatheredRows.{gathered_table, gathered_fine, gathered_alone, gathered_again, rows_sized}
 use Rattle.ac_tables.proofs.reader.gather.gather.Goals as goal
 

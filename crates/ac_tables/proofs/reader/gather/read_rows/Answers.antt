@@ -1,4 +1,4 @@
-use Rattle.std.proofs.Common.{◌+◌, refl}
+use Rattle.ac_tables.proofs.Common.{◌+◌, refl}
 use Rattle.ac_tables.proofs.Gathered.RowsRead.{read_more}
 use Rattle.ac_tables.proofs.reader.gather.read_rows.Goals as goal
 

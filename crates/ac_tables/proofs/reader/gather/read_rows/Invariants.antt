@@ -1,7 +1,4 @@
-use Rattle.std.proofs.Common.{◌≡◌, length}
-use Rattle.csv.specs.Records.{fields_of}
-use Rattle.ac_tables.specs.Tables.Rows.{IsReading, rows_left}
-use Rattle.ac_tables.specs.Reader.TableRows.{IsReadSoFar}
+use Rattle.ac_tables.proofs.Common.{◌≡◌, length, fields_of, IsReading, rows_left, IsReadSoFar}
 use Rattle.ac_tables.proofs.reader.gather.read_rows.Given as goal
 
 abbrev pub invariant-loop-rows : goal.invariant-loop-rows

@@ -1,7 +1,4 @@
-use Rattle.std.proofs.Common.{◌≡◌, drop}
-use Rattle.std.specs.List.{position_from}
-use Rattle.std.specs.Str.{bytes_eq}
-use Rattle.csv.specs.Records.{fields_of}
+use Rattle.ac_tables.proofs.Common.{◌≡◌, drop, position_from, bytes_eq, fields_of}
 use Rattle.ac_tables.proofs.reader.header.find_column.Given as goal
 
 abbrev pub invariant-loop-place : goal.invariant-loop-place

@@ -1,4 +1,4 @@
-use Rattle.std.proofs.Common.{◌∙◌, sym}
+use Rattle.ac_tables.proofs.Common.{◌∙◌, sym}
 use Rattle.ac_tables.proofs.Gathered.Header.{lacks, doubles, fine}
 use Rattle.ac_tables.proofs.reader.header.find_fault.Goals as goal
 

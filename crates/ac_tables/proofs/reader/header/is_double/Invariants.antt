@@ -1,7 +1,5 @@
-use Rattle.std.proofs.Common.{◌≡◌, ◌≤◌, take}
-use Rattle.std.specs.List.{count_by}
-use Rattle.std.specs.Str.{bytes_eq}
-use Rattle.csv.specs.Records.{fields_of}
+use Rattle.ac_tables.proofs.Common.{◌≡◌, ◌≤◌, take, bytes_eq, fields_of}
+use Rattle.std.proofs.Common.{count_by}
 use Rattle.ac_tables.proofs.reader.header.is_double.Given as goal
 
 abbrev pub invariant-loop-place : goal.invariant-loop-place

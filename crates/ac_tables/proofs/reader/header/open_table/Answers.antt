@@ -1,4 +1,4 @@
-use Rattle.std.proofs.Common.{◌∙◌, sym}
+use Rattle.ac_tables.proofs.Common.{◌∙◌, sym}
 use Rattle.ac_tables.proofs.Gathered.Header.{no_header, header_tells, header_fine}
 use Rattle.ac_tables.proofs.Gathered.RowsLeft.{rest_few}
 use Rattle.ac_tables.proofs.reader.header.open_table.Goals as goal

@@ -1,4 +1,4 @@
-use Rattle.csv.specs.Records.{fields_of}
+use Rattle.ac_tables.proofs.Common.{fields_of}
 use Rattle.ac_tables.proofs.Gathered.RowsLeft.{gives_clause, goes_on_clause}
 use Rattle.ac_tables.proofs.reader.records.next_row.Goals as goal
 

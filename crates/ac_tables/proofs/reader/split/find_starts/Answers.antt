@@ -1,6 +1,4 @@
-use Rattle.std.proofs.Common.{◌∙◌, ◌+◌, ℕ, length, ap, arith, sym, subst}
-use Rattle.std.proofs.lemmas.List.{length-append}
-use Rattle.ac_tables.specs.Reader.TableRows.{IsStart}
+use Rattle.ac_tables.proofs.Common.{◌∙◌, ◌+◌, ℕ, length, ap, arith, sym, subst, length-append, IsStart}
 use Rattle.ac_tables.proofs.Gathered.RowSlices.{start_here, starts_more}
 use Rattle.ac_tables.proofs.reader.split.find_starts.Goals as goal
 

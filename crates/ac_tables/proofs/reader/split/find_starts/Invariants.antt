@@ -1,6 +1,4 @@
-use Rattle.std.proofs.Common.{◌≡◌, ℕ, ◌<◌, ◌≤◌, length, get_or}
-use Rattle.ac_tables.specs.Reader.TableRows.{IsStart}
-use Rattle.ac_tables.specs.declared.reader.row.TableRow.{TableRow}
+use Rattle.ac_tables.proofs.Common.{◌≡◌, ℕ, ◌<◌, ◌≤◌, length, get_or, IsStart, TableRow}
 use Rattle.ac_tables.proofs.reader.split.find_starts.Given as goal
 
 abbrev pub invariant-loop-place : goal.invariant-loop-place

@@ -1,11 +1,6 @@
-use Rattle.std.proofs.Common.{◌∙◌, ap, length}
-use Rattle.std.proofs.lemmas.List.{length-map}
-use Rattle.ac_tables.specs.Reader.ListBounds.{lists_in}
+use Rattle.ac_tables.proofs.Common.{◌∙◌, ap, lists_in}
 use Rattle.ac_tables.proofs.Sorted.ListFacts.{lists_map}
 use Rattle.ac_tables.proofs.reader.split.keys_of.Goals as goal
-
-pub returns-clause-count : goal.returns-clause-count
-returns-clause-count g c = ap length c.in_ok-items.ensures ∙ length-map c.args.rows.items.items (λ r. r.key)
 
 pub returns-clause-lists : goal.returns-clause-lists
 returns-clause-lists g c = ap (λ l. lists_in l c.args.rows.starts.items) c.in_ok-items.ensures ∙ lists_map c.args.rows.items.items c.args.rows.starts.items (λ r. r.key)

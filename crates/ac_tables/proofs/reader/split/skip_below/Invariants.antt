@@ -1,5 +1,4 @@
-use Rattle.std.proofs.Common.{ℕ, ◌<◌, ◌≤◌, get_or}
-use Rattle.ac_tables.specs.declared.reader.row.TableRow.{TableRow}
+use Rattle.ac_tables.proofs.Common.{ℕ, ◌<◌, ◌≤◌, get_or, TableRow}
 use Rattle.ac_tables.proofs.reader.split.skip_below.Given as goal
 
 abbrev pub invariant-loop-at : goal.invariant-loop-at

@@ -1,16 +1,6 @@
-use Rattle.std.proofs.Common.{◌∙◌, ◌<◌, ℕ, false, List, map, length, get_or, refl, sym, ap, subst, arith}
-use Rattle.std.specs.Ordering.{nat_cmp}
-use Rattle.std.specs.List.{All, dedup}
-use Rattle.std.specs.List.Sorted.{IsNonDecreasingBy}
-use Rattle.std.proofs.lemmas.Cmp.{nat_cmp_total}
-use Rattle.std.proofs.lemmas.List.Filters.{All-dedup}
-use Rattle.std.proofs.lemmas.Map.Lookups.{exact_unsigned}
-use Rattle.ac_tables.specs.Reader.TableRows.{row_ties}
-use Rattle.ac_tables.specs.declared.reader.row.TableRow.{TableRow}
-use Rattle.ac_tables.specs.Tables.AggregateTable.{AggregateRecord, aggregates_said, aggregates_fault}
-use Rattle.ac_tables.specs.Tables.Rows.{records_of}
+use Rattle.ac_tables.proofs.Common.{◌∙◌, ◌<◌, ℕ, false, List, map, length, get_or, refl, sym, subst, nat_cmp, All, dedup, IsNonDecreasingBy, nat_cmp_total, All-dedup, exact_unsigned, row_ties, TableRow, AggregateRecord, aggregates_said, records_of, same_place}
+use Rattle.ac_tables.specs.Tables.AggregateTable.{aggregates_fault}
 use Rattle.ac_tables.specs.Tables.{aggregates_of}
-use Rattle.ac_tables.specs.Reader.RecordLaws.{same_place}
 use Rattle.ac_tables.proofs.Sorted.ProviderSets.{shown_set, once_sorted}
 use Rattle.ac_tables.proofs.Sorted.ListFacts.{of_each}
 use Rattle.ac_tables.proofs.tables.aggregates.read_aggregates.Goals as goal
@@ -48,8 +38,3 @@ returns-in-Err-clause-err c = c.in-Err.ensures.fault
 pub returns-clause-ok : goal.returns-clause-ok
 unfolding aggregates_fault
 returns-clause-ok c = c.in-Ok.ensures.ok
-
-pub returns-clause-few : goal.returns-clause-few
-returns-clause-few c =
-    let few = c.in-Ok.ensures.few in
-    omega (arith, few, c.keep_first.ensures.few, ap length c.in_ok-rows.ensures.rows, c.in_ok-keys_of.ensures.count)

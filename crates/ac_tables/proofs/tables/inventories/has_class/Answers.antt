@@ -1,15 +1,4 @@
-use Rattle.std.proofs.Common.{◌∙◌, rules}
-use Rattle.std.specs.Ordering.{is_eq}
-use Rattle.std.specs.Str.{bytes_eq}
-use Rattle.std.proofs.lemmas.Cmp.{nat_list_cmp_total}
-use Rattle.std.proofs.lemmas.Fn.{always_returns_same}
-use Rattle.std.proofs.lemmas.Map.Text.{is_eq-slice_cmp}
-use Rattle.ac_base.specs.Names.{class_bytes}
-use Rattle.ac_base.specs.Quantities.{InventoryNumbers}
-use Rattle.ac_base.specs.Texts.{text_cmp}
-use Rattle.ac_base.specs.declared.name.ClassName.{ClassName}
-use Rattle.ac_tables.specs.Reader.RecordLaws.{eq_turned}
-use Rattle.ac_tables.specs.declared.reader.row.TableRow.{TableRow}
+use Rattle.ac_tables.proofs.Common.{◌∙◌, rules, is_eq, bytes_eq, nat_list_cmp_total, always_returns_same, is_eq-slice_cmp, class_bytes, InventoryNumbers, text_cmp, ClassName, eq_turned, TableRow}
 use Rattle.ac_tables.proofs.Sorted.SearchFacts.{any_same, found, found_any}
 use Rattle.ac_tables.proofs.tables.inventories.has_class.Goals as goal
 

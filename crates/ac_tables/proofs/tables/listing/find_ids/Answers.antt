@@ -1,6 +1,4 @@
-use Rattle.std.proofs.Common.{sym, subst, ◌∙◌}
-use Rattle.std.specs.List.{All}
-use Rattle.ac_tables.specs.Cloud.RisingIds.{IsRising}
+use Rattle.ac_tables.proofs.Common.{sym, subst, ◌∙◌, All, IsRising}
 use Rattle.ac_tables.proofs.Records.ProviderIds.{Fits, ids_fit}
 use Rattle.ac_tables.proofs.Records.ProviderRecords.{ids_are, keys_rise}
 use Rattle.ac_tables.proofs.Sorted.Rising.{rising_from_sorted}

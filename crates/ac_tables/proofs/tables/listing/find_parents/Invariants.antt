@@ -1,6 +1,4 @@
-use Rattle.std.proofs.Common.{◌≡◌, map, take}
-use Rattle.std.specs.Option.{option_and_then}
-use Rattle.ac_tables.specs.Cloud.Places.{rank}
+use Rattle.ac_tables.proofs.Common.{◌≡◌, map, take, option_and_then, rank}
 use Rattle.ac_tables.proofs.tables.listing.find_parents.Given as goal
 
 abbrev pub invariant-loop-row : goal.invariant-loop-row

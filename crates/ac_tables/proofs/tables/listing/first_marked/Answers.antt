@@ -1,8 +1,4 @@
-use Rattle.std.proofs.Common.{◌∙◌, ◌+◌, ◌<◌, Option, ℕ, sym, ap, subst, arith, length}
-use Rattle.std.proofs.lemmas.List.{get_or_default}
-use Rattle.ac_tables.specs.declared.reader.row.TableRow.{TableRow}
-use Rattle.ac_tables.specs.declared.tables.provider_record.Named.{Named}
-use Rattle.ac_tables.specs.Reader.Listings.{IsFirstBelow}
+use Rattle.ac_tables.proofs.Common.{◌∙◌, ◌+◌, ◌<◌, Option, ℕ, sym, ap, subst, arith, length, get_or_default, TableRow, Named, IsFirstBelow}
 use Rattle.ac_tables.proofs.Records.Marks.{marked, unmarked}
 use Rattle.ac_tables.proofs.tables.listing.first_marked.Goals as goal
 use Rattle.ac_tables.proofs.tables.listing.first_marked.Goals.{then-marks-i, else-marks-i}

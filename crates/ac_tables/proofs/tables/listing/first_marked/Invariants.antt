@@ -1,5 +1,4 @@
-use Rattle.std.proofs.Common.{◌≤◌, length}
-use Rattle.ac_tables.specs.Reader.Listings.{IsFirstBelow}
+use Rattle.ac_tables.proofs.Common.{◌≤◌, length, IsFirstBelow}
 use Rattle.ac_tables.proofs.tables.listing.first_marked.Given as goal
 
 abbrev pub invariant-loop-i : goal.invariant-loop-i

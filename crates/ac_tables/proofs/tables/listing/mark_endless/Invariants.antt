@@ -1,5 +1,4 @@
-use Rattle.std.proofs.Common.{◌≡◌, ◌<◌, ℕ, false, None, length, get_or}
-use Rattle.std.specs.Option.{is_some}
+use Rattle.ac_tables.proofs.Common.{◌≡◌, ◌<◌, ℕ, false, None, length, get_or, is_some}
 use Rattle.ac_tables.proofs.tables.listing.mark_endless.Given as goal
 
 abbrev pub invariant-loop-top : goal.invariant-loop-top

@@ -1,7 +1,4 @@
-use Rattle.std.proofs.Common.{◌≡◌, ◌<◌, ℕ, false, length, get_or}
-use Rattle.std.specs.Prelude.{◌==◌, not}
-use Rattle.ac_tables.specs.declared.reader.row.TableRow.{TableRow}
-use Rattle.ac_tables.specs.declared.tables.provider_record.Named.{Named}
+use Rattle.ac_tables.proofs.Common.{◌≡◌, ◌<◌, ℕ, false, length, get_or, ◌==◌, not, TableRow, Named}
 use Rattle.ac_tables.proofs.tables.listing.mark_other_roots.Given as goal
 
 abbrev pub invariant-loop-i : goal.invariant-loop-i

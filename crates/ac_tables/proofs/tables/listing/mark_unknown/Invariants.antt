@@ -1,8 +1,4 @@
-use Rattle.std.proofs.Common.{◌≡◌, ◌<◌, ℕ, false, None, length, get_or}
-use Rattle.std.specs.Prelude.{◌&&◌}
-use Rattle.std.specs.Option.{is_some, is_none}
-use Rattle.ac_tables.specs.declared.reader.row.TableRow.{TableRow}
-use Rattle.ac_tables.specs.declared.tables.provider_record.Named.{Named}
+use Rattle.ac_tables.proofs.Common.{◌≡◌, ◌<◌, ℕ, false, None, length, get_or, ◌&&◌, is_some, is_none, TableRow, Named}
 use Rattle.ac_tables.proofs.tables.listing.mark_unknown.Given as goal
 
 abbrev pub invariant-loop-i : goal.invariant-loop-i

@@ -1,9 +1,5 @@
-use Rattle.std.proofs.Common.{◌≡◌, ◌∙◌, ◌<◌, ℕ, Option, Some, None, length, get_or, map, option_map, option_and_then, sym, ap, subst, arith}
-use Rattle.ac_tables.specs.Cloud.Places.{AreParents, rank, parent_in}
-use Rattle.ac_tables.specs.Trees.{top}
-use Rattle.ac_tables.specs.Reader.Listings.{IsFirst}
-use Rattle.ac_tables.specs.Tables.ProviderTable.{providers_said, unknown_fault, endless_fault, root_fault}
-use Rattle.ac_tables.specs.Tables.Rows.{records_of}
+use Rattle.ac_tables.proofs.Common.{◌≡◌, ◌∙◌, ◌<◌, ℕ, Option, Some, None, length, get_or, map, option_map, option_and_then, sym, ap, subst, arith, AreParents, rank, parent_in, top, IsFirst, providers_said, unknown_fault, records_of}
+use Rattle.ac_tables.specs.Tables.ProviderTable.{endless_fault, root_fault}
 use Rattle.ac_tables.specs.declared.fault.Table.TheVariants as table
 use Rattle.ac_tables.specs.declared.fault.TableKind.TheVariants as kind
 use Rattle.ac_tables.specs.declared.fault.TableFault.TheVariants as fault

@@ -1,6 +1,4 @@
-use Rattle.std.proofs.Common.{◌<◌, length, arith}
-use Rattle.ac_tables.specs.Tables.Rows.{records_of}
-use Rattle.ac_tables.specs.Tables.ProviderTable.{providers_said}
+use Rattle.ac_tables.proofs.Common.{◌<◌, length, arith, records_of, providers_said}
 use Rattle.ac_tables.proofs.Records.ProviderIds.{said_fit}
 use Rattle.ac_tables.proofs.Records.ProviderRecords.{said_sized}
 use Rattle.ac_tables.proofs.Records.Limits.{none_past, none_within, tells_limited}

@@ -1,22 +1,8 @@
-use Rattle.std.proofs.Common.{◌∙◌, ◌<◌, ℕ, false, List, map, length, get_or, refl, sym, ap, subst, arith}
-use Rattle.std.specs.declared.cmp.Ordering.{Ordering}
-use Rattle.std.specs.Cmp.{on_total}
-use Rattle.std.specs.List.{All, dedup}
-use Rattle.std.specs.List.Sorted.{IsNonDecreasingBy}
-use Rattle.std.proofs.lemmas.Cmp.{nat_list_cmp_total}
-use Rattle.std.proofs.lemmas.List.Filters.{All-dedup}
-use Rattle.std.proofs.lemmas.Map.Lookups.{exact_bytes}
-use Rattle.ac_base.specs.Names.{trait_bytes}
-use Rattle.ac_base.specs.Texts.{text_cmp}
-use Rattle.ac_base.specs.declared.name.TraitName.{TraitName}
-use Rattle.ac_tables.specs.Reader.TableRows.{row_ties}
-use Rattle.ac_tables.specs.declared.reader.row.TableRow.{TableRow}
-use Rattle.ac_tables.specs.Tables.TraitTable.{TraitRecord, traits_said, traits_fault}
-use Rattle.ac_tables.specs.Tables.Rows.{records_of}
+use Rattle.ac_tables.proofs.Common.{◌∙◌, ◌<◌, ℕ, false, List, map, length, get_or, refl, sym, ap, subst, Ordering, on_total, All, dedup, IsNonDecreasingBy, nat_list_cmp_total, All-dedup, exact_bytes, trait_bytes, text_cmp, TraitName, row_ties, TableRow, TraitRecord, traits_said, records_of, same_place, map-map}
+use Rattle.ac_tables.specs.Tables.TraitTable.{traits_fault}
 use Rattle.ac_tables.specs.Tables.{names_of}
-use Rattle.ac_tables.specs.Reader.RecordLaws.{same_place}
 use Rattle.ac_tables.proofs.Sorted.ProviderSets.{shown_set, once_sorted}
-use Rattle.ac_tables.proofs.Sorted.ListFacts.{map_map, of_each}
+use Rattle.ac_tables.proofs.Sorted.ListFacts.{of_each}
 use Rattle.ac_tables.proofs.tables.traits.read_traits.Goals as goal
 
 abbrev trait_cmp : TraitName → TraitName → Ordering
@@ -40,10 +26,10 @@ unfolding names_of
 returns-clause-value c =
     let ids = c.args.ids.now.ids.items in
     let said = traits_said (records_of c.args.text.now) in
-    ap (map (map trait_bytes)) c.in_ok-keys_of.ensures.lists ∙ map_map (map (λ r. r.key)) (map trait_bytes) _
+    ap (map (map trait_bytes)) c.in_ok-keys_of.ensures.lists ∙ map-map (map trait_bytes) (map (λ r. r.key)) _
     ∙ of_each (dedup (row_ties trait_cmp) c.in-Ok.rows.items) (λ l. map trait_bytes (map (λ r. r.key) l)) (names_of said) ids _
     (rw (sym c.keep_first.ensures.value, sym c.len.ensures.value) c.in_ok-rows.ensures.lists) (λ p h.
-    map_map (λ r. r.key) trait_bytes _
+    map-map trait_bytes (λ r. r.key) _
     ∙ shown_set trait_cmp (on_total trait_bytes nat_list_cmp_total) text_cmp nat_list_cmp_total exact_bytes trait_bytes (λ a b. refl)
     (trait_shown ids) (length ids) false said c.in-Ok.rows.items c.in-Ok.ensures.rows (λ (v : TraitRecord). v.provider) (λ (v : TraitRecord). v.name) p (get_or ids p 0)
     (λ r inside. same_place ids c.args.ids.now.rising r.place p inside h)
@@ -56,8 +42,3 @@ returns-in-Err-clause-err c = c.in-Err.ensures.fault
 pub returns-clause-ok : goal.returns-clause-ok
 unfolding traits_fault
 returns-clause-ok c = c.in-Ok.ensures.ok
-
-pub returns-clause-few : goal.returns-clause-few
-returns-clause-few c =
-    let few = c.in-Ok.ensures.few in
-    omega (arith, few, c.keep_first.ensures.few, ap length c.in_ok-rows.ensures.rows, c.in_ok-keys_of.ensures.count)

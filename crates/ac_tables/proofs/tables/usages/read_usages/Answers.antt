@@ -1,19 +1,5 @@
-use Rattle.std.proofs.Common.{◌∙◌, ℕ, List, Option, map, length, get_or, refl, sym, ap, subst, arith}
-use Rattle.std.specs.Cmp.{on_total}
-use Rattle.std.proofs.lemmas.Cmp.{nat_list_cmp_total}
-use Rattle.std.proofs.lemmas.List.{length-map}
-use Rattle.std.proofs.lemmas.List.Sorted.{length_permutation}
-use Rattle.ac_base.specs.Names.{class_bytes}
-use Rattle.ac_base.specs.Texts.{text_cmp}
-use Rattle.ac_base.specs.declared.name.ClassName.{ClassName}
-use Rattle.ac_tables.specs.Tables.Checks.{Tells}
-use Rattle.ac_tables.specs.Reader.TableRows.{row_shown}
-use Rattle.ac_tables.specs.Tables.UsageTable.{UsageRecord, usages_said}
-use Rattle.ac_tables.specs.Tables.Rows.{records_of}
+use Rattle.ac_tables.proofs.Common.{◌∙◌, ℕ, List, Option, map, length, get_or, refl, sym, ap, subst, on_total, nat_list_cmp_total, length-map, length_permutation, class_bytes, text_cmp, ClassName, Tells, row_shown, UsageRecord, usages_said, records_of, class_pair, inventory_records_shown, same_place, TableFault}
 use Rattle.ac_tables.specs.Tables.{amounts_of}
-use Rattle.ac_tables.specs.Reader.InventoryRows.{class_pair, inventory_records_shown}
-use Rattle.ac_tables.specs.Reader.RecordLaws.{same_place}
-use Rattle.ac_tables.specs.declared.fault.TableFault.{TableFault}
 use Rattle.ac_tables.proofs.Gathered.RowPlaces.{places_rise}
 use Rattle.ac_tables.proofs.Sorted.ProviderMaps.{shown_map}
 use Rattle.ac_tables.proofs.Sorted.ListFacts.{of_each}
@@ -53,8 +39,3 @@ pub returns-clause-ok : goal.returns-clause-ok
 returns-clause-ok c = λ records same.
     sym (same_fault c.args.inventories.now.ids.ids.items records (inventory_records_shown c.args.inventories.now.ids.ids.items c.args.inventories.now.rows.items.items) (records_of c.args.text.now) same)
     ∙ c.in-Ok.ensures.ok
-
-pub returns-clause-few : goal.returns-clause-few
-returns-clause-few c =
-    let few = c.in-Ok.ensures.few in
-    omega (arith, few, ap length c.in_ok-split.ensures.rows)

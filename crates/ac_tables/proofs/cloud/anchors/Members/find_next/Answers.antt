@@ -1,7 +1,4 @@
-use Rattle.std.proofs.Common.{◌<◌, ◌∙◌, [], map, length, sym, arith}
-use Rattle.std.proofs.lemmas.List.{get_or-map}
-use Rattle.ac_tables.specs.Cloud.Anchors.{list_items}
-use Rattle.ac_tables.specs.Reader.ListsOf.{lists_of}
+use Rattle.ac_tables.proofs.Common.{◌<◌, ◌∙◌, [], map, length, sym, arith, get_or-map, list_items, lists_of}
 use Rattle.ac_tables.proofs.Places.AnchorLists.{joined_some, joined_none}
 use Rattle.ac_tables.proofs.cloud.anchors.Members.find_next.Goals as goal
 

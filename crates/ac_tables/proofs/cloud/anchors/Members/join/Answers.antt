@@ -1,4 +1,4 @@
-use Rattle.ac_tables.specs.Reader.ListsOf.{lists_of}
+use Rattle.ac_tables.proofs.Common.{lists_of}
 use Rattle.ac_tables.proofs.Places.AnchorLists.{joined_list}
 use Rattle.ac_tables.proofs.cloud.anchors.Members.join.Goals as goal
 

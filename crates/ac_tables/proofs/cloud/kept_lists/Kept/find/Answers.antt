@@ -1,7 +1,4 @@
-use Rattle.std.proofs.Common.{◌<◌, length, ◌∙◌, sym, ap, [], arith}
-use Rattle.std.proofs.lemmas.List.{get_or-map}
-use Rattle.ac_tables.specs.Cloud.Anchors.{list_items}
-use Rattle.std.specs.Cmp.Lexicographic.{same_text}
+use Rattle.ac_tables.proofs.Common.{◌<◌, length, ◌∙◌, sym, ap, [], arith, get_or-map, list_items, same_text}
 use Rattle.ac_tables.proofs.cloud.kept_lists.Kept.find.Goals as goal
 
 pub returns-then-eq : goal.returns-then-eq

@@ -1,4 +1,4 @@
-use Rattle.std.proofs.Common.{sym}
+use Rattle.ac_tables.proofs.Common.{sym}
 use Rattle.ac_tables.proofs.Sorted.Rising.{rank_at}
 use Rattle.ac_tables.proofs.cloud.provider_index.Ids.find_near.Goals as goal
 

@@ -1,8 +1,4 @@
-use Rattle.std.proofs.Common.{◌≡◌, ◌∙◌, ℕ, List, [], ◌∷◌, false, length, map, get_or, ap, arith}
-use Rattle.std.specs.Global.{Vec}
-use Rattle.std.proofs.lemmas.List.{length-map, map-append, length-append}
-use Rattle.ac_tables.specs.Cloud.Anchors.{list_items, asked_at, wide, shared_ids}
-use Rattle.ac_tables.specs.Reader.ListsOf.{lists_of}
+use Rattle.ac_tables.proofs.Common.{◌≡◌, ◌∙◌, ℕ, List, [], ◌∷◌, false, length, map, get_or, ap, arith, Vec, length-map, map-append, length-append, list_items, asked_at, wide, shared_ids, lists_of}
 use Rattle.ac_tables.proofs.Places.AnchorLists.{each_more}
 use Rattle.ac_tables.proofs.cloud.roots_by_aggregate.Groups.ask.Goals as goal
 

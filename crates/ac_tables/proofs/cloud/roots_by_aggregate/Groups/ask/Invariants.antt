@@ -1,6 +1,4 @@
-use Rattle.std.proofs.Common.{◌≡◌, ◌<◌, ℕ, length}
-use Rattle.ac_tables.specs.Cloud.Anchors.{list_of, asked_at}
-use Rattle.ac_tables.specs.Reader.ListsOf.{lists_of}
+use Rattle.ac_tables.proofs.Common.{◌≡◌, ◌<◌, ℕ, length, list_of, asked_at, lists_of}
 use Rattle.ac_tables.proofs.cloud.roots_by_aggregate.Groups.ask.Given as goal
 
 abbrev pub invariant-loop-place : goal.invariant-loop-place

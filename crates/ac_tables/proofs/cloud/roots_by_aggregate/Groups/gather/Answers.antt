@@ -1,6 +1,4 @@
-use Rattle.std.proofs.Common.{ℕ, refl}
-use Rattle.ac_tables.specs.Reader.ListsOf.{lists_of}
-use Rattle.ac_tables.specs.Cloud.Anchors.{is_met}
+use Rattle.ac_tables.proofs.Common.{ℕ, refl, lists_of, is_met}
 use Rattle.ac_tables.proofs.Places.GroupFacts.{meets_more}
 use Rattle.ac_tables.proofs.cloud.roots_by_aggregate.Groups.gather.Goals as goal
 

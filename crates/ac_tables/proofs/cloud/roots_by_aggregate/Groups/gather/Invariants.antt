@@ -1,6 +1,4 @@
-use Rattle.std.proofs.Common.{◌≡◌, ℕ}
-use Rattle.ac_tables.specs.Cloud.Anchors.{is_met, meets}
-use Rattle.ac_tables.specs.Reader.ListsOf.{lists_of}
+use Rattle.ac_tables.proofs.Common.{◌≡◌, ℕ, is_met, meets, lists_of}
 use Rattle.ac_tables.proofs.cloud.roots_by_aggregate.Groups.gather.Given as goal
 
 abbrev pub invariant-loop-place : goal.invariant-loop-place

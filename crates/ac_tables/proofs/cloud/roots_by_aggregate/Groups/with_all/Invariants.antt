@@ -1,6 +1,4 @@
-use Rattle.std.proofs.Common.{◌≡◌, ℕ, take}
-use Rattle.std.specs.Prelude.{◌==◌, ◌||◌, ◌&&◌}
-use Rattle.ac_tables.specs.Cloud.Anchors.{is_met, is_among}
+use Rattle.ac_tables.proofs.Common.{◌≡◌, ℕ, take, ◌==◌, ◌||◌, ◌&&◌, is_met, is_among}
 use Rattle.ac_tables.proofs.cloud.roots_by_aggregate.Groups.with_all.Given as goal
 
 abbrev pub invariant-loop-aggregate : goal.invariant-loop-aggregate

@@ -1,4 +1,4 @@
-use Rattle.std.proofs.Common.{arith}
+use Rattle.ac_tables.proofs.Common.{arith}
 use Rattle.ac_tables.proofs.Sorted.ListFacts.{lists_sum}
 use Rattle.ac_tables.proofs.reader.lists.Lists.count.Goals as goal
 
@@ -6,6 +6,3 @@ pub returns-clause-sum : goal.returns-clause-sum
 returns-clause-sum g c =
     let list = c.args.self.now in
     omega (arith, c.len.ensures, list.items.ok.0, lists_sum list.items.items list.starts.items list.bounds)
-
-pub returns-clause-items : goal.returns-clause-items
-returns-clause-items g c = omega (arith, c.len.ensures, c.args.self.now.items.ok.0)

@@ -1,4 +1,4 @@
-use Rattle.std.proofs.Common.{arith}
+use Rattle.ac_tables.proofs.Common.{arith}
 use Rattle.ac_tables.proofs.Sorted.ListFacts.{lists_size}
 use Rattle.ac_tables.proofs.reader.lists.Lists.len.Goals as goal
 

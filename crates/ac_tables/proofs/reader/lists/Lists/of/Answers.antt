@@ -1,5 +1,4 @@
-use Rattle.std.proofs.Common.{◌∙◌, ◌+◌, ◌-◌, ℕ, arith, ap, ap₂, sym, length, take, drop}
-use Rattle.std.proofs.lemmas.List.{get_or_read}
+use Rattle.ac_tables.proofs.Common.{◌∙◌, ◌+◌, ◌-◌, ℕ, arith, ap, ap₂, sym, length, take, drop, get_or_read}
 use Rattle.ac_tables.proofs.Sorted.ListFacts.{lists_size, list_here}
 use Rattle.ac_tables.proofs.reader.lists.Lists.of.Goals as goal
 

@@ -1,13 +1,8 @@
-use Rattle.std.proofs.Common.{◌≡◌, ◌∙◌, ◌++◌, ◌∷◌, [], None, get_or, unwrap_or, refl, sym, ap}
-use Rattle.csv.specs.Records.{fields_of}
-use Rattle.ac_tables.specs.Tables.Checks.{first_failing}
-use Rattle.ac_base.specs.Texts.{id_value}
+use Rattle.ac_tables.proofs.Common.{◌≡◌, ◌∙◌, ◌++◌, ◌∷◌, [], None, get_or, unwrap_or, refl, sym, ap, fields_of, first_failing, id_value, id_in, text_in, uuid_name, owner_checks, known_checks, provider_name}
 use Rattle.ac_tables.specs.Reader.ColumnPlaces.{aggregate_places}
-use Rattle.ac_tables.specs.Tables.Columns.{bad_id, id_in, text_in}
-use Rattle.ac_tables.specs.declared.fault.TableKind.TheVariants as kind
-use Rattle.ac_tables.specs.Tables.ProviderTable.{uuid_name}
-use Rattle.ac_tables.specs.Tables.InventoryTable.{owner_checks, known_checks, provider_name}
+use Rattle.ac_tables.specs.Tables.Columns.{bad_id}
 use Rattle.ac_tables.specs.Tables.AggregateTable.{aggregate_field_checks, aggregate_record_checks, aggregate_said}
+use Rattle.ac_tables.specs.declared.fault.TableKind.TheVariants as kind
 use Rattle.ac_tables.proofs.Sorted.Rising.{one_of_place}
 use Rattle.ac_tables.proofs.FirstFailing.{append_none, append_some, none_both, unless_err, unless_none, unless_value}
 use Rattle.ac_tables.proofs.Records.KnownFacts.{known, unknown}

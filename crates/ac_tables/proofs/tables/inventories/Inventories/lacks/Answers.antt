@@ -1,13 +1,4 @@
-use Rattle.std.proofs.Common.{◌∙◌, List, [], map, ap, sym, subst, arith}
-use Rattle.std.specs.Prelude.{◌==◌, not}
-use Rattle.std.specs.List.{list_any}
-use Rattle.std.specs.List.Sorted.{IsStrictlySortedBy}
-use Rattle.std.specs.Str.{bytes_eq}
-use Rattle.ac_base.specs.Names.{class_bytes}
-use Rattle.ac_base.specs.Texts.{text_cmp}
-use Rattle.ac_base.specs.Quantities.{InventoryNumbers}
-use Rattle.ac_base.specs.declared.name.ClassName.{ClassName}
-use Rattle.ac_tables.specs.declared.reader.row.TableRow.{TableRow}
+use Rattle.ac_tables.proofs.Common.{◌∙◌, List, [], map, ap, sym, subst, arith, ◌==◌, not, list_any, IsStrictlySortedBy, bytes_eq, class_bytes, text_cmp, InventoryNumbers, ClassName, TableRow}
 use Rattle.ac_tables.proofs.Records.UsageKeys.{any_filter}
 use Rattle.ac_tables.proofs.Sorted.ListFacts.{lists_size, split_here}
 use Rattle.ac_tables.proofs.tables.inventories.Inventories.lacks.Goals as goal

@@ -1,12 +1,4 @@
-use Rattle.std.proofs.Common.{◌∙◌, ◌<◌, ◌==◌, map, length, ap, sym, subst}
-use Rattle.std.specs.List.{All, filter, range_with_len}
-use Rattle.std.proofs.lemmas.Cmp.{nat_list_cmp_total}
-use Rattle.std.specs.Cmp.{on_total}
-use Rattle.ac_base.specs.Names.{class_bytes}
-use Rattle.ac_base.specs.Quantities.{InventoryNumbers}
-use Rattle.ac_base.specs.Texts.{text_cmp}
-use Rattle.ac_base.specs.declared.name.ClassName.{ClassName}
-use Rattle.ac_tables.specs.declared.reader.row.TableRow.{TableRow}
+use Rattle.ac_tables.proofs.Common.{◌∙◌, ◌<◌, ◌==◌, map, length, ap, sym, subst, All, filter, range_with_len, nat_list_cmp_total, on_total, class_bytes, InventoryNumbers, text_cmp, ClassName, TableRow}
 use Rattle.ac_tables.proofs.Records.InventoryLists.{inventory_lists_here}
 use Rattle.ac_tables.proofs.Sorted.RiseFacts.{inventories_rise}
 use Rattle.ac_tables.proofs.Gathered.RowPlaces.{places_rise}

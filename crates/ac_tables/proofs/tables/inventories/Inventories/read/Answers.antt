@@ -1,13 +1,5 @@
-use Rattle.std.proofs.Common.{List, length, sym, ap, subst, arith}
-use Rattle.ac_tables.specs.Tables.InventoryTable.{InventoryRecord, inventories_said, inventories_fault}
-use Rattle.ac_tables.specs.Tables.Rows.{records_of}
-use Rattle.ac_tables.specs.Reader.InventoryRows.{inventory_shown, inventory_records_shown}
-use Rattle.std.specs.List.Sorted.{IsPermutation}
-use Rattle.std.proofs.lemmas.List.Sorted.{IsPermutation-map}
-use Rattle.ac_base.specs.Quantities.{InventoryNumbers}
-use Rattle.ac_base.specs.declared.name.ClassName.{ClassName}
-use Rattle.ac_tables.specs.Reader.TableRows.{row_shown}
-use Rattle.ac_tables.specs.declared.reader.row.TableRow.{TableRow}
+use Rattle.ac_tables.proofs.Common.{List, sym, subst, InventoryRecord, inventories_said, records_of, inventory_shown, inventory_records_shown, IsPermutation, IsPermutation-map, InventoryNumbers, ClassName, row_shown, TableRow}
+use Rattle.ac_tables.specs.Tables.InventoryTable.{inventories_fault}
 use Rattle.ac_tables.proofs.Records.InventoryLists.{inventory_lists_here}
 use Rattle.ac_tables.proofs.tables.inventories.Inventories.read.Goals as goal
 
@@ -31,8 +23,3 @@ returns-clause-said c =
     subst (λ (l : List InventoryRecord). IsPermutation l (inventory_records_shown ids c.in_ok-new.field-0.rows.items.items)) table.shows
     (subst (λ (l : List (TableRow ClassName InventoryNumbers)). IsPermutation (inventory_records_shown ids table.read) (inventory_records_shown ids l)) (sym c.in_ok-new.ensures.rows)
     (IsPermutation-map (row_shown (inventory_shown ids)) table.read c.in-Ok.rows.items table.same))
-
-pub returns-clause-few : goal.returns-clause-few
-returns-clause-few c =
-    let few = c.in-Ok.ensures.few in
-    omega (arith, few, ap length c.in_ok-new.ensures.rows)

@@ -1,8 +1,5 @@
-use Rattle.std.proofs.Common.{◌≡◌, ◌∙◌, ◌++◌, None, sym, ap}
-use Rattle.csv.specs.Records.{fields_of}
-use Rattle.ac_tables.specs.Tables.Checks.{first_failing}
-use Rattle.ac_tables.specs.Tables.Columns.{id_in}
-use Rattle.ac_tables.specs.Tables.InventoryTable.{inventory_said, inventory_field_checks, owner_checks, class_checks, number_checks, known_checks, provider_name}
+use Rattle.ac_tables.proofs.Common.{◌≡◌, ◌∙◌, ◌++◌, None, sym, ap, fields_of, first_failing, id_in, owner_checks, class_checks, known_checks, provider_name}
+use Rattle.ac_tables.specs.Tables.InventoryTable.{inventory_said, inventory_field_checks, number_checks}
 use Rattle.ac_tables.proofs.Sorted.Rising.{one_of_place}
 use Rattle.ac_tables.proofs.FirstFailing.{append_none, append_some, none_both, tells_back, tells_front, unless_err, unless_none, unless_value}
 use Rattle.ac_tables.proofs.Records.KnownFacts.{known, unknown}

@@ -1,13 +1,5 @@
-use Rattle.std.proofs.Common.{◌≡◌, ◌∙◌, ◌++◌, None, sym, ap}
-use Rattle.std.specs.List.{list_any}
-use Rattle.csv.specs.Records.{fields_of}
-use Rattle.ac_base.specs.Names.{class_bytes}
-use Rattle.ac_tables.specs.Tables.Checks.{first_failing}
-use Rattle.ac_tables.specs.Tables.Columns.{id_in, text_in}
-use Rattle.ac_tables.specs.Tables.InventoryTable.{provider_name, class_name, owner_checks, class_checks, is_inventory_of}
+use Rattle.ac_tables.proofs.Common.{◌≡◌, ◌∙◌, ◌++◌, None, sym, ap, list_any, fields_of, class_bytes, first_failing, id_in, text_in, provider_name, class_name, owner_checks, class_checks, is_inventory_of, inventory_records_shown, lone_checks}
 use Rattle.ac_tables.specs.Tables.UsageTable.{usage_said, usage_field_checks, amount_checks}
-use Rattle.ac_tables.specs.Reader.InventoryRows.{inventory_records_shown}
-use Rattle.ac_tables.specs.Reader.RecordLaws.{lone_checks}
 use Rattle.ac_tables.proofs.Sorted.Rising.{one_of_place}
 use Rattle.ac_tables.proofs.FirstFailing.{append_none, append_some, none_both, tells_back, tells_front, unless_err, unless_none, unless_value}
 use Rattle.ac_tables.proofs.Records.UsageKeys.{any_shown, lone_unknown, lone_nothing, lone_fine}
