@@ -109,16 +109,7 @@ first b (a ∷ rest) e = (a, (rest, refl))
 -- what was asked of a provider
 module _ (roots : List ℕ) (aggregates : List (List ℕ)) (groups : BTreeMap ℕ (Vec ℕ)) (gathered : (a r : ℕ) → is_met groups a r ≡ meets roots aggregates (length roots) a r)
     (own_inside : (j : ℕ) → j < length roots → get_or roots j 0 < length roots) (sharing : List Bool) (j : ℕ) (inside : j < length roots) (asked : List ℕ) (are : asked ≡ asked_at groups sharing aggregates j) where
-  -- who asked shares through an aggregate
-  pub asked_marked : is_joining true asked ≡ true → is_marked sharing aggregates j ≡ true
-  asked_marked some = at (get_or sharing j false) (get_or aggregates j []) (ap (is_joining true) (sym are) ∙ some)
-    where
-      at : (b : Bool) (l : List ℕ) → is_joining true (wide groups (shared_ids b l)) ≡ true → is_joining b l ≡ true
-      at true [] e = absurd (cc)
-      at true (x ∷ l) e = refl
-      at false l e = absurd (cc)
-
-  -- and its list is that of all its aggregates
+  -- its list is that of all its aggregates
   pub asked_joined : is_joining true asked ≡ true → joined roots aggregates asked ≡ joined roots aggregates (get_or aggregates j [])
   asked_joined some = at (get_or sharing j false) refl
     where

@@ -1,22 +1,13 @@
 //! Rows in order, made into a list for each provider.
-ghost use Rattle.std.specs.Prelude.{◌≡◌, ◌≤◌, ◌<◌, ◌+◌, ◌==◌, ℕ, slice_index_or, List, map, get_or, take, drop, ◌-◌, length, IfOk};
+ghost use Rattle.std.specs.Prelude.{◌≡◌, ◌≤◌, ◌<◌, ◌+◌, ◌==◌, ℕ, slice_index_or, map, ◌-◌, length, IfOk};
 ghost use Rattle.std.specs.List.{filter, All, range_with_len};
-ghost use Rattle.std.specs.List.Sorted.{IsNonDecreasingBy, IsStrictlySortedBy};
-ghost use Rattle.std.specs.Map.{lookup};
-ghost use Rattle.std.specs.Option.{option_map, option_copied};
-ghost use Rattle.std.specs.Str.{bytes_eq};
-ghost use Rattle.ac_base.specs.Names.{class_bytes};
-ghost use Rattle.ac_base.specs.Texts.{text_cmp};
-ghost use Rattle.ac_tables.specs.Tables.InventoryTable.{InventoryRecord};
-ghost use Rattle.ac_tables.specs.Tables.{inventories_of};
-ghost use Rattle.ac_tables.specs.Reader.InventoryRows.{AreInventories};
+ghost use Rattle.std.specs.List.Sorted.{IsNonDecreasingBy};
 ghost use Rattle.ac_tables.specs.Reader.TableRows.{AreStarts};
 ghost use Rattle.ac_tables.specs.Reader.ListsOf.{lists_of};
 
 use crate::cloud::provider_index::Ids;
 use crate::reader::lists::Lists;
 use crate::reader::row::TableRow;
-use ac_base::{ClassName, Inventory};
 use std::alloc::{AllocError, Global};
 
 // The first row from a place on that is of this provider or a later one.

@@ -1,8 +1,7 @@
 //! The table of aggregates: what a record of it says, and the aggregates of all providers.
 ghost use Rattle.std.specs.Prelude.{◌≡◌, false, [], length, get_or, ◌≤◌, None, map, IfOk, IfErr};
-ghost use Rattle.csv.specs.Records.{fields_of};
-ghost use Rattle.ac_tables.specs.Tables.Checks.{first_failing, unless, Tells};
-ghost use Rattle.ac_tables.specs.Tables.AggregateTable.{aggregate_said, aggregate_field_checks, AggregateRecord, aggregate_columns, aggregate_record_checks, aggregates_said, aggregates_fault};
+ghost use Rattle.ac_tables.specs.Tables.Checks.{Tells};
+ghost use Rattle.ac_tables.specs.Tables.AggregateTable.{aggregate_said, AggregateRecord, aggregate_columns, aggregate_record_checks, aggregates_said, aggregates_fault};
 ghost use Rattle.ac_tables.specs.Reader.ColumnPlaces.{aggregate_places};
 ghost use Rattle.ac_tables.specs.Tables.InventoryTable.{provider_name};
 ghost use Rattle.ac_tables.specs.Reader.RecordLaws.{aggregates_keyed, aggregates_apart};

@@ -2,8 +2,8 @@
 ghost use Rattle.std.specs.Prelude.{◌≡◌, None, IfOk, IfErr, ◌++◌, ◌==◌, true, length, get_or, ◌≤◌, ◌<◌, ◌&&◌, not, List, map};
 ghost use Rattle.csv.specs.Records.{fields_of};
 ghost use Rattle.ac_base.specs.Names.{class_bytes};
-ghost use Rattle.ac_tables.specs.Tables.Checks.{first_failing, unless, TellsKind, Tells};
-ghost use Rattle.ac_tables.specs.Tables.Columns.{id_in, text_in};
+ghost use Rattle.ac_tables.specs.Tables.Checks.{first_failing, unless, Tells};
+ghost use Rattle.ac_tables.specs.Tables.Columns.{id_in};
 ghost use Rattle.ac_tables.specs.Tables.InventoryTable.{provider_name, class_name, numbers_said, number_checks, inventory_field_checks, InventoryRecord, inventory_columns, inventory_said, inventory_record_checks, known_checks, is_inventory_of, inventories_said, inventories_fault};
 ghost use Rattle.ac_tables.specs.Reader.ColumnPlaces.{inventory_places};
 ghost use Rattle.ac_tables.specs.Reader.RecordLaws.{inventories_keyed, keys_apart};
@@ -30,7 +30,7 @@ use crate::reader::record::{Record, Seen};
 use crate::reader::records::text_at;
 use crate::reader::row::TableRow;
 use crate::reader::split::split;
-use ac_base::{ClassName, Id, Inventory, Names, Ratio, read_count};
+use ac_base::{ClassName, Inventory, Ratio, read_count};
 use csv::ByteRecord;
 use std::alloc::{AllocError, Global};
 

@@ -1,5 +1,5 @@
 //! The table of providers in the order of their ids.
-ghost use Rattle.std.specs.Prelude.{◌≡◌, ◌≤◌, ◌<◌, ◌&&◌, ◌==◌, not, ℕ, false, true, Some, None, List, length, map, get_or, IfOk, IfErr};
+ghost use Rattle.std.specs.Prelude.{◌≡◌, ◌<◌, ◌&&◌, ◌==◌, not, ℕ, false, Some, None, List, length, map, get_or, IfOk, IfErr};
 ghost use Rattle.std.specs.Option.{option_and_then, is_some, is_none};
 ghost use Rattle.ac_tables.specs.Reader.Listings.{IsListing, IsFirst};
 ghost use Rattle.ac_tables.specs.Cloud.Places.{rank};

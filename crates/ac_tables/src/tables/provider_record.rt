@@ -1,7 +1,5 @@
 //! A record of the table of providers.
 ghost use Rattle.std.specs.Prelude.{◌≡◌, true};
-ghost use Rattle.csv.specs.Records.{fields_of};
-ghost use Rattle.ac_tables.specs.Tables.Checks.{first_failing, unless};
 ghost use Rattle.ac_tables.specs.Reader.ColumnPlaces.{provider_places};
 ghost use Rattle.ac_tables.specs.Tables.ProviderTable.{says_none, ProviderRecord, is_at, provider_said, provider_field_checks, provider_columns};
 ghost use Rattle.ac_tables.specs.Reader.ProviderLaws.{provider_shown, named_checks, providers_keyed, providers_apart};

@@ -3,10 +3,10 @@ ghost use Rattle.std.specs.Prelude.{◌≡◌, None, IfOk, IfErr, false, [], len
 ghost use Rattle.csv.specs.Records.{fields_of};
 ghost use Rattle.ac_base.specs.Names.{trait_bytes};
 ghost use Rattle.ac_tables.specs.Tables.Checks.{first_failing, TellsKind, Tells};
-ghost use Rattle.ac_tables.specs.Tables.Columns.{id_in, text_in};
+ghost use Rattle.ac_tables.specs.Tables.Columns.{text_in};
 ghost use Rattle.ac_tables.specs.Reader.ColumnPlaces.{place_in, trait_places};
 ghost use Rattle.ac_tables.specs.Tables.InventoryTable.{provider_name};
-ghost use Rattle.ac_tables.specs.Tables.TraitTable.{name_name, name_checks, trait_field_checks, TraitRecord, trait_columns, trait_said, trait_record_checks, traits_said, traits_fault};
+ghost use Rattle.ac_tables.specs.Tables.TraitTable.{name_name, name_checks, TraitRecord, trait_columns, trait_said, trait_record_checks, traits_said, traits_fault};
 ghost use Rattle.ac_tables.specs.Reader.RecordLaws.{traits_keyed, traits_apart};
 ghost use Rattle.ac_tables.specs.Drain.{most_bytes};
 ghost use Rattle.ac_tables.specs.Reader.ListsOf.{lists_of};
@@ -24,7 +24,7 @@ use crate::reader::record::{Record, Seen};
 use crate::reader::records::text_at;
 use crate::reader::row::keep_first;
 use crate::reader::split::{keys_of, split};
-use ac_base::{Id, Names, TraitName};
+use ac_base::{Names, TraitName};
 use csv::ByteRecord;
 use std::alloc::Global;
 

@@ -2,7 +2,7 @@
 ghost use Rattle.std.specs.Prelude.{◌≡◌, None, IfOk, IfErr, ◌<◌, ◌++◌, true, length, get_or, ◌≤◌, List, map};
 ghost use Rattle.csv.specs.Records.{fields_of};
 ghost use Rattle.ac_base.specs.Names.{class_bytes};
-ghost use Rattle.ac_tables.specs.Tables.Checks.{first_failing, unless, TellsKind, Tells};
+ghost use Rattle.ac_tables.specs.Tables.Checks.{first_failing, unless, Tells};
 ghost use Rattle.ac_tables.specs.Tables.Columns.{id_in, text_in, number_in};
 ghost use Rattle.ac_tables.specs.Reader.ColumnPlaces.{place_in, usage_places};
 ghost use Rattle.ac_tables.specs.Tables.InventoryTable.{provider_name, class_name, InventoryRecord};
@@ -26,7 +26,7 @@ use crate::reader::records::text_at;
 use crate::reader::row::TableRow;
 use crate::reader::split::split;
 use crate::tables::inventories::Inventories;
-use ac_base::{ClassName, Id, Names, read_count};
+use ac_base::{ClassName, read_count};
 use csv::ByteRecord;
 use std::alloc::Global;
 
