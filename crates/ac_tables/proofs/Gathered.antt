@@ -3,7 +3,6 @@ pub mod FieldTexts
 pub mod GatheredRows
 pub mod Header
 pub mod JoinedFault
-pub mod Progress
 pub mod ProviderRows
 pub mod RowOrder
 pub mod RowPlaces

@@ -1,5 +1,5 @@
 -- Small facts of numbers, of truth values and of options.
-use Rattle.ac_tables.proofs.Common.{◌≡◌, ◌≢◌, ◌<◌, ◌≤◌, ℕ, Bool, true, false, Option, Some, None, refl, arith, rules, inl, inr, ◌⊎◌, ◌==◌, ◌||◌, min, not}
+use Rattle.ac_tables.proofs.Common.{◌≡◌, ◌≢◌, ◌+◌, ◌<◌, ◌≤◌, ℕ, Bool, true, false, Option, Some, None, refl, arith, rules, inl, inr, ◌⊎◌, ◌==◌, ◌||◌, min, not, is_some, subst, cases_lt}
 
 pub clash : (b : Bool) → b ≡ false → b ≡ true → ⊥
 clash b e f = cc
@@ -49,3 +49,11 @@ is_min_right m n a h e = omega arith
 pub some_or_none : (o : Option ℕ) → ((q : ℕ) × (o ≡ Some q)) ⊎ (o ≡ None)
 some_or_none None = inr refl
 some_or_none (Some q) = inl (q, refl)
+
+-- what holds of the first places and of one more
+pub one_more : (P : ℕ → Type 0) (n : ℕ) → ((b : ℕ) → b < n → P b) → P n → (b : ℕ) → b < n + 1 → P b
+one_more P n first last b h = elim (cases_lt b n) [ inl less ↦ first b less | inr e ↦ (let same : n ≡ b = omega (arith, e, h) in subst P same last) ]
+
+pub none_is : (o : Option ℕ) → is_some o ≡ false → o ≡ None
+none_is None e = refl
+none_is (Some x) e = absurd (cc)

@@ -1,5 +1,6 @@
 -- What was gathered is the world that the tables state.
 use Rattle.ac_tables.proofs.Common.{◌≡◌, ◌<◌, ◌+◌, ◌∙◌, ℕ, List, [], ◌∷◌, map, length, get_or, refl, sym, ap, ap₂, option_and_then, sum_by, fold, get_or-map, InventoryNumbers, TextMap, rank, providers_said, said_parent, inventories_said, usages_said, traits_said, aggregates_said, AreKin, Provider, with_used_lists, numbered_at, Tables, inventories_of, amounts_of, names_of, aggregates_of, with_used, gathered}
+use Rattle.std.proofs.lemmas.List.Folds.{fold-map}
 use Rattle.ac_tables.specs.World.{Sizes}
 use Rattle.ac_tables.specs.Cloud.Numbered.{numbered}
 use Rattle.ac_tables.proofs.Places.BuildFacts.{agree}
@@ -26,14 +27,10 @@ stated t ids us ss ns gs kin eu es en ea =
     (ap (λ l. get_or l i []) en ∙ get_or-map (names_of (traits_said t.traits)) ids i 0 [] h)
     (ap (λ l. get_or l i []) ea ∙ get_or-map (aggregates_of (aggregates_said t.aggregates)) ids i 0 [] h))
 
-sum_map : {A B : Type 0} (f : B → ℕ) (g : A → B) (k : ℕ) (xs : List A) → fold (λ a x. a + f x) k (map g xs) ≡ fold (λ a x. a + f (g x)) k xs
-sum_map f g k [] = refl
-sum_map f g k (x ∷ xs) = sum_map f g (k + f (g x)) xs
-
 -- how many items there are in all lists
 pub counted : {X Y : Type 0} (show : List X → List Y) (same : (l : List X) → length (show l) ≡ length l) (lists : List (List X)) (gather : ℕ → List Y) (ids : List ℕ) → map show lists ≡ map gather ids
     → sum_by length lists ≡ sum_by (λ id. length (gather id)) ids
-counted show same lists gather ids e = same_sums show same 0 lists ∙ sym (sum_map length show 0 lists) ∙ ap (sum_by length) e ∙ sum_map length gather 0 ids
+counted show same lists gather ids e = same_sums show same 0 lists ∙ sym (fold-map (λ a x. a + length x) show 0 lists) ∙ ap (sum_by length) e ∙ fold-map (λ a x. a + length x) gather 0 ids
   where
     same_sums : {X Y : Type 0} (show : List X → List Y) (same : (l : List X) → length (show l) ≡ length l) (k : ℕ) (lists : List (List X))
         → fold (λ a l. a + length l) k lists ≡ fold (λ a l. a + length (show l)) k lists

@@ -1,22 +1,20 @@
 -- The roots of the trees in which a provider is available.
-use Rattle.ac_tables.proofs.Common.{◌≡◌, ◌∙◌, ◌<◌, ◌+◌, ℕ, zero, suc, Bool, true, false, List, [], ◌∷◌, length, get_or, None, refl, sym, ap, ap₂, arith, inl, inr, ◌==◌, ◌&&◌, ◌||◌, codes, if◌then◌else◌, is_some, bytes_eq, nat_cmp, list_any, filter, range_with_len, cases_Bool, false≢true, list_any_at, get_or-range_with_len, length-range_with_len, parent_in, trait_bytes, lists_of, is_among, meets_at, meets, is_joined, joined, is_joining, is_marked, Provider, no_provider, provider_at, id_at, root_of, is_root, is_available_at, anchors_of, providers_of, Cloud, or-false}
+use Rattle.ac_tables.proofs.Common.{◌≡◌, ◌∙◌, ◌<◌, ◌+◌, ℕ, zero, suc, Bool, true, false, List, [], ◌∷◌, length, get_or, None, refl, sym, ap, ap₂, arith, ◌==◌, ◌&&◌, ◌||◌, codes, if◌then◌else◌, is_some, bytes_eq, nat_cmp, list_any, filter, range_with_len, false≢true, list_any_at, get_or-range_with_len, length-range_with_len, parent_in, trait_bytes, lists_of, is_among, meets_at, meets, is_joined, joined, is_joining, is_marked, Provider, no_provider, provider_at, id_at, root_of, is_root, is_available_at, anchors_of, providers_of, Cloud, or-false}
 use Rattle.std.specs.List.Sorted.{IsStrictlySortedBy}
 use Rattle.ac_tables.specs.World.{shares, is_associated, have_common_aggregate}
-use Rattle.ac_tables.proofs.Sorted.SearchFacts.{any_map, no_any}
+use Rattle.std.proofs.lemmas.Bool.{and_left, and_right, or_right}
+use Rattle.std.proofs.lemmas.List.Folds.{list_any_none}
+use Rattle.std.proofs.lemmas.List.FromFn.{fill_by_all}
+use Rattle.ac_tables.proofs.Sorted.SearchFacts.{any_map}
 use Rattle.ac_tables.proofs.Places.CloudFacts.{traits_here, aggregates_here, size, parent_is, root_inside, root_here, parts}
 use Rattle.ac_tables.proofs.Places.AvailableFacts.{root_test, root_here as root_is_here}
-use Rattle.ac_tables.proofs.Places.AnchorLists.{rising_filter}
+use Rattle.ac_tables.proofs.Places.AnchorLists.{joined_where, rising_filter}
 
 -- a test of the items of a list is a test of its places
-any_from : {A : Type 0} (f : A → Bool) (g : ℕ → A) (k : ℕ) (xs : List A) (d : A) → ((i : ℕ) → i < length xs → g (k + i) ≡ get_or xs i d) → list_any f xs ≡ list_any (λ (q : ℕ). f (g q)) (range_with_len k (length xs))
-any_from f g k [] d same = refl
-any_from f g k (x ∷ xs) d same =
-    let here : k + zero ≡ k = omega arith in
-    ap₂ (λ b c. b || c) (ap f (sym (ap g (sym here) ∙ same zero (omega arith))))
-    (any_from f g (k + 1) xs d (λ (i : ℕ) (h : i < length xs). let next : k + 1 + i ≡ k + suc i = omega arith in ap g next ∙ same (suc i) (omega arith)))
-
 any_places : {A : Type 0} (f : A → Bool) (xs : List A) (d : A) → list_any f xs ≡ list_any (λ (q : ℕ). f (get_or xs q d)) (range_with_len 0 (length xs))
-any_places f xs d = any_from f (λ (q : ℕ). get_or xs q d) 0 xs d (λ (i : ℕ) (h : i < length xs). let same : 0 + i ≡ i = omega arith in ap (λ (q : ℕ). get_or xs q d) same)
+any_places f xs d =
+    let numbers = range_with_len 0 (length xs) in
+    ap (list_any f) (fill_by_all (λ q. get_or xs q d) xs (length xs) d refl (λ q h. refl)) ∙ sym (any_map (λ q. f (get_or xs q d)) f (λ q. get_or xs q d) (λ q. refl) numbers)
 
 -- equal tests of the numbers below n
 any_range : (p q : ℕ → Bool) (n a : ℕ) → ((i : ℕ) → i < a + n → p i ≡ q i) → list_any p (range_with_len a n) ≡ list_any q (range_with_len a n)
@@ -40,16 +38,12 @@ any_or u v (x ∷ xs) = ap (λ b. (u x || v x) || b) (any_or u v xs) ∙ four (u
     four false true false d = refl
     four false false c d = refl
 
-any_none : {A : Type 0} (xs : List A) → list_any (λ x. false) xs ≡ false
-any_none [] = refl
-any_none (x ∷ xs) = any_none xs
-
 and_any : {A : Type 0} (b : Bool) (g : A → Bool) (xs : List A) → (b && list_any g xs) ≡ list_any (λ x. b && g x) xs
 and_any true g xs = refl
-and_any false g xs = sym (any_none xs)
+and_any false g xs = sym (list_any_none (λ x. false) xs (λ k d h. refl))
 
 pub any_swap : {Q A : Type 0} (f : Q → Bool) (g : Q → A → Bool) (qs : List Q) (xs : List A) → list_any (λ q. f q && list_any (g q) xs) qs ≡ list_any (λ x. list_any (λ q. f q && g q x) qs) xs
-any_swap f g [] xs = sym (any_none xs)
+any_swap f g [] xs = sym (list_any_none (λ x. false) xs (λ k d h. refl))
 any_swap f g (q ∷ qs) xs = ap₂ (λ b c. b || c) (and_any (f q) (g q) xs) (any_swap f g qs xs) ∙ sym (any_or (λ x. f q && g q x) (λ x. list_any (λ r. f r && g r x) qs) xs)
 
 alone : (x : ℕ) → IsStrictlySortedBy nat_cmp (x ∷ [])
@@ -69,11 +63,7 @@ by_root true false s j none up = none
 by_root false false s j none up = refl
 
 by_join : (r e s j : Bool) → s ≡ true → (e ≡ true → j ≡ true) → (j ≡ true → r ≡ true) → (r && (e || (s && j))) ≡ j
-by_join r e s true sharing own up = rw (sharing, up refl) (last e)
-  where
-    last : (e : Bool) → (e || true) ≡ true
-    last true = refl
-    last false = refl
+by_join r e s true sharing own up = rw (sharing, up refl) (or_right e true refl)
 by_join r true s false sharing own up = absurd (false≢true (own refl))
 by_join true false s false sharing own up = rw sharing refl
 by_join false false s false sharing own up = refl
@@ -116,21 +106,9 @@ module _ (c : Cloud) where
 
   -- where some aggregate joins, there is a root
   joined_root : (ids : List ℕ) (r : ℕ) → r < length c.ids.ids.items → is_joined roots groups ids r ≡ true → is_root (providers_of c) (id_at (providers_of c) r) ≡ true
-  joined_root ids r hr j = elim (cases_Bool (is_root (providers_of c) (id_at (providers_of c) r))) [
-    | inl e ↦ e
-    | inr e ↦
-        let nowhere : is_joined roots groups ids r ≡ false =
-        no_any (λ (a : ℕ). meets roots groups (length roots) a r) ids (λ (k d : ℕ) (b : k < length ids).
-        no_any (meets_at roots groups (get_or ids k d) r) (range_with_len 0 (length roots)) (λ (i e2 : ℕ) (below : i < length (range_with_len 0 (length roots))).
-        let i_below : i < length roots = omega (arith, below, length-range_with_len 0 (length roots)) in
-        let here : get_or (range_with_len 0 (length roots)) i e2 ≡ 0 + i = get_or-range_with_len 0 (length roots) i e2 i_below in
-        let none : 0 + i ≡ i = omega arith in
-        ap (meets_at roots groups (get_or ids k d) r) (here ∙ none) ∙ ap (λ b. b && is_among (get_or ids k d) (get_or groups i [])) (apart i (omega (arith, i_below, (parts c).with_roots)) e))) in
-        absurd (false≢true (sym nowhere ∙ j))
-  ]
-    where
-      apart : (i : ℕ) → i < length c.ids.ids.items → is_root (providers_of c) (id_at (providers_of c) r) ≡ false → (get_or roots i 0 == r) ≡ false
-      apart i hi e = elim (cases_Bool (get_or roots i 0 == r)) [ inl t ↦ absurd (false≢true (sym e ∙ is_top i r hi hr t)) | inr f ↦ f ]
+  joined_root ids r hr j =
+      let q = joined_where roots groups ids r j in
+      is_top q.0 r (omega (arith, q.1, (parts c).with_roots)) hr q.2
 
   -- who belongs to some aggregate joins its own root
   joins_own : (ix r : ℕ) (a : ℕ) (ids : List ℕ) → ix < length c.ids.ids.items → get_or groups ix [] ≡ a ∷ ids → (get_or roots ix 0 == r) ≡ true → is_joined roots groups (a ∷ ids) r ≡ true
@@ -164,10 +142,8 @@ module _ (c : Cloud) where
       ∙ ap (λ (n : ℕ). filter (is_available_at (providers_of c) ix) (range_with_len 0 n)) (sym (size c))
     where
       no_join : (s : Bool) (ids : List ℕ) (r : ℕ) → is_joining s ids ≡ false → (s && is_joined roots groups ids r) ≡ false
-      no_join true [] r e = refl
-      no_join false [] r e = refl
-      no_join true (a ∷ ids) r e = absurd (false≢true (sym e))
-      no_join false (a ∷ ids) r e = refl
+      no_join s [] r e = and_right s false refl
+      no_join s (a ∷ ids) r e = and_left s _ e
 
   -- who does is available where its aggregates join
   pub anchors_joined : (ix : ℕ) → ix < length c.ids.ids.items → is_marked c.sharing.items groups ix ≡ true → joined roots groups (get_or groups ix []) ≡ anchors_of (providers_of c) ix

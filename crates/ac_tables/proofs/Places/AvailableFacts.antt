@@ -1,5 +1,7 @@
 -- A root is told by its place, and is known by having no parent.
-use Rattle.ac_tables.proofs.Common.{◌≡◌, ◌<◌, ◌∙◌, ℕ, Bool, true, false, length, Option, Some, None, refl, sym, ap, ◌==◌, ◌&&◌, is_some, is_none, option_map, id_at, place_of, parent_of, root_of, is_root, providers_of, Cloud}
+use Rattle.ac_tables.proofs.Common.{◌≡◌, ◌<◌, ◌∙◌, ℕ, true, false, length, Option, sym, ap, ◌==◌, is_some, is_none, option_map, id_at, place_of, parent_of, root_of, is_root, providers_of, Cloud}
+use Rattle.std.proofs.lemmas.Bool.{and_from}
+use Rattle.ac_tables.proofs.Small.{none_is}
 use Rattle.ac_tables.proofs.Sorted.Rising.{rank_at}
 use Rattle.ac_tables.proofs.Places.CloudFacts.{id_here, place_here}
 use Rattle.ac_tables.proofs.Trees.AncestorFacts.{same_test}
@@ -9,16 +11,9 @@ pub root_test : (c : Cloud) (ix r root : ℕ) → r < length c.ids.ids.items →
     → (root_of (providers_of c) (id_at (providers_of c) ix) == id_at (providers_of c) root) ≡ (r == root)
 root_test c ix r root hr h e = ap (λ (x : ℕ). x == id_at (providers_of c) root) (sym e) ∙ same_test c r root hr h
 
-none_of : (f : ℕ → ℕ) (o : Option ℕ) → is_some o ≡ false → is_none (option_map f o) ≡ true
-none_of f None e = refl
-none_of f (Some x) e = absurd (cc)
-
 pub root_here : (c : Cloud) (ix : ℕ) (o : Option ℕ) → ix < length c.ids.ids.items → option_map (id_at (providers_of c)) o ≡ parent_of (providers_of c) (id_at (providers_of c) ix) → is_some o ≡ false
     → is_root (providers_of c) (id_at (providers_of c) ix) ≡ true
 root_here c ix o h e none =
-    both (is_some (place_of (providers_of c) (id_at (providers_of c) ix))) (is_none (parent_of (providers_of c) (id_at (providers_of c) ix)))
+    and_from (is_some (place_of (providers_of c) (id_at (providers_of c) ix))) (is_none (parent_of (providers_of c) (id_at (providers_of c) ix)))
     (ap is_some (place_here c (id_at (providers_of c) ix) ∙ rank_at c.ids.ids.items (id_at (providers_of c) ix) ix c.ids.rising h (sym (id_here c ix h))))
-    (ap is_none (sym e) ∙ none_of (id_at (providers_of c)) o none)
-  where
-    both : (a b : Bool) → a ≡ true → b ≡ true → (a && b) ≡ true
-    both a b e f = rw (e, f) refl
+    (ap is_none (sym e ∙ ap (option_map (id_at (providers_of c))) (none_is o none)))

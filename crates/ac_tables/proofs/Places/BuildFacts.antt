@@ -1,21 +1,15 @@
 -- The parents of providers by their places, and where their chains end.
-use Rattle.ac_tables.proofs.Common.{◌≡◌, ◌<◌, ◌+◌, ◌∙◌, ℕ, zero, suc, true, false, List, [], ◌∷◌, map, length, get_or, Option, Some, None, refl, sym, ap, subst, arith, inl, inr, ◌==◌, IfSome, option_map, option_and_then, is_some, position_from, cases_Bool, get_or-map, length-map, top, is_endless, rank, parent_in, AreWithin, AreParents, ProviderRecord, said_parent, is_one_of}
+use Rattle.ac_tables.proofs.Common.{◌≡◌, ◌<◌, ◌+◌, ◌∙◌, ℕ, true, false, List, [], ◌∷◌, map, length, get_or, Option, Some, None, refl, sym, ap, arith, inl, inr, ◌==◌, IfSome, option_map, option_and_then, is_some, position_from, cases_Bool, get_or-map, length-map, top, is_endless, rank, parent_in, AreWithin, AreParents, ProviderRecord, said_parent, is_one_of}
+use Rattle.std.proofs.lemmas.Iterator.Adapters.{position_from-zero}
+use Rattle.std.proofs.lemmas.List.Quantifiers.{position-Some}
 use Rattle.ac_tables.proofs.Trees.PlaceTrees.{steps}
 use Rattle.ac_tables.proofs.Small.{are_equal}
-
-found : (q k : ℕ) (xs : List ℕ) (j : ℕ) → position_from (λ p. p == q) k xs ≡ Some j → (m : ℕ) × (j ≡ k + m) × (m < length xs) × (get_or xs m 0 ≡ q)
-found q k [] j e = absurd (cc)
-found q k (x ∷ xs) j e = elim (cases_Bool (x == q)) [
-  | inl h ↦ let same : k ≡ j = cc (rw h at e) in (zero, omega (arith, same), omega arith, are_equal x q h)
-  | inr h ↦ let rest = found q (k + 1) xs j (rw h at e) in (suc rest.0, omega (arith, rest.1), omega (arith, rest.2), rest.3)
-]
 
 -- what has a place is there
 pub ranked : (ids : List ℕ) (q j : ℕ) → rank ids q ≡ Some j → (j < length ids) × (get_or ids j 0 ≡ q)
 ranked ids q j e =
-    let f = found q 0 ids j e in
-    let same : f.0 ≡ j = omega (arith, f.1) in
-    (omega (arith, f.1, f.2), subst (λ (m : ℕ). get_or ids m 0 ≡ q) same f.3)
+    let found = position-Some (λ p. p == q) ids j 0 (position_from-zero (λ p. p == q) ids ∙ e) in
+    (found.0, are_equal (get_or ids j 0) q found.1)
 
 place_from : (q k : ℕ) (xs : List ℕ) → is_one_of xs q ≡ true → (j : ℕ) × (position_from (λ p. p == q) k xs ≡ Some j)
 place_from q k [] h = absurd (cc)

@@ -1,23 +1,15 @@
 -- Gathering roots one by one.
-use Rattle.ac_tables.proofs.Common.{◌≡◌, ◌∙◌, ◌<◌, ◌+◌, ℕ, zero, suc, Bool, true, false, List, [], take, length, get_or, refl, sym, ap, ap₂, arith, ◌==◌, ◌||◌, ◌&&◌, if◌then◌else◌, list_any, range_with_len, nat_cmp, is_at, is_among, meets_at, meets, or-false}
-use Rattle.std.proofs.lemmas.List.Folds.{list_any_more}
-use Rattle.ac_tables.proofs.Small.{or_grouped}
-
-range_more : (f : ℕ → Bool) (n a : ℕ) → list_any f (range_with_len a (suc n)) ≡ (list_any f (range_with_len a n) || f (a + n))
-range_more f zero a =
-    let none : a ≡ a + zero = omega arith in
-    or-false (f a) ∙ ap f none
-range_more f (suc n) a =
-    let next : a + 1 + n ≡ a + suc n = omega arith in
-    ap (λ b. f a || b) (range_more f n (a + 1)) ∙ or_grouped (f a) (list_any f (range_with_len (a + 1) n)) (f (a + 1 + n))
-    ∙ ap (λ (j : ℕ). list_any f (range_with_len a (suc n)) || f j) next
+use Rattle.ac_tables.proofs.Common.{◌≡◌, ◌∙◌, ◌<◌, ◌+◌, ℕ, Bool, true, false, List, [], ◌∷◌, map, take, length, get_or, refl, sym, ap, ap₂, arith, ◌==◌, ◌||◌, ◌&&◌, if◌then◌else◌, list_any, range_with_len, nat_cmp, is_at, is_among, meets_at, meets, or-false}
+use Rattle.std.proofs.lemmas.List.Folds.{list_any-append, list_any_more}
+use Rattle.std.proofs.lemmas.List.FromFn.{map-range_with_len_more}
+use Rattle.ac_tables.proofs.Sorted.SearchFacts.{any_map}
 
 -- one more number of a range
-pub any_range_more : (f : ℕ → Bool) (n : ℕ) → list_any f (range_with_len 0 (n + 1)) ≡ (list_any f (range_with_len 0 n) || f n)
+any_range_more : (f : ℕ → Bool) (n : ℕ) → list_any f (range_with_len 0 (n + 1)) ≡ (list_any f (range_with_len 0 n) || f n)
 any_range_more f n =
-    let one : n + 1 ≡ suc n = omega arith in
-    let same : 0 + n ≡ n = omega arith in
-    ap (λ (j : ℕ). list_any f (range_with_len 0 j)) one ∙ range_more f n 0 ∙ ap (λ (j : ℕ). list_any f (range_with_len 0 n) || f j) same
+    let all = any_map f (λ b. b) f (λ q. refl) in
+    all (range_with_len 0 (n + 1)) ∙ ap (list_any (λ b. b)) (map-range_with_len_more f 0 n n (omega arith))
+    ∙ list_any-append (λ b. b) (map f (range_with_len 0 n)) (f n ∷ []) ∙ ap₂ (λ a b. a || b) (sym (all (range_with_len 0 n))) (or-false (f n))
 
 -- the roots of the first providers and of one more
 pub meets_more : (roots : List ℕ) (aggregates : List (List ℕ)) (n a r : ℕ) (root : ℕ) (ids : List ℕ) (old new : Bool) → root ≡ get_or roots n 0 → ids ≡ get_or aggregates n []

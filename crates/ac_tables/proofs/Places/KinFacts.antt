@@ -1,27 +1,21 @@
 -- The ids of a fine table of providers: their parents are there, and their chains end.
-use Rattle.ac_tables.proofs.Common.{◌≡◌, ◌<◌, ◌+◌, ◌∙◌, ℕ, zero, suc, true, false, List, [], ◌∷◌, map, length, get_or, Option, Some, None, refl, sym, ap, ap₂, subst, arith, inl, inr, ◌==◌, is_some, option_and_then, position_from, nat_cmp, cases_Bool, rising, is_one_of, AreKin, is_endless, AreTrees, ProviderRecord, record_at, said_parent, no_record, has_endless_chain}
+use Rattle.ac_tables.proofs.Common.{◌≡◌, ◌<◌, ◌+◌, ◌∙◌, ℕ, true, false, List, [], ◌∷◌, map, length, get_or, Option, Some, None, refl, sym, ap, ap₂, inl, inr, ◌==◌, is_some, option_and_then, position_from, nat_cmp, cases_Bool, rising, is_one_of, AreKin, is_endless, AreTrees, ProviderRecord, record_at, said_parent, no_record, has_endless_chain}
 use Rattle.ac_tables.specs.Tables.ProviderTable.{is_at, place_of, endless_fault}
 use Rattle.ac_tables.specs.declared.fault.Table.TheVariants as table
 use Rattle.ac_tables.specs.declared.fault.TableKind.TheVariants as kind
+use Rattle.std.proofs.lemmas.Iterator.Adapters.{position_from-zero}
+use Rattle.std.proofs.lemmas.List.Quantifiers.{position-Some}
 use Rattle.ac_tables.proofs.Records.ProviderFaults.{none_fails}
 use Rattle.ac_tables.proofs.Sorted.Rising.{one_of_place}
 use Rattle.ac_tables.proofs.Sorted.SameItems.{member_rising}
 use Rattle.ac_tables.proofs.Small.{are_equal}
 
 -- a place that was found has that id
-found_at : (q i : ℕ) (xs : List ProviderRecord) (k : ℕ) → position_from (is_at q) i xs ≡ Some k → (m : ℕ) × (k ≡ i + m) × (m < length xs) × ((record_at xs m).id ≡ q)
-found_at q i [] k e = absurd (cc)
-found_at q i (x ∷ xs) k e = elim (cases_Bool (is_at q x)) [
-  | inl h ↦ let same : i ≡ k = cc (rw h at e) in (zero, omega (arith, same), omega arith, are_equal x.id q h)
-  | inr h ↦ let rest = found_at q (i + 1) xs k (rw h at e) in (suc rest.0, omega (arith, rest.1), omega (arith, rest.2), rest.3)
-]
-
 pub place_found : (all : List ProviderRecord) (q j : ℕ) → place_of all q ≡ Some j → (j < length all) × ((record_at all j).id ≡ q)
 unfolding place_of
 place_found all q j e =
-    let f = found_at q 0 all j e in
-    let same : f.0 ≡ j = omega (arith, f.1) in
-    (omega (arith, f.1, f.2), subst (λ (m : ℕ). (record_at all m).id ≡ q) same f.3)
+    let found = position-Some (is_at q) all j no_record (position_from-zero (is_at q) all ∙ e) in
+    (found.0, are_equal (record_at all j).id q found.1)
 
 position_member : (q k : ℕ) (rows : List ProviderRecord) → is_some (position_from (is_at q) k rows) ≡ is_one_of (map (λ p. p.id) rows) q
 position_member q k [] = refl

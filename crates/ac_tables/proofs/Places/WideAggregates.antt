@@ -1,18 +1,17 @@
 -- Aggregates of one tree add nothing to a provider of that tree.
-use Rattle.ac_tables.proofs.Common.{◌≡◌, ◌∙◌, ◌<◌, ◌+◌, ℕ, zero, suc, Bool, true, false, List, [], ◌∷◌, length, get_or, refl, sym, ap, ap₂, subst, arith, inl, inr, ◌==◌, ◌&&◌, ◌||◌, not, Vec, nat_cmp, list_any, filter, range_with_len, BTreeMap, cases_Bool, false≢true, list_any_at, get_or-range_with_len, length-range_with_len, is_met, is_among, meets_at, meets, is_joined, joined, is_joining, is_marked, wide, shared_ids, asked_at}
+use Rattle.ac_tables.proofs.Common.{◌≡◌, ◌∙◌, ◌<◌, ◌+◌, ℕ, zero, suc, Bool, true, false, List, [], ◌∷◌, length, get_or, refl, sym, ap, ap₂, subst, arith, inl, inr, ◌==◌, ◌&&◌, ◌||◌, not, Vec, nat_cmp, list_any, filter, range_with_len, BTreeMap, cases_Bool, false≢true, list_any_at, or-false, All, get_or-range_with_len, length-range_with_len, is_met, is_among, meets_at, meets, is_joined, joined, is_joining, is_marked, wide, shared_ids, asked_at}
 use Rattle.std.specs.BTreeMap.{get}
+use Rattle.std.proofs.lemmas.Bool.{false_from_ne_true}
+use Rattle.std.proofs.lemmas.List.Elements.{All-filter}
+use Rattle.std.proofs.lemmas.List.Sums.{count_by-le-length, length-filter}
 use Rattle.ac_tables.specs.Cloud.Anchors.{roots_in, is_lone}
 use Rattle.ac_tables.proofs.Places.AnchorFacts.{filter_range, one_item}
 use Rattle.ac_tables.proofs.Small.{are_equal, equal, not_false}
 
-first_true : (b : Bool) → (b || false) ≡ true → b ≡ true
-first_true true e = refl
-first_true false e = e
-
 one_root : (rs : List ℕ) (x y : ℕ) → (length rs == 1) ≡ true → list_any (λ (r : ℕ). r == x) rs ≡ true → list_any (λ (r : ℕ). r == y) rs ≡ true → x ≡ y
 one_root [] x y e f g = absurd (cc)
 one_root (r ∷ []) x y e f g =
-    sym (are_equal r x (first_true (r == x) f)) ∙ are_equal r y (first_true (r == y) g)
+    sym (are_equal r x (sym (or-false (r == x)) ∙ f)) ∙ are_equal r y (sym (or-false (r == y)) ∙ g)
 one_root (r ∷ s ∷ rs) x y e f g = absurd (let same = are_equal (length (r ∷ s ∷ rs)) 1 e in omega (arith, same))
 
 -- leaving out what fails a test anyway
@@ -25,19 +24,9 @@ any_kept p q (x ∷ ids) h =
       | inr e ↦ rw e (rest ∙ ap (λ b. b || list_any p ids) (sym (h zero x (omega arith) e)))
     ]
 
-first_kept : (p q : ℕ → Bool) (ids : List ℕ) (a : ℕ) (rest : List ℕ) → ((k : ℕ) (d : ℕ) → k < length ids → p (get_or ids k d) ≡ true) → filter q ids ≡ a ∷ rest → p a ≡ true
-first_kept p q [] a rest all e = absurd (cc)
-first_kept p q (x ∷ ids) a rest all e = elim (cases_Bool (q x)) [
-  | inl is ↦ (let same : x ≡ a = cc (rw is at e) in ap p (sym same) ∙ all zero x (omega arith))
-  | inr not ↦ first_kept p q ids a rest (λ (k d : ℕ) i. all (suc k) d (omega arith)) (rw not at e)
-]
-
-some_true : (p : ℕ → Bool) (ids : List ℕ) (a : ℕ) (rest : List ℕ) → ids ≡ a ∷ rest → p a ≡ true → list_any p ids ≡ true
-some_true p ids a rest e h = ap (list_any p) e ∙ ap (λ b. b || list_any p rest) h
-
-any_first : (p : ℕ → Bool) (ids : List ℕ) → ((k : ℕ) (d : ℕ) → k < length ids → p (get_or ids k d) ≡ true) → (q : ℕ → Bool) (a : ℕ) (rest : List ℕ) → filter q ids ≡ a ∷ rest → list_any p ids ≡ true
-any_first p [] all q a rest e = absurd (cc)
-any_first p (x ∷ ids) all q a rest e = ap (λ b. b || list_any p ids) (all zero x (omega arith))
+-- some pass where all do
+any_all : (p : ℕ → Bool) (ids : List ℕ) → 0 < length ids → All (λ a. p a ≡ true) ids → list_any p ids ≡ true
+any_all p ids some all = list_any_at p ids 0 0 some (all 0 0 some)
 
 module _ (roots : List ℕ) (aggregates : List (List ℕ)) (groups : BTreeMap ℕ (Vec ℕ)) (gathered : (a r : ℕ) → is_met groups a r ≡ meets roots aggregates (length roots) a r) (j : ℕ) (inside : j < length roots) (own_inside : get_or roots j 0 < length roots) where
   abbrev own : ℕ
@@ -63,80 +52,57 @@ module _ (roots : List ℕ) (aggregates : List (List ℕ)) (groups : BTreeMap �
 
   -- at another root an aggregate of one tree meets nothing
   lone_elsewhere : (r : ℕ) → (own == r) ≡ false → (k d : ℕ) → k < length ids → not (lone (get_or ids k d)) ≡ false → met r (get_or ids k d) ≡ false
-  lone_elsewhere r apart k d h e = elim (cases_Bool (met r (get_or ids k d))) [
-    | inl there ↦ absurd (
-        let one = one_root (roots_in (get nat_cmp groups (get_or ids k d))) own r (not_false (lone (get_or ids k d)) e) (gathered (get_or ids k d) own ∙ meets_own k d h) (gathered (get_or ids k d) r ∙ there) in
-        clash one)
-    | inr fine ↦ fine
-  ]
-    where
-      clash : own ≡ r → ⊥
-      clash one = false≢true (sym apart ∙ equal own r one)
+  lone_elsewhere r apart k d h e = false_from_ne_true (met r (get_or ids k d)) (λ there.
+      let one = one_root (roots_in (get nat_cmp groups (get_or ids k d))) own r (not_false (lone (get_or ids k d)) e) (gathered (get_or ids k d) own ∙ meets_own k d h) (gathered (get_or ids k d) r ∙ there) in
+      false≢true (sym apart ∙ equal own r one))
 
-  pub wide_joined : (a : ℕ) (rest : List ℕ) → wide groups ids ≡ a ∷ rest → joined roots aggregates (wide groups ids) ≡ joined roots aggregates ids
-  wide_joined a rest e = filter_range (is_joined roots aggregates (wide groups ids)) (is_joined roots aggregates ids) (length roots) 0 (λ (r : ℕ) h. at r)
+  wide_joined : 0 < length (wide groups ids) → joined roots aggregates (wide groups ids) ≡ joined roots aggregates ids
+  wide_joined some = filter_range (is_joined roots aggregates (wide groups ids)) (is_joined roots aggregates ids) (length roots) 0 (λ (r : ℕ) h. at r)
     where
       at : (r : ℕ) → is_joined roots aggregates (wide groups ids) r ≡ is_joined roots aggregates ids r
       at r = elim (cases_Bool (own == r)) [
         | inl is ↦
             let same : own ≡ r = are_equal own r is in
+            let fewer : 0 < length ids = omega (arith, some, length-filter (λ a. not (lone a)) ids, count_by-le-length (λ a. not (lone a)) ids) in
             subst (λ (s : ℕ). is_joined roots aggregates (wide groups ids) s ≡ is_joined roots aggregates ids s) same
-            (some_true (met own) (wide groups ids) a rest e (first_kept (met own) (λ a. not (lone a)) ids a rest meets_own e)
-            ∙ sym (any_first (met own) ids meets_own (λ a. not (lone a)) a rest e))
+            (any_all (met own) (wide groups ids) some (All-filter (λ a. not (lone a)) (λ a. met own a ≡ true) ids meets_own) ∙ sym (any_all (met own) ids fewer meets_own))
         | inr apart ↦ any_kept (met r) (λ a. not (lone a)) ids (lone_elsewhere r apart)
       ]
 
-  pub lone_joined : (a : ℕ) (rest : List ℕ) → ids ≡ a ∷ rest → wide groups ids ≡ [] → joined roots aggregates ids ≡ get_or roots j 0 ∷ []
-  lone_joined a rest some none = filter_range (is_joined roots aggregates ids) (λ (r : ℕ). own == r) (length roots) 0 (λ (r : ℕ) h. at r) ∙ sym (one_item own (length roots) own_inside)
+  lone_joined : 0 < length ids → wide groups ids ≡ [] → joined roots aggregates ids ≡ get_or roots j 0 ∷ []
+  lone_joined some none = filter_range (is_joined roots aggregates ids) (λ (r : ℕ). own == r) (length roots) 0 (λ (r : ℕ) h. at r) ∙ sym (one_item own (length roots) own_inside)
     where
       at : (r : ℕ) → is_joined roots aggregates ids r ≡ (own == r)
       at r = elim (cases_Bool (own == r)) [
         | inl is ↦
             let same : own ≡ r = are_equal own r is in
-            subst (λ (s : ℕ). is_joined roots aggregates ids s ≡ (own == r)) same (some_true (met own) ids a rest some (meets_first some) ∙ sym is)
+            subst (λ (s : ℕ). is_joined roots aggregates ids s ≡ (own == s)) same (any_all (met own) ids some meets_own ∙ sym (equal own own refl))
         | inr apart ↦ sym (any_kept (met r) (λ b. not (lone b)) ids (lone_elsewhere r apart)) ∙ ap (list_any (met r)) none ∙ sym apart
       ]
-        where
-          meets_first : ids ≡ a ∷ rest → met own a ≡ true
-          meets_first e =
-              let sized : length ids ≡ suc (length rest) = ap length e in
-              subst (λ (b : ℕ). met own b ≡ true) (ap (λ (l : List ℕ). get_or l 0 0) e) (meets_own 0 0 (omega (arith, sized)))
 
-first : (b : Bool) (l : List ℕ) → is_joining b l ≡ true → (a : ℕ) × ((rest : List ℕ) × (l ≡ a ∷ rest))
-first b [] e = absurd (cc)
-first b (a ∷ rest) e = (a, (rest, refl))
+some_of : (b : Bool) (l : List ℕ) → is_joining b l ≡ true → (b ≡ true) × (0 < length l)
+some_of b [] e = absurd (cc)
+some_of b (a ∷ rest) e = (e, omega arith)
 
 -- what was asked of a provider
 module _ (roots : List ℕ) (aggregates : List (List ℕ)) (groups : BTreeMap ℕ (Vec ℕ)) (gathered : (a r : ℕ) → is_met groups a r ≡ meets roots aggregates (length roots) a r)
     (own_inside : (j : ℕ) → j < length roots → get_or roots j 0 < length roots) (sharing : List Bool) (j : ℕ) (inside : j < length roots) (asked : List ℕ) (are : asked ≡ asked_at groups sharing aggregates j) where
   -- its list is that of all its aggregates
   pub asked_joined : is_joining true asked ≡ true → joined roots aggregates asked ≡ joined roots aggregates (get_or aggregates j [])
-  asked_joined some = at (get_or sharing j false) refl
+  asked_joined some = at (get_or sharing j false) are
     where
-      at : (b : Bool) → get_or sharing j false ≡ b → joined roots aggregates asked ≡ joined roots aggregates (get_or aggregates j [])
+      at : (b : Bool) → asked ≡ wide groups (shared_ids b (get_or aggregates j [])) → joined roots aggregates asked ≡ joined roots aggregates (get_or aggregates j [])
       at true is =
-          let e : asked ≡ wide groups (get_or aggregates j []) = are ∙ ap (λ b. wide groups (shared_ids b (get_or aggregates j []))) is in
-          let f = first true asked some in
-          ap (joined roots aggregates) e ∙ wide_joined roots aggregates groups gathered j inside (own_inside j inside) f.0 f.1.0 (sym e ∙ f.1.1)
-      at false is =
-          let e : asked ≡ [] = are ∙ ap (λ b. wide groups (shared_ids b (get_or aggregates j []))) is in
-          absurd (let g : is_joining true [] ≡ true = ap (is_joining true) (sym e) ∙ some in cc)
+          ap (joined roots aggregates) is ∙ wide_joined roots aggregates groups gathered j inside (own_inside j inside) (omega (arith, ap length is, (some_of true asked some).1))
+      at false is = absurd (let none = (some_of true asked some).1 in omega (arith, ap length is, none))
 
   -- who has nothing to ask is available in its own tree
   pub asked_alone : is_joining true asked ≡ false → is_marked sharing aggregates j ≡ true → joined roots aggregates (get_or aggregates j []) ≡ get_or roots j 0 ∷ []
-  asked_alone nothing marked = at (get_or sharing j false) refl
+  asked_alone nothing marked =
+      let shares = some_of (get_or sharing j false) (get_or aggregates j []) marked in
+      let e : asked ≡ wide groups (get_or aggregates j []) = are ∙ ap (λ b. wide groups (shared_ids b (get_or aggregates j []))) shares.0 in
+      lone_joined roots aggregates groups gathered j inside (own_inside j inside) shares.1 (sym e ∙ empty asked nothing)
     where
       empty : (l : List ℕ) → is_joining true l ≡ false → l ≡ []
       empty [] e = refl
       empty (a ∷ rest) e = absurd (cc)
-
-      shares : (b : Bool) (l : List ℕ) → is_joining b l ≡ true → b ≡ true
-      shares b [] e = absurd (cc)
-      shares b (a ∷ rest) e = e
-
-      at : (b : Bool) → get_or sharing j false ≡ b → joined roots aggregates (get_or aggregates j []) ≡ get_or roots j 0 ∷ []
-      at true is =
-          let e : asked ≡ wide groups (get_or aggregates j []) = are ∙ ap (λ b. wide groups (shared_ids b (get_or aggregates j []))) is in
-          let f = first (get_or sharing j false) (get_or aggregates j []) marked in
-          lone_joined roots aggregates groups gathered j inside (own_inside j inside) f.0 f.1.0 f.1.1 (sym e ∙ empty asked nothing)
-      at false is = absurd (false≢true (sym is ∙ shares (get_or sharing j false) (get_or aggregates j []) marked))

@@ -1,61 +1,46 @@
 -- The faults of the tables, in their order.
-use Rattle.ac_tables.proofs.Common.{◌≡◌, ◌∙◌, ◌++◌, ℕ, Bool, List, Option, Some, None, refl, codes, Bor, option_map, Tells, records_of, inventories_said, Tables, records_or_header, TableFault}
+use Rattle.ac_tables.proofs.Common.{◌≡◌, rules, ℕ, List, Option, Some, None, refl, codes, Bor, option_map, Tells, records_of, inventories_said, Tables, records_or_header, TableFault}
 use Rattle.csv.proofs.OnLiterals.{csv_on_literals}
 use Rattle.ac_tables.specs.SourceText.{text_or}
-use Rattle.ac_tables.specs.Tables.ProviderTable.{provider_checks, providers_fault, uuid_name}
-use Rattle.ac_tables.specs.Tables.InventoryTable.{inventory_checks, inventories_fault, provider_name, class_name}
-use Rattle.ac_tables.specs.Tables.UsageTable.{usage_checks, usages_fault, usage_columns, usage_name}
-use Rattle.ac_tables.specs.Tables.TraitTable.{trait_checks, traits_fault, trait_columns, name_name}
-use Rattle.ac_tables.specs.Tables.AggregateTable.{aggregate_checks, aggregates_fault, aggregate_columns}
+use Rattle.ac_tables.specs.Tables.ProviderTable.{providers_fault, uuid_name}
+use Rattle.ac_tables.specs.Tables.InventoryTable.{inventories_fault, provider_name, class_name}
+use Rattle.ac_tables.specs.Tables.UsageTable.{usages_fault, usage_columns, usage_name}
+use Rattle.ac_tables.specs.Tables.TraitTable.{traits_fault, trait_columns, name_name}
+use Rattle.ac_tables.specs.Tables.AggregateTable.{aggregates_fault, aggregate_columns}
 use Rattle.ac_tables.specs.Tables.{ids_of, tables_fault}
 use Rattle.ac_tables.proofs.FirstFailing.{append_none}
 use Rattle.ac_tables.proofs.Records.ProviderFaults.{tells_first, tells_next}
 
 module _ (t : Tables) where
-  abbrev P : List (Bool × TableFault)
-  P = provider_checks t.providers
-
-  abbrev I : List (Bool × TableFault)
-  I = inventory_checks (ids_of t.providers) t.inventories
-
-  abbrev U : List (Bool × TableFault)
-  U = usage_checks (ids_of t.providers) (inventories_said t.inventories) t.usages
-
-  abbrev M : List (Bool × TableFault)
-  M = trait_checks (ids_of t.providers) t.traits
-
-  abbrev A : List (Bool × TableFault)
-  A = aggregate_checks (ids_of t.providers) t.aggregates
-
   pub tells_providers : (e : TableFault) → Tells (providers_fault t.providers) e → Tells (tables_fault t) e
   unfolding tables_fault providers_fault
-  tells_providers e h = tells_first (((P ++ I) ++ U) ++ M) A e (tells_first ((P ++ I) ++ U) M e (tells_first (P ++ I) U e (tells_first P I e h)))
+  tells_providers e h = search (rules, tells_first, tells_next)
 
   pub tells_inventories : (e : TableFault) → providers_fault t.providers ≡ None → Tells (inventories_fault (ids_of t.providers) t.inventories) e → Tells (tables_fault t) e
   unfolding tables_fault providers_fault inventories_fault
-  tells_inventories e p h = tells_first (((P ++ I) ++ U) ++ M) A e (tells_first ((P ++ I) ++ U) M e (tells_first (P ++ I) U e (tells_next P I e p h)))
+  tells_inventories e p h = search (rules, tells_first, tells_next)
 
   pub tells_usages : (e : TableFault) → providers_fault t.providers ≡ None → inventories_fault (ids_of t.providers) t.inventories ≡ None
       → Tells (usages_fault (ids_of t.providers) (inventories_said t.inventories) t.usages) e → Tells (tables_fault t) e
   unfolding tables_fault providers_fault inventories_fault usages_fault
-  tells_usages e p i h = tells_first (((P ++ I) ++ U) ++ M) A e (tells_first ((P ++ I) ++ U) M e (tells_next (P ++ I) U e (append_none P I p ∙ i) h))
+  tells_usages e p i h = search (rules, tells_first, tells_next, append_none)
 
   pub tells_traits : (e : TableFault) → providers_fault t.providers ≡ None → inventories_fault (ids_of t.providers) t.inventories ≡ None
       → usages_fault (ids_of t.providers) (inventories_said t.inventories) t.usages ≡ None → Tells (traits_fault (ids_of t.providers) t.traits) e → Tells (tables_fault t) e
   unfolding tables_fault providers_fault inventories_fault usages_fault traits_fault
-  tells_traits e p i u h = tells_first (((P ++ I) ++ U) ++ M) A e (tells_next ((P ++ I) ++ U) M e (append_none (P ++ I) U (append_none P I p ∙ i) ∙ u) h)
+  tells_traits e p i u h = search (rules, tells_first, tells_next, append_none)
 
   pub tells_aggregates : (e : TableFault) → providers_fault t.providers ≡ None → inventories_fault (ids_of t.providers) t.inventories ≡ None
       → usages_fault (ids_of t.providers) (inventories_said t.inventories) t.usages ≡ None → traits_fault (ids_of t.providers) t.traits ≡ None
       → Tells (aggregates_fault (ids_of t.providers) t.aggregates) e → Tells (tables_fault t) e
   unfolding tables_fault providers_fault inventories_fault usages_fault traits_fault aggregates_fault
-  tells_aggregates e p i u m h = tells_next (((P ++ I) ++ U) ++ M) A e (append_none ((P ++ I) ++ U) M (append_none (P ++ I) U (append_none P I p ∙ i) ∙ u) ∙ m) h
+  tells_aggregates e p i u m h = search (rules, tells_first, tells_next, append_none)
 
   pub none_at_all : providers_fault t.providers ≡ None → inventories_fault (ids_of t.providers) t.inventories ≡ None
       → usages_fault (ids_of t.providers) (inventories_said t.inventories) t.usages ≡ None → traits_fault (ids_of t.providers) t.traits ≡ None
       → aggregates_fault (ids_of t.providers) t.aggregates ≡ None → tables_fault t ≡ None
   unfolding tables_fault providers_fault inventories_fault usages_fault traits_fault aggregates_fault
-  none_at_all p i u m a = append_none (((P ++ I) ++ U) ++ M) A (append_none ((P ++ I) ++ U) M (append_none (P ++ I) U (append_none P I p ∙ i) ∙ u) ∙ m) ∙ a
+  none_at_all p i u m a = search (rules, append_none)
 
 -- an absent table is its header alone
 pub usage_text : (o : Option (Bor (List ℕ))) → records_of (text_or o (codes "resource_provider,resource_class,usage")) ≡ records_or_header usage_columns (option_map (λ t. t.now) o)

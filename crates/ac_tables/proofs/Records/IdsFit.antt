@@ -3,7 +3,7 @@ use Rattle.ac_tables.proofs.Common.{◌≡◌, ◌<◌, ◌+◌, ◌*◌, ◌^�
 use Rattle.std.proofs.Common.{slice_index}
 use Rattle.std.specs.List.{list_all}
 use Rattle.std.specs.Int.{from_be_bytes, w128}
-use Rattle.std.proofs.lemmas.Bool.{eqb-true}
+use Rattle.std.proofs.lemmas.Bool.{and_parts, eqb-true}
 use Rattle.std.proofs.lemmas.List.Sums.{AllPass-from_list_all}
 use Rattle.uuid.specs.Text.{by_index, is_hex_digit, value_of, byte_of_digits, parsed_simple, digits_of, has_hyphens, parsed_hyphenated, parsed_braced, parsed_urn, parsed}
 use Rattle.uuid.proofs.TextLemmas.{by_index_at}
@@ -25,14 +25,6 @@ bytes_fit bs h =
     (h 8 (omega arith)) (h 9 (omega arith)) (h 10 (omega arith)) (h 11 (omega arith)) (h 12 (omega arith)) (h 13 (omega arith)) (h 14 (omega arith)) (h 15 (omega arith))
 
 -- ---- the bytes of a text
-first : (a b : Bool) → (a && b) ≡ true → a ≡ true
-first true b h = refl
-first false b h = absurd (cc)
-
-second : (a b : Bool) → (a && b) ≡ true → b ≡ true
-second true b h = h
-second false b h = absurd (cc)
-
 digit_small : (c : ℕ) → is_hex_digit c ≡ true → value_of c < 16
 digit_small c h = grind (arith, nat_tests)
 
@@ -41,10 +33,7 @@ byte_small hex long all j h =
     let digits = AllPass-from_list_all is_hex_digit hex all in
     let high = digit_small (slice_index hex (2 * j)) (digits (2 * j) 0 (omega (arith, long, h))) in
     let low = digit_small (slice_index hex (2 * j + 1)) (digits (2 * j + 1) 0 (omega (arith, long, h))) in
-    pair (value_of (slice_index hex (2 * j))) (value_of (slice_index hex (2 * j + 1))) high low
-  where
-    pair : (a b : ℕ) → a < 16 → b < 16 → a * 16 + b < 256
-    pair a b h k = omega arith
+    omega (arith, high, low)
 
 either_some : (b : Bool) (x y : Option (List ℕ)) → IfSome x AreBytes → IfSome y AreBytes → IfSome (if b then x else y) AreBytes
 either_some true x y h k = h
@@ -55,8 +44,8 @@ simple_bytes hex = by_test ((length hex == 32) && list_all is_hex_digit hex) ref
   where
     by_test : (b : Bool) → ((length hex == 32) && list_all is_hex_digit hex) ≡ b → IfSome (if b then Some (by_index 16 (byte_of_digits hex)) else None) AreBytes
     by_test true is =
-        let long : length hex ≡ 32 = eqb-true (length hex) 32 (first _ _ is) in
-        λ i h. subst (λ v. v < 256) (sym (by_index_at 16 (byte_of_digits hex) i 0 h)) (byte_small hex long (second (length hex == 32) _ is) i h)
+        let long : length hex ≡ 32 = eqb-true (length hex) 32 ((and_parts _ _ is).0) in
+        λ i h. subst (λ v. v < 256) (sym (by_index_at 16 (byte_of_digits hex) i 0 h)) (byte_small hex long ((and_parts (length hex == 32) _ is).1) i h)
     by_test false is = tt
 
 hyphenated_bytes : (s : List ℕ) → IfSome (parsed_hyphenated s) AreBytes

@@ -1,12 +1,18 @@
 -- Whether a provider is there.
-use Rattle.ac_tables.proofs.Common.{◌≡◌, ℕ, true, false, List, Some, None, refl, first_failing, is_one_of}
+use Rattle.ac_tables.proofs.Common.{◌≡◌, ◌∙◌, ◌<◌, ◌++◌, ℕ, false, List, length, get_or, Some, None, refl, sym, first_failing, is_one_of, Check, TableKind}
 use Rattle.ac_tables.specs.Tables.InventoryTable.{known_checks}
 use Rattle.ac_tables.specs.declared.fault.TableKind.TheVariants as kind
+use Rattle.ac_tables.proofs.FirstFailing.{append_none}
+use Rattle.ac_tables.proofs.Sorted.Rising.{one_of_place}
 
-pub unknown : (ids : List ℕ) (id : ℕ) → is_one_of ids id ≡ false → first_failing (known_checks ids id) ≡ Some kind.UnknownProvider
+pub unknown : (ids : List ℕ) (id said : ℕ) → id ≡ said → is_one_of ids id ≡ false → first_failing (known_checks ids said) ≡ Some kind.UnknownProvider
 unfolding known_checks
-unknown ids id absent = rw absent refl
+unknown ids id said e absent = rw (sym e, absent) refl
 
-pub known : (ids : List ℕ) (id : ℕ) → is_one_of ids id ≡ true → first_failing (known_checks ids id) ≡ None
+pub known : (ids : List ℕ) (said place : ℕ) → place < length ids → get_or ids place 0 ≡ said → first_failing (known_checks ids said) ≡ None
 unfolding known_checks
-known ids id there = rw there refl
+known ids said place inside found = rw (one_of_place ids said place inside found) refl
+
+-- a check that fails after others that don't
+pub later : (xs ys : List Check) (k : TableKind) → first_failing xs ≡ None → first_failing ys ≡ Some k → first_failing (xs ++ ys) ≡ Some k
+later xs ys k none h = append_none xs ys none ∙ h

@@ -1,12 +1,12 @@
 -- The limit on the number of providers, beside all other checks of their table.
-use Rattle.ac_tables.proofs.Common.{◌≡◌, ◌∙◌, ◌+◌, ◌<◌, ◌≤◌, ◌++◌, ℕ, Bool, true, false, List, [], ◌∷◌, map, length, Option, Some, None, refl, sym, ap, ap₂, arith, rules, inl, inr, ◌⊎◌, nat_lt, nat_le, if◌then◌else◌, is_some, list_any, position_from, cases_Bool, cases_lt, length-append, length-map, Row, Check, first_failing, record_checks, told_at, Tells, table_checks, ProviderRecord, is_known, providers_said, provider_columns, TableKind, TableFault}
+use Rattle.ac_tables.proofs.Common.{◌≡◌, ◌∙◌, ◌+◌, ◌<◌, ◌≤◌, ◌++◌, ℕ, Bool, true, false, List, [], ◌∷◌, map, length, Option, Some, None, refl, sym, ap, ap₂, arith, rules, inl, inr, ◌⊎◌, nat_lt, nat_le, is_some, list_any, position_from, cases_Bool, cases_lt, length-append, length-map, Row, Check, first_failing, record_checks, told_at, Tells, table_checks, ProviderRecord, is_known, providers_said, provider_columns, TableKind, TableFault}
 use Rattle.ac_tables.specs.Tables.Columns.{header_checks}
 use Rattle.ac_tables.specs.Tables.ProviderTable.{is_at, place_of, provider_said, provider_field_checks, place_checks, provider_record_checks, provider_records_fault}
 use Rattle.ac_tables.specs.Reader.ProviderLaws.{named_checks, limited, one_too_many}
 use Rattle.ac_tables.specs.declared.fault.Table.TheVariants as table
 use Rattle.ac_tables.specs.declared.fault.TableKind.TheVariants as kind
 use Rattle.ac_tables.specs.declared.fault.TableFault.TheVariants as fault
-use Rattle.ac_tables.proofs.FirstFailing.{told_none, told_some}
+use Rattle.ac_tables.proofs.FirstFailing.{append_none, append_some, told_none, told_some}
 
 any_position : (p : ProviderRecord → Bool) (i : ℕ) (xs : List ProviderRecord) → is_some (position_from p i xs) ≡ list_any p xs
 any_position p i [] = refl
@@ -29,16 +29,6 @@ unfolding provider_record_checks named_checks place_checks provider_said
 split_checks header before row =
     ap (λ b. first_failing (provider_field_checks header row ++ (b, kind.Duplicate) ∷ (nat_le 65536 (length before), kind.TooManyProviders) ∷ [])) (any_known before (provider_said header row).id)
     ∙ more (provider_field_checks header row) (list_any (is_at (provider_said header row).id) before) (nat_le 65536 (length before))
-
-kept : (cs more : List Check) (k : TableKind) → first_failing cs ≡ Some k → first_failing (cs ++ more) ≡ Some k
-kept [] more k e = absurd (cc)
-kept ((true, j) ∷ cs) more k e = e
-kept ((false, j) ∷ cs) more k e = kept cs more k e
-
-last : (cs : List Check) (b : Bool) (k : TableKind) → first_failing cs ≡ None → first_failing (cs ++ (b, k) ∷ []) ≡ if b then Some k else None
-last [] b k e = refl
-last ((true, j) ∷ cs) b k e = absurd (cc)
-last ((false, j) ∷ cs) b k e = last cs b k e
 
 cases_kind : (o : Option TableKind) → (o ≡ None) ⊎ ((k : TableKind) × (o ≡ Some k))
 cases_kind None = inl refl
@@ -83,12 +73,12 @@ module _ (header : Row) where
   within before [] h = rw (lt_false 65536 (length before + 0) (omega (arith, h))) refl
   within before (row ∷ rows) h = elim (cases_kind (first_failing (named_checks header before row))) [
     | inr (k, e) ↦
-        let own = split_checks header before row ∙ kept (named_checks header before row) _ k e in
+        let own = split_checks header before row ∙ append_some (named_checks header before row) ((nat_le 65536 (length before), kind.TooManyProviders) ∷ []) k e in
         rw (told_some table.Providers (length before + 2) (provider_record_checks header before row) (record_checks table.Providers (provider_said header) (provider_record_checks header) (before ++ provider_said header row ∷ []) rows) k own)
         (rw (told_some table.Providers (length before + 2) (named_checks header before row) (record_checks table.Providers (provider_said header) (named_checks header) (before ++ provider_said header row ∷ []) rows) k e)
         (rw (lt_false 65538 (length before + 2) (omega (arith, h))) refl))
     | inl fine ↦
-        let own = split_checks header before row ∙ last (named_checks header before row) (nat_le 65536 (length before)) kind.TooManyProviders fine in
+        let own = split_checks header before row ∙ append_none (named_checks header before row) ((nat_le 65536 (length before), kind.TooManyProviders) ∷ []) fine in
         rw (told_none table.Providers (length before + 2) (named_checks header before row) (record_checks table.Providers (provider_said header) (named_checks header) (before ++ provider_said header row ∷ []) rows) fine)
         (elim (cases_lt (length before) 65536) [
           | inl less ↦

@@ -1,6 +1,6 @@
 -- The faults of the parts, in their order, are the fault of the whole.
-use Rattle.ac_tables.proofs.Common.{◌≡◌, ◌<◌, ◌∙◌, ◌++◌, ℕ, Bool, true, false, List, [], ◌∷◌, length, get_or, Option, Some, None, refl, arith, zero, suc, ◌+◌, inl, inr, ◌&&◌, not, is_some, unwrap_or, cases_Bool, first_failing, pass, Tells, table_checks, AreTrees, AreDistinct, ProviderRecord, record_at, no_record, providers_said, provider_columns, has_unknown_parent, has_endless_chain, has_wrong_root, Table, TableKind, TableFault}
-use Rattle.ac_tables.specs.Tables.ProviderTable.{place_of, provider_said, provider_record_checks, tree_checks, unknown_fault, endless_fault, root_fault, trees_fault, provider_records_fault, providers_fault}
+use Rattle.ac_tables.proofs.Common.{◌≡◌, ◌<◌, ◌∙◌, ◌++◌, ℕ, Bool, true, false, List, [], ◌∷◌, length, get_or, Option, Some, None, refl, arith, rules, zero, suc, ◌+◌, inl, inr, ◌&&◌, not, is_some, unwrap_or, cases_Bool, first_failing, pass, Tells, AreTrees, AreDistinct, ProviderRecord, record_at, no_record, providers_said, has_unknown_parent, Table, TableKind, TableFault}
+use Rattle.ac_tables.specs.Tables.ProviderTable.{place_of, unknown_fault, endless_fault, root_fault, trees_fault, provider_records_fault, providers_fault}
 use Rattle.ac_tables.specs.declared.fault.Table.TheVariants as table
 use Rattle.ac_tables.specs.declared.fault.TableKind.TheVariants as kind
 use Rattle.ac_tables.specs.declared.fault.TableFault.TheVariants as fault
@@ -16,40 +16,31 @@ tells_next xs ys fault.NoMemory none h = tt
 
 pub tells_table : (rows : List (List (List ℕ))) (e : TableFault) → Tells (provider_records_fault rows) e → Tells (providers_fault rows) e
 unfolding provider_records_fault providers_fault
-tells_table rows e h = tells_first (table_checks table.Providers provider_columns provider_said provider_record_checks rows) (tree_checks (providers_said rows)) e h
+tells_table rows e h = search (rules, tells_first)
 
 pub tells_trees : (rows : List (List (List ℕ))) (e : TableFault) → provider_records_fault rows ≡ None → Tells (trees_fault (providers_said rows)) e → Tells (providers_fault rows) e
 unfolding provider_records_fault trees_fault providers_fault
-tells_trees rows e none h = tells_next (table_checks table.Providers provider_columns provider_said provider_record_checks rows) (tree_checks (providers_said rows)) e none h
+tells_trees rows e none h = search (rules, tells_first, tells_next)
 
 pub none_whole : (rows : List (List (List ℕ))) → provider_records_fault rows ≡ None → trees_fault (providers_said rows) ≡ None → providers_fault rows ≡ None
 unfolding provider_records_fault trees_fault providers_fault
-none_whole rows none h = append_none (table_checks table.Providers provider_columns provider_said provider_record_checks rows) (tree_checks (providers_said rows)) none ∙ h
-
-abbrev unknown_pass : List ProviderRecord → List (Bool × TableFault)
-unknown_pass all = pass table.Providers kind.UnknownParent (has_unknown_parent all) 2 all
-
-abbrev cycle_pass : List ProviderRecord → List (Bool × TableFault)
-cycle_pass all = pass table.Providers kind.ParentCycle (has_endless_chain all) 2 all
-
-abbrev root_pass : List ProviderRecord → List (Bool × TableFault)
-root_pass all = pass table.Providers kind.WrongRoot (has_wrong_root all) 2 all
+none_whole rows none h = search (rules, append_none)
 
 pub tells_unknown : (all : List ProviderRecord) (e : TableFault) → Tells (unknown_fault all) e → Tells (trees_fault all) e
 unfolding unknown_fault trees_fault
-tells_unknown all e h = tells_first (unknown_pass all ++ cycle_pass all) (root_pass all) e (tells_first (unknown_pass all) (cycle_pass all) e h)
+tells_unknown all e h = search (rules, tells_first, tells_next)
 
 pub tells_cycle : (all : List ProviderRecord) (e : TableFault) → unknown_fault all ≡ None → Tells (endless_fault all) e → Tells (trees_fault all) e
 unfolding unknown_fault endless_fault trees_fault
-tells_cycle all e none h = tells_first (unknown_pass all ++ cycle_pass all) (root_pass all) e (tells_next (unknown_pass all) (cycle_pass all) e none h)
+tells_cycle all e none h = search (rules, tells_first, tells_next)
 
 pub tells_root : (all : List ProviderRecord) (e : TableFault) → unknown_fault all ≡ None → endless_fault all ≡ None → Tells (root_fault all) e → Tells (trees_fault all) e
 unfolding unknown_fault endless_fault root_fault trees_fault
-tells_root all e none none2 h = tells_next (unknown_pass all ++ cycle_pass all) (root_pass all) e (append_none (unknown_pass all) (cycle_pass all) none ∙ none2) h
+tells_root all e none none2 h = search (rules, tells_first, tells_next, append_none)
 
 pub none_trees : (all : List ProviderRecord) → unknown_fault all ≡ None → endless_fault all ≡ None → root_fault all ≡ None → trees_fault all ≡ None
 unfolding unknown_fault endless_fault root_fault trees_fault
-none_trees all none none2 none3 = append_none (unknown_pass all ++ cycle_pass all) (root_pass all) (append_none (unknown_pass all) (cycle_pass all) none ∙ none2) ∙ none3
+none_trees all none none2 none3 = search (rules, append_none)
 
 -- where a pass finds nothing, no item fails
 pub none_fails : {X : Type 0} (t : Table) (k : TableKind) (fails : X → Bool) (n : ℕ) (xs : List X) (d : X) → first_failing (pass t k fails n xs) ≡ None

@@ -1,8 +1,8 @@
 -- Lists that stand one after the other in one list.
-use Rattle.ac_tables.proofs.Common.{◌≡◌, ◌∙◌, ◌+◌, ◌-◌, ◌<◌, ◌≤◌, ℕ, zero, suc, List, [], ◌∷◌, ◌++◌, map, length, get_or, subst, take, drop, inl, inr, ◌⊎◌, rules, refl, sym, ap, ap₂, arith, ◌==◌, All, filter, fold, range_with_len, sum_by, get_or-append_seam, length-append, length-map, get_or-map, length-take-le, get_or-map-range_with_len, IsStart, AreStarts, TableRow, length-range_with_len, map-map}
-use Rattle.std.proofs.lemmas.List.FromFn.{fill_by_all}
+use Rattle.ac_tables.proofs.Common.{◌≡◌, ◌∙◌, ◌+◌, ◌-◌, ◌<◌, ◌≤◌, ℕ, zero, suc, List, [], ◌∷◌, ◌++◌, map, length, get_or, subst, take, drop, inl, inr, ◌⊎◌, rules, refl, sym, ap, ap₂, arith, ◌==◌, All, filter, range_with_len, sum_by, get_or-append_seam, length-append, length-map, get_or-map, length-take-le, get_or-map-range_with_len, IsStart, AreStarts, TableRow, length-range_with_len, map-map}
+use Rattle.std.proofs.lemmas.List.FromFn.{fill_by_all, sum_by-map-range_with_len_more}
 use Rattle.std.proofs.lemmas.List.{drop-map, take-map}
-use Rattle.std.proofs.Common.{length-drop}
+use Rattle.std.proofs.Common.{add-one, length-drop}
 use Rattle.ac_tables.specs.Reader.ListBounds.{AreBounds, list_at, lists_in}
 use Rattle.ac_tables.proofs.Gathered.RowSlices.{start_order, slice_kept}
 
@@ -26,41 +26,19 @@ module _ {X : Type 0} (items : List X) (starts : List ℕ) where
       let inside : p < length starts - 1 = omega (arith, h, length-map (range_with_len 0 (length starts - 1)) (list_at items starts), length-range_with_len 0 (length starts - 1)) in
       get_or-map-range_with_len (list_at items starts) 0 (length starts - 1) p p [] inside (omega arith)
 
-  sum_from : (k n total : ℕ) → ((p : ℕ) → k ≤ p → p < k + n → get_or starts p 0 ≤ get_or starts (p + 1) 0) → ((p : ℕ) → p ≤ k + n → get_or starts p 0 ≤ length items)
-      → fold (λ a l. a + length l) total (map (list_at items starts) (range_with_len k n)) ≡ total + (get_or starts (k + n) 0 - get_or starts k 0)
-  sum_from k zero total order inside =
-      let same : k + zero ≡ k = omega arith in
-      omega (arith, ap (λ j. get_or starts j 0) same)
-  sum_from k (suc n) total order inside =
-      let a : ℕ = get_or starts k 0 in
-      let b : ℕ = get_or starts (k + 1) 0 in
-      let up : get_or starts k 0 ≤ get_or starts (k + 1) 0 = order k (omega arith) (omega arith) in
-      let low : get_or starts (k + 1) 0 ≤ length items = inside (k + 1) (omega arith) in
-      let size : length (list_at items starts k) ≡ get_or starts (k + 1) 0 - get_or starts k 0 = length-take-le (get_or starts (k + 1) 0 - get_or starts k 0) (drop (get_or starts k 0) items) (omega (arith, length-drop (get_or starts k 0) items)) in
-      let rest = sum_from (k + 1) n (total + length (list_at items starts k)) (λ p l h. order p (omega arith) (omega arith)) (λ p h. inside p (omega arith)) in
-      let end : get_or starts (k + 1 + n) 0 ≡ get_or starts (k + suc n) 0 = ap (λ j. get_or starts j 0) (omega arith) in
-      let far : get_or starts (k + 1) 0 ≤ get_or starts (k + 1 + n) 0 = rising_to (k + 1) n (λ p l h. order p (omega arith) (omega arith)) in
-      rest ∙ omega (arith, size, end, up, far)
-    where
-      rising_to : (k n : ℕ) → ((p : ℕ) → k ≤ p → p < k + n → get_or starts p 0 ≤ get_or starts (p + 1) 0) → get_or starts k 0 ≤ get_or starts (k + n) 0
-      rising_to k zero order = let same : k + zero ≡ k = omega arith in omega (arith, ap (λ j. get_or starts j 0) same)
-      rising_to k (suc n) order =
-          let rest = rising_to (k + 1) n (λ p l h. order p (omega arith) (omega arith)) in
-          let here = order k (omega arith) (omega arith) in
-          let same : k + 1 + n ≡ k + suc n = omega arith in
-          omega (arith, ap (λ j. get_or starts j 0) same)
+  sum_to : AreBounds (length items) starts → (n : ℕ) → n < length starts → sum_by length (map (list_at items starts) (range_with_len 0 n)) ≡ get_or starts n 0
+  sum_to b zero h = sym b.first
+  sum_to b (suc n) h =
+      let fits = b.inside (n + 1) (omega arith) in
+      let size = length-take-le (get_or starts (n + 1) 0 - get_or starts n 0) (drop (get_or starts n 0) items) (omega (arith, length-drop (get_or starts n 0) items, fits)) in
+      let here : sum_by length (map (list_at items starts) (range_with_len 0 n)) + length (list_at items starts n) ≡ get_or starts (n + 1) 0 =
+      omega (arith, sum_to b n (omega arith), size, b.order n (omega arith)) in
+      ap (λ m. sum_by length (map (list_at items starts) (range_with_len 0 m))) (sym (add-one n))
+      ∙ sum_by-map-range_with_len_more length (list_at items starts) 0 n n (omega arith) ∙ here ∙ ap (λ m. get_or starts m 0) (add-one n)
 
   pub lists_sum : AreBounds (length items) starts → length items ≡ sum_by length (lists_in items starts)
   unfolding lists_in
-  lists_sum b =
-      let n = length starts - 1 in
-      let some = b.some in
-      let sum = sum_from 0 (length starts - 1) 0 (λ p l h. b.order p (omega arith)) (λ p h. b.inside p (omega arith)) in
-      let first = b.first in
-      let last = b.last in
-      let same : get_or starts (0 + (length starts - 1)) 0 ≡ get_or starts (length starts - 1) 0 = ap (λ j. get_or starts j 0) (omega arith) in
-      let whole : sum_by length (lists_in items starts) ≡ 0 + (get_or starts (0 + (length starts - 1)) 0 - get_or starts 0 0) = sum in
-      omega (arith, whole, first, last, same)
+  lists_sum b = let some = b.some in sym (sum_to b (length starts - 1) (omega arith) ∙ b.last)
 
   pub lists_map : {Y : Type 0} (f : X → Y) → lists_in (map f items) starts ≡ map (map f) (lists_in items starts)
   unfolding lists_in
@@ -103,19 +81,14 @@ module _ {K X : Type 0} (count : ℕ) (rows : List (TableRow K X)) (starts : Lis
             | inr less ↦ absurd (let a = above s r (omega arith) less in let b = all s r less in omega (arith, a, b))
           ]
 
-  pub split_lists : lists_in rows starts ≡ map (λ p. filter (λ (r : TableRow K X). r.place == p) rows) (range_with_len 0 count)
-  unfolding lists_in
-  split_lists =
-      let size = are.sized in
-      let n : length starts - 1 ≡ count = omega arith in
-      range_same (list_at rows starts) (λ p. filter (λ (r : TableRow K X). r.place == p) rows) 0 (length starts - 1)
-      (λ p l h. slice_kept rows p _ _ (are.at p (omega arith)) (are.at (p + 1) (omega arith)))
-      ∙ ap (λ m. map (λ p. filter (λ (r : TableRow K X). r.place == p) rows) (range_with_len 0 m)) n
-
   pub split_here : (p : ℕ) → p < count → get_or (lists_in rows starts) p [] ≡ filter (λ (r : TableRow K X). r.place == p) rows
   split_here p h =
       let size = are.sized in
       list_here rows starts p (omega (arith, lists_size rows starts)) ∙ slice_kept rows p _ _ (are.at p (omega arith)) (are.at (p + 1) (omega arith))
+
+  pub split_lists : lists_in rows starts ≡ map (λ p. filter (λ (r : TableRow K X). r.place == p) rows) (range_with_len 0 count)
+  split_lists =
+      fill_by_all (λ p. filter (λ (r : TableRow K X). r.place == p) rows) (lists_in rows starts) count [] (omega (arith, lists_size rows starts, are.sized)) split_here
 
 -- what is made of each place is what is made of each item
 pub by_places : {X : Type 0} (f : ℕ → X) (g : ℕ → X) (xs : List ℕ) → ((i : ℕ) → i < length xs → f i ≡ g (get_or xs i 0)) → map f (range_with_len 0 (length xs)) ≡ map g xs

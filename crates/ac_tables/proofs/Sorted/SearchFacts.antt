@@ -2,6 +2,7 @@
 use Rattle.ac_tables.proofs.Common.{◌≡◌, ◌∙◌, ◌<◌, ◌+◌, ℕ, zero, suc, Bool, true, false, List, [], ◌∷◌, map, length, get_or, Some, None, refl, sym, ap, ap₂, arith, Ordering, inl, inr, Result, Ok, Err, ◌==◌, ◌||◌, if◌then◌else◌, Less, Equal, Greater, is_lt, is_eq, ordering_reverse, nat_cmp, IsTotalOrder, list_any, lookup, IsBinarySearchResult, IsStrictlySortedBy, IsSortedBy, get_or-map, length-map, list_any_at, alike_right, cases_lt}
 use Rattle.std.proofs.Common.{is_ok, MatchResult}
 use Rattle.std.specs.List.Sorted.{IsSearchInRange}
+use Rattle.std.proofs.lemmas.List.Folds.{list_any_none}
 use Rattle.std.proofs.lemmas.List.Sorted.{searchable_from_sorted}
 use Rattle.std.proofs.lemmas.Map.Keys.{Less-from_sorted}
 
@@ -23,8 +24,7 @@ eq_back Equal = refl
 eq_back Greater = refl
 
 pub no_any : {X : Type 0} (test : X → Bool) (xs : List X) → ((k : ℕ) (d : X) → k < length xs → test (get_or xs k d) ≡ false) → list_any test xs ≡ false
-no_any test [] h = refl
-no_any test (x ∷ xs) h = rw (h zero x (omega arith)) (no_any test xs (λ (k : ℕ) d (inside : k < length xs). h (suc k) d (omega arith)))
+no_any test xs h = list_any_none test xs h
 
 pub any_same : {X : Type 0} (p q : X → Bool) → ((x : X) → p x ≡ q x) → (xs : List X) → list_any p xs ≡ list_any q xs
 any_same p q same [] = refl

@@ -1,165 +1,82 @@
 -- Items that tie, in a list and in its stable sort.
-use Rattle.ac_tables.proofs.Common.{◌≡◌, ◌∙◌, ◌+◌, ◌-◌, ◌<◌, ◌≤◌, ℕ, zero, suc, Bool, true, false, List, [], ◌∷◌, length, get_or, refl, sym, ap, ap₂, subst, arith, inl, inr, ◌⊎◌, not, ◌&&◌, Some, None, IsStrictWeakOrder, filter, All, AllPairs, Contains, IsPermutation, IsSortedBy, IsStableBy, ties, cases_Bool, get_or_default, Contains-get_or, All-head, All-tail, sorted_far, Contains-permutation, IsPermutation-sym, IsLeast}
-use Rattle.std.proofs.lemmas.Bool.{cases_order}
-use Rattle.std.proofs.lemmas.List.Kept.{AllPairs-filter}
-use Rattle.ac_tables.proofs.Small.{clash}
-
-module _ {X : Type 0} (lt : X → X → Bool) (o : IsStrictWeakOrder lt) where
-  -- neither is less
-  same_less : (x y : X) → lt x y ≡ false → lt y x ≡ false → ties lt x y ≡ true
-  same_less x y e f = rw (e, f) refl
-
-  less_right : (x y : X) → ties lt x y ≡ true → lt y x ≡ false
-  less_right x y t = elim (cases_Bool (lt y x)) [
-    | inl e ↦ absurd (tied (lt x y) (lt y x) t e)
-    | inr e ↦ e
-  ]
-    where
-      tied : (a b : Bool) → (not a && not b) ≡ true → b ≡ true → ⊥
-      tied true b t e = cc
-      tied false true t e = cc
-      tied false false t e = cc
-
-  less_left : (x y : X) → ties lt x y ≡ true → lt x y ≡ false
-  less_left x y t = elim (cases_Bool (lt x y)) [
-    | inl e ↦ absurd (tied (lt x y) (lt y x) t e)
-    | inr e ↦ e
-  ]
-    where
-      tied : (a b : Bool) → (not a && not b) ≡ true → a ≡ true → ⊥
-      tied true b t e = cc
-      tied false b t e = cc
-
-  -- in a sorted list, what ties with an earlier item ties with the one before it
-  pub ties_adjacent : (ys : List X) (i j : ℕ) (d : X) → IsSortedBy lt ys → i < j → j < length ys → ties lt (get_or ys i d) (get_or ys j d) ≡ true
-      → ties lt (get_or ys (j - 1) d) (get_or ys j d) ≡ true
-  ties_adjacent ys i j d up below inside t =
-      let first : lt (get_or ys (j - 1) d) (get_or ys i d) ≡ false = sorted_far lt o ys up i (j - 1) d (omega arith) (omega arith) in
-      let next : lt (get_or ys j d) (get_or ys (j - 1) d) ≡ false = sorted_far lt o ys up (j - 1) j d (omega arith) inside in
-      same_less (get_or ys (j - 1) d) (get_or ys j d) (o.chain _ _ _ first (less_left _ _ t)) next
-
-pairs_head : {X : Type 0} (R : X → X → Type 0) (x : X) (xs : List X) → AllPairs R (x ∷ xs) → All (R x) xs
-pairs_head R x xs h k d inside = h zero (suc k) d (omega arith) (omega arith)
-
-pairs_tail : {X : Type 0} (R : X → X → Type 0) (x : X) (xs : List X) → AllPairs R (x ∷ xs) → AllPairs R xs
-pairs_tail R x xs h i j d less inside = h (suc i) (suc j) d (omega arith) (omega arith)
-
--- what holds of all items that pass
-of_passing : {X : Type 0} (P : X → Type 0) (p : X → Bool) (xs : List X) (j : ℕ) (d : X) → j < length xs → p (get_or xs j d) ≡ true → All P (filter p xs) → P (get_or xs j d)
-of_passing P p [] j d inside e all = absurd (omega (arith, inside))
-of_passing P p (x ∷ xs) zero d inside e all = All-head P x (filter p xs) (rw e at all)
-of_passing P p (x ∷ xs) (suc j) d inside e all = elim (cases_Bool (p x)) [
-  | inl passes ↦ of_passing P p xs j d (omega arith) e (All-tail P x (filter p xs) (rw passes at all))
-  | inr fails ↦ of_passing P p xs j d (omega arith) e (rw fails at all)
-]
-
--- what holds of all pairs that pass
-of_passing_pairs : {X : Type 0} (R : X → X → Type 0) (p : X → Bool) (xs : List X) (i j : ℕ) (d : X) → AllPairs R (filter p xs) → i < j → j < length xs
-    → p (get_or xs i d) ≡ true → p (get_or xs j d) ≡ true → R (get_or xs i d) (get_or xs j d)
-of_passing_pairs R p [] i j d all less inside e f = absurd (omega (arith, inside))
-of_passing_pairs R p (x ∷ xs) i zero d all less inside e f = absurd (omega (arith, less))
-of_passing_pairs R p (x ∷ xs) zero (suc j) d all less inside e f = of_passing (R x) p xs j d (omega arith) f (pairs_head R x (filter p xs) (rw e at all))
-of_passing_pairs R p (x ∷ xs) (suc i) (suc j) d all less inside e f = elim (cases_Bool (p x)) [
-  | inl passes ↦ of_passing_pairs R p xs i j d (pairs_tail R x (filter p xs) (rw passes at all)) (omega arith) (omega arith) e f
-  | inr fails ↦ of_passing_pairs R p xs i j d (rw fails at all) (omega arith) (omega arith) e f
-]
+use Rattle.ac_tables.proofs.Common.{◌≡◌, ◌≢◌, ◌∙◌, ◌+◌, ◌-◌, ◌<◌, ◌≤◌, ℕ, true, false, List, [], ◌∷◌, length, get_or, refl, sym, ap, ap₂, subst, arith, inl, inr, ◌==◌, Some, Ordering, Less, Equal, Greater, is_lt, is_eq, nat_cmp, nat_cmp_total, IsTotalOrder, IsPermutation, IsSortedBy, IsStableBy, get_or_default, Contains-get_or, sorted_far, alike_right, Contains-permutation, IsPermutation-sym, IsLeast}
+use Rattle.std.proofs.lemmas.Bool.{cases_order, true_from_ne_false}
+use Rattle.std.proofs.lemmas.List.Sorted.{ranks_by, ties_stay_sorted}
+use Rattle.std.proofs.lemmas.Map.Keys.{apart_from_distinct, ge_from_not_lt, IsDistinct-from_apart, IsDistinct-IsPermutation}
+use Rattle.std.proofs.lemmas.Cmp.{tied_back}
+use Rattle.ac_tables.proofs.Small.{clash, differ, equal}
+use Rattle.ac_tables.proofs.Gathered.RowOrder.{below_of}
 
 pub with_head : {X : Type 0} (xs : List X) (P : Type 0) → 0 < length xs → (X → P) → P
 with_head [] P some h = absurd (omega (arith, some))
 with_head (x ∷ xs) P some h = h x
 
--- a list whose items have rising numbers, and its stable sort
-pub record Sorting {X : Type 0} (lt : X → X → Bool) (number : X → ℕ) (xs ys : List X) : Type 0 where
-  pub weak : IsStrictWeakOrder lt
-  pub sorted : IsSortedBy lt ys
-  pub stable : IsStableBy lt xs ys
+-- where an item stands in a list with the same items
+moved : {X : Type 0} (xs ys : List X) → IsPermutation xs ys → (i : ℕ) (d : X) → i < length xs → (k : ℕ) × (k < length ys) × (get_or ys k d ≡ get_or xs i d)
+moved xs ys same i d inside =
+    let c = Contains-permutation xs ys (get_or xs i d) same (Contains-get_or xs i d inside) in
+    (c.0, c.1, get_or_default ys c.0 d (get_or xs i d) c.1 ∙ c.2)
+
+equal_of : (r : Ordering) → is_eq r ≡ true → r ≡ Equal
+equal_of Less e = absurd (cc)
+equal_of Equal e = refl
+equal_of Greater e = absurd (cc)
+
+turned : (a b : ℕ) → (a == b) ≡ (b == a)
+turned a b = grind arith
+
+not_lower : (a b : ℕ) → b ≤ a → is_lt (nat_cmp a b) ≡ false
+not_lower a b h = grind arith
+
+-- items in the order of their numbers, and their stable sort
+pub record Sorting {X : Type 0} (R : X → X → Ordering) (number : X → ℕ) (xs ys : List X) : Type 0 where
+  pub total : IsTotalOrder R
+  pub sorted : IsSortedBy (λ a b. is_lt (R a b)) ys
+  pub stable : IsStableBy (λ a b. is_lt (R a b)) xs ys
   pub same : IsPermutation xs ys
-  pub rising : AllPairs (λ a b. number a < number b) xs
+  pub numbered : (k : ℕ) (d : X) → k < length xs → number (get_or xs k d) ≡ k + 2
 
--- a later item that ties with an earlier one
-pub record Repeat {X : Type 0} (lt : X → X → Bool) (number : X → ℕ) (xs : List X) (n : ℕ) : Type 0 where
-  pub first : ℕ
-  pub again : ℕ
-  pub less : first < again
-  pub inside : again < length xs
-  pub tied : (d : X) → ties lt (get_or xs first d) (get_or xs again d) ≡ true
-  pub numbered : (d : X) → number (get_or xs again d) ≡ n
-
-module _ {X : Type 0} (lt : X → X → Bool) (number : X → ℕ) (xs ys : List X) (s : Sorting lt number xs ys) where
-  -- two items that tie stand at neighbours of the sorted list, of which the later has a number at most theirs
-  neighbour : (x y : X) → Contains xs x → Contains xs y → number x < number y → ties lt x y ≡ true
-      → (k : ℕ) × (k + 1 < length ys) × ((d : X) → (ties lt (get_or ys k d) (get_or ys (k + 1) d) ≡ true) × (number (get_or ys (k + 1) d) ≤ number y))
-  neighbour x y here there less t =
-      let a = Contains-permutation xs ys x s.same here in
-      let b = Contains-permutation xs ys y s.same there in
-      by_order a.0 b.0 a.1 b.1 (λ d. get_or_default ys a.0 d x a.1 ∙ a.2) (λ d. get_or_default ys b.0 d y b.1 ∙ b.2) (cases_order a.0 b.0)
-    where
-      turned : (x y : X) → ties lt x y ≡ true → ties lt y x ≡ true
-      turned x y t = same_less lt s.weak y x (less_right lt s.weak x y t) (less_left lt s.weak x y t)
-
-      at_later : (i j : ℕ) (a b : X) → i < j → j < length ys → ((d : X) → get_or ys i d ≡ a) → ((d : X) → get_or ys j d ≡ b) → ties lt a b ≡ true → number b ≤ number y
-          → (k : ℕ) × (k + 1 < length ys) × ((d : X) → (ties lt (get_or ys k d) (get_or ys (k + 1) d) ≡ true) × (number (get_or ys (k + 1) d) ≤ number y))
-      at_later i j a b less inside e f t low =
-          let up : j - 1 + 1 ≡ j = omega arith in (
-            j - 1,
-            omega arith,
-            λ d. (
-              subst (λ (m : ℕ). ties lt (get_or ys (j - 1) d) (get_or ys m d) ≡ true) (sym up) (ties_adjacent lt s.weak ys i j d s.sorted less inside (ap₂ (ties lt) (e d) (f d) ∙ t)),
-              subst (λ (m : ℕ). number (get_or ys m d) ≤ number y) (sym up) (subst (λ (v : X). number v ≤ number y) (sym (f d)) low),
-            ),
-          )
-
-      by_order : (i j : ℕ) → i < length ys → j < length ys → ((d : X) → get_or ys i d ≡ x) → ((d : X) → get_or ys j d ≡ y) → (i ≡ j) ⊎ ((i < j) ⊎ (j < i))
-          → (k : ℕ) × (k + 1 < length ys) × ((d : X) → (ties lt (get_or ys k d) (get_or ys (k + 1) d) ≡ true) × (number (get_or ys (k + 1) d) ≤ number y))
-      by_order i j hi hj e f (inl same) = absurd (let one : x ≡ y = sym (e x) ∙ ap (λ m. get_or ys m x) same ∙ f x in let eq : number x ≡ number y = ap number one in omega (arith, eq, less))
-      by_order i j hi hj e f (inr (inl lt_ij)) = at_later i j x y lt_ij hj e f t (omega arith)
-      by_order i j hi hj e f (inr (inr lt_ji)) = at_later j i y x lt_ji hi f e (turned x y t) (omega (arith, less))
-
-  -- no neighbours tie: no items do
-  pub no_repeat : IsLeast (ties lt) number ys None → AllPairs (λ a b. ties lt a b ≡ false) xs
-  no_repeat none i j d less inside = elim (cases_Bool (ties lt (get_or xs i d) (get_or xs j d))) [
-    | inl t ↦
-        let n = neighbour (get_or xs i d) (get_or xs j d) (Contains-get_or xs i d (omega arith)) (Contains-get_or xs j d inside) (s.rising i j d less inside) t in
-        absurd (clash _ (none n.0 d n.1) (n.2 d).0)
-    | inr f ↦ f
-  ]
+module _ {X : Type 0} (R : X → X → Ordering) (number : X → ℕ) (xs ys : List X) (s : Sorting R number xs ys) (n : ℕ) (least : IsLeast (λ a b. is_eq (R a b)) number ys (Some n)) where
+  -- what ties with an earlier item of the sorted list ties with the one before it
+  none_lower : (i j : ℕ) (d : X) → i < j → j < length ys → is_eq (R (get_or ys i d) (get_or ys j d)) ≡ true → n ≤ number (get_or ys j d)
+  none_lower i j d less inside t =
+      let far = sorted_far _ (ranks_by s.total (λ (x : X). x)) ys s.sorted in
+      let first = ap is_lt (sym (alike_right s.total (get_or ys i d) (get_or ys j d) (get_or ys (j - 1) d) (equal_of _ t))) ∙ far i (j - 1) d (omega arith) (omega arith) in
+      let next : is_eq (R (get_or ys (j - 1) d) (get_or ys j d)) ≡ true =
+      true_from_ne_false _ (λ e. clash _ first (ap is_lt (below_of s.total _ _ (far (j - 1) j d (omega arith) inside) e))) in
+      let up : j - 1 + 1 ≡ j = omega arith in
+      subst (λ m. n ≤ number (get_or ys m d)) up (least.0 (j - 1) d (omega arith) (subst (λ m. is_eq (R (get_or ys (j - 1) d) (get_or ys m d)) ≡ true) (sym up) next))
 
   -- the least number of a neighbour that ties is that of the first repeated item
-  pub none_sooner : (n : ℕ) → IsLeast (ties lt) number ys (Some n) → (i j : ℕ) (d : X) → i < j → j < length xs → ties lt (get_or xs i d) (get_or xs j d) ≡ true → n ≤ number (get_or xs j d)
-  none_sooner n least i j d less inside t =
-      let m = neighbour (get_or xs i d) (get_or xs j d) (Contains-get_or xs i d (omega arith)) (Contains-get_or xs j d inside) (s.rising i j d less inside) t in
-      let low = least.0 m.0 d m.1 (m.2 d).0 in
-      let high = (m.2 d).1 in
-      omega (arith, low, high)
+  pub none_sooner : (i j : ℕ) (d : X) → i < j → j < length xs → is_eq (R (get_or xs i d) (get_or xs j d)) ≡ true → n ≤ j + 2
+  none_sooner i j d less inside t =
+      let (a, a_in, a_is) = moved xs ys s.same i d (omega arith) in
+      let (b, b_in, b_is) = moved xs ys s.same j d inside in
+      let a_number = ap number a_is ∙ s.numbered i d (omega arith) in
+      let b_number = ap number b_is ∙ s.numbered j d inside in
+      let tied : is_eq (R (get_or ys a d) (get_or ys b d)) ≡ true = ap₂ (λ x y. is_eq (R x y)) a_is b_is ∙ t in
+      elim (cases_order a b) [
+        | inl e ↦ omega (arith, a_number, b_number, ap (λ m. number (get_or ys m d)) e)
+        | inr (inl lower) ↦ omega (arith, b_number, none_lower a b d lower b_in tied)
+        | inr (inr higher) ↦ omega (arith, a_number, none_lower b a d higher a_in (ap is_eq (tied_back s.total _ _ (equal_of _ tied))))
+      ]
 
-  pub repeated : (n : ℕ) → IsLeast (ties lt) number ys (Some n) → Repeat lt number xs n
-  repeated n least = with_head ys (Repeat lt number xs n) (let k = least.1.1 in omega (arith, k)) (λ (d : X). at least.1.0 least.1.1 d ((least.1.2 d).0) ((least.1.2 d).1))
-    where
-      itself : (x : X) → ties lt x x ≡ true
-      itself x = elim (cases_Bool (lt x x)) [ inl e ↦ absurd (clash (lt x x) (s.weak.one_way x x e) e) | inr e ↦ same_less lt s.weak x x e e ]
-
-      at : (k : ℕ) → k + 1 < length ys → (d : X) → ties lt (get_or ys k d) (get_or ys (k + 1) d) ≡ true → number (get_or ys (k + 1) d) ≡ n → Repeat lt number xs n
-      at k inside d t e =
-          let x : X = get_or ys k d in
-          let y : X = get_or ys (k + 1) d in
-          let back = IsPermutation-sym xs ys s.same in
-          let a = Contains-permutation ys xs x back (Contains-get_or ys k d (omega arith)) in
-          let b = Contains-permutation ys xs y back (Contains-get_or ys (k + 1) d inside) in
-          let turned : ties lt y x ≡ true = same_less lt s.weak y x (less_right lt s.weak x y t) (less_left lt s.weak x y t) in
-          let rising : AllPairs (λ p q. number p < number q) (filter (ties lt y) ys) = subst (AllPairs (λ p q. number p < number q)) (sym (s.stable y)) (AllPairs-filter (λ p q. number p < number q) (ties lt y) xs s.rising) in
-          let apart : number x < number y = of_passing_pairs (λ p q. number p < number q) (ties lt y) ys k (k + 1) d rising (omega arith) inside turned (itself y) in
-          made a.0 b.0 x y a.1 b.1 (λ c. get_or_default xs a.0 c x a.1 ∙ a.2) (λ c. get_or_default xs b.0 c y b.1 ∙ b.2) apart t e (cases_order a.0 b.0)
-        where
-          made : (i j : ℕ) (x y : X) → i < length xs → j < length xs → ((c : X) → get_or xs i c ≡ x) → ((c : X) → get_or xs j c ≡ y) → number x < number y → ties lt x y ≡ true → number y ≡ n
-              → (i ≡ j) ⊎ ((i < j) ⊎ (j < i)) → Repeat lt number xs n
-          made i j x y hi hj ex ey less t e (inl same) = absurd (let one : x ≡ y = sym (ex x) ∙ ap (λ m. get_or xs m x) same ∙ ey x in let eq : number x ≡ number y = ap number one in omega (arith, eq, less))
-          made i j x y hi hj ex ey less t e (inr (inl before)) = record {
-            first = i;
-            again = j;
-            less = before;
-            inside = hj;
-            tied = λ c. ap₂ (ties lt) (ex c) (ey c) ∙ t;
-            numbered = λ c. ap number (ey c) ∙ e;
-          }
-          made i j x y hi hj ex ey less t e (inr (inr after)) =
-              absurd (let r = s.rising j i x after hi in let ea : number (get_or xs i x) ≡ number x = ap number (ex x) in let eb : number (get_or xs j x) ≡ number y = ap number (ey x) in omega (arith, r, ea, eb, less))
+  -- it ties with an earlier item
+  pub repeated : (d : X) → (i j : ℕ) × (i < j) × (j < length xs) × (n ≡ j + 2) × (is_eq (R (get_or xs i d) (get_or xs j d)) ≡ true)
+  repeated d =
+      let (k, inside, each) = least.1 in
+      let (tied, is_n) = each d in
+      let back = IsPermutation-sym xs ys s.same in
+      let (a, a_in, a_is) = moved ys xs back k d (omega arith) in
+      let (b, b_in, b_is) = moved ys xs back (k + 1) d inside in
+      let a_number = sym (s.numbered a d a_in) ∙ ap number a_is in
+      let b_number = sym (s.numbered b d b_in) ∙ ap number b_is in
+      let same_number = λ (x y : X). number x == number y in
+      let distinct = IsDistinct-IsPermutation same_number (λ x y. turned (number x) (number y)) xs ys s.same (IsDistinct-from_apart same_number xs
+      (λ i j e less h. differ _ _ (λ one. omega (arith, one, s.numbered i e (omega arith), s.numbered j e h, less)))) in
+      let apart : number (get_or ys k d) ≢ number (get_or ys (k + 1) d) = λ e. clash _ (apart_from_distinct same_number ys k (k + 1) d distinct (omega arith) inside) (equal _ _ e) in
+      let up : number (get_or ys k d) ≤ number (get_or ys (k + 1) d) =
+      ge_from_not_lt _ _ (ties_stay_sorted (λ x y. is_lt (nat_cmp (number x) (number y))) _ (ranks_by nat_cmp_total number) (ranks_by s.total (λ (x : X). x)) xs ys
+      (λ i e low h. not_lower (number (get_or xs (i + 1) e)) (number (get_or xs i e)) (omega (arith, s.numbered i e (omega arith), s.numbered (i + 1) e h))) s.stable k d inside
+      (rw (equal_of _ tied, tied_back s.total _ _ (equal_of _ tied)) refl)) in
+      (a, b, omega (arith, up, apart, a_number, b_number), b_in, omega (arith, is_n, b_number), ap₂ (λ x y. is_eq (R x y)) a_is b_is ∙ tied)

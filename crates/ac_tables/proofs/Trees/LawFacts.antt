@@ -1,29 +1,19 @@
 -- Chains of parents, and lists that lead up.
-use Rattle.ac_tables.proofs.Common.{◌≡◌, ◌<◌, ◌∙◌, ℕ, zero, suc, true, false, List, [], ◌∷◌, Option, Some, None, refl, sym, ap, arith, inl, inr, get_or, length, ◌==◌, is_some, option_map, unwrap_or, cases_Bool, false≢true, Above, up, climb, top, is_endless, is_in_chain, id_at, parent_of, root_of, providers_of}
+use Rattle.ac_tables.proofs.Common.{◌≡◌, ◌<◌, ◌∙◌, ℕ, zero, suc, true, false, List, [], ◌∷◌, Option, Some, None, refl, sym, ap, inl, inr, get_or, length, ◌==◌, is_some, option_map, unwrap_or, cases_Bool, false≢true, Above, up, climb, top, is_endless, is_in_chain, id_at, parent_of, root_of, providers_of}
 use Rattle.ac_tables.specs.Trees.{LeadsUp}
 use Rattle.ac_tables.specs.Laws.{ChainIsAbove, CloudIsForest, TopIsRoot}
 use Rattle.ac_tables.proofs.Trees.PlaceTrees.{above_climb}
 use Rattle.ac_tables.proofs.Trees.AncestorFacts.{chain_here, chain_ends, chain_goes, chain_last}
 use Rattle.ac_tables.proofs.Places.CloudFacts.{inside, parent_here, root_here, root_inside, parts}
-use Rattle.ac_tables.proofs.Small.{some_or_none}
-
-none_is : (o : Option ℕ) → is_some o ≡ false → o ≡ None
-none_is None e = refl
-none_is (Some x) e = absurd (false≢true (sym e))
-
-same_number : (a b : ℕ) → (b == a) ≡ true → b ≡ a
-same_number a b e = grind (arith, e)
-
-itself : (a b : ℕ) → b ≡ a → (b == a) ≡ true
-itself a b e = grind (arith, e)
+use Rattle.ac_tables.proofs.Small.{are_equal, equal, none_is, some_or_none}
 
 goes_up : (parent : ℕ → Option ℕ) (p q : ℕ) → parent p ≡ Some q → up parent p ≡ q
 goes_up parent p q e = ap (λ (o : Option ℕ). unwrap_or o p) e
 
 chain_above : (parent : ℕ → Option ℕ) (k a b : ℕ) → is_in_chain parent k a b ≡ true → Above parent a b
-chain_above parent zero a b h = ([], same_number a b (sym (chain_last parent a b) ∙ h))
+chain_above parent zero a b h = ([], are_equal b a (sym (chain_last parent a b) ∙ h))
 chain_above parent (suc k) a b h = elim (cases_Bool (b == a)) [
-  | inl e ↦ ([], same_number a b e)
+  | inl e ↦ ([], are_equal b a e)
   | inr ne ↦ elim (some_or_none (parent b)) [
     | inl p ↦
         let rest = chain_above parent k a p.0 (sym (chain_goes parent k a b p.0 ne p.1) ∙ h) in
@@ -33,7 +23,7 @@ chain_above parent (suc k) a b h = elim (cases_Bool (b == a)) [
 ]
 
 above_chain : (parent : ℕ → Option ℕ) (k a b : ℕ) (path : List ℕ) → is_some (parent (climb (up parent) k b)) ≡ false → LeadsUp parent b path a → is_in_chain parent k a b ≡ true
-above_chain parent k a b [] ends leads = chain_here parent k a b (itself a b leads)
+above_chain parent k a b [] ends leads = chain_here parent k a b (equal b a leads)
 above_chain parent zero a b (p ∷ path) ends leads = absurd (false≢true (sym ends ∙ ap is_some leads.0))
 above_chain parent (suc k) a b (p ∷ path) ends leads = elim (cases_Bool (b == a)) [
   | inl e ↦ chain_here parent (suc k) a b e

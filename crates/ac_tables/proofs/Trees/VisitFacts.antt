@@ -1,28 +1,9 @@
 -- Visits that agree with their neighbours tell who is above whom.
-use Rattle.ac_tables.proofs.Common.{◌≡◌, ◌≢◌, ◌∙◌, ◌<◌, ◌≤◌, ◌+◌, ℕ, zero, suc, Bool, true, false, List, length, get_or, Option, Some, None, refl, sym, ap, subst, arith, rules, inl, inr, ◌⊎◌, ◌==◌, ◌&&◌, nat_le, nat_lt, cases_Bool, false≢true, parent_in, along, AreWithin, is_in_chain, IsPlaced}
-use Rattle.std.proofs.lemmas.Bool.{and_parts}
+use Rattle.ac_tables.proofs.Common.{◌≡◌, ◌∙◌, ◌<◌, ◌≤◌, ℕ, zero, suc, true, false, List, length, get_or, Option, Some, None, sym, ap, arith, rules, inl, inr, ◌==◌, ◌&&◌, nat_le, nat_lt, cases_Bool, false≢true, parent_in, along, AreWithin, is_in_chain, IsPlaced}
+use Rattle.std.proofs.lemmas.Bool.{and_from, and_parts, cases_order}
 use Rattle.ac_tables.specs.Cloud.Visits.{AreVisits}
 use Rattle.ac_tables.proofs.Trees.AncestorFacts.{chain_here, chain_ends, chain_goes, chain_last}
-use Rattle.ac_tables.proofs.Small.{some_or_none}
-
-three : (x y : ℕ) → (x < y) ⊎ ((x ≡ y) ⊎ (y < x))
-three x y = search (arith, rules)
-
-equal_test : (a b : ℕ) → a ≡ b → (b == a) ≡ true
-equal_test a b e = grind (arith, e)
-
-differ_test : (a b : ℕ) → a ≢ b → (b == a) ≡ false
-differ_test a b ne = search (arith, rules)
-
-from_test : (a b : ℕ) → (b == a) ≡ true → a ≡ b
-from_test a b e = grind (arith, e)
-
--- what holds of the first places and of one more
-pub one_more : (P : ℕ → Type 0) (n : ℕ) → ((b : ℕ) → b < n → P b) → P n → (b : ℕ) → b < n + 1 → P b
-one_more P n first last b h = elim (last_or b n h) [ inl less ↦ first b less | inr e ↦ subst P (sym e) last ]
-  where
-    last_or : (b n : ℕ) → b < n + 1 → (b < n) ⊎ (b ≡ n)
-    last_or b n h = search (arith, rules)
+use Rattle.ac_tables.proofs.Small.{are_equal, differ, equal, some_or_none}
 
 module _ (parents : List (Option ℕ)) (entered left order : List ℕ) (before : List (Option ℕ)) (within : AreWithin (length parents) parents)
     (placed : (b : ℕ) → b < length parents → IsPlaced parents entered left order before b) where
@@ -50,17 +31,15 @@ module _ (parents : List (Option ℕ)) (entered left order : List ℕ) (before :
         let hs : s < n = sib.0 in
         let ends : along left s ≡ along entered b = sib.2 in
         let leaves : along entered s < along left s = (placed s hs).leaves in
-        elim (three (along entered a) (along entered s)) [
-          | inl lt ↦
+        elim (cases_order (along entered a) (along entered s)) [
+          | inl e ↦
+              let one : a ≡ s = same_place a s ha hs e in
+              let same : along left a ≡ along left s = ap (along left) one in
+              absurd (omega (arith, same, ends, later))
+          | inr (inl lt) ↦
               let g = climbs a s ha hs (omega (arith, leaves, ends, hm)) lt (omega (arith, leaves, ends, later)) in
               (g.0, (sym sib.1 ∙ g.1.0, g.1.1))
-          | inr more ↦ elim more [
-            | inl e ↦
-                let one : a ≡ s = same_place a s ha hs e in
-                let same : along left a ≡ along left s = ap (along left) one in
-                absurd (omega (arith, same, ends, later))
-            | inr gt ↦ absurd (omega (arith, nests s a hs ha (omega (arith, less, hm)) gt (omega (arith, ends, less)), ends, later))
-          ]
+          | inr (inr gt) ↦ absurd (omega (arith, nests s a hs ha (omega (arith, less, hm)) gt (omega (arith, ends, less)), ends, later))
         ]
     | inr none ↦ elim (some_or_none (parent_in parents b)) [
       | inl p ↦ (p.0, (p.1, omega (arith, (placed b hb).child p.0 none p.1, less)))
@@ -73,15 +52,13 @@ module _ (parents : List (Option ℕ)) (entered left order : List ℕ) (before :
       let g = climbs s a hs ha hm less later in
       let up = (placed a ha).parent g.0 g.1.0 in
       let hq : g.0 < n = within a g.0 ha g.1.0 in
-      elim (three (along entered s) (along entered g.0)) [
-        | inl lt ↦ omega (arith, nests s g.0 hs hq (omega (arith, up.0, hm)) lt (omega (arith, up.0, later)), up.1)
-        | inr more ↦ elim more [
-          | inl e ↦
-              let one : s ≡ g.0 = same_place s g.0 hs hq e in
-              let same : along left s ≡ along left g.0 = ap (along left) one in
-              omega (arith, same, up.1)
-          | inr gt ↦ absurd (omega (arith, gt, g.1.1))
-        ]
+      elim (cases_order (along entered s) (along entered g.0)) [
+        | inl e ↦
+            let one : s ≡ g.0 = same_place s g.0 hs hq e in
+            let same : along left s ≡ along left g.0 = ap (along left) one in
+            omega (arith, same, up.1)
+        | inr (inl lt) ↦ omega (arith, nests s g.0 hs hq (omega (arith, up.0, hm)) lt (omega (arith, up.0, later)), up.1)
+        | inr (inr gt) ↦ absurd (omega (arith, gt, g.1.1))
       ]
 
   both : (m : ℕ) → Climbs m × Nests m
@@ -93,27 +70,25 @@ module _ (parents : List (Option ℕ)) (entered left order : List ℕ) (before :
 
   -- between the visit's turns a is in the chain
   interval_chain : (k a b : ℕ) → a < n → b < n → along entered b ≤ k → along entered a ≤ along entered b → along entered b < along left a → is_in_chain (parent_in parents) k a b ≡ true
-  interval_chain zero a b ha hb hk le later = chain_here (parent_in parents) zero a b (equal_test a b (same_place a b ha hb (omega (arith, hk, le))))
-  interval_chain (suc k) a b ha hb hk le later = elim (three (along entered a) (along entered b)) [
-    | inl less ↦
+  interval_chain zero a b ha hb hk le later = chain_here (parent_in parents) zero a b (equal b a (sym (same_place a b ha hb (omega (arith, hk, le)))))
+  interval_chain (suc k) a b ha hb hk le later = elim (cases_order (along entered a) (along entered b)) [
+    | inl e ↦ chain_here (parent_in parents) (suc k) a b (equal b a (sym (same_place a b ha hb e)))
+    | inr (inl less) ↦
         let g = (both (suc (along entered b))).0 a b ha hb (omega arith) less later in
         let up = (placed b hb).parent g.0 g.1.0 in
         let hq : g.0 < n = within b g.0 hb g.1.0 in
-        let apart : (b == a) ≡ false = differ_test a b (λ e. omega (arith, less, ap (along entered) e)) in
+        let apart : (b == a) ≡ false = differ b a (λ e. omega (arith, less, ap (along entered) e)) in
         chain_goes (parent_in parents) k a b g.0 apart g.1.0 ∙ interval_chain k a g.0 ha hq (omega (arith, up.0, hk)) g.1.1 (omega (arith, up.0, later))
-    | inr more ↦ elim more [
-      | inl e ↦ chain_here (parent_in parents) (suc k) a b (equal_test a b (same_place a b ha hb e))
-      | inr gt ↦ absurd (omega (arith, gt, le))
-    ]
+    | inr (inr gt) ↦ absurd (omega (arith, gt, le))
   ]
 
   -- who is in the chain is entered before and left after
   chain_interval : (k a b : ℕ) → b < n → is_in_chain (parent_in parents) k a b ≡ true → (along entered a ≤ along entered b) × (along left b ≤ along left a)
   chain_interval zero a b hb h =
-      let one : a ≡ b = from_test a b (sym (chain_last (parent_in parents) a b) ∙ h) in
+      let one : a ≡ b = sym (are_equal b a (sym (chain_last (parent_in parents) a b) ∙ h)) in
       (omega (arith, ap (along entered) one), omega (arith, ap (along left) one))
   chain_interval (suc k) a b hb h = elim (cases_Bool (b == a)) [
-    | inl e ↦ let one : a ≡ b = from_test a b e in (omega (arith, ap (along entered) one), omega (arith, ap (along left) one))
+    | inl e ↦ let one : a ≡ b = sym (are_equal b a e) in (omega (arith, ap (along entered) one), omega (arith, ap (along left) one))
     | inr ne ↦ elim (some_or_none (parent_in parents b)) [
       | inl p ↦
           let up = (placed b hb).parent p.0 p.1 in
@@ -137,7 +112,7 @@ module _ (parents : List (Option ℕ)) (entered left order : List ℕ) (before :
     | inl h ↦
         let i = chain_interval n a b hb h in
         let later : along entered b < along left a = omega (arith, (placed b hb).leaves, i.1) in
-        both_true (nat_le (along entered a) (along entered b)) (nat_lt (along entered b) (along left a)) (le_true _ _ i.0) (lt_true _ _ later) ∙ sym h
+        and_from (nat_le (along entered a) (along entered b)) (nat_lt (along entered b) (along left a)) (le_true _ _ i.0) (lt_true _ _ later) ∙ sym h
     | inr h ↦ elim (cases_Bool (nat_le (along entered a) (along entered b) && nat_lt (along entered b) (along left a))) [
       | inl t ↦
           let i = parts (along entered a) (along entered b) (along entered b) (along left a) t in
@@ -145,6 +120,3 @@ module _ (parents : List (Option ℕ)) (entered left order : List ℕ) (before :
       | inr f ↦ f ∙ sym h
     ]
   ]
-    where
-      both_true : (x y : Bool) → x ≡ true → y ≡ true → (x && y) ≡ true
-      both_true x y e f = rw (e, f) refl

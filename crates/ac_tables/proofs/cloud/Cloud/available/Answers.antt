@@ -11,4 +11,4 @@ returns c =
     let place = found (λ (x : ℕ). x) nat_cmp_total list c.args.root c.binary_search.result (rw (map-id list) (kept_rise (length all) test))
     (rw c.anchors.ensures at c.binary_search.ensures.bound) (rw c.anchors.ensures at c.binary_search.ensures.position) in
     c.is_ok.ensures.value ∙ found_any (λ (x : ℕ). x) nat_cmp_total list c.args.root c.binary_search.result place
-    ∙ kept_has (length all) c.args.root test c.requires.root
+    ∙ kept_has (length all) test c.args.root (λ e. c.requires.root)

@@ -1,5 +1,5 @@
 use Rattle.ac_tables.proofs.Common.{IsPlaced}
-use Rattle.ac_tables.proofs.Trees.VisitFacts.{one_more}
+use Rattle.ac_tables.proofs.Small.{one_more}
 use Rattle.ac_tables.proofs.cloud.ancestry.are_placed.Goals as goal
 
 pub loop-place-preserved : goal.loop-place-preserved

@@ -1,5 +1,6 @@
 use Rattle.ac_tables.proofs.Common.{◌≡◌, ◌<◌, ◌+◌, ◌∙◌, ℕ, List, Option, None, map, length, get_or, sym, ap, subst, true, arith, is_some, lists_of, list_items, list_of, is_joining, AreAsked}
-use Rattle.ac_tables.proofs.Places.AnchorLists.{marked_more, length_more}
+use Rattle.std.proofs.lemmas.List.{length_push}
+use Rattle.ac_tables.proofs.Places.AnchorLists.{marked_more}
 use Rattle.ac_tables.proofs.cloud.anchors.find_lists.Goals as goal
 
 pub find_next-requires-clause-joined : goal.find_next-requires-clause-joined
@@ -15,7 +16,7 @@ loop-i-preserved c =
     let here : is_some c.in_ok-more.place ≡ is_joining true (list_of asked c.loop-i.i) =
     c.in_ok-more.ensures.marked ∙ ap (λ (n : ℕ). is_joining true (list_of asked n)) (ap length c.deref.ensures.value ∙ size) in
     record {
-      size = ap length items ∙ length_more places c.in_ok-more.place c.loop-i.i size;
+      size = omega (arith, ap length items, length_push places c.in_ok-more.place, size);
       few = omega (arith, c.in_ok-more.ensures.grown, c.loop-i.invariant.few);
       joined = subst (λ (l : List (Option ℕ)). AreAsked own.roots.now (lists_of own.aggregates.now) (map list_items asked) c.in_ok-more.more.lists.items l) (sym items) (rw c.deref.ensures.value at c.in_ok-more.ensures.joined);
       marked = λ (j : ℕ) (h : j < c.loop-i.i + 1).

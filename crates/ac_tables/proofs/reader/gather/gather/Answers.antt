@@ -36,20 +36,12 @@ returns-in-Some-fault-clause-fault g c =
 
 pub overflow_cast-result : goal.overflow_cast-result
 overflow_cast-result g c =
-    let sized = rows_sized _ _ _ _ _ _ _ _ c.in_ok-rows.ensures c.in_ok-put_in_order.ensures.same in
-    let count = c.len.ensures in
-    let few = c.requires.few in
-    omega (arith, sized.1, count, few)
+    omega (arith, (rows_sized _ _ _ _ _ _ _ _ c.in_ok-rows.ensures c.in_ok-put_in_order.ensures.same).1, c.len.ensures, c.requires.few)
 
 pub overflow_add-result : goal.overflow_add-result
 overflow_add-result g c =
-    let sized = rows_sized _ _ _ _ _ _ _ _ c.in_ok-rows.ensures c.in_ok-put_in_order.ensures.same in
-    let count = c.len.ensures in
-    let few = c.requires.few in
-    omega (arith, sized.1, count, few)
+    omega (arith, (rows_sized _ _ _ _ _ _ _ _ c.in_ok-rows.ensures c.in_ok-put_in_order.ensures.same).1, c.len.ensures, c.requires.few)
 
 pub returns-clause-few : goal.returns-clause-few
 returns-clause-few g c =
-    let sized = rows_sized _ _ _ _ _ _ _ _ c.in_ok-rows.ensures c.in_ok-put_in_order.ensures.same in
-    let few = c.requires.few in
-    omega (arith, sized.1, few)
+    omega (arith, (rows_sized _ _ _ _ _ _ _ _ c.in_ok-rows.ensures c.in_ok-put_in_order.ensures.same).1, c.requires.few)

@@ -1,9 +1,8 @@
-use Rattle.ac_tables.proofs.Common.{◌≡◌, ◌∙◌, ◌++◌, ◌∷◌, [], None, get_or, unwrap_or, refl, sym, ap, fields_of, first_failing, id_value, id_in, text_in, uuid_name, owner_checks, known_checks, provider_name}
+use Rattle.ac_tables.proofs.Common.{rules, ◌≡◌, ◌∙◌, ◌++◌, ◌∷◌, [], None, get_or, unwrap_or, refl, sym, ap, fields_of, first_failing, id_value, id_in, text_in, uuid_name, owner_checks, known_checks, provider_name}
 use Rattle.ac_tables.specs.Reader.ColumnPlaces.{aggregate_places}
 use Rattle.ac_tables.specs.Tables.Columns.{bad_id}
 use Rattle.ac_tables.specs.Tables.AggregateTable.{aggregate_field_checks, aggregate_record_checks, aggregate_said}
 use Rattle.ac_tables.specs.declared.fault.TableKind.TheVariants as kind
-use Rattle.ac_tables.proofs.Sorted.Rising.{one_of_place}
 use Rattle.ac_tables.proofs.FirstFailing.{append_none, append_some, none_both, unless_err, unless_none, unless_value}
 use Rattle.ac_tables.proofs.Records.KnownFacts.{known, unknown}
 use Rattle.ac_tables.proofs.tables.aggregates.AggregateTableRecord.read.Goals as goal
@@ -17,11 +16,7 @@ owner_fine c = unless_none _ _ c.in-Ok.provider (sym c.read_owner.ensures ∙ c.
 
 pub returns-in-Err-clause-fault : goal.returns-in-Err-clause-fault
 unfolding aggregate_record_checks aggregate_field_checks
-returns-in-Err-clause-fault c =
-    let header = fields_of c.args.header.now in
-    let row = fields_of c.args.row.now in
-    append_some (owner_checks header row ++ bad_id header uuid_name row ∷ []) (known_checks c.args.ids.now.ids.items (id_in header provider_name row)) c.in-Err.kind
-    (append_some (owner_checks header row) (bad_id header uuid_name row ∷ []) c.in-Err.kind (unless_err _ _ c.in-Err.kind (sym c.read_owner.ensures ∙ c.in-Err.is)))
+returns-in-Err-clause-fault c = search (rules, append_some, unless_err _ _ c.in-Err.kind (sym c.read_owner.ensures ∙ c.in-Err.is))
 
 -- what the text of the aggregate spells
 id_is : (c : After-read) → id_value (text_in (fields_of c.args.header.now) uuid_name (fields_of c.args.row.now)) ≡ c.read.result
@@ -47,8 +42,7 @@ returns-in-Some-find_near-clause-ok c =
     let at = goal.at.returns-in-Some-find_near-clause-ok c in
     let ids = c.args.ids.now.ids.items in
     append_none (owner_checks (fields_of c.args.header.now) (fields_of c.args.row.now) ++ bad_id (fields_of c.args.header.now) uuid_name (fields_of c.args.row.now) ∷ []) _ (fields_fine at.In-Some (owner_fine at.In-Ok) (id_is at.After-read))
-    ∙ ap (λ i. first_failing (known_checks ids i)) (sym (id at.In-Ok))
-    ∙ known ids c.in-Ok.provider (one_of_place ids c.in-Ok.provider c.in-Some-find_near.place c.in-Some-find_near.ensures.inside c.in-Some-find_near.ensures.found)
+    ∙ known ids _ c.in-Some-find_near.place c.in-Some-find_near.ensures.inside (c.in-Some-find_near.ensures.found ∙ id at.In-Ok)
 
 pub returns-in-Some-find_near-clause-value : goal.returns-in-Some-find_near-clause-value
 unfolding aggregate_said
@@ -64,5 +58,4 @@ returns-in-None-clause-fault c =
     let at = goal.at.returns-in-None-clause-fault c in
     let ids = c.args.ids.now.ids.items in
     append_none (owner_checks (fields_of c.args.header.now) (fields_of c.args.row.now) ++ bad_id (fields_of c.args.header.now) uuid_name (fields_of c.args.row.now) ∷ []) _ (fields_fine at.In-Some (owner_fine at.In-Ok) (id_is at.After-read))
-    ∙ ap (λ i. first_failing (known_checks ids i)) (sym (id at.In-Ok))
-    ∙ unknown ids c.in-Ok.provider c.in-None.ensures.absent
+    ∙ unknown ids c.in-Ok.provider _ (id at.In-Ok) c.in-None.ensures.absent
