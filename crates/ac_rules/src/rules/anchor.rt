@@ -30,12 +30,7 @@ fn takes_some_root(cloud: &Cloud, query: &Query) -> bool
     ensures { result ≡ list_any (λ r. takes_root (providers_of cloud.now) (asked_of query.now) r)
         (range_with_len 0 (length (providers_of cloud.now))) }
 {
-    for root in 0..cloud.len() {
-        if takes_root(cloud, query, root) {
-            return true;
-        }
-    }
-    false
+    (0..cloud.len()).any(|root| takes_root(cloud, query, root))
 }
 
 // Whether each provider is available in the tree of a root.
@@ -44,12 +39,7 @@ fn are_available(cloud: &Cloud, list: &[u32], root: u32) -> bool
     requires providers { All (λ p. p < length (providers_of cloud.now)) list.now }
     ensures { result ≡ list_all (λ p. is_available_at (providers_of cloud.now) p root) list.now }
 {
-    for ix in list {
-        if !cloud.available(*ix, root) {
-            return false;
-        }
-    }
-    true
+    list.iter().all(|ix| cloud.available(*ix, root))
 }
 
 // Whether the query takes one of these roots, and each provider is available in its tree.
@@ -60,12 +50,7 @@ fn has_anchor_among(cloud: &Cloud, query: &Query, list: &[u32], roots: &[u32]) -
         ≡ list_any (λ r. takes_root (providers_of cloud.now) (asked_of query.now) r
         && list_all (λ p. is_available_at (providers_of cloud.now) p r) list.now) roots.now }
 {
-    for root in roots {
-        if takes_root(cloud, query, *root) && are_available(cloud, list, *root) {
-            return true;
-        }
-    }
-    false
+    roots.iter().any(|root| takes_root(cloud, query, *root) && are_available(cloud, list, *root))
 }
 
 /// Anchor: whether each provider is available in the tree of some root that the query takes.

@@ -184,12 +184,7 @@ fn counts_in_any(cloud: &Cloud, query: &Query, s: usize, ix: u32, ids: &[Id]) ->
         ≡ list_any (λ a. counts_in (providers_of cloud.now) (placed_at (asked_of query.now) s ix) a)
         ids.now }
 {
-    for id in ids {
-        if counts_in(cloud, query, s, ix, *id) {
-            return true;
-        }
-    }
-    false
+    ids.iter().any(|id| counts_in(cloud, query, s, ix, *id))
 }
 
 // Whether a rule on aggregates is met.
