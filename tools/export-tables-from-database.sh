@@ -138,11 +138,6 @@ part() {
     }
 }
 
-rounds=no
-if test "${1-}" = --round-ratios; then
-    rounds=yes
-    shift
-fi
 test $# -ge 2 || wrong_words
 case ${2##*/} in
 mysql | mariadb | psql | sqlite3) ;;
@@ -153,5 +148,4 @@ shift
 command -v "$1" >"$room/found" || stop "there is no client $1 on the PATH"
 ask "$@" >"$room/rows" 2>"$room/said" || stop 'the client failed'
 part
-test $rounds = no || round_ratios
 hand_over

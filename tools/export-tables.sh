@@ -41,11 +41,6 @@ table() {
     join "$1" "$2"
 }
 
-rounds=no
-if test "${1-}" = --round-ratios; then
-    rounds=yes
-    shift
-fi
 test $# = 1 || wrong_words
 begin "$1"
 command -v openstack >"$room/found" || stop 'there is no openstack client on the PATH'
@@ -64,7 +59,6 @@ table traits name 'resource provider trait list'
 table aggregates uuid 'resource provider aggregate list'
 
 echo 'resource provider list -f csv' | ask providers.again
-test $rounds = no || round_ratios
 cmp -s "$room/providers.csv" "$room/providers.again" ||
     echo 'export-tables: the cloud changed while it was listed (a provider, or its generation): the tables are not of one moment' >&2
 hand_over

@@ -1,8 +1,13 @@
 # tools/exporting.sh: what the two exports share. They read it with `.`, after setting `tool`, their name in what they say, and `usage`,
-# their command line. Both gather the tables in a folder of their own within OUTDIR, `room`. OUTDIR gets them by `hand_over`, when all five are
-# whole; where the export fails before, it is as it was, and the status is 1.
+# their command line. It takes `--round-ratios` from their words. Both gather the tables in a folder of their own within OUTDIR, `room`. OUTDIR gets
+# them by `hand_over`, when all five are whole; where the export fails before, it is as it was, and the status is 1.
 
 export LC_ALL=C
+rounds=no
+if test "${1-}" = --round-ratios; then
+    rounds=yes
+    shift
+fi
 
 # stop WHY: ends the export. What the client said last, in the room's file `said`, is told too.
 stop() {
@@ -30,8 +35,9 @@ begin() {
     trap 'exit 1' HUP INT PIPE TERM
 }
 
-# hand_over: the five tables get their names
+# hand_over: the ratios are rounded, where that was asked for, and the five tables get their names
 hand_over() {
+    test $rounds = no || round_ratios
     for name in providers inventories usages traits aggregates; do
         mv -f -- "$room/$name.csv" "$outdir/$name.csv"
     done
