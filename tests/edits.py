@@ -7,9 +7,9 @@ knows of it only its contract. So an edit is refused if a function whose body it
 a constant or a definition, lines `refused: FUNCTION` name the functions that it is about. An edit of which none is refused is tried again alone, as
 is each of which no function is known: then the crate has to be refused. Either way the edited text has to be one that the prover can read.
 
-What the crates stand on has to be built below FOLDER, else in this repository; what `rt check` has kept there is taken up. With --beside each crate
-is awaited: LOG is what `rt ci` writes while it proves them, and names their functions. With --all each edit is named, with what refused it. The
-last line is `N passed, M failed`."""
+What the crates stand on has to be built below FOLDER, the top of a clone, else in this repository; what `rt check` has kept there is taken up. With
+--beside each crate is awaited: LOG is what `rt ci` writes while it proves them, and names their functions. With --all each edit is named, with what
+refused it. The last line is `N passed, M failed`."""
 from __future__ import annotations
 
 import argparse
@@ -196,6 +196,8 @@ def main(given):
     parser.add_argument('--all', action='store_true')
     parser.add_argument('names', nargs='*')
     given = parser.parse_args(given)
+    if not os.path.isdir(os.path.join(given.crates, 'crates')):
+        sys.exit(f'tests/edits.py: {given.crates} has no folder crates: --crates wants the top of a clone')
     kit = os.path.dirname(subprocess.run(['rt', 'doc'], capture_output=True, text=True, check=True).stdout.strip())
     lines = [line.partition(':') for line in read(os.path.join(ROOT, 'crates.txt')).splitlines() if not line.startswith('#')]
     crates = {name: Crate(given.crates, name, libraries.split()) for name, _, libraries in lines}
@@ -217,6 +219,9 @@ def main(given):
         return tried(crate, crate.words(kit, built), known)
 
     wanted = [crate for name, crate in crates.items() if crate.edits and (not given.names or name in given.names)]
+    missing = {name for crate in wanted for name, folder in below(crate).items() if not os.path.exists(f'{folder}/out/rlib/{name}.rlib')}
+    if missing and not given.beside:
+        sys.exit(f'tests/edits.py: not built below {given.crates}: {", ".join(sorted(missing))}; `rt check` in the crate above builds them')
     count = [0, 0]
     with ThreadPoolExecutor(max(1, (os.cpu_count() or 1) - 1)) as pool:
         for crate, found in zip(wanted, pool.map(work, wanted)):
