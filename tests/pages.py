@@ -1,9 +1,11 @@
 #!/usr/bin/env python3
 """tests/pages.py [--write]: says where the documents and the tree differ, a line each. The status is 0 only where nothing is said.
 
-Links lead to files and headings that are there. docs/MAP.md names every source and every definition, and no other file. Each clause that
-docs/PROMISES.md quotes stands in the sources of its crate, and each part of a definition (`name : statement`) in its specs; every public
-function is named there, and so are all edits of the crate and no other. With --write the lists of edits there are first made anew."""
+Links lead to files and headings that are there. Each source, definition or script that a document names is there: anywhere, or with a folder at that
+place below the top or a crate, which is the crate that the part of the document is of; and where something is said to stand `in` a source, it does.
+docs/MAP.md names every source and every definition, and no other file. Each clause that docs/PROMISES.md quotes stands in the sources of its crate,
+and each part of a definition (`name : statement`) in its specs; every public function is named there, and so are all edits of the crate and no other.
+With --write the lists of edits there are first made anew."""
 from __future__ import annotations
 
 import glob
@@ -13,7 +15,8 @@ import sys
 import textwrap
 
 ROOT = os.path.dirname(os.path.dirname(os.path.abspath(__file__)))
-PAGES = ['README.md', *(f'docs/{name}' for name in sorted(os.listdir(os.path.join(ROOT, 'docs')))), 'examples/README.md']
+NAMED = re.compile(r'(?<![\w./-])[\w./-]+\.(?:rt|antt|rattle|py|sh|c|rs)\b')
+STANDS_IN = re.compile(r'`(\w+)`,? in `([\w/]+\.rt)`')
 PROMISES = 'docs/PROMISES.md'
 EDITS = re.compile(r'^Edits: .*?(?=\n\n)', re.M | re.S)
 SHORT = {'ALL': ('(providers_of cloud.now)', '(providers_of self.now)'), 'ASKED': ('(asked_of query.now)', '(asked_of self.now)')}
@@ -26,6 +29,17 @@ def text(path):
 
 def there(path):
     return os.path.exists(os.path.join(ROOT, path))
+
+
+def tree():
+    """The paths of all files, without what is built."""
+    for folder, inner, names in os.walk(ROOT):
+        inner[:] = [name for name in inner if name not in ('out', '.git', '__pycache__')]
+        yield from (os.path.relpath(os.path.join(folder, name), ROOT) for name in names)
+
+
+FILES = sorted(tree())
+PAGES = [path for path in FILES if path.endswith('.md')]
 
 
 def parts(page):
@@ -51,6 +65,25 @@ def links(page):
             yield f'{page}: no {to}'
         elif anchor and anchor not in anchors(path):
             yield f'{page}: no heading for {to}'
+
+
+def meant(name, crate):
+    """The files that a document means by this name, in the part of a crate or of none. A folder may be one of the top, of a crate, or of its sources,
+    definitions or proofs."""
+    if '/' not in name:
+        return [path for path in FILES if os.path.basename(path) == name]
+    if crate and re.match(r'(src|specs|proofs)/', name):
+        name = f'crates/{crate}/{name}'
+    return [path for path in FILES if re.fullmatch(rf'(crates/(\w+/((src|specs|proofs)/)?)?)?{re.escape(name)}', path)]
+
+
+def named(page):
+    """The names of files that aren't there, and what isn't in the source that is named with it."""
+    for crate, part in parts(page):
+        yield from (f'{page}: no {name}' for name in NAMED.findall(part) if not meant(name, crate))
+        for name, path in STANDS_IN.findall(part):
+            if not any(re.search(rf'\b(fn|trait|struct|enum|const) {name}\b', text(source)) for source in meant(path, crate)):
+                yield f'{page}: no {name} in {path}'
 
 
 def files(crate):
@@ -137,7 +170,7 @@ def promised():
 def main(*given):
     if '--write' in given:
         write_edits()
-    said = [*(line for page in PAGES for line in links(page)), *mapped(), *promised()]
+    said = [*(line for page in PAGES for line in (*links(page), *named(page))), *mapped(), *promised()]
     print(''.join(line + '\n' for line in said), end='')
     return 1 if said else 0
 
