@@ -429,6 +429,7 @@ MANY_GROUPS = [
     found('64 groups, and no room on any of 20 hosts', FULL, SIXTY_FOUR),
     found('64 groups fill 8 providers: the first', EIGHT, SIXTY_FOUR + '&limit=1', EIGHT_EACH),
     found('64 groups fill 8 providers: after the last', EIGHT, SIXTY_FOUR, after=','.join(reversed(EIGHT_EACH.split(',')))),
+    judged('64 groups fill 8 providers', EIGHT, SIXTY_FOUR, EIGHT_EACH, 'candidate'),
 ]
 
 SMALL = [*QUANTITIES, *RULES, *LISTS, *PAGES, *TOKENS, *TABLES, *QUERIES, *MANY_GROUPS]

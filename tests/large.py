@@ -47,6 +47,11 @@ def filled(record, size):
     return head + record * (times - 1) + record[:-1] + 'x' * rest + '\n'
 
 
+def million(table, row):
+    """A thousand records of each of a thousand providers; UUIDs without hyphens, so that aggregates are within 64 MiB too."""
+    return HEADERS[table] + ''.join(row(id.replace('-', ''), n) + '\n' for id in ids(1000) for n in range(1000))
+
+
 def check(name, made, counts=None, line=None):
     out = ''.join(f'{table} {count}\n' for table, count in zip(HEADERS, counts or ()))
     return Case(f'check: {name}', ['check'], out, line + '\n' if line else '', 3 if line else 0,
@@ -83,9 +88,17 @@ def hosts(number, functions):
 
 
 TRAIT = f'{provider(1)},CUSTOM_A,\n'
+MILLIONS = {
+    'providers': lambda: roots(1000),
+    'inventories': lambda: million('inventories', lambda id, n: f'{id},C{n},1,0,1,1,1,1.0'),
+    'usages': lambda: million('usages', lambda id, n: f'{id},C{n},1'),
+    'traits': lambda: million('traits', lambda id, n: f'{id},T{n}'),
+    'aggregates': lambda: million('aggregates', lambda id, n: f'{id},{n:032x}'),
+}
 STAR = {'providers': lambda: star(40), 'inventories': lambda: vcpu(40)}
 FUNCTIONS = {'providers': lambda: hosts(1000, 7)[0], 'inventories': lambda: hosts(1000, 7)[1]}
 EIGHT_APART = '&'.join(f'resources{n}=SRIOV_NET_VF:1' for n in range(8)) + '&group_policy=isolate'
+PAIRS = 'resources=VCPU:2' + '&required=A' * 5000
 THREE = 'resources1=VCPU:1&resources2=VCPU:1&resources3=VCPU:1&group_policy=none'
 EACH = [f'resources{n}=' + ','.join(f'C{k}:1' for k in range(4)) for n in range(64)]
 
@@ -110,10 +123,14 @@ LARGE = [
       for name, size in (('64 MiB', MOST_BYTES), ('64 MiB and a byte', MOST_BYTES + 1))),
     check('a fault past the record 100000', {'traits': lambda: HEADERS['traits'] + f'{provider(1)},CUSTOM_A\n' * 100000 + f'{provider(1)},small\n'},
           line='traits: record 100002: BadTrait'),
+    check('four tables of a million rows', MILLIONS, (1000, *[1000000] * 4)),
     check('a large table is told before the fault of an earlier one',
           {'providers': 'x', 'usages': lambda: '\n' * (MOST_BYTES + 1)}, line='usages: TooLarge'),
     query('4366 lists of one subtree, 65536 bytes', pairs('resources1=VCPU:2&', 'same_subtree=1&', QUERY_BYTES), lines('P1')),
     query('the same with a byte more', pairs('resources1=VCPU:2&', 'same_subtree=1&', QUERY_BYTES) + '&', line='query: QueryTooLong'),
+    Case('tokens: 5001 pairs, by the version in which required may be repeated', ['tokens', PAIRS, '--microversion', '1.39'], lines('P1'),
+         tables=tables('P1 | | VCPU total 8 | A')),
+    Case('tokens: 5001 pairs, and a bad one', ['tokens', PAIRS + '&limit=0', '--microversion', '1.39'], '', 'query: pair 5002: BadValue\n', 4, ONE),
     query('thousands of groups', '&'.join(f'resources{n:04}=C:1' for n in range(3600)) + '&group_policy=none', line='query: TooManySlots'),
     query('thousands of groups without resources', '&'.join(['resources=VCPU:2', *(f'required{n:04}=A' for n in range(3600, 0, -1))]),
           line='query: group "0001": GroupWithoutResources'),

@@ -150,18 +150,27 @@ def to_full(name, words, **made):
     return Case(f'a full device: {name}', words, None, 'output: WriteFailed\n', 6, made, to='/dev/full')
 
 
+def to_nobody(name, words, **made):
+    return Case(f'a pipe that nobody reads: {name}', words, err='output: WriteFailed\n', status=6, tables=made, closed=True)
+
+
+# Answers of more than the 65536 bytes that are gathered before they are handed on: so they fail amid what writes them.
+HOSTS = {'providers': roots(2000), 'inventories': vcpu(2000)}
+LONG_NAMES = '&'.join(f'resources{n}=' + ','.join(f'C{n}_{k}_'.ljust(240, 'C') + ':1' for k in range(4)) for n in range(10, 74)) + '&group_policy=none'
+LONG = (('tokens', 'resources=VCPU:2', HOSTS), ('candidates', 'resources=VCPU:2', HOSTS), ('explain', LONG_NAMES, tables(ONE)))
+
 DEVICES = [
     to_full('without words', []),
     to_full('help', ['--help']),
-    to_full('more than is gathered', ['tokens', 'resources=VCPU:2'], providers=roots(2000), inventories=vcpu(2000)),
+    *(made(f'more than is gathered, {command}', [command, query], **cloud) for made in (to_full, to_nobody) for command, query, cloud in LONG),
     to_full('check', check()),
     to_full('tokens', tokens('resources=VCPU:2')),
     to_full('candidates', over(['candidates', 'resources=VCPU:2'])),
     to_full('verify', over(['verify', 'resources=VCPU:2', ONE_HOST.strip()])),
     to_full('explain', over(['explain', 'resources=VCPU:2'])),
     Case('a full device: nothing to write', tokens('resources=DISK_GB:3000'), to='/dev/full'),
-    Case('a pipe that nobody reads: tokens', tokens('resources=VCPU:2'), err='output: WriteFailed\n', status=6, closed=True),
-    Case('a pipe that nobody reads: candidates', over(['candidates', 'resources=VCPU:2']), err='output: WriteFailed\n', status=6, closed=True),
+    to_nobody('tokens', tokens('resources=VCPU:2')),
+    to_nobody('candidates', over(['candidates', 'resources=VCPU:2'])),
     Case('standard error on a full device', tokens(''), err=None, status=4, err_to='/dev/full'),
     Case('both on a full device', [], None, None, 6, to='/dev/full', err_to='/dev/full'),
 ]
