@@ -2,17 +2,14 @@
 use Rattle.std.specs.Prelude.{ℕ, Bool, ◌&&◌, List, length}
 use Rattle.std.specs.List.{list_all, list_any, filter, range_with_len}
 use Rattle.ac_query.specs.Asked.{Asked, Slot, slots_of}
-use Rattle.ac_tables.specs.World.{Provider, provider_at, id_at, is_root}
+use Rattle.ac_tables.specs.World.{Provider, id_at, is_root}
 use Rattle.ac_rules.specs.Placed.{Placed}
 use Rattle.ac_rules.specs.Own.{units_fit, traits_fit, aggregates_fit, tree_fits}
-use Rattle.ac_rules.specs.Together.{holds, takes_root}
+use Rattle.ac_rules.specs.Together.{takes_root}
+use Rattle.ac_search.specs.QuerySearch.{has_room_alone}
 use Rattle.ac_search.specs.Ahead.{hosts_of}
 
 -- ---- What a slot's provider is asked, one after another
-
--- the provider has room, in each of the slot's classes, for what the slot alone asks
-unfoldable pub has_room_alone : List Provider → Placed → Bool
-has_room_alone all x = list_all (λ need. holds (provider_at all x.provider) need.0 need.1) x.slot.needs
 
 abbrev pub meets_units : List Provider → Placed → Bool
 meets_units all x = units_fit all x

@@ -5,7 +5,7 @@ use Rattle.std.specs.Global.{Vec}
 use Rattle.ac_tables.specs.World.{Provider}
 use Rattle.ac_rules.specs.Placed.{slot_at}
 use Rattle.ac_search.specs.QuerySearch.{choice_of, choices_of}
-use Rattle.ac_search.specs.Left.{ask_pair, wanted, left_in, row_of, has_each}
+use Rattle.ac_search.specs.Left.{ask_pair, wanted, left_in, row_of}
 use Rattle.ac_search.specs.Ahead.{load_in, load_of, hosts_of, AreRoots}
 use Rattle.ac_search.specs.Left.Accounts.{providers_in, asked_in}
 use Rattle.ac_search.specs.Parts.{AreParts}
@@ -51,10 +51,9 @@ choices_in ledger = choices_of (providers_in ledger) (asked_in ledger)
 abbrev pub ArePartsIn : Ledger → ℕ → List ℕ → Type 0
 ArePartsIn ledger k parts = AreParts (providers_in ledger) (asked_in ledger) (get_or (asked_in ledger).subtrees k []) parts
 
--- each choice whose row has enough for what is asked has some room
-abbrev pub AreServing : List (Vec Room) → List ℕ → List Ask → List ℕ → Type 0
-AreServing rows choices asks rooms =
-    (j : ℕ) → j < length choices → has_each (row_of rows (slice_index choices j)) (map ask_pair asks) ≡ true → 0 < slice_index rooms (slice_index choices j)
+-- each choice has some room
+abbrev pub AreServing : List ℕ → List ℕ → Type 0
+AreServing choices rooms = (j : ℕ) → j < length choices → 0 < slice_index rooms (slice_index choices j)
 
 -- what is left of a class in each row
 abbrev pub IsColumn : List (Vec Room) → ℕ → List ℕ → Type 0

@@ -1,11 +1,11 @@
 -- The search of a query, and the least list of places that a token stands for.
 use Rattle.std.specs.Prelude.{ℕ, ◌+◌, ◌&&◌, ◌==◌, zero, suc, Bool, true, not, nat_lt, cond, List, [], ◌∷◌, map, length, take, Option, Some, None}
-use Rattle.std.specs.List.{filter, range_with_len}
+use Rattle.std.specs.List.{list_all, filter, range_with_len}
 use Rattle.ac_query.specs.Asked.{Asked, Slot, slots_of}
-use Rattle.ac_tables.specs.World.{Provider, id_at}
+use Rattle.ac_tables.specs.World.{Provider, provider_at, id_at}
 use Rattle.ac_rules.specs.Placed.{Placed, assigned}
 use Rattle.ac_rules.specs.Own.{units_fit, traits_fit, aggregates_fit, tree_fits}
-use Rattle.ac_rules.specs.Together.{collective, subtree}
+use Rattle.ac_rules.specs.Together.{collective, holds, subtree}
 use Rattle.ac_rules.specs.Judge.{is_candidate, is_open}
 use Rattle.ac_rules.specs.Order.{lex_lt}
 use Rattle.ac_rules.specs.Pages.{ids_of}
@@ -15,9 +15,15 @@ use Rattle.ac_search.specs.Search.{Search, below, is_up_to}
 unfoldable pub fits : List Provider → Placed → Bool
 fits all x = units_fit all x && traits_fit all x && aggregates_fit all x && tree_fits all x
 
--- the providers that meet a slot's own rules, in order; none where the empty list isn't open
+-- the provider has room, in each of the slot's classes, for what the slot alone asks
+unfoldable pub has_room_alone : List Provider → Placed → Bool
+has_room_alone all x = list_all (λ need. holds (provider_at all x.provider) need.0 need.1) x.slot.needs
+
+-- the providers that meet a slot's own rules and have room for it alone, in order; none where the empty list isn't open
 unfoldable pub choice_of : List Provider → Asked → Slot → List ℕ
-choice_of all asked slot = filter (λ p. is_open all asked [] && fits all (record { slot = slot; provider = p })) (range_with_len 0 (length all))
+choice_of all asked slot =
+    filter (λ p. is_open all asked [] && (fits all (record { slot = slot; provider = p }) && has_room_alone all (record { slot = slot; provider = p })))
+    (range_with_len 0 (length all))
 
 abbrev pub choices_of : List Provider → Asked → List (List ℕ)
 choices_of all asked = map (λ slot. choice_of all asked slot) (slots_of asked)

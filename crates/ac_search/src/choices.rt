@@ -1,31 +1,109 @@
-//! The providers that each slot may have.
+//! What a provider meets of a slot alone, one rule after another and room at last, and the providers that each slot may have.
 
 ghost use Rattle.std.specs.Prelude.{◌≡◌, ◌<◌, ◌&&◌, IfOk, [], length, map};
 ghost use Rattle.ac_tables.specs.Cloud.CloudWorld.{providers_of};
+ghost use Rattle.ac_tables.specs.World.{provider_at};
 ghost use Rattle.ac_query.specs.Asked.{slots_of};
+ghost use Rattle.ac_query.specs.Shown.Groups.{need_entry};
 ghost use Rattle.ac_query.specs.Shown.Queries.{asked_of};
 ghost use Rattle.ac_rules.specs.Placed.{slot_at, placed_at};
 ghost use Rattle.ac_rules.specs.Judge.{is_open};
-ghost use Rattle.ac_search.specs.QuerySearch.{fits, choice_of, choices_of};
+ghost use Rattle.ac_rules.specs.Together.{holds};
+ghost use Rattle.ac_search.specs.Explained.{meets_aggregates, meets_room, meets_traits, meets_tree};
+ghost use Rattle.ac_search.specs.QuerySearch.{fits, has_room_alone, choice_of, choices_of};
 
-use crate::open::{fits_slot, is_open};
+use crate::open::is_open;
 use ac_base::NoMemory;
-use ac_query::Query;
-use ac_rules::slots::count_slots;
+use ac_query::{Need, Query};
+use ac_rules::rules::own::{has_aggregates, has_slot_traits, has_units, is_in_tree};
+use ac_rules::rules::sums::room_at;
+use ac_rules::slots::{count_slots, needs_at};
 use ac_tables::Cloud;
 use std::alloc::Global;
 
-// Whether a provider is one of them, by whether the empty list is open.
+// Whether a provider has room for an amount of a class.
+fn has_room_of(cloud: &Cloud, ix: u32, need: &Need) -> bool
+    requires { ix < length (providers_of cloud.now) }
+    ensures { result ≡ holds (provider_at (providers_of cloud.now) ix)
+        (need_entry need.now).0 (need_entry need.now).1 }
+{
+    match room_at(cloud, ix, need.class()) {
+        Some(room) => u64::from(need.amount()) <= room,
+        None => false,
+    }
+}
+
+// Whether a provider has room for what a slot alone asks.
+#[tactic(auto, unfolding(crate::specs::QuerySearch::has_room_alone))]
+fn has_room_alone(cloud: &Cloud, query: &Query, s: usize, ix: u32) -> bool
+    requires slot { s < length (slots_of (asked_of query.now)) }
+    requires provider { ix < length (providers_of cloud.now) }
+    ensures { result
+        ≡ has_room_alone (providers_of cloud.now) (placed_at (asked_of query.now) s ix) }
+{
+    for need in needs_at(query, s) {
+        if !has_room_of(cloud, ix, need) {
+            return false;
+        }
+    }
+    true
+}
+
+/// Whether a provider meets Units and SlotTraits in a slot.
+pub(crate) fn meets_traits(cloud: &Cloud, query: &Query, s: usize, ix: u32) -> bool
+    requires slot { s < length (slots_of (asked_of query.now)) }
+    requires provider { ix < length (providers_of cloud.now) }
+    ensures { result ≡ meets_traits (providers_of cloud.now) (placed_at (asked_of query.now) s ix) }
+{
+    has_units(cloud, query, s, ix) && has_slot_traits(cloud, query, s, ix)
+}
+
+/// Whether it meets Aggregates too.
+pub(crate) fn meets_aggregates(cloud: &Cloud, query: &Query, s: usize, ix: u32) -> bool
+    requires slot { s < length (slots_of (asked_of query.now)) }
+    requires provider { ix < length (providers_of cloud.now) }
+    ensures { result
+        ≡ meets_aggregates (providers_of cloud.now) (placed_at (asked_of query.now) s ix) }
+{
+    meets_traits(cloud, query, s, ix) && has_aggregates(cloud, query, s, ix)
+}
+
+/// Whether it meets Tree too.
+pub(crate) fn meets_tree(cloud: &Cloud, query: &Query, s: usize, ix: u32) -> bool
+    requires slot { s < length (slots_of (asked_of query.now)) }
+    requires provider { ix < length (providers_of cloud.now) }
+    ensures { result ≡ meets_tree (providers_of cloud.now) (placed_at (asked_of query.now) s ix) }
+{
+    meets_aggregates(cloud, query, s, ix) && is_in_tree(cloud, query, s, ix)
+}
+
+/// Whether it has room for what the slot alone asks, too.
+#[tactic(auto, unfolding(crate::specs::QuerySearch::fits))]
+pub(crate) fn meets_room(cloud: &Cloud, query: &Query, s: usize, ix: u32) -> bool
+    requires slot { s < length (slots_of (asked_of query.now)) }
+    requires provider { ix < length (providers_of cloud.now) }
+    ensures meets { result
+        ≡ meets_room (providers_of cloud.now) (placed_at (asked_of query.now) s ix) }
+    ensures fits { result
+        ≡ (fits (providers_of cloud.now) (placed_at (asked_of query.now) s ix)
+        && has_room_alone (providers_of cloud.now) (placed_at (asked_of query.now) s ix)) }
+{
+    meets_tree(cloud, query, s, ix) && has_room_alone(cloud, query, s, ix)
+}
+
+// Whether a provider is one of those that a slot may have, by whether the empty list is open.
 fn is_choice(cloud: &Cloud, query: &Query, s: usize, ix: u32, opens: bool) -> bool
     requires slot { s < length (slots_of (asked_of query.now)) }
     requires provider { ix < length (providers_of cloud.now) }
-    ensures { result ≡ (opens && fits (providers_of cloud.now)
-        (placed_at (asked_of query.now) s ix)) }
+    ensures { result ≡ (opens && (fits (providers_of cloud.now)
+        (placed_at (asked_of query.now) s ix)
+        && has_room_alone (providers_of cloud.now) (placed_at (asked_of query.now) s ix))) }
 {
-    opens && fits_slot(cloud, query, s, ix)
+    opens && meets_room(cloud, query, s, ix)
 }
 
-// The providers that meet the rules of a slot alone, in order; none where not even the empty list is open.
+// The providers that meet the rules of a slot alone and have room for it, in order; none where not even the empty list is
+// open.
 fn slot_choices(
     alloc: Global,
     cloud: &Cloud,

@@ -2,24 +2,21 @@
 //! for each slot.
 
 ghost use Rattle.std.specs.Prelude.{◌≡◌, ◌<◌, ◌^◌, IfOk, [], length};
-ghost use Rattle.ac_tables.specs.World.{id_at, is_root, provider_at};
+ghost use Rattle.ac_tables.specs.World.{id_at, is_root};
 ghost use Rattle.ac_tables.specs.Cloud.CloudWorld.{providers_of};
 ghost use Rattle.ac_query.specs.Asked.{slots_of};
-ghost use Rattle.ac_query.specs.Shown.Groups.{need_entry};
 ghost use Rattle.ac_query.specs.Shown.Queries.{asked_of};
 ghost use Rattle.ac_rules.specs.Placed.{placed_at, slot_at};
-ghost use Rattle.ac_rules.specs.Together.{holds};
-ghost use Rattle.ac_search.specs.Explained.{count_of, has_room_alone, meets_room, slot_counts, tree_counts};
+ghost use Rattle.ac_search.specs.Explained.{count_of, meets_aggregates, meets_room, meets_traits, meets_tree, meets_units, slot_counts, tree_counts};
 ghost use Rattle.ac_search.specs.Shown.Explained.{marked, served, served_roots, slot_counted, trees_counted};
 
+use crate::choices::{meets_aggregates, meets_room, meets_traits, meets_tree};
 use crate::hosts::limit;
 use crate::ledger::marks::taken_roots;
-use crate::open::fits_slot;
 use ac_base::NoMemory;
-use ac_query::{Need, Query};
-use ac_rules::rules::own::{has_aggregates, has_slot_traits, has_units, is_in_tree};
-use ac_rules::rules::sums::room_at;
-use ac_rules::slots::{count_slots, needs_at};
+use ac_query::Query;
+use ac_rules::rules::own::has_units;
+use ac_rules::slots::count_slots;
 use ac_tables::Cloud;
 use std::alloc::Global;
 
@@ -49,32 +46,59 @@ pub struct TreeCounts {
     pub each_slot: u32,
 }
 
-// Whether a provider has room for an amount of a class.
-fn has_room_of(cloud: &Cloud, ix: u32, need: &Need) -> bool
-    requires { ix < length (providers_of cloud.now) }
-    ensures { result ≡ holds (provider_at (providers_of cloud.now) ix)
-        (need_entry need.now).0 (need_entry need.now).1 }
+// How many providers meet Units in a slot.
+fn count_units(cloud: &Cloud, query: &Query, s: usize) -> u32
+    requires { s < length (slots_of (asked_of query.now)) }
+    ensures { result ≡ count_of (providers_of cloud.now)
+        (λ p. meets_units (providers_of cloud.now) (placed_at (asked_of query.now) s p)) }
 {
-    match room_at(cloud, ix, need.class()) {
-        Some(room) => u64::from(need.amount()) <= room,
-        None => false,
-    }
+    (0..cloud.len())
+        .filter(|ix| has_units(cloud, query, s, *ix))
+        .count() as u32
 }
 
-// Whether a provider has room for what a slot alone asks.
-#[tactic(auto, unfolding(crate::specs::Explained::has_room_alone))]
-fn has_room_alone(cloud: &Cloud, query: &Query, s: usize, ix: u32) -> bool
-    requires slot { s < length (slots_of (asked_of query.now)) }
-    requires provider { ix < length (providers_of cloud.now) }
-    ensures { result
-        ≡ has_room_alone (providers_of cloud.now) (placed_at (asked_of query.now) s ix) }
+// How many providers meet SlotTraits too.
+fn count_traits(cloud: &Cloud, query: &Query, s: usize) -> u32
+    requires { s < length (slots_of (asked_of query.now)) }
+    ensures { result ≡ count_of (providers_of cloud.now)
+        (λ p. meets_traits (providers_of cloud.now) (placed_at (asked_of query.now) s p)) }
 {
-    for need in needs_at(query, s) {
-        if !has_room_of(cloud, ix, need) {
-            return false;
-        }
-    }
-    true
+    (0..cloud.len())
+        .filter(|ix| meets_traits(cloud, query, s, *ix))
+        .count() as u32
+}
+
+// How many providers meet Aggregates too.
+fn count_aggregates(cloud: &Cloud, query: &Query, s: usize) -> u32
+    requires { s < length (slots_of (asked_of query.now)) }
+    ensures { result ≡ count_of (providers_of cloud.now)
+        (λ p. meets_aggregates (providers_of cloud.now) (placed_at (asked_of query.now) s p)) }
+{
+    (0..cloud.len())
+        .filter(|ix| meets_aggregates(cloud, query, s, *ix))
+        .count() as u32
+}
+
+// How many providers meet Tree too.
+fn count_tree(cloud: &Cloud, query: &Query, s: usize) -> u32
+    requires { s < length (slots_of (asked_of query.now)) }
+    ensures { result ≡ count_of (providers_of cloud.now)
+        (λ p. meets_tree (providers_of cloud.now) (placed_at (asked_of query.now) s p)) }
+{
+    (0..cloud.len())
+        .filter(|ix| meets_tree(cloud, query, s, *ix))
+        .count() as u32
+}
+
+// How many providers have room for it too.
+fn count_room(cloud: &Cloud, query: &Query, s: usize) -> u32
+    requires { s < length (slots_of (asked_of query.now)) }
+    ensures { result ≡ count_of (providers_of cloud.now)
+        (λ p. meets_room (providers_of cloud.now) (placed_at (asked_of query.now) s p)) }
+{
+    (0..cloud.len())
+        .filter(|ix| meets_room(cloud, query, s, *ix))
+        .count() as u32
 }
 
 /// How many providers meet what a slot asks. It takes no memory.
@@ -83,53 +107,16 @@ pub fn slot_counts(cloud: &Cloud, query: &Query, s: usize) -> SlotCounts
     ensures { slot_counted result
         ≡ slot_counts (providers_of cloud.now) (slot_at (asked_of query.now) s) }
 {
-    let mut units = 0;
-    let mut traits = 0;
-    let mut aggregates = 0;
-    let mut tree = 0;
-    let mut room = 0;
-    for ix in 0..cloud.len() {
-        if !has_units(cloud, query, s, ix) {
-            continue;
-        }
-        units += 1;
-        if !has_slot_traits(cloud, query, s, ix) {
-            continue;
-        }
-        traits += 1;
-        if !has_aggregates(cloud, query, s, ix) {
-            continue;
-        }
-        aggregates += 1;
-        if !is_in_tree(cloud, query, s, ix) {
-            continue;
-        }
-        tree += 1;
-        if !has_room_alone(cloud, query, s, ix) {
-            continue;
-        }
-        room += 1;
-    }
     SlotCounts {
-        units,
-        traits,
-        aggregates,
-        tree,
-        room,
+        units: count_units(cloud, query, s),
+        traits: count_traits(cloud, query, s),
+        aggregates: count_aggregates(cloud, query, s),
+        tree: count_tree(cloud, query, s),
+        room: count_room(cloud, query, s),
     }
 }
 
-// Whether a provider meets all that a slot asks, room included.
-#[tactic(auto, unfolding(crate::specs::QuerySearch::fits))]
-fn serves(cloud: &Cloud, query: &Query, s: usize, ix: u32) -> bool
-    requires slot { s < length (slots_of (asked_of query.now)) }
-    requires provider { ix < length (providers_of cloud.now) }
-    ensures { result ≡ meets_room (providers_of cloud.now) (placed_at (asked_of query.now) s ix) }
-{
-    fits_slot(cloud, query, s, ix) && has_room_alone(cloud, query, s, ix)
-}
-
-// 1 for each provider that does, and else 0.
+// 1 for each provider that meets all that a slot asks, room included, and else 0.
 fn serving(alloc: Global, cloud: &Cloud, query: &Query, s: usize) -> Result<Vec<u64>, NoMemory>
     requires { s < length (slots_of (asked_of query.now)) }
     ensures { IfOk result (λ serving.
@@ -137,7 +124,7 @@ fn serving(alloc: Global, cloud: &Cloud, query: &Query, s: usize) -> Result<Vec<
 {
     let mut serving = Vec::new(alloc);
     for ix in 0..cloud.len() {
-        serving.push(u64::from(serves(cloud, query, s, ix)))?;
+        serving.push(u64::from(meets_room(cloud, query, s, ix)))?;
     }
     Ok(serving)
 }

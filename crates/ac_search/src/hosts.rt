@@ -11,7 +11,6 @@ mod loads;
 
 use crate::ledger::Ledger;
 use crate::ledger::marks::taken_roots;
-use crate::ledger::rooms::{Ask, Room, has_each};
 use ac_base::NoMemory;
 use ac_rules::slots::count_slots;
 use ac_tables::Cloud;
@@ -23,28 +22,20 @@ use std::alloc::Global;
 // How many steps all counts may take together.
 const MOST_STEPS: u64 = 1 << 28;
 
-// 1 at each choice of a slot whose row has enough for it, 0 at the others.
-fn serving(
-    alloc: Global,
-    rows: &[Vec<Room>],
-    choices: &[u32],
-    asks: &[Ask],
-) -> Result<Vec<u64>, NoMemory>
-    requires { All (λ p. p < length rows.now) choices.now }
-    ensures count { IfOk result (λ rooms. length rooms.items ≡ length rows.now) }
-    ensures rooms { IfOk result (λ rooms. AreServing rows.now choices.now asks.now rooms.items) }
+// 1 at each of some choices, 0 at the other providers.
+fn serving(alloc: Global, count: usize, choices: &[u32]) -> Result<Vec<u64>, NoMemory>
+    requires { All (λ p. p < count) choices.now }
+    ensures count { IfOk result (λ rooms. length rooms.items ≡ count) }
+    ensures rooms { IfOk result (λ rooms. AreServing choices.now rooms.items) }
 {
-    let mut rooms = vec![in alloc; 0u64; rows.len()]?;
+    let mut rooms = vec![in alloc; 0u64; count]?;
     for ix in choices {
-        let at = *ix as usize;
-        if has_each(&rows[at], asks) {
-            rooms[at] = 1;
-        }
+        rooms[*ix as usize] = 1;
     }
     Ok(rooms)
 }
 
-// Leaves the roots where no choice of a slot has enough for it.
+// Drops the roots at which no choice of a slot is available.
 fn limit_slot(
     alloc: Global,
     ledger: &Ledger,
@@ -54,11 +45,10 @@ fn limit_slot(
 ) -> Result<(), NoMemory>
     requires slot { s < length (slots_of (asked_in ledger.now)) }
     requires choices { choices.now ≡ choice_in ledger.now s }
-    requires empty { Accounts ledger.now [] }
     requires hosts { MayHost ledger.now may.old }
     ensures { IfOk result (λ _. MayHost ledger.now may.new) }
 {
-    let rooms = serving(alloc, &ledger.rows, choices, &ledger.asks[s])?;
+    let rooms = serving(alloc, ledger.cloud.len() as usize, choices)?;
     limit(alloc, ledger.cloud, may, &rooms, 1)
 }
 
@@ -70,7 +60,6 @@ fn limit_slots(
     may: &mut [bool],
 ) -> Result<(), NoMemory>
     requires choices { map (λ v. v.items) choices.now ≡ choices_in ledger.now }
-    requires empty { Accounts ledger.now [] }
     requires hosts { MayHost ledger.now may.old }
     ensures { IfOk result (λ _. MayHost ledger.now may.new) }
 {

@@ -141,7 +141,7 @@ unfolding is_top
 top_above all ps a b h there = all_there (λ b. is_above all (id_at all a) (id_at all b)) ps b h there
 
 -- the provider of a slot of a candidate is one of its choices
-choice_there : (all : List Provider) (asked : Asked) (t : List ℕ) (s : ℕ) → IsListBelow (length all) (length (slots_of asked)) t → is_candidate all asked t ≡ true → s < length (slots_of asked)
+pub choice_there : (all : List Provider) (asked : Asked) (t : List ℕ) (s : ℕ) → IsListBelow (length all) (length (slots_of asked)) t → is_candidate all asked t ≡ true → s < length (slots_of asked)
     → Among (choice_of all asked (slot_at asked s)) (slice_index t s)
 choice_there all asked t s list candidate h =
     let m = search_of all asked in

@@ -17,25 +17,27 @@ use Rattle.ac_search.specs.Marks.{AreHits, needs_own}
 use Rattle.ac_search.specs.Search.{IsDead}
 use Rattle.ac_rules.specs.Placed.{Placed, placed, slot_at, no_slot, assigned}
 use Rattle.ac_rules.specs.Together.{amount_of, sum_on, holds, takes_root, hosts_all, anchor}
-use Rattle.ac_rules.specs.Judge.{is_open, is_candidate}
+use Rattle.ac_rules.specs.Judge.{is_candidate}
 use Rattle.ac_rules.specs.Lists.{IsListBelow}
 use Rattle.ac_search.specs.QuerySearch.{fits, choice_of, search_of}
 use Rattle.ac_search.specs.Left.{ask_pair, numbered, wanted, left_in, place_of, IsKnown, row_of, has_each}
 use Rattle.ac_search.specs.Left.Accounts.{providers_in, asked_in, texts_in, Accounts}
+use Rattle.ac_search.specs.Loads.{AreServing}
 use Rattle.ac_search.specs.Ahead.{load_of, hosts_of, IsHosted, left_on, asks_much, lone_much, serves, AreHosts, AreRoots}
 use Rattle.ac_search.specs.declared.ledger.Ledger.{Ledger}
 use Rattle.ac_search.specs.declared.ledger.rooms.Ask.{Ask}
-use Rattle.ac_rules.proofs.Elements.{Among, each_weaker, each_filter, each_both, each_among}
+use Rattle.ac_rules.proofs.Elements.{Among, each_weaker, each_filter}
 use Rattle.ac_rules.proofs.EachSlot.AnchorLemmas.{each_range, hosts_list, any_filter}
 use Rattle.ac_search.proofs.Paths.MarkLemmas.{all_hit}
 use Rattle.ac_rules.proofs.EachSlot.FrontLemmas.{Opens}
 use Rattle.ac_rules.proofs.SlotLemmas.{each_at}
 use Rattle.ac_search.proofs.Paths.LeftLemmas.{each_suffices, wanted_is, holds_less}
-use Rattle.ac_search.proofs.Search.OpenLemmas.{among_choice, each_choice, front_open}
+use Rattle.ac_search.proofs.Search.OpenLemmas.{each_choice}
 use Rattle.ac_search.proofs.Search.SoughtLemmas.{place_of as place_of_choice}
 use Rattle.ac_search.proofs.Paths.LedgerLemmas.{slot_rises, known_in, asks_at, lone_at}
 use Rattle.ac_search.proofs.Roots.CountLemmas.{load_of_append}
 use Rattle.ac_search.proofs.Paths.BearLemmas.{left_bears, pieces_bear, lone_bears, each_serves}
+use Rattle.ac_search.proofs.Roots.PartLemmas.{choice_there}
 use Rattle.ac_search.proofs.Roots.HostLemmas.{rooms_reach, behind_hosts, candidate_open, candidate_parts}
 
 pub if_ok : {X E : Type 0} (P Q : X → Type 0) (r : Result X E) → ((x : X) → P x → Q x) → IfOk r P → IfOk r Q
@@ -143,21 +145,6 @@ holds_suffice l p needs (n ∷ ns) low accounts all known h =
     let fits : wanted (map (numbered (texts_in l)) needs) (place_of (texts_in l) n.0) ≤ left_in (row_of l.rows.items p) (place_of (texts_in l) n.0) = omega (arith, less, is, room) in
     and_from _ _ (grind (arith, nat_tests)) (holds_suffice l p needs ns low accounts all known.1 both.1)
 
--- the provider of a slot
-pub record IsServed (l : Ledger) (r : ℕ) (slot : Slot) (p : ℕ) : Type 0 where
-  pub host : Among (hosts_of (providers_in l) r) p
-  pub serves : serves (providers_in l) (asked_in l) [] slot p ≡ true
-
-pub slot_served : (l : Ledger) (r : ℕ) (t : List ℕ) (s : ℕ) → s < length (slots_of (asked_in l)) → IsHosted (providers_in l) (asked_in l) r t → IsServed l r (slot_at (asked_in l) s) (slice_index t s)
-slot_served l r t s h hosted =
-    let all = providers_in l in
-    let asked = asked_in l in
-    let hosts = behind_hosts all asked [] t r hosted in
-    let serve = each_serves all asked [] t (candidate_open all asked t hosted.candidate) in
-    placed_holds (IsServed l r) (slots_of asked) t s hosted.list.long h
-    (each_weaker _ (λ (y : Placed). IsServed l r y.slot y.provider) (placed (slots_of asked) t) (λ y both. record { host = both.0; serves = both.1 })
-    (each_both (λ (y : Placed). Among (hosts_of all r) y.provider) (λ (y : Placed). serves all asked [] y.slot y.provider ≡ true) (placed (slots_of asked) t) hosts serve))
-
 served_fits : (l : Ledger) (slot : Slot) (p : ℕ) → serves (providers_in l) (asked_in l) [] slot p ≡ true
     → (fits (providers_in l) (record { slot = slot; provider = p }) ≡ true)
     × (list_all (λ (need : List ℕ × ℕ). holds (provider_at (providers_in l) p) need.0 (sum_on (assigned (asked_in l) []) p need.0 + amount_of slot.needs need.0)) slot.needs ≡ true)
@@ -183,36 +170,27 @@ candidate_row l s asks h accounts want t list candidate =
     let low : slice_index t s < length all = each_at (λ p. p < length all) t s 0 (recursion_from_All (λ p. p < length all) t list.below) (omega (arith, h, list.long)) in
     row_serves l s (slice_index t s) asks h accounts low (placed_holds (λ slot p. serves all asked [] slot p ≡ true) (slots_of asked) t s list.long h serve) want
 
--- at a root at which a candidate stands some choice of a slot serves it
-pub slot_hosted : (l : Ledger) (r : ℕ) (t : List ℕ) (s : ℕ) (choices rooms : List ℕ) (asks : List (ℕ × ℕ)) → s < length (slots_of (asked_in l)) → Accounts l [] → IsHosted (providers_in l) (asked_in l) r t
-    → choices ≡ choice_of (providers_in l) (asked_in l) (slot_at (asked_in l) s) → asks ≡ map (numbered (texts_in l)) (slot_at (asked_in l) s).needs
-    → ((j : ℕ) → j < length choices → has_each (row_of l.rows.items (slice_index choices j)) asks ≡ true → 0 < slice_index rooms (slice_index choices j))
-    → 1 ≤ load_of (λ p. slice_index rooms p) (hosts_of (providers_in l) r)
-slot_hosted l r t s choices rooms asks h accounts hosted are want some =
+-- at a root at which a candidate stands some choice of a slot is available
+pub slot_hosted : (l : Ledger) (r : ℕ) (t : List ℕ) (s : ℕ) (choices rooms : List ℕ) → s < length (slots_of (asked_in l)) → IsHosted (providers_in l) (asked_in l) r t
+    → choices ≡ choice_of (providers_in l) (asked_in l) (slot_at (asked_in l) s) → AreServing choices rooms → 1 ≤ load_of (λ p. slice_index rooms p) (hosts_of (providers_in l) r)
+slot_hosted l r t s choices rooms h hosted are some =
     let all = providers_in l in
     let asked = asked_in l in
-    let slot = slot_at asked s in
     let p = slice_index t s in
-    let served = slot_served l r t s h hosted in
-    let low : p < length all = each_among (λ p. p < length all) (hosts_of all r) p (hosts_low all r) served.host in
-    let both = served_fits l slot p served.serves in
-    let begins : is_open all asked [] ≡ true = front_open all asked [] t (candidate_open all asked t hosted.candidate) in
-    let there : Among choices p = subst (λ (xs : List ℕ). Among xs p) (sym are) (among_choice all asked slot p low begins both.0) in
+    let host = placed_holds (λ slot p. Among (hosts_of all r) p) (slots_of asked) t s hosted.list.long h (behind_hosts all asked [] t r hosted) in
+    let there : Among choices p = subst (λ (xs : List ℕ). Among xs p) (sym are) (choice_there all asked t s hosted.list hosted.candidate h) in
     let at = place_of_choice choices p there in
-    let is : slice_index choices at.0 ≡ p = at.2 0 in
-    let row = row_serves l s p asks h accounts low served.serves want in
-    let here = subst (λ (x : ℕ). 0 < slice_index rooms x) is (some at.0 at.1 (subst (λ (x : ℕ). has_each (row_of l.rows.items x) asks ≡ true) (sym is) row)) in
-    let reach = among_load (λ p. slice_index rooms p) (hosts_of all r) p served.host in
+    let here = subst (λ (x : ℕ). 0 < slice_index rooms x) (at.2 0) (some at.0 at.1) in
+    let reach = among_load (λ p. slice_index rooms p) (hosts_of all r) p host in
     omega (arith, here, reach)
 
-pub slot_keeps : (l : Ledger) (old new : List Bool) (choices rooms : List ℕ) (asks : List (ℕ × ℕ)) (s : ℕ) → s < length (slots_of (asked_in l)) → Accounts l [] → AreHosts (providers_in l) (asked_in l) old
-    → choices ≡ choice_of (providers_in l) (asked_in l) (slot_at (asked_in l) s) → asks ≡ map (numbered (texts_in l)) (slot_at (asked_in l) s).needs
-    → ((j : ℕ) → j < length choices → has_each (row_of l.rows.items (slice_index choices j)) asks ≡ true → 0 < slice_index rooms (slice_index choices j))
+pub slot_keeps : (l : Ledger) (old new : List Bool) (choices rooms : List ℕ) (s : ℕ) → s < length (slots_of (asked_in l)) → AreHosts (providers_in l) (asked_in l) old
+    → choices ≡ choice_of (providers_in l) (asked_in l) (slot_at (asked_in l) s) → AreServing choices rooms
     → ((r : ℕ) → r < length (providers_in l) → slice_index_or new r false ≡ (slice_index_or old r false && nat_le 1 (load_of (λ p. slice_index rooms p) (hosts_of (providers_in l) r))))
     → AreHosts (providers_in l) (asked_in l) new
-slot_keeps l old new choices rooms asks s h accounts was are want some is =
+slot_keeps l old new choices rooms s h was are some is =
     keeps (providers_in l) (asked_in l) old new (λ r. nat_le 1 (load_of (λ p. slice_index rooms p) (hosts_of (providers_in l) r))) was is
-    (λ r t low hosted. let reach = slot_hosted l r t s choices rooms asks h accounts hosted are want some in grind (arith, nat_tests))
+    (λ r t low hosted. let reach = slot_hosted l r t s choices rooms h hosted are some in grind (arith, nat_tests))
 
 -- it begins with the roots that the query takes
 pub takes_host : (all : List Provider) (asked : Asked) (taken : List Bool) → taken ≡ map (takes_root all asked) (range_with_len 0 (length all)) → AreHosts all asked taken

@@ -1,7 +1,8 @@
 -- The search of a query is one that a walk goes through.
 use Rattle.std.proofs.Common.{◌≡◌, ℕ, ◌+◌, ◌<◌, ◌≤◌, zero, suc, Bool, true, false, ◌&&◌, List, [], ◌∷◌, ◌++◌, inl, inr, length, map, get_or, drop, refl, sym, ap, ◌∙◌, subst, arith, slice_index_or, slice_index, append-nil}
 use Rattle.std.specs.List.{filter, list_all, range_with_len, AllPairs, AllByRecursion as Each}
-use Rattle.std.proofs.lemmas.Bool.{cases_Bool, and_parts, and_from}
+use Rattle.std.proofs.lemmas.Bool.{cases_Bool, and_parts, and_from, eq-eqb}
+use Rattle.std.proofs.lemmas.Slice.Eq.{bytes_eq-Decides}
 use Rattle.std.proofs.lemmas.List.{get_or-map, length-map, map-append, drop_more}
 use Rattle.std.proofs.lemmas.List.Kept.{AllPairs-filter}
 use Rattle.std.proofs.lemmas.List.Folds.{list_all-append}
@@ -9,17 +10,17 @@ use Rattle.std.proofs.lemmas.List.FromFn.{length-range_with_len, get_or-range_wi
 use Rattle.std.proofs.lemmas.List.Elements.{filter-append}
 use Rattle.std.proofs.Common.{cond, add-one}
 use Rattle.ac_query.specs.Asked.{Asked, Slot, slots_of}
-use Rattle.ac_tables.specs.World.{Provider}
+use Rattle.ac_tables.specs.World.{Provider, provider_at, used_of}
 use Rattle.ac_rules.specs.Placed.{Placed, placed, placed_at, slot_at, no_slot, assigned}
-use Rattle.ac_rules.specs.Own.{units_fit, traits_fit, aggregates_fit, tree_fits}
-use Rattle.ac_rules.specs.Together.{sums, isolate, anchor}
+use Rattle.ac_rules.specs.Own.{inventory_of, units_fit, traits_fit, aggregates_fit, tree_fits}
+use Rattle.ac_rules.specs.Together.{amount_of, sum_on, holds, holds_sums, sums, isolate, anchor}
 use Rattle.ac_rules.specs.Judge.{tests, is_candidate, is_open, is_open_at}
 use Rattle.ac_search.specs.Search.{choices_at}
-use Rattle.ac_search.specs.QuerySearch.{fits, choice_of, completes, search_of}
+use Rattle.ac_search.specs.QuerySearch.{fits, has_room_alone, choice_of, completes, search_of}
 use Rattle.ac_rules.proofs.Elements.{Among, each_filter, each_weaker, each_all, among_filter, filter_none}
 use Rattle.ac_rules.proofs.Lists.ListLemmas.{among_range}
 use Rattle.ac_rules.proofs.PlacedLemmas.{placed_append, placed_none}
-use Rattle.ac_rules.proofs.EachSlot.FrontLemmas.{all_weaker, Opens, open_parts, opens, open_front, prefix_open}
+use Rattle.ac_rules.proofs.EachSlot.FrontLemmas.{all_weaker, room_less, Opens, open_parts, opens, open_front, prefix_open}
 use Rattle.ac_search.proofs.Search.SoughtLemmas.{IsSearch}
 
 -- a slot at a depth, and its choices
@@ -27,9 +28,9 @@ pub choices_here : (all : List Provider) (asked : Asked) (d : ℕ) → d < lengt
 unfolding choices_at
 choices_here all asked d h = get_or-map (λ slot. choice_of all asked slot) (slots_of asked) d no_slot [] h
 
--- a provider for a slot that it fits, where anything is open
+-- a provider for a slot that it fits and has room for, where anything is open
 abbrev test : List Provider → Asked → Slot → ℕ → Bool
-test all asked slot p = is_open all asked [] && fits all (record { slot = slot; provider = p })
+test all asked slot p = is_open all asked [] && (fits all (record { slot = slot; provider = p }) && has_room_alone all (record { slot = slot; provider = p }))
 
 rising_range : (n : ℕ) → AllPairs (λ x y. x < y) (range_with_len 0 n)
 rising_range n i j d h k =
@@ -49,7 +50,13 @@ each_range a (suc m) n h = (omega arith, each_range (a + 1) m n (omega arith))
 pub each_choice : (all : List Provider) (asked : Asked) (slot : Slot)
     → Each (λ p. ((is_open all asked [] && fits all (record { slot = slot; provider = p })) ≡ true) × (p < length all)) (choice_of all asked slot)
 unfolding choice_of
-each_choice all asked slot = each_filter (λ p. p < length all) (test all asked slot) (range_with_len 0 (length all)) (each_range 0 (length all) (length all) (omega arith))
+each_choice all asked slot =
+    each_weaker _ (λ p. ((is_open all asked [] && fits all (record { slot = slot; provider = p })) ≡ true) × (p < length all)) (choice_of all asked slot)
+    (λ p h. (without_last (is_open all asked []) (fits all (record { slot = slot; provider = p })) _ h.0, h.1))
+    (each_filter (λ p. p < length all) (test all asked slot) (range_with_len 0 (length all)) (each_range 0 (length all) (length all) (omega arith)))
+  where
+    without_last : (a b d : Bool) → a && (b && d) ≡ true → a && b ≡ true
+    without_last a b d h = let both = and_parts a (b && d) h in and_from a b both.0 (and_parts b d both.1).0
 
 pub filter_few : {X : Type 0} (f : X → Bool) (xs : List X) → length (filter f xs) ≤ length xs
 filter_few f [] = omega arith
@@ -60,9 +67,10 @@ unfolding choice_of
 few_choices all asked slot = let size = length-range_with_len 0 (length all) in let less = filter_few (test all asked slot) (range_with_len 0 (length all)) in omega arith
 
 pub among_choice : (all : List Provider) (asked : Asked) (slot : Slot) (p : ℕ) → p < length all → is_open all asked [] ≡ true → fits all (record { slot = slot; provider = p }) ≡ true
-    → Among (choice_of all asked slot) p
+    → has_room_alone all (record { slot = slot; provider = p }) ≡ true → Among (choice_of all asked slot) p
 unfolding choice_of
-among_choice all asked slot p h o f = among_filter (test all asked slot) (range_with_len 0 (length all)) p (among_range 0 (length all) p (omega arith) (omega arith)) (and_from _ _ o f)
+among_choice all asked slot p h o f room =
+    among_filter (test all asked slot) (range_with_len 0 (length all)) p (among_range 0 (length all) p (omega arith) (omega arith)) (and_from _ _ o (and_from _ _ f room))
 
 -- where the empty list isn't open, a slot has no choices
 choice_none : (all : List Provider) (asked : Asked) (slot : Slot) → is_open all asked [] ≡ false → choice_of all asked slot ≡ []
@@ -100,6 +108,38 @@ open_fits all asked q p h o =
     let tree : tree_fits all x ≡ true = all_last (λ y. tree_fits all y) xs x parts.tree in
     rw (units, traits, aggregates, tree) refl
 
+-- each amount is among what all of them ask of its class
+amounts_among : (needs : List (List ℕ × ℕ)) → Each (λ need. need.1 ≤ amount_of needs need.0) needs
+amounts_among [] = tt
+amounts_among (n ∷ needs) =
+    let itself = (bytes_eq-Decides n.0 n.0).1 refl in
+    (rw itself (omega arith), each_weaker (λ need. need.1 ≤ amount_of needs need.0) (λ need. need.1 ≤ amount_of (n ∷ needs) need.0) needs (λ need h. omega (arith, h)) (amounts_among needs))
+
+-- what the last slot asks is among what all ask of its provider
+sum_last : (xs : List Placed) (x : Placed) (c : List ℕ) → amount_of x.slot.needs c ≤ sum_on (xs ++ x ∷ []) x.provider c
+sum_last [] x c = let same = eq-eqb x.provider x.provider refl in rw same (omega arith)
+sum_last (y ∷ xs) x c = let more = sum_last xs x c in omega (arith, more)
+
+-- who has room for sums has room for amounts that are no greater
+room_each : (all : List Provider) (p : ℕ) (sum : List ℕ → ℕ) (ns : List (List ℕ × ℕ)) → Each (λ need. need.1 ≤ sum need.0) ns
+    → list_all (λ (need : List ℕ × ℕ). holds (provider_at all p) need.0 (sum need.0)) ns ≡ true → list_all (λ (need : List ℕ × ℕ). holds (provider_at all p) need.0 need.1) ns ≡ true
+room_each all p sum [] less h = refl
+room_each all p sum (n ∷ ns) less h =
+    let both = and_parts (holds (provider_at all p) n.0 (sum n.0)) (list_all (λ (need : List ℕ × ℕ). holds (provider_at all p) need.0 (sum need.0)) ns) h in
+    and_from _ _ (room_less (inventory_of (provider_at all p) n.0) (used_of (provider_at all p) n.0) n.1 (sum n.0) less.0 both.0) (room_each all p sum ns less.1 both.1)
+
+-- and has room for what its slot alone asks
+pub open_room_alone : (all : List Provider) (asked : Asked) (q : List ℕ) (p : ℕ) → length q < length (slots_of asked) → is_open all asked (q ++ p ∷ []) ≡ true → has_room_alone all (placed_at asked (length q) p) ≡ true
+unfolding is_open has_room_alone sums holds_sums
+open_room_alone all asked q p h o =
+    let xs = assigned asked q in
+    let x = placed_at asked (length q) p in
+    let parts : Opens all asked (xs ++ x ∷ []) = subst (Opens all asked) (placed_next asked q p h) (open_parts all asked (assigned asked (q ++ p ∷ [])) o) in
+    let last = all_last (λ y. holds_sums all (xs ++ x ∷ []) y) xs x parts.sums in
+    room_each all p (λ c. sum_on (xs ++ x ∷ []) p c) x.slot.needs
+    (each_weaker (λ need. need.1 ≤ amount_of x.slot.needs need.0) (λ need. need.1 ≤ sum_on (xs ++ x ∷ []) p need.0) x.slot.needs (λ need less. let all = sum_last xs x need.0 in omega (arith, less, all)) (amounts_among x.slot.needs))
+    last
+
 pub range_with_len_more : (a n : ℕ) → range_with_len a (n + 1) ≡ range_with_len a n ++ (a + n) ∷ []
 range_with_len_more a zero = ap (λ (i : ℕ). i ∷ []) (omega arith)
 range_with_len_more a (suc n) = rw add-one (ap (λ (l : List ℕ). a ∷ l) (ap (range_with_len (a + 1)) (sym (add-one n)) ∙ (range_with_len_more (a + 1) n ∙ ap (λ (i : ℕ). range_with_len (a + 1) n ++ i ∷ []) (omega arith))))
@@ -114,7 +154,7 @@ pub choice_more : (f : ℕ → Bool) (i : ℕ) → filter f (range_with_len 0 (i
 choice_more f i = rw (range_with_len_more 0 i, filter-append f (range_with_len 0 i) ((0 + i) ∷ [])) (ap (λ (p : ℕ). filter f (range_with_len 0 i) ++ cond (f p) (p ∷ []) []) (omega arith))
 
 pub choice_all : (all : List Provider) (asked : Asked) (slot : Slot) (o : Bool) (n : ℕ) → o ≡ is_open all asked [] → n ≡ length all
-    → filter (λ p. o && fits all (record { slot = slot; provider = p })) (range_with_len 0 n) ≡ choice_of all asked slot
+    → filter (λ p. o && (fits all (record { slot = slot; provider = p }) && has_room_alone all (record { slot = slot; provider = p }))) (range_with_len 0 n) ≡ choice_of all asked slot
 unfolding choice_of
 choice_all all asked slot o n e h = rw (e, h) refl
 
@@ -137,7 +177,7 @@ is_search all asked = record {
       (each_weaker _ (λ p. p < length all) (choice_of all asked (slot_at asked d)) (λ p q. q.1) (each_choice all asked (slot_at asked d)));
   few = λ d h. subst (λ (xs : List ℕ). length xs ≤ length all) (sym (choices_here all asked d h)) (few_choices all asked (slot_at asked d));
   among = λ q r h low o. subst (λ (xs : List ℕ). Among xs r) (sym (choices_here all asked (length q) h))
-      (among_choice all asked (slot_at asked (length q)) r low (front_open all asked [] (q ++ r ∷ []) o) (open_fits all asked q r h o));
+      (among_choice all asked (slot_at asked (length q)) r low (front_open all asked [] (q ++ r ∷ []) o) (open_fits all asked q r h o) (open_room_alone all asked q r h o));
   front = front_open all asked;
   wanted = λ t h. prefix_open all asked t [] (subst (λ (u : List ℕ). is_candidate all asked u ≡ true) (sym (append-nil t)) h);
   begins = begins all asked;

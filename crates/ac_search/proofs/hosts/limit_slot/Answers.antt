@@ -1,7 +1,5 @@
-use Rattle.std.proofs.Common.{◌≡◌, ◌<◌, ℕ, List, length, map, sym, ap, subst, ◌∙◌}
+use Rattle.std.proofs.Common.{◌<◌, ℕ, List, length, sym, subst, ◌∙◌}
 use Rattle.std.specs.List.{All}
-use Rattle.ac_search.specs.Left.{ask_pair}
-use Rattle.ac_search.proofs.Paths.LedgerLemmas.{asks_at}
 use Rattle.ac_search.specs.Left.Accounts.{providers_in, asked_in}
 use Rattle.ac_rules.specs.Placed.{slot_at}
 use Rattle.ac_search.proofs.Roots.RootLemmas.{if_ok, slot_keeps, choice_low}
@@ -10,8 +8,7 @@ use Rattle.ac_search.proofs.hosts.limit_slot.Goals as goal
 pub serving-requires : goal.serving-requires
 serving-requires c =
     let l = c.args.ledger.now in
-    let size : length (providers_in l) ≡ length c.deref.result.now = sym l.as_many ∙ sym (ap length c.deref.ensures.value) in
-    subst (λ (n : ℕ). All (λ p. p < n) c.args.choices.now) size
+    subst (λ (n : ℕ). All (λ p. p < n) c.args.choices.now) (sym c.len.ensures)
     (subst (λ (xs : List ℕ). All (λ p. p < length (providers_in l)) xs) (sym c.requires.choices) (choice_low (providers_in l) (asked_in l) (slot_at (asked_in l) c.args.s)))
 
 pub returns : goal.returns
@@ -20,10 +17,7 @@ returns c =
     if_ok _ _ c.limit.result
     (λ _ is. record {
       count = c.limit.auto.may ∙ c.requires.hosts.count;
-      hosts = slot_keeps l c.args.may.now c.limit.new.may c.args.choices.now c.in_ok-rooms.rooms.items (map ask_pair c.deref-2.result.now) c.args.s c.requires.slot c.requires.empty c.requires.hosts.hosts
-          c.requires.choices
-          (ap (map ask_pair) c.deref-2.ensures.value ∙ asks_at l c.args.s c.index.result.now c.requires.slot c.index.ensures)
-          (rw c.deref.ensures.value at c.in_ok-rooms.ensures.rooms)
-          (rw c.deref-3.ensures.value at is);
+      hosts = slot_keeps l c.args.may.now c.limit.new.may c.args.choices.now c.in_ok-rooms.rooms.items c.args.s c.requires.slot c.requires.hosts.hosts c.requires.choices c.in_ok-rooms.ensures.rooms
+          (rw c.deref.ensures.value at is);
     })
     c.limit.ensures
