@@ -11,11 +11,12 @@ pub(crate) mod provider_index;
 pub(crate) mod roots;
 pub(crate) mod roots_by_aggregate;
 
-ghost use Rattle.std.specs.Prelude.{◌≡◌, ◌<◌, Some, None, map, length, IfSome};
+ghost use Rattle.std.specs.Prelude.{◌≡◌, ◌<◌, Some, None, [], map, length, get_or, IfSome, MatchOption};
 ghost use Rattle.std.specs.Option.{option_map, option_copied};
 ghost use Rattle.ac_base.specs.Names.{class_bytes, trait_bytes};
 ghost use Rattle.ac_tables.specs.Cloud.CloudParts.{BelongTogether, BelongTogether-prop};
 ghost use Rattle.ac_tables.specs.Reader.ListsOf.{lists_of};
+ghost use Rattle.ac_tables.specs.Cloud.Anchors.{list_items};
 ghost use Rattle.ac_tables.specs.Cloud.Entries.{entry_pair, entry_value};
 ghost use Rattle.ac_tables.specs.World.{provider_at, id_at, place_of, parent_of, root_of, is_above, entry_in, used_of, has_trait, is_member, shares, is_available_at, anchors_of};
 
@@ -59,7 +60,7 @@ pub struct Cloud {
 }
 
 impl Cloud {
-    ghost use Rattle.ac_tables.specs.Cloud.CloudWorld.{providers_of, world_of, sizes_of};
+    ghost use Rattle.ac_tables.specs.Cloud.CloudWorld.{providers_of, root_lists_of, world_of, sizes_of};
 
     /// How many providers there are.
     pub fn len(&self) -> u32
@@ -229,6 +230,24 @@ impl Cloud {
         ensures { result ≡ is_available_at (providers_of self.now) ix root }
     {
         self.anchors(ix).binary_search(&root).is_ok()
+    }
+
+    /// The lists of roots of all providers that share with several trees. Providers whose lists are equal mostly have one together.
+    #[tactic(auto, unfolding(crate::specs::Cloud::CloudWorld::root_lists_of))]
+    pub fn root_lists(&self) -> &[Vec<u32>]
+        ensures { map list_items result.now ≡ root_lists_of self.now }
+    {
+        self.anchors.lists.as_slice()
+    }
+
+    /// The place of a provider's roots among those lists, where it is available in several trees.
+    pub fn root_list(&self, ix: u32) -> Option<u32>
+        requires { ix < length (providers_of self.now) }
+        ensures { MatchOption result (length (anchors_of (providers_of self.now) ix) ≡ 1)
+            (λ k. (k < length (root_lists_of self.now))
+            × (get_or (root_lists_of self.now) k [] ≡ anchors_of (providers_of self.now) ix)) }
+    {
+        self.anchors.places[ix as usize]
     }
 
     /// The roots of all trees in which a provider is available, rising.

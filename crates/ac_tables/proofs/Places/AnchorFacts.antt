@@ -1,5 +1,5 @@
 -- The roots of the trees in which a provider is available.
-use Rattle.ac_tables.proofs.Common.{◌≡◌, ◌∙◌, ◌<◌, ◌+◌, ℕ, zero, suc, Bool, true, false, List, [], ◌∷◌, length, get_or, None, refl, sym, ap, ap₂, arith, ◌==◌, ◌&&◌, ◌||◌, codes, if◌then◌else◌, is_some, bytes_eq, nat_cmp, list_any, filter, range_with_len, false≢true, list_any_at, get_or-range_with_len, length-range_with_len, parent_in, trait_bytes, lists_of, is_among, meets_at, meets, is_joined, joined, is_joining, is_marked, Provider, no_provider, provider_at, id_at, root_of, is_root, is_available_at, anchors_of, providers_of, Cloud, or-false}
+use Rattle.ac_tables.proofs.Common.{◌≡◌, ◌∙◌, ◌<◌, ◌+◌, ℕ, zero, suc, Bool, true, false, List, [], ◌∷◌, length, get_or, None, Some, inl, inr, refl, sym, ap, ap₂, arith, ◌==◌, ◌&&◌, ◌||◌, codes, if◌then◌else◌, is_some, cases_Bool, list_of, bytes_eq, nat_cmp, list_any, filter, range_with_len, false≢true, list_any_at, get_or-range_with_len, length-range_with_len, parent_in, trait_bytes, lists_of, is_among, meets_at, meets, is_joined, joined, is_joining, is_marked, Provider, no_provider, provider_at, id_at, root_of, is_root, is_available_at, anchors_of, providers_of, Cloud, or-false}
 use Rattle.std.specs.List.Sorted.{IsStrictlySortedBy}
 use Rattle.ac_tables.specs.World.{shares, is_associated, have_common_aggregate}
 use Rattle.std.proofs.lemmas.Bool.{and_left, and_right, or_right}
@@ -162,3 +162,17 @@ module _ (c : Cloud) where
       some_aggregate : (s : Bool) (ids : List ℕ) → is_joining s ids ≡ true → (s ≡ true) × ((a : ℕ) × ((rest : List ℕ) × (ids ≡ a ∷ rest)))
       some_aggregate s [] e = absurd (false≢true e)
       some_aggregate s (a ∷ rest) e = (e, (a, (rest, refl)))
+
+  -- the list of one that has its roots in a list
+  pub anchors_listed : (ix k : ℕ) → ix < length c.ids.ids.items → get_or c.anchors.places.items ix None ≡ Some k
+      → (k < length c.anchors.lists.items) × (list_of c.anchors.lists.items k ≡ anchors_of (providers_of c) ix)
+  anchors_listed ix k h here =
+      let list = (parts c).joined ix k (omega (arith, h, (parts c).with_anchors)) here in
+      (list.0, list.1 ∙ anchors_joined ix h ((parts c).marked ix h (ap is_some here)))
+
+  -- the root of one that has none
+  pub anchors_unlisted : (ix : ℕ) → ix < length c.ids.ids.items → get_or c.anchors.places.items ix None ≡ None → (get_or roots ix 0 ∷ []) ≡ anchors_of (providers_of c) ix
+  anchors_unlisted ix h here = elim (cases_Bool (is_marked c.sharing.items groups ix)) [
+    | inl marked ↦ sym ((parts c).alone ix h (ap is_some here) marked) ∙ anchors_joined ix h marked
+    | inr not ↦ anchors_alone ix h not
+  ]

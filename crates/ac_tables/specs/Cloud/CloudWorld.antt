@@ -1,7 +1,8 @@
 -- The world that a cloud stands for.
-use Rattle.std.specs.Prelude.{List, map}
+use Rattle.std.specs.Prelude.{ℕ, List, map}
 use Rattle.ac_tables.specs.World.{Provider, Sizes, World}
 use Rattle.ac_base.specs.Names.{trait_bytes}
+use Rattle.ac_tables.specs.Cloud.Anchors.{list_items}
 use Rattle.ac_tables.specs.Cloud.Entries.{entry_pair}
 use Rattle.ac_tables.specs.Reader.ListsOf.{lists_of}
 use Rattle.ac_tables.specs.Cloud.Numbered.{numbered}
@@ -15,6 +16,10 @@ sizes_of c = record { providers = c.providers; inventories = c.inventories; usag
 -- the providers of a cloud, in the order of their ids
 unfoldable pub providers_of : Cloud → List Provider
 providers_of cloud = numbered cloud.ids.ids.items cloud.parents.items (map (map entry_pair) (lists_of cloud.entries)) (map (map trait_bytes) (lists_of cloud.traits)) (lists_of cloud.aggregates)
+
+-- the lists of roots that a cloud keeps beside its providers, each for one of them or for several
+unfoldable pub root_lists_of : Cloud → List (List ℕ)
+root_lists_of cloud = map list_items cloud.anchors.lists.items
 
 -- the world of a cloud
 abbrev pub world_of : Cloud → World
