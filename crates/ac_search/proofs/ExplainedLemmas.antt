@@ -3,21 +3,32 @@ use Rattle.std.proofs.Common.{inl, inr, ◌≡◌, ◌∙◌, ◌<◌, ◌≤◌
 use Rattle.std.specs.Prelude.{cond, if◌then◌else◌, take}
 use Rattle.std.specs.List.{filter, list_all, list_any, range_with_len, AllByRecursion as Each}
 use Rattle.std.proofs.Math.Bool.{and-true, and_assoc}
-use Rattle.std.proofs.lemmas.Bool.{cases_Bool}
+use Rattle.std.proofs.lemmas.Bool.{cases_Bool, and_parts, and_from, false≢true, false_from_ne_true}
 use Rattle.std.proofs.lemmas.Bool.Decides.{nat_tests}
 use Rattle.std.proofs.lemmas.List.{ext_get_or, length-append}
 use Rattle.std.proofs.lemmas.List.Folds.{list_all_more}
 use Rattle.std.proofs.lemmas.List.FromFn.{get_or-map-range_with_len, length-map-range_with_len, length-range_with_len}
-use Rattle.ac_query.specs.Asked.{Asked, slots_of}
+use Rattle.ac_query.specs.Asked.{Asked, Slot, slots_of}
 use Rattle.ac_tables.specs.World.{Provider}
-use Rattle.ac_search.specs.Ahead.{load_of, hosts_of}
-use Rattle.ac_search.specs.Explained.{count_below, in_slot, is_served, meets_room}
+use Rattle.ac_search.specs.Ahead.{load_of, hosts_of, serves, IsHosted}
+use Rattle.ac_search.specs.Explained.{count_below, in_slot, is_served, meets_room, meets_tree, tree_counts}
+use Rattle.ac_search.specs.Laws.{NoneWithoutRoots}
+use Rattle.ac_search.specs.QuerySearch.{fits, has_room_alone}
 use Rattle.ac_search.specs.Shown.Explained.{marked, served, served_roots}
 use Rattle.ac_search.specs.Loads.{AreLimited}
-use Rattle.ac_rules.specs.Placed.{no_slot, slot_at}
-use Rattle.ac_rules.specs.Together.{takes_root}
-use Rattle.ac_search.proofs.Search.OpenLemmas.{choice_more, filter_few}
-use Rattle.ac_search.proofs.Roots.RootLemmas.{hosts_low}
+use Rattle.ac_rules.specs.Judge.{is_candidate}
+use Rattle.ac_rules.specs.Lists.{IsListBelow, all_lists}
+use Rattle.ac_rules.specs.Pages.{candidates}
+use Rattle.ac_rules.specs.Placed.{Placed, placed, assigned, no_slot, slot_at}
+use Rattle.ac_rules.specs.Together.{amount_of, sum_on, takes_root, hosts_all, anchor}
+use Rattle.ac_rules.proofs.EachSlot.AnchorLemmas.{each_range}
+use Rattle.ac_rules.proofs.Elements.{Among, each_weaker, filter_none}
+use Rattle.ac_rules.proofs.Lists.ListLemmas.{each_all_lists}
+use Rattle.ac_search.proofs.Paths.BearLemmas.{each_serves}
+use Rattle.ac_search.proofs.Roots.HostLemmas.{behind_hosts, candidate_open, candidate_parts}
+use Rattle.ac_search.proofs.Roots.TreeLemmas.{or_left, or_right}
+use Rattle.ac_search.proofs.Search.OpenLemmas.{amounts_among, choice_more, filter_few, room_each}
+use Rattle.ac_search.proofs.Roots.RootLemmas.{any_within, hosts_low, served_fits}
 
 -- one more place
 pub counted : (test : ℕ → Bool) (n count : ℕ) (b : Bool) → count ≡ count_below n test → test n ≡ b → cond b (count + 1) count ≡ count_below (n + 1) test
@@ -85,3 +96,59 @@ served_none all asked (r ∷ rs) = ap₂ (λ b bs. b ∷ bs) (sym (and-true (tak
 pub marked_map : {X : Type 0} (test : X → Bool) (xs : List X) → marked (map test xs) ≡ length (filter test xs)
 marked_map test [] = refl
 marked_map test (x ∷ xs) = let more = marked_map test xs in elim (cases_Bool (test x)) [ inl e ↦ rw e (omega (arith, more)) | inr e ↦ rw e more ]
+
+-- ---- Where a candidate stands
+
+-- a provider that serves a slot before anything is placed meets all that is asked of it alone
+serves_alone : (all : List Provider) (asked : Asked) (slot : Slot) (p : ℕ) → serves all asked [] slot p ≡ true → meets_room all (in_slot slot p) ≡ true
+unfolding fits has_room_alone
+serves_alone all asked slot p h =
+    let both = served_fits all asked slot p h in
+    let room = room_each all p (λ c. sum_on (assigned asked []) p c + amount_of slot.needs c) slot.needs
+    (each_weaker (λ need. need.1 ≤ amount_of slot.needs need.0) (λ need. need.1 ≤ sum_on (assigned asked []) p need.0 + amount_of slot.needs need.0) slot.needs (λ need less. omega (arith, less)) (amounts_among slot.needs))
+    both.1 in
+    and_from (meets_tree all (in_slot slot p)) _ both.0 room
+
+any_among : (f : ℕ → Bool) (xs : List ℕ) (x : ℕ) → Among xs x → f x ≡ true → list_any f xs ≡ true
+any_among f [] x h on = absurd h
+any_among f (y ∷ xs) x h on = elim h [
+  | inl e ↦ or_left (f y) (list_any f xs) (ap f e ∙ on)
+  | inr m ↦ or_right (f y) (list_any f xs) (any_among f xs x m on)
+]
+
+-- each slot has its provider
+each_served : (all : List Provider) (asked : Asked) (r : ℕ) (ss : List Slot) (t : List ℕ) → length t ≡ length ss → Each (λ (y : Placed). Among (hosts_of all r) y.provider) (placed ss t)
+    → Each (λ (y : Placed). serves all asked [] y.slot y.provider ≡ true) (placed ss t) → list_all (λ slot. is_served all r slot) ss ≡ true
+each_served all asked r [] t size hosts serve = refl
+each_served all asked r (s ∷ ss) [] size hosts serve = absurd (omega (arith, size))
+each_served all asked r (s ∷ ss) (p ∷ t) size hosts serve =
+    and_from _ _ (any_among (λ p. meets_room all (in_slot s p)) (hosts_of all r) p hosts.0 (serves_alone all asked s p serve.0)) (each_served all asked r ss t (omega (arith, size)) hosts.1 serve.1)
+
+any_kept : {X : Type 0} (f : X → Bool) (xs : List X) → list_any f xs ≡ true → 0 < length (filter f xs)
+any_kept f [] h = absurd (false≢true h)
+any_kept f (x ∷ xs) h = elim (cases_Bool (f x)) [ inl e ↦ rw e (omega arith) | inr e ↦ rw e (any_kept f xs (rw e at h)) ]
+
+-- a candidate stands at a root that has a provider for each slot
+root_counted : (all : List Provider) (asked : Asked) (t : List ℕ) → IsListBelow (length all) (length (slots_of asked)) t → is_candidate all asked t ≡ true → 0 < (tree_counts all asked).each_slot
+unfolding anchor
+root_counted all asked t list candidate =
+    let counted = λ (r : ℕ). takes_root all asked r && list_all (λ slot. is_served all r slot) (slots_of asked) in
+    let stands = λ (r : ℕ). takes_root all asked r && hosts_all all (assigned asked t) r in
+    let serve = each_serves all asked [] t (candidate_open all asked t candidate) in
+    let one = λ (r : ℕ) (low : r < length all) (h : stands r ≡ true).
+    let both = and_parts (takes_root all asked r) (hosts_all all (assigned asked t) r) h in
+    let hosted : IsHosted all asked r t = record { list = list; candidate = candidate; takes = both.0; hosts = both.1 } in
+    and_from (takes_root all asked r) (list_all (λ slot. is_served all r slot) (slots_of asked)) both.0
+    (each_served all asked r (slots_of asked) t list.long (behind_hosts all asked [] t r hosted) serve) in
+    any_kept counted (range_with_len 0 (length all))
+    (any_within stands counted (range_with_len 0 (length all))
+    (each_weaker (λ r. r < length all) (λ r. stands r ≡ true → counted r ≡ true) (range_with_len 0 (length all)) one (each_range 0 (length all) (length all) (omega arith)))
+    (candidate_parts all asked t candidate).anchor)
+
+pub none_without_roots : NoneWithoutRoots
+unfolding candidates
+none_without_roots all asked none =
+    filter_none (λ t. is_candidate all asked t) (all_lists (length all) (length (slots_of asked)))
+    (each_weaker (IsListBelow (length all) (length (slots_of asked))) (λ t. is_candidate all asked t ≡ false) (all_lists (length all) (length (slots_of asked)))
+    (λ t list. false_from_ne_true _ (λ candidate. let some = root_counted all asked t list candidate in absurd (omega (arith, some, none))))
+    (each_all_lists (length all) (length (slots_of asked))))

@@ -9,3 +9,4 @@ pub mod Loads
 pub mod Explained
 pub mod Parts
 pub mod Families
+pub mod Laws

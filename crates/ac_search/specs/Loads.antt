@@ -1,11 +1,12 @@
 -- What the providers of each root have together, and which marks of roots stay.
 pub mod Columns
-use Rattle.std.specs.Prelude.{◌≡◌, ℕ, ◌+◌, ◌-◌, ◌/◌, ◌^◌, ◌<◌, ◌&&◌, if◌then◌else◌, Bool, true, false, nat_le, min, List, [], length, map, get_or, slice_index, slice_index_or}
+use Rattle.std.specs.Prelude.{◌≡◌, ℕ, ◌+◌, ◌-◌, ◌*◌, ◌/◌, ◌^◌, ◌<◌, ◌&&◌, if◌then◌else◌, Bool, true, false, nat_le, min, List, [], ◌∷◌, length, map, get_or, slice_index, slice_index_or}
 use Rattle.std.specs.Global.{Vec}
 use Rattle.ac_tables.specs.World.{Provider}
 use Rattle.ac_rules.specs.Placed.{slot_at}
 use Rattle.ac_search.specs.QuerySearch.{choice_of, choices_of}
 use Rattle.ac_search.specs.Left.{ask_pair, wanted, left_in, row_of}
+use Rattle.ac_search.specs.Marks.{times}
 use Rattle.ac_search.specs.Ahead.{load_in, load_of, hosts_of, AreRoots}
 use Rattle.ac_search.specs.Left.Accounts.{providers_in, asked_in}
 use Rattle.ac_search.specs.Parts.{AreParts}
@@ -24,6 +25,20 @@ IsAdded old roots amount new = (r : ℕ) → r < length old → IsLoad (slice_in
 -- what the providers of a root have together, by the room of each
 abbrev pub load_at : List Provider → List ℕ → ℕ → ℕ
 load_at all rooms r = load_of (λ p. slice_index rooms p) (hosts_of all r)
+
+-- what lists of roots bring to a root, each by a sum of its own
+abbrev pub brought_at : List (List ℕ) → List ℕ → ℕ → ℕ
+brought_at [] sums r = 0
+brought_at (list ∷ lists) [] r = 0
+brought_at (list ∷ lists) (sum ∷ sums) r = times r list * sum + brought_at lists sums r
+
+-- what they bring is added at each root
+abbrev pub AreBrought : List ℕ → List (List ℕ) → List ℕ → List ℕ → Type 0
+AreBrought old lists sums new = (r : ℕ) → r < length old → IsLoad (slice_index new r) (slice_index old r + brought_at lists sums r)
+
+-- what is at each root, with what lists bring to it, is what its providers have together
+abbrev pub AreSplit : List Provider → List ℕ → List (List ℕ) → List ℕ → List ℕ → Type 0
+AreSplit all rooms lists sums loads = (r : ℕ) → r < length all → IsLoad (slice_index loads r + brought_at lists sums r) (load_at all rooms r)
 
 abbrev pub AreLoads : List Provider → List ℕ → List ℕ → Type 0
 AreLoads all rooms loads = (r : ℕ) → r < length all → IsLoad (slice_index loads r) (load_at all rooms r)

@@ -19,8 +19,51 @@ pub(crate) use column::count_asking;
 pub(crate) use loads::limit;
 use std::alloc::Global;
 
-// How many steps all counts may take together.
+// How many steps all tests may take together.
 const MOST_STEPS: u64 = 1 << 28;
+
+/// How many tests of all roots may still be made, so that they don't take longer than the search that they shorten.
+#[derive(Drop)]
+pub(crate) struct Budget {
+    tests: u64,
+}
+
+/// What is tested of the classes that the slots ask for.
+#[derive(Clone, Copy)]
+pub(crate) enum ClassTest {
+    /// What all slots ask together.
+    Sums,
+    /// How many slots ask so much or more.
+    Pieces,
+}
+
+// How many steps a test takes: it goes over all providers, and over each list of roots.
+fn count_steps(cloud: &Cloud) -> u64 {
+    let mut steps = u64::from(cloud.len());
+    for list in cloud.root_lists() {
+        steps = steps.saturating_add(list.len() as u64);
+    }
+    steps
+}
+
+impl Budget {
+    fn of_cloud(cloud: &Cloud) -> Budget {
+        Budget {
+            tests: MOST_STEPS / count_steps(cloud).max(1),
+        }
+    }
+
+    fn is_spent(&self) -> bool {
+        self.tests == 0
+    }
+
+    /// Whether one more may be made, which counts.
+    pub(crate) fn take(&mut self) -> bool {
+        let some = !self.is_spent();
+        self.tests = self.tests.saturating_sub(1);
+        some
+    }
+}
 
 // 1 at each of some choices, 0 at the other providers.
 fn serving(alloc: Global, count: usize, choices: &[u32]) -> Result<Vec<u64>, NoMemory>
@@ -57,6 +100,7 @@ fn limit_slots(
     alloc: Global,
     ledger: &Ledger,
     choices: &[Vec<u32>],
+    budget: &mut Budget,
     may: &mut [bool],
 ) -> Result<(), NoMemory>
     requires choices { map (λ v. v.items) choices.now ≡ choices_in ledger.now }
@@ -64,46 +108,36 @@ fn limit_slots(
     ensures { IfOk result (λ _. MayHost ledger.now may.new) }
 {
     for s in 0..count_slots(ledger.query) {
+        if !may.contains(&true) || !budget.take() {
+            return Ok(());
+        }
         limit_slot(alloc, ledger, &choices[s], s, may)?;
     }
     Ok(())
 }
 
-// Leaves the roots whose providers don't have enough of each class, while there are any.
-fn limit_classes(alloc: Global, ledger: &Ledger, may: &mut [bool]) -> Result<(), NoMemory>
+// Drops the roots whose providers fail a test of some class, while there are any.
+fn limit_classes(
+    alloc: Global,
+    ledger: &Ledger,
+    test: ClassTest,
+    budget: &mut Budget,
+    may: &mut [bool],
+) -> Result<(), NoMemory>
     requires empty { Accounts ledger.now [] }
     requires hosts { MayHost ledger.now may.old }
     ensures { IfOk result (λ _. MayHost ledger.now may.new) }
 {
     for class in &ledger.classes {
-        if !may.contains(&true) {
+        if !may.contains(&true) || budget.is_spent() {
             return Ok(());
         }
-        Column::new(alloc, ledger, class)?.limit(alloc, may)?;
+        Column::new(alloc, ledger, class)?.limit(alloc, test, budget, may)?;
     }
     Ok(())
 }
 
-// How many providers there are, and how many pairs of one with a root in whose tree it is available.
-fn count_pairs(cloud: &Cloud) -> u64 {
-    let mut pairs = u64::from(cloud.len());
-    for ix in 0..cloud.len() {
-        pairs = pairs.saturating_add(cloud.anchors(ix).len() as u64);
-    }
-    pairs
-}
-
-// How many steps all counts take at the most: one count for each slot and class, and two for each amount that a slot asks,
-// each of which goes over all pairs.
-fn count_steps(ledger: &Ledger) -> u64 {
-    let mut counts = ledger.classes.len() as u64;
-    for asks in &ledger.asks {
-        counts = counts.saturating_add((asks.len() as u64).saturating_mul(2).saturating_add(1));
-    }
-    counts.saturating_mul(count_pairs(ledger.cloud))
-}
-
-// Of all slots and all classes, unless that takes too many steps.
+// By all tests, as far as the budget goes.
 fn limit_all(
     alloc: Global,
     ledger: &Ledger,
@@ -115,17 +149,16 @@ fn limit_all(
     requires hosts { MayHost ledger.now may.old }
     ensures { IfOk result (λ _. MayHost ledger.now may.new) }
 {
-    if count_steps(ledger) > MOST_STEPS {
-        return Ok(());
-    }
-    limit_slots(alloc, ledger, choices, may)?;
-    limit_classes(alloc, ledger, may)
+    let mut budget = Budget::of_cloud(ledger.cloud);
+    limit_slots(alloc, ledger, choices, &mut budget, may)?;
+    limit_classes(alloc, ledger, ClassTest::Sums, &mut budget, may)?;
+    limit_classes(alloc, ledger, ClassTest::Pieces, &mut budget, may)
 }
 
-/// For each root whether it may host a candidate: the query takes it, some choice of each slot is available there and
-/// has room for the slot, of each class its providers have as much as all slots ask, and of each amount that a slot asks
-/// they have as many pieces as slots ask so much or more. Where counting that takes too many steps, each root that the
-/// query takes may host one: that is right too, only slower where no root can.
+/// For each root whether it may host a candidate: the query takes it, some choice of each slot is available there, of each
+/// class its providers have as much as all slots ask, and of each amount that a slot asks they have as many pieces as
+/// slots ask so much or more. These are tested in this order. Where all tests would take too many steps, the last ones
+/// are left out: that is right too, only slower where no root can.
 pub(crate) fn host_roots(
     alloc: Global,
     ledger: &Ledger,

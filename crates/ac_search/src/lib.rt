@@ -10,12 +10,13 @@ mod choices;
 mod explaining;
 mod families;
 mod hosts;
+pub mod laws;
 mod least;
 mod ledger;
 mod open;
 mod trees;
 pub mod walk;
 
-pub use ac_rules::{Plain, Rule, Source, Verdict, laws, verify};
+pub use ac_rules::{Plain, Rule, Source, Verdict, verify};
 pub use explaining::{SlotCounts, TreeCounts, slot_counts, tree_counts};
 pub use walk::Walk;

@@ -1,5 +1,5 @@
 -- Items in boxes: where no box is overfilled, the rooms of the boxes reach what all items weigh.
-use Rattle.std.proofs.Common.{◌≡◌, ℕ, ◌+◌, ◌*◌, ◌<◌, ◌≤◌, Bool, true, false, List, [], ◌∷◌, ◌++◌, inl, inr, length, refl, sym, ap, ◌∙◌, subst, arith}
+use Rattle.std.proofs.Common.{◌≡◌, ℕ, ◌+◌, ◌*◌, ◌<◌, ◌≤◌, zero, suc, Bool, true, false, List, [], ◌∷◌, ◌++◌, inl, inr, length, drop, get_or, slice_index, slice_set, refl, sym, ap, ◌∙◌, subst, arith, drop-cons, add-one}
 use Rattle.std.specs.Prelude.{◌==◌, if◌then◌else◌, min, cond}
 use Rattle.std.specs.List.{filter, range_with_len, AllByRecursion as Each}
 use Rattle.ac_tables.specs.World.{Provider, is_available_at, anchors_of}
@@ -8,6 +8,7 @@ use Rattle.ac_search.proofs.Paths.MarkLemmas.{times_anchors}
 use Rattle.ac_search.proofs.Search.OpenLemmas.{choice_more}
 use Rattle.std.proofs.lemmas.Bool.{cases_Bool, eq-eqb}
 use Rattle.ac_search.specs.Ahead.{load_of, load_in, hosts_of}
+use Rattle.ac_search.specs.Loads.{brought_at}
 use Rattle.ac_rules.proofs.Elements.{Among}
 
 pub load_less : {X : Type 0} (f g : X → ℕ) (xs : List X) → ((x : X) → f x ≤ g x) → load_of f xs ≤ load_of g xs
@@ -98,3 +99,52 @@ pub load_hosts : (all : List Provider) (f : ℕ → ℕ) (i r x most : ℕ) → 
     → min x most ≡ min (load_of f (hosts_of all r)) most
 unfolding hosts_of
 load_hosts all f i r x most end h = subst (λ (n : ℕ). min x most ≡ min (load_of f (filter (λ p. is_available_at all p r) (range_with_len 0 n))) most) end h
+
+-- ---- What lists of roots bring to a root
+
+pub brought_none : (lists : List (List ℕ)) (sums : List ℕ) (r : ℕ) → ((k : ℕ) → slice_index sums k ≡ 0) → brought_at lists sums r ≡ 0
+brought_none [] sums r h = refl
+brought_none (list ∷ lists) [] r h = refl
+brought_none (list ∷ lists) (s ∷ sums) r h = let here : s ≡ 0 = h 0 in let more = brought_none lists sums r (λ k. h (suc k)) in rw (here, more) (omega arith)
+
+-- the sum of one list is another
+pub brought_set : (lists : List (List ℕ)) (sums : List ℕ) (k v r : ℕ) → k < length lists → k < length sums
+    → brought_at lists (slice_set sums k v) r + times r (get_or lists k []) * slice_index sums k ≡ brought_at lists sums r + times r (get_or lists k []) * v
+brought_set [] sums k v r h i = absurd (omega arith)
+brought_set (list ∷ lists) [] k v r h i = absurd (omega arith)
+brought_set (list ∷ lists) (s ∷ sums) zero v r h i = omega arith
+brought_set (list ∷ lists) (s ∷ sums) (suc k) v r h i = let more = brought_set lists sums k v r (omega arith) (omega arith) in omega (arith, more)
+
+pub brought_one : (lists : List (List ℕ)) (sums : List ℕ) (k r : ℕ) → k < length lists → k < length sums → times r (get_or lists k []) * slice_index sums k ≤ brought_at lists sums r
+brought_one [] sums k r h i = absurd (omega arith)
+brought_one (list ∷ lists) [] k r h i = absurd (omega arith)
+brought_one (list ∷ lists) (s ∷ sums) zero r h i = omega arith
+brought_one (list ∷ lists) (s ∷ sums) (suc k) r h i = let more = brought_one lists sums k r (omega arith) (omega arith) in omega (arith, more)
+
+-- one more provider's room, where it has a list
+pub listed_next : (all : List Provider) (f : ℕ → ℕ) (i k r old sum most : ℕ) (lists : List (List ℕ)) (sums : List ℕ) → r < length all → k < length lists → k < length sums
+    → get_or lists k [] ≡ anchors_of all i → sum ≡ min (slice_index sums k + f i) most
+    → min (old + brought_at lists sums r) most ≡ min (load_of f (filter (λ p. is_available_at all p r) (range_with_len 0 i))) most
+    → min (old + brought_at lists (slice_set sums k sum) r) most ≡ min (load_of f (filter (λ p. is_available_at all p r) (range_with_len 0 (i + 1)))) most
+listed_next all f i k r old sum most lists sums h kl ks same is was =
+    let range = load_range f (λ p. is_available_at all p r) i in
+    let set = brought_set lists sums k sum r kl ks in
+    let one = brought_one lists sums k r kl ks in
+    let at : times r (get_or lists k []) ≡ (if is_available_at all i r then 1 else 0) = ap (times r) same ∙ times_anchors all i r h in
+    elim (cases_Bool (is_available_at all i r)) [
+      | inl e ↦ let here : times r (get_or lists k []) ≡ 1 = rw e at at in let more = rw e at range in omega (arith, was, is, more, rw here at set, rw here at one)
+      | inr e ↦ let here : times r (get_or lists k []) ≡ 0 = rw e at at in let more = rw e at range in omega (arith, was, is, more, rw here at set)
+    ]
+
+-- one list more
+pub brought_next : (lists : List (List ℕ)) (sums : List ℕ) (k r : ℕ) → k < length lists → k < length sums
+    → brought_at (drop k lists) (drop k sums) r ≡ times r (get_or lists k []) * slice_index sums k + brought_at (drop (k + 1) lists) (drop (k + 1) sums) r
+brought_next lists sums k r h i = rw (drop-cons lists k [] h, drop-cons sums k 0 i, add-one) refl
+
+pub lists_next : (lists : List (List ℕ)) (sums roots : List ℕ) (k r old now new most : ℕ) → k < length lists → k < length sums → roots ≡ get_or lists k []
+    → min new most ≡ min (now + load_in (λ x. x) (λ _. slice_index sums k) roots r) most → min (now + brought_at (drop k lists) (drop k sums) r) most ≡ old
+    → min (new + brought_at (drop (k + 1) lists) (drop (k + 1) sums) r) most ≡ old
+lists_next lists sums roots k r old now new most h i same is was =
+    let next = brought_next lists sums k r h i in
+    let times_here = load_times_of (slice_index sums k) roots r ∙ ap (λ (list : List ℕ). times r list * slice_index sums k) same in
+    omega (arith, next, times_here, is, was)

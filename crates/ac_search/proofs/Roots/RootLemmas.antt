@@ -145,18 +145,19 @@ holds_suffice l p needs (n ∷ ns) low accounts all known h =
     let fits : wanted (map (numbered (texts_in l)) needs) (place_of (texts_in l) n.0) ≤ left_in (row_of l.rows.items p) (place_of (texts_in l) n.0) = omega (arith, less, is, room) in
     and_from _ _ (grind (arith, nat_tests)) (holds_suffice l p needs ns low accounts all known.1 both.1)
 
-served_fits : (l : Ledger) (slot : Slot) (p : ℕ) → serves (providers_in l) (asked_in l) [] slot p ≡ true
-    → (fits (providers_in l) (record { slot = slot; provider = p }) ≡ true)
-    × (list_all (λ (need : List ℕ × ℕ). holds (provider_at (providers_in l) p) need.0 (sum_on (assigned (asked_in l) []) p need.0 + amount_of slot.needs need.0)) slot.needs ≡ true)
+-- a provider that serves a slot before anything is placed fits it, and holds what it asks
+pub served_fits : (all : List Provider) (asked : Asked) (slot : Slot) (p : ℕ) → serves all asked [] slot p ≡ true
+    → (fits all (record { slot = slot; provider = p }) ≡ true)
+    × (list_all (λ (need : List ℕ × ℕ). holds (provider_at all p) need.0 (sum_on (assigned asked []) p need.0 + amount_of slot.needs need.0)) slot.needs ≡ true)
 unfolding serves
-served_fits l slot p h = and_parts _ _ h
+served_fits all asked slot p h = and_parts _ _ h
 
 -- the row of a provider that serves a slot has enough for it
 pub row_serves : (l : Ledger) (s p : ℕ) (asks : List (ℕ × ℕ)) → s < length (slots_of (asked_in l)) → Accounts l [] → p < length (providers_in l) → serves (providers_in l) (asked_in l) [] (slot_at (asked_in l) s) p ≡ true
     → asks ≡ map (numbered (texts_in l)) (slot_at (asked_in l) s).needs → has_each (row_of l.rows.items p) asks ≡ true
 row_serves l s p asks h accounts low serve want =
     let slot = slot_at (asked_in l) s in
-    let both = served_fits l slot p serve in
+    let both = served_fits (providers_in l) (asked_in l) slot p serve in
     subst (λ (ns : List (ℕ × ℕ)). has_each (row_of l.rows.items p) ns ≡ true) (sym want)
     (each_suffices (texts_in l) (row_of l.rows.items p) slot.needs (known_in l s h) (slot_rises l.query.now s h) ∙ holds_suffice l p slot.needs slot.needs low accounts (known_in l s h) (known_in l s h) both.1)
 
@@ -206,7 +207,7 @@ choice_low all asked slot = All-from_recursion (λ p. p < length all) (choice_of
 
 -- ---- Fronts that no marked root has
 
-any_within : (f g : ℕ → Bool) (zs : List ℕ) → Each (λ z. f z ≡ true → g z ≡ true) zs → list_any f zs ≡ true → list_any g zs ≡ true
+pub any_within : (f g : ℕ → Bool) (zs : List ℕ) → Each (λ z. f z ≡ true → g z ≡ true) zs → list_any f zs ≡ true → list_any g zs ≡ true
 any_within f g [] each h = h
 any_within f g (z ∷ zs) each h = elim (cases_Bool (f z)) [
   | inl e ↦ rw (each.0 e) refl

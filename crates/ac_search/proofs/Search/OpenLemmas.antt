@@ -109,7 +109,7 @@ open_fits all asked q p h o =
     rw (units, traits, aggregates, tree) refl
 
 -- each amount is among what all of them ask of its class
-amounts_among : (needs : List (List ℕ × ℕ)) → Each (λ need. need.1 ≤ amount_of needs need.0) needs
+pub amounts_among : (needs : List (List ℕ × ℕ)) → Each (λ need. need.1 ≤ amount_of needs need.0) needs
 amounts_among [] = tt
 amounts_among (n ∷ needs) =
     let itself = (bytes_eq-Decides n.0 n.0).1 refl in
@@ -121,7 +121,7 @@ sum_last [] x c = let same = eq-eqb x.provider x.provider refl in rw same (omega
 sum_last (y ∷ xs) x c = let more = sum_last xs x c in omega (arith, more)
 
 -- who has room for sums has room for amounts that are no greater
-room_each : (all : List Provider) (p : ℕ) (sum : List ℕ → ℕ) (ns : List (List ℕ × ℕ)) → Each (λ need. need.1 ≤ sum need.0) ns
+pub room_each : (all : List Provider) (p : ℕ) (sum : List ℕ → ℕ) (ns : List (List ℕ × ℕ)) → Each (λ need. need.1 ≤ sum need.0) ns
     → list_all (λ (need : List ℕ × ℕ). holds (provider_at all p) need.0 (sum need.0)) ns ≡ true → list_all (λ (need : List ℕ × ℕ). holds (provider_at all p) need.0 need.1) ns ≡ true
 room_each all p sum [] less h = refl
 room_each all p sum (n ∷ ns) less h =

@@ -10,6 +10,7 @@ ghost use Rattle.ac_search.specs.Loads.{IsColumn, ArePieces, AreOnes, MayHost, p
 ghost use Rattle.ac_rules.specs.Placed.{slot_at};
 
 use super::loads::limit;
+use super::{Budget, ClassTest};
 use crate::ledger::Ledger;
 use crate::ledger::rooms::{Ask, Room, left_in, number_of, wanted};
 use ac_base::{ClassName, NoMemory};
@@ -115,7 +116,7 @@ impl<'l, 'a> Column<'l, 'a> {
         })
     }
 
-    // Leaves the roots whose providers have less of the class than all slots ask.
+    // Drops the roots whose providers have less of the class than all slots ask.
     fn limit_sum(&self, alloc: Global, may: &mut [bool]) -> Result<(), NoMemory>
         requires { MayHost self.now.ledger.now may.old }
         ensures { IfOk result (λ _. MayHost self.now.ledger.now may.new) }
@@ -124,7 +125,7 @@ impl<'l, 'a> Column<'l, 'a> {
         limit(alloc, self.ledger.cloud, may, &self.rooms, wanted)
     }
 
-    // Leaves the roots whose providers have fewer pieces of an amount than slots ask so much or more.
+    // Drops the roots whose providers have fewer pieces of an amount than slots ask so much or more.
     fn limit_pieces(&self, alloc: Global, amount: u64, may: &mut [bool]) -> Result<(), NoMemory>
         requires some { 0 < amount }
         requires hosts { MayHost self.now.ledger.now may.old }
@@ -158,7 +159,7 @@ impl<'l, 'a> Column<'l, 'a> {
         count
     }
 
-    // Leaves the roots that have fewer providers with so much than slots that are to have one for themselves ask for.
+    // Drops the roots that have fewer providers with so much than slots that are to have one for themselves ask for.
     fn limit_lone(&self, alloc: Global, amount: u64, may: &mut [bool]) -> Result<(), NoMemory>
         requires some { 0 < amount }
         requires hosts { MayHost self.now.ledger.now may.old }
@@ -176,7 +177,12 @@ impl<'l, 'a> Column<'l, 'a> {
     }
 
     // Of each amount that a slot asks, both.
-    fn limit_amounts(&self, alloc: Global, may: &mut [bool]) -> Result<(), NoMemory>
+    fn limit_amounts(
+        &self,
+        alloc: Global,
+        budget: &mut Budget,
+        may: &mut [bool],
+    ) -> Result<(), NoMemory>
         requires { MayHost self.now.ledger.now may.old }
         ensures { IfOk result (λ _. MayHost self.now.ledger.now may.new) }
     {
@@ -184,20 +190,33 @@ impl<'l, 'a> Column<'l, 'a> {
         for asks in &self.ledger.asks {
             let amount = wanted(asks, self.number);
             if amount > 0 && !seen.contains(&amount) {
-                self.limit_pieces(alloc, amount, may)?;
-                self.limit_lone(alloc, amount, may)?;
+                if budget.take() {
+                    self.limit_pieces(alloc, amount, may)?;
+                }
+                if budget.take() {
+                    self.limit_lone(alloc, amount, may)?;
+                }
                 seen.push(amount)?;
             }
         }
         Ok(())
     }
 
-    /// Leaves the roots whose providers have less of the class than all slots ask, or too few pieces of it.
-    pub(crate) fn limit(&self, alloc: Global, may: &mut [bool]) -> Result<(), NoMemory>
+    /// Drops the roots whose providers fail a test of the class.
+    pub(crate) fn limit(
+        &self,
+        alloc: Global,
+        test: ClassTest,
+        budget: &mut Budget,
+        may: &mut [bool],
+    ) -> Result<(), NoMemory>
         requires { MayHost self.now.ledger.now may.old }
         ensures { IfOk result (λ _. MayHost self.now.ledger.now may.new) }
     {
-        self.limit_sum(alloc, may)?;
-        self.limit_amounts(alloc, may)
+        match test {
+            ClassTest::Sums if budget.take() => self.limit_sum(alloc, may),
+            ClassTest::Sums => Ok(()),
+            ClassTest::Pieces => self.limit_amounts(alloc, budget, may),
+        }
     }
 }
