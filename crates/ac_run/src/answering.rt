@@ -184,10 +184,10 @@ pub fn write_explanation<W: Sink>(
         (W.taken out.old) (W.taken out.new) (Rises (W.failures out.old) (W.failures out.new))) }
     ensures failures { W.failures out.old ≤ W.failures out.new }
 {
-    let Ok(found) = has_candidate(alloc, cloud, query) else {
+    let Ok(trees) = tree_counts(alloc, cloud, query) else {
         return Err(Refusal::NoMemory);
     };
-    let Ok(trees) = tree_counts(alloc, cloud, query) else {
+    let Ok(found) = has_candidate(alloc, cloud, query, &trees) else {
         return Err(Refusal::NoMemory);
     };
     match push_explanation(out, cloud, query, &trees, found) {

@@ -6,6 +6,7 @@ ghost use Rattle.ac_tables.specs.Cloud.CloudWorld.{providers_of};
 ghost use Rattle.ac_query.specs.Asked.{slots_of};
 ghost use Rattle.ac_query.specs.Shown.Groups.{need_entry};
 ghost use Rattle.ac_query.specs.Shown.Queries.{asked_of};
+ghost use Rattle.ac_search.specs.Explained.{tree_counts};
 ghost use Rattle.ac_search.specs.Shown.Explained.{slot_counted as slot_shown, trees_counted as trees_shown};
 ghost use Rattle.ac_rules.specs.Placed.{slot_at};
 ghost use Rattle.ac_run.specs.Explanation.{candidates_line, explanation_status, has_candidate, need_text, needs_text, slot_counted, slot_line, slot_lines, slot_name, trees_line};
@@ -210,11 +211,21 @@ pub fn push_explanation<W: Sink>(
     push_all(out, candidates_line(found))
 }
 
-/// Whether there is a candidate.
-pub fn has_candidate(alloc: Global, cloud: &Cloud, query: &Query) -> Result<bool, NoMemory>
+/// Whether there is a candidate. Where the counts say that no root has a provider for each slot, there is none, and none is
+/// searched for.
+pub fn has_candidate(
+    alloc: Global,
+    cloud: &Cloud,
+    query: &Query,
+    trees: &TreeCounts,
+) -> Result<bool, NoMemory>
+    requires { trees_shown trees.now ≡ tree_counts (providers_of cloud.now) (asked_of query.now) }
     ensures { IfOk result (λ found.
         found ≡ has_candidate (providers_of cloud.now) (asked_of query.now)) }
 {
+    if trees.each_slot == 0 {
+        return Ok(false);
+    }
     let mut walk = Walk::new(alloc, cloud, query, None)?;
     Ok(walk.next().is_some())
 }
