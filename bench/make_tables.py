@@ -1,11 +1,11 @@
 #!/usr/bin/env python3
-"""make_tables.py FOLDER [--shape flat|chain|numa|disk|sharing] [--providers N] [--classes K] [--traits T] [--aggregates A]
-               [--groups G] [--order sorted|shuffled|reversed] [--seed S] [--quoted]
+"""make_tables.py FOLDER [--shape flat|chain|numa|disk|disks|sharing] [--providers N] [--classes K] [--traits T] [--aggregates A]
+               [--disks D] [--full] [--groups G] [--order sorted|shuffled|reversed] [--seed S] [--quoted]
 
 Writes the five tables of a cloud of N providers into FOLDER. The same words make the same bytes. Shapes:
 flat: hosts without parents; chain: one tree, each provider the child of another; numa: hosts of nine providers, with two NUMA nodes and
-three network functions under each; disk: hosts, and one disk that all of them share; sharing: hosts that all share, in one aggregate together, and
-by turns in one of G others.
+three network functions under each; disk: hosts, and one disk that all of them share; disks: N hosts, and D disks beside them that all of them share
+through one aggregate, with --full each used up; sharing: hosts that all share, in one aggregate together, and by turns in one of G others.
 Providers that have amounts have K classes, in numa the classes of their kind, and a usage of each; each provider has T traits and is in A
 aggregates. The order is that of the rows of all tables, by UUID; shuffled is each table by itself. With --quoted, texts stand in quotes, as
 the client prints them. 65536 flat providers with 3 classes, 8 traits and 2 aggregates are about 70 MB."""
@@ -92,6 +92,16 @@ def disk(cloud, ids, classes):
         cloud.add(id, id, '', [name for name in classes if name != 'DISK_GB'], (), common)
 
 
+def disks(cloud, ids, classes):
+    common = new_ids(cloud.chance, 1)
+    for id in new_ids(cloud.chance, cloud.words.disks):
+        cloud.add(id, id, '', (), (SHARES,), common)
+        cloud.rows['inventories'].append((id, 'DISK_GB', 2048, 0, 1, 2048, 1, 1.0))
+        cloud.rows['usages'].append((id, 'DISK_GB', 2048 if cloud.words.full else 0))
+    for id in ids:
+        cloud.add(id, id, '', [name for name in classes if name != 'DISK_GB'], (), common)
+
+
 def sharing(cloud, ids, classes):
     common, *groups = new_ids(cloud.chance, 1 + cloud.words.groups)
     for place, id in enumerate(ids):
@@ -106,7 +116,7 @@ def write(path, header, rows, quoting):
 
 
 def main():
-    shapes = {shape.__name__: shape for shape in (flat, chain, numa, disk, sharing)}
+    shapes = {shape.__name__: shape for shape in (flat, chain, numa, disk, disks, sharing)}
     words = argparse.ArgumentParser(description=__doc__.split('\n\n')[1], formatter_class=argparse.RawDescriptionHelpFormatter)
     words.add_argument('folder')
     words.add_argument('--shape', choices=shapes, default='flat')
@@ -114,6 +124,8 @@ def main():
     words.add_argument('--classes', type=int, default=3)
     words.add_argument('--traits', type=int, default=8)
     words.add_argument('--aggregates', type=int, default=2)
+    words.add_argument('--disks', type=int, default=1)
+    words.add_argument('--full', action='store_true')
     words.add_argument('--groups', type=int, default=2)
     words.add_argument('--order', choices=('sorted', 'shuffled', 'reversed'), default='shuffled')
     words.add_argument('--seed', type=int, default=1)

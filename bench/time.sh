@@ -1,11 +1,13 @@
 #!/bin/bash
-# bench/time.sh [--deep] [PROVIDERS..]: times the proved program on clouds of so many providers (4096, 16384 and 65536, if none is named): five
+# bench/time.sh [--deep|--disks] [PROVIDERS..]: times the proved program on clouds of so many providers (4096, 16384 and 65536, if none is named): five
 # tables with three resource classes, eight traits and two aggregates each (bench/make_tables.py tells the shapes). Beside `check`, over the
 # same bytes and in the same run: the ported csv alone (bench/csv_alone.rattle), wc, Python's csv module, and a plain Rust program that only
 # splits and counts (bench/anchor, where rustc is there). Then `tokens` and `candidates`, whole and with a limit, from the start and after a
 # token, and `verify`. For the largest number also the rows in order and in reverse, one chain, and hosts that all share in two groups; and fewer
 # hosts, of which each shares in a group of its own too. With --deep, also searches with several slots, which a search that goes through all
-# lists doesn't end. Where AC_CLI is set, it names the program.
+# lists doesn't end. With --disks, only searches and explanations over hosts that share many disks through one aggregate, each with the processor
+# time that it is to take at the most. Where AC_CLI is set, it names the program; where BESIDE is set, it names another one that knows `tokens` by the
+# same command line, which is timed beside it.
 # Each figure is the best of three runs, or that of one which took more than ten seconds: wall time, and the most memory held at once.
 
 set -eu
@@ -13,9 +15,12 @@ export LC_ALL=C
 bench=$(dirname "$(readlink -f "$0")")
 room=$(mktemp -d)
 trap 'rm -rf "$room"' EXIT
-deep=''
+deep='' disks=''
 if [[ ${1-} == --deep ]]; then
     deep=yes
+    shift
+elif [[ ${1-} == --disks ]]; then
+    disks=yes
     shift
 fi
 
@@ -24,8 +29,61 @@ if [[ -z $program ]]; then
     "$bench/../ac_cli" --help >"$room/help"
     program=$(dirname "$bench")/out/ac_cli
 fi
+
+# aim SECONDS COMMAND QUERY: a line for each program, with the least processor time of three runs, or that of one that took more than ten seconds
+# or was ended after sixty, beside the aim
+aim() {
+    local path beside=${BESIDE-} least status user system took
+    [[ $2 != explain ]] || beside=''
+    for path in "$program" $beside; do
+        least=''
+        for _ in 1 2 3; do
+            status=0
+            /usr/bin/time -q -f '%U %S' -o "$room/took" timeout 60 "$path" "$2" "$3" "${tables[@]}" >"$room/out" 2>"$room/err" || status=$?
+            read -r user system <"$room/took"
+            took=$((10#${user/./} + 10#${system/./}))
+            [[ -n $least && $took -ge $least ]] || least=$took
+            [[ $took -lt 1000 ]] || break
+        done
+        printf '  %-34s %5d.%02d s of processor time, at most %s; status %d, %d lines\n' "$2, ${path##*/}" $((least / 100)) $((least % 100)) "$1" "$status" \
+            "$(wc -l <"$room/out")"
+    done
+}
+
+# groups NUMBER: a query of so many groups that each ask for some disk
+groups() {
+    local query='group_policy=none' k
+    for ((k = 1; k <= $1; k++)); do
+        query+="&resources$k=DISK_GB:1"
+    done
+    echo "$query"
+}
+
+# full_disks: the searches and explanations over disks that all hosts share
+full_disks() {
+    local two='resources1=VCPU:1&resources2=DISK_GB:1&group_policy=none'
+    local three='resources1=VCPU:1&resources2=VCPU:1&resources3=DISK_GB:1&group_policy=none'
+    local few='--classes 1 --traits 0 --aggregates 0' number command
+    for number in 300 400; do
+        cloud 64000 sorted disks $few --disks "$number" --full
+        echo "  $three"
+        for command in tokens explain; do
+            aim 1 "$command" "$three"
+        done
+    done
+    cloud 64000 sorted disks $few --disks 1000 --full
+    echo "  $two"
+    for command in tokens explain; do
+        aim 1 "$command" "$two"
+    done
+    cloud 20000 sorted disks $few --disks 20000
+    echo '  64 groups'
+    aim 2 explain "$(groups 64)"
+    aim 2 tokens "$(groups 64)&limit=1"
+}
+
 anchor=''
-if command -v rustc >"$room/rustc" && rustc -O -o "$room/reading" "$bench/anchor/reading.rs"; then
+if [[ -z $disks ]] && command -v rustc >"$room/rustc" && rustc -O -o "$room/reading" "$bench/anchor/reading.rs"; then
     anchor=$room/reading
 fi
 
@@ -33,7 +91,7 @@ fi
 ported=''
 alone=$room/alone/crates/csv_alone
 mkdir -p "$alone/src" && cp "$bench/csv_alone.rattle" "$alone/src/main.rt" && echo 'csv_alone: csv' >"$room/alone/crates.txt"
-if (cd "$room/alone" && git init -q && cd "$alone" && rt run) >"$room/ported.log" 2>&1 </dev/null; then
+if [[ -z $disks ]] && (cd "$room/alone" && git init -q && cd "$alone" && rt run) >"$room/ported.log" 2>&1 </dev/null; then
     ported=$alone/out/csv_alone
 fi
 
@@ -94,6 +152,10 @@ search() {
     fi
 }
 
+if [[ -n $disks ]]; then
+    full_disks
+    exit 0
+fi
 [[ $# -gt 0 ]] || set -- 4096 16384 65536
 for providers; do
     cloud "$providers" shuffled flat

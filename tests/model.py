@@ -229,6 +229,11 @@ def draw_inventory(chance):
                      chance.choice((1, 1, 1, 1, 2)), chance.choice((1000000, 1500000, 999999, 2000000)), chance.choice((0, 0, 1, 2)))
 
 
+def fill(inventory, chance):
+    """Uses all of an inventory, or all but one."""
+    inventory.used = max(inventory.capacity() - chance.choice((0, 0, 1)), 0)
+
+
 def draw_cloud(chance):
     cloud = []
     for number in range(1, chance.randint(3, 5) + 1):
@@ -236,6 +241,9 @@ def draw_cloud(chance):
         has = {name: draw_inventory(chance) for name in sorted(chance.sample(CLASSES, chance.choice((0, 2, 3, 3))))}
         traits = set(some(chance, TRAITS, 1)) | ({SHARES} if chance.random() < 0.25 else set())
         cloud.append(Provider(f'P{number}', parent, has, traits, set(some(chance, AGGREGATES, 1))))
+        if SHARES in traits and chance.random() < 0.4:
+            for inventory in has.values():
+                fill(inventory, chance)
     return cloud
 
 

@@ -135,3 +135,48 @@ fn any_root(rt: HostRuntime) -> Result<(), AllocError> {
     assert_eq!(rt; counts_trees(rt.alloc(), TREES, query)?, Some(want));
     Ok(())
 }
+
+// The hosts 01 and 02 share the disks 03 and 04, of which the first is used up, and the second has one of its nine left.
+const SHARED: Rows<'static> = Rows {
+    providers: "@01,@01,\n@02,@02,\n@03,@03,\n@04,@04,\n",
+    inventories: "@01,VCPU,8,0,1,8,1,1.0\n@02,VCPU,8,0,1,8,1,1.0\n@03,DISK_GB,9,0,1,9,1,1.0\n@04,DISK_GB,9,0,1,9,1,1.0\n",
+    usages: "@03,DISK_GB,9\n@04,DISK_GB,8\n",
+    traits: "@03,MISC_SHARES_VIA_AGGREGATE\n@04,MISC_SHARES_VIA_AGGREGATE\n",
+    aggregates: "@01,@a1\n@02,@a1\n@03,@a1\n@04,@a1\n",
+    ..NONE
+};
+
+#[test]
+fn shared_disks(rt: HostRuntime) -> Result<(), AllocError> {
+    let slot = SlotCounts {
+        // 03 and 04
+        units: 2,
+        traits: 2,
+        aggregates: 2,
+        tree: 2,
+        // 04
+        room: 1,
+    };
+    let one = TreeCounts {
+        roots: 4,
+        root_traits: 4,
+        // 01 and 02
+        each_slot: 2,
+    };
+    let query = "resources1=VCPU:1&resources2=DISK_GB:1&group_policy=none";
+    assert_eq!(rt; counts_slot(rt.alloc(), SHARED, query, 1)?, Some(slot));
+    assert_eq!(rt; counts_trees(rt.alloc(), SHARED, query)?, Some(one));
+    let query = "resources1=VCPU:1&resources2=DISK_GB:2&group_policy=none";
+    assert_eq!(rt;
+        counts_slot(rt.alloc(), SHARED, query, 1)?,
+        Some(SlotCounts { room: 0, ..slot })
+    );
+    assert_eq!(rt;
+        counts_trees(rt.alloc(), SHARED, query)?,
+        Some(TreeCounts {
+            each_slot: 0,
+            ..one
+        })
+    );
+    Ok(())
+}

@@ -29,6 +29,15 @@ impl Dice {
 
 const PROVIDERS: u64 = 6;
 
+// Once in how many times an inventory is used up, a provider shares, and one is in an aggregate; and how many of these there are.
+#[derive(Drop)]
+struct Odds {
+    full: u64,
+    sharing: u64,
+    member: u64,
+    aggregates: u64,
+}
+
 fn push_digit(text: &mut String, n: u64) -> Result<(), AllocError> {
     text.push(char::from(b'0' + (n % 10) as u8))
 }
@@ -110,7 +119,7 @@ fn push_query(text: &mut String, dice: &mut Dice) -> Result<(), AllocError> {
 }
 
 // Whether both sources give the same in one such cloud.
-fn agree(alloc: Global, dice: &mut Dice) -> Result<bool, AllocError> {
+fn agree(alloc: Global, dice: &mut Dice, odds: &Odds) -> Result<bool, AllocError> {
     let mut providers = String::new(alloc);
     push_providers(&mut providers, alloc, dice)?;
     let mut inventories = String::new(alloc);
@@ -124,20 +133,20 @@ fn agree(alloc: Global, dice: &mut Dice) -> Result<bool, AllocError> {
                 push_row(&mut inventories, "@,", ix, 0)?;
                 inventories.push_str(name)?;
                 push_row(&mut inventories, ",#,0,1,3,1,1.0\n", ix, total)?;
-                if dice.once_in(4) {
+                if dice.once_in(odds.full) {
                     push_row(&mut usages, "@,", ix, 0)?;
                     usages.push_str(name)?;
                     push_row(&mut usages, ",#\n", ix, total)?;
                 }
             }
         }
-        if dice.once_in(3) {
+        if dice.once_in(odds.sharing) {
             push_row(&mut traits, "@,MISC_SHARES_VIA_AGGREGATE\n", ix, 0)?;
         }
-        if dice.once_in(2) {
+        if dice.once_in(odds.member) {
             push_row(&mut aggregates, "@,", ix, 0)?;
             aggregates.push_str("@9")?;
-            push_digit(&mut aggregates, dice.roll(2))?;
+            push_digit(&mut aggregates, dice.roll(odds.aggregates))?;
             aggregates.push('\n')?;
         }
     }
@@ -158,8 +167,30 @@ fn agree(alloc: Global, dice: &mut Dice) -> Result<bool, AllocError> {
 #[test]
 fn both_sources_agree_on_tight_clouds(rt: HostRuntime) -> Result<(), Fail> {
     let mut dice = Dice { state: 20 };
+    let odds = Odds {
+        full: 4,
+        sharing: 3,
+        member: 2,
+        aggregates: 2,
+    };
     for _ in 0..30 {
-        assert!(rt; agree(rt.alloc(), &mut dice)?);
+        assert!(rt; agree(rt.alloc(), &mut dice, &odds)?);
+    }
+    Ok(())
+}
+
+// All of them are in one aggregate, half of them share, and half of what they have is used up.
+#[test]
+fn both_sources_agree_where_what_is_shared_is_full(rt: HostRuntime) -> Result<(), Fail> {
+    let mut dice = Dice { state: 20 };
+    let odds = Odds {
+        full: 2,
+        sharing: 2,
+        member: 1,
+        aggregates: 1,
+    };
+    for _ in 0..30 {
+        assert!(rt; agree(rt.alloc(), &mut dice, &odds)?);
     }
     Ok(())
 }

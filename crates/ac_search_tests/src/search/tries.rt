@@ -309,3 +309,31 @@ fn fills_one_provider_after_another(rt: HostRuntime) -> Result<(), Fail> {
     assert!(rt; none.as_slice() == [287].as_slice(), "none");
     Ok(())
 }
+
+// Three hosts, and two disks that they share, of which one is used up.
+const SHARED: Rows<'static> = Rows {
+    columns: "uuid,root_provider_uuid,parent_provider_uuid",
+    providers: "@01,@01,\n@02,@02,\n@03,@03,\n@04,@04,\n@05,@05,\n",
+    inventories: "@01,VCPU,8,0,1,8,1,1.0\n@02,VCPU,8,0,1,8,1,1.0\n@03,VCPU,8,0,1,8,1,1.0\n@04,DISK_GB,9,0,1,9,1,1.0\n@05,DISK_GB,9,0,1,9,1,1.0\n",
+    usages: "@04,DISK_GB,9\n",
+    traits: "@04,MISC_SHARES_VIA_AGGREGATE\n@05,MISC_SHARES_VIA_AGGREGATE\n",
+    aggregates: "@01,@a1\n@02,@a1\n@03,@a1\n@04,@a1\n@05,@a1\n",
+};
+
+// Behind each host the other disk alone is tried.
+#[test]
+fn tries_no_full_disk(rt: HostRuntime) -> Result<(), Fail> {
+    let query = "resources1=VCPU:1&resources2=DISK_GB:1&group_policy=none";
+    let counts = probes(rt.alloc(), SHARED, query, None, 9)?;
+    assert!(rt; counts.as_slice() == [2, 4, 6, 6].as_slice());
+    Ok(())
+}
+
+// Of two groups that ask for five of the nine, none has room beside the other.
+#[test]
+fn tries_no_full_disk_twice(rt: HostRuntime) -> Result<(), Fail> {
+    let query = "resources1=DISK_GB:5&resources2=DISK_GB:5&group_policy=none";
+    let counts = probes(rt.alloc(), SHARED, query, None, 9)?;
+    assert!(rt; counts.as_slice() == [0].as_slice());
+    Ok(())
+}

@@ -141,6 +141,22 @@ const NO_TREE: &[Case] = &[
                     candidates: none\n",
         ..NONE
     },
+    // Two hosts share two disks, and both of these are used up.
+    Case {
+        rows: Rows {
+            providers: "@1,@1,\n@2,@2,\n@3,@3,\n@4,@4,\n",
+            inventories: "@1,VCPU,8,0,1,8,1,1.0\n@2,VCPU,8,0,1,8,1,1.0\n@3,DISK_GB,9,0,1,9,1,1.0\n@4,DISK_GB,9,0,1,9,1,1.0\n",
+            usages: "@3,DISK_GB,9\n@4,DISK_GB,9\n",
+            traits: "@3,MISC_SHARES_VIA_AGGREGATE\n@4,MISC_SHARES_VIA_AGGREGATE\n",
+            aggregates: "@1,@a\n@2,@a\n@3,@a\n@4,@a\n",
+        },
+        query: "resources=DISK_GB:1,VCPU:1",
+        output: "slot 1 \"\" DISK_GB:1: units 2 of 4, traits 2, aggregates 2, tree 2, room 0\n\
+                    slot 2 \"\" VCPU:1: units 2 of 4, traits 2, aggregates 2, tree 2, room 2\n\
+                    trees 4: root traits 4, each slot 0\n\
+                    candidates: none\n",
+        ..NONE
+    },
 ];
 
 #[test]
