@@ -129,7 +129,7 @@ fn serving(alloc: Global, cloud: &Cloud, query: &Query, s: usize) -> Result<Vec<
     Ok(serving)
 }
 
-// Leaves the roots at which some slot has no provider.
+// Drops the roots at which some slot has no provider.
 fn limit_slots(
     alloc: Global,
     cloud: &Cloud,

@@ -158,7 +158,7 @@ fn limit_all(
 /// For each root whether it may host a candidate: the query takes it, some choice of each slot is available there, of each
 /// class its providers have as much as all slots ask, and of each amount that a slot asks they have as many pieces as
 /// slots ask so much or more. These are tested in this order. Where all tests would take too many steps, the last ones
-/// are left out: that is right too, only slower where no root can.
+/// aren't made: that is right too, only slower where no root can.
 pub(crate) fn host_roots(
     alloc: Global,
     ledger: &Ledger,

@@ -213,7 +213,7 @@ fn mark_parts(marks: &mut [bool], parts: &[u32], list: &[u32], rows: &[Vec<Room>
     }
 }
 
-// Leaves no provider in a part that has no mark.
+// Drops the parts that have no mark.
 fn keep_marked(parts: &mut [u32], marks: &[bool], none: u32)
     ensures count { length parts.new ≡ length parts.old }
     ensures kept { (p : ℕ) → p < length parts.old
@@ -228,7 +228,7 @@ fn keep_marked(parts: &mut [u32], marks: &[bool], none: u32)
     }
 }
 
-// Leaves the parts in which some choice of a slot stands that has room for what is asked.
+// Keeps the parts in which some choice of a slot stands that has room for what is asked.
 fn keep_seen(
     alloc: Global,
     parts: &mut [u32],
