@@ -8,4 +8,5 @@ pub mod SeekLemmas
 pub mod StepLemmas
 pub mod TryLemmas
 pub mod BeginLemmas
+pub mod ChangeLemmas
 pub mod EntryLemmas

@@ -113,6 +113,8 @@ pub record IsSound (m : Search) (x path places : List ℕ) (d : ℕ) (seeking : 
   pub places_len : length places ≡ m.width
   pub least_len : length x ≤ m.width
   pub within : d < m.width
+  -- nothing is on the path before the first try
+  pub begun : probes ≡ 0 → d ≡ 0
   -- each depth above d has its number among its choices
   pub placed : (i : ℕ) → i < d → (slice_index places i < length (choices_at m i)) × (next_at m i (slice_index places i) ≡ slice_index path i)
   pub place : slice_index places d ≤ length (choices_at m d)
@@ -122,5 +124,5 @@ pub record IsSound (m : Search) (x path places : List ℕ) (d : ℕ) (seeking : 
   pub reached : slice_index places d < length (choices_at m d) → lex_lt (next_front m path places d) (take (suc d) x) ≡ false
   pub seeks : seeking ≡ true → take d path ≡ take d x
   pub passed : seeking ≡ false → lex_lt x (next_front m path places d) ≡ true
-  -- each try, made or still to be made behind a place in use, is one of `count` at an open list that was met
+  -- each choice that was looked at, or may still be behind a place in use, is one of `count` at an open list that was met
   pub paid : probes + (behind m.choices (take d places) + (length (choices_at m d) - slice_index places d)) ≤ m.count * met m x (next_front m path places d)

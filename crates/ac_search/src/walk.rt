@@ -1,5 +1,5 @@
 //! The walk: candidates found slot by slot, leaving a path as soon as it can hold none.
-ghost use Rattle.std.specs.Prelude.{◌≡◌, ◌<◌, length, map, take, true, false, IfOk};
+ghost use Rattle.std.specs.Prelude.{◌≡◌, ◌<◌, length, map, take, true, false, None, IfOk};
 ghost use Rattle.std.specs.Bool.{MatchBool};
 ghost use Rattle.std.specs.Option.{option_map};
 ghost use Rattle.ac_tables.specs.Cloud.CloudWorld.{providers_of};
@@ -79,7 +79,7 @@ pub struct Walk<'a> {
 }
 
 impl<'a> Walk<'a> {
-    ghost use Rattle.ac_search.specs.Shown.Walk.{cloud_in, query_in, token_in, probes_in};
+    ghost use Rattle.ac_search.specs.Shown.Walk.{cloud_in, query_in, token_in, probes_in, given_in};
     ghost use Rattle.ac_search.specs.Search.Steps.{StepGives, Goes, Advances, Finishes};
 
     /// Begins with the first candidate after the ids of a token, or with the first of all. It takes all its memory
@@ -98,6 +98,7 @@ impl<'a> Walk<'a> {
         ensures token { IfOk result (λ walk. token_in walk
             ≡ option_map (λ t. tokens.ids_of t.now) after.entry) }
         ensures probes { IfOk result (λ walk. probes_in walk ≡ 0) }
+        ensures last { IfOk result (λ walk. given_in walk ≡ None) }
     {
         let width = count_slots(query);
         let least = least_of(alloc, cloud, after, width)?;
@@ -128,7 +129,7 @@ impl<'a> Walk<'a> {
         })
     }
 
-    /// How many providers it has tried behind a path.
+    /// How many tries it has made: one for each choice that it has looked at, passed over or tested behind a path.
     pub fn probes(&self) -> u64
         ensures { result ≡ probes_in self.now }
     {

@@ -34,6 +34,7 @@ sound_new m laws x path places j short lp la some start =
       path_len = lp;
       places_len = length-set places 0 j ∙ la;
       within = some;
+      begun = λ _. refl;
       placed = λ i b. absurd (omega arith);
       place = rw there start.within;
       opens = λ b. absurd (omega arith);

@@ -1,26 +1,29 @@
 -- A walk ends: each step raises the front that it tries next, and there are finitely many fronts.
-use Rattle.std.proofs.Common.{◌≡◌, ℕ, ◌+◌, ◌-◌, ◌*◌, ◌<◌, ◌≤◌, ◌^◌, suc, true, List, [], ◌∷◌, length, take, Option, None, Some, IsSome, inl, inr, sym, ap, ◌∙◌, subst, arith, length-append, length-take-le}
+use Rattle.std.proofs.Common.{◌≡◌, ℕ, ◌+◌, ◌*◌, ◌<◌, ◌≤◌, suc, true, List, [], ◌∷◌, length, take, Option, None, Some, IsSome, inl, inr, refl, sym, ap, ◌∙◌, subst, arith, length-append, length-take-le}
+use Rattle.std.specs.Prelude.{min, IfSome}
+use Rattle.std.proofs.Math.Nat.{min-le_left}
 use Rattle.std.specs.List.{filter, slice_index, AllByRecursion as Each}
-use Rattle.std.proofs.lemmas.Bool.{cases_lt, not_from_false, not_from_true, not-true, false_from_ne_true, false≢true}
+use Rattle.std.proofs.lemmas.Bool.{cases_lt, eq-eqb, ne_eqb, not_from_false, not_from_true, not-true, false_from_ne_true, false≢true}
 use Rattle.std.proofs.lemmas.List.{get_or_past}
 use Rattle.std.specs.Option.{option_map}
-use Rattle.ac_base.specs.Devices.{Rises}
+use Rattle.ac_base.specs.Devices.{last_count, Rises}
 use Rattle.ac_query.specs.Shown.Queries.{asked_of}
 use Rattle.ac_tables.specs.Cloud.CloudWorld.{providers_of}
 use Rattle.ac_tables.proofs.ProvidersStated.{cloud_in_order}
 use Rattle.ac_rules.specs.Order.{lex_lt}
 use Rattle.ac_search.specs.Search.{Search, all_shorter, choices_at, next_at, from, between}
 use Rattle.ac_search.specs.QuerySearch.{open_between}
-use Rattle.ac_search.specs.Shown.Walk.{cloud_in, query_in, token_in, search_in, front_in, left_of, IsSame, Tries}
-use Rattle.ac_search.specs.Search.Steps.{Goes, Gives, Ends, IsBounded, Advances, Finishes}
+use Rattle.ac_search.specs.Shown.Walk.{cloud_in, query_in, token_in, given_in, changed, search_in, front_in, left_of, IsSame, Tries}
+use Rattle.ac_search.specs.Search.Steps.{IsTried, Goes, Gives, Ends, IsBounded, Advances, Finishes}
 use Rattle.ac_search.specs.declared.walk.Walk.{Walk}
 use Rattle.ac_rules.proofs.Elements.{each_append, each_weaker, each_all, count_more}
 use Rattle.ac_rules.proofs.Lists.OrderLemmas.{lex_irrefl, lex_trans}
 use Rattle.ac_search.proofs.Search.ShorterLemmas.{among_all_shorter}
 use Rattle.ac_search.proofs.Search.IdsLemmas.{between_by_ids}
 use Rattle.ac_search.proofs.Search.SoughtLemmas.{low_at}
+use Rattle.ac_search.proofs.Steps.ChangeLemmas.{differing_front}
 use Rattle.ac_search.proofs.Steps.MoveLemmas.{path_low}
-use Rattle.ac_search.proofs.Steps.StepLemmas.{laws_in, search_same, bounded_then}
+use Rattle.ac_search.proofs.Steps.StepLemmas.{laws_in, search_same, same_then, bounded_then, rises_later}
 
 -- how many fronts from c on there are
 unfoldable pub fronts_from : Search → List ℕ → ℕ
@@ -65,10 +68,33 @@ pub record Comes (old new : Walk) : Type 0 where
   pub same : IsSame old new
   pub left : left_of new ≡ left_of old
   pub kept : old.probes ≤ new.probes
+  pub tried : IsTried (given_in old) old.probes new
+
+given_new : (w : Walk) → w.probes ≡ 0 → given_in w ≡ None
+given_new w e = rw (eq-eqb w.probes 0 e) refl
+
+-- where it has tried, the list in its path is the one that it gave last
+given_last : (w : Walk) → 0 < w.probes → given_in w ≡ Some w.path.items
+given_last w some = rw (ne_eqb w.probes 0 (λ e. omega (arith, some, e))) refl
+
+pub comes_new : (w : Walk) → Comes w w
+comes_new w = record {
+  same = record { cloud = refl; query = refl; after = refl; least = refl };
+  left = refl;
+  kept = omega arith;
+  tried = elim (cases_lt 0 w.probes) [
+    | inl l ↦ rw (given_last w l, differing_front w.path.items w.depth) (omega (arith, min-le_left (w.probes + 0) last_count))
+    | inr g ↦ let none : w.probes ≡ 0 = omega arith in rw (given_new w none, w.sound.begun none) (omega (arith, min-le_left (w.probes + 0) last_count))
+  ];
+}
+
+pub comes_on : (w u v : Walk) → Comes w u → Goes u v → Comes w v
+comes_on w u v a b = record { same = same_then w u v a.same b.same; left = b.left ∙ a.left; kept = omega (arith, a.kept, b.kept); tried = b.tried (given_in w) w.probes a.tried }
 
 -- its tries, told by the ids of its token
-tries_told : (w v : Walk) (y : Option (List ℕ)) → IsBounded w y v → w.probes ≤ v.probes → (IsSome y → Rises w.probes v.probes) → Tries w y v
-tries_told w v y bounds kept rises =
+tries_told : (w v : Walk) (y : Option (List ℕ)) → IsBounded w y v → w.probes ≤ v.probes → (IsSome y → Rises w.probes v.probes) → IfSome y (λ l. given_in v ≡ Some l)
+    → IfSome y (λ l. min (w.probes + changed (given_in w) l) last_count ≤ v.probes) → Tries w y v
+tries_told w v y bounds kept rises last tried =
     let least : between (search_in w) w.least.items y ≡ open_between (cloud_in w) (query_in w) (token_in w) y =
     ap (λ (x : List ℕ). between (search_in w) x y) w.resumed ∙ between_by_ids (cloud_in w) (cloud_in_order w.ledger.cloud.now).order (query_in w) (token_in w) y in
     record {
@@ -78,18 +104,9 @@ tries_told w v y bounds kept rises =
       bounded = subst (λ (ls : List (List ℕ)). v.probes ≤ length (cloud_in w) * length ls) least bounds.bounded;
       kept = kept;
       rises = rises;
+      last = last;
+      tried = tried;
     }
-
-gives_then : (w u v : Walk) → Comes w u → Gives u v → Gives w v
-gives_then w u v a b = record {
-  head = sym a.left ∙ b.head;
-  bounds = bounded_then w u v (Some v.path.items) a.same b.bounds;
-  kept = omega (arith, a.kept, b.kept);
-  rises = λ h. elim (cases_lt u.probes (2 ^ 64 - 1)) [
-    | inl l ↦ let rise = b.rises l in let come = a.kept in omega arith
-    | inr g ↦ let come = b.kept in omega arith
-  ];
-}
 
 ends_then : (w u v : Walk) → Comes w u → Ends u v → Ends w v
 ends_then w u v a b = record { nothing = sym a.left ∙ b.nothing; none = b.none; bounds = bounded_then w u v None a.same b.bounds; kept = omega (arith, a.kept, b.kept) }
@@ -97,10 +114,17 @@ ends_then w u v a b = record { nothing = sym a.left ∙ b.nothing; none = b.none
 -- what one step gives after those before it
 pub advances : (w u v : Walk) → Comes w u → Gives u v → Advances w v
 advances w u v a b =
-    let g = gives_then w u v a b in
-    record { head = g.head; tries = tries_told w v (Some v.path.items) g.bounds g.kept (λ _. g.rises) }
+    let rises = rises_later w.probes u.probes v.probes a.kept b.kept b.rises in
+    let some : 0 < v.probes = elim (cases_lt u.probes last_count) [
+      | inl l ↦ let rise : u.probes < v.probes = b.rises l in omega arith
+      | inr g ↦ let kept = b.kept in omega arith
+    ] in
+    record {
+      head = sym a.left ∙ b.head;
+      tries = tries_told w v (Some v.path.items) (bounded_then w u v (Some v.path.items) a.same b.bounds) (omega (arith, a.kept, b.kept)) (λ _. rises) (given_last v some) (b.tried (given_in w) w.probes a.tried);
+    }
 
 pub finishes : (w u v : Walk) → Comes w u → Ends u v → Finishes w v
 finishes w u v a b =
     let e = ends_then w u v a b in
-    record { nothing = e.nothing; none = e.none; tries = tries_told w v None e.bounds e.kept (λ some. absurd (cc)) }
+    record { nothing = e.nothing; none = e.none; tries = tries_told w v None e.bounds e.kept (λ some. absurd (cc)) tt tt }

@@ -72,9 +72,9 @@ forward_next m laws path places d h k l =
     rw (bound_next m path places d (slice_index places d + 1) h, add-one, lex_append, lex_one) (grind (arith, nat_tests))
 
 pub sound_next : (m : Search) → IsSearch m → (x path path' places : List ℕ) (d : ℕ) (seeking : Bool) (probes probes' : ℕ)
-    → IsSound m x path places d seeking probes → slice_index places d < length (choices_at m d) → length path' ≡ length path → take d path' ≡ take d path → probes' ≤ probes + 1
+    → IsSound m x path places d seeking probes → slice_index places d < length (choices_at m d) → length path' ≡ length path → take d path' ≡ take d path → probes' ≤ probes + 1 → probes ≤ probes'
     → IsSound m x path' (set places d (slice_index places d + 1)) d false probes'
-sound_next m laws x path path' places d seeking probes probes' s l len same more =
+sound_next m laws x path path' places d seeking probes probes' s l len same more kept =
     let in_at : d < length places = omega (arith, s.places_len, s.within) in
     let c = next_front m path places d in
     let c' = next_front m path' (set places d (slice_index places d + 1)) d in
@@ -87,6 +87,7 @@ sound_next m laws x path path' places d seeking probes probes' s l len same more
       path_len = len ∙ s.path_len;
       places_len = length-set places d (slice_index places d + 1) ∙ s.places_len;
       within = s.within;
+      begun = λ e. s.begun (omega (arith, kept, e));
       placed = λ i b. rw (get_or-set_other places d i (slice_index places d + 1) 0 (omega arith)) ((s.placed i b).0, (s.placed i b).1 ∙ (sym (get_or-take d path i 0 b) ∙ (ap (λ (u : List ℕ). slice_index u i) (sym same) ∙ get_or-take d path' i 0 b)));
       place = rw (get_or-set_same places d (slice_index places d + 1) 0 in_at) (omega arith);
       opens = λ b. subst (λ (u : List ℕ). m.is_open u ≡ true) (sym same) (s.opens b);
@@ -107,6 +108,7 @@ sound_put m x path places d p seeking probes s =
       places_len = s.places_len;
       least_len = s.least_len;
       within = s.within;
+      begun = s.begun;
       placed = λ i b. rw (get_or-set_other path d i p 0 (omega arith)) (s.placed i b);
       place = s.place;
       opens = λ b. rw front (s.opens b);
@@ -173,9 +175,9 @@ bound_place m path places d j h k = rw (front_back path d h, get_or-set_same pla
 pub sound_place : (m : Search) → IsSearch m → (x path places : List ℕ) (d : ℕ) (seeking seeking' : Bool) (probes probes' : ℕ) (j : ℕ)
     → IsSound m x path places d seeking probes → suc d < m.width → slice_index places d < length (choices_at m d) → slice_index path d ≡ next_at m d (slice_index places d)
     → m.is_open (take d path ++ slice_index path d ∷ []) ≡ true
-    → j ≤ length (choices_at m (suc d)) → Enters m x (take d path ++ slice_index path d ∷ []) (suc d) j seeking' → (seeking' ≡ true → take d path ++ slice_index path d ∷ [] ≡ take (suc d) x) → probes' ≤ probes + 1
+    → j ≤ length (choices_at m (suc d)) → Enters m x (take d path ++ slice_index path d ∷ []) (suc d) j seeking' → (seeking' ≡ true → take d path ++ slice_index path d ∷ [] ≡ take (suc d) x) → probes' ≤ probes + 1 → 0 < probes'
     → IsSound m x path (set places (suc d) j) (suc d) seeking' probes'
-sound_place m laws x path places d seeking seeking' probes probes' j s short l is opens fits enters seeks more =
+sound_place m laws x path places d seeking seeking' probes probes' j s short l is opens fits enters seeks more some =
     let n = m.count in
     let p = slice_index path d in
     let in_path : d < length path = omega (arith, s.path_len) in
@@ -192,6 +194,7 @@ sound_place m laws x path places d seeking seeking' probes probes' j s short l i
       path_len = s.path_len;
       places_len = length-set places (suc d) j ∙ s.places_len;
       within = short;
+      begun = λ b. absurd (omega (arith, some, b));
       placed = λ i b. elim (cases_eq i d) [
         | inl e ↦ rw (get_or-set_other places (suc d) i j 0 (omega arith), e) (l, sym is)
         | inr f ↦ let was = s.placed i (omega arith) in rw (get_or-set_other places (suc d) i j 0 (omega arith)) was
@@ -267,6 +270,7 @@ sound_back m laws x path places e seeking probes s =
       path_len = s.path_len;
       places_len = length-set places e (slice_index places e + 1) ∙ s.places_len;
       within = within;
+      begun = λ b. let none = s.begun b in absurd (omega arith);
       placed = λ i b. rw (get_or-set_other places e i (slice_index places e + 1) 0 (omega arith)) (s.placed i (omega arith));
       place = rw there (omega (arith, on.0));
       opens = λ _. laws.front q (p ∷ []) (subst (λ (u : List ℕ). m.is_open u ≡ true) front (s.opens (omega arith)));

@@ -1,8 +1,8 @@
--- A walk passes over choices that lead to no open list: no try is made, and nothing that is left is lost.
-use Rattle.std.proofs.Common.{◌≡◌, ℕ, ◌+◌, ◌<◌, ◌≤◌, ◌-◌, zero, suc, Bool, true, false, List, [], ◌∷◌, ◌++◌, length, take, set, inl, inr, None, Some, refl, sym, ap, ◌∙◌, subst, arith, get_or, get_or-set_same, slice_index_or, append_assoc, length-append, length-take-le}
+-- A walk passes over choices that lead to nothing: nothing that is left is lost.
+use Rattle.std.proofs.Common.{◌≡◌, ℕ, ◌+◌, ◌<◌, ◌≤◌, ◌-◌, zero, suc, Bool, true, false, List, [], ◌∷◌, ◌++◌, length, take, set, inl, inr, Option, None, Some, refl, sym, ap, ◌∙◌, subst, arith, get_or, get_or-set_same, slice_index_or, append_assoc, length-append, length-take-le}
 use Rattle.std.specs.List.{slice_index}
 use Rattle.std.specs.Global.{Vec}
-use Rattle.std.proofs.lemmas.Bool.{cases_order}
+use Rattle.std.proofs.lemmas.Bool.{cases_order, false_from_ne_true, false≢true}
 use Rattle.std.proofs.lemmas.List.{set-set, get_or_default}
 use Rattle.ac_tables.specs.World.{Provider, is_available_at, anchors_of}
 use Rattle.ac_search.specs.Left.Accounts.{providers_in, asked_in}
@@ -15,7 +15,7 @@ use Rattle.ac_rules.specs.Order.{lex_lt}
 use Rattle.ac_rules.specs.Lists.{IsListBelow}
 use Rattle.ac_search.specs.Search.{Search, choices_at, next_at, next_front, left_from, IsDead, AllDead, IsSound}
 use Rattle.ac_search.specs.Shown.Walk.{search_in, front_in}
-use Rattle.ac_search.specs.Search.Steps.{Passes, StepGives, Goes, Gives, Ends}
+use Rattle.ac_search.specs.Search.Steps.{IsTried, Passes, StepGives, Goes, Gives, Ends}
 use Rattle.ac_search.specs.declared.walk.Walk.{Walk}
 use Rattle.ac_search.specs.declared.walk.Step.{Step}
 use Rattle.ac_search.specs.declared.walk.Step.TheVariants.{Given, Went, Ended}
@@ -25,7 +25,7 @@ use Rattle.ac_search.proofs.Search.SoughtLemmas.{IsSearch, low_at}
 use Rattle.ac_search.proofs.Steps.MoveLemmas.{sound_next, forward_next}
 use Rattle.ac_search.proofs.Steps.TryLemmas.{left_dead, closed_dead}
 use Rattle.ac_search.proofs.Roots.KeptLemmas.{kept_choices}
-use Rattle.ac_search.proofs.Steps.StepLemmas.{laws_in, same_then, bounded_then}
+use Rattle.ac_search.proofs.Steps.StepLemmas.{laws_in, same_then, bounded_then, tried_on, rises_later}
 use Rattle.ac_search.proofs.Roots.TreeLemmas.{elsewhere_closed}
 
 -- at place j of depth d it stands as it stood
@@ -43,7 +43,7 @@ passes_over m laws x path places d seeking probes zero j s is within dead =
     let here : slice_index places d < length (choices_at m d) = omega (arith, is, within) in
     let next : j ≡ slice_index places d + 1 = omega (arith, is) in
     rw next (record {
-      sound = sound_next m laws x path path places d seeking probes probes s here refl refl (omega arith);
+      sound = sound_next m laws x path path places d seeking probes probes s here refl refl (omega arith) (omega arith);
       left = left_dead m laws x path places d seeking probes s here (dead (slice_index places d) (omega arith) (omega (arith, is)));
       up = forward_next m laws path places d (omega (arith, s.places_len, s.within)) s.within here;
     })
@@ -52,7 +52,7 @@ passes_over m laws x path places d seeking probes (suc n) j s is within dead =
     let here : p < length (choices_at m d) = omega (arith, is, within) in
     let next = set places d (p + 1) in
     let there : slice_index next d ≡ p + 1 = get_or-set_same places d (p + 1) 0 (omega (arith, s.places_len, s.within)) in
-    let one = sound_next m laws x path path places d seeking probes probes s here refl refl (omega arith) in
+    let one = sound_next m laws x path path places d seeking probes probes s here refl refl (omega arith) (omega arith) in
     let more = passes_over m laws x path next d false probes n j one (omega (arith, is, there)) within (λ i a b. dead i (omega (arith, a, there)) b) in
     let same : set next d j ≡ set places d j = set-set places d (p + 1) j in
     let up = forward_next m laws path places d (omega (arith, s.places_len, s.within)) s.within here in
@@ -64,26 +64,44 @@ passes_over m laws x path places d seeking probes (suc n) j s is within dead =
           (subst (λ (l : List ℕ). lex_lt (next_front m path next d) (next_front m path l d) ≡ true) same more.up);
     }
 
--- ---- A step after it
+-- ---- One pass after another, and a step after it
+
+pub passes_then : (w u v : Walk) → Passes w u → Passes u v → Passes w v
+passes_then w u v a b = record {
+  same = same_then w u v a.same b.same;
+  path = b.path ∙ a.path;
+  depth = b.depth ∙ a.depth;
+  on = let later = rw a.depth at b.on in omega (arith, a.on, later);
+  left = b.left ∙ a.left;
+  up = false_from_ne_true _ (λ back. false≢true (sym a.up ∙ lex_le_trans (front_in u) (front_in v) (front_in w) b.up back));
+  kept = omega (arith, a.kept, b.kept);
+}
+
+-- what it counts as tried is tried still
+tried_passed : (w u : Walk) → Passes w u → (x : Option (List ℕ)) (n : ℕ) → IsTried x n w → IsTried x n u
+tried_passed w u a = tried_on w u (rw (a.path, a.depth) refl) a.kept
 
 goes_passed : (w u v : Walk) → Passes w u → Goes u v → Goes w v
 goes_passed w u v a b = record {
   same = same_then w u v a.same b.same;
   left = b.left ∙ a.left;
   up = lex_le_trans (front_in w) (front_in u) (front_in v) a.up b.up;
-  kept = omega (arith, a.probes, b.kept);
+  kept = omega (arith, a.kept, b.kept);
+  rises = λ deep. rises_later w.probes u.probes v.probes a.kept b.kept (b.rises (omega (arith, a.depth, deep)));
+  tried = λ x n h. b.tried x n (tried_passed w u a x n h);
 }
 
 gives_passed : (w u v : Walk) → Passes w u → Gives u v → Gives w v
 gives_passed w u v a b = record {
   head = sym a.left ∙ b.head;
   bounds = bounded_then w u v (Some v.path.items) a.same b.bounds;
-  kept = omega (arith, a.probes, b.kept);
-  rises = λ h. let rise : u.probes < v.probes = b.rises (omega (arith, a.probes, h)) in omega (arith, a.probes);
+  kept = omega (arith, a.kept, b.kept);
+  rises = rises_later w.probes u.probes v.probes a.kept b.kept b.rises;
+  tried = λ x n h. b.tried x n (tried_passed w u a x n h);
 }
 
 ends_passed : (w u v : Walk) → Passes w u → Ends u v → Ends w v
-ends_passed w u v a b = record { nothing = sym a.left ∙ b.nothing; none = b.none; bounds = bounded_then w u v None a.same b.bounds; kept = omega (arith, a.probes, b.kept) }
+ends_passed w u v a b = record { nothing = sym a.left ∙ b.nothing; none = b.none; bounds = bounded_then w u v None a.same b.bounds; kept = omega (arith, a.kept, b.kept) }
 
 pub step_passed : (r : Step) (w u v : Walk) → Passes w u → StepGives r u v → StepGives r w v
 step_passed Given w u v a b = gives_passed w u v a b

@@ -1,7 +1,7 @@
 -- What a walk searches, where it stands, and what it has left.
-use Rattle.std.specs.Prelude.{◌≡◌, ℕ, ◌*◌, ◌≤◌, List, length, Option, IsSome}
+use Rattle.std.specs.Prelude.{◌≡◌, ℕ, ◌+◌, ◌*◌, ◌≤◌, ◌==◌, min, if◌then◌else◌, List, [], ◌∷◌, length, take, Option, Some, None, IsSome, IfSome}
 use Rattle.std.specs.Option.{option_map}
-use Rattle.ac_base.specs.Devices.{Rises}
+use Rattle.ac_base.specs.Devices.{last_count, Rises}
 use Rattle.ac_query.specs.Asked.{Asked}
 use Rattle.ac_query.specs.Shown.Queries.{asked_of}
 use Rattle.ac_tables.specs.Cloud.CloudWorld.{providers_of}
@@ -22,9 +22,24 @@ query_in w = asked_of w.ledger.query.now
 abbrev pub token_in : Walk → Option (List ℕ)
 token_in w = option_map (λ ids. ids.items) w.after
 
--- how many tries it has made
+-- how many tries it has made: one for each choice that it has looked at
 abbrev pub probes_in : Walk → ℕ
 probes_in w = w.probes
+
+-- the list that it gave last, which is still its path; none where it has tried nothing yet
+abbrev pub given_in : Walk → Option (List ℕ)
+given_in w = if w.probes == 0 then None else Some w.path.items
+
+-- how many items of a list stand from its first difference from another on
+abbrev pub differing : List ℕ → List ℕ → ℕ
+differing [] ys = length ys
+differing (x ∷ xs) [] = 0
+differing (x ∷ xs) (y ∷ ys) = if x == y then differing xs ys else length (y ∷ ys)
+
+-- how many slots of a list are other than in the list before it, from the first such slot on; all of them where there was none
+abbrev pub changed : Option (List ℕ) → List ℕ → ℕ
+changed None y = length y
+changed (Some x) y = differing x y
 
 -- it is of the same cloud, query and token
 pub record IsSame (old new : Walk) : Type 0 where
@@ -34,7 +49,8 @@ pub record IsSame (old new : Walk) : Type 0 where
   pub least : new.least.items ≡ old.least.items
 
 -- What a call of `next` does besides: it has made at most as many tries as there are providers, for each open list between its token and
--- the list that it gave, or the end; and it has made one for a list that it gave, unless their count stands at its end.
+-- the list that it gave, or the end. Where it gave a list it has made a try, and one for each slot from the first on that differs from the
+-- list before it, unless their count stands at its end.
 pub record Tries (old : Walk) (given : Option (List ℕ)) (new : Walk) : Type 0 where
   pub cloud : cloud_in new ≡ cloud_in old
   pub query : query_in new ≡ query_in old
@@ -42,12 +58,18 @@ pub record Tries (old : Walk) (given : Option (List ℕ)) (new : Walk) : Type 0 
   pub bounded : probes_in new ≤ length (cloud_in old) * length (open_between (cloud_in old) (query_in old) (token_in old) given)
   pub kept : probes_in old ≤ probes_in new
   pub rises : IsSome given → Rises (probes_in old) (probes_in new)
+  pub last : IfSome given (λ y. given_in new ≡ Some y)
+  pub tried : IfSome given (λ y. min (probes_in old + changed (given_in old) y) last_count ≤ probes_in new)
 
 -- ---- Private: where it stands
 
 -- the search of its query
 abbrev pub search_in : Walk → Search
 search_in w = search_of (cloud_in w) (query_in w)
+
+-- the providers of its path
+abbrev pub path_in : Walk → List ℕ
+path_in w = take w.depth w.path.items
 
 -- the front that it tries next
 abbrev pub front_in : Walk → List ℕ

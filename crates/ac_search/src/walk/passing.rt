@@ -1,14 +1,16 @@
 //! Choices that a walk passes over, since nothing is lost behind them.
 ghost use Rattle.std.specs.Prelude.{◌≡◌, ◌+◌, ◌<◌, ◌≤◌, ◌++◌, ◌∷◌, [], length, take, true, false, IfSome, slice_index};
+ghost use Rattle.ac_base.specs.Devices.{one_more};
 ghost use Rattle.ac_search.specs.Search.{IsDead, AllDead, choices_at, next_at};
 ghost use Rattle.ac_search.specs.Trees.Keys.{is_there};
 
 use super::Walk;
+use super::trying::one_more;
 use crate::ledger::marks::has_full;
 use crate::trees::bound_by;
 
 impl<'a> Walk<'a> {
-    ghost use Rattle.ac_search.specs.Shown.Walk.{search_in};
+    ghost use Rattle.ac_search.specs.Shown.Walk.{search_in, front_in};
     ghost use Rattle.ac_search.specs.Search.Steps.{Passes};
 
     // Whether some root that may host a candidate has all of the path, and a choice of the slot too.
@@ -104,33 +106,70 @@ impl<'a> Walk<'a> {
                 .falls_short(&self.ledger, &self.path[..self.depth])
     }
 
-    // The least place from the one that is next on whose choice may follow; past the end where there is none.
-    fn next_place(&self) -> usize
-        ensures from { slice_index self.now.places.items self.now.depth ≤ result }
-        ensures within { result ≤ length (choices_at (search_in self.now) self.now.depth) }
-        ensures dead { AllDead (search_in self.now) (take self.now.depth self.now.path.items)
-            self.now.depth (slice_index self.now.places.items self.now.depth) result }
+    // Looks at the next choice: whether there is one, and it can't follow.
+    fn next_is_dead(&self) -> bool
+        ensures among { result ≡ true → slice_index self.now.places.items self.now.depth
+            < length (choices_at (search_in self.now) self.now.depth) }
+        ensures dead { result ≡ true → IsDead (search_in self.now) (front_in self.now) }
     {
-        let end = self.choices[self.depth].len();
-        if self.is_short() {
-            return end;
-        }
-        let provider = bound_by(self.ledger.cloud, &self.path[..self.depth]);
-        let mut place = self.place_beside(provider, self.places[self.depth]);
-        while place < end && !self.may_follow(place) {
-            place = self.place_beside(provider, place + 1);
-        }
-        place
+        let place = self.places[self.depth];
+        place < self.choices[self.depth].len() && !self.may_follow(place)
     }
 
-    // Passes over choices that can't follow.
+    // Goes on to a place of the slot, where nothing is lost up to there. No choice is looked at, so there is no try.
+    fn go_on(&mut self, place: usize)
+        requires from { slice_index self.old.places.items self.old.depth ≤ place }
+        requires within { place ≤ length (choices_at (search_in self.old) self.old.depth) }
+        requires dead { AllDead (search_in self.old) (take self.old.depth self.old.path.items)
+            self.old.depth (slice_index self.old.places.items self.old.depth) place }
+        ensures passes { Passes self.old self.new }
+        ensures probes { self.new.probes ≡ self.old.probes }
+    {
+        if place > self.places[self.depth] {
+            self.places[self.depth] = place;
+            self.seeking = false;
+        }
+    }
+
+    // Goes on to the next choice that may stand beside the path by trees and by parts.
+    fn go_beside(&mut self, provider: Option<u32>)
+        requires { IfSome provider (λ p. is_there (take self.old.depth self.old.path.items) p
+            ≡ true) }
+        ensures passes { Passes self.old self.new }
+        ensures probes { self.new.probes ≡ self.old.probes }
+    {
+        let place = self.place_beside(provider, self.places[self.depth]);
+        self.go_on(place);
+    }
+
+    // Passes over the next choice, which can't follow. It was looked at, so that is a try, and counted.
+    fn pass_over(&mut self)
+        requires among { slice_index self.old.places.items self.old.depth
+            < length (choices_at (search_in self.old) self.old.depth) }
+        requires dead { IsDead (search_in self.old) (front_in self.old) }
+        ensures passes { Passes self.old self.new }
+        ensures on { slice_index self.new.places.items self.new.depth
+            ≡ slice_index self.old.places.items self.old.depth + 1 }
+        ensures probes { self.new.probes ≡ one_more self.old.probes }
+    {
+        let tries = one_more(self.probes);
+        self.skip(tries);
+    }
+
+    // Goes on to the next choice that may follow, or to the end of the slot, and counts each choice that it passes over.
     pub(super) fn pass(&mut self)
         ensures { Passes self.old self.new }
     {
-        let next = self.next_place();
-        if next > self.places[self.depth] {
-            self.places[self.depth] = next;
-            self.seeking = false;
+        if self.is_short() {
+            let end = self.choices[self.depth].len();
+            self.go_on(end);
+            return;
+        }
+        let provider = bound_by(self.ledger.cloud, &self.path[..self.depth]);
+        self.go_beside(provider);
+        while self.next_is_dead() {
+            self.pass_over();
+            self.go_beside(provider);
         }
     }
 }

@@ -73,10 +73,10 @@ impl<'a> Walk<'a> {
     }
 
     // Goes on to the next choice of the slot, after so many tries.
-    fn skip(&mut self, tries: u64)
+    pub(super) fn skip(&mut self, tries: u64)
         requires among { slice_index self.old.places.items self.old.depth
             < length (choices_at (search_in self.old) self.old.depth) }
-        requires tried { tries ≤ self.old.probes + 1 }
+        requires counted { tries ≡ one_more self.old.probes }
         ensures same { IsSame self.old self.new }
         ensures path { self.new.path.items ≡ self.old.path.items }
         ensures depth { self.new.depth ≡ self.old.depth }
@@ -123,8 +123,7 @@ impl<'a> Walk<'a> {
         requires opens { is_open (providers_in self.old.ledger) (asked_in self.old.ledger)
             (take (suc self.old.depth) self.old.path.items) ≡ true }
         requires short { suc self.old.depth < (search_in self.old).width }
-        requires tried { tries ≤ self.old.probes + 1 }
-        requires kept { self.old.probes ≤ tries }
+        requires counted { tries ≡ one_more self.old.probes }
         ensures goes { Goes self.old self.new }
         ensures probes { self.new.probes ≡ tries }
     {
@@ -153,7 +152,7 @@ impl<'a> Walk<'a> {
         self.seeking = false;
     }
 
-    // Tries a provider behind the path, and counts it. No other call counts a try, nor makes one.
+    // Tests a provider behind the path, and counts the try. Choices that are passed over are counted by `pass_over`.
     pub(super) fn probe(&mut self, provider: u32) -> Step
         requires among { slice_index self.old.places.items self.old.depth
             < length (choices_at (search_in self.old) self.old.depth) }
@@ -193,7 +192,7 @@ impl<'a> Walk<'a> {
 }
 
 // A count and one more; it stays where it can't rise.
-fn one_more(count: u64) -> u64
+pub(super) fn one_more(count: u64) -> u64
     ensures { result ≡ one_more count }
 {
     count.saturating_add(1)

@@ -1,34 +1,28 @@
-use Rattle.std.proofs.Common.{◌≡◌, ◌∙◌, ◌<◌, ℕ, set, slice_index, slice_index_or, refl, arith}
-use Rattle.std.proofs.lemmas.List.{get_or_default}
-use Rattle.ac_search.specs.Search.{next_front}
-use Rattle.ac_search.specs.Shown.Walk.{search_in, front_in}
-use Rattle.ac_search.specs.declared.walk.Walk.{Walk}
-use Rattle.ac_rules.proofs.Lists.OrderLemmas.{lex_irrefl, lex_asym}
-use Rattle.ac_search.proofs.Steps.PassLemmas.{stands_behind}
+use Rattle.std.proofs.Common.{◌<◌, ℕ, List, length, take, sym, subst, arith}
+use Rattle.std.specs.List.{All}
+use Rattle.std.proofs.lemmas.List.Elements.{All-from_recursion}
+use Rattle.ac_search.specs.Left.Accounts.{providers_in}
+use Rattle.ac_search.specs.Shown.Walk.{search_in}
+use Rattle.ac_search.proofs.Steps.MoveLemmas.{path_low}
+use Rattle.ac_search.proofs.Steps.StepLemmas.{laws_in}
+use Rattle.ac_search.proofs.Steps.PassLemmas.{choices_many, passes_then}
 use Rattle.ac_search.proofs.walk.Walk.pass.Goals as goal
 
--- a place that was read
-read : (w : Walk) (place : ℕ) → place ≡ slice_index_or w.places.items w.depth place → place ≡ slice_index w.places.items w.depth
-read w place is = is ∙ get_or_default w.places.items w.depth place 0 (omega (arith, w.sound.places_len, w.sound.within))
+pub go_on-requires-clause-from : goal.go_on-requires-clause-from
+go_on-requires-clause-from c = omega (arith, c.args.self.now.sound.place, choices_many c.args.self.now c.index.result.now c.index.ensures, c.len-end.ensures)
 
-pub invariant_of-self : goal.invariant_of-self
-invariant_of-self c =
+pub go_on-requires-clause-within : goal.go_on-requires-clause-within
+go_on-requires-clause-within c = omega (arith, choices_many c.args.self.now c.index.result.now c.index.ensures, c.len-end.ensures)
+
+pub bound_by-provider-requires : goal.bound_by-provider-requires
+bound_by-provider-requires c =
     let w = c.args.self.now in
-    let later : slice_index w.places.items w.depth < c.next_place-next.result = omega (arith, read w c.index.result.now c.index.ensures, c.if-next-index.true) in
-    let stands = stands_behind w c.next_place-next.result later c.next_place-next.ensures.within c.next_place-next.ensures.dead in
-    record { resumed = w.resumed; listed = w.listed; by_tree = w.by_tree; hosting = w.hosting; grouped = w.grouped; looking = w.looking; sound = stands.sound; accounted = w.accounted }
+    subst (λ (l : List ℕ). All (λ p. p < length (providers_in w.ledger)) (take w.depth l)) (sym c.deref.ensures.value)
+    (All-from_recursion (λ p. p < length (providers_in w.ledger)) (take w.depth w.path.items)
+    (path_low (search_in w) (laws_in w) w.least.items w.path.items w.places.items w.depth w.seeking w.probes w.sound))
 
-pub returns-then-next-index : goal.returns-then-next-index
-returns-then-next-index c =
-    let w = c.args.self.now in
-    let later : slice_index w.places.items w.depth < c.next_place-next.result = omega (arith, read w c.index.result.now c.index.ensures, c.if-next-index.true) in
-    let stands = stands_behind w c.next_place-next.result later c.next_place-next.ensures.within c.next_place-next.ensures.dead in
-    record {
-      same = record { cloud = refl; query = refl; after = refl; least = refl };
-      left = stands.left;
-      up = lex_asym (front_in w) (next_front (search_in w) w.path.items (set w.places.items w.depth c.next_place-next.result) w.depth) stands.up;
-      probes = refl;
-    }
-
-pub returns-else-next-index : goal.returns-else-next-index
-returns-else-next-index c = record { same = record { cloud = refl; query = refl; after = refl; least = refl }; left = refl; up = lex_irrefl (front_in c.args.self.now); probes = refl }
+pub loop-provider-preserved : goal.loop-provider-preserved
+loop-provider-preserved c =
+    let v = c.go_beside-in-loop-provider.new.self in
+    passes_then c.args.self.now c.loop-provider.self v c.loop-provider.invariant
+    (passes_then c.loop-provider.self c.pass_over.new.self v c.pass_over.ensures.passes c.go_beside-in-loop-provider.ensures.passes)

@@ -10,7 +10,7 @@ use Rattle.ac_search.specs.declared.walk.Walk.{Walk}
 use Rattle.ac_search.proofs.Search.OpenLemmas.{candidate_completes}
 use Rattle.ac_search.proofs.Steps.PathLemmas.{IsPut}
 use Rattle.ac_search.proofs.Steps.TryLemmas.{put_front, whole_front, left_dead, left_lacking, left_whole}
-use Rattle.ac_search.proofs.Steps.StepLemmas.{laws_in, one_more_kept, one_more_rises, search_same, Stays, stays_put, goes_put, gives_put, Skips, goes_skip, left_skip, bounded_skip, front_after}
+use Rattle.ac_search.proofs.Steps.StepLemmas.{laws_in, search_same, Stays, stays_put, goes_put, gives_put, Skips, kept_skip, rises_skip, tried_skip, goes_skip, left_skip, bounded_skip, front_after}
 use Rattle.ac_search.proofs.walk.Walk.probe.Goals as goal
 
 -- what `put` does
@@ -55,9 +55,16 @@ returns-then-not-stays_open-clause-gives c =
     let v = c.skip.new.self in
     let puts : Puts w u c.args.provider = record { same = c.put.ensures.same; path = c.put.ensures.path; places = c.put.ensures.places; depth = c.put.ensures.depth; probes = c.put.ensures.probes } in
     let put = is_put w u c.args.provider puts c.requires.among c.requires.next in
-    let skips : Skips u v = record { same = c.skip.ensures.same; path = c.skip.ensures.path; depth = c.skip.ensures.depth; places = c.skip.ensures.places; kept = omega (arith, c.skip.ensures.probes, c.one_more-tries.ensures, one_more_kept u.probes); among = put.among } in
+    let skips : Skips u v = record { same = c.skip.ensures.same; path = c.skip.ensures.path; depth = c.skip.ensures.depth; places = c.skip.ensures.places; counted = c.skip.ensures.probes ∙ c.one_more-tries.ensures; among = put.among } in
     let dead : IsDead (search_in u) (front_in u) = subst (IsDead (search_in u)) (tried u put) (c.stays_open.ensures.dead c.if-not-stays_open.true) in
     goes_put w u v (stays w u c.args.provider puts) (goes_skip u v skips (left_dead (search_in u) (laws_in u) u.least.items u.path.items u.places.items u.depth u.seeking u.probes u.sound put.among dead))
+
+pub returns-then-self-len-clause-gives : goal.returns-then-self-len-clause-gives
+returns-then-self-len-clause-gives c =
+    let w = c.args.self.now in
+    let u = c.put.new.self in
+    let puts : Puts w u c.args.provider = record { same = c.put.ensures.same; path = c.put.ensures.path; places = c.put.ensures.places; depth = c.put.ensures.depth; probes = c.put.ensures.probes } in
+    goes_put w u c.place.new.self (stays w u c.args.provider puts) c.place.ensures.goes
 
 pub returns-then-complete-clause-gives : goal.returns-then-complete-clause-gives
 returns-then-complete-clause-gives c =
@@ -67,7 +74,7 @@ returns-then-complete-clause-gives c =
     let m = search_in u in
     let puts : Puts w u c.args.provider = record { same = c.put.ensures.same; path = c.put.ensures.path; places = c.put.ensures.places; depth = c.put.ensures.depth; probes = c.put.ensures.probes } in
     let put = is_put w u c.args.provider puts c.requires.among c.requires.next in
-    let skips : Skips u v = record { same = c.skip-2.ensures.same; path = c.skip-2.ensures.path; depth = c.skip-2.ensures.depth; places = c.skip-2.ensures.places; kept = omega (arith, c.skip-2.ensures.probes, c.one_more-tries.ensures, one_more_kept u.probes); among = put.among } in
+    let skips : Skips u v = record { same = c.skip-2.ensures.same; path = c.skip-2.ensures.path; depth = c.skip-2.ensures.depth; places = c.skip-2.ensures.places; counted = c.skip-2.ensures.probes ∙ c.one_more-tries.ensures; among = put.among } in
     let last : suc u.depth ≡ m.width = omega (arith, u.sound.path_len, u.sound.within, u.path.ok, c.if-self-len.false, c.len.ensures) in
     let opens = c.stays_open.ensures.opens c.if-not-stays_open.false in
     let wants : m.is_wanted (front_in u) ≡ true = wanted u c.is_complete-complete.result put last opens c.is_complete-complete.ensures ∙ c.if-complete.true in
@@ -76,8 +83,9 @@ returns-then-complete-clause-gives c =
       head = left_whole m (laws_in u) u.least.items u.path.items u.places.items u.depth u.seeking u.probes u.sound put.among last wants
           ∙ (ap (λ (y : List ℕ). y ∷ left_from m u.least.items (front_after u)) path ∙ ap (λ (ls : List (List ℕ)). v.path.items ∷ ls) (sym (left_skip u v skips)));
       bounds = bounded_skip u v skips last put.put;
-      kept = skips.kept;
-      rises = λ l. let rise = one_more_rises u.probes l in omega (arith, c.skip-2.ensures.probes, c.one_more-tries.ensures);
+      kept = kept_skip u v skips;
+      rises = rises_skip u v skips;
+      tried = tried_skip u v skips last;
     })
 
 pub returns-else-complete-clause-gives : goal.returns-else-complete-clause-gives
@@ -88,7 +96,7 @@ returns-else-complete-clause-gives c =
     let m = search_in u in
     let puts : Puts w u c.args.provider = record { same = c.put.ensures.same; path = c.put.ensures.path; places = c.put.ensures.places; depth = c.put.ensures.depth; probes = c.put.ensures.probes } in
     let put = is_put w u c.args.provider puts c.requires.among c.requires.next in
-    let skips : Skips u v = record { same = c.skip-2.ensures.same; path = c.skip-2.ensures.path; depth = c.skip-2.ensures.depth; places = c.skip-2.ensures.places; kept = omega (arith, c.skip-2.ensures.probes, c.one_more-tries.ensures, one_more_kept u.probes); among = put.among } in
+    let skips : Skips u v = record { same = c.skip-2.ensures.same; path = c.skip-2.ensures.path; depth = c.skip-2.ensures.depth; places = c.skip-2.ensures.places; counted = c.skip-2.ensures.probes ∙ c.one_more-tries.ensures; among = put.among } in
     let last : suc u.depth ≡ m.width = omega (arith, u.sound.path_len, u.sound.within, u.path.ok, c.if-self-len.false, c.len.ensures) in
     let opens = c.stays_open.ensures.opens c.if-not-stays_open.false in
     let lacks : m.is_wanted (front_in u) ≡ false = wanted u c.is_complete-complete.result put last opens c.is_complete-complete.ensures ∙ c.if-complete.false in

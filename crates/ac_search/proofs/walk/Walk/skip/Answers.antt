@@ -1,6 +1,7 @@
 use Rattle.std.proofs.Common.{◌≡◌, slice_index, refl, arith, ◌∙◌}
 use Rattle.std.proofs.lemmas.List.{get_or_default}
 use Rattle.ac_search.specs.Shown.Walk.{search_in}
+use Rattle.ac_search.proofs.Steps.ChangeLemmas.{one_more_kept, one_more_most}
 use Rattle.ac_search.proofs.Steps.MoveLemmas.{sound_next}
 use Rattle.ac_search.proofs.Steps.StepLemmas.{few_providers, laws_in}
 use Rattle.ac_search.proofs.walk.Walk.skip.Goals as goal
@@ -24,5 +25,5 @@ invariant_of-self c =
       grouped = w.grouped;
       looking = w.looking;
       accounted = w.accounted;
-      sound = rw place (sound_next (search_in w) (laws_in w) w.least.items w.path.items w.path.items w.places.items w.depth w.seeking w.probes c.args.tries w.sound c.requires.among refl refl c.requires.tried);
+      sound = rw place (sound_next (search_in w) (laws_in w) w.least.items w.path.items w.path.items w.places.items w.depth w.seeking w.probes c.args.tries w.sound c.requires.among refl refl (omega (arith, c.requires.counted, one_more_most w.probes)) (omega (arith, c.requires.counted, one_more_kept w.probes)));
     }

@@ -1,10 +1,11 @@
-use Rattle.std.proofs.Common.{◌≡◌, ℕ, ◌+◌, ◌-◌, ◌<◌, suc, true, slice_index, set, arith, sym, ◌∙◌, subst, refl}
+use Rattle.std.proofs.Common.{◌≡◌, ℕ, ◌+◌, ◌-◌, ◌<◌, ◌≤◌, suc, true, List, Option, take, slice_index, set, arith, sym, ◌∙◌, subst, refl}
 use Rattle.std.proofs.lemmas.List.{get_or_default}
 use Rattle.ac_rules.specs.Order.{lex_lt}
 use Rattle.ac_search.specs.Search.{IsSound, next_front, left_from}
-use Rattle.ac_search.specs.Shown.Walk.{search_in}
+use Rattle.ac_search.specs.Shown.Walk.{search_in, changed}
 use Rattle.ac_search.specs.declared.walk.Walk.{Walk}
-use Rattle.ac_search.proofs.Steps.MoveLemmas.{sound_back, left_back, forward_back}
+use Rattle.ac_search.proofs.Steps.ChangeLemmas.{changed_less, fewer_paid}
+use Rattle.ac_search.proofs.Steps.MoveLemmas.{sound_back, left_back, forward_back, front_back}
 use Rattle.ac_search.proofs.Steps.PathLemmas.{placed_low}
 use Rattle.ac_search.proofs.Steps.StepLemmas.{few_providers, laws_in}
 use Rattle.ac_search.proofs.walk.Walk.take_back.Goals as goal
@@ -52,6 +53,7 @@ returns-clause-goes c =
     let deep : suc e ≡ w.depth = omega (arith, c.requires.deep) in
     let on = s.placed e (omega arith) in
     let place : c.index_mut.result.now ≡ slice_index w.places.items e = c.index_mut.ensures.value ∙ get_or_default w.places.items e c.index_mut.result.now 0 (omega (arith, s.places_len, s.within)) in
+    let less : (x : Option (List ℕ)) → changed x (take e w.path.items) ≤ changed x (take (suc e) w.path.items) = λ x. rw (front_back w.path.items e (omega (arith, s.path_len, s.within))) (changed_less x (take e w.path.items) (slice_index w.path.items e)) in
     let after = next_front m w.path.items (set w.places.items e (slice_index w.places.items e + 1)) e in
     record {
       same = record { cloud = c.give_back.ensures.same.cloud; query = c.give_back.ensures.same.query; after = refl; least = refl };
@@ -60,4 +62,6 @@ returns-clause-goes c =
       up = rw (c.give_back.ensures.same.cloud, c.give_back.ensures.same.query, place) (subst (λ (d : ℕ). lex_lt (next_front m w.path.items w.places.items d) after ≡ true) deep
           (forward_back m (laws_in w) w.path.items w.places.items e (omega (arith, s.path_len, s.within)) (omega (arith, s.places_len, s.within)) (omega (arith, s.within)) on.0 on.1));
       kept = omega arith;
+      rises = λ deep. absurd (omega (arith, c.requires.deep));
+      tried = λ x n h. fewer_paid (n + changed x (take (suc e) w.path.items)) (n + changed x (take e w.path.items)) w.probes (omega (arith, less x)) (rw deep h);
     }
