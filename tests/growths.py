@@ -22,13 +22,14 @@ def refuser(folder):
     return library
 
 
-def run(words, library, number):
-    """What came on both streams, the status, and whether the growth of this number was refused."""
+def run(words, library, number, mark=0):
+    """What came on both streams, the status, and how many growths were refused: the one of this number, and each from one of the size of the mark
+    up to the next of that size, both of them too."""
     read, write = os.pipe()
     ran = subprocess.run(words, capture_output=True, pass_fds=(write,),
-                         env={**os.environ, 'LD_PRELOAD': library, 'REFUSE': str(number), 'REFUSED': str(write)})
+                         env={**os.environ, 'LD_PRELOAD': library, 'REFUSE': str(number), 'REFUSE_BETWEEN': str(mark), 'REFUSED': str(write)})
     os.close(write)
-    refused = os.read(read, 1) != b''
+    refused = len(os.read(read, MOST))
     os.close(read)
     return ran.stdout, ran.stderr, ran.returncode, refused
 

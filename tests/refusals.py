@@ -4,6 +4,9 @@ one growth of its memory, the first, the second and so on, until a run needs no 
 call answers as it does with ample memory, or says want of memory, and fails where it answers anything else. Says which growth made which test fail, or
 how many growths there were.
 
+A test named `.._takes_no_memory_to_go_on` asks for two growths of the size MARK. It is run once more with each growth from the first of them up to the
+second refused: it has to pass, and to have asked for these two alone.
+
 The tests are those that were proved and built last, crates/CRATE/out/CRATE_tests: `rt ci` leaves them, and `rt test` makes them."""
 from __future__ import annotations
 
@@ -16,6 +19,9 @@ import tempfile
 
 from growths import MOST, refuser, run
 
+# The size that the tests' own MARK names.
+MARK = 40961
+GOES_ON = '_takes_no_memory_to_go_on'
 ROOT = os.path.dirname(os.path.dirname(os.path.abspath(__file__)))
 
 
@@ -48,6 +54,14 @@ def failed(program, name, library):
     return f'{name} has no end', MOST
 
 
+def took(program, name, library):
+    """What a test did where it was to take no memory, or None."""
+    _, err, status, refused = run([program, name], library, 0, MARK)
+    if status != 0:
+        return f'{name} fails where each growth between its marks is refused: {err[-300:]!r}'
+    return None if refused == 2 else f'{name} was refused {refused} growths from its first mark to its last, and not these two alone'
+
+
 def main(crate, module=''):
     program = os.path.join(ROOT, 'crates', crate, 'out', f'{crate}_tests')
     why = missing(crate, program)
@@ -58,11 +72,11 @@ def main(crate, module=''):
     with tempfile.TemporaryDirectory() as folder:
         library = refuser(folder)
         found = [failed(program, name, library) for name in names]
-    for why, _ in found:
-        if why:
-            print(why)
-    print(f'{len(names)} tests, {sum(count for _, count in found)} growths, each refused once')
-    return 0 if names and not any(why for why, _ in found) else 1
+        more = [took(program, name, library) for name in names if name.endswith(GOES_ON)]
+    wrong = [why for why in [*(why for why, _ in found), *more] if why]
+    print(*wrong, sep='\n', end='\n' if wrong else '')
+    print(f'{len(names)} tests, {sum(count for _, count in found)} growths, each refused once; {len(more)} tests with all growths refused in between')
+    return 0 if names and not wrong else 1
 
 
 if __name__ == '__main__':

@@ -1,5 +1,6 @@
-/* Put before a program by LD_PRELOAD, this refuses the growth of memory whose number stands in REFUSE, counted from 1, grants all others, and says
-   on the descriptor in REFUSED that it has refused. */
+/* Put before a program by LD_PRELOAD, this refuses the growth of memory whose number stands in REFUSE, counted from 1; and each growth from one of
+   the size in REFUSE_BETWEEN up to the next of this size, both of them too. It grants all others, and says on the descriptor in REFUSED how often it
+   has refused, by a byte each time. */
 #include <stddef.h>
 #include <stdlib.h>
 #include <unistd.h>
@@ -7,22 +8,39 @@
 extern void *__libc_malloc(size_t size);
 extern void *__libc_realloc(void *block, size_t size);
 
-static int is_refused(void)
+static int is_numbered(void)
 {
     static long grown;
-    const char *number = getenv("REFUSE"), *said = getenv("REFUSED");
+    const char *number = getenv("REFUSE");
 
-    if (!number || !said || ++grown != atol(number))
-        return 0;
-    return write(atoi(said), "!", 1) >= 0;
+    return number && ++grown == atol(number);
+}
+
+static int is_between(size_t size)
+{
+    static int refusing;
+    const char *mark = getenv("REFUSE_BETWEEN");
+
+    if (!mark || !size || size != (size_t) atol(mark))
+        return refusing;
+    refusing = !refusing;
+    return 1;
+}
+
+static int is_refused(size_t size)
+{
+    const char *said = getenv("REFUSED");
+    int numbered = is_numbered(), between = is_between(size);
+
+    return said && (numbered || between) && write(atoi(said), "!", 1) >= 0;
 }
 
 void *malloc(size_t size)
 {
-    return is_refused() ? NULL : __libc_malloc(size);
+    return is_refused(size) ? NULL : __libc_malloc(size);
 }
 
 void *realloc(void *block, size_t size)
 {
-    return is_refused() ? NULL : __libc_realloc(block, size);
+    return is_refused(size) ? NULL : __libc_realloc(block, size);
 }

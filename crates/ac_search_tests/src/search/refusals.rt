@@ -1,4 +1,5 @@
-//! What takes memory, made with each of its growths refused in turn: all candidates, the counts of trees, or want of memory. What a source gives takes none.
+//! What takes memory, made with each of its growths refused in turn: all candidates, the counts of trees, or want of memory. What a source gives
+//! takes none, so it is given with all growths refused too.
 use crate::clouds::{PAIR, cloud_of, query_of};
 use ac_base::NoMemory;
 use ac_query::{Query, Token};
@@ -34,6 +35,13 @@ fn gives_both<S: Source>(rt: &impl Abort, source: &mut S) {
     assert!(rt; source.next().is_none(), "the end");
 }
 
+// The size of a growth that no other call asks for: where `tests/refusals.py` says so, each growth is refused from one of this size up to the next.
+const MARK: usize = 40_961;
+
+fn mark(alloc: Global) -> Result<Vec<u8>, AllocError> {
+    Vec::with_capacity(alloc, MARK)
+}
+
 #[test]
 fn plain(rt: HostRuntime) {
     let Ok(Some((cloud, query, token))) = given(rt.alloc()) else {
@@ -54,6 +62,32 @@ fn walk(rt: HostRuntime) {
         Ok(mut walk) => gives_both(&rt, &mut walk),
         Err(fault) => assert_eq!(rt; fault, NoMemory),
     }
+}
+
+#[test]
+fn plain_takes_no_memory_to_go_on(rt: HostRuntime) {
+    let Ok(Some((cloud, query, token))) = given(rt.alloc()) else {
+        return;
+    };
+    let Ok(mut plain) = Plain::new(rt.alloc(), &cloud, &query, Some(&token)) else {
+        return;
+    };
+    let _first = mark(rt.alloc());
+    gives_both(&rt, &mut plain);
+    let _last = mark(rt.alloc());
+}
+
+#[test]
+fn walk_takes_no_memory_to_go_on(rt: HostRuntime) {
+    let Ok(Some((cloud, query, token))) = given(rt.alloc()) else {
+        return;
+    };
+    let Ok(mut walk) = Walk::new(rt.alloc(), &cloud, &query, Some(&token)) else {
+        return;
+    };
+    let _first = mark(rt.alloc());
+    gives_both(&rt, &mut walk);
+    let _last = mark(rt.alloc());
 }
 
 #[test]
