@@ -208,6 +208,8 @@ GROWTHS = [
 REFUSALS = [Case(f'each growth refused, in the tests of {name}', ['sh', '-c', f'exec python3 -B tests/refusals.py {name}'], SOME)
             for name in ('ac_read_tests', 'ac_search_tests search::', 'ac_search_tests report::', 'ac_run_tests')]
 
+KNOWN = Case('a fault is told though a growth behind it is refused', ['sh', '-c', 'exec python3 -B tests/known_faults.py "$0"', PROGRAM], SOME)
+
 
 def status_of(text):
     """The status that comes with a text: an answer, or a fault line."""
@@ -323,7 +325,7 @@ def main(*given):
     pages = [case for page in ('README.md', 'examples/README.md', 'docs/RULES.md', 'docs/FORMATS.md', 'docs/EXPORT.md')
              for case in shown(page)]
     chance = [*drawn(150), *drawn_tables(200), *drawn_queries(200)]
-    cases = [PAGES, DRAWING, *HELP, *WORDS, *FILES, *DEVICES, *GROWTHS, *REFUSALS, *SMALL, *pages, *rules, *exports(), *database_exports(), *chance,
+    cases = [PAGES, DRAWING, *HELP, *WORDS, *FILES, *DEVICES, *GROWTHS, KNOWN, *REFUSALS, *SMALL, *pages, *rules, *exports(), *database_exports(), *chance,
              *LARGE, *hostile(PROGRAM), FEW_BYTES, *cuts()]
     cases = [case for case in cases if all(word in case.name for word in words)]
     failed = 0

@@ -20,7 +20,7 @@ pub use Rattle.ac_tables.specs.Reader.Listings.{IsFirst, IsFirstBelow}
 pub use Rattle.ac_tables.specs.Reader.ListsOf.{lists_of}
 pub use Rattle.ac_tables.specs.Reader.ProviderLaws.{provider_shown}
 pub use Rattle.ac_tables.specs.Reader.RecordLaws.{eq_turned, lone_checks, same_place}
-pub use Rattle.ac_tables.specs.Reader.TableRows.{AreStarts, IsKeyed, IsLeast, IsLeastBelow, IsLeastRepeat, IsReadSoFar, IsStart, IsTable, row_cmp, row_lt, row_shown, row_ties, sooner}
+pub use Rattle.ac_tables.specs.Reader.TableRows.{AreStarts, AreTiesRising, IsKeyed, IsLeast, IsLeastBelow, IsLeastRepeat, IsReadSoFar, IsStart, IsTable, row_cmp, row_lt, row_shown, row_ties, is_past, sooner}
 pub use Rattle.ac_tables.specs.Sorted.{TextMap, map_of, rising}
 pub use Rattle.ac_tables.specs.Tables.{Tables, aggregates_of, amounts_of, gathered, inventories_of, names_of, records_or_header, with_used}
 pub use Rattle.ac_tables.specs.Tables.AggregateTable.{AggregateRecord, aggregates_said}

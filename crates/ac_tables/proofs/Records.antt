@@ -3,7 +3,6 @@ pub mod AllFaults
 pub mod IdsFit
 pub mod InventoryLists
 pub mod KnownFacts
-pub mod Limits
 pub mod ProviderIds
 pub mod ProviderRecords
 pub mod ProviderFaults

@@ -130,12 +130,12 @@ impl From<NoMemory> for RecordFault {
     }
 }
 
-impl<T: Drop> From<AllocFailed<T>> for RecordFault {
+impl From<AllocError> for RecordFault {
     ghost use Rattle.ac_tables.specs.declared.fault.RecordFault.TheVariants.{NoMemory as refused};
 
     ghost from_gives = { λ _ fault. fault ≡ refused };
 
-    fn from(_error: AllocFailed<T>) -> RecordFault {
+    fn from(_error: AllocError) -> RecordFault {
         RecordFault::NoMemory
     }
 }

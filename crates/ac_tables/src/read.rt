@@ -49,8 +49,8 @@ impl Cloud {
 
     /// Reads the tables, each of at most 67108864 bytes.
     ///
-    /// The fault is the first in the order of the tables and their checks; a fault that comes before a refused growth
-    /// is told instead of it.
+    /// The fault is the first in the order of the tables and their checks. Where a growth is refused, a fault that stands
+    /// before it is told instead. The growths that are needed to find a fault of the trees stand before that fault.
     pub fn read(alloc: Global, src: &Sources) -> Result<Cloud, TableFault>
         requires { AreFew src.now }
         ensures world { IfOk result (λ cloud. world_of cloud ≡ world_stated (tables_of src.now)) }

@@ -1,9 +1,12 @@
 -- Rows in order, and the first fault of their records.
-use Rattle.ac_tables.proofs.Common.{◌≡◌, ◌∙◌, ◌+◌, ◌<◌, ◌≤◌, ◌++◌, ℕ, Bool, true, false, List, [], ◌∷◌, map, length, get_or, take, Option, Some, None, refl, sym, ap, ap₂, subst, arith, inl, inr, not, ◌&&◌, Ordering, nat_cmp, ordering_then, is_eq, IsTotalOrder, list_any, IsPermutation, IsSortedBy, IsStableBy, cases_Bool, append-nil, length-append, length-map, get_or-map, get_or_append_left, length-take-le, list_any_at, get_or-append_seam, All-permutation, length_permutation, Row, Check, rows_fault, row_lt, row_ties, row_shown, IsLeastRepeat, IsKeyed, IsTable, TableRow, Table, TableKind, first_failing, row_cmp, IsDistinct-from_sorted, eq_by_cmp_equiv, IsPermutation-sym}
+use Rattle.ac_tables.proofs.Common.{◌≡◌, ◌∙◌, ◌+◌, ◌<◌, ◌≤◌, ◌++◌, ℕ, Bool, true, false, List, [], ◌∷◌, map, length, get_or, take, Option, Some, None, refl, sym, ap, ap₂, subst, arith, rules, inl, inr, not, ◌&&◌, Ordering, nat_cmp, ordering_then, is_eq, IsTotalOrder, list_any, IsPermutation, IsSortedBy, AreTiesRising, Result, Ok, Err, RecordFault, is_past, ◌-◌, cases_lt, cases_Bool, append-nil, length-append, length-map, get_or-map, get_or_append_left, length-take-le, list_any_at, get_or-append_seam, All-permutation, length_permutation, Row, Check, Tells, rows_fault, row_lt, row_ties, row_shown, IsLeastRepeat, IsKeyed, IsTable, TableRow, Table, TableKind, first_failing, row_cmp, IsDistinct-from_sorted, eq_by_cmp_equiv, IsPermutation-sym}
 use Rattle.std.proofs.lemmas.List.{get_or-take, take-map, take-append-le, take_all}
 use Rattle.std.proofs.lemmas.List.Folds.{list_any_none}
 use Rattle.ac_tables.specs.Reader.TableRows.{Stops, IsReadUpTo}
+use Rattle.ac_tables.specs.Tables.Checks.{fault_at}
+use Rattle.ac_tables.specs.declared.fault.RecordFault.TheVariants as record_fault
 use Rattle.ac_tables.specs.declared.fault.TableKind.TheVariants as kind
+use Rattle.ac_tables.proofs.Small.{clash}
 use Rattle.ac_tables.specs.declared.fault.TableFault.TheVariants as fault
 use Rattle.std.proofs.lemmas.Bool.{and_left, and_right, false_from_ne_true}
 use Rattle.std.proofs.lemmas.List.Elements.{All-from_get_or}
@@ -13,15 +16,19 @@ use Rattle.ac_tables.proofs.Sorted.SearchFacts.{any_map}
 use Rattle.ac_tables.proofs.Sorted.SortedTies.{Sorting, none_sooner, repeated, with_head}
 use Rattle.ac_tables.proofs.Gathered.JoinedFault.{checks_at, joined_none, joined_at}
 
-no_more : (alone : Row → List Check) (left : List Row) → Stops alone left None → left ≡ []
-no_more alone [] h = refl
-no_more alone (row ∷ rows) h = absurd h
+no_more : (alone : Row → List Check) (past : Bool) (left : List Row) (u : Unit {0}) → past ≡ false → Stops alone past left (Ok u) → left ≡ []
+no_more alone past [] u e h = refl
+no_more alone past (row ∷ rows) u e h = absurd (cc (e, h))
 
-module _ {V K X : Type 0} (t : Table) (says : Row → V) (checks : List V → Row → List Check) (alone : Row → List Check) (same : V → V → Bool) (shown : ℕ → K → X → V) (count : ℕ) (unique : Bool)
-    (cmp : K → K → Ordering) (total : IsTotalOrder cmp) (keyed : IsKeyed says checks alone same)
+none_past : (most : Option ℕ) → is_past most 0 ≡ false
+none_past None = refl
+none_past (Some m) = search (arith, rules)
+
+module _ {V K X : Type 0} (t : Table) (says : Row → V) (checks : List V → Row → List Check) (alone : Row → List Check) (same : V → V → Bool) (shown : ℕ → K → X → V) (count : ℕ) (unique : Bool) (most : Option ℕ)
+    (cmp : K → K → Ordering) (total : IsTotalOrder cmp) (keyed : IsKeyed most says checks alone same)
     (apart : (p q : ℕ) (k l : K) (x y : X) → p < count → q < count → same (shown q l y) (shown p k x) ≡ (unique && is_eq (ordering_then (nat_cmp p q) (cmp k l))))
-    (all : List Row) (read rows : List (TableRow K X)) (first : Option TableKind) (r : IsReadUpTo says alone shown count all read first)
-    (sorted : IsSortedBy (row_lt cmp) rows) (stable : IsStableBy (row_lt cmp) read rows) (moved : IsPermutation read rows) where
+    (all : List Row) (read rows : List (TableRow K X)) (ended : Result (Unit {0}) RecordFault) (r : IsReadUpTo says alone shown count most all read ended)
+    (sorted : IsSortedBy (row_lt cmp) rows) (ties : AreTiesRising (row_ties cmp) (λ (a : TableRow K X). a.number) rows) (moved : IsPermutation read rows) where
   sized : length read ≡ length r.so_far.done
   sized = sym (length-map read (row_shown shown)) ∙ ap length r.so_far.said ∙ length-map r.so_far.done says
 
@@ -54,51 +61,79 @@ module _ {V K X : Type 0} (t : Table) (says : Row → V) (checks : List V → Ro
       ap (λ (a : TableRow K X). same (row_shown shown (get_or read j d)) (row_shown shown a)) (get_or-take j read i d less)
       ∙ apart _ _ _ _ _ _ (r.so_far.inside i d (omega arith)) (r.so_far.inside j d h)
 
-  fine_at : (i : ℕ) → i < length read → ((k : ℕ) (d : TableRow K X) → k < i → (unique && row_ties cmp (get_or read k d) (get_or read i d)) ≡ false)
-      → first_failing (checks_at t says checks all i) ≡ None
-  fine_at i inside none = with_head read _ (omega (arith, inside)) (λ d.
-      keyed.fresh (map says (take i all)) (get_or all i []) (any_before i d inside
+  -- none of the earlier rows has the key of this one
+  abbrev IsNew : ℕ → Type 0
+  IsNew i = (k : ℕ) (d : TableRow K X) → k < i → (unique && row_ties cmp (get_or read k d) (get_or read i d)) ≡ false
+
+  new_at : (i : ℕ) → i < length read → IsNew i → list_any (same (says (get_or all i []))) (map says (take i all)) ≡ false
+  new_at i inside new = with_head read _ (omega (arith, inside)) (λ d.
+      any_before i d inside
       ∙ list_any_none _ (take i read) (All-from_get_or (λ (a : TableRow K X). same (row_shown shown (get_or read i d)) (row_shown shown a) ≡ false) (take i read) d (λ k below.
       let here : k < i = omega (arith, below, length-take-le i read (omega arith)) in
-      same_at k i d here inside ∙ none k d here)))
-      ∙ alone_at i inside)
+      same_at k i d here inside ∙ new k d here)))
 
-  -- no two tie: no record has a fault
-  fine_all : (unique ≡ true → IsLeastRepeat cmp rows None) → (i : ℕ) → i < length read → first_failing (checks_at t says checks all i) ≡ None
-  fine_all once i inside = fine_at i inside (λ k d less. elim (cases_Bool unique) [
+  -- how many records stand before one, and with it
+  before_past : (i : ℕ) → i < length read → is_past most (length (map says (take i all)) + 1) ≡ is_past most (i + 1)
+  before_past i inside =
+      let here : i ≤ length all = omega (arith, inside, sized, ap length r.so_far.whole, length-append r.so_far.done r.left) in
+      ap (λ n. is_past most (n + 1)) (length-map (take i all) says ∙ length-take-le i all here)
+
+  fine_at : (i : ℕ) → i < length read → is_past most (i + 1) ≡ false → IsNew i → first_failing (checks_at t says checks all i) ≡ None
+  fine_at i inside within new = keyed.fresh (map says (take i all)) (get_or all i []) (new_at i inside new) (before_past i inside ∙ within) ∙ alone_at i inside
+
+  -- no two tie
+  all_new : (unique ≡ true → IsLeastRepeat cmp rows None) → (i : ℕ) → i < length read → IsNew i
+  all_new once i inside = λ k d less. elim (cases_Bool unique) [
     | inl is ↦
         let strict = IsDistinct-from_sorted (row_cmp cmp) rows (rows_strict total rows sorted (once is)) in
         let flips = (eq_by_cmp_equiv (row_total {X = X} total)).symm in
         and_right _ _ (apart_from_distinct (row_ties cmp) read k i d (IsDistinct-IsPermutation (row_ties cmp) flips rows read (IsPermutation-sym read rows moved) strict) less inside)
     | inr not ↦ and_left _ _ not
-  ])
+  ]
 
-  nothing_left : first ≡ None → r.left ≡ []
-  nothing_left none = no_more alone r.left (subst (λ (o : Option TableKind). Stops alone r.left o) none r.stopped)
+  -- the rows that were read are not too many
+  abbrev pub Fits : Type 0
+  Fits = is_past most (length rows) ≡ false
 
-  whole : first ≡ None → r.so_far.done ≡ all
-  whole none = sym (append-nil r.so_far.done) ∙ ap (λ l. r.so_far.done ++ l) (sym (nothing_left none)) ∙ sym r.so_far.whole
+  read_past : is_past most (length rows) ≡ is_past most (length read)
+  read_past = ap (is_past most) (length_permutation read rows moved)
 
-  pub gathered_fine : first ≡ None → (unique ≡ true → IsLeastRepeat cmp rows None) → rows_fault t says checks [] all ≡ None
-  gathered_fine none once = joined_none t says checks all (λ i h. fine_all once i (omega (arith, h, sized, ap length (whole none))))
+  -- then no record of them has a fault
+  fine_all : Fits → (unique ≡ true → IsLeastRepeat cmp rows None) → (i : ℕ) → i < length read → first_failing (checks_at t says checks all i) ≡ None
+  fine_all fits once i inside = fine_at i inside within (all_new once i inside)
+    where
+      within : is_past most (i + 1) ≡ false
+      within = elim (cases_lt (i + 1) (length read)) [
+        | inl less ↦ r.so_far.within (i + 1) less
+        | inr last ↦ (let same : length read ≡ i + 1 = omega (arith, last, inside) in ap (is_past most) (sym same) ∙ sym read_past ∙ fits)
+      ]
 
-  pub gathered_table : first ≡ None → (unique ≡ true → IsLeastRepeat cmp rows None) → IsTable cmp shown count unique (map says all) rows
-  gathered_table none once =
+  nothing_left : (u : Unit {0}) → ended ≡ Ok u → Fits → r.left ≡ []
+  nothing_left u is fits = no_more alone (is_past most (length read)) r.left u (sym read_past ∙ fits) (subst (λ (o : Result (Unit {0}) RecordFault). Stops alone (is_past most (length read)) r.left o) is r.stopped)
+
+  whole : (u : Unit {0}) → ended ≡ Ok u → Fits → r.so_far.done ≡ all
+  whole u is fits = sym (append-nil r.so_far.done) ∙ ap (λ l. r.so_far.done ++ l) (sym (nothing_left u is fits)) ∙ sym r.so_far.whole
+
+  pub gathered_fine : (u : Unit {0}) → ended ≡ Ok u → Fits → (unique ≡ true → IsLeastRepeat cmp rows None) → rows_fault t says checks [] all ≡ None
+  gathered_fine u is fits once = joined_none t says checks all (λ i h. fine_all fits once i (omega (arith, h, sized, ap length (whole u is fits))))
+
+  pub gathered_table : (u : Unit {0}) → ended ≡ Ok u → Fits → (unique ≡ true → IsLeastRepeat cmp rows None) → IsTable cmp shown count unique (map says all) rows
+  gathered_table u is fits once =
       record {
         read = read;
-        shows = r.so_far.said ∙ ap (map says) (whole none);
+        shows = r.so_far.said ∙ ap (map says) (whole u is fits);
         same = moved;
         sorted = sorted;
         numbered = r.so_far.numbered;
         inside = All-permutation (λ (a : TableRow K X). a.place < count) read rows moved r.so_far.inside;
-        strict = λ is. rows_strict total rows sorted (once is);
+        strict = λ one. rows_strict total rows sorted (once one);
       }
 
   -- the fault that a record has alone
-  pub gathered_alone : (k : TableKind) (n : ℕ) → first ≡ Some k → (unique ≡ true → IsLeastRepeat cmp rows None) → n ≡ length read + 2 → rows_fault t says checks [] all ≡ Some (fault.At t n k)
-  gathered_alone k n is once e = at r.left (subst (λ (o : Option TableKind). Stops alone r.left o) is r.stopped) refl
+  gathered_alone : (k : TableKind) (n : ℕ) → ended ≡ Err (record_fault.Kind k) → Fits → (unique ≡ true → IsLeastRepeat cmp rows None) → n ≡ length read + 2 → rows_fault t says checks [] all ≡ Some (fault.At t n k)
+  gathered_alone k n is fits once e = at r.left (subst (λ (o : Result (Unit {0}) RecordFault). Stops alone (is_past most (length read)) r.left o) is r.stopped) refl
     where
-      at : (left : List Row) → Stops alone left (Some k) → r.left ≡ left → rows_fault t says checks [] all ≡ Some (fault.At t n k)
+      at : (left : List Row) → Stops alone (is_past most (length read)) left (Err (record_fault.Kind k)) → r.left ≡ left → rows_fault t says checks [] all ≡ Some (fault.At t n k)
       at [] h next = absurd h
       at (row ∷ after) h next =
           let parts : all ≡ r.so_far.done ++ row ∷ after = r.so_far.whole ∙ ap (λ l. r.so_far.done ++ l) next in
@@ -106,8 +141,28 @@ module _ {V K X : Type 0} (t : Table) (says : Row → V) (checks : List V → Ro
           let before : take (length r.so_far.done) all ≡ r.so_far.done =
           ap (take (length r.so_far.done)) parts ∙ take-append-le _ r.so_far.done (row ∷ after) (omega arith) ∙ take_all (length r.so_far.done) r.so_far.done (omega arith) in
           joined_at t says checks all (length r.so_far.done) n k (omega (arith, ap length parts, length-append r.so_far.done (row ∷ after))) (omega (arith, e, sized))
-          (λ i lower. fine_all once i (omega (arith, lower, sized)))
+          (λ i lower. fine_all fits once i (omega (arith, lower, sized)))
           (ap₂ (λ l row. first_failing (checks (map says l) row)) before here ∙ keyed.first r.so_far.done row k r.so_far.fine h)
+
+  pub gathered_told : (e : RecordFault) (n : ℕ) → ended ≡ Err e → Fits → (unique ≡ true → IsLeastRepeat cmp rows None) → n ≡ length read + 2 → Tells (rows_fault t says checks [] all) (fault_at t n e)
+  gathered_told (record_fault.Kind k) n is fits once e = gathered_alone k n is fits once e
+  gathered_told record_fault.NoMemory n is fits once e = tt
+
+  -- the last record that was read is one too many
+  pub gathered_past : (n : ℕ) → is_past most (length rows) ≡ true → (unique ≡ true → IsLeastRepeat cmp rows None) → n ≡ length read + 1 → rows_fault t says checks [] all ≡ Some (fault.At t n kind.TooManyProviders)
+  gathered_past n past once e = elim (cases_lt 0 (length read)) [
+    | inl some ↦
+        let last = length read - 1 in
+        let inside : last < length read = omega (arith, some) in
+        let next : last + 1 ≡ length read = omega (arith, some) in
+        joined_at t says checks all last n kind.TooManyProviders (omega (arith, inside, sized, ap length r.so_far.whole, length-append r.so_far.done r.left)) (omega (arith, e, next))
+        (λ i lower. fine_at i (omega (arith, lower, inside)) (r.so_far.within (i + 1) (omega (arith, lower, next))) (all_new once i (omega (arith, lower, inside))))
+        (keyed.full (map says (take last all)) (get_or all last []) (alone_at last inside) (new_at last inside (all_new once last inside))
+        (before_past last inside ∙ ap (is_past most) next ∙ sym read_past ∙ past))
+    | inr none ↦
+        let empty : length read ≡ 0 = omega (arith, none) in
+        absurd (clash _ (none_past most) (ap (is_past most) (sym empty) ∙ sym read_past ∙ past))
+  ]
 
   -- a key that was there
   pub gathered_again : (n : ℕ) → unique ≡ true → IsLeastRepeat cmp rows (Some n) → rows_fault t says checks [] all ≡ Some (fault.At t n kind.Duplicate)
@@ -115,20 +170,18 @@ module _ {V K X : Type 0} (t : Table) (says : Row → V) (checks : List V → Ro
       let size = length_permutation read rows moved in
       with_head read (rows_fault t says checks [] all ≡ Some (fault.At t n kind.Duplicate)) (omega (arith, least.1.1, size)) (λ d.
       let sorting : Sorting (row_cmp cmp) (λ (a : TableRow K X). a.number) read rows =
-      record { total = row_total {X = X} total; sorted = sorted; stable = stable; same = moved; numbered = r.so_far.numbered } in
+      record { total = row_total {X = X} total; sorted = sorted; ties = ties; same = moved; numbered = r.so_far.numbered } in
       let (i, j, less, inside, at, tied) = repeated (row_cmp cmp) (λ (a : TableRow K X). a.number) read rows sorting n least d in
       let sooner = none_sooner (row_cmp cmp) (λ (a : TableRow K X). a.number) read rows sorting n least in
       let within : j < length all = omega (arith, inside, sized, ap length r.so_far.whole, length-append r.so_far.done r.left) in
       joined_at t says checks all j n kind.Duplicate within at
-      (λ p lower. fine_at p (omega arith) (λ k e below. and_right _ _ (false_from_ne_true _ (λ ties. omega (arith, sooner k p e below (omega arith) ties, at, lower)))))
+      (λ p lower. fine_at p (omega arith) (r.so_far.within (p + 1) (omega arith)) (λ k e below. and_right _ _ (false_from_ne_true _ (λ (tie : row_ties cmp (get_or read k e) (get_or read p e) ≡ true). omega (arith, sooner k p e below (omega arith) tie, at, lower)))))
       (keyed.again (map says (take j all)) (get_or all j []) (alone_at j inside) (any_before j d inside
       ∙ list_any_at _ (take j read) i d (omega (arith, less, length-take-le j read (omega arith))) (same_at i j d less inside ∙ ap₂ (λ a b. a && b) is tied))))
 
 -- no more rows than records
-pub rows_sized : {V K X : Type 0} (says : Row → V) (alone : Row → List Check) (shown : ℕ → K → X → V) (count : ℕ) (all : List Row) (read rows : List (TableRow K X)) (first : Option TableKind)
-    → IsReadUpTo says alone shown count all read first → IsPermutation read rows → (length rows ≡ length read) × (length rows ≤ length all)
-rows_sized says alone shown count all read rows first r moved =
-    let same : length rows ≡ length read = length_permutation read rows moved in
+pub rows_read : {V K X : Type 0} (says : Row → V) (alone : Row → List Check) (shown : ℕ → K → X → V) (count : ℕ) (most : Option ℕ) (all : List Row) (read : List (TableRow K X)) (ended : Result (Unit {0}) RecordFault)
+    → IsReadUpTo says alone shown count most all read ended → length read ≤ length all
+rows_read says alone shown count most all read ended r =
     let done : length read ≡ length r.so_far.done = sym (length-map read (row_shown shown)) ∙ ap length r.so_far.said ∙ length-map r.so_far.done says in
-    let whole : length all ≡ length r.so_far.done + length r.left = ap length r.so_far.whole ∙ length-append r.so_far.done r.left in
-    (same, omega (arith, same, done, whole))
+    omega (arith, done, ap length r.so_far.whole, length-append r.so_far.done r.left)

@@ -1,11 +1,11 @@
--- Items that tie, in a list and in its stable sort.
-use Rattle.ac_tables.proofs.Common.{◌≡◌, ◌≢◌, ◌∙◌, ◌+◌, ◌-◌, ◌<◌, ◌≤◌, ℕ, true, false, List, [], ◌∷◌, length, get_or, refl, sym, ap, ap₂, subst, arith, inl, inr, ◌==◌, Some, Ordering, Less, Equal, Greater, is_lt, is_eq, nat_cmp, nat_cmp_total, IsTotalOrder, IsPermutation, IsSortedBy, IsStableBy, get_or_default, Contains-get_or, sorted_far, alike_right, Contains-permutation, IsPermutation-sym, IsLeast}
+-- Items that tie, in a list and in its sort.
+use Rattle.ac_tables.proofs.Common.{◌≡◌, ◌≢◌, ◌∙◌, ◌+◌, ◌-◌, ◌<◌, ◌≤◌, ℕ, true, List, [], ◌∷◌, length, get_or, sym, ap, ap₂, subst, arith, inl, inr, ◌==◌, Some, Ordering, is_lt, is_eq, IsTotalOrder, IsPermutation, IsSortedBy, AreTiesRising, get_or_default, Contains-get_or, sorted_far, alike_right, Contains-permutation, IsPermutation-sym, IsLeast}
 use Rattle.std.proofs.lemmas.Bool.{cases_order, true_from_ne_false}
-use Rattle.std.proofs.lemmas.List.Sorted.{ranks_by, ties_stay_sorted}
-use Rattle.std.proofs.lemmas.Map.Keys.{apart_from_distinct, ge_from_not_lt, IsDistinct-from_apart, IsDistinct-IsPermutation}
+use Rattle.std.proofs.lemmas.List.Sorted.{ranks_by}
+use Rattle.std.proofs.lemmas.Map.Keys.{apart_from_distinct, IsDistinct-from_apart, IsDistinct-IsPermutation}
 use Rattle.std.proofs.lemmas.Cmp.{tied_back}
 use Rattle.ac_tables.proofs.Small.{clash, differ, equal}
-use Rattle.ac_tables.proofs.Gathered.RowOrder.{below_of}
+use Rattle.ac_tables.proofs.Gathered.RowOrder.{below_of, equal_of}
 
 pub with_head : {X : Type 0} (xs : List X) (P : Type 0) → 0 < length xs → (X → P) → P
 with_head [] P some h = absurd (omega (arith, some))
@@ -17,22 +17,14 @@ moved xs ys same i d inside =
     let c = Contains-permutation xs ys (get_or xs i d) same (Contains-get_or xs i d inside) in
     (c.0, c.1, get_or_default ys c.0 d (get_or xs i d) c.1 ∙ c.2)
 
-equal_of : (r : Ordering) → is_eq r ≡ true → r ≡ Equal
-equal_of Less e = absurd (cc)
-equal_of Equal e = refl
-equal_of Greater e = absurd (cc)
-
 turned : (a b : ℕ) → (a == b) ≡ (b == a)
 turned a b = grind arith
 
-not_lower : (a b : ℕ) → b ≤ a → is_lt (nat_cmp a b) ≡ false
-not_lower a b h = grind arith
-
--- items in the order of their numbers, and their stable sort
+-- items in the order of their numbers, and their sort, in which those that tie rise by number
 pub record Sorting {X : Type 0} (R : X → X → Ordering) (number : X → ℕ) (xs ys : List X) : Type 0 where
   pub total : IsTotalOrder R
   pub sorted : IsSortedBy (λ a b. is_lt (R a b)) ys
-  pub stable : IsStableBy (λ a b. is_lt (R a b)) xs ys
+  pub ties : AreTiesRising (λ a b. is_eq (R a b)) number ys
   pub same : IsPermutation xs ys
   pub numbered : (k : ℕ) (d : X) → k < length xs → number (get_or xs k d) ≡ k + 2
 
@@ -75,8 +67,5 @@ module _ {X : Type 0} (R : X → X → Ordering) (number : X → ℕ) (xs ys : L
       let distinct = IsDistinct-IsPermutation same_number (λ x y. turned (number x) (number y)) xs ys s.same (IsDistinct-from_apart same_number xs
       (λ i j e less h. differ _ _ (λ one. omega (arith, one, s.numbered i e (omega arith), s.numbered j e h, less)))) in
       let apart : number (get_or ys k d) ≢ number (get_or ys (k + 1) d) = λ e. clash _ (apart_from_distinct same_number ys k (k + 1) d distinct (omega arith) inside) (equal _ _ e) in
-      let up : number (get_or ys k d) ≤ number (get_or ys (k + 1) d) =
-      ge_from_not_lt _ _ (ties_stay_sorted (λ x y. is_lt (nat_cmp (number x) (number y))) _ (ranks_by nat_cmp_total number) (ranks_by s.total (λ (x : X). x)) xs ys
-      (λ i e low h. not_lower (number (get_or xs (i + 1) e)) (number (get_or xs i e)) (omega (arith, s.numbered i e (omega arith), s.numbered (i + 1) e h))) s.stable k d inside
-      (rw (equal_of _ tied, tied_back s.total _ _ (equal_of _ tied)) refl)) in
+      let up : number (get_or ys k d) ≤ number (get_or ys (k + 1) d) = s.ties k d inside tied in
       (a, b, omega (arith, up, apart, a_number, b_number), b_in, omega (arith, is_n, b_number), ap₂ (λ x y. is_eq (R x y)) a_is b_is ∙ tied)

@@ -26,22 +26,23 @@ use Rattle.ac_tables.specs.declared.fault.TableKind.{TableKind}
 use Rattle.ac_tables.specs.declared.fault.TableKind.TheVariants as kind
 
 -- a table of which no record has a part in another's checks
-free_keyed : {V : Type 0} (says : Row → V) (checks : Row → List Check) → IsKeyed says (λ _ row. checks row) checks (λ _ _. false)
+free_keyed : {V : Type 0} (says : Row → V) (checks : Row → List Check) → IsKeyed None says (λ _ row. checks row) checks (λ _ _. false)
 free_keyed says checks = record {
-  fresh = λ before row e. refl;
+  fresh = λ before row e within. refl;
   again = λ before row fine e. absurd (none before e);
   first = λ before row k fine e. e;
+  full = λ before row fine e past. absurd (cc past);
 }
   where
     none : {V : Type 0} (vs : List V) → list_any (λ _. false) vs ≡ true → ⊥
     none [] e = cc
     none (v ∷ vs) e = none vs e
 
-pub traits_keyed : (ids : List ℕ) (header : Row) → IsKeyed (trait_said header) (trait_record_checks ids header) (λ row. trait_record_checks ids header [] row) (λ _ _. false)
+pub traits_keyed : (ids : List ℕ) (header : Row) → IsKeyed None (trait_said header) (trait_record_checks ids header) (λ row. trait_record_checks ids header [] row) (λ _ _. false)
 unfolding trait_record_checks
 traits_keyed ids header = free_keyed (trait_said header) (trait_record_checks ids header [])
 
-pub aggregates_keyed : (ids : List ℕ) (header : Row) → IsKeyed (aggregate_said header) (aggregate_record_checks ids header) (λ row. aggregate_record_checks ids header [] row) (λ _ _. false)
+pub aggregates_keyed : (ids : List ℕ) (header : Row) → IsKeyed None (aggregate_said header) (aggregate_record_checks ids header) (λ row. aggregate_record_checks ids header [] row) (λ _ _. false)
 unfolding aggregate_record_checks
 aggregates_keyed ids header = free_keyed (aggregate_said header) (aggregate_record_checks ids header [])
 
@@ -114,14 +115,15 @@ module _ {V : Type 0} (provider : V → ℕ) (class : V → List ℕ) (says : Ro
   all_fine (row ∷ before) fine zero d inside = rest_fine (fields row) (rest row) (fine zero row (omega arith))
   all_fine (row ∷ before) fine (suc k) d inside = all_fine before (λ j e h. fine (suc j) e (omega arith)) k d (omega (arith, inside))
 
-  by_class : IsKeyed says (λ before row. fields row ++ ((list_any (same (provider (says row)) (class (says row))) before, kind.Duplicate) ∷ rest row)) (λ row. fields row ++ rest row) (λ v u. same (provider v) (class v) u)
+  by_class : IsKeyed None says (λ before row. fields row ++ ((list_any (same (provider (says row)) (class (says row))) before, kind.Duplicate) ∷ rest row)) (λ row. fields row ++ rest row) (λ v u. same (provider v) (class v) u)
   by_class = record {
-    fresh = λ before row e. new_key (fields row) _ (rest row) e;
+    fresh = λ before row e within. new_key (fields row) _ (rest row) e;
     again = λ before row fine e. old_key (fields row) _ (rest row) fine e;
     first = λ before row k fine e. first_fault (fields row) _ (rest row) k (λ is. known_before (map says before) (provider (says row)) (class (says row)) (all_fine before fine) is) e;
+    full = λ before row fine e past. absurd (cc past);
   }
 
-pub inventories_keyed : (ids : List ℕ) (header : Row) → IsKeyed (inventory_said header) (inventory_record_checks ids header) (λ row. inventory_field_checks header row ++ known_checks ids (id_in header provider_name row)) (λ v h. is_inventory_of v.provider v.class h)
+pub inventories_keyed : (ids : List ℕ) (header : Row) → IsKeyed None (inventory_said header) (inventory_record_checks ids header) (λ row. inventory_field_checks header row ++ known_checks ids (id_in header provider_name row)) (λ v h. is_inventory_of v.provider v.class h)
 unfolding inventory_record_checks once_checks known_checks inventory_said
 inventories_keyed ids header = by_class (λ (h : InventoryRecord). h.provider) (λ h. h.class) (inventory_said header) (inventory_field_checks header) (λ id _. known_checks ids id)
 
@@ -130,7 +132,7 @@ abbrev pub lone_checks : List ℕ → List InventoryRecord → ℕ → List ℕ 
 lone_checks ids records id class = (not (is_one_of ids id), kind.UnknownProvider) ∷ (not (list_any (is_inventory_of id class) records), kind.NoInventory) ∷ []
 
 pub usages_keyed : (ids : List ℕ) (records : List InventoryRecord) (header : Row)
-    → IsKeyed (usage_said header) (usage_row_checks ids records header) (λ row. usage_field_checks header row ++ lone_checks ids records (id_in header provider_name row) (text_in header class_name row)) (λ v u. is_usage v.provider v.class u)
+    → IsKeyed None (usage_said header) (usage_row_checks ids records header) (λ row. usage_field_checks header row ++ lone_checks ids records (id_in header provider_name row) (text_in header class_name row)) (λ v u. is_usage v.provider v.class u)
 unfolding usage_row_checks used_checks usage_said
 usages_keyed ids records header = by_class (λ (u : UsageRecord). u.provider) (λ u. u.class) (usage_said header) (usage_field_checks header) (lone_checks ids records)
 

@@ -1,11 +1,13 @@
 -- A table as one flat list of rows.
-use Rattle.std.specs.Prelude.{◌≡◌, ⊤, ℕ, ◌+◌, ◌<◌, ◌≤◌, Bool, true, false, List, [], ◌∷◌, ◌++◌, map, length, min, get_or, slice_index_or, Option, Some, None}
+use Rattle.std.specs.Prelude.{◌≡◌, ⊤, ℕ, ◌+◌, ◌<◌, ◌≤◌, Bool, true, false, nat_lt, List, [], ◌∷◌, ◌++◌, map, length, min, get_or, slice_index_or, Option, Some, None, Result, Ok, Err}
 use Rattle.std.specs.List.{All, list_any}
 use Rattle.std.specs.Ordering.{nat_cmp, ordering_then, is_lt, is_eq}
 use Rattle.std.specs.declared.cmp.Ordering.{Ordering}
 use Rattle.ac_tables.specs.Tables.Checks.{Row, Check, first_failing}
 use Rattle.std.specs.List.Sorted.{IsPermutation, IsSortedBy, IsStrictlySortedBy}
 use Rattle.ac_tables.specs.declared.fault.TableKind.{TableKind}
+use Rattle.ac_tables.specs.declared.fault.RecordFault.{RecordFault}
+use Rattle.ac_tables.specs.declared.fault.RecordFault.TheVariants as record_fault
 use Rattle.ac_tables.specs.declared.fault.TableKind.TheVariants as kind
 use Rattle.ac_tables.specs.declared.reader.row.TableRow.{TableRow}
 
@@ -19,6 +21,11 @@ row_lt cmp a b = is_lt (row_cmp cmp a b)
 -- two rows are of one provider and key
 abbrev pub row_ties : {K X : Type 0} → (K → K → Ordering) → TableRow K X → TableRow K X → Bool
 row_ties cmp a b = is_eq (row_cmp cmp a b)
+
+-- neighbours that tie stand in the order of their numbers
+abbrev pub AreTiesRising : {X : Type 0} → (X → X → Bool) → (X → ℕ) → List X → Type 0
+AreTiesRising {X} same number xs = (k : ℕ) (d : X) → k + 1 < length xs → same (slice_index_or xs k d) (slice_index_or xs (k + 1) d) ≡ true
+    → number (slice_index_or xs k d) ≤ number (slice_index_or xs (k + 1) d)
 
 -- the least number of an item that ties with the one before it, of the items below a place
 abbrev pub IsLeastBelow : {X : Type 0} → (X → X → Bool) → (X → ℕ) → List X → ℕ → Option ℕ → Type 0
@@ -38,19 +45,25 @@ sooner (Some m) n = Some (min m n)
 abbrev pub IsLeastRepeat : {K X : Type 0} → (K → K → Ordering) → List (TableRow K X) → Option ℕ → Type 0
 IsLeastRepeat {K} {X} cmp rows first = IsLeast (row_ties cmp) (λ (r : TableRow K X). r.number) rows first
 
--- the record after those that were read has this fault of its own, or there is none
-abbrev pub Stops : (Row → List Check) → List Row → Option TableKind → Type 0
-Stops alone [] None = ⊤
-Stops alone [] (Some kind) = ⊥
-Stops alone (row ∷ rows) None = ⊥
-Stops alone (row ∷ rows) (Some kind) = first_failing (alone row) ≡ Some kind
+-- so many records are more than a table may have
+abbrev pub is_past : Option ℕ → ℕ → Bool
+is_past None count = false
+is_past (Some most) count = nat_lt most count
+
+-- How reading ended: no record is left, or those that were read are too many; the next record has this fault of its own; a growth was refused.
+abbrev pub Stops : (Row → List Check) → Bool → List Row → Result (Unit {0}) RecordFault → Type 0
+Stops alone past [] (Ok _) = ⊤
+Stops alone past (row ∷ rows) (Ok _) = past ≡ true
+Stops alone past [] (Err (record_fault.Kind kind)) = ⊥
+Stops alone past (row ∷ rows) (Err (record_fault.Kind kind)) = first_failing (alone row) ≡ Some kind
+Stops alone past left (Err record_fault.NoMemory) = ⊤
 
 -- what a row shows
 abbrev pub row_shown : {V K X : Type 0} → (ℕ → K → X → V) → TableRow K X → V
 row_shown shown r = shown r.place r.key r.value
 
 -- some records were read and have no fault of their own; the others are left
-pub record IsReadSoFar {V K X : Type 0} (says : Row → V) (alone : Row → List Check) (shown : ℕ → K → X → V) (count : ℕ) (all left : List Row) (number : ℕ) (rows : List (TableRow K X)) : Type 0 where
+pub record IsReadSoFar {V K X : Type 0} (says : Row → V) (alone : Row → List Check) (shown : ℕ → K → X → V) (count : ℕ) (most : Option ℕ) (all left : List Row) (number : ℕ) (rows : List (TableRow K X)) : Type 0 where
   pub done : List Row
   pub whole : all ≡ done ++ left
   pub said : map (row_shown shown) rows ≡ map says done
@@ -58,20 +71,24 @@ pub record IsReadSoFar {V K X : Type 0} (says : Row → V) (alone : Row → List
   pub numbered : (k : ℕ) (d : TableRow K X) → k < length rows → (get_or rows k d).number ≡ k + 2
   pub inside : (k : ℕ) (d : TableRow K X) → k < length rows → (get_or rows k d).place < count
   pub counted : number ≡ length done + 2
+  pub within : (n : ℕ) → n < length rows → is_past most n ≡ false
 
--- records were read up to the first that has a fault of its own
-pub record IsReadUpTo {V K X : Type 0} (says : Row → V) (alone : Row → List Check) (shown : ℕ → K → X → V) (count : ℕ) (all : List Row) (rows : List (TableRow K X)) (fault : Option TableKind) : Type 0 where
+-- records were read up to the end, or to what ended reading before it
+pub record IsReadUpTo {V K X : Type 0} (says : Row → V) (alone : Row → List Check) (shown : ℕ → K → X → V) (count : ℕ) (most : Option ℕ) (all : List Row) (rows : List (TableRow K X)) (ended : Result (Unit {0}) RecordFault) : Type 0 where
   pub left : List Row
   pub number : ℕ
-  pub so_far : IsReadSoFar says alone shown count all left number rows
-  pub stopped : Stops alone left fault
+  pub so_far : IsReadSoFar says alone shown count most all left number rows
+  pub stopped : Stops alone (is_past most (length rows)) left ended
 
--- A record's checks are those that it has alone, and that no record before it has its key.
-pub record IsKeyed {V : Type 0} (says : Row → V) (checks : List V → Row → List Check) (alone : Row → List Check) (same : V → V → Bool) : Type 0 where
-  pub fresh : (before : List V) (row : Row) → list_any (same (says row)) before ≡ false → first_failing (checks before row) ≡ first_failing (alone row)
+-- A record's checks are those that it has alone, then that no record before it has its key, then that it isn't one too many.
+pub record IsKeyed {V : Type 0} (most : Option ℕ) (says : Row → V) (checks : List V → Row → List Check) (alone : Row → List Check) (same : V → V → Bool) : Type 0 where
+  pub fresh : (before : List V) (row : Row) → list_any (same (says row)) before ≡ false → is_past most (length before + 1) ≡ false
+      → first_failing (checks before row) ≡ first_failing (alone row)
   pub again : (before : List V) (row : Row) → first_failing (alone row) ≡ None → list_any (same (says row)) before ≡ true → first_failing (checks before row) ≡ Some kind.Duplicate
   pub first : (before : List Row) (row : Row) (k : TableKind) → All (λ r. first_failing (alone r) ≡ None) before → first_failing (alone row) ≡ Some k
       → first_failing (checks (map says before) row) ≡ Some k
+  pub full : (before : List V) (row : Row) → first_failing (alone row) ≡ None → list_any (same (says row)) before ≡ false → is_past most (length before + 1) ≡ true
+      → first_failing (checks before row) ≡ Some kind.TooManyProviders
 
 -- the rows of a table in order; they show what its records say
 pub record IsTable {V K X : Type 0} (cmp : K → K → Ordering) (shown : ℕ → K → X → V) (count : ℕ) (unique : Bool) (said : List V) (rows : List (TableRow K X)) : Type 0 where

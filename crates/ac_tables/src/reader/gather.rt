@@ -1,41 +1,47 @@
 //! Reading the rows of any table, up to the first that has a fault of its own.
-ghost use Rattle.std.specs.Prelude.{◌≡◌, ◌≤◌, true, None, [], map, length, IfOk, IfErr, IfSome};
+ghost use Rattle.std.specs.Prelude.{◌≡◌, ◌≤◌, true, false, None, [], map, length, IfOk, IfErr, IfSome};
 ghost use Rattle.csv.specs.Records.{fields_of};
-ghost use Rattle.ac_tables.specs.Tables.Checks.{rows_fault, first_failing, Tells};
+ghost use Rattle.ac_tables.specs.Tables.Checks.{rows_fault, first_failing, fault_at, Tells};
 ghost use Rattle.ac_tables.specs.Tables.Columns.{table_checks, said_by};
 ghost use Rattle.ac_tables.specs.Drain.{most_bytes};
-ghost use Rattle.ac_tables.specs.Reader.TableRows.{IsReadUpTo, IsLeastRepeat, IsTable};
+ghost use Rattle.ac_tables.specs.Reader.TableRows.{is_past, IsReadUpTo, IsLeastRepeat, IsTable};
 ghost use Rattle.ac_tables.specs.Tables.Rows.{IsReading, rows_left, records_of};
 
 use crate::cloud::provider_index::Expected;
-use crate::fault::{RecordFault, TableFault, TableKind};
+use crate::fault::{RecordFault, Table, TableFault, TableKind};
 use crate::reader::header::open_table;
 use crate::reader::record::{Record, Seen};
 use crate::reader::records::next_row;
 use crate::reader::row::{TableRow, first_repeat, put_in_order};
-use ac_base::{Names, NoMemory};
+use ac_base::Names;
 use csv::{ByteRecord, Reader};
 use std::alloc::Global;
 
-// The rows that were read, and the fault of the record after them, where one has a fault of its own.
-#[derive(Drop)]
-pub(crate) struct ReadRows<K, X> {
-    pub(crate) rows: Vec<TableRow<K, X>>,
-    pub(crate) fault: Option<TableKind>,
+// Whether so many records are more than the table may have.
+fn is_past<T: Record>(count: usize) -> bool
+    ensures { result ≡ is_past T.MOST count }
+{
+    match T::MOST {
+        Some(most) => count > most,
+        None => false,
+    }
 }
 
-// The rows of the records that are left, up to the first that has a fault of its own.
+// The rows of the records that are left go into `rows`, up to the first that has a fault of its own, or to the first past
+// the most. A row has its room before its record is judged, so a growth that is refused comes before that record's faults.
 pub(crate) fn read_rows<T: Record>(
     alloc: Global,
     beside: &T::Beside,
     reader: &mut Reader<&[u8]>,
     header: &ByteRecord,
-) -> Result<ReadRows<T::Key, T::Value>, NoMemory>
+    rows: &mut Vec<TableRow<T::Key, T::Value>>,
+) -> Result<(), RecordFault>
+    requires none { rows.old.items ≡ [] }
     requires reading { IsReading reader.old }
     requires few { length (rows_left reader.old) ≤ most_bytes }
-    ensures { IfOk result (λ v.
-        IsReadUpTo (T.says (fields_of header.now)) (T.alone beside.now (fields_of header.now))
-        (T.shown beside.now) (T.count beside.now) (rows_left reader.old) v.rows.items v.fault) }
+    ensures { IsReadUpTo (T.says (fields_of header.now)) (T.alone beside.now (fields_of header.now))
+        (T.shown beside.now) (T.count beside.now) T.MOST (rows_left reader.old) rows.new.items
+        result }
 {
     let columns = T::columns(header);
     let mut row = ByteRecord::new(alloc);
@@ -43,27 +49,19 @@ pub(crate) fn read_rows<T: Record>(
         names: Names::new(alloc),
         expected: Expected::new(),
     };
-    let mut rows = Vec::new(alloc);
     let mut number = 2u32;
-    while next_row(reader, &mut row)? {
-        match T::read(&mut seen, beside, header, columns, &row) {
-            Ok((place, key, value)) => rows.push(TableRow {
-                place,
-                number,
-                key,
-                value,
-            })?,
-            Err(RecordFault::Kind(kind)) => {
-                return Ok(ReadRows {
-                    rows,
-                    fault: Some(kind),
-                });
-            }
-            Err(RecordFault::NoMemory) => return Err(NoMemory),
-        }
+    while !is_past::<T>(rows.len()) && next_row(reader, &mut row)? {
+        rows.reserve(1)?;
+        let (place, key, value) = T::read(&mut seen, beside, header, columns, &row)?;
+        rows.push_reserved(TableRow {
+            place,
+            number,
+            key,
+            value,
+        });
         number += 1;
     }
-    Ok(ReadRows { rows, fault: None })
+    Ok(())
 }
 
 // The first record whose key was there, where no two may have one.
@@ -74,7 +72,18 @@ fn forbidden_repeat<T: Record>(rows: &[TableRow<T::Key, T::Value>]) -> Option<u3
     if T::UNIQUE { first_repeat(rows) } else { None }
 }
 
-// The rows of the records that are left, in the order of providers and keys, or the first fault.
+// The fault of a record, told with its table and number, or a refused growth.
+fn fault_at(table: Table, row: u32, fault: RecordFault) -> TableFault
+    ensures { result ≡ fault_at table row fault }
+{
+    match fault {
+        RecordFault::Kind(kind) => TableFault::At { table, row, kind },
+        RecordFault::NoMemory => TableFault::NoMemory,
+    }
+}
+
+// The rows of the records that are left, in the order of providers and keys, or the first fault. A fault of a record that
+// was read is told also where a growth after it was refused.
 pub(crate) fn gather<T: Record>(
     alloc: Global,
     beside: &T::Beside,
@@ -84,6 +93,7 @@ pub(crate) fn gather<T: Record>(
     requires reading { IsReading reader.old }
     requires few { length (rows_left reader.old) ≤ most_bytes }
     ensures few { IfOk result (λ rows. length rows.items ≤ most_bytes) }
+    ensures most { IfOk result (λ rows. is_past T.MOST (length rows.items) ≡ false) }
     ensures gathered { IfOk result (λ rows.
         IsTable T.Key.cmp (T.shown beside.now) (T.count beside.now) T.UNIQUE
         (map (T.says (fields_of header.now)) (rows_left reader.old)) rows.items) }
@@ -94,8 +104,10 @@ pub(crate) fn gather<T: Record>(
         Tells (rows_fault T.TABLE (T.says (fields_of header.now))
         (T.checks beside.now (fields_of header.now)) [] (rows_left reader.old)) e) }
 {
-    let ReadRows { mut rows, fault } = read_rows::<T>(alloc, beside, reader, header)?;
-    put_in_order(&mut rows)?;
+    let mut rows = Vec::new(alloc);
+    let ended = read_rows::<T>(alloc, beside, reader, header, &mut rows);
+    let last = rows.len() as u32 + 1;
+    put_in_order(&mut rows);
     if let Some(row) = forbidden_repeat::<T>(&rows) {
         return Err(TableFault::At {
             table: T::TABLE,
@@ -103,14 +115,17 @@ pub(crate) fn gather<T: Record>(
             kind: TableKind::Duplicate,
         });
     }
-    if let Some(kind) = fault {
+    if is_past::<T>(rows.len()) {
         return Err(TableFault::At {
             table: T::TABLE,
-            row: rows.len() as u32 + 2,
-            kind,
+            row: last,
+            kind: TableKind::TooManyProviders,
         });
     }
-    Ok(rows)
+    match ended {
+        Ok(()) => Ok(rows),
+        Err(fault) => Err(fault_at(T::TABLE, last + 1, fault)),
+    }
 }
 
 // The rows of a text in the order of providers and keys, or the first fault of the table.
@@ -121,6 +136,7 @@ pub(crate) fn read_table<T: Record>(
 ) -> Result<Vec<TableRow<T::Key, T::Value>>, TableFault>
     requires { length text.now ≤ most_bytes }
     ensures few { IfOk result (λ rows. length rows.items ≤ most_bytes) }
+    ensures most { IfOk result (λ rows. is_past T.MOST (length rows.items) ≡ false) }
     ensures rows { IfOk result (λ rows.
         IsTable T.Key.cmp (T.shown beside.now) (T.count beside.now) T.UNIQUE
         (said_by T.says (records_of text.now)) rows.items) }

@@ -1,5 +1,5 @@
 //! What the reader of all tables asks of a table: its columns, and what a record says alone.
-ghost use Rattle.std.specs.Prelude.{◌≡◌, ◌<◌, ◌&&◌, ℕ, Bool, List, None, IfOk, IfErr};
+ghost use Rattle.std.specs.Prelude.{◌≡◌, ◌<◌, ◌&&◌, ℕ, Bool, List, Option, None, IfOk, IfErr};
 ghost use Rattle.ac_tables.specs.declared.fault.Table.{Table};
 ghost use Rattle.csv.specs.Records.{fields_of};
 ghost use Rattle.std.specs.Ordering.{nat_cmp, ordering_then, is_eq};
@@ -44,6 +44,11 @@ pub(crate) trait Record {
     const UNIQUE: bool;
 
     ghost UNIQUE: { Bool };
+
+    // The most records, where their number has a limit.
+    const MOST: Option<usize>;
+
+    ghost MOST: { Option ℕ };
 
     // what a record says
     ghost Said: { Type 0 };
@@ -91,7 +96,7 @@ pub(crate) trait Record {
             TellsKind (first_failing (alone beside.now (fields_of header.now) (fields_of row.now)))
             e) };
 
-    ghost keyed: { (beside : Self.Beside) (header : Row) → IsKeyed (says header) (checks beside header) (alone beside header) same };
+    ghost keyed: { (beside : Self.Beside) (header : Row) → IsKeyed MOST (says header) (checks beside header) (alone beside header) same };
 
     ghost apart: { (beside : Self.Beside) (p q : ℕ) (k l : Self.Key) (x y : Self.Value) → p < count beside → q < count beside → same (shown beside q l y) (shown beside p k x) ≡ (UNIQUE && is_eq (ordering_then (nat_cmp p q) (Self.Key.cmp k l))) };
 }

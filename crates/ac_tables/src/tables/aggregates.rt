@@ -56,6 +56,10 @@ impl Record for AggregateTable {
 
     ghost UNIQUE = { false };
 
+    const MOST: Option<usize> = None;
+
+    ghost MOST = { None };
+
     ghost Said = { AggregateRecord };
 
     ghost says = { aggregate_said };

@@ -122,6 +122,10 @@ impl Record for InventoryTable {
 
     ghost UNIQUE = { true };
 
+    const MOST: Option<usize> = None;
+
+    ghost MOST = { None };
+
     ghost Said = { InventoryRecord };
 
     ghost says = { inventory_said };

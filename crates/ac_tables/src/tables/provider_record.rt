@@ -1,8 +1,8 @@
 //! A record of the table of providers.
-ghost use Rattle.std.specs.Prelude.{◌≡◌, true};
+ghost use Rattle.std.specs.Prelude.{◌≡◌, true, Some};
 ghost use Rattle.ac_tables.specs.Reader.ColumnPlaces.{provider_places};
-ghost use Rattle.ac_tables.specs.Tables.ProviderTable.{says_none, ProviderRecord, is_at, provider_said, provider_field_checks, provider_columns};
-ghost use Rattle.ac_tables.specs.Reader.ProviderLaws.{provider_shown, named_checks, providers_keyed, providers_apart};
+ghost use Rattle.ac_tables.specs.Tables.ProviderTable.{says_none, ProviderRecord, is_at, provider_said, provider_field_checks, provider_record_checks, provider_columns};
+ghost use Rattle.ac_tables.specs.Reader.ProviderLaws.{provider_shown, providers_keyed, providers_apart};
 ghost use Rattle.ac_tables.specs.declared.fault.Table.TheVariants as table;
 
 use crate::fault::{RecordFault, Table, TableKind};
@@ -58,11 +58,15 @@ impl Record for ProviderTable {
 
     ghost UNIQUE = { true };
 
+    const MOST: Option<usize> = Some(65_536);
+
+    ghost MOST = { Some 65536 };
+
     ghost Said = { ProviderRecord };
 
     ghost says = { provider_said };
 
-    ghost checks = { λ _. named_checks };
+    ghost checks = { λ _. provider_record_checks };
 
     ghost alone = { λ _. provider_field_checks };
 

@@ -1,5 +1,5 @@
 //! Reading the table of providers: its ids, and its trees.
-ghost use Rattle.std.specs.Prelude.{◌≡◌, ◌≤◌, ◌<◌, None, Some, ℕ, get_or, length, map, IfOk, IfErr};
+ghost use Rattle.std.specs.Prelude.{◌≡◌, ◌≤◌, ◌<◌, None, ℕ, get_or, length, map, IfOk, IfErr};
 ghost use Rattle.std.specs.Option.{option_and_then};
 ghost use Rattle.std.specs.Ordering.{nat_cmp};
 ghost use Rattle.ac_tables.specs.Tables.Checks.{Tells};
@@ -7,7 +7,6 @@ ghost use Rattle.ac_tables.specs.Drain.{most_bytes};
 ghost use Rattle.ac_tables.specs.Cloud.Kin.{AreKin};
 ghost use Rattle.ac_tables.specs.Reader.Listings.{IsListing};
 ghost use Rattle.ac_tables.specs.Cloud.Places.{parent_in, rank};
-ghost use Rattle.ac_tables.specs.Reader.ProviderLaws.{limited, one_too_many};
 ghost use Rattle.ac_tables.specs.Tables.ProviderTable.{providers_said, provider_records_fault, said_parent, providers_fault};
 ghost use Rattle.ac_tables.specs.Tables.Rows.{records_of};
 ghost use Rattle.ac_tables.specs.Sorted.{rising};
@@ -15,7 +14,7 @@ ghost use Rattle.ac_tables.specs.Trees.{top};
 
 use crate::cloud::provider_index::Ids;
 use crate::cloud::roots::find_tops;
-use crate::fault::{Table, TableFault, TableKind};
+use crate::fault::{TableFault, TableKind};
 use crate::reader::gather::read_table;
 use crate::reader::row::TableRow;
 use crate::tables::listing::{
@@ -25,38 +24,8 @@ use crate::tables::provider_record::{Named, ProviderTable};
 use ac_base::Id;
 use std::alloc::Global;
 
-// The most providers, and the record of the first one past them.
-const MOST_PROVIDERS: usize = 65_536;
-
-const RECORD_PAST_MOST: u32 = 65_538;
-
-fn one_too_many() -> TableFault
-    ensures { result ≡ one_too_many }
-{
-    TableFault::At {
-        table: Table::Providers,
-        row: RECORD_PAST_MOST,
-        kind: TableKind::TooManyProviders,
-    }
-}
-
-// A fault of the records, unless there are too many before it.
-fn limited(fault: TableFault) -> TableFault
-    ensures { (n : ℕ) → limited n (Some fault) ≡ Some result }
-{
-    match fault {
-        TableFault::At { table, row, kind } => {
-            if row > RECORD_PAST_MOST {
-                one_too_many()
-            } else {
-                TableFault::At { table, row, kind }
-            }
-        }
-        TableFault::NoMemory => TableFault::NoMemory,
-    }
-}
-
 // The rows of the providers of a text, before their parents are looked at.
+#[tactic(auto, unfolding(crate::specs::Tables::ProviderTable::provider_records_fault))]
 fn read_rows(alloc: Global, text: &[u8]) -> Result<Vec<TableRow<Id, Named>>, TableFault>
     requires { length text.now ≤ most_bytes }
     ensures rows { IfOk result (λ rows.
@@ -64,15 +33,7 @@ fn read_rows(alloc: Global, text: &[u8]) -> Result<Vec<TableRow<Id, Named>>, Tab
     ensures ok { IfOk result (λ _. provider_records_fault (records_of text.now) ≡ None) }
     ensures fault { IfErr result (λ e. Tells (provider_records_fault (records_of text.now)) e) }
 {
-    match read_table::<ProviderTable>(alloc, &(), text) {
-        Ok(rows) => {
-            if rows.len() > MOST_PROVIDERS {
-                return Err(one_too_many());
-            }
-            Ok(rows)
-        }
-        Err(fault) => Err(limited(fault)),
-    }
+    read_table::<ProviderTable>(alloc, &(), text)
 }
 
 // The providers by their places in the order of their ids, with their parents and roots.

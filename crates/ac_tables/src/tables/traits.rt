@@ -81,6 +81,10 @@ impl Record for TraitTable {
 
     ghost UNIQUE = { false };
 
+    const MOST: Option<usize> = None;
+
+    ghost MOST = { None };
+
     ghost Said = { TraitRecord };
 
     ghost says = { trait_said };

@@ -76,6 +76,10 @@ impl Record for UsageTable {
 
     ghost UNIQUE = { true };
 
+    const MOST: Option<usize> = None;
+
+    ghost MOST = { None };
+
     ghost Said = { UsageRecord };
 
     ghost says = { usage_said };
