@@ -6,7 +6,6 @@ pub use Rattle.ac_base.specs.declared.name.ClassName.{ClassName}
 pub use Rattle.ac_base.specs.declared.name.TraitName.{TraitName}
 pub use Rattle.ac_tables.specs.Cloud.Anchors.{AreAsked, asked_at, is_among, is_joined, is_joining, is_marked, is_met, joined, list_items, list_of, meets, meets_at, shared_ids, shares_by, wide}
 pub use Rattle.ac_tables.specs.Cloud.CloudWorld.{providers_of}
-pub use Rattle.ac_tables.specs.Cloud.DistinctIds.{AreDistinct, AreTrees}
 pub use Rattle.ac_tables.specs.Cloud.Entries.{entry_class, entry_pair}
 pub use Rattle.ac_tables.specs.Cloud.EntryLists.{entry_of, with_used_lists}
 pub use Rattle.ac_tables.specs.Cloud.Kin.{AreKin}
@@ -27,7 +26,7 @@ pub use Rattle.ac_tables.specs.Tables.AggregateTable.{AggregateRecord, aggregate
 pub use Rattle.ac_tables.specs.Tables.Checks.{Check, Row, Tells, TellsKind, first_failing, pass, record_checks, rows_fault, told_at}
 pub use Rattle.ac_tables.specs.Tables.Columns.{id_in, table_checks, text_in}
 pub use Rattle.ac_tables.specs.Tables.InventoryTable.{InventoryRecord, class_checks, class_name, inventories_said, is_inventory_of, is_one_of, known_checks, owner_checks, provider_name}
-pub use Rattle.ac_tables.specs.Tables.ProviderTable.{ProviderRecord, has_endless_chain, has_unknown_parent, has_wrong_root, is_known, no_record, provider_columns, providers_said, record_at, said_parent, unknown_fault, uuid_name}
+pub use Rattle.ac_tables.specs.Tables.ProviderTable.{ProviderRecord, has_endless_chain, has_unknown_parent, has_wrong_root, is_known, no_record, provider_columns, providers_said, record_at, said_parent, uuid_name}
 pub use Rattle.ac_tables.specs.Tables.Rows.{IsReading, records_of, rows_left}
 pub use Rattle.ac_tables.specs.Tables.TraitTable.{TraitRecord, traits_said}
 pub use Rattle.ac_tables.specs.Tables.UsageTable.{UsageRecord, usage_field_checks, usages_said}

@@ -10,3 +10,4 @@ pub mod Marks
 pub mod TreeChecks
 pub mod UsageChecks
 pub mod UsageKeys
+pub mod TreeFaults

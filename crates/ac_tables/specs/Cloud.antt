@@ -1,7 +1,6 @@
 -- The parts of a cloud, by the places of providers.
 pub mod CloudParts
 pub mod CloudWorld
-pub mod DistinctIds
 pub mod EntryLists
 pub mod Entries
 pub mod Kin

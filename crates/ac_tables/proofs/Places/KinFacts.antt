@@ -1,6 +1,6 @@
 -- The ids of a fine table of providers: their parents are there, and their chains end.
-use Rattle.ac_tables.proofs.Common.{◌≡◌, ◌<◌, ◌+◌, ◌∙◌, ℕ, true, false, List, [], ◌∷◌, map, length, get_or, Option, Some, None, refl, sym, ap, ap₂, inl, inr, ◌==◌, is_some, option_and_then, position_from, nat_cmp, cases_Bool, rising, is_one_of, AreKin, is_endless, AreTrees, ProviderRecord, record_at, said_parent, no_record, has_endless_chain}
-use Rattle.ac_tables.specs.Tables.ProviderTable.{is_at, place_of, endless_fault}
+use Rattle.ac_tables.proofs.Common.{◌≡◌, ◌<◌, ◌+◌, ◌∙◌, ℕ, true, false, List, [], ◌∷◌, map, length, get_or, Option, Some, None, refl, sym, ap, ap₂, inl, inr, ◌==◌, is_some, option_and_then, position_from, nat_cmp, cases_Bool, rising, is_one_of, AreKin, is_endless, ProviderRecord, record_at, said_parent, no_record, has_endless_chain}
+use Rattle.ac_tables.specs.Tables.ProviderTable.{is_at, place_of}
 use Rattle.ac_tables.specs.declared.fault.Table.TheVariants as table
 use Rattle.ac_tables.specs.declared.fault.TableKind.TheVariants as kind
 use Rattle.std.proofs.lemmas.Iterator.Adapters.{position_from-zero}
@@ -9,6 +9,7 @@ use Rattle.ac_tables.proofs.Records.ProviderFaults.{none_fails}
 use Rattle.ac_tables.proofs.Sorted.Rising.{one_of_place}
 use Rattle.ac_tables.proofs.Sorted.SameItems.{member_rising}
 use Rattle.ac_tables.proofs.Small.{are_equal}
+use Rattle.ac_tables.proofs.Records.TreeFaults.{AreTrees, endless_fault}
 
 -- a place that was found has that id
 pub place_found : (all : List ProviderRecord) (q j : ℕ) → place_of all q ≡ Some j → (j < length all) × ((record_at all j).id ≡ q)

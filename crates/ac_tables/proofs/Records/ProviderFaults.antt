@@ -1,10 +1,11 @@
 -- The faults of the parts, in their order, are the fault of the whole.
-use Rattle.ac_tables.proofs.Common.{◌≡◌, ◌<◌, ◌∙◌, ◌++◌, ℕ, Bool, true, false, List, [], ◌∷◌, length, get_or, Option, Some, None, refl, arith, rules, zero, suc, ◌+◌, inl, inr, ◌&&◌, not, is_some, unwrap_or, cases_Bool, first_failing, pass, Tells, AreTrees, AreDistinct, ProviderRecord, record_at, no_record, providers_said, has_unknown_parent, Table, TableKind, TableFault}
-use Rattle.ac_tables.specs.Tables.ProviderTable.{place_of, unknown_fault, endless_fault, root_fault, trees_fault, provider_records_fault, providers_fault}
+use Rattle.ac_tables.proofs.Common.{◌≡◌, ◌<◌, ◌∙◌, ◌++◌, ℕ, Bool, true, false, List, [], ◌∷◌, length, get_or, Option, Some, None, refl, arith, rules, zero, suc, ◌+◌, inl, inr, ◌&&◌, not, is_some, unwrap_or, cases_Bool, first_failing, pass, Tells, ProviderRecord, record_at, no_record, providers_said, has_unknown_parent, Table, TableKind, TableFault}
+use Rattle.ac_tables.specs.Tables.ProviderTable.{place_of, provider_records_fault, providers_fault}
 use Rattle.ac_tables.specs.declared.fault.Table.TheVariants as table
 use Rattle.ac_tables.specs.declared.fault.TableKind.TheVariants as kind
 use Rattle.ac_tables.specs.declared.fault.TableFault.TheVariants as fault
 use Rattle.ac_tables.proofs.FirstFailing.{append_none, append_some}
+use Rattle.ac_tables.proofs.Records.TreeFaults.{AreDistinct, AreTrees, endless_fault, root_fault, trees_fault, unknown_fault}
 
 pub tells_first : (xs ys : List (Bool × TableFault)) (e : TableFault) → Tells (first_failing xs) e → Tells (first_failing (xs ++ ys)) e
 tells_first xs ys (fault.At t r k) h = append_some xs ys (fault.At t r k) h

@@ -1,5 +1,5 @@
 -- The rows of the table of providers say what its records say: their ids, who is whose parent, and what is wrong with a provider.
-use Rattle.ac_tables.proofs.Common.{◌≡◌, ◌∙◌, ◌+◌, ◌<◌, ℕ, zero, suc, Bool, true, false, List, [], ◌∷◌, map, length, get_or, Option, Some, None, refl, sym, ap, ap₂, subst, arith, rules, inl, inr, ◌==◌, ◌&&◌, not, nat_cmp, eq_by_cmp, is_some, is_none, unwrap_or, option_map, option_and_then, position_from, IsPermutation, IsStrictlySortedBy, cases_Bool, get_or-map, length-map, All-weaker, recursion_from_All, Contains-permutation, IsPermutation-sym, IsPermutation-map, length_permutation, IsDistinct-from_sorted, eq_by_cmp_equiv, exact_unsigned, AreDistinct, AreTrees, is_one_of, rank, parent_in, AreParents, provider_shown, ProviderRecord, is_known, no_record, record_at, said_parent, has_unknown_parent, has_endless_chain, has_wrong_root, unknown_fault, rising, row_shown, IsTable, top, TableRow, Named, map-map}
+use Rattle.ac_tables.proofs.Common.{◌≡◌, ◌∙◌, ◌+◌, ◌<◌, ℕ, zero, suc, Bool, true, false, List, [], ◌∷◌, map, length, get_or, Option, Some, None, refl, sym, ap, ap₂, subst, arith, rules, inl, inr, ◌==◌, ◌&&◌, not, nat_cmp, eq_by_cmp, is_some, is_none, unwrap_or, option_map, option_and_then, position_from, IsPermutation, IsStrictlySortedBy, cases_Bool, get_or-map, length-map, All-weaker, recursion_from_All, Contains-permutation, IsPermutation-sym, IsPermutation-map, length_permutation, IsDistinct-from_sorted, eq_by_cmp_equiv, exact_unsigned, is_one_of, rank, parent_in, AreParents, provider_shown, ProviderRecord, is_known, no_record, record_at, said_parent, has_unknown_parent, has_endless_chain, has_wrong_root, rising, row_shown, IsTable, top, TableRow, Named, map-map}
 use Rattle.std.specs.Cmp.{nat_cmp_total, unsigned_tied}
 use Rattle.std.specs.List.{IsDistinct}
 use Rattle.std.proofs.lemmas.Map.Keys.{IsDistinct-IsPermutation, apart_from_distinct}
@@ -12,6 +12,7 @@ use Rattle.ac_tables.proofs.Trees.PlaceTrees.{steps}
 use Rattle.ac_tables.proofs.Sorted.Rising.{rank_none}
 use Rattle.ac_tables.proofs.Sorted.SameItems.{is_rising, member_rising}
 use Rattle.ac_tables.proofs.Gathered.ProviderRows.{keys_sorted}
+use Rattle.ac_tables.proofs.Records.TreeFaults.{AreDistinct, AreTrees, unknown_fault}
 
 abbrev ListingRow : Type 0
 ListingRow = TableRow ℕ Named

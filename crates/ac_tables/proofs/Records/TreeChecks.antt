@@ -1,12 +1,12 @@
 -- What is told of the trees of the table of providers, by its rows.
 use Rattle.ac_tables.proofs.Common.{◌≡◌, ◌∙◌, ◌<◌, ℕ, Bool, true, false, List, map, length, get_or, Option, Some, None, sym, ap, subst, arith, ◌==◌, ◌&&◌, not, is_some, is_none, option_map, option_and_then, nat_cmp, length-map, Tells, AreKin, IsFirst, rank, parent_in, AreParents, provider_shown, ProviderRecord, said_parent, has_unknown_parent, has_endless_chain, has_wrong_root, IsTable, top, TableFault, TableRow, Named}
-use Rattle.ac_tables.specs.Tables.ProviderTable.{unknown_fault, endless_fault, root_fault}
 use Rattle.ac_tables.specs.declared.fault.Table.TheVariants as table
 use Rattle.ac_tables.specs.declared.fault.TableKind.TheVariants as kind
 use Rattle.ac_tables.specs.declared.fault.TableFault.TheVariants as fault
 use Rattle.ac_tables.proofs.Places.KinFacts.{are_kin}
 use Rattle.ac_tables.proofs.Records.ProviderRecords.{no_row, ids_are, count, parents_are, unknown_same, trees, as_many, are_places, top_inside, endless_same, wrong_same}
 use Rattle.ac_tables.proofs.Records.Marks.{passed}
+use Rattle.ac_tables.proofs.Records.TreeFaults.{endless_fault, root_fault, unknown_fault}
 
 -- a fault that is told
 pub tells_this : (first : Option TableFault) (e told : TableFault) → e ≡ told → first ≡ Some told → Tells first e

@@ -125,19 +125,6 @@ provider_checks rows = table_checks table.Providers provider_columns provider_sa
 unfoldable pub provider_records_fault : List Row → Option TableFault
 provider_records_fault rows = first_failing (table_checks table.Providers provider_columns provider_said provider_record_checks rows)
 
--- the first fault of each of the three passes over all providers
-unfoldable pub unknown_fault : List ProviderRecord → Option TableFault
-unknown_fault all = first_failing (pass table.Providers kind.UnknownParent (has_unknown_parent all) 2 all)
-
-unfoldable pub endless_fault : List ProviderRecord → Option TableFault
-endless_fault all = first_failing (pass table.Providers kind.ParentCycle (has_endless_chain all) 2 all)
-
-unfoldable pub root_fault : List ProviderRecord → Option TableFault
-root_fault all = first_failing (pass table.Providers kind.WrongRoot (has_wrong_root all) 2 all)
-
--- the first fault of the trees, and of the whole table
-unfoldable pub trees_fault : List ProviderRecord → Option TableFault
-trees_fault all = first_failing (tree_checks all)
-
+-- the first fault of the whole table
 unfoldable pub providers_fault : List Row → Option TableFault
 providers_fault rows = first_failing (provider_checks rows)

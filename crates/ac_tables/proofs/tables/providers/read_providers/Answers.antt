@@ -1,5 +1,4 @@
-use Rattle.ac_tables.proofs.Common.{◌≡◌, ◌∙◌, ◌<◌, ℕ, Option, Some, None, length, get_or, map, option_map, option_and_then, sym, ap, subst, arith, AreParents, rank, parent_in, top, IsFirst, providers_said, unknown_fault, records_of}
-use Rattle.ac_tables.specs.Tables.ProviderTable.{endless_fault, root_fault}
+use Rattle.ac_tables.proofs.Common.{◌≡◌, ◌∙◌, ◌<◌, ℕ, Option, Some, None, length, get_or, map, option_map, option_and_then, sym, ap, subst, arith, AreParents, rank, parent_in, top, IsFirst, providers_said, records_of}
 use Rattle.ac_tables.specs.declared.fault.Table.TheVariants as table
 use Rattle.ac_tables.specs.declared.fault.TableKind.TheVariants as kind
 use Rattle.ac_tables.specs.declared.fault.TableFault.TheVariants as fault
@@ -8,6 +7,7 @@ use Rattle.ac_tables.proofs.Records.ProviderFaults.{tells_table, tells_trees, no
 use Rattle.ac_tables.proofs.Records.TreeChecks.{tells_this, same_parents, unknown_told, parents_placed, as_ids, roots_inside, endless_told, wrong_told, kin_here}
 use Rattle.ac_tables.proofs.tables.providers.read_providers.Goals as goal
 use Rattle.ac_tables.proofs.tables.providers.read_providers.Goals.{In_ok-unknown, In_default, In_ok-roots, In_ok-endless, In_ok-other}
+use Rattle.ac_tables.proofs.Records.TreeFaults.{endless_fault, root_fault, unknown_fault}
 
 own : (c : In_ok-unknown) → c.in_ok-ids.ids.ids.items ≡ map (λ r. r.key) c.in-Ok.rows.items
 own c = rw c.deref.ensures.value at c.in_ok-ids.ensures
