@@ -25,8 +25,8 @@ pub use Rattle.ac_tables.specs.Tables.{Tables, aggregates_of, amounts_of, gather
 pub use Rattle.ac_tables.specs.Tables.AggregateTable.{AggregateRecord, aggregates_said}
 pub use Rattle.ac_tables.specs.Tables.Checks.{Check, Row, Tells, TellsKind, first_failing, pass, record_checks, rows_fault, told_at}
 pub use Rattle.ac_tables.specs.Tables.Columns.{id_in, table_checks, text_in}
-pub use Rattle.ac_tables.specs.Tables.InventoryTable.{InventoryRecord, class_checks, class_name, inventories_said, is_inventory_of, is_one_of, known_checks, owner_checks, provider_name}
-pub use Rattle.ac_tables.specs.Tables.ProviderTable.{ProviderRecord, has_endless_chain, has_unknown_parent, has_wrong_root, is_known, no_record, provider_columns, providers_said, record_at, said_parent, uuid_name}
+pub use Rattle.ac_tables.specs.Tables.InventoryTable.{InventoryRecord, class_name, inventories_said, is_inventory_of, is_one_of, known_checks, owner_checks, provider_name}
+pub use Rattle.ac_tables.specs.Tables.ProviderTable.{ProviderRecord, has_endless_chain, has_unknown_parent, has_wrong_root, is_known, no_record, providers_said, record_at, said_parent, uuid_name}
 pub use Rattle.ac_tables.specs.Tables.Rows.{IsReading, records_of, rows_left}
 pub use Rattle.ac_tables.specs.Tables.TraitTable.{TraitRecord, traits_said}
 pub use Rattle.ac_tables.specs.Tables.UsageTable.{UsageRecord, usage_field_checks, usages_said}
@@ -44,7 +44,7 @@ pub use Rattle.ac_tables.specs.declared.tables.provider_record.Named.{Named}
 pub use Rattle.csv.specs.Machine.{Read, ends_at_end}
 pub use Rattle.csv.specs.Records.{fields_of}
 pub use Rattle.csv.specs.declared.parser.State.{State}
-pub use Rattle.std.proofs.Common.{All, AllPairs, Bool, Bor, Contains, Equal, Err, Greater, IfSome, IsPermutation, IsSortedBy, Less, List, None, Ok, Option, Ordering, Result, Some, [], ap, append_assoc, ap₂, arith, bytes_eq, codes, drop, drop-cons, false, filter, fold, get_or, if◌then◌else◌, inl, inr, is_eq, is_lt, is_none, is_some, length, map, min, nat_cmp, nat_le, nat_lt, not, option_and_then, option_map, refl, reverse, rules, subst, suc, sum_by, sym, take, true, unwrap_or, zero, ℕ, ◌%◌, ◌&&◌, ◌*◌, ◌++◌, ◌+◌, ◌-◌, ◌<◌, ◌==◌, ◌^◌, ◌||◌, ◌∙◌, ◌∷◌, ◌≡◌, ◌≢◌, ◌≤◌, ◌⊎◌}
+pub use Rattle.std.proofs.Common.{All, Bool, Bor, Contains, Equal, Err, Greater, IfSome, IsPermutation, IsSortedBy, Less, List, None, Ok, Option, Ordering, Result, Some, [], ap, append_assoc, ap₂, arith, bytes_eq, codes, drop, drop-cons, false, filter, fold, get_or, if◌then◌else◌, inl, inr, is_eq, is_lt, is_none, is_some, length, map, min, nat_cmp, nat_le, nat_lt, not, option_and_then, option_map, refl, reverse, rules, subst, suc, sum_by, sym, take, true, unwrap_or, zero, ℕ, ◌%◌, ◌&&◌, ◌*◌, ◌++◌, ◌+◌, ◌-◌, ◌<◌, ◌==◌, ◌^◌, ◌||◌, ◌∙◌, ◌∷◌, ◌≡◌, ◌≢◌, ◌≤◌, ◌⊎◌}
 pub use Rattle.std.proofs.Math.Bool.{or-false}
 pub use Rattle.std.proofs.Math.Seq.{get_or-append_seam}
 pub use Rattle.std.proofs.lemmas.Bool.{cases_Bool, cases_eq, cases_lt, false≢true}
@@ -52,7 +52,7 @@ pub use Rattle.std.proofs.lemmas.Bool.Decides.{nat_tests}
 pub use Rattle.std.proofs.lemmas.Cmp.{alike_right, eq_by_cmp_equiv, nat_cmp_total, nat_list_cmp_total}
 pub use Rattle.std.proofs.lemmas.Fn.{always_returns_same}
 pub use Rattle.std.proofs.lemmas.List.{append-nil, get_or-map, get_or_append_left, get_or_default, get_or_read, length-append, length-map, length-take-le, map-append, map-id}
-pub use Rattle.std.proofs.lemmas.List.Elements.{All-head, All-tail, All-weaker, Contains-get_or, recursion_from_All}
+pub use Rattle.std.proofs.lemmas.List.Elements.{All-weaker, Contains-get_or, recursion_from_All}
 pub use Rattle.std.proofs.lemmas.List.Filters.{All-dedup}
 pub use Rattle.std.proofs.lemmas.List.Folds.{list_any_at}
 pub use Rattle.std.proofs.lemmas.List.FromFn.{get_or-map-range_with_len, get_or-range_with_len, length-range_with_len}
@@ -67,7 +67,7 @@ pub use Rattle.std.specs.Cmp.{IsStrictWeakOrder, IsTotalOrder, on_total}
 pub use Rattle.std.specs.Cmp.Lexicographic.{same_text}
 pub use Rattle.std.specs.Global.{Vec}
 pub use Rattle.std.specs.List.{AllByRecursion, dedup, list_any, position_from, range_with_len}
-pub use Rattle.std.specs.List.Sorted.{IsBinarySearchResult, IsNonDecreasingBy, IsStableBy, IsStrictlySortedBy, ties}
+pub use Rattle.std.specs.List.Sorted.{IsBinarySearchResult, IsNonDecreasingBy, IsStrictlySortedBy}
 pub use Rattle.std.specs.Map.{lookup}
 pub use Rattle.std.specs.Ordering.{eq_by_cmp, ordering_reverse, ordering_then}
 pub use Rattle.std.specs.Result.{result_ok}

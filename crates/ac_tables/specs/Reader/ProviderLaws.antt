@@ -22,7 +22,7 @@ any_position p i [] = refl
 any_position p i (x ∷ xs) = elim (cases_Bool (p x)) [ inl e ↦ rw e refl | inr e ↦ rw e (any_position p (i + 1) xs) ]
 
 -- whether an id is known, in both words
-pub any_known : (all : List ProviderRecord) (q : ℕ) → is_known all q ≡ list_any (is_at q) all
+any_known : (all : List ProviderRecord) (q : ℕ) → is_known all q ≡ list_any (is_at q) all
 unfolding place_of
 any_known all q = any_position (is_at q) 0 all
 

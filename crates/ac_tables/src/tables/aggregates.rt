@@ -13,7 +13,7 @@ ghost use Rattle.ac_tables.specs.declared.fault.Table.TheVariants as table;
 
 use crate::cloud::provider_index::Ids;
 use crate::fault::{RecordFault, Table, TableFault, TableKind};
-use crate::reader::fields::read_owner;
+use crate::reader::fields::{OWNER, read_owner};
 use crate::reader::gather::read_table;
 use crate::reader::header::column_at;
 use crate::reader::lists::Lists;
@@ -25,7 +25,9 @@ use ac_base::Id;
 use csv::ByteRecord;
 use std::alloc::Global;
 
-const AGGREGATE_COLUMNS: [&[u8]; 2] = [b"resource_provider", b"uuid"];
+const UUID: &[u8] = b"uuid";
+
+const AGGREGATE_COLUMNS: [&[u8]; 2] = [OWNER, UUID];
 
 // Where the columns stand.
 #[derive(Clone, Copy, Debug, PartialEq, Eq)]
@@ -84,8 +86,8 @@ impl Record for AggregateTable {
     #[tactic(auto, unfolding(crate::specs::Reader::ColumnPlaces::aggregate_places, crate::specs::Tables::InventoryTable::provider_name, crate::specs::Tables::ProviderTable::uuid_name))]
     fn columns(header: &ByteRecord) -> AggregateColumns {
         AggregateColumns {
-            provider: column_at(header, b"resource_provider"),
-            aggregate: column_at(header, b"uuid"),
+            provider: column_at(header, OWNER),
+            aggregate: column_at(header, UUID),
         }
     }
 

@@ -22,7 +22,7 @@ ghost use Rattle.ac_tables.specs.declared.fault.Table.TheVariants as table;
 
 use crate::cloud::provider_index::Ids;
 use crate::fault::{RecordFault, Table, TableFault, TableKind};
-use crate::reader::fields::{read_class, read_owner};
+use crate::reader::fields::{CLASS, OWNER, read_class, read_owner};
 use crate::reader::gather::read_table;
 use crate::reader::header::column_at;
 use crate::reader::lists::Lists;
@@ -34,15 +34,20 @@ use ac_base::{ClassName, Inventory, Ratio, read_count};
 use csv::ByteRecord;
 use std::alloc::{AllocError, Global};
 
+const TOTAL: &[u8] = b"total";
+
+const RESERVED: &[u8] = b"reserved";
+
+const MIN_UNIT: &[u8] = b"min_unit";
+
+const MAX_UNIT: &[u8] = b"max_unit";
+
+const STEP_SIZE: &[u8] = b"step_size";
+
+const RATIO: &[u8] = b"allocation_ratio";
+
 const INVENTORY_COLUMNS: [&[u8]; 8] = [
-    b"resource_provider",
-    b"resource_class",
-    b"total",
-    b"reserved",
-    b"min_unit",
-    b"max_unit",
-    b"step_size",
-    b"allocation_ratio",
+    OWNER, CLASS, TOTAL, RESERVED, MIN_UNIT, MAX_UNIT, STEP_SIZE, RATIO,
 ];
 
 // Where the columns stand.
@@ -150,14 +155,14 @@ impl Record for InventoryTable {
     #[tactic(auto, unfolding(crate::specs::Reader::ColumnPlaces::inventory_places, crate::specs::Tables::InventoryTable::provider_name, crate::specs::Tables::InventoryTable::class_name, crate::specs::Tables::InventoryTable::total_name, crate::specs::Tables::InventoryTable::reserved_name, crate::specs::Tables::InventoryTable::min_unit_name, crate::specs::Tables::InventoryTable::max_unit_name, crate::specs::Tables::InventoryTable::step_size_name, crate::specs::Tables::InventoryTable::ratio_name))]
     fn columns(header: &ByteRecord) -> InventoryColumns {
         InventoryColumns {
-            provider: column_at(header, b"resource_provider"),
-            class: column_at(header, b"resource_class"),
-            total: column_at(header, b"total"),
-            reserved: column_at(header, b"reserved"),
-            min_unit: column_at(header, b"min_unit"),
-            max_unit: column_at(header, b"max_unit"),
-            step_size: column_at(header, b"step_size"),
-            ratio: column_at(header, b"allocation_ratio"),
+            provider: column_at(header, OWNER),
+            class: column_at(header, CLASS),
+            total: column_at(header, TOTAL),
+            reserved: column_at(header, RESERVED),
+            min_unit: column_at(header, MIN_UNIT),
+            max_unit: column_at(header, MAX_UNIT),
+            step_size: column_at(header, STEP_SIZE),
+            ratio: column_at(header, RATIO),
         }
     }
 

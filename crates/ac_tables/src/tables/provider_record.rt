@@ -12,8 +12,14 @@ use crate::reader::records::text_at;
 use ac_base::Id;
 use csv::ByteRecord;
 
+const UUID: &[u8] = b"uuid";
+
+const ROOT: &[u8] = b"root_provider_uuid";
+
+const PARENT: &[u8] = b"parent_provider_uuid";
+
 // The needed columns, in the order in which they are checked.
-const PROVIDER_COLUMNS: [&[u8]; 3] = [b"uuid", b"root_provider_uuid", b"parent_provider_uuid"];
+const PROVIDER_COLUMNS: [&[u8]; 3] = [UUID, ROOT, PARENT];
 
 // Where the columns stand.
 #[derive(Clone, Copy, Debug, PartialEq, Eq)]
@@ -86,9 +92,9 @@ impl Record for ProviderTable {
     #[tactic(auto, unfolding(crate::specs::Reader::ColumnPlaces::provider_places, crate::specs::Tables::ProviderTable::uuid_name, crate::specs::Tables::ProviderTable::root_name, crate::specs::Tables::ProviderTable::parent_name))]
     fn columns(header: &ByteRecord) -> ProviderColumns {
         ProviderColumns {
-            id: column_at(header, b"uuid"),
-            root: column_at(header, b"root_provider_uuid"),
-            parent: column_at(header, b"parent_provider_uuid"),
+            id: column_at(header, UUID),
+            root: column_at(header, ROOT),
+            parent: column_at(header, PARENT),
         }
     }
 

@@ -16,7 +16,7 @@ ghost use Rattle.ac_tables.specs.declared.fault.Table.TheVariants as table;
 
 use crate::cloud::provider_index::Ids;
 use crate::fault::{RecordFault, Table, TableFault, TableKind};
-use crate::reader::fields::read_owner;
+use crate::reader::fields::{OWNER, read_owner};
 use crate::reader::gather::read_table;
 use crate::reader::header::column_at;
 use crate::reader::lists::Lists;
@@ -28,7 +28,9 @@ use ac_base::{Names, TraitName};
 use csv::ByteRecord;
 use std::alloc::Global;
 
-const TRAIT_COLUMNS: [&[u8]; 2] = [b"resource_provider", b"name"];
+const NAME: &[u8] = b"name";
+
+const TRAIT_COLUMNS: [&[u8]; 2] = [OWNER, NAME];
 
 // Where the columns stand.
 #[derive(Clone, Copy, Debug, PartialEq, Eq)]
@@ -109,8 +111,8 @@ impl Record for TraitTable {
     #[tactic(auto, unfolding(crate::specs::Reader::ColumnPlaces::trait_places, crate::specs::Tables::InventoryTable::provider_name, crate::specs::Tables::TraitTable::name_name))]
     fn columns(header: &ByteRecord) -> TraitColumns {
         TraitColumns {
-            provider: column_at(header, b"resource_provider"),
-            name: column_at(header, b"name"),
+            provider: column_at(header, OWNER),
+            name: column_at(header, NAME),
         }
     }
 

@@ -17,7 +17,7 @@ ghost use Rattle.ac_tables.specs.Tables.{amounts_of};
 ghost use Rattle.ac_tables.specs.declared.fault.Table.TheVariants as table;
 
 use crate::fault::{RecordFault, Table, TableFault, TableKind};
-use crate::reader::fields::{read_class, read_owner};
+use crate::reader::fields::{CLASS, OWNER, read_class, read_owner};
 use crate::reader::gather::read_table;
 use crate::reader::header::column_at;
 use crate::reader::lists::Lists;
@@ -30,7 +30,9 @@ use ac_base::{ClassName, read_count};
 use csv::ByteRecord;
 use std::alloc::Global;
 
-const USAGE_COLUMNS: [&[u8]; 3] = [b"resource_provider", b"resource_class", b"usage"];
+const USAGE: &[u8] = b"usage";
+
+const USAGE_COLUMNS: [&[u8]; 3] = [OWNER, CLASS, USAGE];
 
 // Where the columns stand.
 #[derive(Clone, Copy, Debug, PartialEq, Eq)]
@@ -104,9 +106,9 @@ impl Record for UsageTable {
     #[tactic(auto, unfolding(crate::specs::Reader::ColumnPlaces::usage_places, crate::specs::Tables::InventoryTable::provider_name, crate::specs::Tables::InventoryTable::class_name, crate::specs::Tables::UsageTable::usage_name))]
     fn columns(header: &ByteRecord) -> UsageColumns {
         UsageColumns {
-            provider: column_at(header, b"resource_provider"),
-            class: column_at(header, b"resource_class"),
-            amount: column_at(header, b"usage"),
+            provider: column_at(header, OWNER),
+            class: column_at(header, CLASS),
+            amount: column_at(header, USAGE),
         }
     }
 
