@@ -1,6 +1,6 @@
 -- How the program ends, and what it leaves on its streams.
 use Rattle.std.specs.Prelude.{◌≡◌, ◌≢◌, ◌<◌, ◌≤◌, ◌⊎◌, ℕ, List, [], ◌∷◌, codes, length, Option, Some, None, Contains}
-use Rattle.std.specs.Io.KnownBytes.{Appends, append_known}
+use Rattle.std.specs.Io.KnownBytes.{Appends, Keeps, append_known}
 use Rattle.clap.specs.Words.{IsAmong, Kinds, Row, Text}
 use Rattle.clap.specs.declared.error.kind.ErrorKind.{ErrorKind}
 use Rattle.clap.specs.declared.error.kind.ErrorKind.TheVariants.{DisplayHelp, DisplayVersion}
@@ -63,7 +63,7 @@ pub record Ran {R : Type 0} (remaining : R → Option (List ℕ)) (failures : R 
       ((b : Bytes) → TellBytes remaining from b → IsRefused (answer task b) s.err_old s.err_new s.err_before s.err_after given) failed
   pub query : given ≡ 4 → (b : Bytes) → TellBytes remaining from b → IsRefused (answer task b) s.err_old s.err_new s.err_before s.err_after given
   pub token : given ≡ 5 → (b : Bytes) → TellBytes remaining from b → IsRefused (answer task b) s.err_old s.err_new s.err_before s.err_after given
-  pub untouched : 3 ≤ given → given ≤ 5 → IsFirstPart s.out_old s.out_new
+  pub untouched : 3 ≤ given → given ≤ 5 → Keeps s.out_old s.out_new
   pub output : given ≡ 6 → Rises s.out_before s.out_after × IsLine s output_line
   pub memory : given ≡ 7 → IsLine s memory_line
   pub part : 6 ≤ given → (b : Bytes) → TellBytes remaining from b → IsFirstPart (append_known s.out_old (answer task b).output) s.out_new

@@ -1,11 +1,13 @@
 -- What stands in a sink after a run whose output was gathered above it.
-use Rattle.std.proofs.Common.{◌≡◌, ◌∙◌, ℕ, ◌<◌, ◌≤◌, List, ◌++◌, Option, Some, None, sym, ap, subst, append_assoc, arith, inl, inr}
+use Rattle.std.proofs.Common.{◌≡◌, ◌∙◌, ℕ, ◌<◌, ◌≤◌, List, [], ◌++◌, Option, Some, None, sym, ap, subst, append-nil, append_assoc, arith, inl, inr}
 use Rattle.std.proofs.lemmas.Bool.{cases_Bool}
 use Rattle.std.proofs.lemmas.Bool.Decides.{nat_tests}
 use Rattle.std.specs.Prelude.{Result, Ok, Err, OnOk, OnErr, nat_lt}
 use Rattle.std.specs.Io.KnownBytes.{Appends, Keeps, append_known}
 use Rattle.ac_base.specs.Devices.{Rises, TakesPart, last_count}
 use Rattle.ac_base.specs.Gathered.{IsFirstPart}
+use Rattle.ac_run.specs.Answer.{Outcome}
+use Rattle.ac_run.specs.Run.{IsAnswered, IsWritten}
 
 pub from_ok : {T E : Type 0} (r : Result T E) (x : T) (P : Type 0) → r ≡ Ok x → OnOk r P → P
 from_ok (Ok y) x P e h = h
@@ -29,12 +31,9 @@ later_rise a b c p q h = λ below. elim (cases_Bool (nat_lt b last_count)) [
 -- ---- bytes: of the sink, of what gathers above it at first and at last, and of the sink at last
 
 -- nothing was added
-pub nothing_more : (a b c d : Option (List ℕ)) → Keeps a b → Keeps b c → IsFirstPart c d → IsFirstPart a d
-nothing_more None b c d h k part = tt
-nothing_more (Some u) None c d h k part = absurd h
-nothing_more (Some u) (Some v) None d h k part = absurd k
-nothing_more (Some u) (Some v) (Some w) None h k part = absurd part
-nothing_more (Some u) (Some v) (Some w) (Some x) h k part = (part.0, sym h ∙ sym k ∙ part.1)
+pub nothing_added : (a : Option (List ℕ)) → Appends a a []
+nothing_added None = tt
+nothing_added (Some u) = sym (append-nil u)
 
 -- a part of a text was added
 pub part_more : (a b c d : Option (List ℕ)) (text : List ℕ) → Keeps a b → TakesPart b c text → IsFirstPart c d → IsFirstPart (append_known a text) d
@@ -62,3 +61,23 @@ whole_text (Some u) None c d text h k e = absurd h
 whole_text (Some u) (Some v) None d text h k e = absurd k
 whole_text (Some u) (Some v) (Some w) None text h k e = absurd e
 whole_text (Some u) (Some v) (Some w) (Some x) text h k e = e ∙ k ∙ ap (λ l. l ++ text) h
+
+-- ---- an answer, and what was written of it
+
+module _ (said outcome : Outcome) (e : said ≡ outcome) where
+  pub gives_answer : (a d err : Option (List ℕ)) (given : ℕ) → IsWritten outcome a d given → IsAnswered said a d err err given
+  gives_answer a d err given w = subst (λ o. IsAnswered o a d err err given) (sym e) (record {
+    output = w.output;
+    line = subst (Appends err err) (sym w.line) (nothing_added err);
+    status = w.status;
+  })
+
+  pub whole_answer : (a b c d err : Option (List ℕ)) (given : ℕ) → Keeps a b → IsWritten outcome b c given → Keeps c d → IsAnswered said a d err err given
+  whole_answer a b c d err given h w k =
+      gives_answer a d err given (record { output = whole_text a b c d outcome.output h w.output k; line = w.line; status = w.status })
+
+  pub part_of_answer : (a b c d : Option (List ℕ)) → Keeps a b → TakesPart b c outcome.output → IsFirstPart c d → IsFirstPart (append_known a said.output) d
+  part_of_answer a b c d h k part = subst (λ o. IsFirstPart (append_known a o.output) d) (sym e) (part_more a b c d outcome.output h k part)
+
+  pub rest_dropped : (a b c d : Option (List ℕ)) (given : ℕ) → Keeps a b → IsWritten outcome b c given → IsFirstPart c d → IsFirstPart (append_known a said.output) d
+  rest_dropped a b c d given h w part = subst (λ o. IsFirstPart (append_known a o.output) d) (sym e) (text_more a b c d outcome.output h w.output part)

@@ -1,11 +1,11 @@
 -- What a refusal that was told says of the answer.
-use Rattle.std.proofs.Common.{◌≡◌, ℕ, List, [], ◌∷◌, Option, Some, None, refl, sym, ap, subst, arith}
+use Rattle.std.proofs.Common.{◌≡◌, ℕ, ◌≤◌, zero, suc, List, [], ◌∷◌, Option, Some, None, refl, sym, ap, subst, arith}
 use Rattle.std.specs.Prelude.{Contains}
 use Rattle.ac_tables.specs.declared.fault.Table.{Table}
 use Rattle.ac_run.specs.Answer.{Task, answer, refused}
 use Rattle.ac_run.specs.Feeds.{Bytes, FeedRose, TellBytes}
 use Rattle.ac_run.specs.Refusals.{line_of, status_of}
-use Rattle.ac_run.specs.Run.{Explains, FailsOr, IsRefused, IsUnread}
+use Rattle.ac_run.specs.Run.{ExplainsUnready, FailsOr, IsRefused, IsUnread}
 use Rattle.ac_run.specs.Writing.{TakesLine}
 use Rattle.ac_tables.specs.declared.read.FiveTables.{FiveTables}
 use Rattle.ac_run.specs.declared.refusal.Refusal.{Refusal}
@@ -20,8 +20,13 @@ is_status (why.Token f) = (4, omega arith, refl)
 is_status why.Output = (5, omega arith, refl)
 is_status why.NoMemory = (6, omega arith, refl)
 
+pub is_answered : (n : ℕ) → n ≤ 1 → Contains (0 ∷ 1 ∷ 3 ∷ 4 ∷ 5 ∷ 6 ∷ 7 ∷ []) n
+is_answered zero h = (0, omega arith, refl)
+is_answered (suc zero) h = (1, omega arith, refl)
+is_answered (suc (suc n)) h = absurd (omega arith)
+
 module _ {R : Type 0} (remaining : R → Option (List ℕ)) (failures : R → ℕ) (task : Task) (from to : FiveTables R)
-    (old new err_old err_new : Option (List ℕ)) (out_rose : Type 0) (before after : ℕ) where
+    (err_old err_new : Option (List ℕ)) (before after : ℕ) where
   abbrev IsTold : Refusal → Type 0
   IsTold refusal = TakesLine err_old err_new before after (line_of refusal)
 
@@ -36,11 +41,11 @@ module _ {R : Type 0} (remaining : R → Option (List ℕ)) (failures : R → �
     status = sym (ap (λ o. o.status) (e b tell));
   }
 
-  pub tables : (refusal : Refusal) → Explains remaining failures task from to old new out_rose refusal → IsTold refusal → status_of refusal ≡ 3
+  pub tables : (refusal : Refusal) → ExplainsUnready remaining failures task from to refusal → IsTold refusal → status_of refusal ≡ 3
       → (failed : Option Table) × FailsOr (λ t. IsUnread (FeedRose failures from to t) t err_old err_new before after) (Refused refusal) failed
-  tables (why.Unreadable t) h l e = (Some t, record { rises = h.0; line = l })
-  tables (why.TooLarge t) h l e = (None, the_answer (why.TooLarge t) h.0 l)
-  tables (why.Record t row kind) h l e = (None, the_answer (why.Record t row kind) h.0 l)
+  tables (why.Unreadable t) h l e = (Some t, record { rises = h; line = l })
+  tables (why.TooLarge t) h l e = (None, the_answer (why.TooLarge t) h l)
+  tables (why.Record t row kind) h l e = (None, the_answer (why.Record t row kind) h l)
   tables (why.Query f) h l e = absurd (cc)
   tables (why.Token f) h l e = absurd (cc)
   tables why.Output h l e = absurd (cc)

@@ -1,63 +1,66 @@
--- What is said of a query and a token that were read, and of those that were refused.
-use Rattle.std.proofs.Common.{◌≡◌, ◌∙◌, ℕ, List, Option, Some, None, refl, sym, ap, subst}
-use Rattle.std.specs.Io.KnownBytes.{Keeps}
+-- What each command says of a query and a token that were read, and of those that were refused.
+use Rattle.std.proofs.Common.{◌≡◌, ◌∙◌, ℕ, List, Option, Some, refl, ap}
 use Rattle.ac_query.specs.Asked.{Asked}
 use Rattle.ac_tables.specs.World.{World}
-use Rattle.ac_base.proofs.Leaving.{part_none}
 use Rattle.ac_run.specs.Answer.{Says, Task, answer_in, explanation, page_body, page_lines, past_query, verdict_line}
-use Rattle.ac_run.specs.Jobs.{ExplainsWanted}
-use Rattle.ac_run.specs.Run.{ExplainsOutcome}
+use Rattle.ac_run.specs.Jobs.{ExplainsAsked, ExplainsWanted}
 use Rattle.ac_run.specs.declared.refusal.Refusal.{Refusal}
 use Rattle.ac_run.specs.declared.refusal.Refusal.TheVariants as why
 use Rattle.ac_query.specs.declared.job.Command.{Command}
 use Rattle.ac_query.specs.declared.job.Command.TheVariants as command
 
-pub keeps : (s : Option (List ℕ)) → Keeps s s
-keeps None = tt
-keeps (Some xs) = refl
+module _ (task : Task) where
+  -- the command says this of what is asked
+  abbrev SaysIt : (World → Says) → Type 0
+  SaysIt say = (world : World) → answer_in task.command task world ≡ past_query (say world) task
 
--- a refusal of what is asked explains the outcome, and leaves the sink as it is
-explains_said : (task : Task) (say : Says) (s : Option (List ℕ)) (rose : Type 0) (refusal : Refusal) → ExplainsWanted task refusal
-    → ExplainsOutcome (past_query say task) s s rose refusal
-explains_said task say s rose (why.Query f) h = (h say, keeps s)
-explains_said task say s rose (why.Token f) h = (h say, keeps s)
-explains_said task say s rose why.NoMemory h = part_none s _
-explains_said task say s rose (why.Unreadable t) h = absurd h
-explains_said task say s rose (why.TooLarge t) h = absurd h
-explains_said task say s rose (why.Record t row k) h = absurd h
-explains_said task say s rose why.Output h = absurd h
+  says_body : task.command ≡ command.Candidates → SaysIt (λ world. page_body world.providers)
+  says_body is world = ap (λ k. answer_in k task world) is
 
--- ---- of each command that asks
+  says_lines : task.command ≡ command.Tokens → SaysIt (λ world. page_lines world.providers)
+  says_lines is world = ap (λ k. answer_in k task world) is
 
-module _ (given : Command) (task : Task) (world : World) (s : Option (List ℕ)) (rose : Type 0) (refusal : Refusal) where
-  explains : (k : Command) (say : Says) → given ≡ k → answer_in k task world ≡ past_query say task → ExplainsWanted task refusal
-      → ExplainsOutcome (answer_in given task world) s s rose refusal
-  explains k say is e h =
-      subst (λ o. ExplainsOutcome o s s rose refusal) (sym (ap (λ k. answer_in k task world) is ∙ e)) (explains_said task say s rose refusal h)
+  says_verdict : task.command ≡ command.Verify → SaysIt (λ world. verdict_line world.providers)
+  says_verdict is world = ap (λ k. answer_in k task world) is
 
-  pub explains_candidates : given ≡ command.Candidates → ExplainsWanted task refusal → ExplainsOutcome (answer_in given task world) s s rose refusal
-  explains_candidates is h = explains command.Candidates (page_body world.providers) is refl h
+  says_explanation : task.command ≡ command.Explain → SaysIt (λ world. explanation world.providers)
+  says_explanation is world = ap (λ k. answer_in k task world) is
 
-  pub explains_tokens : given ≡ command.Tokens → ExplainsWanted task refusal → ExplainsOutcome (answer_in given task world) s s rose refusal
-  explains_tokens is h = explains command.Tokens (page_lines world.providers) is refl h
+  -- ---- what is refused
 
-  pub explains_verify : given ≡ command.Verify → ExplainsWanted task refusal → ExplainsOutcome (answer_in given task world) s s rose refusal
-  explains_verify is h = explains command.Verify (verdict_line world.providers) is refl h
+  explains : (say : World → Says) → SaysIt say → (refusal : Refusal) → ExplainsAsked task refusal → ExplainsWanted task refusal
+  explains say says (why.Query f) h = λ world. says world ∙ h (say world)
+  explains say says (why.Token f) h = λ world. says world ∙ h (say world)
+  explains say says why.NoMemory h = tt
+  explains say says (why.Unreadable t) h = absurd h
+  explains say says (why.TooLarge t) h = absurd h
+  explains say says (why.Record t row k) h = absurd h
+  explains say says why.Output h = absurd h
 
-  pub explains_explain : given ≡ command.Explain → ExplainsWanted task refusal → ExplainsOutcome (answer_in given task world) s s rose refusal
-  explains_explain is h = explains command.Explain (explanation world.providers) is refl h
+  module _ (refusal : Refusal) (h : ExplainsAsked task refusal) where
+    pub explains_body : task.command ≡ command.Candidates → ExplainsWanted task refusal
+    explains_body is = explains (λ world. page_body world.providers) (says_body is) refusal h
 
--- ---- what is said of a query and a token that were read is the answer of their command
+    pub explains_lines : task.command ≡ command.Tokens → ExplainsWanted task refusal
+    explains_lines is = explains (λ world. page_lines world.providers) (says_lines is) refusal h
 
-module _ (given : Command) (task : Task) (world : World) (asked : Asked) (ids : Option (List ℕ)) (said : (say : Says) → past_query say task ≡ say asked ids) where
-  pub said_candidates : given ≡ command.Candidates → page_body world.providers asked ids ≡ answer_in given task world
-  said_candidates is = sym (ap (λ k. answer_in k task world) is ∙ said (page_body world.providers))
+    pub explains_verdict : task.command ≡ command.Verify → ExplainsWanted task refusal
+    explains_verdict is = explains (λ world. verdict_line world.providers) (says_verdict is) refusal h
 
-  pub said_tokens : given ≡ command.Tokens → page_lines world.providers asked ids ≡ answer_in given task world
-  said_tokens is = sym (ap (λ k. answer_in k task world) is ∙ said (page_lines world.providers))
+    pub explains_explanation : task.command ≡ command.Explain → ExplainsWanted task refusal
+    explains_explanation is = explains (λ world. explanation world.providers) (says_explanation is) refusal h
 
-  pub said_verdict : {list : List ℕ} → ids ≡ Some list → given ≡ command.Verify → verdict_line world.providers asked (Some list) ≡ answer_in given task world
-  said_verdict e is = sym (ap (λ k. answer_in k task world) is ∙ said (verdict_line world.providers) ∙ ap (verdict_line world.providers asked) e)
+  -- ---- what was read
 
-  pub said_explanation : given ≡ command.Explain → explanation world.providers asked ids ≡ answer_in given task world
-  said_explanation is = sym (ap (λ k. answer_in k task world) is ∙ said (explanation world.providers))
+  module _ (asked : Asked) (ids : Option (List ℕ)) (said : (say : Says) → past_query say task ≡ say asked ids) (world : World) where
+    pub said_body : task.command ≡ command.Candidates → answer_in task.command task world ≡ page_body world.providers asked ids
+    said_body is = says_body is world ∙ said (page_body world.providers)
+
+    pub said_lines : task.command ≡ command.Tokens → answer_in task.command task world ≡ page_lines world.providers asked ids
+    said_lines is = says_lines is world ∙ said (page_lines world.providers)
+
+    pub said_verdict : {list : List ℕ} → ids ≡ Some list → task.command ≡ command.Verify → answer_in task.command task world ≡ verdict_line world.providers asked (Some list)
+    said_verdict e is = says_verdict is world ∙ said (verdict_line world.providers) ∙ ap (verdict_line world.providers asked) e
+
+    pub said_explanation : task.command ≡ command.Explain → answer_in task.command task world ≡ explanation world.providers asked ids
+    said_explanation is = says_explanation is world ∙ said (explanation world.providers)

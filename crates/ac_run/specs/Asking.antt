@@ -1,11 +1,33 @@
--- Why what a job asks is refused.
-use Rattle.std.specs.Prelude.{◌≡◌, Option, Some, ⊤}
+-- What a job asks, and why it is refused.
+use Rattle.std.specs.Prelude.{◌≡◌, length, Option, Some, None, ⊤}
+use Rattle.std.specs.Option.{option_map}
+use Rattle.ac_tables.specs.World.{World}
+use Rattle.ac_query.specs.Asked.{slots_of}
 use Rattle.ac_query.specs.Faults.{Fault}
 use Rattle.ac_query.specs.Shown.Faults.{fault_shown}
+use Rattle.ac_query.specs.Shown.Queries.{asked_of}
+use Rattle.ac_query.specs.Tokens.{ids_of}
 use Rattle.ac_query.specs.declared.fault.QueryFault.{QueryFault}
 use Rattle.ac_query.specs.declared.token.TokenFault.{TokenFault}
+use Rattle.ac_run.specs.Answer.{Outcome, explanation, page_body, page_lines, verdict_line, written}
+use Rattle.ac_run.specs.Outputs.{counts}
+use Rattle.ac_run.specs.declared.asking.Wanted.{Wanted}
+use Rattle.ac_run.specs.declared.asking.Wanted.TheVariants as wanted
 use Rattle.ac_run.specs.declared.refusal.Refusal.{Refusal}
 use Rattle.ac_run.specs.declared.refusal.Refusal.TheVariants as why
+
+-- the answer to what is wanted, in a world
+abbrev pub answer_to : Wanted → World → Outcome
+answer_to wanted.Counts world = written (counts world.sizes) 0
+answer_to (wanted.Body query token) world = page_body world.providers (asked_of query) (option_map ids_of token)
+answer_to (wanted.Lines query token) world = page_lines world.providers (asked_of query) (option_map ids_of token)
+answer_to (wanted.Verdict query token) world = verdict_line world.providers (asked_of query) (Some (ids_of token))
+answer_to (wanted.Explanation query) world = explanation world.providers (asked_of query) None
+
+-- the token on which a verdict is wanted has an id for each slot of the query
+abbrev pub HasIdForEachSlot : Wanted → Type 0
+HasIdForEachSlot (wanted.Verdict query token) = length (ids_of token) ≡ length (slots_of (asked_of query))
+HasIdForEachSlot _ = ⊤
 
 -- a refusal tells the first fault of the query, or want of memory
 abbrev pub ExplainsQuery : Option Fault → Refusal → Type 0

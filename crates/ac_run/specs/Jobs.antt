@@ -1,7 +1,8 @@
 -- Jobs as tasks, and why what they ask is refused.
 use Rattle.std.specs.Prelude.{◌≡◌, ⊤}
 use Rattle.std.specs.Option.{option_map}
-use Rattle.ac_run.specs.Answer.{Says, Task, past_query, refused}
+use Rattle.ac_tables.specs.World.{World}
+use Rattle.ac_run.specs.Answer.{Says, Task, answer_in, past_query, refused}
 use Rattle.ac_run.specs.Refusals.{line_of}
 use Rattle.ac_run.specs.declared.refusal.Refusal.{Refusal}
 use Rattle.ac_run.specs.declared.refusal.Refusal.TheVariants as why
@@ -11,9 +12,19 @@ abbrev pub task_of : Job → Task
 task_of job = record { command = job.command; query = job.query.now; version = job.version; token = option_map (λ token. token.now) job.token }
 
 -- why a task's query or token is refused, whatever would be said of them; or memory gave out
+abbrev pub ExplainsAsked : Task → Refusal → Type 0
+ExplainsAsked task (why.Query f) = (say : Says) → past_query say task ≡ refused (line_of (why.Query f)) 4
+ExplainsAsked task (why.Token f) = (say : Says) → past_query say task ≡ refused (line_of (why.Token f)) 5
+ExplainsAsked task why.NoMemory = ⊤
+ExplainsAsked task (why.Unreadable t) = ⊥
+ExplainsAsked task (why.TooLarge t) = ⊥
+ExplainsAsked task (why.Record t row k) = ⊥
+ExplainsAsked task why.Output = ⊥
+
+-- why a task is refused in every world: its query or its token is; or memory gave out
 abbrev pub ExplainsWanted : Task → Refusal → Type 0
-ExplainsWanted task (why.Query f) = (say : Says) → past_query say task ≡ refused (line_of (why.Query f)) 4
-ExplainsWanted task (why.Token f) = (say : Says) → past_query say task ≡ refused (line_of (why.Token f)) 5
+ExplainsWanted task (why.Query f) = (world : World) → answer_in task.command task world ≡ refused (line_of (why.Query f)) 4
+ExplainsWanted task (why.Token f) = (world : World) → answer_in task.command task world ≡ refused (line_of (why.Token f)) 5
 ExplainsWanted task why.NoMemory = ⊤
 ExplainsWanted task (why.Unreadable t) = ⊥
 ExplainsWanted task (why.TooLarge t) = ⊥

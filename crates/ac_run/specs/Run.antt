@@ -20,16 +20,6 @@ pub record IsWritten (outcome : Outcome) (old new : Option (List ℕ)) (given : 
   pub status : given ≡ outcome.status
   pub output : Appends old new outcome.output
 
--- Why an outcome was not written: it is this very refusal, and the sink is untouched; or the sink failed, and its count rose; or memory gave out.
-abbrev pub ExplainsOutcome : Outcome → Option (List ℕ) → Option (List ℕ) → Type 0 → Refusal → Type 0
-ExplainsOutcome outcome old new rose (why.Unreadable t) = ⊥
-ExplainsOutcome outcome old new rose (why.TooLarge t) = ⊥
-ExplainsOutcome outcome old new rose (why.Record t row k) = ⊥
-ExplainsOutcome outcome old new rose (why.Query f) = (outcome ≡ refused (line_of (why.Query f)) 4) × Keeps old new
-ExplainsOutcome outcome old new rose (why.Token f) = (outcome ≡ refused (line_of (why.Token f)) 5) × Keeps old new
-ExplainsOutcome outcome old new rose why.Output = rose × TakesPart old new outcome.output
-ExplainsOutcome outcome old new rose why.NoMemory = TakesPart old new outcome.output
-
 -- why there is no cloud: the first fault of the tables
 abbrev pub ExplainsTables : Option TableFault → Refusal → Type 0
 ExplainsTables first (why.Record t row k) = first ≡ Some (fault.At t row k)
@@ -40,15 +30,15 @@ ExplainsTables first (why.Token f) = ⊥
 ExplainsTables first why.Output = ⊥
 ExplainsTables first why.NoMemory = ⊤
 
--- what a run that ended for this reason leaves
-abbrev pub Explains : {R : Type 0} → (R → Option (List ℕ)) → (R → ℕ) → Task → FiveTables R → FiveTables R → Option (List ℕ) → Option (List ℕ) → Type 0 → Refusal → Type 0
-Explains remaining failures task from to old new rose (why.Unreadable t) = FeedRose failures from to t × Keeps old new
-Explains remaining failures task from to old new rose (why.TooLarge t) = ((b : Bytes) → TellBytes remaining from b → answer task b ≡ refused (line_of (why.TooLarge t)) 3) × Keeps old new
-Explains remaining failures task from to old new rose (why.Record t row k) = ((b : Bytes) → TellBytes remaining from b → answer task b ≡ refused (line_of (why.Record t row k)) 3) × Keeps old new
-Explains remaining failures task from to old new rose (why.Query f) = ((b : Bytes) → TellBytes remaining from b → answer task b ≡ refused (line_of (why.Query f)) 4) × Keeps old new
-Explains remaining failures task from to old new rose (why.Token f) = ((b : Bytes) → TellBytes remaining from b → answer task b ≡ refused (line_of (why.Token f)) 5) × Keeps old new
-Explains remaining failures task from to old new rose why.Output = rose × ((b : Bytes) → TellBytes remaining from b → TakesPart old new (answer task b).output)
-Explains remaining failures task from to old new rose why.NoMemory = (b : Bytes) → TellBytes remaining from b → TakesPart old new (answer task b).output
+-- why a run ended before its output: a feed failed, or the answer is this very refusal; or memory gave out
+abbrev pub ExplainsUnready : {R : Type 0} → (R → Option (List ℕ)) → (R → ℕ) → Task → FiveTables R → FiveTables R → Refusal → Type 0
+ExplainsUnready remaining failures task from to (why.Unreadable t) = FeedRose failures from to t
+ExplainsUnready remaining failures task from to (why.TooLarge t) = (b : Bytes) → TellBytes remaining from b → answer task b ≡ refused (line_of (why.TooLarge t)) 3
+ExplainsUnready remaining failures task from to (why.Record t row k) = (b : Bytes) → TellBytes remaining from b → answer task b ≡ refused (line_of (why.Record t row k)) 3
+ExplainsUnready remaining failures task from to (why.Query f) = (b : Bytes) → TellBytes remaining from b → answer task b ≡ refused (line_of (why.Query f)) 4
+ExplainsUnready remaining failures task from to (why.Token f) = (b : Bytes) → TellBytes remaining from b → answer task b ≡ refused (line_of (why.Token f)) 5
+ExplainsUnready remaining failures task from to why.NoMemory = ⊤
+ExplainsUnready remaining failures task from to why.Output = ⊥
 
 -- The answer was given whole: its output, its line and its status.
 pub record IsAnswered (outcome : Outcome) (out_old out_new err_old err_new : Option (List ℕ)) (given : ℕ) : Type 0 where

@@ -3,19 +3,37 @@ ghost use Rattle.std.specs.Prelude.{◌≡◌, IfOk, IfErr, IfSome, OnOk, Some, 
 ghost use Rattle.std.specs.Option.{option_map};
 ghost use Rattle.ac_query.specs.Asked.{slots_of};
 ghost use Rattle.ac_query.specs.Faults.{query_fault};
+ghost use Rattle.ac_query.specs.Jobs.{HasToken};
 ghost use Rattle.ac_query.specs.Laws.Gathered.{asked_by};
 ghost use Rattle.ac_query.specs.Pairs.{pairs_of};
 ghost use Rattle.ac_query.specs.Shown.Queries.{asked_of};
 ghost use Rattle.ac_query.specs.Tokens.{ids_of};
-ghost use Rattle.ac_run.specs.Answer.{ids_given, token_refusal};
-ghost use Rattle.ac_run.specs.Asking.{ExplainsQuery, ExplainsToken, IsRefusalOf};
+ghost use Rattle.ac_tables.specs.World.{World};
+ghost use Rattle.ac_run.specs.Answer.{Says, answer_in, ids_given, past_query, token_refusal};
+ghost use Rattle.ac_run.specs.Asking.{ExplainsQuery, ExplainsToken, HasIdForEachSlot, IsRefusalOf, answer_to};
+ghost use Rattle.ac_run.specs.Jobs.{ExplainsAsked, ExplainsWanted, task_of};
 
 use crate::refusal::Refusal;
-use ac_query::{Query, QueryFault, Token, TokenFault, Version};
+use ac_query::{Command, Job, Query, QueryFault, Token, TokenFault, Version};
 use std::alloc::Global;
 
-/// The query of a text, as a version reads it.
-pub fn read_query(alloc: Global, text: &str, version: Version) -> Result<Query, Refusal>
+/// What a job wants of a cloud, its query and its token read.
+#[derive(Drop)]
+pub enum Wanted {
+    /// How much the tables told.
+    Counts,
+    /// The body of a page.
+    Body(Query, Option<Token>),
+    /// The tokens of a page.
+    Lines(Query, Option<Token>),
+    /// The verdict on the list that a token names.
+    Verdict(Query, Token),
+    /// How far a query comes.
+    Explanation(Query),
+}
+
+// The query of a text, as a version reads it.
+fn read_query(alloc: Global, text: &str, version: Version) -> Result<Query, Refusal>
     ensures fine { OnOk result (query_fault version text.now ≡ None) }
     ensures asked { IfOk result (λ query. asked_of query ≡ asked_by version (pairs_of text.now)) }
     ensures fault { IfErr result (ExplainsQuery (query_fault version text.now)) }
@@ -36,12 +54,8 @@ fn refusal_of(fault: QueryFault) -> Refusal
     }
 }
 
-/// The token of a text, where there is one.
-pub fn read_token(
-    alloc: Global,
-    text: Option<&str>,
-    query: &Query,
-) -> Result<Option<Token>, Refusal>
+// The token of a text, where there is one.
+fn read_token(alloc: Global, text: Option<&str>, query: &Query) -> Result<Option<Token>, Refusal>
     ensures fine { OnOk result (token_refusal (asked_of query.now)
         (option_map (λ t. t.now) text.entry) ≡ None) }
     ensures ids { IfOk result (λ token. option_map ids_of token
@@ -60,5 +74,52 @@ pub fn read_token(
         Ok(token) => Ok(Some(token)),
         Err(TokenFault::NoMemory) => Err(Refusal::NoMemory),
         Err(fault) => Err(Refusal::Token(fault)),
+    }
+}
+
+// The query of a job, then its token.
+fn read_asked(alloc: Global, job: &Job) -> Result<(Query, Option<Token>), Refusal>
+    ensures given { IfOk result (λ asked. is_some asked.1 ≡ is_some (task_of job.now).token) }
+    ensures slots { IfOk result (λ asked. IfSome asked.1 (λ token.
+        length (ids_of token) ≡ length (slots_of (asked_of asked.0)))) }
+    ensures said { IfOk result (λ asked. (say : Says)
+        → past_query say (task_of job.now) ≡ say (asked_of asked.0) (option_map ids_of asked.1)) }
+    ensures fault { IfErr result (ExplainsAsked (task_of job.now)) }
+{
+    let query = read_query(alloc, job.query, job.version)?;
+    let token = read_token(alloc, job.token, &query)?;
+    Ok((query, token))
+}
+
+/// What a job wants: its query is read, and then its token.
+#[tactic(auto, using(crate::proofs::WantedSaid::explains_body, crate::proofs::WantedSaid::explains_lines, crate::proofs::WantedSaid::explains_verdict, crate::proofs::WantedSaid::explains_explanation))]
+pub fn read_wanted(alloc: Global, job: &Job) -> Result<Wanted, Refusal>
+    requires { HasToken job.now.command (option_map (λ token. token.now) job.now.token) }
+    ensures wanted { IfOk result (λ wanted. (world : World)
+        → answer_in job.now.command (task_of job.now) world ≡ answer_to wanted world) }
+    ensures slots { IfOk result (λ wanted. HasIdForEachSlot wanted) }
+    ensures fault { IfErr result (ExplainsWanted (task_of job.now)) }
+{
+    match job.command {
+        Command::Check => Ok(Wanted::Counts),
+        Command::Candidates => {
+            let (query, token) = read_asked(alloc, job)?;
+            Ok(Wanted::Body(query, token))
+        }
+        Command::Tokens => {
+            let (query, token) = read_asked(alloc, job)?;
+            Ok(Wanted::Lines(query, token))
+        }
+        Command::Verify => {
+            let (query, token) = read_asked(alloc, job)?;
+            match token {
+                Some(token) => Ok(Wanted::Verdict(query, token)),
+                None => unreachable!(),
+            }
+        }
+        Command::Explain => {
+            let (query, _token) = read_asked(alloc, job)?;
+            Ok(Wanted::Explanation(query))
+        }
     }
 }

@@ -1,6 +1,6 @@
 //! A run whose output is gathered before it is handed on.
 ghost use Rattle.std.specs.Prelude.{◌≡◌, ◌≢◌, ◌≤◌, Option, option_map, ◌∷◌, [], Contains};
-ghost use Rattle.std.specs.Io.KnownBytes.{append_known};
+ghost use Rattle.std.specs.Io.KnownBytes.{Keeps, append_known};
 ghost use Rattle.ac_base.specs.Devices.{Rises};
 ghost use Rattle.ac_base.specs.Gathered.{IsFirstPart};
 ghost use Rattle.ac_query.specs.Jobs.{HasToken};
@@ -12,12 +12,14 @@ ghost use Rattle.ac_run.specs.Lines.{memory_line, output_line};
 ghost use Rattle.ac_run.specs.Run.{FailsOr, IsAnswered, IsRefused, IsTold, IsUnread};
 ghost use Rattle.ac_run.specs.Writing.{TakesLine};
 
+use crate::answering::write_answer;
 use crate::draining::Inputs;
+use crate::ready::make_ready;
 use crate::refusal::Refusal;
-use crate::running::run;
 use crate::telling::tell;
 use ac_base::{Feed, Gathering, Sink};
 use ac_query::Job;
+use ac_report::PageFault;
 use std::alloc::Global;
 
 // How many bytes of output are gathered before they are handed on.
@@ -59,7 +61,7 @@ pub fn run_gathered<R: Feed, W: Sink + Drop, E: Sink>(
     ensures token { result.0 ≡ 5 → (b : Bytes) → TellBytes R.remaining inputs.old b
         → IsRefused (answer (task_of job.now) b) (E.taken err.old) (E.taken err.new)
         (E.failures err.old) (E.failures err.new) result.0 }
-    ensures untouched { 3 ≤ result.0 → result.0 ≤ 5 → IsFirstPart (W.taken out) (W.taken result.1) }
+    ensures untouched { 3 ≤ result.0 → result.0 ≤ 5 → Keeps (W.taken out) (W.taken result.1) }
     ensures output { result.0 ≡ 6 → Rises (W.failures out) (W.failures result.1)
         × TakesLine (E.taken err.old) (E.taken err.new)
         (E.failures err.old) (E.failures err.new) output_line }
@@ -70,16 +72,20 @@ pub fn run_gathered<R: Feed, W: Sink + Drop, E: Sink>(
         (W.taken result.1) }
     ensures status { Contains (0 ∷ 1 ∷ 3 ∷ 4 ∷ 5 ∷ 6 ∷ 7 ∷ []) result.0 }
 {
+    let ready = match make_ready(alloc, job, inputs) {
+        Ok(ready) => ready,
+        Err(refusal) => return (tell(err, &refusal), out),
+    };
     let Ok(room) = vec![in alloc; 0u8; ROOM] else {
         return (tell(err, &Refusal::NoMemory), out);
     };
     let mut gathering = Gathering::new(out, room);
-    let status = run(alloc, job, inputs, &mut gathering, err);
-    if status > 1 {
-        return (status, gathering.into_inner());
-    }
-    match gathering.finish() {
-        (Ok(()), out) => (status, out),
-        (Err(_), out) => (tell(err, &Refusal::Output), out),
+    match write_answer(alloc, &ready.cloud, &ready.wanted, &mut gathering) {
+        Ok(status) => match gathering.finish() {
+            (Ok(()), out) => (status, out),
+            (Err(_), out) => (tell(err, &Refusal::Output), out),
+        },
+        Err(PageFault::WriteFailed) => (tell(err, &Refusal::Output), gathering.into_inner()),
+        Err(PageFault::NoMemory) => (tell(err, &Refusal::NoMemory), gathering.into_inner()),
     }
 }

@@ -10,6 +10,7 @@ mod explanation;
 pub mod gathered;
 mod outputs;
 mod pieces;
+mod ready;
 pub mod refusal;
 pub mod running;
 pub mod telling;

@@ -1,119 +1,25 @@
 //! A run: from feeds and a job to sinks and a status.
-ghost use Rattle.std.specs.Prelude.{◌≡◌, ◌≢◌, ◌≤◌, IfOk, IfErr, IfSome, Option, is_some, length, option_map, ◌∷◌, [], Contains};
+ghost use Rattle.std.specs.Prelude.{◌≡◌, ◌≢◌, ◌≤◌, Option, option_map, ◌∷◌, [], Contains};
 ghost use Rattle.std.specs.Io.KnownBytes.{Keeps};
 ghost use Rattle.ac_base.specs.Devices.{Rises, TakesPart};
-ghost use Rattle.ac_query.specs.Asked.{slots_of};
 ghost use Rattle.ac_query.specs.Jobs.{HasToken};
-ghost use Rattle.ac_query.specs.Shown.Queries.{asked_of};
-ghost use Rattle.ac_query.specs.Tokens.{ids_of};
-ghost use Rattle.ac_tables.specs.Cloud.CloudWorld.{world_of};
 ghost use Rattle.ac_tables.specs.declared.fault.Table.{Table};
-ghost use Rattle.ac_run.specs.Answer.{Says, answer, answer_in, past_query};
+ghost use Rattle.ac_run.specs.Answer.{answer};
 ghost use Rattle.ac_run.specs.Feeds.{Bytes, FeedRose, TellBytes};
-ghost use Rattle.ac_run.specs.Jobs.{ExplainsWanted, task_of};
+ghost use Rattle.ac_run.specs.Jobs.{task_of};
 ghost use Rattle.ac_run.specs.Lines.{memory_line, output_line};
-ghost use Rattle.ac_run.specs.Run.{Explains, ExplainsOutcome, FailsOr, IsAnswered, IsRefused, IsUnread, IsWritten};
+ghost use Rattle.ac_run.specs.Run.{FailsOr, IsAnswered, IsRefused, IsUnread};
 ghost use Rattle.ac_run.specs.Writing.{TakesLine};
 
-use crate::answering::{
-    read_cloud, write_body, write_counts, write_explanation, write_lines, write_verdict,
-};
-use crate::asking::{read_query, read_token};
-use crate::draining::{Inputs, read_tables};
+use crate::answering::write_answer;
+use crate::draining::Inputs;
+use crate::ready::make_ready;
 use crate::refusal::Refusal;
 use crate::telling::tell;
 use ac_base::{Feed, Sink};
-use ac_query::{Command, Job, Query, Token};
-use ac_tables::Cloud;
+use ac_query::Job;
+use ac_report::PageFault;
 use std::alloc::Global;
-
-// What a job asks, read.
-#[derive(Drop)]
-struct Wanted {
-    query: Query,
-    token: Option<Token>,
-}
-
-// The query, then the token.
-fn read_wanted(alloc: Global, job: &Job) -> Result<Wanted, Refusal>
-    ensures given { IfOk result (λ wanted. is_some wanted.token ≡ is_some (task_of job.now).token) }
-    ensures slots { IfOk result (λ wanted. IfSome wanted.token (λ token.
-        length (ids_of token) ≡ length (slots_of (asked_of wanted.query)))) }
-    ensures wanted { IfOk result (λ wanted. (say : Says)
-        → past_query say (task_of job.now) ≡ say (asked_of wanted.query)
-        (option_map ids_of wanted.token)) }
-    ensures fault { IfErr result (ExplainsWanted (task_of job.now)) }
-{
-    let query = read_query(alloc, job.query, job.version)?;
-    let token = read_token(alloc, job.token, &query)?;
-    Ok(Wanted { query, token })
-}
-
-// The answer over a cloud.
-#[tactic(auto, using(crate::proofs::WantedSaid::explains_candidates, crate::proofs::WantedSaid::explains_tokens, crate::proofs::WantedSaid::explains_verify, crate::proofs::WantedSaid::explains_explain))]
-fn answer_over<W: Sink>(alloc: Global, cloud: &Cloud, job: &Job, out: &mut W) -> Result<u8, Refusal>
-    requires { HasToken job.now.command (option_map (λ token. token.now) job.now.token) }
-    ensures few { IfOk result (λ status. status ≤ 1) }
-    ensures ok { IfOk result (IsWritten (answer_in job.now.command (task_of job.now)
-        (world_of cloud.now)) (W.taken out.old) (W.taken out.new)) }
-    ensures fault { IfErr result (ExplainsOutcome
-        (answer_in job.now.command (task_of job.now) (world_of cloud.now)) (W.taken out.old)
-        (W.taken out.new) (Rises (W.failures out.old) (W.failures out.new))) }
-    ensures failures { W.failures out.old ≤ W.failures out.new }
-{
-    match job.command {
-        Command::Check => write_counts(cloud, out),
-        Command::Candidates => {
-            let wanted = read_wanted(alloc, job)?;
-            write_body(alloc, cloud, &wanted.query, &wanted.token, out)
-        }
-        Command::Tokens => {
-            let wanted = read_wanted(alloc, job)?;
-            write_lines(alloc, cloud, &wanted.query, &wanted.token, out)
-        }
-        Command::Verify => {
-            let wanted = read_wanted(alloc, job)?;
-            match &wanted.token {
-                Some(token) => write_verdict(alloc, cloud, &wanted.query, token, out),
-                None => unreachable!(),
-            }
-        }
-        Command::Explain => {
-            let wanted = read_wanted(alloc, job)?;
-            write_explanation(alloc, cloud, &wanted.query, out)
-        }
-    }
-}
-
-// Reads the tables, and answers.
-fn attempt<R: Feed, W: Sink>(
-    alloc: Global,
-    job: &Job,
-    inputs: &mut Inputs<R>,
-    out: &mut W,
-) -> Result<u8, Refusal>
-    requires { HasToken job.now.command (option_map (λ token. token.now) job.now.token) }
-    ensures few { IfOk result (λ status. status ≤ 1) }
-    ensures ok { IfOk result (λ status. (b : Bytes) → TellBytes R.remaining inputs.old b
-        → IsWritten (answer (task_of job.now) b) (W.taken out.old) (W.taken out.new) status) }
-    ensures fault { IfErr result (Explains R.remaining R.failures
-        (task_of job.now) inputs.old inputs.new (W.taken out.old) (W.taken out.new)
-        (Rises (W.failures out.old) (W.failures out.new))) }
-    ensures failures { W.failures out.old ≤ W.failures out.new }
-{
-    let texts = match read_tables(alloc, inputs) {
-        Ok(texts) => texts,
-        Err(refusal) => return Err(refusal),
-    };
-    let cloud = match read_cloud(alloc, texts) {
-        Ok(cloud) => cloud,
-        Err(refusal) => return Err(refusal),
-    };
-    match answer_over(alloc, &cloud, job, out) {
-        Ok(status) => Ok(status),
-        Err(refusal) => Err(refusal),
-    }
-}
 
 /// Runs a job: reads the tables in their order, then the query, then the token, and writes the answer. Answers the status.
 ///
@@ -166,8 +72,13 @@ pub fn run<R: Feed, W: Sink, E: Sink>(
     ensures silent { result ≤ 1 → err.new ≡ err.old }
     ensures failures { W.failures out.old ≤ W.failures out.new }
 {
-    match attempt(alloc, job, inputs, out) {
+    let ready = match make_ready(alloc, job, inputs) {
+        Ok(ready) => ready,
+        Err(refusal) => return tell(err, &refusal),
+    };
+    match write_answer(alloc, &ready.cloud, &ready.wanted, out) {
         Ok(status) => status,
-        Err(refusal) => tell(err, &refusal),
+        Err(PageFault::WriteFailed) => tell(err, &Refusal::Output),
+        Err(PageFault::NoMemory) => tell(err, &Refusal::NoMemory),
     }
 }

@@ -11,5 +11,5 @@ pub write_tokens-requires : goal.write_tokens-requires
 write_tokens-requires g c =
     subst (All (IsAssignment (providers_of c.args.cloud.now) (asked_of c.args.query.now))) (sym c.in-Ok.ensures.left) (assignments _ _ _)
 
-pub returns-in_default-clause-fault : goal.returns-in_default-clause-fault
-returns-in_default-clause-fault g c = part_none (g.W.Sink.taken c.args.out.now) _
+pub returns-in_default-clause-part : goal.returns-in_default-clause-part
+returns-in_default-clause-part g c = part_none (g.W.Sink.taken c.args.out.now) _

@@ -35,5 +35,5 @@ nothing : (taken : Option (List ℕ)) (bytes : List ℕ) → TakesPart taken tak
 nothing None bytes = tt
 nothing (Some xs) bytes = ([], bytes, refl, sym (append-nil xs))
 
-pub returns-in-Err-clause-fault : goal.returns-in-Err-clause-fault
-returns-in-Err-clause-fault g c = nothing (g.W.Sink.taken c.args.out.now) (verdict_line (providers_of c.args.cloud.now) (asked_of c.args.query.now) (Some (ids_of c.args.token.now))).output
+pub returns-in-Err-clause-part : goal.returns-in-Err-clause-part
+returns-in-Err-clause-part g c = nothing (g.W.Sink.taken c.args.out.now) (verdict_line (providers_of c.args.cloud.now) (asked_of c.args.query.now) (Some (ids_of c.args.token.now))).output

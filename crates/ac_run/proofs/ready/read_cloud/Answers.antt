@@ -1,6 +1,6 @@
 use Rattle.ac_run.specs.Draining.{texts_shown}
 use Rattle.ac_run.proofs.FewBytes.{are_few}
-use Rattle.ac_run.proofs.answering.read_cloud.Goals as goal
+use Rattle.ac_run.proofs.ready.read_cloud.Goals as goal
 
 pub read-requires : goal.read-requires
 read-requires c =

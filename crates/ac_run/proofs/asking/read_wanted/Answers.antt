@@ -1,0 +1,24 @@
+use Rattle.std.proofs.Common.{ap}
+use Rattle.std.specs.Option.{option_map}
+use Rattle.ac_query.specs.Tokens.{ids_of}
+use Rattle.ac_run.proofs.WantedSaid.{said_body, said_explanation, said_lines, said_verdict}
+use Rattle.ac_run.specs.Jobs.{task_of}
+use Rattle.ac_run.proofs.asking.read_wanted.Goals as goal
+
+pub returns-in_ok-query-in-Candidates-clause-wanted :
+    goal.returns-in_ok-query-in-Candidates-clause-wanted
+returns-in_ok-query-in-Candidates-clause-wanted c = λ world.
+    said_body (task_of c.args.job.now) _ _ c.in_ok-query-in-Candidates.ensures.said world c.in-Candidates.is
+
+pub returns-in_ok-query-in-Tokens-clause-wanted : goal.returns-in_ok-query-in-Tokens-clause-wanted
+returns-in_ok-query-in-Tokens-clause-wanted c = λ world.
+    said_lines (task_of c.args.job.now) _ _ c.in_ok-query-in-Tokens.ensures.said world c.in-Tokens.is
+
+pub returns-in-Some-clause-wanted : goal.returns-in-Some-clause-wanted
+returns-in-Some-clause-wanted c = λ world.
+    said_verdict (task_of c.args.job.now) _ _ c.in_ok-query-in-Verify.ensures.said world (ap (option_map ids_of) c.in-Some.is) c.in-Verify.is
+
+pub returns-in_ok-query-in-Explain-clause-wanted :
+    goal.returns-in_ok-query-in-Explain-clause-wanted
+returns-in_ok-query-in-Explain-clause-wanted c = λ world.
+    said_explanation (task_of c.args.job.now) _ _ c.in_ok-query-in-Explain.ensures.said world c.in-Explain.is
