@@ -1,5 +1,5 @@
--- What feeds and sinks do to the bytes that are known of them, and how their failures count.
-use Rattle.std.specs.Prelude.{◌≡◌, ℕ, ◌+◌, ◌<◌, ◌≤◌, ◌==◌, ◌&&◌, Bool, true, false, if◌then◌else◌, nat_lt, List, ◌++◌, take, length, Option, Some, None, Result, Ok, Err, ⊤}
+-- What feeds and sinks do to the bytes that are known of them, and how their failures and breaks count.
+use Rattle.std.specs.Prelude.{◌≡◌, ◌⊎◌, ℕ, ◌+◌, ◌<◌, ◌≤◌, ◌==◌, ◌&&◌, Bool, true, false, if◌then◌else◌, nat_lt, List, ◌++◌, take, length, Option, Some, None, Result, Ok, Err, ⊤}
 use Rattle.std.specs.Io.KnownBytes.{Consumes, Keeps, IsAtEnd, Appends}
 use Rattle.std.specs.IoError.{error_kind}
 use Rattle.std.specs.declared.io.Error.{Error}
@@ -9,7 +9,7 @@ use Rattle.ac_base.specs.declared.device.Pull.TheVariants as pull
 use Rattle.ac_base.specs.declared.device.Push.{Push}
 use Rattle.ac_base.specs.declared.device.Push.TheVariants as push
 
--- the greatest count of failures
+-- the greatest count of failures, and of breaks
 abbrev pub last_count : ℕ
 last_count = 18446744073709551615
 
@@ -35,6 +35,15 @@ is_pull_failure pull.Failed = true
 abbrev pub failures_after_pull : ℕ → Pull → ℕ
 failures_after_pull n answer = if is_pull_failure answer then one_more n else n
 
+-- a feed broke: it failed, and was not just interrupted
+abbrev pub is_pull_break : Pull → Bool
+is_pull_break (pull.Got n) = false
+is_pull_break pull.Again = false
+is_pull_break pull.Failed = true
+
+abbrev pub breaks_after_pull : ℕ → Pull → ℕ
+breaks_after_pull n answer = if is_pull_break answer then one_more n else n
+
 -- `push` took a first part of the piece, and a failure takes nothing
 abbrev pub PushTakes : Option (List ℕ) → Option (List ℕ) → Push → List ℕ → Type 0
 PushTakes old new (push.Took n) piece = (n ≤ length piece) × Appends old new (take n piece)
@@ -49,6 +58,21 @@ is_push_failure push.Failed piece = true
 
 abbrev pub failures_after_push : ℕ → Push → List ℕ → ℕ
 failures_after_push n answer piece = if is_push_failure answer piece then one_more n else n
+
+-- a sink broke: it failed, or took nothing of a piece that isn't empty, and was not just interrupted
+abbrev pub is_push_break : Push → List ℕ → Bool
+is_push_break (push.Took n) piece = (n == 0) && nat_lt 0 (length piece)
+is_push_break push.Again piece = false
+is_push_break push.Failed piece = true
+
+abbrev pub breaks_after_push : ℕ → Push → List ℕ → ℕ
+breaks_after_push n answer piece = if is_push_break answer piece then one_more n else n
+
+-- Why a device was given up, by its breaks before and after, and its failures: it broke, once; or it did not break, and was interrupted more than a
+-- thousand times, unless the count of failures is at its last value.
+abbrev pub IsGivenUp : ℕ → ℕ → ℕ → ℕ → Type 0
+IsGivenUp breaks breaks_new failures failures_new =
+    (breaks_new ≡ one_more breaks) ⊎ ((breaks_new ≡ breaks) × (failures_new < last_count → failures + 1001 ≤ failures_new))
 
 -- what a reader's answer is as a feed's: an error is an interrupted call or a failure, by its kind
 abbrev pub IsPullOf : Result ℕ Error → Pull → Type 0

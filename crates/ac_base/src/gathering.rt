@@ -1,7 +1,7 @@
 //! A sink that gathers bytes before it hands them on.
 ghost use Rattle.std.specs.Prelude.{◌≡◌, ◌-◌, ◌≤◌, ◌<◌, OnOk, OnErr, length, min, take, vec_len};
 ghost use Rattle.std.specs.Io.KnownBytes.{Appends, Keeps};
-ghost use Rattle.ac_base.specs.Devices.{Rises, failures_after_push};
+ghost use Rattle.ac_base.specs.Devices.{IsGivenUp, Rises, breaks_after_push, failures_after_push};
 ghost use Rattle.ac_base.specs.Gathered.{HandsOn, IsFirstPart, gathered};
 
 use crate::device::pushing::{WriteFailed, push_all};
@@ -24,6 +24,7 @@ impl<W: Sink> Gathering<W> {
         requires { 0 < vec_len room }
         ensures taken { Keeps (W.taken sink) (⟦<Gathering<W> as Sink>⟧.taken result) }
         ensures failures { ⟦<Gathering<W> as Sink>⟧.failures result ≡ W.failures sink }
+        ensures breaks { ⟦<Gathering<W> as Sink>⟧.breaks result ≡ W.breaks sink }
     {
         Gathering {
             sink,
@@ -40,6 +41,10 @@ impl<W: Sink> Gathering<W> {
         ensures rises { OnErr result.0 (Rises (⟦<Gathering<W> as Sink>⟧.failures self)
             (W.failures result.1)) }
         ensures failures { ⟦<Gathering<W> as Sink>⟧.failures self ≤ W.failures result.1 }
+        ensures unbroken { OnOk result.0 (W.breaks result.1
+            ≡ ⟦<Gathering<W> as Sink>⟧.breaks self) }
+        ensures given_up { OnErr result.0 (IsGivenUp (⟦<Gathering<W> as Sink>⟧.breaks self)
+            (W.breaks result.1) (⟦<Gathering<W> as Sink>⟧.failures self) (W.failures result.1)) }
     {
         let Gathering {
             mut sink,
@@ -54,6 +59,7 @@ impl<W: Sink> Gathering<W> {
     pub fn into_inner(self) -> W
         ensures part { IsFirstPart (⟦<Gathering<W> as Sink>⟧.taken self) (W.taken result) }
         ensures failures { W.failures result ≡ ⟦<Gathering<W> as Sink>⟧.failures self }
+        ensures breaks { W.breaks result ≡ ⟦<Gathering<W> as Sink>⟧.breaks self }
     {
         self.sink
     }
@@ -65,6 +71,9 @@ impl<W: Sink> Gathering<W> {
             (⟦<Gathering<W> as Sink>⟧.taken self.new) }
         ensures failures { ⟦<Gathering<W> as Sink>⟧.failures self.new
             ≡ failures_after_push (⟦<Gathering<W> as Sink>⟧.failures self.old) result
+            self.old.room.items }
+        ensures breaks { ⟦<Gathering<W> as Sink>⟧.breaks self.new
+            ≡ breaks_after_push (⟦<Gathering<W> as Sink>⟧.breaks self.old) result
             self.old.room.items }
         ensures size { vec_len self.new.room ≡ vec_len self.old.room }
         ensures room { HandsOn result (vec_len self.old.room) self.new.used }
@@ -83,6 +92,8 @@ impl<W: Sink> Gathering<W> {
             (⟦<Gathering<W> as Sink>⟧.taken self.new) (take result piece.now) }
         ensures failures { ⟦<Gathering<W> as Sink>⟧.failures self.new
             ≡ ⟦<Gathering<W> as Sink>⟧.failures self.old }
+        ensures breaks { ⟦<Gathering<W> as Sink>⟧.breaks self.new
+            ≡ ⟦<Gathering<W> as Sink>⟧.breaks self.old }
         ensures count { result ≡ min (length piece.now) (vec_len self.old.room - self.old.used) }
     {
         let count = piece.len().min(self.room.len() - self.used);
@@ -97,6 +108,8 @@ impl<W: Sink> Sink for Gathering<W> {
     ghost taken = { λ s. gathered (W.taken s.sink) s.used s.room.items };
 
     ghost failures = { λ s. W.failures s.sink };
+
+    ghost breaks = { λ s. W.breaks s.sink };
 
     fn push(&mut self, piece: &[u8]) -> Push {
         if self.used == self.room.len() {

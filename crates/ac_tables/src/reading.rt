@@ -1,6 +1,6 @@
 //! The bytes of a table.
-ghost use Rattle.std.specs.Prelude.{◌≡◌, ◌≤◌, IfOk, Err, vec_len};
-ghost use Rattle.ac_base.specs.Devices.{Rises};
+ghost use Rattle.std.specs.Prelude.{◌≡◌, ◌≢◌, ◌≤◌, IfOk, Err, vec_len};
+ghost use Rattle.ac_base.specs.Devices.{IsGivenUp, Rises};
 ghost use Rattle.ac_tables.specs.Drain.{AllBytes, AreTooMany, most_bytes};
 
 use ac_base::{Feed, Pull};
@@ -48,6 +48,9 @@ pub fn drain<R: Feed>(alloc: Global, feed: &mut R) -> Result<Vec<u8>, ReadFault>
     ensures too_large { result ≡ Err ReadFault.TooLarge → AreTooMany (R.remaining feed.old) }
     ensures unreadable { result ≡ Err ReadFault.Unreadable
         → Rises (R.failures feed.old) (R.failures feed.new) }
+    ensures given_up { result ≡ Err ReadFault.Unreadable → IsGivenUp
+        (R.breaks feed.old) (R.breaks feed.new) (R.failures feed.old) (R.failures feed.new) }
+    ensures unbroken { result ≢ Err ReadFault.Unreadable → R.breaks feed.new ≡ R.breaks feed.old }
 {
     let mut bytes = Vec::new(alloc);
     let mut piece = [0; PIECE];

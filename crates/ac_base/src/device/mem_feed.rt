@@ -1,6 +1,6 @@
 //! A feed of bytes in memory, whose calls go as they are told.
 ghost use Rattle.std.specs.Prelude.{◌≡◌, ◌<◌, Some, length};
-ghost use Rattle.ac_base.specs.Devices.{PullGives, failures_after_pull};
+ghost use Rattle.ac_base.specs.Devices.{PullGives, breaks_after_pull, failures_after_pull};
 ghost use Rattle.ac_base.specs.Memory.{next_turn, later_turns, feed_answer};
 
 use crate::device::{Feed, Pull};
@@ -12,6 +12,7 @@ pub struct MemFeed<'a> {
     bytes: &'a [u8],
     turns: &'a [Turn],
     failures: u64,
+    breaks: u64,
 }
 
 impl<'a> MemFeed<'a> {
@@ -21,12 +22,14 @@ impl<'a> MemFeed<'a> {
         ensures remaining { ⟦<MemFeed<'a> as Feed>⟧.remaining result ≡ Some bytes.now }
         ensures bytes { feed_bytes result ≡ bytes.now }
         ensures failures { ⟦<MemFeed<'a> as Feed>⟧.failures result ≡ 0 }
+        ensures breaks { ⟦<MemFeed<'a> as Feed>⟧.breaks result ≡ 0 }
         ensures turns { feed_turns result ≡ turns.now }
     {
         MemFeed {
             bytes,
             turns,
             failures: 0,
+            breaks: 0,
         }
     }
 }
@@ -38,11 +41,14 @@ impl<'a> Feed for MemFeed<'a> {
 
     ghost failures = { λ s. s.failures };
 
+    ghost breaks = { λ s. s.breaks };
+
     fn pull(&mut self, buf: &mut [u8]) -> Pull
         requires { 0 < length buf.old }
         ensures bytes { PullGives (Some (feed_bytes self.old))
             (Some (feed_bytes self.new)) result buf.new }
         ensures failures { self.new.failures ≡ failures_after_pull self.old.failures result }
+        ensures breaks { self.new.breaks ≡ breaks_after_pull self.old.breaks result }
         ensures answer { result ≡ feed_answer (next_turn (feed_turns self.old)) (length buf.old)
             (length (feed_bytes self.old)) }
         ensures turns { feed_turns self.new ≡ later_turns (feed_turns self.old) }
@@ -61,6 +67,7 @@ impl<'a> Feed for MemFeed<'a> {
             }
             Turn::Failed => {
                 self.failures = self.failures.saturating_add(1);
+                self.breaks = self.breaks.saturating_add(1);
                 Pull::Failed
             }
         }

@@ -1,6 +1,6 @@
 //! A sink over bytes in memory, whose calls go as they are told.
 ghost use Rattle.std.specs.Prelude.{◌≡◌, ◌+◌, ◌≤◌, Some, [], take, length, vec_len};
-ghost use Rattle.ac_base.specs.Devices.{PushTakes, failures_after_push};
+ghost use Rattle.ac_base.specs.Devices.{PushTakes, breaks_after_push, failures_after_push};
 ghost use Rattle.ac_base.specs.Memory.{next_turn, later_turns, sink_answer};
 
 use crate::device::{Push, Sink};
@@ -14,6 +14,7 @@ pub struct MemSink<'a> {
     used: usize,
     turns: &'a [Turn],
     failures: u64,
+    breaks: u64,
     ghost in_room: { used ≤ vec_len room },
 }
 
@@ -23,6 +24,7 @@ impl<'a> MemSink<'a> {
     pub fn new(room: Vec<u8>, turns: &'a [Turn]) -> Self
         ensures taken { ⟦<MemSink<'a> as Sink>⟧.taken result ≡ Some [] }
         ensures failures { ⟦<MemSink<'a> as Sink>⟧.failures result ≡ 0 }
+        ensures breaks { ⟦<MemSink<'a> as Sink>⟧.breaks result ≡ 0 }
         ensures room { sink_room result ≡ vec_len room }
         ensures turns { sink_turns result ≡ turns.now }
     {
@@ -31,6 +33,7 @@ impl<'a> MemSink<'a> {
             used: 0,
             turns,
             failures: 0,
+            breaks: 0,
         }
     }
 
@@ -49,11 +52,14 @@ impl<'a> Sink for MemSink<'a> {
 
     ghost failures = { λ s. s.failures };
 
+    ghost breaks = { λ s. s.breaks };
+
     fn push(&mut self, piece: &[u8]) -> Push
         ensures bytes { PushTakes (Some (take self.old.used self.old.room.items))
             (Some (take self.new.used self.new.room.items)) result piece.now }
         ensures failures { self.new.failures ≡ failures_after_push self.old.failures result
             piece.now }
+        ensures breaks { self.new.breaks ≡ breaks_after_push self.old.breaks result piece.now }
         ensures answer { result ≡ sink_answer (next_turn (sink_turns self.old)) (length piece.now)
             (sink_room self.old) }
         ensures turns { sink_turns self.new ≡ later_turns (sink_turns self.old) }
@@ -64,6 +70,7 @@ impl<'a> Sink for MemSink<'a> {
                 let free = self.room.len() - self.used;
                 if free == 0 && !piece.is_empty() {
                     self.failures = self.failures.saturating_add(1);
+                    self.breaks = self.breaks.saturating_add(1);
                     return Push::Failed;
                 }
                 let count = most.min(piece.len()).min(free);
@@ -72,6 +79,7 @@ impl<'a> Sink for MemSink<'a> {
                 self.used = end;
                 if count == 0 && !piece.is_empty() {
                     self.failures = self.failures.saturating_add(1);
+                    self.breaks = self.breaks.saturating_add(1);
                 }
                 Push::Took(count)
             }
@@ -81,6 +89,7 @@ impl<'a> Sink for MemSink<'a> {
             }
             Turn::Failed => {
                 self.failures = self.failures.saturating_add(1);
+                self.breaks = self.breaks.saturating_add(1);
                 Push::Failed
             }
         }

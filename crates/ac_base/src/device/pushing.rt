@@ -1,7 +1,7 @@
 //! Whole pieces pushed into a sink.
-ghost use Rattle.std.specs.Prelude.{◌≤◌, OnOk, OnErr};
+ghost use Rattle.std.specs.Prelude.{◌≡◌, ◌≤◌, OnOk, OnErr};
 ghost use Rattle.std.specs.Io.KnownBytes.{Appends};
-ghost use Rattle.ac_base.specs.Devices.{Rises, TakesPart};
+ghost use Rattle.ac_base.specs.Devices.{IsGivenUp, Rises, TakesPart};
 
 use crate::device::{Push, Sink};
 
@@ -19,6 +19,9 @@ pub fn push_all<W: Sink>(out: &mut W, piece: &[u8]) -> Result<(), WriteFailed>
     ensures part { OnErr result (TakesPart (W.taken out.old) (W.taken out.new) piece.now) }
     ensures rises { OnErr result (Rises (W.failures out.old) (W.failures out.new)) }
     ensures failures { W.failures out.old ≤ W.failures out.new }
+    ensures unbroken { OnOk result (W.breaks out.new ≡ W.breaks out.old) }
+    ensures given_up { OnErr result (IsGivenUp (W.breaks out.old) (W.breaks out.new)
+        (W.failures out.old) (W.failures out.new)) }
 {
     let mut rest = piece;
     let mut again = 0;

@@ -2,7 +2,7 @@
 ghost use Rattle.std.specs.Prelude.{◌≡◌};
 ghost use Rattle.ac_base.specs.Devices.{IsPushOf};
 
-use crate::device::{Push, Sink, is_push_failure};
+use crate::device::{Push, Sink, is_push_break, is_push_failure};
 use std::io::{Error, ErrorKind, Write};
 
 // `Again` for an interrupted call alone, `Failed` for every other error.
@@ -21,16 +21,19 @@ fn push_of(answer: Result<usize, Error>) -> Push
 pub struct ToWrite<W> {
     writer: W,
     failures: u64,
+    breaks: u64,
 }
 
 impl<W: Write> ToWrite<W> {
     pub fn new(writer: W) -> Self
         ensures taken { ⟦<ToWrite<W> as Sink>⟧.taken result ≡ W.contents writer }
         ensures failures { ⟦<ToWrite<W> as Sink>⟧.failures result ≡ 0 }
+        ensures breaks { ⟦<ToWrite<W> as Sink>⟧.breaks result ≡ 0 }
     {
         ToWrite {
             writer,
             failures: 0,
+            breaks: 0,
         }
     }
 
@@ -47,10 +50,15 @@ impl<W: Write> Sink for ToWrite<W> {
 
     ghost failures = { λ s. s.failures };
 
+    ghost breaks = { λ s. s.breaks };
+
     fn push(&mut self, piece: &[u8]) -> Push {
         let answer = push_of(self.writer.write(piece));
         if is_push_failure(answer, piece) {
             self.failures = self.failures.saturating_add(1);
+        }
+        if is_push_break(answer, piece) {
+            self.breaks = self.breaks.saturating_add(1);
         }
         answer
     }

@@ -90,6 +90,24 @@ fn a_gathering_sink_bears_a_thousand_interrupted_calls(rt: HostRuntime) -> Resul
     Ok(())
 }
 
+// Bytes pushed through a room of four, over a writer that fails: whether all was taken, and how many calls of it were made.
+fn calls_gathered(alloc: Global, bytes: &[u8]) -> Result<(bool, u32), AllocError> {
+    let writer = ToWrite::new(device(u32::MAX, ErrorKind::Other));
+    let mut sink = Gathering::new(writer, vec![in alloc; 0u8; 4]?);
+    let pushed = push_all(&mut sink, bytes);
+    Ok((pushed.is_ok(), sink.into_inner().into_inner().calls))
+}
+
+// A full room is handed on once, and nothing after a failure.
+#[test]
+fn a_gathering_sink_makes_no_call_after_a_failure(rt: HostRuntime) -> Result<(), Fail> {
+    let alloc = rt.alloc();
+    assert_eq!(rt; calls_gathered(alloc, b"abcd")?, (true, 0));
+    assert_eq!(rt; calls_gathered(alloc, b"abcde")?, (false, 1));
+    assert_eq!(rt; calls_gathered(alloc, b"abcdefghijkl")?, (false, 1));
+    Ok(())
+}
+
 // A call that fails isn't made again below: each pull is one call of the reader, and each push one of the writer.
 #[test]
 fn each_call_is_one_call_of_the_device(rt: HostRuntime) {
