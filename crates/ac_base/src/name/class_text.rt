@@ -1,5 +1,5 @@
 //! Names of resource classes, read and written.
-ghost use Rattle.std.specs.Prelude.{◌≡◌, IfOk};
+ghost use Rattle.std.specs.Prelude.{◌≡◌, IfOk, Ok, None};
 ghost use Rattle.std.specs.Option.{option_map};
 ghost use Rattle.ac_base.specs.Texts.{name_value};
 ghost use Rattle.ac_base.specs.Names.{class_bytes};
@@ -10,7 +10,8 @@ use std::alloc::Global;
 impl ClassName {
     /// Reads 1 to 255 characters of `A-Z 0-9 _`; every other text is no name.
     pub fn read(alloc: Global, text: &[u8]) -> Result<Option<ClassName>, NoMemory>
-        ensures { IfOk result (λ name. option_map class_bytes name ≡ name_value text.now) }
+        ensures value { IfOk result (λ name. option_map class_bytes name ≡ name_value text.now) }
+        ensures unnamed { name_value text.now ≡ None → result ≡ Ok None }
     {
         Names::new(alloc).class(text)
     }
@@ -27,7 +28,8 @@ impl Names {
     /// Reads the name of a resource class as `ClassName::read` does.
     #[tactic(auto, using(crate::proofs::NameFacts::value_named))]
     pub fn class(&mut self, text: &[u8]) -> Result<Option<ClassName>, NoMemory>
-        ensures { IfOk result (λ name. option_map class_bytes name ≡ name_value text.now) }
+        ensures value { IfOk result (λ name. option_map class_bytes name ≡ name_value text.now) }
+        ensures unnamed { name_value text.now ≡ None → result ≡ Ok None }
     {
         match self.share(text)? {
             Some(text) => Ok(Some(ClassName { text })),

@@ -1,5 +1,5 @@
 //! Names that share their texts.
-ghost use Rattle.std.specs.Prelude.{◌≡◌, Some, IfOk, IsTrue};
+ghost use Rattle.std.specs.Prelude.{◌≡◌, Some, None, Ok, IfOk, IsTrue};
 ghost use Rattle.std.specs.Option.{option_map};
 ghost use Rattle.ac_base.specs.Texts.{id_value, is_name, name_value};
 ghost use Rattle.std.specs.Rc.{rc_str_bytes};
@@ -119,7 +119,8 @@ impl Names {
     // The text of a name, which equal names share; every other text is no name.
     #[tactic(auto, using(crate::proofs::NameFacts::text_name))]
     pub(super) fn share(&mut self, text: &[u8]) -> Result<Option<RcStr>, NoMemory>
-        ensures { IfOk result (λ name. option_map rc_str_bytes name ≡ name_value text.now) }
+        ensures value { IfOk result (λ name. option_map rc_str_bytes name ≡ name_value text.now) }
+        ensures unnamed { name_value text.now ≡ None → result ≡ Ok None }
     {
         let slot = slot_of(text);
         if let Some(Some(known)) = self.recent.get(slot) {

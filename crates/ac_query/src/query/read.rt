@@ -1,5 +1,5 @@
 //! How a query is made of its text.
-ghost use Rattle.std.specs.Prelude.{◌≡◌, ◌+◌, ◌++◌, IfOk, OnOk, IfErr, IfSome, None, Some, map};
+ghost use Rattle.std.specs.Prelude.{◌≡◌, ◌<◌, ◌+◌, ◌++◌, IfOk, OnOk, IfErr, IfSome, Err, None, Some, length, map};
 ghost use Rattle.std.specs.Option.{option_map};
 ghost use Rattle.std.specs.List.Sorted.{IsStrictlySortedBy};
 ghost use Rattle.ac_base.specs.Names.{suffix_bytes};
@@ -15,6 +15,7 @@ ghost use Rattle.ac_query.specs.Shown.Draft.{group_drafted, plain_shown, suffixe
 ghost use Rattle.ac_query.specs.Shown.Groups.{need_class, need_entry, group_entry};
 ghost use Rattle.ac_query.specs.Shown.Slots.{slot_shown, slots_at};
 ghost use Rattle.ac_query.specs.Shown.Queries.{asked_of};
+ghost use Rattle.ac_query.specs.declared.fault.QueryFault.TheVariants as QueryFault;
 
 use super::Query;
 use crate::fault::QueryFault;
@@ -181,6 +182,7 @@ impl Query {
             ≡ asked_by version (pairs_of text.now)) }
         ensures err { IfErr result (λ e. IfSome (fault_shown e) (λ f.
             query_fault version text.now ≡ Some f)) }
+        ensures long { 65536 < length text.now → result ≡ Err QueryFault.QueryTooLong }
     {
         let draft = read_draft(alloc, text, version)?;
         check(alloc, &draft)?;

@@ -1,5 +1,5 @@
 //! The pairs of a query, read one after another.
-ghost use Rattle.std.specs.Prelude.{◌≡◌, ◌≤◌, [], None, Some, IfOk, IfErr, IfSome, OnOk, length};
+ghost use Rattle.std.specs.Prelude.{◌≡◌, ◌<◌, ◌≤◌, [], None, Some, Err, IfOk, IfErr, IfSome, OnOk, length};
 ghost use Rattle.std.specs.BTreeSet.{insert_key};
 ghost use Rattle.std.specs.String.{string_bytes};
 ghost use Rattle.ac_base.specs.Texts.{text_cmp};
@@ -11,6 +11,7 @@ ghost use Rattle.ac_query.specs.Shown.Parameters.{parameter_shown};
 ghost use Rattle.ac_query.specs.Shown.{texts_shown};
 ghost use Rattle.ac_query.specs.Shown.Draft.{draft_shown};
 ghost use Rattle.ac_query.specs.Shown.Given.{given_shown};
+ghost use Rattle.ac_query.specs.declared.fault.QueryFault.TheVariants as QueryFault;
 
 use crate::fault::QueryFault;
 use crate::reading::draft::Draft;
@@ -106,6 +107,7 @@ pub(crate) fn read_draft(alloc: Global, text: &str, version: Version) -> Result<
     ensures ok { IfOk result (λ draft. draft_shown draft ≡ gathered version (pairs_of text.now)) }
     ensures err { IfErr result (λ e. IfSome (fault_shown e) (λ f.
         first_fault (text_conditions version text.now) ≡ Some f)) }
+    ensures long { 65536 < length text.now → result ≡ Err QueryFault.QueryTooLong }
 {
     if text.len() > LIMIT {
         return Err(QueryFault::QueryTooLong);

@@ -10,5 +10,5 @@ use Rattle.ac_query.proofs.reading.values.add_name.Goals as goal
 pub returns : goal.returns
 returns c =
     one_more text_cmp (name_value c.args.text.now) (trait_bytes c.in-Some.name) _ _
-    (ap name_value (sym c.as_bytes.ensures.value) ∙ sym c.in_ok-name.ensures ∙ ap (option_map trait_bytes) c.in-Some.is)
+    (ap name_value (sym c.as_bytes.ensures.value) ∙ sym c.in_ok-name.ensures.value ∙ ap (option_map trait_bytes) c.in-Some.is)
     (ap (map trait_bytes) c.in_ok-insert.ensures.keys ∙ insert_key_shown trait_bytes _ text_cmp (λ a b. refl) c.args.names.now.keys c.in-Some.name)

@@ -10,5 +10,5 @@ use Rattle.ac_query.proofs.reading.values.add_suffix.Goals as goal
 pub returns : goal.returns
 returns c =
     one_more text_cmp (suffix_value c.args.item.now) (suffix_bytes c.in-Some.suffix) _ _
-    (ap suffix_value (sym c.as_bytes.ensures.value) ∙ sym c.in_ok-suffix.ensures ∙ ap (option_map suffix_bytes) c.in-Some.is)
+    (ap suffix_value (sym c.as_bytes.ensures.value) ∙ sym c.in_ok-suffix.ensures.value ∙ ap (option_map suffix_bytes) c.in-Some.is)
     (ap (map suffix_bytes) c.in_ok-insert.ensures.keys ∙ insert_key_shown suffix_bytes _ text_cmp (λ a b. refl) c.args.suffixes.now.keys c.in-Some.suffix)
