@@ -12,12 +12,15 @@ const QUERY: &str = "resources=VCPU:2";
 
 #[test]
 fn a_feed_that_fails_is_not_at_its_end(rt: HostRuntime) -> Result<(), Fail> {
-    let turns = Turns {
-        inventories: &[Turn::Up(20), Turn::Failed],
-        ..SOUND
-    };
-    let left = run_over(rt.alloc(), &ONE, Command::Tokens, QUERY, None, turns)?;
-    expect_left(&rt, &left, "", "inventories: Unreadable\n", 3, 0);
+    for is_gathered in [false, true] {
+        let turns = Turns {
+            inventories: &[Turn::Up(20), Turn::Failed],
+            is_gathered,
+            ..SOUND
+        };
+        let left = run_over(rt.alloc(), &ONE, Command::Tokens, QUERY, None, turns)?;
+        expect_left(&rt, &left, "", "inventories: Unreadable\n", 3, 0);
+    }
     Ok(())
 }
 
@@ -224,11 +227,15 @@ fn each_call_of_the_output_fails(rt: HostRuntime) -> Result<(), Fail> {
     Ok(())
 }
 
-// The same where each call takes its piece whole, until all calls have been made.
-#[test]
-fn each_whole_piece_of_the_output_fails(rt: HostRuntime) -> Result<(), Fail> {
+// Each push of an output fails in turn, where each takes its piece whole, until all have been made; and the one push of a gathered output.
+fn check_pieces(
+    rt: &(impl Abort + AllocGlobal),
+    command: Command,
+    token: Option<&str>,
+    output: &str,
+) -> Result<(), Fail> {
     let alloc = rt.alloc();
-    let body = expanded(alloc, ONE_BODY)?;
+    assert!(rt; command != Command::Verify || token.is_some());
     let mut turns = Vec::new(alloc);
     let mut taken = 0;
     for call in 0..100 {
@@ -237,18 +244,44 @@ fn each_whole_piece_of_the_output_fails(rt: HostRuntime) -> Result<(), Fail> {
             out: &turns,
             ..SOUND
         };
-        let left = run_over(alloc, &ONE, Command::Candidates, QUERY, None, failing)?;
+        let left = run_over(alloc, &ONE, command, QUERY, token, failing)?;
         assert!(rt; left.output.len() > taken || call == 0, "call {call}");
         taken = left.output.len();
         if left.status == 0 {
             break;
         }
-        expect_part(&rt, &left, body.as_str(), call);
+        expect_part(rt, &left, output, call);
         let _failed = turns.pop();
         turns.push(Turn::Up(usize::MAX))?;
     }
-    assert_eq!(rt; taken, body.len());
+    assert_eq!(rt; taken, output.len());
+
+    let gathered = Turns {
+        out: &[Turn::Failed],
+        is_gathered: true,
+        ..SOUND
+    };
+    let left = run_over(alloc, &ONE, command, QUERY, token, gathered)?;
+    expect_left(rt, &left, "", "output: WriteFailed\n", 6, taken);
     Ok(())
+}
+
+// A failed output is told as one, and never as want of memory.
+#[test]
+fn each_whole_piece_of_an_output_fails(rt: HostRuntime) -> Result<(), Fail> {
+    let alloc = rt.alloc();
+    let counts = "providers 1\ninventories 1\nusages 0\ntraits 0\naggregates 0\n";
+    let explanation = "slot 1 \"\" VCPU:2: units 1 of 1, traits 1, aggregates 1, tree 1, room 1\n\
+        trees 1: root traits 1, each slot 1\n\
+        candidates: some\n";
+    let body = expanded(alloc, ONE_BODY)?;
+    let line = expanded(alloc, "@1\n")?;
+    let one = expanded(alloc, "@1")?;
+    check_pieces(&rt, Command::Check, None, counts)?;
+    check_pieces(&rt, Command::Candidates, None, body.as_str())?;
+    check_pieces(&rt, Command::Tokens, None, line.as_str())?;
+    check_pieces(&rt, Command::Verify, Some(one.as_str()), "candidate\n")?;
+    check_pieces(&rt, Command::Explain, None, explanation)
 }
 
 // A sink that takes nothing has failed, at its first call and after some bytes: it isn't asked again.
