@@ -3,6 +3,7 @@ use Rattle.std.proofs.Common.{◌≡◌, ℕ, zero, suc, ◌+◌, ◌<◌, List,
 use Rattle.std.specs.Prelude.{nat_eq}
 use Rattle.std.specs.List.{All, AllByRecursion, filter}
 use Rattle.std.specs.Ordering.{is_eq}
+use Rattle.std.proofs.lemmas.Bool.{ne_eqb}
 use Rattle.std.proofs.lemmas.Cmp.{ranked}
 use Rattle.std.proofs.lemmas.Map.Text.{is_eq-slice_cmp}
 use Rattle.std.proofs.lemmas.List.{length-map, length-take, length-drop, take-append-drop}
@@ -26,8 +27,7 @@ use Rattle.ac_report.proofs.Trees.Finding.{AreTold, find, hosts_agree, mappings_
 use Rattle.ac_report.proofs.Trees.FindingSums.{here, taken_of, sums_agree}
 use Rattle.ac_report.proofs.Trees.Gathering.{bytes_eq_refl}
 use Rattle.ac_report.proofs.Trees.Listed.{provider_texts_rise}
-use Rattle.ac_report.proofs.Trees.Rows.{not_eq}
-use Rattle.ac_report.proofs.Serving.{all_cons, all_hosts, all_rising, providers_are}
+use Rattle.ac_report.proofs.SlotLemmas.{all_cons, all_hosts, all_rising, providers_are}
 
 -- ---- slots in two parts
 
@@ -60,7 +60,7 @@ class_hosts g [] t k h = refl
 class_hosts g (need ∷ needs) [] k h = refl
 class_hosts g (need ∷ needs) (p ∷ t) k h =
     ap (λ b. map (λ (x : Placed). x.provider) (if b then record { slot = class_slot 0 g need; provider = p } ∷ filter (λ x. nat_eq x.slot.place k) (placed (map (class_slot 0 g) needs) t) else filter (λ x. nat_eq x.slot.place k) (placed (map (class_slot 0 g) needs) t)))
-    (not_eq 0 k (λ e. omega (arith, e, h)))
+    (ne_eqb 0 k (λ e. omega (arith, e, h)))
     ∙ class_hosts g needs t k h
 
 part_hosts : (g : Group) (gs : List (Option (List ℕ) × Group)) (t : List ℕ) (k : ℕ) → 0 < k

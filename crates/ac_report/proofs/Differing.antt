@@ -2,14 +2,13 @@
 use Rattle.std.proofs.Common.{◌≡◌, ℕ, ◌+◌, ◌<◌, ◌≤◌, List, [], ◌∷◌, map, length, refl, sym, ap, ◌∙◌, Bool, true, false, Option, Some, None, nat_cmp, if◌then◌else◌, arith}
 use Rattle.std.specs.Prelude.{nat_eq, bytes_eq}
 use Rattle.std.specs.List.{AllByRecursion, filter}
-use Rattle.std.proofs.lemmas.Bool.{eqb-true, eq-eqb}
+use Rattle.std.proofs.lemmas.Bool.{eqb-true, eq-eqb, ne_eqb}
 use Rattle.ac_query.specs.Asked.{Group, slots_from, class_slot, suffix_slot}
 use Rattle.ac_rules.specs.Placed.{Placed, placed}
 use Rattle.ac_rules.specs.Together.{amount_of, sum_on}
 use Rattle.ac_tables.specs.Sorted.{rising}
 use Rattle.ac_query.specs.Laws.InOrder.{AreApart, AreSuffixed}
 use Rattle.ac_report.specs.Trees.{hosts}
-use Rattle.ac_report.proofs.Trees.Rows.{not_eq}
 use Rattle.ac_tables.specs.Reader.RecordLaws.{eq_turned}
 use Rattle.ac_report.proofs.Trees.Gathering.{bytes_eq_refl}
 
@@ -20,7 +19,7 @@ hosts_before i k ((None, g) ∷ gs) t s h = let no_suffix : false ≡ true = s.0
 hosts_before i k ((Some n, g) ∷ gs) [] s h = refl
 hosts_before i k ((Some n, g) ∷ gs) (p ∷ t) s h =
     ap (λ b. map (λ (x : Placed). x.provider) (if b then record { slot = suffix_slot i n g; provider = p } ∷ filter (λ x. nat_eq x.slot.place k) (placed (slots_from (i + 1) gs) t) else filter (λ x. nat_eq x.slot.place k) (placed (slots_from (i + 1) gs) t)))
-    (not_eq i k (λ e. omega (arith, e, h)))
+    (ne_eqb i k (λ e. omega (arith, e, h)))
     ∙ hosts_before (i + 1) k gs t s.1 (omega arith)
 
 head_host : (i : ℕ) (n : List ℕ) (g : Group) (gs : List (Option (List ℕ) × Group)) (p : ℕ) (t : List ℕ) → AreSuffixed gs → hosts (placed (slots_from i ((Some n, g) ∷ gs)) (p ∷ t)) i ≡ p ∷ []
@@ -32,7 +31,7 @@ head_host i n g gs p t s =
 later_host : (i k : ℕ) (n : List ℕ) (g : Group) (gs : List (Option (List ℕ) × Group)) (p : ℕ) (t : List ℕ) → i < k → hosts (placed (slots_from i ((Some n, g) ∷ gs)) (p ∷ t)) k ≡ hosts (placed (slots_from (i + 1) gs) t) k
 later_host i k n g gs p t h =
     ap (λ b. map (λ (x : Placed). x.provider) (if b then record { slot = suffix_slot i n g; provider = p } ∷ filter (λ x. nat_eq x.slot.place k) (placed (slots_from (i + 1) gs) t) else filter (λ x. nat_eq x.slot.place k) (placed (slots_from (i + 1) gs) t)))
-    (not_eq i k (λ e. omega (arith, e, h)))
+    (ne_eqb i k (λ e. omega (arith, e, h)))
 
 -- suffixed groups have one provider each
 pub suffixed_agree : (i : ℕ) (gs : List (Option (List ℕ) × Group)) (t u : List ℕ) → AreSuffixed gs → length t ≡ length (slots_from i gs) → length u ≡ length (slots_from i gs)

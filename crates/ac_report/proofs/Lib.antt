@@ -2,6 +2,6 @@ pub mod Pages
 pub mod Trees
 pub mod Outcomes
 pub mod IdTexts
-pub mod Serving
+pub mod SlotLemmas
 pub mod Differing
 pub mod Assigning

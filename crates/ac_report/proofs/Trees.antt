@@ -4,5 +4,4 @@ pub mod FindingSums
 pub mod Gathering
 pub mod Listed
 pub mod PlainTrees
-pub mod Rows
 pub mod Marking

@@ -9,6 +9,7 @@ pub mod laws;
 pub mod lines;
 pub mod page;
 pub mod request;
+mod serving;
 pub mod summary;
 
 pub use fault::PageFault;

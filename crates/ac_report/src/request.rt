@@ -1,10 +1,8 @@
 //! The allocation request of a candidate, as JSON.
-ghost use Rattle.std.specs.Prelude.{◌≡◌, ◌<◌, ◌≤◌, ◌++◌, ℕ, List, [], IfOk, OnOk, map, length, string_bytes, unwrap_or};
-ghost use Rattle.std.specs.BTreeMap.{get_by};
-ghost use Rattle.std.specs.Cmp.Lexicographic.{slice_cmp};
+ghost use Rattle.std.specs.Prelude.{◌≡◌, ◌<◌, IfOk, OnOk, if◌then◌else◌, map, length, string_bytes};
 ghost use Rattle.std.specs.List.{All};
-ghost use Rattle.std.specs.Ordering.{nat_cmp};
-ghost use Rattle.serde_json.specs.View.{view};
+ghost use Rattle.serde_json.specs.Data.{put};
+ghost use Rattle.serde_json.specs.View.{view, members_view};
 ghost use Rattle.ac_query.specs.Asked.{slots_of};
 ghost use Rattle.ac_query.specs.Shown.Groups.{need_entry, group_entry};
 ghost use Rattle.ac_query.specs.Shown.Queries.{asked_of};
@@ -12,54 +10,25 @@ ghost use Rattle.ac_rules.specs.Placed.{assigned};
 ghost use Rattle.ac_tables.specs.Cloud.CloudWorld.{providers_of};
 ghost use Rattle.ac_report.specs.Pages.{IsAssignment};
 ghost use Rattle.ac_query.specs.Laws.InOrder.{group_name};
-ghost use Rattle.ac_report.specs.Parts.{AreHosts, AreNeeds, need_at, row_shown, with_needs, sum_at, sums_of, allocation_of};
-ghost use Rattle.ac_report.specs.Trees.{provider_text, texts, allocations, mappings, request};
+ghost use Rattle.ac_report.specs.Parts.{gathered_onto};
+ghost use Rattle.ac_report.specs.Trees.{gives, provider_text, texts, sum, allocation, allocations, mappings, request};
 ghost use Rattle.ac_report.specs.Texts.{request_text};
 
 use crate::ids::{id_string, id_value};
+use crate::serving::{all_hosts, gives, hosts_of, needs_of, sum_on};
 use ac_base::NoMemory;
 use ac_query::{Group, Need, Query};
+use ac_rules::slots::count_slots;
 use ac_tables::Cloud;
 use serde_json::{Map, Value, json};
 use std::alloc::{AllocError, Global};
-use std::collections::{BTreeMap, BTreeSet};
 
-// So many empty sets.
-fn empty_sets(alloc: Global, count: usize) -> Result<Vec<BTreeSet<u32>>, AllocError>
-    ensures long { IfOk result (λ v. length v.items ≡ count) }
-    ensures empty { IfOk result (λ v. All (λ set. set.keys ≡ []) v.items) }
-{
-    let mut sets = Vec::new(alloc);
-    for _ in 0..count {
-        sets.push(BTreeSet::new(alloc))?;
-    }
-    Ok(sets)
-}
-
-// The providers of each group's slots.
-fn hosts_by_group(
-    alloc: Global,
-    query: &Query,
-    list: &[u32],
-) -> Result<Vec<BTreeSet<u32>>, AllocError>
-    requires { length list.now ≡ length (slots_of (asked_of query.now)) }
-    ensures long { IfOk result (λ v. length v.items ≡ length (asked_of query.now).groups) }
-    ensures hosts { IfOk result (λ v. AreHosts (assigned (asked_of query.now) list.now) v.items) }
-{
-    let slots = query.slots();
-    let mut sets = empty_sets(alloc, query.groups().len())?;
-    for i in 0..list.len() {
-        sets[slots[i].group()].insert(list[i])?;
-    }
-    Ok(sets)
-}
-
-// The ids of providers, rising.
+// The ids of providers.
 #[tactic(auto, unfolding(crate::specs::Trees::texts))]
-fn ids_value(alloc: Global, cloud: &Cloud, providers: &BTreeSet<u32>) -> Result<Value, AllocError>
-    requires { All (λ ix. ix < length (providers_of cloud.now)) providers.now.keys }
+fn ids_value(alloc: Global, cloud: &Cloud, providers: &[u32]) -> Result<Value, AllocError>
+    requires { All (λ ix. ix < length (providers_of cloud.now)) providers.now }
     ensures { IfOk result (λ v.
-        view v ≡ texts (map (provider_text (providers_of cloud.now)) providers.now.keys)) }
+        view v ≡ texts (map (provider_text (providers_of cloud.now)) providers.now)) }
 {
     let mut ids = Vec::new(alloc);
     for provider in providers {
@@ -79,6 +48,7 @@ pub fn suffix_text(group: &Group) -> &str
 }
 
 // Each group's suffix, and the ids of its slots' providers.
+#[tactic(auto, unfolding(crate::specs::Trees::mappings, crate::specs::Trees::mapping))]
 fn mappings_value(
     alloc: Global,
     cloud: &Cloud,
@@ -90,100 +60,83 @@ fn mappings_value(
         view v ≡ mappings (providers_of cloud.now) (asked_of query.now)
         (assigned (asked_of query.now) list.now)) }
 {
-    let hosts = hosts_by_group(alloc, query, list)?;
-    let groups = query.groups();
     let mut members = Map::new(alloc);
-    for i in 0..groups.len() {
-        let ids = ids_value(alloc, cloud, &hosts[i])?;
-        serde_json::put(&mut members, alloc, suffix_text(&groups[i]), ids)?;
+    for (place, group) in query.groups().iter().enumerate() {
+        let hosts = hosts_of(alloc, query, list, place)?;
+        let ids = ids_value(alloc, cloud, &hosts)?;
+        serde_json::put(&mut members, alloc, suffix_text(group), ids)?;
     }
     Ok(Value::Object(members))
 }
 
-// Adds what a slot needs.
-fn push_needs<'a>(needs: &mut Vec<&'a Need>, more: &'a [Need]) -> Result<(), AllocError>
-    ensures { OnOk result (map need_at needs.new.items
-        ≡ map need_at needs.old.items ++ map need_entry more.now) }
+// Adds the classes of some needs, each with the sum of all that is needed of a provider.
+#[tactic(auto, unfolding(crate::specs::Trees::sum))]
+fn put_sums(
+    alloc: Global,
+    query: &Query,
+    list: &[u32],
+    provider: u32,
+    needs: &[Need],
+    members: &mut Map<String, Value>,
+) -> Result<(), AllocError>
+    requires { length list.now ≡ length (slots_of (asked_of query.now)) }
+    ensures { OnOk result (members_view members.new.entries
+        ≡ gathered_onto (members_view members.old.entries)
+        (map (sum (assigned (asked_of query.now) list.now) provider)
+        (map need_entry needs.now))) }
 {
-    for need in more {
-        needs.push(need)?;
+    for need in needs {
+        let sum = sum_on(query, list, provider, need.class());
+        serde_json::put(members, alloc, need.class().text(), Value::from(sum))?;
     }
     Ok(())
 }
 
-// Adds what a slot needs of its provider.
-fn add_needs<'a>(
-    alloc: Global,
-    needs: &mut BTreeMap<u32, Vec<&'a Need>>,
-    provider: u32,
-    more: &'a [Need],
-) -> Result<(), AllocError>
-    ensures { OnOk result (map row_shown needs.new.entries
-        ≡ with_needs (map row_shown needs.old.entries) provider (map need_entry more.now)) }
-{
-    push_needs(needs.entry(provider)?.or_insert(Vec::new(alloc)), more)
-}
-
-// What is needed of each provider.
-fn needs_by_provider<'a>(
-    alloc: Global,
-    query: &'a Query,
-    list: &[u32],
-) -> Result<BTreeMap<u32, Vec<&'a Need>>, AllocError>
-    requires { length list.now ≡ length (slots_of (asked_of query.now)) }
-    ensures { IfOk result (λ m. AreNeeds (assigned (asked_of query.now) list.now) list.now m) }
-{
-    let mut needs = BTreeMap::new(alloc);
-    for i in 0..list.len() {
-        add_needs(alloc, &mut needs, list[i], query.slot_needs(i))?;
-    }
-    Ok(needs)
-}
-
-// The sum of the amounts of each class. A query has at most 256 needs, so each sum fits.
-fn totals_of<'a>(alloc: Global, needs: &[&'a Need]) -> Result<BTreeMap<&'a str, u64>, AllocError>
-    requires { length needs.now ≤ 256 }
-    ensures { IfOk result (λ m. (q : List ℕ)
-        → unwrap_or (get_by (λ k. slice_cmp nat_cmp q k.now) m) 0 ≡ sum_at q needs.now) }
-{
-    let mut totals = BTreeMap::new(alloc);
-    for need in needs {
-        let class = need.class().text();
-        let total = total_at(&totals, class) + u64::from(need.amount());
-        totals.insert(class, total)?;
-    }
-    Ok(totals)
-}
-
-fn total_at(totals: &BTreeMap<&str, u64>, class: &str) -> u64
-    ensures { result ≡ unwrap_or (get_by (λ k. slice_cmp nat_cmp class.now k.now) totals.now) 0 }
-{
-    totals.get(class).copied().unwrap_or(0)
-}
-
-// Each class, with the sum of its amounts.
-fn sums_value(alloc: Global, needs: &[&Need]) -> Result<Value, AllocError>
-    requires { length needs.now ≤ 256 }
-    ensures { IfOk result (λ v. view v ≡ sums_of (map need_at needs.now)) }
-{
-    let totals = totals_of(alloc, needs)?;
-    let mut members = Map::new(alloc);
-    for need in needs {
-        let class = need.class().text();
-        let total = total_at(&totals, class);
-        serde_json::put(&mut members, alloc, class, Value::from(total))?;
-    }
-    Ok(Value::Object(members))
-}
-
 // What is taken of a provider.
-#[tactic(auto, unfolding(crate::specs::Parts::allocation_of))]
-fn allocation_value(alloc: Global, needs: &[&Need]) -> Result<Value, AllocError>
-    requires { length needs.now ≤ 256 }
-    ensures { IfOk result (λ v. view v ≡ allocation_of (map need_at needs.now)) }
+#[tactic(auto, unfolding(crate::specs::Trees::allocation), using(ac_rules::proofs::PlacedLemmas::placed_end))]
+fn allocation_value(
+    alloc: Global,
+    query: &Query,
+    list: &[u32],
+    provider: u32,
+) -> Result<Value, AllocError>
+    requires { length list.now ≡ length (slots_of (asked_of query.now)) }
+    ensures { IfOk result (λ v.
+        view v ≡ allocation (assigned (asked_of query.now) list.now) provider) }
 {
-    let sums = sums_value(alloc, needs)?;
-    json!(in alloc; {"resources": sums})
+    let mut sums = Map::new(alloc);
+    for s in 0..count_slots(query) {
+        let needs = needs_of(query, list, s, provider);
+        put_sums(alloc, query, list, provider, needs, &mut sums)?;
+    }
+    json!(in alloc; {"resources": Value::Object(sums)})
+}
+
+// Adds what is taken of a provider, where something is needed of it.
+fn put_allocation(
+    alloc: Global,
+    cloud: &Cloud,
+    query: &Query,
+    list: &[u32],
+    provider: u32,
+    members: &mut Map<String, Value>,
+) -> Result<(), AllocError>
+    requires slots { length list.now ≡ length (slots_of (asked_of query.now)) }
+    requires provider { provider < length (providers_of cloud.now) }
+    ensures { OnOk result (members_view members.new.entries
+        ≡ (if gives (assigned (asked_of query.now) list.now) provider
+        then put (provider_text (providers_of cloud.now) provider)
+        (allocation (assigned (asked_of query.now) list.now) provider)
+        (members_view members.old.entries)
+        else members_view members.old.entries)) }
+{
+    if !gives(query, list, provider) {
+        return Ok(());
+    }
+    let id = id_string(alloc, cloud.id(provider))?;
+    let allocation = allocation_value(alloc, query, list, provider)?;
+    serde_json::put(members, alloc, id.as_str(), allocation)?;
+    Ok(())
 }
 
 // What is taken of each provider of which something is needed.
@@ -198,15 +151,9 @@ fn allocations_value(
         view v ≡ allocations (providers_of cloud.now)
         (assigned (asked_of query.now) list.now) list.now) }
 {
-    let needs = needs_by_provider(alloc, query, list)?;
     let mut members = Map::new(alloc);
-    for (provider, needs) in &needs {
-        if needs.is_empty() {
-            continue;
-        }
-        let id = id_string(alloc, cloud.id(*provider))?;
-        let allocation = allocation_value(alloc, needs)?;
-        serde_json::put(&mut members, alloc, id.as_str(), allocation)?;
+    for provider in &all_hosts(alloc, list)? {
+        put_allocation(alloc, cloud, query, list, *provider, &mut members)?;
     }
     Ok(Value::Object(members))
 }

@@ -3,7 +3,7 @@ use Rattle.std.proofs.Common.{◌≡◌, ◌⊎◌, inl, inr, ℕ, suc, ◌+◌,
 use Rattle.std.specs.Prelude.{bytes_eq}
 use Rattle.std.specs.List.{All, AllByRecursion}
 use Rattle.ac_report.proofs.IdTexts.{at_most_cases}
-use Rattle.ac_report.proofs.Serving.{all_rising}
+use Rattle.ac_report.proofs.SlotLemmas.{all_rising}
 use Rattle.std.specs.Ordering.{match_ordering, is_eq}
 use Rattle.std.proofs.lemmas.Map.Text.{is_eq-slice_cmp}
 use Rattle.std.proofs.lemmas.Slice.Eq.{bytes_eq-Decides}

@@ -12,9 +12,9 @@ use Rattle.ac_tables.specs.Sorted.{rising}
 use Rattle.ac_report.specs.Trees.{gathered, gives, needs_on, provider_text, sum, allocation}
 use Rattle.ac_report.proofs.Trees.Finding.{find, find_put, onto, AreTold}
 use Rattle.ac_tables.specs.Reader.RecordLaws.{eq_turned}
-use Rattle.ac_report.proofs.Trees.Gathering.{Named, bytes_eq_refl, sum_on_is}
+use Rattle.ac_report.proofs.Trees.Gathering.{Named, bytes_eq_refl}
 use Rattle.ac_tables.proofs.Sorted.SameItems.{member_rising}
-use Rattle.ac_report.proofs.Serving.{needs_none}
+use Rattle.ac_report.proofs.SlotLemmas.{needs_none, sum_on_is}
 
 abbrev pub here : List Provider → List Placed → ℕ → Named
 here all xs ix = (provider_text all ix, allocation xs ix)

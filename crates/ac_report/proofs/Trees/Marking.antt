@@ -2,7 +2,7 @@
 use Rattle.std.proofs.Common.{◌≡◌, ◌≢◌, ◌⊎◌, inl, inr, ℕ, ◌+◌, ◌<◌, List, [], ◌∷◌, ◌++◌, take, Option, Some, refl, sym, ap, ◌∙◌, Bool, true, false, ◌||◌, eqb, length, get_or, nat_cmp, Ordering, Less, Equal, Greater, arith}
 use Rattle.std.specs.List.{list_any}
 use Rattle.std.proofs.Math.ListN.{set}
-use Rattle.std.proofs.lemmas.Bool.{eq-eqb}
+use Rattle.std.proofs.lemmas.Bool.{eq-eqb, ne_eqb}
 use Rattle.std.proofs.lemmas.Bool.Decides.{eqb_tells}
 use Rattle.std.proofs.lemmas.Cmp.{ranked}
 use Rattle.std.proofs.lemmas.List.{get_or-set_same, get_or-set_other, take_more}
@@ -13,7 +13,6 @@ use Rattle.ac_rules.specs.Pages.{cut}
 use Rattle.ac_report.specs.Marks.{has_root}
 use Rattle.ac_report.specs.Texts.{meets_root}
 use Rattle.ac_report.proofs.Pages.Paging.{after, counted, IsRoom, cut_step}
-use Rattle.ac_report.proofs.Trees.Rows.{not_eq}
 
 apart_by : (all : List Provider) → AreInOrder all → (o : Ordering) (p q : ℕ) → o ≡ nat_cmp p q → p < length all → q < length all → (p ≡ q → ⊥) → id_at all p ≡ id_at all q → ⊥
 apart_by all order Less p q e k l d s = omega (arith, s, order p q (ranked p q Less e) l)
@@ -39,7 +38,7 @@ mark_at all order marks root ix r long k is low (inl same) =
     ap (λ n. get_or (set marks root true) n false) same.1 ∙ get_or-set_same marks root true false (omega (arith, long, k)) ∙ or_true (get_or marks r false) ∙ ap (λ b. get_or marks r false || b) (sym here)
 mark_at all order marks root ix r long k is low (inr other) =
     let there : has_root all (id_at all r) ix ≡ false =
-    not_eq (root_of all (id_at all ix)) (id_at all r) (λ e. ids_apart all order root r k (omega (arith, long, low)) (λ s. other.1 (sym s)) (is ∙ e)) in
+    ne_eqb (root_of all (id_at all ix)) (id_at all r) (λ e. ids_apart all order root r k (omega (arith, long, low)) (λ s. other.1 (sym s)) (is ∙ e)) in
     get_or-set_other marks root r true false other.1 ∙ or_false (get_or marks r false) ∙ ap (λ b. get_or marks r false || b) (sym there)
 
 -- a root is marked

@@ -1,12 +1,15 @@
-use Rattle.std.proofs.Common.{◌≡◌, take}
+use Rattle.std.proofs.Common.{◌≡◌, map, drop}
 use Rattle.serde_json.specs.View.{members_view}
+use Rattle.ac_query.specs.Shown.Groups.{group_entry}
 use Rattle.ac_query.specs.Shown.Queries.{asked_of}
 use Rattle.ac_rules.specs.Placed.{assigned}
 use Rattle.ac_tables.specs.Cloud.CloudWorld.{providers_of}
+use Rattle.ac_report.specs.Parts.{gathered_onto}
 use Rattle.ac_report.specs.Trees.{gathered, mappings_from}
 use Rattle.ac_report.proofs.request.mappings_value.Given as goal
 
-abbrev pub invariant-loop-i : goal.invariant-loop-i
-invariant-loop-i l =
+abbrev pub invariant-loop-place : goal.invariant-loop-place
+invariant-loop-place l =
     let asked = asked_of l.query in
-    members_view l.members.entries ≡ gathered (mappings_from (providers_of l.cloud) (assigned asked l.list) 0 (take l.i asked.groups))
+    let mappings = mappings_from (providers_of l.cloud) (assigned asked l.list) in
+    gathered_onto (members_view l.members.entries) (mappings l.place (map group_entry (drop l.place l.group-items))) ≡ gathered (mappings 0 asked.groups)

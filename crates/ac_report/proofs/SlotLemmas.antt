@@ -1,0 +1,109 @@
+-- What slots need of a provider, and whose providers they have.
+use Rattle.std.proofs.Common.{◌≡◌, ℕ, zero, suc, ◌+◌, ◌<◌, ◌≤◌, List, [], ◌∷◌, ◌++◌, map, fold, drop, length, length-append, refl, sym, ap, ◌∙◌, Bool, true, false, not, ◌||◌, nat_cmp, if◌then◌else◌, sum_by, slice_index, arith}
+use Rattle.std.specs.Prelude.{nat_eq, slice_index_or}
+use Rattle.std.specs.BTreeSet.{insert_key}
+use Rattle.std.specs.List.{All, filter, list_any}
+use Rattle.std.proofs.lemmas.List.{length-map}
+use Rattle.std.proofs.lemmas.List.Sums.{sum_by-cons}
+use Rattle.std.proofs.lemmas.Map.Views.{All-insert_key}
+use Rattle.ac_query.specs.declared.group.Need.{Need}
+use Rattle.ac_query.specs.Asked.{Slot}
+use Rattle.ac_query.specs.Shown.Groups.{need_entry}
+use Rattle.ac_rules.specs.Placed.{Placed, placed, no_slot}
+use Rattle.ac_rules.specs.Together.{amount_of, sum_on, is_empty}
+use Rattle.ac_rules.proofs.PlacedLemmas.{placed_more}
+use Rattle.ac_tables.specs.Sorted.{rising}
+use Rattle.ac_report.specs.Trees.{gives, hosts, needs_on}
+
+-- a slot needs no more than all slots
+pub few_at : (ss : List Slot) (s : ℕ) → s < length ss → length (slice_index_or ss s no_slot).needs ≤ sum_by (λ s. length s.needs) ss
+few_at [] s h = absurd (omega arith)
+few_at (x ∷ ss) zero h = omega (arith, sum_by-cons (λ (s : Slot). length s.needs) x ss)
+few_at (x ∷ ss) (suc s) h = omega (arith, few_at ss s (omega arith), sum_by-cons (λ (s : Slot). length s.needs) x ss)
+
+-- ---- one slot more of those that are left
+
+-- what the slot at a place needs of a provider
+abbrev pub needs_in : List Slot → List ℕ → ℕ → ℕ → List (List ℕ × ℕ)
+needs_in ss t i ix = if nat_eq (slice_index t i) ix then (slice_index_or ss i no_slot).needs else []
+
+pub needs_more : (ss : List Slot) (t : List ℕ) (i ix : ℕ) → i < length t → i < length ss
+    → needs_on (placed (drop i ss) (drop i t)) ix ≡ needs_in ss t i ix ++ needs_on (placed (drop (i + 1) ss) (drop (i + 1) t)) ix
+needs_more ss t i ix h k = ap (λ xs. needs_on xs ix) (placed_more ss t i no_slot h k)
+
+pub count_more : (ss : List Slot) (t : List ℕ) (i ix : ℕ) (here : List Need) → i < length t → i < length ss → map need_entry here ≡ needs_in ss t i ix
+    → length (needs_on (placed (drop i ss) (drop i t)) ix) ≡ length here + length (needs_on (placed (drop (i + 1) ss) (drop (i + 1) t)) ix)
+count_more ss t i ix here h k e =
+    let rest = needs_on (placed (drop (i + 1) ss) (drop (i + 1) t)) ix in
+    ap length (needs_more ss t i ix h k) ∙ length-append (needs_in ss t i ix) rest ∙ ap (λ n. n + length rest) (sym (ap length e) ∙ length-map here need_entry)
+
+pub gives_some : (xs : List Placed) (ix : ℕ) → 0 < length (needs_on xs ix) → gives xs ix ≡ true
+gives_some xs ix h = by (needs_on xs ix) h
+  where
+    by : (needs : List (List ℕ × ℕ)) → 0 < length needs → not (is_empty needs) ≡ true
+    by [] h = absurd (omega arith)
+    by (n ∷ needs) h = refl
+
+-- ---- sums
+
+amount_append : (q : List ℕ) (xs ys : List (List ℕ × ℕ)) → amount_of (xs ++ ys) q ≡ amount_of xs q + amount_of ys q
+amount_append q [] ys = omega arith
+amount_append q (x ∷ xs) ys = let e = amount_append q xs ys in omega (arith, e)
+
+amount_if : (q : List ℕ) (b : Bool) (needs : List (List ℕ × ℕ)) → amount_of (if b then needs else []) q ≡ (if b then amount_of needs q else 0)
+amount_if q true needs = refl
+amount_if q false needs = refl
+
+pub amount_more : (ss : List Slot) (t : List ℕ) (i ix : ℕ) (q : List ℕ) → i < length t → i < length ss
+    → amount_of (needs_on (placed (drop i ss) (drop i t)) ix) q ≡ amount_of (needs_in ss t i ix) q + amount_of (needs_on (placed (drop (i + 1) ss) (drop (i + 1) t)) ix) q
+amount_more ss t i ix q h k = ap (λ needs. amount_of needs q) (needs_more ss t i ix h k) ∙ amount_append q (needs_in ss t i ix) _
+
+-- what is needed of a provider, class by class
+pub sum_on_is : (xs : List Placed) (ix : ℕ) (q : List ℕ) → sum_on xs ix q ≡ amount_of (needs_on xs ix) q
+sum_on_is [] ix q = refl
+sum_on_is (x ∷ xs) ix q =
+    let here : List (List ℕ × ℕ) = if nat_eq x.provider ix then x.slot.needs else [] in
+    ap (λ n. (if nat_eq x.provider ix then amount_of x.slot.needs q else 0) + n) (sum_on_is xs ix q)
+    ∙ ap (λ n. n + amount_of (needs_on xs ix) q) (sym (amount_if q (nat_eq x.provider ix) x.slot.needs))
+    ∙ sym (amount_append q here (needs_on xs ix))
+
+-- nothing is needed of who serves no slot
+pub needs_none : (xs : List Placed) (ix : ℕ) → list_any (λ p. nat_eq p ix) (map (λ x. x.provider) xs) ≡ false → needs_on xs ix ≡ []
+needs_none [] ix h = refl
+needs_none (x ∷ xs) ix h = by (nat_eq x.provider ix) (needs_none xs ix) h
+  where
+    by : (b : Bool) → (list_any (λ p. nat_eq p ix) (map (λ x. x.provider) xs) ≡ false → needs_on xs ix ≡ []) → b || list_any (λ p. nat_eq p ix) (map (λ x. x.provider) xs) ≡ false
+        → (if b then x.slot.needs else []) ++ needs_on xs ix ≡ []
+    by true more h = absurd (cc)
+    by false more h = more h
+
+-- ---- whose providers these are
+
+pub providers_are : (ss : List Slot) (t : List ℕ) → length t ≡ length ss → map (λ x. x.provider) (placed ss t) ≡ t
+providers_are [] [] e = refl
+providers_are [] (p ∷ t) e = absurd (omega arith)
+providers_are (s ∷ ss) [] e = refl
+providers_are (s ∷ ss) (p ∷ t) e = ap (λ l. p ∷ l) (providers_are ss t (omega arith))
+
+all_fold : (P : ℕ → Type 0) (xs done : List ℕ) → All P xs → All P done → All P (fold (insert_key nat_cmp) done xs)
+all_fold P [] done h k = k
+all_fold P (x ∷ xs) done h k =
+    all_fold P xs (insert_key nat_cmp done x) (λ i d lt. h (suc i) d (omega arith)) (All-insert_key nat_cmp x P done k (h 0 x (omega arith)))
+
+pub all_rising : (P : ℕ → Type 0) (xs : List ℕ) → All P xs → All P (rising nat_cmp xs)
+all_rising P xs h = all_fold P xs [] h (λ i d lt. absurd (omega arith))
+
+pub all_cons : (P : ℕ → Type 0) (x : ℕ) (xs : List ℕ) → P x → All P xs → All P (x ∷ xs)
+all_cons P x xs h k zero d lt = h
+all_cons P x xs h k (suc i) d lt = k i d (omega arith)
+
+-- the providers of a group are those of the list
+pub all_hosts : (P : ℕ → Type 0) (ss : List Slot) (t : List ℕ) (g : ℕ) → All P t → All P (hosts (placed ss t) g)
+all_hosts P [] t g h = λ i d lt. absurd (omega arith)
+all_hosts P (s ∷ ss) [] g h = λ i d lt. absurd (omega arith)
+all_hosts P (s ∷ ss) (p ∷ t) g h = by (nat_eq s.place g) (h 0 p (omega arith)) (all_hosts P ss t g (λ i d lt. h (suc i) d (omega arith)))
+  where
+    by : (b : Bool) → P p → All P (hosts (placed ss t) g)
+        → All P (map (λ x. x.provider) (if b then record { slot = s; provider = p } ∷ filter (λ x. nat_eq x.slot.place g) (placed ss t) else filter (λ x. nat_eq x.slot.place g) (placed ss t)))
+    by true here more = all_cons P p (hosts (placed ss t) g) here more
+    by false here more = more
