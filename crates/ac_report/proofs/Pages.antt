@@ -3,4 +3,5 @@ pub mod Joining
 pub mod LinesWritten
 pub mod Paging
 pub mod Wholes
+pub mod Bodies
 pub mod Summing

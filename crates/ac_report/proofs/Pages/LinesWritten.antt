@@ -1,19 +1,13 @@
 -- Lines, provider by provider and list by list.
-use Rattle.std.proofs.Common.{◌≡◌, ◌∙◌, ℕ, ◌+◌, ◌<◌, List, [], ◌∷◌, ◌++◌, map, take, get_or, length, Option, Some, refl, sym, ap, subst, append_assoc, append-nil}
+use Rattle.std.proofs.Common.{◌≡◌, ◌∙◌, ℕ, ◌+◌, ◌<◌, List, [], ◌∷◌, ◌++◌, map, take, get_or, length, refl, sym, ap, append_assoc, append-nil}
 use Rattle.std.proofs.lemmas.List.{map-append, take_more}
 use Rattle.std.proofs.lemmas.Grind.{flat_map-append}
 use Rattle.std.specs.List.{flat_map, join_with_byte}
-use Rattle.std.specs.Io.KnownBytes.{Appends}
 use Rattle.ac_base.specs.Texts.{id_text}
 use Rattle.ac_query.specs.Tokens.{ids_text}
-use Rattle.ac_rules.specs.Lists.{head_of, tail_of}
-use Rattle.ac_rules.specs.Pages.{cut, ids_of}
+use Rattle.ac_rules.specs.Pages.{ids_of}
 use Rattle.ac_tables.specs.World.{Provider}
 use Rattle.ac_report.specs.Trees.{provider_text}
-use Rattle.ac_report.specs.Texts.{line, lines}
-use Rattle.ac_base.specs.Devices.{TakesPart}
-use Rattle.ac_base.proofs.Leaving.{Leaves, leaves_appends, leaves_takes_part}
-use Rattle.ac_report.proofs.Pages.Paging.{after, counted, IsRoom, cut_step}
 
 -- texts behind commas
 abbrev pub behind_commas : List (List ℕ) → List ℕ
@@ -47,21 +41,3 @@ behind_more f xs i x front text more h there holds added =
     ∙ append_assoc front (behind_commas (map f (take i xs))) (44 ∷ f x)
     ∙ ap (λ l. front ++ (behind_commas (map f (take i xs)) ++ l)) (sym (append-nil (44 ∷ f x)))
     ∙ ap (λ l. front ++ l) (sym next)
-
--- a line was written
-pub leaves_line : (all : List Provider) (a b c : Option (List ℕ)) (bytes text : List ℕ) (limit : Option ℕ) (count : ℕ) (ls : List (List ℕ)) (x : List ℕ)
-    → (limit ≡ Some count → ⊥) → IsRoom limit count → head_of ls ≡ Some x → text ≡ line all x
-    → Leaves a b bytes (lines all (cut (after limit count) ls)) → Appends b c text → Leaves a c bytes (lines all (cut (after limit (counted count)) (tail_of ls)))
-leaves_line all a b c bytes text limit count ls x more room e is h k =
-    let P : List (List ℕ) → Type 0 = λ l. Leaves a b bytes (lines all l) in
-    let Q : List ℕ → Type 0 = λ t. Appends b c t in
-    leaves_appends a b c bytes (line all x) (lines all (cut (after limit (counted count)) (tail_of ls))) (subst P (cut_step limit count ls x more room e) h) (subst Q is k)
-
--- a part of it was
-pub leaves_line_part : (all : List Provider) (a b c : Option (List ℕ)) (bytes text : List ℕ) (limit : Option ℕ) (count : ℕ) (ls : List (List ℕ)) (x : List ℕ)
-    → (limit ≡ Some count → ⊥) → IsRoom limit count → head_of ls ≡ Some x → text ≡ line all x
-    → Leaves a b bytes (lines all (cut (after limit count) ls)) → TakesPart b c text → TakesPart a c bytes
-leaves_line_part all a b c bytes text limit count ls x more room e is h k =
-    let P : List (List ℕ) → Type 0 = λ l. Leaves a b bytes (lines all l) in
-    let Q : List ℕ → Type 0 = λ t. TakesPart b c t in
-    leaves_takes_part a b c bytes (line all x) (lines all (cut (after limit (counted count)) (tail_of ls))) (subst P (cut_step limit count ls x more room e) h) (subst Q is k)

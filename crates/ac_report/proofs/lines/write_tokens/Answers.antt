@@ -1,12 +1,12 @@
 use Rattle.std.proofs.Common.{◌≡◌, ◌∙◌, ℕ, List, Some, subst, sym, arith}
 use Rattle.std.specs.Io.KnownBytes.{Appends}
+use Rattle.ac_base.specs.Devices.{TakesPart}
 use Rattle.ac_query.specs.Shown.Queries.{asked_of}
 use Rattle.ac_rules.specs.Lists.{head_of, tail_of}
 use Rattle.ac_tables.specs.Cloud.CloudWorld.{providers_of}
 use Rattle.ac_report.specs.Pages.{IsAssignment}
 use Rattle.ac_report.proofs.Outcomes.{on_err}
-use Rattle.ac_report.proofs.Pages.LinesWritten.{leaves_line, leaves_line_part}
-use Rattle.ac_report.proofs.Pages.Wholes.{done_whole, one_done}
+use Rattle.ac_report.proofs.Pages.Wholes.{done_whole, one_done, one_part}
 use Rattle.ac_report.specs.Texts.{line}
 use Rattle.ac_report.proofs.Pages.Paging.{all_head, all_tail, behind_step, count_step, cut_step, gone_step, loses_one, room_step}
 use Rattle.ac_report.proofs.lines.write_tokens.Goals as goal
@@ -38,9 +38,10 @@ pub returns-in_err-push_all-clause-part : goal.returns-in_err-push_all-clause-pa
 returns-in_err-push_all-clause-part g c =
     let limit = (asked_of c.args.query.now).limit in
     let more : limit ≡ Some c.lists.count → ⊥ = λ e. let full = c.is_full.ensures.1 (c.limit-limit.ensures ∙ e) in cc in
+    let P : List ℕ → Type 0 = λ text. TakesPart (g.W.Sink.taken c.lists.out) (g.W.Sink.taken c.push_all.new.out) text in
     on_err c.from_residual-in_err-push_all.result _
-    (leaves_line_part (providers_of c.args.cloud.now) _ _ _ _ _ limit c.lists.count (g.S.Source.left c.lists.source) c.in-Some.list.now more c.lists.invariant.room (sym c.in-Some.ensures.head)
-    (c.deref.ensures.value ∙ c.in_ok-put_line.ensures) c.lists.invariant.leaves c.in_err-push_all.ensures.part)
+    (one_part (line (providers_of c.args.cloud.now)) _ _ _ _ _ _ _ (cut_step limit c.lists.count (g.S.Source.left c.lists.source) c.in-Some.list.now more c.lists.invariant.room (sym c.in-Some.ensures.head)) c.lists.invariant.whole
+    (subst P (c.deref.ensures.value ∙ c.in_ok-put_line.ensures) c.in_err-push_all.ensures.part))
 
 pub lists-preserved : goal.lists-preserved
 lists-preserved g c =
@@ -59,7 +60,6 @@ lists-preserved g c =
     rw (tail, c.saturating_add-count.ensures)
     (record {
       assigned = all_tail (IsAssignment all asked) ls c.lists.invariant.assigned;
-      leaves = leaves_line all _ _ _ _ _ limit count ls x more room head (c.deref.ensures.value ∙ c.in_ok-put_line.ensures) c.lists.invariant.leaves c.in_ok-push_all.ensures.ok;
       behind = sym (behind_step limit count ls x more room head) ∙ c.lists.invariant.behind;
       count = count_step limit ls x count _ more room head c.lists.invariant.count;
       counted = omega arith;

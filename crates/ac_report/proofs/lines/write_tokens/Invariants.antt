@@ -3,9 +3,8 @@ use Rattle.std.specs.List.{All}
 use Rattle.ac_query.specs.Shown.Queries.{asked_of}
 use Rattle.ac_rules.specs.Pages.{cut}
 use Rattle.ac_tables.specs.Cloud.CloudWorld.{providers_of}
-use Rattle.ac_report.specs.Texts.{line, lines}
+use Rattle.ac_report.specs.Texts.{line}
 use Rattle.ac_report.specs.Pages.{IsAssignment, behind}
-use Rattle.ac_base.proofs.Leaving.{Leaves}
 use Rattle.ac_report.proofs.Pages.Paging.{after, IsRoom, Gone}
 use Rattle.ac_report.proofs.Pages.Wholes.{IsDone}
 use Rattle.ac_report.proofs.lines.write_tokens.Given as goal
@@ -19,7 +18,6 @@ invariant-lists g l =
     let wanted = after asked.limit l.count in
     record {
       assigned : All (IsAssignment all asked) (left l.source);
-      leaves : Leaves (g.W.Sink.taken l.fn.out) (g.W.Sink.taken l.out) (lines all (cut asked.limit (left l.fn.source))) (lines all (cut wanted (left l.source)));
       behind : behind wanted (left l.source) ≡ behind asked.limit (left l.fn.source);
       count : min (l.count + length (cut wanted (left l.source))) 4294967295 ≡ min (length (cut asked.limit (left l.fn.source))) 4294967295;
       counted : l.count ≤ 4294967295;

@@ -10,11 +10,10 @@ use Rattle.ac_tables.specs.World.{id_at}
 use Rattle.ac_base.specs.Devices.{TakesPart}
 use Rattle.ac_report.specs.Pages.{IsAssignment}
 use Rattle.ac_report.specs.Texts.{request_text, meets_root, with_commas}
-use Rattle.ac_report.proofs.Pages.Wholes.{done_whole, one_done}
+use Rattle.ac_report.proofs.Pages.Wholes.{done_whole, one_done, one_part}
 use Rattle.ac_report.proofs.Outcomes.{on_err}
 use Rattle.ac_report.proofs.Trees.Marking.{marks_step}
-use Rattle.ac_report.proofs.Pages.Paging.{after, counted, all_head, all_tail, cut_step, behind_step, gone_step, loses_one, count_step, room_step}
-use Rattle.ac_report.proofs.Pages.Summing.{leaves_listed, leaves_listed_part}
+use Rattle.ac_report.proofs.Pages.Paging.{all_head, all_tail, cut_step, behind_step, gone_step, loses_one, count_step, room_step}
 use Rattle.ac_report.proofs.page.write_requests.Goals as goal
 
 pub request_text-requires : goal.request_text-requires
@@ -56,8 +55,8 @@ returns-in_err-push_listed-clause-part g c =
     let told = c.as_bytes.ensures.value ∙ c.in_ok-text-in-Some.ensures in
     let P : List ℕ → Type 0 = λ text. TakesPart (g.W.Sink.taken c.lists.out) (g.W.Sink.taken c.push_listed.new.out) (comma_if c.lists.later ++ text) in
     on_err c.from_residual-in_err-push_listed.result _
-    (leaves_listed_part (request_text all asked) _ _ _ _ c.lists.later (cut (after limit count) ls) (cut (after limit (counted count)) (tail_of ls)) x
-    (cut_step limit count ls x more c.lists.invariant.room (sym c.in-Some.ensures.head)) c.lists.invariant.leaves (subst P told c.in_err-push_listed.ensures.part))
+    (one_part (λ text. text) _ _ _ _ (comma_if c.lists.later ++ request_text all asked x) _ _
+    (ap (λ l. with_commas c.lists.later (map (request_text all asked) l)) (cut_step limit count ls x more c.lists.invariant.room (sym c.in-Some.ensures.head))) c.lists.invariant.whole (subst P told c.in_err-push_listed.ensures.part))
 
 pub lists-preserved : goal.lists-preserved
 lists-preserved g c =
@@ -80,7 +79,6 @@ lists-preserved g c =
     rw (tail, c.saturating_add-count.ensures)
     (record {
       assigned = all_tail (IsAssignment all asked) ls c.lists.invariant.assigned;
-      leaves = leaves_listed (request_text all asked) _ _ _ _ c.lists.later (cut (after limit count) ls) (cut (after limit (counted count)) (tail_of ls)) x (cut_step limit count ls x more room head) c.lists.invariant.leaves taken;
       behind = sym (behind_step limit count ls x more room head) ∙ c.lists.invariant.behind;
       count = count_step limit ls x count _ more room head c.lists.invariant.count;
       counted = omega arith;

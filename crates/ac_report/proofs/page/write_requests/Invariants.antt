@@ -4,11 +4,9 @@ use Rattle.ac_query.specs.Shown.Queries.{asked_of}
 use Rattle.ac_rules.specs.Pages.{cut}
 use Rattle.ac_tables.specs.Cloud.CloudWorld.{providers_of}
 use Rattle.ac_tables.specs.World.{id_at}
-use Rattle.ac_report.specs.Marks.{requests_text}
 use Rattle.ac_report.specs.Pages.{IsAssignment, behind}
 use Rattle.ac_report.specs.Texts.{meets_root, request_text, with_commas}
 use Rattle.ac_report.proofs.Pages.Wholes.{IsDone}
-use Rattle.ac_base.proofs.Leaving.{Leaves}
 use Rattle.ac_report.proofs.Pages.Paging.{after, IsRoom, Gone}
 use Rattle.ac_report.proofs.page.write_requests.Given as goal
 
@@ -21,7 +19,6 @@ invariant-lists g l =
     let wanted = after asked.limit l.count in
     record {
       assigned : All (IsAssignment all asked) (left l.source);
-      leaves : Leaves (g.W.Sink.taken l.fn.out) (g.W.Sink.taken l.out) (requests_text all asked false (cut asked.limit (left l.fn.source))) (requests_text all asked l.later (cut wanted (left l.source)));
       behind : behind wanted (left l.source) ≡ behind asked.limit (left l.fn.source);
       count : min (l.count + length (cut wanted (left l.source))) 4294967295 ≡ min (length (cut asked.limit (left l.fn.source))) 4294967295;
       counted : l.count ≤ 4294967295;
