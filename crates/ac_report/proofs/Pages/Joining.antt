@@ -11,7 +11,8 @@ use Rattle.ac_query.specs.Asked.{Asked}
 use Rattle.ac_report.specs.Trees.{gathered, provider_text, request, summary}
 use Rattle.ac_report.specs.Texts.{request_text, summary_text, summarized, body_tree, body, with_commas, summary_piece, head_text, middle_text, tail_text, pieces, joined, meets_root}
 use Rattle.ac_report.specs.Marks.{requests_text, summaries_text}
-use Rattle.ac_report.proofs.Trees.Listed.{Named, listed, RiseFrom, gathered_listed, rise_from}
+use Rattle.ac_report.proofs.Trees.Gathering.{Named}
+use Rattle.ac_report.proofs.Trees.Listed.{listed, RiseFrom, gathered_listed, rise_from}
 
 -- ---- the parts of the pieces
 

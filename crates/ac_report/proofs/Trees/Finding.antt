@@ -1,5 +1,5 @@
 -- Members by their names.
-use Rattle.std.proofs.Common.{◌≡◌, ◌⊎◌, inl, inr, ℕ, suc, ◌+◌, ◌<◌, ◌≤◌, List, [], ◌∷◌, map, fold, length, refl, sym, ap, ◌∙◌, Bool, true, false, Option, Some, None, if◌then◌else◌, Ordering, Less, Equal, Greater, nat_cmp, arith}
+use Rattle.std.proofs.Common.{◌≡◌, ◌⊎◌, inl, inr, ℕ, suc, ◌+◌, ◌<◌, ◌≤◌, List, [], ◌∷◌, map, length, refl, sym, ap, ◌∙◌, Bool, true, false, Option, Some, None, if◌then◌else◌, Ordering, Less, Equal, Greater, nat_cmp, arith}
 use Rattle.std.specs.Prelude.{bytes_eq}
 use Rattle.std.specs.List.{All, AllByRecursion}
 use Rattle.ac_report.proofs.IdTexts.{at_most_cases}
@@ -15,6 +15,7 @@ use Rattle.ac_rules.specs.Placed.{Placed}
 use Rattle.ac_tables.specs.World.{Provider}
 use Rattle.ac_tables.specs.Sorted.{rising}
 use Rattle.ac_query.specs.Laws.InOrder.{group_name, AreApart}
+use Rattle.ac_report.specs.Parts.{gathered_onto}
 use Rattle.ac_report.specs.Trees.{hosts, mapping, mappings_from, provider_text, texts}
 use Rattle.ac_report.proofs.Trees.Gathering.{Named, bytes_eq_refl}
 
@@ -56,11 +57,8 @@ pub find_put : (q k : List ℕ) (d : Data) (ms : Members) → find q (put k d ms
 find_put q k d no_members = refl
 find_put q k d (member l e ms) = find_by (text_cmp k l) q k l d e ms refl (find_put q k d ms)
 
-abbrev pub onto : Members → List Named → Members
-onto done ms = fold (λ done m. put m.0 m.1 done) done ms
-
 -- members of other names
-find_absent : (q : List ℕ) (ms : List Named) (done : Members) → AllByRecursion (λ m. bytes_eq q m.0 ≡ false) ms → find q (onto done ms) ≡ find q done
+find_absent : (q : List ℕ) (ms : List Named) (done : Members) → AllByRecursion (λ m. bytes_eq q m.0 ≡ false) ms → find q (gathered_onto done ms) ≡ find q done
 find_absent q [] done h = refl
 find_absent q (m ∷ ms) done h =
     find_absent q ms (put m.0 m.1 done) h.1 ∙ find_put q m.0 m.1 done ∙ ap (λ b. if b then Some m.1 else find q done) h.0
@@ -76,7 +74,7 @@ hosts_tree all xs k = texts (map (provider_text all) (rising nat_cmp (hosts xs k
 
 -- what stands at the name of the first group
 first_found : (all : List Provider) (xs : List Placed) (place : ℕ) (g : Option (List ℕ) × Group) (gs : List (Option (List ℕ) × Group)) (done : Members) → AllByRecursion (λ s. bytes_eq (group_name g) s ≡ false) (map group_name gs)
-    → find (group_name g) (onto done (mappings_from all xs place (g ∷ gs))) ≡ Some (hosts_tree all xs place)
+    → find (group_name g) (gathered_onto done (mappings_from all xs place (g ∷ gs))) ≡ Some (hosts_tree all xs place)
 unfolding mapping
 first_found all xs place g gs done h =
     find_absent (group_name g) (mappings_from all xs (place + 1) gs) (put (mapping all xs place g).0 (mapping all xs place g).1 done) (other_names (group_name g) all xs (place + 1) gs h)
@@ -85,7 +83,7 @@ first_found all xs place g gs done h =
 
 -- equal mappings have equal hosts
 pub mappings_agree : (all : List Provider) (xs ys : List Placed) (place : ℕ) (gs : List (Option (List ℕ) × Group)) (donex doney : Members) → AreApart (map group_name gs)
-    → onto donex (mappings_from all xs place gs) ≡ onto doney (mappings_from all ys place gs)
+    → gathered_onto donex (mappings_from all xs place gs) ≡ gathered_onto doney (mappings_from all ys place gs)
     → (k : ℕ) → place ≤ k → k < place + length gs → hosts_tree all xs k ≡ hosts_tree all ys k
 mappings_agree all xs ys place [] donex doney a e k low below = absurd (omega (arith, low, below))
 mappings_agree all xs ys place (g ∷ gs) donex doney a e k low below =

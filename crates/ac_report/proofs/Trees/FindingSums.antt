@@ -9,8 +9,9 @@ use Rattle.ac_rules.specs.Placed.{Placed}
 use Rattle.ac_rules.specs.Together.{amount_of, sum_on, is_empty}
 use Rattle.ac_tables.specs.World.{Provider}
 use Rattle.ac_tables.specs.Sorted.{rising}
+use Rattle.ac_report.specs.Parts.{gathered_onto}
 use Rattle.ac_report.specs.Trees.{gathered, gives, needs_on, provider_text, sum, allocation}
-use Rattle.ac_report.proofs.Trees.Finding.{find, find_put, onto, AreTold}
+use Rattle.ac_report.proofs.Trees.Finding.{find, find_put, AreTold}
 use Rattle.ac_tables.specs.Reader.RecordLaws.{eq_turned}
 use Rattle.ac_report.proofs.Trees.Gathering.{Named, bytes_eq_refl}
 use Rattle.ac_tables.proofs.Sorted.SameItems.{member_rising}
@@ -40,7 +41,7 @@ one_by all told xs ix p any rest h k (inr d) =
     other false e = sym e
 
 find_rows : (all : List Provider) → AreTold all → (xs : List Placed) (ix : ℕ) (ps : List ℕ) (done : Members) → ix < length all → All (λ p. p < length all) ps
-    → find (provider_text all ix) (onto done (map (here all xs) ps)) ≡ (if list_any (λ p. nat_eq p ix) ps then Some (allocation xs ix) else find (provider_text all ix) done)
+    → find (provider_text all ix) (gathered_onto done (map (here all xs) ps)) ≡ (if list_any (λ p. nat_eq p ix) ps then Some (allocation xs ix) else find (provider_text all ix) done)
 find_rows all told xs ix [] done h a = refl
 find_rows all told xs ix (p ∷ ps) done h a =
     find_rows all told xs ix ps (put (provider_text all p) (allocation xs p) done) h (λ i d lt. a (suc i) d (omega arith))
@@ -99,7 +100,7 @@ class_by xs ix c need true any rest e =
 class_by xs ix c need false any rest e = refl
 
 find_sum : (xs : List Placed) (ix : ℕ) (c : List ℕ) (needs : List (List ℕ × ℕ)) (done : Members)
-    → find c (onto done (map (sum xs ix) needs)) ≡ (if list_any (λ n. bytes_eq c n.0) needs then Some (number (unsigned (sum_on xs ix c))) else find c done)
+    → find c (gathered_onto done (map (sum xs ix) needs)) ≡ (if list_any (λ n. bytes_eq c n.0) needs then Some (number (unsigned (sum_on xs ix c))) else find c done)
 unfolding sum
 find_sum xs ix c [] done = refl
 find_sum xs ix c (need ∷ needs) done =

@@ -9,13 +9,11 @@ use Rattle.ac_tables.specs.Laws.{AreProviders}
 use Rattle.ac_tables.specs.World.{Provider, id_at}
 use Rattle.ac_report.specs.Trees.{gathered, provider_text}
 use Rattle.ac_report.proofs.IdTexts.{texts_rise}
+use Rattle.ac_report.proofs.Trees.Gathering.{Named}
 
 -- one text is before another
 abbrev pub IsBelow : List ℕ → List ℕ → Type 0
 IsBelow a b = text_cmp a b ≡ Less
-
-abbrev pub Named : Type 0
-Named = List ℕ × Data
 
 -- members in the order of a list
 abbrev pub listed : List Named → Members
