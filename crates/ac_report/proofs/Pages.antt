@@ -1,6 +1,5 @@
 -- Pages, piece by piece and list by list.
 pub mod Joining
-pub mod LinesWritten
 pub mod Paging
 pub mod Wholes
 pub mod Bodies

@@ -4,14 +4,14 @@ ghost use Rattle.std.specs.List.{All};
 ghost use Rattle.std.specs.Io.KnownBytes.{Appends};
 ghost use Rattle.ac_base.specs.Devices.{Rises, TakesPart};
 ghost use Rattle.ac_query.specs.Shown.Queries.{asked_of};
-ghost use Rattle.ac_query.specs.Tokens.{ids_text};
+ghost use Rattle.ac_query.specs.Tokens.{ids_text, part_text};
 ghost use Rattle.ac_rules.specs.Pages.{cut, ids_of};
 ghost use Rattle.ac_tables.specs.Cloud.CloudWorld.{providers_of};
 ghost use Rattle.ac_report.specs.Texts.{line, lines};
 ghost use Rattle.ac_report.specs.Pages.{IsAssignment, LosesSome, TakesWhole, behind};
 
 use crate::fault::PageFault;
-use ac_base::{NoMemory, Sink, push_all};
+use ac_base::{Id, NoMemory, Sink, push_all};
 use ac_query::Query;
 use ac_rules::Source;
 use ac_tables::Cloud;
@@ -24,19 +24,25 @@ pub(crate) fn is_full(limit: Option<u32>, count: u32) -> bool
     limit == Some(count)
 }
 
+// Adds the id at a place of a token: every one but the first stands behind a comma.
+fn put_part(text: &mut Vec<u8>, place: usize, id: Id) -> Result<(), NoMemory>
+    ensures { OnOk result (text.new.items ≡ text.old.items ++ part_text place id) }
+{
+    if place > 0 {
+        text.push(b',')?;
+    }
+    text.extend_from_slice(&id.text())?;
+    Ok(())
+}
+
 // Adds the ids of a list, joined by commas.
 fn put_ids(text: &mut Vec<u8>, cloud: &Cloud, list: &[u32]) -> Result<(), NoMemory>
     requires { All (λ ix. ix < length (providers_of cloud.now)) list.now }
     ensures { OnOk result (text.new.items ≡ text.old.items
         ++ ids_text (ids_of (providers_of cloud.now) list.now)) }
 {
-    let Some((&first, others)) = list.split_first() else {
-        return Ok(());
-    };
-    text.extend_from_slice(&cloud.id(first).text())?;
-    for &ix in others {
-        text.push(b',')?;
-        text.extend_from_slice(&cloud.id(ix).text())?;
+    for (place, ix) in list.iter().enumerate() {
+        put_part(text, place, cloud.id(*ix))?;
     }
     Ok(())
 }

@@ -1,32 +1,25 @@
-use Rattle.std.proofs.Common.{◌≡◌, ◌∙◌, ◌<◌, ◌++◌, ◌∷◌, ℕ, suc, List, ap, subst, sym, map, take, length, get_or, refl, arith, rules, append_assoc}
-use Rattle.std.specs.List.{All}
-use Rattle.std.proofs.lemmas.List.{take_all}
-use Rattle.ac_query.specs.Tokens.{ids_text}
+use Rattle.std.proofs.Common.{◌≡◌, ◌∙◌, ◌++◌, ap, sym, get_or, append_assoc, arith}
+use Rattle.std.proofs.lemmas.List.{get_or-map, length-map, take_all}
+use Rattle.ac_query.specs.Tokens.{ids_text, part_text}
+use Rattle.ac_query.proofs.WrittenIds.{next_part}
 use Rattle.ac_rules.specs.Pages.{ids_of}
 use Rattle.ac_tables.specs.Cloud.CloudWorld.{providers_of}
-use Rattle.ac_report.specs.Trees.{provider_text}
-use Rattle.ac_report.proofs.Pages.LinesWritten.{behind_commas, ids_behind, behind_more}
+use Rattle.ac_tables.specs.World.{id_at}
 use Rattle.ac_report.proofs.lines.put_ids.Goals as goal
 
-pub id-requires-in-loop-ix : goal.id-requires-in-loop-ix
-id-requires-in-loop-ix c =
-    let P : List ℕ → Type 0 = λ l. All (λ ix. ix < length (providers_of c.args.cloud.now)) l in
-    let is : c.args.list.now ≡ c.in-Some.field-0-0.now ∷ c.in-Some.others.now = search rules in
-    subst P is c.requires (suc c.loop-ix.ix-index) 0 (omega (arith, c.loop-ix-test.true))
-
-pub loop-ix-preserved : goal.loop-ix-preserved
-loop-ix-preserved c =
-    behind_more (provider_text (providers_of c.args.cloud.now)) c.in-Some.others.now c.loop-ix.ix-index (get_or c.in-Some.others.now c.loop-ix.ix-index 0) _ c.loop-ix.text.items _ (omega arith) refl
-    c.loop-ix.invariant (search rules)
+pub loop-place-preserved : goal.loop-place-preserved
+loop-place-preserved c =
+    let all = providers_of c.args.cloud.now in
+    let list = c.args.list.now in
+    let place = c.loop-place.place in
+    let id = c.id.result in
+    let there : id ≡ get_or (ids_of all list) place id = c.id.ensures ∙ sym (get_or-map (id_at all) list place 0 id (omega arith)) in
+    c.in_ok-put_part.ensures
+    ∙ ap (λ l. l ++ part_text place id) c.loop-place.invariant
+    ∙ append_assoc c.args.text.now.items _ (part_text place id)
+    ∙ ap (λ l. c.args.text.now.items ++ l) (sym (next_part (ids_of all list) place id (omega (arith, length-map list (id_at all))) there))
 
 pub returns : goal.returns
 returns c =
-    let all = providers_of c.args.cloud.now in
-    let first = c.in-Some.field-0-0.now in
-    let others = c.in-Some.others.now in
-    let is : c.args.list.now ≡ first ∷ others = search rules in
-    let whole : take c.loop-ix.ix-index others ≡ others = take_all c.loop-ix.ix-index others (omega (arith, c.loop-ix-test.false)) in
-    c.loop-ix.invariant
-    ∙ ap (λ l. (c.args.text.now.items ++ provider_text all first) ++ behind_commas (map (provider_text all) l)) whole
-    ∙ append_assoc c.args.text.now.items (provider_text all first) (behind_commas (map (provider_text all) others))
-    ∙ ap (λ l. c.args.text.now.items ++ l) (sym (ap (λ l. ids_text (ids_of all l)) is ∙ ids_behind all first others))
+    let ids = ids_of (providers_of c.args.cloud.now) c.args.list.now in
+    c.loop-place.invariant ∙ ap (λ l. c.args.text.now.items ++ ids_text l) (take_all c.loop-place.place ids (omega (arith, length-map c.args.list.now (id_at (providers_of c.args.cloud.now)))))
