@@ -69,12 +69,17 @@ within (Some n) count gone room h more =
     omega (arith, room.0, room.1, h, apart)
 
 -- one more was lost before an error
-pub loses_one : (limit : Option ℕ) (count : ℕ) (old ls : Lists) (x : List ℕ) → head_of ls ≡ Some x → (limit ≡ Some count → ⊥) → IsRoom limit count → Gone count old ls
+loses_one : (limit : Option ℕ) (count : ℕ) (old ls : Lists) (x : List ℕ) → head_of ls ≡ Some x → (limit ≡ Some count → ⊥) → IsRoom limit count → Gone count old ls
     → LosesSome limit old (tail_of ls)
 loses_one limit count old [] x e more room h = absurd (cc)
 loses_one limit count old (y ∷ ls) x e more room h =
     let P : ℕ → Type 0 = λ n. IsWithin n limit in
     (h.0 ++ y ∷ [], h.1 ∙ sym (append_assoc h.0 (y ∷ []) ls), subst P (sym (length-append h.0 (y ∷ []))) (within limit count (length h.0) room h.2 more))
+
+-- the same, where the lists that are left are behind the one that was taken
+pub loses_next : (limit : Option ℕ) (count : ℕ) (old ls new : Lists) (x : List ℕ) → new ≡ tail_of ls → Some x ≡ head_of ls → (limit ≡ Some count → ⊥) → IsRoom limit count → Gone count old ls
+    → LosesSome limit old new
+loses_next limit count old ls new x tail head more room h = rw tail (loses_one limit count old ls x (sym head) more room h)
 
 take_short : (n : ℕ) (xs : Lists) → length (take n xs) ≤ n
 take_short zero [] = omega arith

@@ -1,11 +1,11 @@
 -- Marks of roots.
-use Rattle.std.proofs.Common.{◌≡◌, ◌≢◌, ◌⊎◌, inl, inr, ℕ, ◌+◌, ◌<◌, List, [], ◌∷◌, ◌++◌, take, Option, Some, refl, sym, ap, ◌∙◌, Bool, true, false, ◌||◌, eqb, length, get_or, nat_cmp, Ordering, Less, Equal, Greater, arith}
+use Rattle.std.proofs.Common.{◌≡◌, ◌≢◌, ◌⊎◌, inl, inr, ℕ, ◌<◌, List, Option, Some, refl, sym, ap, ◌∙◌, Bool, true, false, ◌||◌, eqb, length, get_or, nat_cmp, Ordering, Less, Equal, Greater, arith}
 use Rattle.std.specs.List.{list_any}
 use Rattle.std.proofs.Math.ListN.{set}
 use Rattle.std.proofs.lemmas.Bool.{eq-eqb, ne_eqb}
 use Rattle.std.proofs.lemmas.Bool.Decides.{eqb_tells}
 use Rattle.std.proofs.lemmas.Cmp.{ranked}
-use Rattle.std.proofs.lemmas.List.{get_or-set_same, get_or-set_other, take_more}
+use Rattle.std.proofs.lemmas.List.{get_or-set_same, get_or-set_other}
 use Rattle.ac_tables.specs.World.{Provider, id_at, root_of}
 use Rattle.ac_rules.specs.Laws.{AreInOrder}
 use Rattle.ac_rules.specs.Lists.{head_of, tail_of}
@@ -46,22 +46,8 @@ pub mark_step : (all : List Provider) → AreInOrder all → (marks : List Bool)
     → get_or (set marks root true) r false ≡ get_or marks r false || has_root all (id_at all r) ix
 mark_step all order marks root ix r long k is low = mark_at all order marks root ix r long k is low (eqb_tells r root)
 
-or_assoc : (a b c : Bool) → (a || b) || c ≡ a || (b || c)
-or_assoc true b c = refl
-or_assoc false b c = refl
-
-any_push : (t : ℕ → Bool) (xs : List ℕ) (x : ℕ) → list_any t (xs ++ x ∷ []) ≡ list_any t xs || t x
-any_push t [] x = sym (or_false (t x))
-any_push t (y ∷ xs) x = ap (λ b. t y || b) (any_push t xs x) ∙ sym (or_assoc (t y) (list_any t xs) (t x))
-
--- the roots of one provider more
-pub marks_more : (t : ℕ → Bool) (list : List ℕ) (i : ℕ) (first before now : Bool) → i < length list → before ≡ first || list_any t (take i list) → now ≡ before || t (get_or list i 0)
-    → now ≡ first || list_any t (take (i + 1) list)
-marks_more t list i first before now k h e =
-    e ∙ ap (λ b. b || t (get_or list i 0)) h ∙ or_assoc first (list_any t (take i list)) (t (get_or list i 0))
-    ∙ ap (λ b. first || b) (sym (any_push t (take i list) (get_or list i 0)) ∙ ap (list_any t) (sym (take_more list i 0 k)))
-
-or_step : (m x rest whole new : Bool) → whole ≡ (m || (x || rest)) → new ≡ (m || x) → whole ≡ (new || rest)
+-- one that was to come is marked
+pub or_step : (m x rest whole new : Bool) → whole ≡ (m || (x || rest)) → new ≡ (m || x) → whole ≡ (new || rest)
 or_step true x rest whole new h e = h ∙ ap (λ b. b || rest) (sym e)
 or_step false x rest whole new h e = h ∙ ap (λ b. b || rest) (sym e)
 

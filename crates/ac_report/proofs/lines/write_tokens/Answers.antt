@@ -8,7 +8,7 @@ use Rattle.ac_report.specs.Pages.{IsAssignment}
 use Rattle.ac_report.proofs.Outcomes.{on_err}
 use Rattle.ac_report.proofs.Pages.Wholes.{done_whole, one_done, one_part}
 use Rattle.ac_report.specs.Texts.{line}
-use Rattle.ac_report.proofs.Pages.Paging.{all_head, all_tail, behind_step, count_step, cut_step, gone_step, loses_one, room_step}
+use Rattle.ac_report.proofs.Pages.Paging.{all_head, all_tail, behind_step, count_step, cut_step, gone_step, loses_next, room_step}
 use Rattle.ac_report.proofs.lines.write_tokens.Goals as goal
 
 pub put_line-requires : goal.put_line-requires
@@ -18,21 +18,15 @@ put_line-requires g c =
 
 pub returns-in_err-put_line-clause-gone : goal.returns-in_err-put_line-clause-gone
 returns-in_err-put_line-clause-gone g c =
-    let left = g.S.Source.left in
     let limit = (asked_of c.args.query.now).limit in
-    let more : limit ≡ Some c.lists.count → ⊥ = λ e. let full = c.is_full.ensures.1 (c.limit-limit.ensures ∙ e) in cc in
-    let tail : left c.next.follows.lender-at-none ≡ tail_of (left c.lists.source) = c.next.follows.holds-at-none.0 in
-    on_err c.from_residual.result _
-    (rw tail (loses_one limit c.lists.count (left c.args.source.now) (left c.lists.source) c.in-Some.list.now (sym c.in-Some.ensures.head) more c.lists.invariant.room c.lists.invariant.gone))
+    on_err c.from_residual.result _ (loses_next limit c.lists.count (g.S.Source.left c.args.source.now) (g.S.Source.left c.lists.source) _ c.in-Some.list.now c.next.follows.holds-at-none.0 c.in-Some.ensures.head
+    (λ (e : limit ≡ Some c.lists.count). let full = c.is_full.ensures.1 (c.limit-limit.ensures ∙ e) in cc) c.lists.invariant.room c.lists.invariant.gone)
 
 pub returns-in_err-push_all-clause-gone : goal.returns-in_err-push_all-clause-gone
 returns-in_err-push_all-clause-gone g c =
-    let left = g.S.Source.left in
     let limit = (asked_of c.args.query.now).limit in
-    let more : limit ≡ Some c.lists.count → ⊥ = λ e. let full = c.is_full.ensures.1 (c.limit-limit.ensures ∙ e) in cc in
-    let tail : left c.next.follows.lender-at-none ≡ tail_of (left c.lists.source) = c.next.follows.holds-at-none.0 in
-    on_err c.from_residual-in_err-push_all.result _
-    (rw tail (loses_one limit c.lists.count (left c.args.source.now) (left c.lists.source) c.in-Some.list.now (sym c.in-Some.ensures.head) more c.lists.invariant.room c.lists.invariant.gone))
+    on_err c.from_residual-in_err-push_all.result _ (loses_next limit c.lists.count (g.S.Source.left c.args.source.now) (g.S.Source.left c.lists.source) _ c.in-Some.list.now c.next.follows.holds-at-none.0 c.in-Some.ensures.head
+    (λ (e : limit ≡ Some c.lists.count). let full = c.is_full.ensures.1 (c.limit-limit.ensures ∙ e) in cc) c.lists.invariant.room c.lists.invariant.gone)
 
 pub returns-in_err-push_all-clause-part : goal.returns-in_err-push_all-clause-part
 returns-in_err-push_all-clause-part g c =

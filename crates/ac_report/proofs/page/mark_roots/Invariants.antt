@@ -1,4 +1,4 @@
-use Rattle.std.proofs.Common.{◌≡◌, ℕ, ◌<◌, ◌||◌, false, length, get_or, take}
+use Rattle.std.proofs.Common.{◌≡◌, ℕ, ◌<◌, ◌||◌, false, length, get_or, drop}
 use Rattle.std.specs.List.{list_any}
 use Rattle.ac_tables.specs.Cloud.CloudWorld.{providers_of}
 use Rattle.ac_tables.specs.World.{id_at}
@@ -10,5 +10,5 @@ invariant-loop-ix l =
     let all = providers_of l.cloud in
     record {
       long : length l.marks ≡ length l.fn.marks;
-      marked : (r : ℕ) → r < length l.fn.marks → get_or l.marks r false ≡ (get_or l.fn.marks r false || list_any (has_root all (id_at all r)) (take l.ix-index l.list));
+      marked : (r : ℕ) → r < length l.fn.marks → (get_or l.fn.marks r false || list_any (has_root all (id_at all r)) l.list) ≡ (get_or l.marks r false || list_any (has_root all (id_at all r)) (drop l.ix-index l.list));
     }

@@ -13,7 +13,7 @@ use Rattle.ac_report.specs.Texts.{request_text, meets_root, with_commas}
 use Rattle.ac_report.proofs.Pages.Wholes.{done_whole, one_done, one_part}
 use Rattle.ac_report.proofs.Outcomes.{on_err}
 use Rattle.ac_report.proofs.Trees.Marking.{marks_step}
-use Rattle.ac_report.proofs.Pages.Paging.{all_head, all_tail, cut_step, behind_step, gone_step, loses_one, count_step, room_step}
+use Rattle.ac_report.proofs.Pages.Paging.{all_head, all_tail, cut_step, behind_step, gone_step, loses_next, count_step, room_step}
 use Rattle.ac_report.proofs.page.write_requests.Goals as goal
 
 pub request_text-requires : goal.request_text-requires
@@ -27,21 +27,15 @@ mark_roots-requires-clause-providers g c =
 
 pub returns-in_err-text-in-Some-clause-gone : goal.returns-in_err-text-in-Some-clause-gone
 returns-in_err-text-in-Some-clause-gone g c =
-    let left = g.S.Source.left in
     let limit = (asked_of c.args.query.now).limit in
-    let more : limit ≡ Some c.lists.count → ⊥ = λ e. let full = c.is_full.ensures.1 (c.limit-limit.ensures ∙ e) in cc in
-    let tail : left c.next.follows.lender-at-none ≡ tail_of (left c.lists.source) = c.next.follows.holds-at-none.0 in
-    on_err c.from_residual.result _
-    (rw tail (loses_one limit c.lists.count (left c.args.source.now) (left c.lists.source) c.in-Some.list.now (sym c.in-Some.ensures.head) more c.lists.invariant.room c.lists.invariant.gone))
+    on_err c.from_residual.result _ (loses_next limit c.lists.count (g.S.Source.left c.args.source.now) (g.S.Source.left c.lists.source) _ c.in-Some.list.now c.next.follows.holds-at-none.0 c.in-Some.ensures.head
+    (λ (e : limit ≡ Some c.lists.count). let full = c.is_full.ensures.1 (c.limit-limit.ensures ∙ e) in cc) c.lists.invariant.room c.lists.invariant.gone)
 
 pub returns-in_err-push_listed-clause-gone : goal.returns-in_err-push_listed-clause-gone
 returns-in_err-push_listed-clause-gone g c =
-    let left = g.S.Source.left in
     let limit = (asked_of c.args.query.now).limit in
-    let more : limit ≡ Some c.lists.count → ⊥ = λ e. let full = c.is_full.ensures.1 (c.limit-limit.ensures ∙ e) in cc in
-    let tail : left c.next.follows.lender-at-none ≡ tail_of (left c.lists.source) = c.next.follows.holds-at-none.0 in
-    on_err c.from_residual-in_err-push_listed.result _
-    (rw tail (loses_one limit c.lists.count (left c.args.source.now) (left c.lists.source) c.in-Some.list.now (sym c.in-Some.ensures.head) more c.lists.invariant.room c.lists.invariant.gone))
+    on_err c.from_residual-in_err-push_listed.result _ (loses_next limit c.lists.count (g.S.Source.left c.args.source.now) (g.S.Source.left c.lists.source) _ c.in-Some.list.now c.next.follows.holds-at-none.0 c.in-Some.ensures.head
+    (λ (e : limit ≡ Some c.lists.count). let full = c.is_full.ensures.1 (c.limit-limit.ensures ∙ e) in cc) c.lists.invariant.room c.lists.invariant.gone)
 
 pub returns-in_err-push_listed-clause-part : goal.returns-in_err-push_listed-clause-part
 returns-in_err-push_listed-clause-part g c =
