@@ -16,6 +16,7 @@ class Case:
     err: str | None = ''
     status: int = 0
     tables: dict = field(default_factory=dict)  # contents, or what makes them: written to files, and named by options
+    together: bool = False  # whether one option names the folder of the tables, in place of an option for each
     has: tuple = ()  # texts that are in the output or on standard error
     to: str | None = None  # the file that standard output goes to
     err_to: str | None = None

@@ -31,6 +31,7 @@ PROGRAM = os.path.abspath(os.environ.get('AC_CLI', os.path.join(ROOT, 'out', 'ac
 EXAMPLES = os.path.join(ROOT, 'examples')
 PROVIDERS = os.path.join(EXAMPLES, 'providers.csv')
 INVENTORIES = os.path.join(EXAMPLES, 'inventories.csv')
+CLOUD = os.path.join(EXAMPLES, 'cloud')
 NO_FILE = os.path.join(EXAMPLES, 'no_such_file.csv')
 ONE_HOST = '2b7d9e54-61c8-4f03-8a9d-c4e1b05f3a27\n'
 COMMANDS = 'check', 'candidates', 'tokens', 'verify', 'explain'
@@ -76,7 +77,7 @@ def contents(path):
 HELP = [
     *(Case(f'help: {" ".join(words)}', words, SOME, has=(*COMMANDS, '--help', 'Exit status'))
       for words in (['--help'], ['-h'], ['help'])),
-    *(Case(f'help: {" ".join(words)}', words, SOME, has=('--providers', '--inventories', '--usages', '--traits', '--aggregates'))
+    *(Case(f'help: {" ".join(words)}', words, SOME, has=('--tables', '--providers', '--inventories', '--usages', '--traits', '--aggregates'))
       for name in COMMANDS for words in ([name, '--help'], ['help', name])),
     *(Case(f'help of {name} tells --microversion', [name, '--help'], SOME, has=('--microversion', '1.36', '1.39', 'in:A,B'))
       for name in COMMANDS if name != 'check'),
@@ -101,9 +102,14 @@ WORDS = [
     refused('--after for explain', over(['explain', 'resources=VCPU:2', '--after', ONE_HOST.strip()]), '--after'),
     refused('--after without a token', tokens('resources=VCPU:2') + ['--after']),
     refused('no inventories', ['tokens', 'resources=VCPU:2', '--providers', PROVIDERS], '--inventories <FILE>', 'Usage: ac_cli tokens'),
-    refused('no providers', ['check', '--inventories', INVENTORIES]),
+    refused('no providers', ['check', '--inventories', INVENTORIES], '--providers <FILE>', 'Usage: ac_cli check'),
+    refused('no tables', ['explain', 'resources=VCPU:2'], '--providers <FILE>\n  --inventories <FILE>', 'Usage: ac_cli explain', '--tables <DIR>'),
+    refused('--tables without a folder', ['check', '--tables'], '--tables <DIR>'),
+    refused('two folders', ['check', '--tables', CLOUD, '--tables', CLOUD], '--tables <DIR>'),
+    *(refused(f'a folder beside the table of {name}', ['check', '--tables', CLOUD, f'--{name}', os.path.join(CLOUD, name + '.csv')],
+              "'--tables <DIR>' cannot be used with", f'--{name} <FILE>', 'Usage: ac_cli check') for name in HEADERS),
     refused('no such option', [*tokens('resources=VCPU:2'), '--colour', 'red'], '--colour', 'Usage: ac_cli tokens'),
-    refused('a later microversion', [*tokens('resources=VCPU:2'), '--microversion', '1.40'], "invalid value '1.40'", '1.36', '1.39', 'Usage: ac_cli'),
+    refused('a later microversion', [*tokens('resources=VCPU:2'), '--microversion', '1.40'], "invalid value '1.40'", '1.36', '1.39', 'Usage: ac_cli tokens'),
     refused('an earlier microversion', over(['candidates', 'resources=VCPU:2', '--microversion=1.35']), "invalid value '1.35'"),
     refused('no number for a microversion', over(['verify', 'resources=VCPU:2', ONE_HOST.strip(), '--microversion', ''])),
     refused('a microversion with a zero behind it', [*tokens('resources=VCPU:2'), '--microversion', '1.390']),
@@ -143,6 +149,41 @@ FILES = [
     unreadable('a path that ends in a blank, of a file that ends in none', check(PROVIDERS + ' '), 'providers'),
     Case('a path that ends in a blank', ['sh', '-c', BLANK, 'blank', PROGRAM, PROVIDERS, INVENTORIES], EXAMPLE_COUNTS),
     Case('a refused query in two groups of faults', tokens('limit=0&colour=red'), err='query: pair 1: BadValue\n', status=4),
+]
+
+
+# A folder stands for the options of the five tables.
+EACH_TABLE = [word for name in HEADERS for word in (f'--{name}', os.path.join(CLOUD, name + '.csv'))]
+DISK_AND_HOST = 'resources=VCPU:2,DISK_GB:20'
+OVER_DISK = 'e7f31a9c-6b08-4d52-9f47-03a8c5d26e06,3c5e81d7-02a9-4f6b-8e34-b19d6a7f0c02'
+CLOUD_COUNTS = 'providers 6\ninventories 9\nusages 9\ntraits 10\naggregates 2\n'
+NO_ROWS = {**HEADERS, 'inventories': HEADERS['inventories'] + f'{provider(1)},VCPU,8,0,1,8,1,1.0\n',
+           'providers': HEADERS['providers'] + f'{provider(1)},{provider(1)},\n'}
+
+
+def by_folder(*words, status=0):
+    """It answers over a folder as over its five tables, byte for byte."""
+    return Case(f'a folder: {words[0]}, as by the five options', [*words, '--tables', CLOUD], lambda: run(Case('', [*words, *EACH_TABLE]))[0], status=status)
+
+
+FOLDERS = [
+    by_folder('check'),
+    by_folder('candidates', DISK_AND_HOST),
+    by_folder('tokens', DISK_AND_HOST, '--after', OVER_DISK),
+    by_folder('verify', DISK_AND_HOST, OVER_DISK),
+    by_folder('explain', 'resources=VCPU:4&required=CUSTOM_ROW_2&member_of=0d4b7c19-83ea-4f20-b5d6-1e9a72c8f3a1', status=1),
+    Case('a folder: each of its tables is read', ['check', '--tables', CLOUD], CLOUD_COUNTS),
+    Case('a folder: what is used counts', ['verify', 'resources=VCPU:4', 'b48d0f61-9e2c-4c7a-83d5-e6047b15ac05', f'--tables={CLOUD}'], 'no: rule 6 Sums\n', status=1),
+    Case('a folder named with a slash behind it', ['check', '--tables', CLOUD + '/'], CLOUD_COUNTS),
+    Case('a folder named from another one', ['check', '--tables', 'cloud'], CLOUD_COUNTS, folder=EXAMPLES),
+    Case('a folder with a path of more than 255 bytes', ['check', '--tables', './' * 150 + 'cloud'], CLOUD_COUNTS, folder=EXAMPLES),
+    Case('the folder that the program runs in', ['check', '--tables', '.'], CLOUD_COUNTS, folder=CLOUD),
+    Case('a folder of tables without rows', ['tokens', 'resources=VCPU:2'], lines('P1'), tables=NO_ROWS, together=True),
+    *(Case(f'a folder without {name}', ['check'], err=f'{name}: Unreadable\n', status=3,
+           tables={other: made for other, made in NO_ROWS.items() if other != name}, together=True) for name in HEADERS),
+    unreadable('a folder that is not there', ['check', '--tables', os.path.join(EXAMPLES, 'no_such_folder')], 'providers'),
+    unreadable('a file for a folder', ['check', '--tables', PROVIDERS], 'providers'),
+    unreadable('an empty name of a folder: the tables at the top of all', ['check', '--tables', ''], 'providers'),
 ]
 
 
@@ -189,6 +230,9 @@ GROWTHS = [
     growing('help', ['--help']),
     growing('refused words', ['tokens']),
     growing('check of five tables', check() + OTHERS),
+    growing('check of a folder', ['check', '--tables', CLOUD]),
+    growing('a folder beside a table', ['check', *OTHERS, '--tables', CLOUD]),
+    growing('a needed table left out', ['check', '--providers', PROVIDERS]),
     growing('check', ['check'], ONE),
     growing('tokens', ['tokens', TWO], ONE),
     growing('candidates', ['candidates', TWO], ONE),
@@ -254,12 +298,14 @@ def ruled(page):
 
 def files(case, folder):
     """Writes the tables of a case, and returns the options that name them."""
+    options = []
     for name, made in case.tables.items():
         made = made() if callable(made) else made
         path = os.path.join(folder, name + '.csv')
         with open(path, 'wb') as file:
             file.write(made.encode() if isinstance(made, str) else made)
-        yield from (f'--{name}', path)
+        options += [f'--{name}', path]
+    return ['--tables', folder] if case.together else options
 
 
 # A search over the most providers that there may be takes memory for each, not for each two.
@@ -325,7 +371,8 @@ def main(*given):
     pages = [case for page in ('README.md', 'examples/README.md', 'docs/RULES.md', 'docs/FORMATS.md', 'docs/EXPORT.md')
              for case in shown(page)]
     chance = [*drawn(150), *drawn_tables(200), *drawn_queries(200)]
-    cases = [PAGES, DRAWING, *HELP, *WORDS, *FILES, *DEVICES, *GROWTHS, KNOWN, *REFUSALS, *SMALL, *pages, *rules, *exports(), *database_exports(), *chance,
+    cases = [PAGES, DRAWING, *HELP, *WORDS, *FILES, *FOLDERS, *DEVICES, *GROWTHS, KNOWN, *REFUSALS, *SMALL, *pages, *rules, *exports(), *database_exports(),
+             *chance,
              *LARGE, *hostile(PROGRAM), FEW_BYTES, *cuts()]
     cases = [case for case in cases if all(word in case.name for word in words)]
     failed = 0

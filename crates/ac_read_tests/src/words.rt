@@ -1,11 +1,11 @@
 //! What the words of a command line answer, and the texts that come with it.
 use ac_query::{Command, Job, Version};
-use ac_tables::Table;
 use ac_words::{WordFault, read_words};
 use std::alloc::{AllocError, Global};
 use std::test::Fail;
 
 mod refusals;
+mod tables;
 
 // The words of `line`, parted at single blanks.
 fn words_of(alloc: Global, line: &str) -> Result<Vec<String>, AllocError> {
@@ -75,6 +75,7 @@ fn asks(
 const CHECKS: &[&str] = &[
     "ac_cli check --providers a --inventories b",
     "any/name check --inventories=b --traits c --providers=a",
+    "ac_cli check --tables d",
 ];
 
 #[test]
@@ -88,6 +89,7 @@ fn check(rt: HostRuntime) -> Result<(), Fail> {
 const AFTER: &[&str] = &[
     "ac_cli candidates q --providers a --inventories b --after t",
     "ac_cli candidates --after=t --usages c --inventories b --providers a q",
+    "ac_cli candidates --tables d --after t q",
 ];
 
 #[test]
@@ -107,6 +109,7 @@ const TOKENS: &[&str] = &[
     "ac_cli tokens resources=VCPU:2 --providers a --inventories b",
     "ac_cli tokens --inventories=b --providers=a resources=VCPU:2",
     "ac_cli tokens --providers a --inventories b -- resources=VCPU:2",
+    "ac_cli tokens --tables=d resources=VCPU:2",
 ];
 
 #[test]
@@ -126,6 +129,7 @@ const VERIFIES: &[&str] = &[
     "ac_cli verify q t --providers a --inventories b",
     "ac_cli verify --inventories b q --providers a t",
     "ac_cli verify --aggregates=c --providers a --inventories b q -- t",
+    "ac_cli verify q --tables d t",
 ];
 
 #[test]
@@ -142,6 +146,7 @@ fn verify(rt: HostRuntime) -> Result<(), Fail> {
 const EXPLAINS: &[&str] = &[
     "ac_cli explain q --providers a --inventories b",
     "ac_cli explain --inventories=b --traits c --providers=a q",
+    "ac_cli explain q --tables d",
 ];
 
 #[test]
@@ -219,7 +224,9 @@ fn other_versions_are_refused(rt: HostRuntime) -> Result<(), Fail> {
             let told =
                 "error: invalid value '1.40' for '--microversion <VERSION>': it is 1.36 or 1.39";
             assert!(rt; has_line(text.as_str(), told));
-            assert!(rt; has_line(text.as_str(), "Usage: ac_cli <COMMAND>"));
+            for other in TOKENS_USAGE {
+                assert!(rt; has_line(text.as_str(), other), "{other}");
+            }
         }
         None => assert!(rt; false),
     }
@@ -252,36 +259,6 @@ fn words_with_a_hyphen(rt: HostRuntime) -> Result<(), Fail> {
     Ok(())
 }
 
-#[test]
-fn paths(rt: HostRuntime) -> Result<(), Fail> {
-    let some = "ac_cli check --providers a --inventories b";
-    let all =
-        "ac_cli verify --aggregates e --traits d --usages c --inventories b --providers a q t";
-    let given = words_of(rt.alloc(), some)?;
-    match read_words(rt.alloc(), given.as_slice()) {
-        Ok(words) => {
-            assert_eq!(rt; words.path(Table::Providers), Some("a"));
-            assert_eq!(rt; words.path(Table::Inventories), Some("b"));
-            assert_eq!(rt; words.path(Table::Usages), None);
-            assert_eq!(rt; words.path(Table::Traits), None);
-            assert_eq!(rt; words.path(Table::Aggregates), None);
-        }
-        Err(_fault) => assert!(rt; false, "{some}"),
-    }
-    let given = words_of(rt.alloc(), all)?;
-    match read_words(rt.alloc(), given.as_slice()) {
-        Ok(words) => {
-            assert_eq!(rt; words.path(Table::Providers), Some("a"));
-            assert_eq!(rt; words.path(Table::Inventories), Some("b"));
-            assert_eq!(rt; words.path(Table::Usages), Some("c"));
-            assert_eq!(rt; words.path(Table::Traits), Some("d"));
-            assert_eq!(rt; words.path(Table::Aggregates), Some("e"));
-        }
-        Err(_fault) => assert!(rt; false, "{all}"),
-    }
-    Ok(())
-}
-
 const CALLS_FOR_HELP: &[&str] = &[
     "ac_cli --help",
     "ac_cli -h",
@@ -308,8 +285,7 @@ const TOLD_BY_EACH: &[&str] = &[
     "  5  the token was refused",
     "  6  a write failed",
     "  7  out of memory",
-    "  ./ac_cli tokens 'resources=VCPU:2' \\",
-    "      --providers examples/providers.csv --inventories examples/inventories.csv",
+    "  ./ac_cli tokens 'resources=VCPU:2' --tables examples/cloud",
 ];
 
 #[test]
@@ -351,6 +327,7 @@ fn help_tells_the_commands(rt: HostRuntime) -> Result<(), Fail> {
 }
 
 const TABLES: &[&str] = &[
+    "      --tables <DIR>        The five tables of an export, in one folder: providers.csv, inventories.csv, usages.csv, traits.csv, aggregates.csv",
     "      --providers <FILE>    The resource providers and their trees (CSV)",
     "      --inventories <FILE>  What each provider has of each resource class (CSV)",
     "      --usages <FILE>       How much of it is used (CSV); without this table nothing is used",
@@ -359,6 +336,7 @@ const TABLES: &[&str] = &[
 ];
 
 const OPTIONS: &[&str] = &[
+    "      --tables <DIR>            The five tables of an export, in one folder: providers.csv, inventories.csv, usages.csv, traits.csv, aggregates.csv",
     "      --providers <FILE>        The resource providers and their trees (CSV)",
     "      --inventories <FILE>      What each provider has of each resource class (CSV)",
     "      --usages <FILE>           How much of it is used (CSV); without this table nothing is used",
@@ -397,24 +375,34 @@ fn help_tells_the_options(rt: HostRuntime) -> Result<(), Fail> {
 }
 
 const CHECK_USAGE: &[&str] = &[
-    "Usage: ac_cli check [OPTIONS] --providers <FILE> --inventories <FILE>",
+    "Usage: ac_cli check --tables <DIR>",
+    "       ac_cli check [OPTIONS] --providers <FILE> --inventories <FILE>",
+];
+
+const CANDIDATES_USAGE: &[&str] = &[
+    "Usage: ac_cli candidates [OPTIONS] --tables <DIR> <QUERY>",
+    "       ac_cli candidates [OPTIONS] --providers <FILE> --inventories <FILE> <QUERY>",
 ];
 
 const TOKENS_USAGE: &[&str] = &[
-    "Usage: ac_cli tokens [OPTIONS] --providers <FILE> --inventories <FILE> <QUERY>",
+    "Usage: ac_cli tokens [OPTIONS] --tables <DIR> <QUERY>",
+    "       ac_cli tokens [OPTIONS] --providers <FILE> --inventories <FILE> <QUERY>",
 ];
 
 const VERIFY_USAGE: &[&str] = &[
-    "Usage: ac_cli verify [OPTIONS] --providers <FILE> --inventories <FILE> <QUERY> <TOKEN>",
+    "Usage: ac_cli verify [OPTIONS] --tables <DIR> <QUERY> <TOKEN>",
+    "       ac_cli verify [OPTIONS] --providers <FILE> --inventories <FILE> <QUERY> <TOKEN>",
 ];
 
 const EXPLAIN_USAGE: &[&str] = &[
-    "Usage: ac_cli explain [OPTIONS] --providers <FILE> --inventories <FILE> <QUERY>",
+    "Usage: ac_cli explain [OPTIONS] --tables <DIR> <QUERY>",
+    "       ac_cli explain [OPTIONS] --providers <FILE> --inventories <FILE> <QUERY>",
 ];
 
 #[test]
 fn help_tells_the_usage(rt: HostRuntime) -> Result<(), Fail> {
     assert!(rt; tells(rt.alloc(), "ac_cli help check", CHECK_USAGE)?);
+    assert!(rt; tells(rt.alloc(), "ac_cli help candidates", CANDIDATES_USAGE)?);
     assert!(rt; tells(rt.alloc(), "ac_cli help tokens", TOKENS_USAGE)?);
     assert!(rt; tells(rt.alloc(), "ac_cli help verify", VERIFY_USAGE)?);
     assert!(rt; tells(rt.alloc(), "ac_cli help explain", EXPLAIN_USAGE)?);
@@ -428,6 +416,12 @@ const OTHER_WORDS: &[&str] = &[
     "ac_cli --providers a tokens q --inventories b",
     "ac_cli check",
     "ac_cli check --providers a",
+    "ac_cli check --inventories b --usages c --traits d --aggregates e",
+    "ac_cli check --tables",
+    "ac_cli check --tables d --tables d",
+    "ac_cli --tables d check",
+    "ac_cli tokens --tables d",
+    "ac_cli verify --tables d q",
     "ac_cli check --providers a --inventories b --after t",
     "ac_cli check q --providers a --inventories b",
     "ac_cli tokens --providers a --inventories b",
@@ -456,23 +450,6 @@ const OTHER_WORDS: &[&str] = &[
 fn other_words_are_refused(rt: HostRuntime) -> Result<(), Fail> {
     for line in OTHER_WORDS {
         assert!(rt; refusal(rt.alloc(), line)?.is_some(), "{line}");
-    }
-    Ok(())
-}
-
-#[test]
-fn refusal_tells_what_is_missing(rt: HostRuntime) -> Result<(), Fail> {
-    match refusal(rt.alloc(), "ac_cli tokens q --providers a")? {
-        Some(text) => {
-            assert!(rt;
-                has_line(
-                    text.as_str(),
-                    "error: the following required arguments were not provided:"
-                )
-            );
-            assert!(rt; has_line(text.as_str(), "  --inventories <FILE>"));
-        }
-        None => assert!(rt; false),
     }
     Ok(())
 }

@@ -186,8 +186,7 @@ needs_words _ s = needs (codes "query") s
 
 -- it is a command of the program, which needs each entry that the command has to have
 abbrev serves : Command → Shape → Bool
-serves command s = bytes_eq s.name (name_of command) && (needs_words command s && (list_all asks_or_takes s.rules
-    && (needs (codes "providers") s && needs (codes "inventories") s)))
+serves command s = bytes_eq s.name (name_of command) && (needs_words command s && list_all asks_or_takes s.rules)
 
 abbrev is_served : Shape → Bool
 is_served s = serves Check s || (serves Candidates s || (serves Tokens s || (serves Verify s || serves Explain s)))
@@ -214,18 +213,7 @@ command-complete command s words k e =
     let name : bytes_eq s.name (name_of command) ≡ true = grind arith in
     let kept : list_all asks_or_takes s.rules ≡ true = grind arith in
     let given : needs_words command s ≡ true = grind arith in
-    let providers : needs (codes "providers") s ≡ true = grind arith in
-    let inventories : needs (codes "inventories") s ≡ true = grind arith in
-    let own = words-given command s words kept given e in (
-      command,
-      (bytes_eq-Decides s.name (name_of command)).0 name,
-      (
-        own.0,
-        own.1,
-        level-entry s words (codes "providers") kept providers e,
-        level-entry s words (codes "inventories") kept inventories e,
-      ),
-    )
+    (command, (bytes_eq-Decides s.name (name_of command)).0 name, words-given command s words kept given e)
 
 level-complete : (s : Shape) (words : List Text) → is_served s ≡ true → level_fault s [] nothing_held words false [] ≡ []
     → IsComplete (Some (rows_at s words))

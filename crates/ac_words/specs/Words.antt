@@ -1,11 +1,12 @@
 -- The command line: what `clap` is told of it, and what it states of the words.
-use Rattle.std.specs.Prelude.{◌≡◌, ◌≢◌, ◌&&◌, ⊤, List, [], ◌∷◌, Bool, Option, Some, None, true, codes, is_some, if◌then◌else◌}
+use Rattle.std.specs.Prelude.{◌≡◌, ◌≢◌, ◌&&◌, ⊤, List, [], ◌∷◌, ◌++◌, Bool, Option, Some, None, true, codes, is_some, if◌then◌else◌}
+use Rattle.std.specs.List.{list_any}
 use Rattle.std.specs.Str.{bytes_eq}
 use Rattle.clap.specs.Kinds.{or_else}
 use Rattle.clap.specs.Walk.{is_empty}
 use Rattle.clap.specs.Words.{App, IsAmong, Kinds, Row, Rule, Text, fault_of, first_of, new_app, new_rule, subcommand_of, takes, with_rule, with_subcommand}
 use Rattle.clap.specs.declared.error.kind.ErrorKind.{ErrorKind}
-use Rattle.clap.specs.declared.error.kind.ErrorKind.TheVariants.{DisplayHelp, DisplayVersion, InvalidValue}
+use Rattle.clap.specs.declared.error.kind.ErrorKind.TheVariants.{ArgumentConflict, DisplayHelp, DisplayVersion, InvalidValue, MissingRequiredArgument}
 use Rattle.ac_tables.specs.declared.fault.Table.{Table}
 use Rattle.ac_tables.specs.declared.fault.Table.TheVariants.{Providers, Inventories, Usages, Traits, Aggregates}
 use Rattle.ac_query.specs.declared.version.Version.{Version}
@@ -27,15 +28,11 @@ word_rule name = record (new_rule name) { required = true; value_names = 1 }
 abbrev pub option_rule : Text → Rule
 option_rule name = record (new_rule name) { long = Some name; value_names = 1 }
 
--- an option that has to be given
-abbrev pub needed_rule : Text → Rule
-needed_rule name = record (option_rule name) { required = true }
-
--- the options of the tables
+-- the options of the tables: of their folder, and of each
 abbrev pub with_tables : App → App
 with_tables app =
-    with_rule (with_rule (with_rule (with_rule (with_rule app
-    (needed_rule (codes "providers"))) (needed_rule (codes "inventories")))
+    with_rule (with_rule (with_rule (with_rule (with_rule (with_rule app
+    (option_rule (codes "tables"))) (option_rule (codes "providers"))) (option_rule (codes "inventories")))
     (option_rule (codes "usages"))) (option_rule (codes "traits"))) (option_rule (codes "aggregates"))
 
 -- the options of a command with a query: those of the tables, and the version
@@ -52,11 +49,25 @@ check_app = with_tables (new_app (codes "check"))
 abbrev pub search_app : Text → App
 search_app name = with_rule (with_options (query_app name)) (option_rule (codes "after"))
 
+abbrev pub candidates_app : App
+candidates_app = search_app (codes "candidates")
+
+abbrev pub tokens_app : App
+tokens_app = search_app (codes "tokens")
+
 abbrev pub verify_app : App
 verify_app = with_options (with_rule (query_app (codes "verify")) (word_rule (codes "token")))
 
 abbrev pub explain_app : App
 explain_app = with_options (query_app (codes "explain"))
+
+-- what is told of a command
+abbrev pub app_for : Command → App
+app_for Check = check_app
+app_for Candidates = candidates_app
+app_for Tokens = tokens_app
+app_for Verify = verify_app
+app_for Explain = explain_app
 
 -- what has a version, and needs one of its own commands
 abbrev pub as_program : App → App
@@ -65,13 +76,15 @@ as_program app = record app { top = record app.top { has_version = true; subcomm
 abbrev pub program : App
 program =
     with_subcommand (with_subcommand (with_subcommand (with_subcommand (with_subcommand (as_program (new_app (codes "ac_cli")))
-    check_app.top) (search_app (codes "candidates")).top) (search_app (codes "tokens")).top) verify_app.top) explain_app.top
+    check_app.top) candidates_app.top) tokens_app.top) verify_app.top) explain_app.top
 
 -- ---- what it states of the words
 
 -- the command that they name, and its entries
 unfoldable pub named : List Text → Option (Text × List Row)
 named words = subcommand_of program words
+
+-- ---- what is looked at behind it
 
 -- the version of a text; 1.36 where there is none
 abbrev pub version_named : Option Text → Option Version
@@ -93,13 +106,46 @@ abbrev pub version_faults : Option (Text × List Row) → Kinds
 version_faults None = []
 version_faults (Some p) = version_kinds (version_of p.1)
 
--- `clap` refuses them for want of memory alone, and their version is known
+abbrev pub table_name : Table → Text
+table_name Providers = codes "providers"
+table_name Inventories = codes "inventories"
+table_name Usages = codes "usages"
+table_name Traits = codes "traits"
+table_name Aggregates = codes "aggregates"
+
+abbrev pub all_tables : List Table
+all_tables = Providers ∷ Inventories ∷ Usages ∷ Traits ∷ Aggregates ∷ []
+
+-- the option of a table is given
+abbrev pub has_option : List Row → Table → Bool
+has_option rows table = is_some (first_of (table_name table) rows)
+
+-- the folder of the five tables
+abbrev pub folder_of : List Row → Option Text
+folder_of rows = first_of (codes "tables") rows
+
+-- a folder stands with none of the tables' options; without one, those of providers and inventories are needed
+abbrev pub table_kinds : List Row → Kinds
+table_kinds rows =
+    if is_some (folder_of rows) then (if list_any (has_option rows) all_tables then ArgumentConflict ∷ [] else [])
+    else (if has_option rows Providers && has_option rows Inventories then [] else MissingRequiredArgument ∷ [])
+
+-- the fault of the tables that are named with a command
+abbrev pub table_faults : Option (Text × List Row) → Kinds
+table_faults None = []
+table_faults (Some p) = table_kinds p.1
+
+-- the faults that aren't `clap`'s
+abbrev pub own_faults : Option (Text × List Row) → Kinds
+own_faults found = or_else (version_faults found) (table_faults found)
+
+-- `clap` refuses them for want of memory alone, and their version and tables have no fault
 unfoldable pub is_taken : List Text → Bool
-is_taken words = takes program words && is_empty (version_faults (named words))
+is_taken words = takes program words && is_empty (own_faults (named words))
 
 -- the kinds of fault that they may be refused for: none where they are taken
 unfoldable pub faults : List Text → Kinds
-faults words = or_else (fault_of program words) (version_faults (named words))
+faults words = or_else (fault_of program words) (own_faults (named words))
 
 -- ---- what is made of it
 
@@ -134,17 +180,25 @@ token_of Explain rows = None
 token_of Verify rows = first_of (codes "token") rows
 token_of _ rows = first_of (codes "after") rows
 
+-- the path of a table: that of its file in the folder, or what its option says
+abbrev pub path_in : Option Text → List Row → Table → Option Text
+path_in (Some folder) rows table = Some (folder ++ codes "/" ++ table_name table ++ codes ".csv")
+path_in None rows table = first_of (table_name table) rows
+
+abbrev pub path_given : List Row → Table → Option Text
+path_given rows table = path_in (folder_of rows) rows table
+
 -- the line has these entries
 pub record IsMadeOf (rows : List Row) (line : Line) : Type 0 where
   pub query : query_of line.command rows ≡ Some line.query
   pub version : version_of rows ≡ Some line.version
   pub token : token_of line.command rows ≡ line.token
   pub judged : HasToken line.command line.token
-  pub providers : first_of (codes "providers") rows ≡ Some line.providers
-  pub inventories : first_of (codes "inventories") rows ≡ Some line.inventories
-  pub usages : first_of (codes "usages") rows ≡ line.usages
-  pub traits : first_of (codes "traits") rows ≡ line.traits
-  pub aggregates : first_of (codes "aggregates") rows ≡ line.aggregates
+  pub providers : path_given rows Providers ≡ Some line.providers
+  pub inventories : path_given rows Inventories ≡ Some line.inventories
+  pub usages : path_given rows Usages ≡ line.usages
+  pub traits : path_given rows Traits ≡ line.traits
+  pub aggregates : path_given rows Aggregates ≡ line.aggregates
 
 -- the line is the command that `clap` found, with its entries
 abbrev pub Says : Option (Text × List Row) → Line → Type 0
@@ -156,21 +210,12 @@ HasEntry name rows = is_some (first_of name rows) ≡ true
 
 -- the entries that a command needs
 abbrev pub HasNeeded : Command → List Row → Type 0
-HasNeeded command rows =
-    (is_some (query_of command rows) ≡ true) × HasToken command (token_of command rows) × HasEntry (codes "providers") rows
-    × HasEntry (codes "inventories") rows
+HasNeeded command rows = (is_some (query_of command rows) ≡ true) × HasToken command (token_of command rows)
 
 -- `clap` found a command of the program with all the entries that it needs
 abbrev pub IsComplete : Option (Text × List Row) → Type 0
 IsComplete None = ⊥
 IsComplete (Some p) = (command : Command) × (p.0 ≡ name_of command) × HasNeeded command p.1
-
-abbrev pub table_name : Table → Text
-table_name Providers = codes "providers"
-table_name Inventories = codes "inventories"
-table_name Usages = codes "usages"
-table_name Traits = codes "traits"
-table_name Aggregates = codes "aggregates"
 
 abbrev pub path_of : Line → Table → Option Text
 path_of line Providers = Some line.providers

@@ -27,14 +27,37 @@ fn accepted(rt: HostRuntime) {
 }
 
 #[test]
-fn refused(rt: HostRuntime) {
-    let Ok(given) = words_of(rt.alloc(), "ac_cli tokens") else {
+fn folder(rt: HostRuntime) {
+    let Ok(given) = words_of(rt.alloc(), "ac_cli check --tables a") else {
         return;
     };
     match read_words(rt.alloc(), given.as_slice()) {
-        Ok(_words) => assert!(rt; false, "there is no query"),
-        Err(fault) => assert!(rt;
-            matches!(fault, WordFault::Refused(_)) || matches!(fault, WordFault::NoMemory)
-        ),
+        Ok(words) => {
+            assert_eq!(rt; words.path(Table::Providers), Some("a/providers.csv"));
+            assert_eq!(rt; words.path(Table::Aggregates), Some("a/aggregates.csv"));
+        }
+        Err(fault) => assert!(rt; matches!(fault, WordFault::NoMemory)),
+    }
+}
+
+const OTHER_WORDS: &[&str] = &[
+    "ac_cli tokens",
+    "ac_cli check --providers a",
+    "ac_cli check --tables a --usages c",
+    "ac_cli tokens q --microversion 1.40",
+];
+
+#[test]
+fn refused(rt: HostRuntime) {
+    for line in OTHER_WORDS {
+        let Ok(given) = words_of(rt.alloc(), line) else {
+            return;
+        };
+        match read_words(rt.alloc(), given.as_slice()) {
+            Ok(_words) => assert!(rt; false, "{line}"),
+            Err(fault) => assert!(rt;
+                matches!(fault, WordFault::Refused(_)) || matches!(fault, WordFault::NoMemory)
+            ),
+        }
     }
 }

@@ -1,16 +1,18 @@
 //! What the matches of `clap` hold.
-ghost use Rattle.std.specs.Prelude.{◌≡◌, ⊤, IfErr, IfOk, None, OnOk, Some, [], is_some, option_map, string_bytes, true};
+ghost use Rattle.std.specs.Prelude.{◌≡◌, ◌∷◌, IfErr, IfOk, OnOk, Some, [], is_some, option_map, string_bytes, true};
 ghost use Rattle.clap.specs.Words.{first_of, found_of, rows_of, subcommand_rows_of};
-ghost use Rattle.ac_words.specs.Words.{HasEntry, HasNeeded, IsComplete, IsMadeOf, Says, Tells, name_of, query_of, token_of, version_faults, version_kinds, version_named, version_of};
+ghost use Rattle.ac_words.specs.Words.{HasEntry, HasNeeded, IsComplete, IsMadeOf, Says, Tells, name_of, own_faults, query_of, table_kinds, token_of, version_kinds, version_named, version_of};
 
+use super::tables::{check_tables, needed_path, path};
 use super::{WordFault, Words, fault_of, grammar};
 use ac_query::{Command, Version};
+use ac_tables::Table;
 use clap::ArgMatches;
 use clap::error::ErrorKind;
 use std::alloc::{AllocError, Global};
 
 // The entry of a name, where it has one.
-fn entry<'a>(entries: &ArgMatches<'a>, name: &str) -> Option<&'a str>
+pub(super) fn entry<'a>(entries: &ArgMatches<'a>, name: &str) -> Option<&'a str>
     ensures { option_map (λ text. text.now) result
         ≡ first_of name.now (rows_of (found_of entries.now)) }
 {
@@ -30,7 +32,11 @@ fn needed(alloc: Global, entries: &ArgMatches<'_>, name: &str) -> Result<String,
 }
 
 // A copy of the entry of a name, where it has one.
-fn copied(alloc: Global, entries: &ArgMatches<'_>, name: &str) -> Result<Option<String>, AllocError>
+pub(super) fn copied(
+    alloc: Global,
+    entries: &ArgMatches<'_>,
+    name: &str,
+) -> Result<Option<String>, AllocError>
     ensures { IfOk result (λ copy. first_of name.now (rows_of (found_of entries.now))
         ≡ option_map string_bytes copy) }
 {
@@ -65,20 +71,21 @@ fn version_named(text: Option<&str>) -> Option<Version>
     }
 }
 
-// What the user is told of a version that isn't known.
-fn unknown_version(alloc: Global, text: &str) -> Result<WordFault, AllocError>
-    ensures { IfOk result (Tells (version_kinds None)) }
+// What the user is told of a fault that isn't `clap`'s own, with the usage of the command.
+pub(super) fn refused(
+    alloc: Global,
+    command: Command,
+    kind: ErrorKind,
+    message: &str,
+) -> Result<WordFault, AllocError>
+    ensures { IfOk result (Tells (kind ∷ [])) }
 {
-    let message = format!(in alloc;
-        "invalid value '{text}' for '--microversion <VERSION>': it is 1.36 or 1.39"
-    )?;
-    let mut command = grammar::program(alloc)?;
-    let error = command.error(ErrorKind::InvalidValue, message.as_str())?;
+    let error = grammar::command(alloc, command)?.error(kind, message)?;
     fault_of(alloc, &error)
 }
 
 // The version that reads the query.
-fn version(alloc: Global, entries: &ArgMatches<'_>) -> Result<Version, WordFault>
+fn version(alloc: Global, command: Command, entries: &ArgMatches<'_>) -> Result<Version, WordFault>
     ensures version { IfOk result (λ v. version_of (rows_of (found_of entries.now)) ≡ Some v) }
     ensures fault { IfErr result (Tells (version_kinds
         (version_of (rows_of (found_of entries.now))))) }
@@ -86,7 +93,13 @@ fn version(alloc: Global, entries: &ArgMatches<'_>) -> Result<Version, WordFault
     let text = entry(entries, "microversion");
     match version_named(text) {
         Some(version) => Ok(version),
-        None => Err(unknown_version(alloc, text.unwrap_or(""))?),
+        None => {
+            let text = text.unwrap_or("");
+            let message = format!(in alloc;
+                "invalid value '{text}' for '--microversion <VERSION>': it is 1.36 or 1.39"
+            )?;
+            Err(refused(alloc, command, ErrorKind::InvalidValue, message.as_str())?)
+        }
     }
 }
 
@@ -131,6 +144,7 @@ fn words_with(
 ) -> Result<Words, AllocError>
     requires needed { HasNeeded command (rows_of (found_of entries.now)) }
     requires version { version_of (rows_of (found_of entries.now)) ≡ Some version }
+    requires tables { table_kinds (rows_of (found_of entries.now)) ≡ [] }
     ensures { IfOk result (λ words. (words.command ≡ command)
         × IsMadeOf (rows_of (found_of entries.now)) words) }
 {
@@ -139,11 +153,11 @@ fn words_with(
         query: query(alloc, command, entries)?,
         version,
         token: token(alloc, command, entries)?,
-        providers: needed(alloc, entries, "providers")?,
-        inventories: needed(alloc, entries, "inventories")?,
-        usages: copied(alloc, entries, "usages")?,
-        traits: copied(alloc, entries, "traits")?,
-        aggregates: copied(alloc, entries, "aggregates")?,
+        providers: needed_path(alloc, entries, Table::Providers)?,
+        inventories: needed_path(alloc, entries, Table::Inventories)?,
+        usages: path(alloc, entries, Table::Usages)?,
+        traits: path(alloc, entries, Table::Traits)?,
+        aggregates: path(alloc, entries, Table::Aggregates)?,
     })
 }
 
@@ -151,10 +165,11 @@ fn words_with(
 pub(super) fn words_of(alloc: Global, matches: &ArgMatches<'_>) -> Result<Words, WordFault>
     requires { IsComplete (subcommand_rows_of matches.now) }
     ensures entries { IfOk result (Says (subcommand_rows_of matches.now)) }
-    ensures known { OnOk result (version_faults (subcommand_rows_of matches.now) ≡ []) }
-    ensures fault { IfErr result (Tells (version_faults (subcommand_rows_of matches.now))) }
+    ensures faultless { OnOk result (own_faults (subcommand_rows_of matches.now) ≡ []) }
+    ensures fault { IfErr result (Tells (own_faults (subcommand_rows_of matches.now))) }
 {
     let (command, entries) = chosen(matches);
-    let version = version(alloc, entries)?;
+    let version = version(alloc, command, entries)?;
+    check_tables(alloc, command, entries)?;
     Ok(words_with(alloc, command, version, entries)?)
 }

@@ -2,8 +2,9 @@
 ghost use Rattle.std.specs.Prelude.{◌≡◌, IfOk, false};
 ghost use Rattle.clap.specs.Words.{app_of, rule_of};
 ghost use Rattle.clap.specs.declared.builder.command.Command.TheViews.{out-Command as fields_of};
-ghost use Rattle.ac_words.specs.Words.{check_app, explain_app, needed_rule, option_rule, program, query_app, search_app, verify_app, with_options, with_tables, word_rule};
+ghost use Rattle.ac_words.specs.Words.{app_for, candidates_app, check_app, explain_app, option_rule, program, query_app, search_app, tokens_app, verify_app, with_options, with_tables, word_rule};
 
+use ac_query::Command as Asked;
 use clap::{Arg, Command};
 use std::alloc::{AllocError, Global};
 
@@ -20,8 +21,7 @@ Exit status:
   7  out of memory
 
 Example, at the top of the repository:
-  ./ac_cli tokens 'resources=VCPU:2' \\
-      --providers examples/providers.csv --inventories examples/inventories.csv";
+  ./ac_cli tokens 'resources=VCPU:2' --tables examples/cloud";
 
 // The program's version, and the logic by which it is proved, as `rt version` names it: toolchains of several names have it.
 const VERSION: &str = "1.0.0, proved with Rattle's logic dac8208d650f15bf";
@@ -56,26 +56,25 @@ fn table<'a>(alloc: Global, name: &'a str, help: &'a str) -> Arg<'a>
     option(alloc, name, "FILE", help)
 }
 
-// The option of a table that has to be given.
-fn needed_table<'a>(alloc: Global, name: &'a str, help: &'a str) -> Arg<'a>
-    ensures rule { rule_of result ≡ needed_rule name.entry.now }
-    ensures local { result.global ≡ false }
-{
-    table(alloc, name, help).required(true)
-}
-
 // Adds the options of the tables.
 fn add_tables<'a>(alloc: Global, command: Command<'a>) -> Result<Command<'a>, AllocError>
     ensures app { IfOk result (λ c. app_of c ≡ with_tables (app_of command.entry)) }
     ensures local { (fields_of command.entry).has_globals ≡ false
         → IfOk result (λ c. (fields_of c).has_globals ≡ false) }
 {
-    let command = command.arg(needed_table(
+    let command = command.arg(option(
+        alloc,
+        "tables",
+        "DIR",
+        "The five tables of an export, in one folder: providers.csv, inventories.csv, usages.csv, \
+         traits.csv, aggregates.csv",
+    ))?;
+    let command = command.arg(table(
         alloc,
         "providers",
         "The resource providers and their trees (CSV)",
     ))?;
-    let command = command.arg(needed_table(
+    let command = command.arg(table(
         alloc,
         "inventories",
         "What each provider has of each resource class (CSV)",
@@ -116,12 +115,18 @@ fn add_options<'a>(alloc: Global, command: Command<'a>) -> Result<Command<'a>, A
 }
 
 // A command with a query.
-fn with_query<'a>(alloc: Global, name: &'a str, about: &'a str) -> Result<Command<'a>, AllocError>
+fn with_query<'a>(
+    alloc: Global,
+    name: &'a str,
+    about: &'a str,
+    usage: &'a str,
+) -> Result<Command<'a>, AllocError>
     ensures app { IfOk result (λ c. app_of c ≡ query_app name.entry.now) }
     ensures local { IfOk result (λ c. (fields_of c).has_globals ≡ false) }
 {
     let command = Command::new(alloc, name)
         .about(about)
+        .override_usage(usage)
         .after_help(AFTER_HELP);
     command.arg(word(
         alloc,
@@ -137,22 +142,57 @@ fn check<'a>(alloc: Global) -> Result<Command<'a>, AllocError>
 {
     let command = Command::new(alloc, "check")
         .about("Checks the tables, and counts what they hold")
+        .override_usage(
+            "ac_cli check --tables <DIR>\n       \
+             ac_cli check [OPTIONS] --providers <FILE> --inventories <FILE>",
+        )
         .after_help(AFTER_HELP);
     add_tables(alloc, command)
 }
 
 // A command that writes candidates.
-fn search<'a>(alloc: Global, name: &'a str, about: &'a str) -> Result<Command<'a>, AllocError>
+fn search<'a>(
+    alloc: Global,
+    name: &'a str,
+    about: &'a str,
+    usage: &'a str,
+) -> Result<Command<'a>, AllocError>
     ensures app { IfOk result (λ c. app_of c ≡ search_app name.entry.now) }
     ensures local { IfOk result (λ c. (fields_of c).has_globals ≡ false) }
 {
-    let command = add_options(alloc, with_query(alloc, name, about)?)?;
+    let command = add_options(alloc, with_query(alloc, name, about, usage)?)?;
     command.arg(option(
         alloc,
         "after",
         "TOKEN",
         "Begins after this candidate, written as `tokens` writes it",
     ))
+}
+
+fn candidates<'a>(alloc: Global) -> Result<Command<'a>, AllocError>
+    ensures app { IfOk result (λ c. app_of c ≡ candidates_app) }
+    ensures local { IfOk result (λ c. (fields_of c).has_globals ≡ false) }
+{
+    search(
+        alloc,
+        "candidates",
+        "Writes the candidates for a query as JSON, with summaries of their providers",
+        "ac_cli candidates [OPTIONS] --tables <DIR> <QUERY>\n       \
+         ac_cli candidates [OPTIONS] --providers <FILE> --inventories <FILE> <QUERY>",
+    )
+}
+
+fn tokens<'a>(alloc: Global) -> Result<Command<'a>, AllocError>
+    ensures app { IfOk result (λ c. app_of c ≡ tokens_app) }
+    ensures local { IfOk result (λ c. (fields_of c).has_globals ≡ false) }
+{
+    search(
+        alloc,
+        "tokens",
+        "Writes the candidates for a query, one per line: the UUIDs of their providers",
+        "ac_cli tokens [OPTIONS] --tables <DIR> <QUERY>\n       \
+         ac_cli tokens [OPTIONS] --providers <FILE> --inventories <FILE> <QUERY>",
+    )
 }
 
 fn verify<'a>(alloc: Global) -> Result<Command<'a>, AllocError>
@@ -163,6 +203,8 @@ fn verify<'a>(alloc: Global) -> Result<Command<'a>, AllocError>
         alloc,
         "verify",
         "Writes whether a token is a candidate for a query, or which rule it breaks",
+        "ac_cli verify [OPTIONS] --tables <DIR> <QUERY> <TOKEN>\n       \
+         ac_cli verify [OPTIONS] --providers <FILE> --inventories <FILE> <QUERY> <TOKEN>",
     )?;
     let command = command.arg(word(
         alloc,
@@ -181,8 +223,23 @@ fn explain<'a>(alloc: Global) -> Result<Command<'a>, AllocError>
         alloc,
         "explain",
         "Writes how many providers and trees meet a query, rule by rule: why nothing is found",
+        "ac_cli explain [OPTIONS] --tables <DIR> <QUERY>\n       \
+         ac_cli explain [OPTIONS] --providers <FILE> --inventories <FILE> <QUERY>",
     )?;
     add_options(alloc, command)
+}
+
+// A command by itself.
+pub(super) fn command<'a>(alloc: Global, asked: Asked) -> Result<Command<'a>, AllocError>
+    ensures { IfOk result (λ c. app_of c ≡ app_for asked) }
+{
+    match asked {
+        Asked::Check => check(alloc),
+        Asked::Candidates => candidates(alloc),
+        Asked::Tokens => tokens(alloc),
+        Asked::Verify => verify(alloc),
+        Asked::Explain => explain(alloc),
+    }
 }
 
 // The whole command line.
@@ -197,16 +254,8 @@ pub(super) fn program<'a>(alloc: Global) -> Result<Command<'a>, AllocError>
         .after_help(AFTER_HELP)
         .subcommand_required(true);
     let command = command.subcommand(check(alloc)?)?;
-    let command = command.subcommand(search(
-        alloc,
-        "candidates",
-        "Writes the candidates for a query as JSON, with summaries of their providers",
-    )?)?;
-    let command = command.subcommand(search(
-        alloc,
-        "tokens",
-        "Writes the candidates for a query, one per line: the UUIDs of their providers",
-    )?)?;
+    let command = command.subcommand(candidates(alloc)?)?;
+    let command = command.subcommand(tokens(alloc)?)?;
     let command = command.subcommand(verify(alloc)?)?;
     let command = command.subcommand(explain(alloc)?)?;
     Ok(command)

@@ -11,7 +11,7 @@ returns c =
     (ap as_program c.new.ensures.app) in
     c.in_ok-command-5.ensures.shape c.in_ok-explain.ensures.local ∙ ap₂ with_subcommand (
     c.in_ok-command-4.ensures.shape c.in_ok-verify.ensures.local ∙ ap₂ with_subcommand (
-    c.in_ok-command-3.ensures.shape c.in_ok-search-2.ensures.local ∙ ap₂ with_subcommand (
-    c.in_ok-command-2.ensures.shape c.in_ok-search.ensures.local ∙ ap₂ with_subcommand (
+    c.in_ok-command-3.ensures.shape c.in_ok-tokens.ensures.local ∙ ap₂ with_subcommand (
+    c.in_ok-command-2.ensures.shape c.in_ok-candidates.ensures.local ∙ ap₂ with_subcommand (
     c.in_ok-command.ensures.shape c.in_ok-check.ensures.local ∙ ap₂ with_subcommand plain (ap top c.in_ok-check.ensures.app))
-    (ap top c.in_ok-search.ensures.app)) (ap top c.in_ok-search-2.ensures.app)) (ap top c.in_ok-verify.ensures.app)) (ap top c.in_ok-explain.ensures.app)
+    (ap top c.in_ok-candidates.ensures.app)) (ap top c.in_ok-tokens.ensures.app)) (ap top c.in_ok-verify.ensures.app)) (ap top c.in_ok-explain.ensures.app)
