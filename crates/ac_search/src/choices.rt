@@ -1,4 +1,4 @@
-//! What a provider meets of a slot alone, one rule after another and room at last, and the providers that each slot may have.
+//! The providers that each slot may have: those that meet its rules and have room for what it alone asks.
 
 ghost use Rattle.std.specs.Prelude.{◌≡◌, ◌<◌, ◌&&◌, IfOk, [], length, map};
 ghost use Rattle.ac_tables.specs.Cloud.CloudWorld.{providers_of};
@@ -9,13 +9,12 @@ ghost use Rattle.ac_query.specs.Shown.Queries.{asked_of};
 ghost use Rattle.ac_rules.specs.Placed.{slot_at, placed_at};
 ghost use Rattle.ac_rules.specs.Judge.{is_open};
 ghost use Rattle.ac_rules.specs.Together.{holds};
-ghost use Rattle.ac_search.specs.Explained.{meets_aggregates, meets_room, meets_traits, meets_tree};
+ghost use Rattle.ac_search.specs.Explained.{meets_room};
 ghost use Rattle.ac_search.specs.QuerySearch.{fits, has_room_alone, choice_of, choices_of};
 
-use crate::open::is_open;
+use crate::open::{fits_slot, is_open};
 use ac_base::NoMemory;
 use ac_query::{Need, Query};
-use ac_rules::rules::own::{has_aggregates, has_slot_traits, has_units, is_in_tree};
 use ac_rules::rules::sums::room_at;
 use ac_rules::slots::{count_slots, needs_at};
 use ac_tables::Cloud;
@@ -33,9 +32,9 @@ fn has_room_of(cloud: &Cloud, ix: u32, need: &Need) -> bool
     }
 }
 
-// Whether a provider has room for what a slot alone asks.
+/// Whether a provider has room for what a slot alone asks.
 #[tactic(auto, unfolding(crate::specs::QuerySearch::has_room_alone))]
-fn has_room_alone(cloud: &Cloud, query: &Query, s: usize, ix: u32) -> bool
+pub(crate) fn has_room_alone(cloud: &Cloud, query: &Query, s: usize, ix: u32) -> bool
     requires slot { s < length (slots_of (asked_of query.now)) }
     requires provider { ix < length (providers_of cloud.now) }
     ensures { result
@@ -49,35 +48,7 @@ fn has_room_alone(cloud: &Cloud, query: &Query, s: usize, ix: u32) -> bool
     true
 }
 
-/// Whether a provider meets Units and SlotTraits in a slot.
-pub(crate) fn meets_traits(cloud: &Cloud, query: &Query, s: usize, ix: u32) -> bool
-    requires slot { s < length (slots_of (asked_of query.now)) }
-    requires provider { ix < length (providers_of cloud.now) }
-    ensures { result ≡ meets_traits (providers_of cloud.now) (placed_at (asked_of query.now) s ix) }
-{
-    has_units(cloud, query, s, ix) && has_slot_traits(cloud, query, s, ix)
-}
-
-/// Whether it meets Aggregates too.
-pub(crate) fn meets_aggregates(cloud: &Cloud, query: &Query, s: usize, ix: u32) -> bool
-    requires slot { s < length (slots_of (asked_of query.now)) }
-    requires provider { ix < length (providers_of cloud.now) }
-    ensures { result
-        ≡ meets_aggregates (providers_of cloud.now) (placed_at (asked_of query.now) s ix) }
-{
-    meets_traits(cloud, query, s, ix) && has_aggregates(cloud, query, s, ix)
-}
-
-/// Whether it meets Tree too.
-pub(crate) fn meets_tree(cloud: &Cloud, query: &Query, s: usize, ix: u32) -> bool
-    requires slot { s < length (slots_of (asked_of query.now)) }
-    requires provider { ix < length (providers_of cloud.now) }
-    ensures { result ≡ meets_tree (providers_of cloud.now) (placed_at (asked_of query.now) s ix) }
-{
-    meets_aggregates(cloud, query, s, ix) && is_in_tree(cloud, query, s, ix)
-}
-
-/// Whether it has room for what the slot alone asks, too.
+/// Whether a provider meets the rules of a slot alone, and has room for what the slot alone asks.
 #[tactic(auto, unfolding(crate::specs::QuerySearch::fits))]
 pub(crate) fn meets_room(cloud: &Cloud, query: &Query, s: usize, ix: u32) -> bool
     requires slot { s < length (slots_of (asked_of query.now)) }
@@ -88,7 +59,7 @@ pub(crate) fn meets_room(cloud: &Cloud, query: &Query, s: usize, ix: u32) -> boo
         ≡ (fits (providers_of cloud.now) (placed_at (asked_of query.now) s ix)
         && has_room_alone (providers_of cloud.now) (placed_at (asked_of query.now) s ix)) }
 {
-    meets_tree(cloud, query, s, ix) && has_room_alone(cloud, query, s, ix)
+    fits_slot(cloud, query, s, ix) && has_room_alone(cloud, query, s, ix)
 }
 
 // Whether a provider is one of those that a slot may have, by whether the empty list is open.

@@ -6,16 +6,16 @@ ghost use Rattle.ac_tables.specs.World.{id_at, is_root};
 ghost use Rattle.ac_tables.specs.Cloud.CloudWorld.{providers_of};
 ghost use Rattle.ac_query.specs.Asked.{slots_of};
 ghost use Rattle.ac_query.specs.Shown.Queries.{asked_of};
-ghost use Rattle.ac_rules.specs.Placed.{placed_at, slot_at};
-ghost use Rattle.ac_search.specs.Explained.{count_of, meets_aggregates, meets_room, meets_traits, meets_tree, meets_units, slot_counts, tree_counts};
+ghost use Rattle.ac_rules.specs.Placed.{slot_at};
+ghost use Rattle.ac_search.specs.Explained.{count_of, slot_counts, tree_counts};
 ghost use Rattle.ac_search.specs.Shown.Explained.{marked, served, served_roots, slot_counted, trees_counted};
 
-use crate::choices::{meets_aggregates, meets_room, meets_traits, meets_tree};
+use crate::choices::{has_room_alone, meets_room};
 use crate::hosts::limit;
 use crate::ledger::marks::taken_roots;
 use ac_base::NoMemory;
 use ac_query::Query;
-use ac_rules::rules::own::has_units;
+use ac_rules::rules::own::{has_aggregates, has_slot_traits, has_units, is_in_tree};
 use ac_rules::slots::count_slots;
 use ac_tables::Cloud;
 use std::alloc::Global;
@@ -46,73 +46,45 @@ pub struct TreeCounts {
     pub each_slot: u32,
 }
 
-// How many providers meet Units in a slot.
-fn count_units(cloud: &Cloud, query: &Query, s: usize) -> u32
-    requires { s < length (slots_of (asked_of query.now)) }
-    ensures { result ≡ count_of (providers_of cloud.now)
-        (λ p. meets_units (providers_of cloud.now) (placed_at (asked_of query.now) s p)) }
-{
-    (0..cloud.len())
-        .filter(|ix| has_units(cloud, query, s, *ix))
-        .count() as u32
-}
-
-// How many providers meet SlotTraits too.
-fn count_traits(cloud: &Cloud, query: &Query, s: usize) -> u32
-    requires { s < length (slots_of (asked_of query.now)) }
-    ensures { result ≡ count_of (providers_of cloud.now)
-        (λ p. meets_traits (providers_of cloud.now) (placed_at (asked_of query.now) s p)) }
-{
-    (0..cloud.len())
-        .filter(|ix| meets_traits(cloud, query, s, *ix))
-        .count() as u32
-}
-
-// How many providers meet Aggregates too.
-fn count_aggregates(cloud: &Cloud, query: &Query, s: usize) -> u32
-    requires { s < length (slots_of (asked_of query.now)) }
-    ensures { result ≡ count_of (providers_of cloud.now)
-        (λ p. meets_aggregates (providers_of cloud.now) (placed_at (asked_of query.now) s p)) }
-{
-    (0..cloud.len())
-        .filter(|ix| meets_aggregates(cloud, query, s, *ix))
-        .count() as u32
-}
-
-// How many providers meet Tree too.
-fn count_tree(cloud: &Cloud, query: &Query, s: usize) -> u32
-    requires { s < length (slots_of (asked_of query.now)) }
-    ensures { result ≡ count_of (providers_of cloud.now)
-        (λ p. meets_tree (providers_of cloud.now) (placed_at (asked_of query.now) s p)) }
-{
-    (0..cloud.len())
-        .filter(|ix| meets_tree(cloud, query, s, *ix))
-        .count() as u32
-}
-
-// How many providers have room for it too.
-fn count_room(cloud: &Cloud, query: &Query, s: usize) -> u32
-    requires { s < length (slots_of (asked_of query.now)) }
-    ensures { result ≡ count_of (providers_of cloud.now)
-        (λ p. meets_room (providers_of cloud.now) (placed_at (asked_of query.now) s p)) }
-{
-    (0..cloud.len())
-        .filter(|ix| meets_room(cloud, query, s, *ix))
-        .count() as u32
-}
-
 /// How many providers meet what a slot asks. It takes no memory.
 pub fn slot_counts(cloud: &Cloud, query: &Query, s: usize) -> SlotCounts
     requires { s < length (slots_of (asked_of query.now)) }
     ensures { slot_counted result
         ≡ slot_counts (providers_of cloud.now) (slot_at (asked_of query.now) s) }
 {
+    let mut units = 0;
+    let mut traits = 0;
+    let mut aggregates = 0;
+    let mut tree = 0;
+    let mut room = 0;
+    for ix in 0..cloud.len() {
+        if !has_units(cloud, query, s, ix) {
+            continue;
+        }
+        units += 1;
+        if !has_slot_traits(cloud, query, s, ix) {
+            continue;
+        }
+        traits += 1;
+        if !has_aggregates(cloud, query, s, ix) {
+            continue;
+        }
+        aggregates += 1;
+        if !is_in_tree(cloud, query, s, ix) {
+            continue;
+        }
+        tree += 1;
+        if !has_room_alone(cloud, query, s, ix) {
+            continue;
+        }
+        room += 1;
+    }
     SlotCounts {
-        units: count_units(cloud, query, s),
-        traits: count_traits(cloud, query, s),
-        aggregates: count_aggregates(cloud, query, s),
-        tree: count_tree(cloud, query, s),
-        room: count_room(cloud, query, s),
+        units,
+        traits,
+        aggregates,
+        tree,
+        room,
     }
 }
 

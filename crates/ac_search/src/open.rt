@@ -5,15 +5,29 @@ ghost use Rattle.std.specs.List.{All, list_all};
 ghost use Rattle.ac_tables.specs.Cloud.CloudWorld.{providers_of};
 ghost use Rattle.ac_query.specs.Asked.{slots_of};
 ghost use Rattle.ac_query.specs.Shown.Queries.{asked_of};
-ghost use Rattle.ac_rules.specs.Placed.{assigned};
+ghost use Rattle.ac_rules.specs.Placed.{placed_at, assigned};
 ghost use Rattle.ac_rules.specs.Judge.{is_open};
 ghost use Rattle.ac_search.specs.QuerySearch.{fits, completes};
 
 use ac_query::Query;
 use ac_rules::rules::anchor::has_anchor;
+use ac_rules::rules::own::{has_aggregates, has_slot_traits, has_units, is_in_tree};
 use ac_rules::rules::sums::have_room;
 use ac_rules::rules::whole::{are_collective, are_isolated, have_tops};
 use ac_tables::Cloud;
+
+/// Whether a provider meets the rules of a slot alone.
+#[tactic(auto, unfolding(crate::specs::QuerySearch::fits))]
+pub(crate) fn fits_slot(cloud: &Cloud, query: &Query, s: usize, ix: u32) -> bool
+    requires slot { s < length (slots_of (asked_of query.now)) }
+    requires provider { ix < length (providers_of cloud.now) }
+    ensures { result ≡ fits (providers_of cloud.now) (placed_at (asked_of query.now) s ix) }
+{
+    has_units(cloud, query, s, ix)
+        && has_slot_traits(cloud, query, s, ix)
+        && has_aggregates(cloud, query, s, ix)
+        && is_in_tree(cloud, query, s, ix)
+}
 
 /// Whether a list, each of whose providers meets the rules of its slot alone, is open.
 #[tactic(auto, using(crate::proofs::Search::OpenLemmas::open_together))]
