@@ -372,8 +372,7 @@ def main(*given):
              for case in shown(page)]
     chance = [*drawn(150), *drawn_tables(200), *drawn_queries(200)]
     cases = [PAGES, DRAWING, *HELP, *WORDS, *FILES, *FOLDERS, *DEVICES, *GROWTHS, KNOWN, *REFUSALS, *SMALL, *pages, *rules, *exports(), *database_exports(),
-             *chance,
-             *LARGE, *hostile(PROGRAM), FEW_BYTES, *cuts()]
+             *chance, *LARGE, *hostile(PROGRAM), FEW_BYTES, *cuts()]
     cases = [case for case in cases if all(word in case.name for word in words)]
     failed = 0
     with ThreadPoolExecutor(max_workers=2) as pool:
