@@ -263,15 +263,14 @@ def status_of(text):
 
 
 def shown(page):
-    """The commands that a page shows: a block `sh` with one call of ./ac_cli, or of the page's function `ask`, and right after it a block `text` or
-    `json` with what it prints; without such a block it prints anything."""
+    """The commands that a page shows: a block `sh` with one call of ./ac_cli, and right after it a block `text` or `json` with what it prints; without
+    such a block it prints anything."""
     path = os.path.join(ROOT, page)
     text = contents(path).decode() if os.path.isfile(path) else ''
-    asks = ''.join(re.findall(r'^```sh\n(ask\(\) \{\n(?: .*\n)*\}\n)```$', text, re.M)).replace('./ac_cli', shlex.quote(LAUNCHER))
-    for block in re.finditer(r'^```sh\n((?:\./ac_cli\b|ask )(?:.*\\\n)*.*)\n```\n(?:\n*```(?:text|json)\n((?:.*\n)*?)```$)?', text, re.M):
+    for block in re.finditer(r'^```sh\n(\./ac_cli\b(?:.*\\\n)*.*)\n```\n(?:\n*```(?:text|json)\n((?:.*\n)*?)```$)?', text, re.M):
         command, says = block[1].replace('\\\n', ' '), block[2]
         called = re.sub(r'^\./ac_cli', lambda _: shlex.quote(LAUNCHER), command)
-        yield Case(f'{page}: {command}', ['sh', '-c', f'{asks}exec 2>&1; {called}'], says, status=status_of(says or ''))
+        yield Case(f'{page}: {command}', ['sh', '-c', f'exec 2>&1; {called}'], says, status=status_of(says or ''))
 
 
 def ruled(page):
