@@ -2,21 +2,25 @@
 //! for each slot.
 
 ghost use Rattle.std.specs.Prelude.{◌≡◌, ◌<◌, ◌^◌, IfOk, [], length};
-ghost use Rattle.ac_tables.specs.World.{id_at, is_root};
+ghost use Rattle.ac_tables.specs.World.{id_at, is_root, provider_at};
 ghost use Rattle.ac_tables.specs.Cloud.CloudWorld.{providers_of};
 ghost use Rattle.ac_query.specs.Asked.{slots_of};
+ghost use Rattle.ac_query.specs.Shown.Groups.{need_entry};
 ghost use Rattle.ac_query.specs.Shown.Queries.{asked_of};
-ghost use Rattle.ac_rules.specs.Placed.{slot_at};
-ghost use Rattle.ac_search.specs.Explained.{count_of, slot_counts, tree_counts};
+ghost use Rattle.ac_rules.specs.Placed.{placed_at, slot_at};
+ghost use Rattle.ac_rules.specs.Together.{holds};
+ghost use Rattle.ac_search.specs.Explained.{count_of, meets_room, slot_counts, tree_counts};
+ghost use Rattle.ac_search.specs.QuerySearch.{has_room_alone};
 ghost use Rattle.ac_search.specs.Shown.Explained.{marked, served, served_roots, slot_counted, trees_counted};
 
-use crate::choices::{has_room_alone, meets_room};
 use crate::hosts::limit;
 use crate::ledger::marks::taken_roots;
+use crate::open::fits_slot;
 use ac_base::NoMemory;
-use ac_query::Query;
+use ac_query::{Need, Query};
 use ac_rules::rules::own::{has_aggregates, has_slot_traits, has_units, is_in_tree};
-use ac_rules::slots::count_slots;
+use ac_rules::rules::sums::room_at;
+use ac_rules::slots::{count_slots, needs_at};
 use ac_tables::Cloud;
 use std::alloc::Global;
 
@@ -44,6 +48,34 @@ pub struct TreeCounts {
     pub root_traits: u32,
     /// Of these, those in whose trees each slot has a provider available that meets its rules and has room for it.
     pub each_slot: u32,
+}
+
+// Whether a provider has room for an amount of a class.
+fn has_room_of(cloud: &Cloud, ix: u32, need: &Need) -> bool
+    requires { ix < length (providers_of cloud.now) }
+    ensures { result ≡ holds (provider_at (providers_of cloud.now) ix)
+        (need_entry need.now).0 (need_entry need.now).1 }
+{
+    match room_at(cloud, ix, need.class()) {
+        Some(room) => u64::from(need.amount()) <= room,
+        None => false,
+    }
+}
+
+// Whether a provider has room for what a slot alone asks.
+#[tactic(auto, unfolding(crate::specs::QuerySearch::has_room_alone))]
+fn has_room_alone(cloud: &Cloud, query: &Query, s: usize, ix: u32) -> bool
+    requires slot { s < length (slots_of (asked_of query.now)) }
+    requires provider { ix < length (providers_of cloud.now) }
+    ensures { result
+        ≡ has_room_alone (providers_of cloud.now) (placed_at (asked_of query.now) s ix) }
+{
+    for need in needs_at(query, s) {
+        if !has_room_of(cloud, ix, need) {
+            return false;
+        }
+    }
+    true
 }
 
 /// How many providers meet what a slot asks. It takes no memory.
@@ -88,7 +120,17 @@ pub fn slot_counts(cloud: &Cloud, query: &Query, s: usize) -> SlotCounts
     }
 }
 
-// 1 for each provider that meets all that a slot asks, room included, and else 0.
+// Whether a provider meets all that a slot asks, room included.
+#[tactic(auto, unfolding(crate::specs::QuerySearch::fits))]
+fn serves(cloud: &Cloud, query: &Query, s: usize, ix: u32) -> bool
+    requires slot { s < length (slots_of (asked_of query.now)) }
+    requires provider { ix < length (providers_of cloud.now) }
+    ensures { result ≡ meets_room (providers_of cloud.now) (placed_at (asked_of query.now) s ix) }
+{
+    fits_slot(cloud, query, s, ix) && has_room_alone(cloud, query, s, ix)
+}
+
+// 1 for each provider that does, and else 0.
 fn serving(alloc: Global, cloud: &Cloud, query: &Query, s: usize) -> Result<Vec<u64>, NoMemory>
     requires { s < length (slots_of (asked_of query.now)) }
     ensures { IfOk result (λ serving.
@@ -96,7 +138,7 @@ fn serving(alloc: Global, cloud: &Cloud, query: &Query, s: usize) -> Result<Vec<
 {
     let mut serving = Vec::new(alloc);
     for ix in 0..cloud.len() {
-        serving.push(u64::from(meets_room(cloud, query, s, ix)))?;
+        serving.push(u64::from(serves(cloud, query, s, ix)))?;
     }
     Ok(serving)
 }

@@ -96,8 +96,8 @@ impl<'a> Ledger<'a> {
         !(self.lone[s] && self.marks[ix as usize] > 0)
     }
 
-    // Whether its row has enough for a slot.
-    fn has_enough(&self, s: usize, ix: u32) -> bool
+    /// Whether the row of a provider has enough for a slot.
+    pub(crate) fn has_enough(&self, s: usize, ix: u32) -> bool
         requires slot { s < length (slots_of (asked_in self.now)) }
         requires provider { ix < length (providers_in self.now) }
         ensures { result ≡ suffices (row_of self.now.rows.items ix)

@@ -103,9 +103,9 @@ impl<'a> Walk<'a> {
         let width = count_slots(query);
         let least = least_of(alloc, cloud, after, width)?;
         let after = ids_of(alloc, after)?;
-        let choices = all_choices(alloc, cloud, query)?;
-        let trees = ByTree::of_slots(alloc, cloud, &choices)?;
         let ledger = Ledger::new(alloc, cloud, query)?;
+        let choices = all_choices(alloc, &ledger)?;
+        let trees = ByTree::of_slots(alloc, cloud, &choices)?;
         let hosts = host_roots(alloc, &ledger, &choices)?;
         let families = Family::of_query(alloc, &ledger, &choices)?;
         let ahead = Ahead::new(alloc, &ledger)?;

@@ -1,9 +1,10 @@
 -- What a ledger knows of a slot and a provider, and how it accounts for one provider more and less.
-use Rattle.std.proofs.Common.{◌≡◌, ◌∙◌, ℕ, ◌+◌, ◌<◌, ◌≤◌, ◌^◌, Bool, true, false, inl, inr, not, ◌&&◌, List, [], ◌∷◌, ◌++◌, map, length, Option, Some, None, refl, sym, ap, ap₂, subst, arith, length-append, nat_lt, replicate, slice_index, slice_index_or}
+use Rattle.std.proofs.Common.{◌≡◌, ◌∙◌, ℕ, ◌+◌, ◌<◌, ◌≤◌, ◌^◌, Bool, true, false, inl, inr, not, ◌&&◌, List, [], ◌∷◌, ◌++◌, map, length, Option, Some, None, refl, sym, ap, ap₂, subst, arith, length-append, nat_le, nat_lt, replicate, slice_index, slice_index_or}
 use Rattle.std.specs.Prelude.{◌==◌, if◌then◌else◌}
 use Rattle.std.specs.Global.{Vec}
 use Rattle.std.specs.List.{list_all, list_any, range_with_len, AllByRecursion as Each}
-use Rattle.std.proofs.lemmas.Bool.{cases_Bool, eq-eqb}
+use Rattle.std.proofs.lemmas.Bool.{cases_Bool, eq-eqb, false≢true, false_from_ne_true}
+use Rattle.std.proofs.lemmas.Bool.Decides.{nat_tests}
 use Rattle.std.proofs.lemmas.List.{get_or-map, get_or-replicate, length-map}
 use Rattle.std.proofs.lemmas.List.FromFn.{length-range_with_len, get_or-range_with_len}
 use Rattle.std.proofs.lemmas.List.Elements.{recursion_from_All}
@@ -18,13 +19,13 @@ use Rattle.ac_query.specs.Shown.Slots.{slot_shown}
 use Rattle.ac_query.specs.declared.group.Need.{Need}
 use Rattle.ac_query.specs.declared.group.Group as rust
 use Rattle.ac_query.specs.declared.query.Query.{Query}
-use Rattle.ac_tables.specs.World.{Provider, is_available_at, anchors_of}
+use Rattle.ac_tables.specs.World.{Provider, provider_at, is_available_at, anchors_of}
 use Rattle.ac_rules.specs.Placed.{placed, placed_at, slot_at, no_slot, assigned}
-use Rattle.ac_rules.specs.Together.{sum_on, sums, isolate, takes_root}
+use Rattle.ac_rules.specs.Together.{sum_on, holds, sums, isolate, takes_root}
 use Rattle.ac_rules.specs.Judge.{is_open}
-use Rattle.ac_search.specs.QuerySearch.{fits}
+use Rattle.ac_search.specs.QuerySearch.{fits, has_room_alone}
 use Rattle.ac_rules.specs.Laws.{AskAmounts}
-use Rattle.ac_search.specs.Left.{place_of, IsKnown, IsThere, AreRows, AreLeft, ask_pair, numbered, wanted, left_in, suffices, room_on, row_of}
+use Rattle.ac_search.specs.Left.{place_of, IsKnown, IsThere, AreRows, AreLeft, ask_pair, numbered, wanted, left_in, has_each, suffices, room_on, row_of}
 use Rattle.ac_search.specs.Marks.{needs_own, marks_at, times, AreMarks, AreHits}
 use Rattle.ac_search.specs.Left.Accounts.{providers_in, asked_in, texts_in, Accounts}
 use Rattle.ac_search.specs.declared.ledger.rooms.Ask.{Ask}
@@ -36,7 +37,7 @@ use Rattle.ac_rules.proofs.PlacedLemmas.{placed_none}
 use Rattle.ac_rules.proofs.EachSlot.FrontLemmas.{Opens, open_parts}
 use Rattle.ac_search.proofs.Search.OpenLemmas.{placed_next, open_together, front_open}
 use Rattle.ac_search.proofs.Paths.RoomLemmas.{there_left}
-use Rattle.ac_search.proofs.Paths.LeftLemmas.{sums_next, sum_here, wanted_is, wanted_fits, wanted_class}
+use Rattle.ac_search.proofs.Paths.LeftLemmas.{sums_next, sum_here, wanted_is, wanted_fits, wanted_class, each_suffices, holds_less, less_holds}
 use Rattle.ac_search.proofs.Paths.MarkLemmas.{isolate_next, anchor_next, marks_more, marks_most, hits_more, hits_most, times_anchors}
 
 -- ---- Queries ask for amounts
@@ -250,3 +251,28 @@ marks_empty all asked marks made p h =
 
 pub hits_empty : (all : List Provider) (hits : List ℕ) → hits ≡ replicate (length all) 0 → AreHits all hits []
 hits_empty all hits made r h = ap (λ (l : List ℕ). slice_index l r) made ∙ get_or-replicate (length all) r 0 0 h
+
+-- ---- Room for a slot alone
+
+each_alone : (l : Ledger) (p : ℕ) (needs : List (List ℕ × ℕ)) → p < length (providers_in l) → Accounts l [] → Each (λ need. IsKnown (texts_in l) need.0) needs → Each (λ need. 0 < need.1) needs
+    → has_each (row_of l.rows.items p) (map (numbered (texts_in l)) needs) ≡ list_all (λ (need : List ℕ × ℕ). holds (provider_at (providers_in l) p) need.0 need.1) needs
+each_alone l p [] low accounts known some = refl
+each_alone l p (n ∷ ns) low accounts known some =
+    let all = providers_in l in
+    let left = left_in (row_of l.rows.items p) (place_of (texts_in l) n.0) in
+    let nothing : sum_on (assigned (asked_in l) []) p n.0 ≡ 0 = ap (λ xs. sum_on xs p n.0) (placed_none (slots_of (asked_in l))) in
+    let room : left ≡ room_on all p n.0 = omega (arith, accounts.left p n.0 low known.0, nothing) in
+    let here : nat_le n.1 left ≡ holds (provider_at all p) n.0 n.1 = elim (cases_Bool (holds (provider_at all p) n.0 n.1)) [
+      | inl e ↦ let less : n.1 ≤ left = omega (arith, holds_less all p n.0 n.1 e, room) in rw e (grind (arith, nat_tests))
+      | inr e ↦ rw e (false_from_ne_true _ (λ t. let less : n.1 ≤ left = grind (arith, nat_tests) in false≢true (sym e ∙ less_holds all p n.0 n.1 some.0 (omega (arith, less, room)))))
+    ] in
+    ap₂ (λ a b. a && b) here (each_alone l p ns low accounts known.1 some.1)
+
+-- the row of a provider has enough for a slot exactly where the provider has room for it alone
+pub enough_alone : (l : Ledger) (s p : ℕ) → s < length (slots_of (asked_in l)) → p < length (providers_in l) → Accounts l []
+    → suffices (row_of l.rows.items p) (map (numbered (texts_in l)) (slot_at (asked_in l) s).needs) ≡ has_room_alone (providers_in l) (placed_at (asked_in l) s p)
+unfolding has_room_alone
+enough_alone l s p h low accounts =
+    let needs = (slot_at (asked_in l) s).needs in
+    sym (each_suffices (texts_in l) (row_of l.rows.items p) needs (known_in l s h) (slot_rises l.query.now s h))
+    ∙ each_alone l p needs low accounts (known_in l s h) (each_at Asks (slots_of (asked_in l)) s no_slot (query_asks l.query.now) h)

@@ -90,7 +90,7 @@ enough_room (Some inventory) used m some h = elim (cases_Bool (nat_le used (capa
 pub holds_less : (all : List Provider) (p : ℕ) (c : List ℕ) (m : ℕ) → holds (provider_at all p) c m ≡ true → m ≤ room_on all p c
 holds_less all p c m h = room_enough (inventory_of (provider_at all p) c) (used_of (provider_at all p) c) m h
 
-less_holds : (all : List Provider) (p : ℕ) (c : List ℕ) (m : ℕ) → 0 < m → m ≤ room_on all p c → holds (provider_at all p) c m ≡ true
+pub less_holds : (all : List Provider) (p : ℕ) (c : List ℕ) (m : ℕ) → 0 < m → m ≤ room_on all p c → holds (provider_at all p) c m ≡ true
 less_holds all p c m some h = enough_room (inventory_of (provider_at all p) c) (used_of (provider_at all p) c) m some h
 
 -- ---- One more slot

@@ -1,7 +1,6 @@
 use Rattle.std.proofs.Common.{ℕ, ◌&&◌, arith, append-nil, ◌∙◌}
 use Rattle.std.proofs.lemmas.Grind.{common_steps}
-use Rattle.ac_query.specs.Shown.Queries.{asked_of}
-use Rattle.ac_tables.specs.Cloud.CloudWorld.{providers_of}
+use Rattle.ac_search.specs.Left.Accounts.{providers_in, asked_in}
 use Rattle.ac_rules.specs.Placed.{placed_at, slot_at}
 use Rattle.ac_search.specs.QuerySearch.{fits, has_room_alone}
 use Rattle.ac_search.proofs.Search.OpenLemmas.{choice_more, choice_all}
@@ -10,13 +9,13 @@ use Rattle.ac_search.proofs.choices.slot_choices.Goals.{then-is_choice+in_ok-pus
 
 pub loop-ix-preserved : goal.loop-ix-preserved
 loop-ix-preserved c =
-    let all = providers_of c.args.cloud.now in
-    let asked = asked_of c.args.query.now in
+    let all = providers_in c.args.ledger.now in
+    let asked = asked_in c.args.ledger.now in
     rw (choice_more (λ (p : ℕ). c.args.opens && (fits all (placed_at asked c.args.s p) && has_room_alone all (placed_at asked c.args.s p))) c.loop-ix.ix)
     (elim c.if-is_choice.branch [ then-is_choice+in_ok-push w ↦ grind (arith, common_steps, append-nil) | else-is_choice w ↦ grind (arith, common_steps, append-nil) ])
 
 pub returns : goal.returns
 returns c =
-    let all = providers_of c.args.cloud.now in
-    let asked = asked_of c.args.query.now in
+    let all = providers_in c.args.ledger.now in
+    let asked = asked_in c.args.ledger.now in
     c.loop-ix.invariant ∙ choice_all all asked (slot_at asked c.args.s) c.args.opens c.loop-ix.ix c.requires.opens (omega (arith, c.len-ix-end.ensures))

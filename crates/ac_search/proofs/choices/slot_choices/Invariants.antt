@@ -1,13 +1,12 @@
 use Rattle.std.proofs.Common.{◌≡◌, ℕ, ◌&&◌}
 use Rattle.std.specs.List.{filter, range_with_len}
-use Rattle.ac_query.specs.Shown.Queries.{asked_of}
-use Rattle.ac_tables.specs.Cloud.CloudWorld.{providers_of}
+use Rattle.ac_search.specs.Left.Accounts.{providers_in, asked_in}
 use Rattle.ac_rules.specs.Placed.{placed_at}
 use Rattle.ac_search.specs.QuerySearch.{fits, has_room_alone}
 use Rattle.ac_search.proofs.choices.slot_choices.Given as goal
 
 abbrev pub invariant-loop-ix : goal.invariant-loop-ix
 invariant-loop-ix l =
-    let all = providers_of l.cloud in
-    let asked = asked_of l.query in
+    let all = providers_in l.ledger in
+    let asked = asked_in l.ledger in
     l.choices.items ≡ filter (λ (p : ℕ). l.opens && (fits all (placed_at asked l.s p) && has_room_alone all (placed_at asked l.s p))) (range_with_len 0 l.ix)

@@ -27,16 +27,16 @@ lists_are kept given all same listed = rw same listed
 pub of_slots-requires-clause-few : goal.of_slots-requires-clause-few
 of_slots-requires-clause-few c = λ s h.
     let m = search_of (providers_of c.args.cloud.now) (asked_of c.args.query.now) in
-    kept_few m (is_search (providers_of c.args.cloud.now) (asked_of c.args.query.now)) c.deref.result.now (lists_are c.in_ok-choices.choices.items c.deref.result.now m.choices c.deref.ensures.value c.in_ok-choices.ensures) s h
+    kept_few m (is_search (providers_of c.args.cloud.now) (asked_of c.args.query.now)) c.deref.result.now (lists_are c.in_ok-choices.choices.items c.deref.result.now m.choices c.deref.ensures.value (rw (c.in_ok-ledger.ensures.cloud, c.in_ok-ledger.ensures.query) at c.in_ok-choices.ensures)) s h
 
 pub of_slots-requires-clause-providers : goal.of_slots-requires-clause-providers
 of_slots-requires-clause-providers c = λ s h.
     let m = search_of (providers_of c.args.cloud.now) (asked_of c.args.query.now) in
-    kept_low m (is_search (providers_of c.args.cloud.now) (asked_of c.args.query.now)) c.deref.result.now (lists_are c.in_ok-choices.choices.items c.deref.result.now m.choices c.deref.ensures.value c.in_ok-choices.ensures) s h
+    kept_low m (is_search (providers_of c.args.cloud.now) (asked_of c.args.query.now)) c.deref.result.now (lists_are c.in_ok-choices.choices.items c.deref.result.now m.choices c.deref.ensures.value (rw (c.in_ok-ledger.ensures.cloud, c.in_ok-ledger.ensures.query) at c.in_ok-choices.ensures)) s h
 
 pub host_roots-requires-clause-choices : goal.host_roots-requires-clause-choices
 host_roots-requires-clause-choices c =
-    lists_are c.in_ok-choices.choices.items c.deref-2.result.now _ c.deref-2.ensures.value (rw (c.in_ok-ledger.ensures.cloud, c.in_ok-ledger.ensures.query) c.in_ok-choices.ensures)
+    lists_are c.in_ok-choices.choices.items c.deref-2.result.now _ c.deref-2.ensures.value c.in_ok-choices.ensures
 
 pub invariant_of-result : goal.invariant_of-result
 invariant_of-result c =
@@ -47,10 +47,10 @@ invariant_of-result c =
     let x = option_map (λ t. tokens.ids_of t.now) c.args.after in
     let width = c.count_slots-width.ensures.count in
     let short = least_len all c.count_slots-width.result x in
-    let start = start_is m laws c.in_ok-choices.choices.items c.index.result.now c.deref-4.result.now c.deref-5.result.now c.in_ok-least.least.items c.start_of.result c.in_ok-choices.ensures (omega (arith, c.count_slots-width.ensures.some)) c.index.ensures c.deref-4.ensures.value c.deref-5.ensures.value c.start_of.ensures in
+    let start = start_is m laws c.in_ok-choices.choices.items c.index.result.now c.deref-4.result.now c.deref-5.result.now c.in_ok-least.least.items c.start_of.result (rw (c.in_ok-ledger.ensures.cloud, c.in_ok-ledger.ensures.query) at c.in_ok-choices.ensures) (omega (arith, c.count_slots-width.ensures.some)) c.index.ensures c.deref-4.ensures.value c.deref-5.ensures.value c.start_of.ensures in
     record {
-      listed = rw (c.in_ok-ledger.ensures.cloud, c.in_ok-ledger.ensures.query) c.in_ok-choices.ensures;
-      by_tree = rw (c.in_ok-ledger.ensures.cloud, c.in_ok-ledger.ensures.query) (rw (lists_are c.in_ok-choices.choices.items c.deref.result.now (search_of (providers_of c.args.cloud.now) (asked_of c.args.query.now)).choices c.deref.ensures.value c.in_ok-choices.ensures) at c.in_ok-trees.ensures);
+      listed = c.in_ok-choices.ensures;
+      by_tree = rw (c.in_ok-ledger.ensures.cloud, c.in_ok-ledger.ensures.query) (rw (lists_are c.in_ok-choices.choices.items c.deref.result.now (search_of (providers_of c.args.cloud.now) (asked_of c.args.query.now)).choices c.deref.ensures.value (rw (c.in_ok-ledger.ensures.cloud, c.in_ok-ledger.ensures.query) at c.in_ok-choices.ensures)) at c.in_ok-trees.ensures);
       resumed = rw (c.in_ok-ledger.ensures.cloud, c.in_ok-ledger.ensures.query, ← width, c.in_ok-after.ensures) c.in_ok-least.ensures;
       hosting = c.in_ok-hosts.ensures;
       grouped = c.in_ok-families.ensures;
@@ -71,7 +71,7 @@ returns-clause-left c =
     let x = option_map (λ t. tokens.ids_of t.now) c.args.after in
     let width = c.count_slots-width.ensures.count in
     let some : 0 < m.width = omega (arith, c.count_slots-width.ensures.some) in
-    let start = start_is m laws c.in_ok-choices.choices.items c.index.result.now c.deref-4.result.now c.deref-5.result.now c.in_ok-least.least.items c.start_of.result c.in_ok-choices.ensures some c.index.ensures c.deref-4.ensures.value c.deref-5.ensures.value c.start_of.ensures in
+    let start = start_is m laws c.in_ok-choices.choices.items c.index.result.now c.deref-4.result.now c.deref-5.result.now c.in_ok-least.least.items c.start_of.result (rw (c.in_ok-ledger.ensures.cloud, c.in_ok-ledger.ensures.query) at c.in_ok-choices.ensures) some c.index.ensures c.deref-4.ensures.value c.deref-5.ensures.value c.start_of.ensures in
     let least : c.in_ok-least.least.items ≡ least_of all (length (slots_of asked)) x = c.in_ok-least.ensures ∙ ap (λ (k : ℕ). least_of all k x) width in
     rw (c.in_ok-ledger.ensures.cloud, c.in_ok-ledger.ensures.query) (left_new m laws c.in_ok-least.least.items c.in_ok-path.path.items c.in_ok-places.places.items c.start_of.result (omega (arith, c.in_ok-places.places.ok, c.in_ok-places.ensures.len)) some start
     ∙ (ap (λ (y : List ℕ). sought m y) least ∙ rest_sought all (cloud_in_order c.args.cloud.now).order asked some x))

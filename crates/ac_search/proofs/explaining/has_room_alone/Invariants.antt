@@ -4,7 +4,7 @@ use Rattle.ac_tables.specs.World.{provider_at}
 use Rattle.ac_query.specs.Shown.Groups.{need_entry}
 use Rattle.ac_tables.specs.Cloud.CloudWorld.{providers_of}
 use Rattle.ac_rules.specs.Together.{holds}
-use Rattle.ac_search.proofs.choices.has_room_alone.Given as goal
+use Rattle.ac_search.proofs.explaining.has_room_alone.Given as goal
 
 abbrev pub invariant-loop-need : goal.invariant-loop-need
 invariant-loop-need l =
