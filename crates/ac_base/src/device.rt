@@ -8,6 +8,9 @@ pub mod mem_sink;
 pub mod pushing;
 pub mod to_write;
 
+/// How many interrupted calls of a device in a row are borne.
+pub const MOST_AGAIN: u32 = 1000;
+
 /// What a feed answers.
 #[derive(Clone, Copy, Debug, PartialEq, Eq)]
 pub enum Pull {

@@ -17,7 +17,7 @@ pub use device::mem_feed::MemFeed;
 pub use device::mem_sink::MemSink;
 pub use device::pushing::{WriteFailed, push_all};
 pub use device::to_write::ToWrite;
-pub use device::{Feed, Pull, Push, Sink};
+pub use device::{Feed, MOST_AGAIN, Pull, Push, Sink};
 pub use gathering::Gathering;
 pub use id::Id;
 pub use inventory::Inventory;

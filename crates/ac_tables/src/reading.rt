@@ -3,7 +3,7 @@ ghost use Rattle.std.specs.Prelude.{◌≡◌, ◌≢◌, ◌≤◌, IfOk, Err, 
 ghost use Rattle.ac_base.specs.Devices.{IsGivenUp, Rises};
 ghost use Rattle.ac_tables.specs.Drain.{AllBytes, AreTooMany, most_bytes};
 
-use ac_base::{Feed, Pull};
+use ac_base::{Feed, MOST_AGAIN, Pull};
 use std::alloc::{AllocError, Global};
 use thiserror::Error;
 
@@ -36,9 +36,6 @@ const MOST_BYTES: usize = 67_108_864;
 
 /// How many bytes are asked for at once.
 const PIECE: usize = 65_536;
-
-/// How many interrupted calls in a row are borne.
-const MOST_AGAIN: u32 = 1000;
 
 /// Reads a feed to its end. A refusal loses what came, and says nothing of what the feed still gives.
 #[tactic(auto, using(ac_base::proofs::Known::consumes_keeps))]

@@ -3,14 +3,11 @@ ghost use Rattle.std.specs.Prelude.{◌≡◌, ◌≤◌, OnOk, OnErr};
 ghost use Rattle.std.specs.Io.KnownBytes.{Appends};
 ghost use Rattle.ac_base.specs.Devices.{IsGivenUp, Rises, TakesPart};
 
-use crate::device::{Push, Sink};
+use crate::device::{MOST_AGAIN, Push, Sink};
 
 /// The device failed, or was interrupted more often in a row than is borne.
 #[derive(Clone, Copy, Debug, PartialEq, Eq)]
 pub struct WriteFailed;
-
-/// How many interrupted calls in a row are borne.
-const MOST_AGAIN: u32 = 1000;
 
 /// Pushes a whole piece. After a fault the sink has taken a first part of it.
 #[tactic(auto, using(crate::proofs::Leaving::leaves_start, crate::proofs::Leaving::leaves_keeps, crate::proofs::Leaving::leaves_takes, crate::proofs::Leaving::leaves_none, crate::proofs::Leaving::leaves_part))]
