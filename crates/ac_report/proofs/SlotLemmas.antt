@@ -4,6 +4,7 @@ use Rattle.std.specs.Prelude.{nat_eq, slice_index_or}
 use Rattle.std.specs.BTreeSet.{insert_key}
 use Rattle.std.specs.List.{All, filter, list_any}
 use Rattle.std.proofs.lemmas.List.{length-map}
+use Rattle.std.proofs.lemmas.List.Folds.{list_any-append}
 use Rattle.std.proofs.lemmas.List.Sums.{sum_by-cons}
 use Rattle.std.proofs.lemmas.Map.Views.{All-insert_key}
 use Rattle.ac_query.specs.declared.group.Need.{Need}
@@ -57,6 +58,10 @@ amount_if q false needs = refl
 pub amount_more : (ss : List Slot) (t : List ℕ) (i ix : ℕ) (q : List ℕ) → i < length t → i < length ss
     → amount_of (needs_on (placed (drop i ss) (drop i t)) ix) q ≡ amount_of (needs_in ss t i ix) q + amount_of (needs_on (placed (drop (i + 1) ss) (drop (i + 1) t)) ix) q
 amount_more ss t i ix q h k = ap (λ needs. amount_of needs q) (needs_more ss t i ix h k) ∙ amount_append q (needs_in ss t i ix) _
+
+pub asked_more : (ss : List Slot) (t : List ℕ) (i ix : ℕ) (test : List ℕ × ℕ → Bool) → i < length t → i < length ss
+    → list_any test (needs_on (placed (drop i ss) (drop i t)) ix) ≡ (list_any test (needs_in ss t i ix) || list_any test (needs_on (placed (drop (i + 1) ss) (drop (i + 1) t)) ix))
+asked_more ss t i ix test h k = ap (list_any test) (needs_more ss t i ix h k) ∙ list_any-append test (needs_in ss t i ix) _
 
 -- what is needed of a provider, class by class
 pub sum_on_is : (xs : List Placed) (ix : ℕ) (q : List ℕ) → sum_on xs ix q ≡ amount_of (needs_on xs ix) q

@@ -2,6 +2,7 @@
 pub mod Finding
 pub mod FindingSums
 pub mod Gathering
+pub mod Once
 pub mod Listed
 pub mod PlainTrees
 pub mod Marking

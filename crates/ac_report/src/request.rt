@@ -1,23 +1,23 @@
 //! The allocation request of a candidate, as JSON.
-ghost use Rattle.std.specs.Prelude.{◌≡◌, ◌<◌, IfOk, OnOk, if◌then◌else◌, map, length, string_bytes};
+ghost use Rattle.std.specs.Prelude.{◌≡◌, ◌+◌, ◌<◌, IfOk, OnOk, if◌then◌else◌, map, length, string_bytes};
 ghost use Rattle.std.specs.List.{All};
 ghost use Rattle.serde_json.specs.Data.{put};
 ghost use Rattle.serde_json.specs.View.{view, members_view};
 ghost use Rattle.ac_query.specs.Asked.{slots_of};
-ghost use Rattle.ac_query.specs.Shown.Groups.{need_entry, group_entry};
+ghost use Rattle.ac_query.specs.Shown.Groups.{group_entry};
 ghost use Rattle.ac_query.specs.Shown.Queries.{asked_of};
 ghost use Rattle.ac_rules.specs.Placed.{assigned};
 ghost use Rattle.ac_tables.specs.Cloud.CloudWorld.{providers_of};
 ghost use Rattle.ac_report.specs.Pages.{IsAssignment};
 ghost use Rattle.ac_query.specs.Laws.InOrder.{group_name};
-ghost use Rattle.ac_report.specs.Parts.{gathered_onto};
-ghost use Rattle.ac_report.specs.Trees.{gives, provider_text, texts, sum, allocation, allocations, mappings, request};
+ghost use Rattle.ac_report.specs.Parts.{gathered_onto, sums_from};
+ghost use Rattle.ac_report.specs.Trees.{gives, provider_text, texts, allocation, allocations, mappings, request};
 ghost use Rattle.ac_report.specs.Texts.{request_text};
 
 use crate::ids::{id_string, id_value};
-use crate::serving::{all_hosts, gives, hosts_of, needs_of, sum_on};
+use crate::serving::{all_hosts, gives, hosts_of, is_needed_from, needs_of, sum_on};
 use ac_base::NoMemory;
-use ac_query::{Group, Need, Query};
+use ac_query::{Group, Query};
 use ac_rules::slots::count_slots;
 use ac_tables::Cloud;
 use serde_json::{Map, Value, json};
@@ -69,23 +69,27 @@ fn mappings_value(
     Ok(Value::Object(members))
 }
 
-// Adds the classes of some needs, each with the sum of all that is needed of a provider.
+// Adds the classes that a slot needs of a provider, each with the sum of all that is needed of it. What a later slot needs too is left to that slot, so that each sum is made once.
 #[tactic(auto, unfolding(crate::specs::Trees::sum))]
 fn put_sums(
     alloc: Global,
     query: &Query,
     list: &[u32],
+    s: usize,
     provider: u32,
-    needs: &[Need],
     members: &mut Map<String, Value>,
 ) -> Result<(), AllocError>
-    requires { length list.now ≡ length (slots_of (asked_of query.now)) }
-    ensures { OnOk result (members_view members.new.entries
+    requires slots { length list.now ≡ length (slots_of (asked_of query.now)) }
+    requires slot { s < length (slots_of (asked_of query.now)) }
+    ensures { OnOk result (gathered_onto (members_view members.new.entries)
+        (sums_from (asked_of query.now) list.now provider (s + 1))
         ≡ gathered_onto (members_view members.old.entries)
-        (map (sum (assigned (asked_of query.now) list.now) provider)
-        (map need_entry needs.now))) }
+        (sums_from (asked_of query.now) list.now provider s)) }
 {
-    for need in needs {
+    for need in needs_of(query, list, s, provider) {
+        if is_needed_from(query, list, s + 1, provider, need.class()) {
+            continue;
+        }
         let sum = sum_on(query, list, provider, need.class());
         serde_json::put(members, alloc, need.class().text(), Value::from(sum))?;
     }
@@ -106,8 +110,7 @@ fn allocation_value(
 {
     let mut sums = Map::new(alloc);
     for s in 0..count_slots(query) {
-        let needs = needs_of(query, list, s, provider);
-        put_sums(alloc, query, list, provider, needs, &mut sums)?;
+        put_sums(alloc, query, list, s, provider, &mut sums)?;
     }
     json!(in alloc; {"resources": Value::Object(sums)})
 }

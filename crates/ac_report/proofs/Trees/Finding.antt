@@ -24,7 +24,7 @@ abbrev pub find : List ℕ → Members → Option Data
 find q no_members = None
 find q (member k d ms) = if bytes_eq q k then Some d else find q ms
 
-same_text : (k l : List ℕ) → text_cmp k l ≡ Equal → k ≡ l
+pub same_text : (k l : List ℕ) → text_cmp k l ≡ Equal → k ≡ l
 same_text k l e = (bytes_eq-Decides k l).0 (sym (is_eq-slice_cmp k l) ∙ ap is_eq e)
 
 swapped : (b c : Bool) (x y rest : Option Data) → (b ≡ true → c ≡ true → ⊥) → (if c then y else (if b then x else rest)) ≡ (if b then x else (if c then y else rest))
