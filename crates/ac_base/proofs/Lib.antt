@@ -8,3 +8,5 @@ pub mod Decimals
 pub mod Ratios
 pub mod OldRatiosKept
 pub mod Gathers
+pub mod Small
+pub mod Sorted

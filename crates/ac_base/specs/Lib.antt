@@ -8,3 +8,4 @@ pub mod RatioShown
 pub mod OldRatios
 pub mod Laws
 pub mod Gathered
+pub mod Sorted

@@ -4,7 +4,6 @@ pub mod Fronts
 pub mod Choices
 pub mod Checks
 pub mod Slots
-pub mod Locating
 pub mod Wholes
 pub mod WrittenIds
 pub mod SlotCounts

@@ -6,7 +6,7 @@ use Rattle.std.specs.List.{AllByRecursion, filter, slice_get}
 use Rattle.std.specs.Option.{option_and_then, option_map}
 use Rattle.std.specs.List.Sorted.{IsStrictlySortedBy}
 use Rattle.ac_base.specs.Texts.{text_cmp, id_value, name_value, suffix_value}
-use Rattle.ac_tables.specs.Sorted.{TextMap, map_of}
+use Rattle.ac_base.specs.Sorted.{TextMap, map_of}
 use Rattle.ac_query.specs.declared.version.Version.{Version}
 use Rattle.ac_query.specs.Texts.{behind, has_text, in_byte_order, items_of}
 use Rattle.ac_query.specs.Pairs.Values.{Traits, ids_value, names_value, need_value, needs_value, subtree_value, traits_value}

@@ -7,5 +7,4 @@ pub mod Faults
 pub mod Shown
 pub mod Tokens
 pub mod Laws
-pub mod Located
 pub mod Jobs

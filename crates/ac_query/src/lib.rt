@@ -7,7 +7,6 @@ pub mod fault;
 pub mod group;
 pub mod job;
 pub mod laws;
-pub mod locate;
 pub mod query;
 mod reading;
 pub mod slot;

@@ -1,7 +1,8 @@
 //! What queries and tokens are read as, and which fault is told of those that are refused.
 use ac_base::{Id, Suffix, TraitName};
 use ac_query::{Group, Need, Query, QueryFault, Token, TokenFault, Version, write_ids};
-use ac_tables::{Cloud, Sources};
+use ac_rules::InCloud;
+use ac_tables::{Cloud, FromTables, Sources};
 use std::alloc::{AllocError, Global};
 use std::test::Fail;
 

@@ -15,10 +15,10 @@ use Rattle.ac_query.specs.Laws.InOrder.{AreNeeds, IsFirstPlain}
 use Rattle.ac_query.proofs.Pairs.Ordered.{query_in_order}
 use Rattle.ac_rules.specs.Placed.{Placed, placed, assigned}
 use Rattle.ac_rules.specs.Together.{sum_on}
-use Rattle.ac_tables.specs.Laws.{AreProviders}
+use Rattle.ac_cloud.specs.Laws.{AreProviders}
 use Rattle.ac_tables.specs.Tables.{world_stated}
-use Rattle.ac_tables.specs.World.{Provider}
-use Rattle.ac_tables.specs.Sorted.{rising}
+use Rattle.ac_cloud.specs.World.{Provider}
+use Rattle.ac_base.specs.Sorted.{rising}
 use Rattle.ac_tables.proofs.ProvidersStated.{providers_in_order}
 use Rattle.ac_report.specs.Laws.{RequestsDiffer, StatedRequestsDiffer}
 use Rattle.ac_report.specs.Trees.{gathered, gives, hosts, allocations, mappings, mappings_from, provider_text, request}

@@ -6,10 +6,10 @@ use Rattle.std.proofs.lemmas.Bool.{eqb-true, eq-eqb, ne_eqb}
 use Rattle.ac_query.specs.Asked.{Group, slots_from, class_slot, suffix_slot}
 use Rattle.ac_rules.specs.Placed.{Placed, placed}
 use Rattle.ac_rules.specs.Together.{amount_of, sum_on}
-use Rattle.ac_tables.specs.Sorted.{rising}
+use Rattle.ac_base.specs.Sorted.{rising}
 use Rattle.ac_query.specs.Laws.InOrder.{AreApart, AreSuffixed}
 use Rattle.ac_report.specs.Trees.{hosts}
-use Rattle.ac_tables.specs.Reader.RecordLaws.{eq_turned}
+use Rattle.ac_base.proofs.Small.{eq_turned}
 use Rattle.ac_report.proofs.Trees.Gathering.{bytes_eq_refl}
 
 -- the groups from place i on have slots of their own places

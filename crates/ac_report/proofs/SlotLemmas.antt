@@ -13,7 +13,7 @@ use Rattle.ac_query.specs.Shown.Groups.{need_entry}
 use Rattle.ac_rules.specs.Placed.{Placed, placed, no_slot}
 use Rattle.ac_rules.specs.Together.{amount_of, sum_on, is_empty}
 use Rattle.ac_rules.proofs.PlacedLemmas.{placed_more}
-use Rattle.ac_tables.specs.Sorted.{rising}
+use Rattle.ac_base.specs.Sorted.{rising}
 use Rattle.ac_report.specs.Trees.{gives, hosts, needs_on}
 
 -- a slot needs no more than all slots

@@ -1,8 +1,8 @@
 -- What holds of pages.
 use Rattle.std.specs.Prelude.{◌≡◌, ℕ, List}
-use Rattle.ac_tables.specs.Laws.{AreProviders}
+use Rattle.ac_cloud.specs.Laws.{AreProviders}
 use Rattle.ac_tables.specs.Tables.{Tables, world_stated}
-use Rattle.ac_tables.specs.World.{Provider}
+use Rattle.ac_cloud.specs.World.{Provider}
 use Rattle.ac_query.specs.declared.version.Version.{Version}
 use Rattle.ac_query.specs.Asked.{Asked}
 use Rattle.ac_query.specs.Laws.Gathered.{asked_by}

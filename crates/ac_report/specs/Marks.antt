@@ -1,7 +1,7 @@
 -- The parts of a body, as private clauses speak of them: texts of some requests and summaries, and marks of roots.
 use Rattle.std.specs.Prelude.{◌≡◌, ◌<◌, ◌==◌, ℕ, Bool, false, List, map, length, slice_index_or}
 use Rattle.std.specs.List.{list_any}
-use Rattle.ac_tables.specs.World.{Provider, id_at, root_of}
+use Rattle.ac_cloud.specs.World.{Provider, id_at, root_of}
 use Rattle.ac_query.specs.Asked.{Asked}
 use Rattle.ac_report.specs.Texts.{request_text, summary_piece, with_commas, joined, meets_root}
 

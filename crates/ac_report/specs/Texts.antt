@@ -4,7 +4,7 @@ use Rattle.std.specs.List.{filter, flat_map, list_any, range_with_len}
 use Rattle.serde_json.specs.Data.{Data, array, object, string, no_members, member}
 use Rattle.serde_json.specs.View.{items_of}
 use Rattle.serde_json.specs.Written.{compact_text, comma_if}
-use Rattle.ac_tables.specs.World.{Provider, id_at, root_of}
+use Rattle.ac_cloud.specs.World.{Provider, id_at, root_of}
 use Rattle.ac_query.specs.Asked.{Asked}
 use Rattle.ac_query.specs.Tokens.{ids_text}
 use Rattle.ac_rules.specs.Pages.{ids_of}

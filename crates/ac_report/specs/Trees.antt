@@ -6,8 +6,8 @@ use Rattle.serde_json.specs.Data.{Data, null, number, unsigned, string, array, o
 use Rattle.serde_json.specs.View.{items_of}
 use Rattle.ac_base.specs.Texts.{id_text}
 use Rattle.ac_base.specs.Quantities.{capacity}
-use Rattle.ac_tables.specs.Sorted.{rising}
-use Rattle.ac_tables.specs.World.{UsedInventory, Provider, provider_at, id_at, parent_of, root_of}
+use Rattle.ac_base.specs.Sorted.{rising}
+use Rattle.ac_cloud.specs.World.{UsedInventory, Provider, provider_at, id_at, parent_of, root_of}
 use Rattle.ac_query.specs.Asked.{Group, Asked}
 use Rattle.ac_query.specs.Laws.InOrder.{group_name}
 use Rattle.ac_rules.specs.Placed.{Placed, assigned}

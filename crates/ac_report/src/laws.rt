@@ -1,8 +1,8 @@
 //! What holds of pages: each function's contract is a law, and no program calls it.
 
 ghost use Rattle.std.specs.Prelude.{ℕ, List};
-ghost use Rattle.ac_tables.specs.Laws.{AreProviders};
-ghost use Rattle.ac_tables.specs.World.{Provider};
+ghost use Rattle.ac_cloud.specs.Laws.{AreProviders};
+ghost use Rattle.ac_cloud.specs.World.{Provider};
 ghost use Rattle.ac_query.specs.Asked.{Asked};
 ghost use Rattle.ac_report.specs.Laws.{IsInPieces, RequestsDiffer, StatedRequestsDiffer};
 

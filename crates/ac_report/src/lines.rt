@@ -6,7 +6,7 @@ ghost use Rattle.ac_base.specs.Devices.{Rises, TakesPart};
 ghost use Rattle.ac_query.specs.Shown.Queries.{asked_of};
 ghost use Rattle.ac_query.specs.Tokens.{ids_text, part_text};
 ghost use Rattle.ac_rules.specs.Pages.{cut, ids_of};
-ghost use Rattle.ac_tables.specs.Cloud.CloudWorld.{providers_of};
+ghost use Rattle.ac_cloud.specs.Cloud.CloudWorld.{providers_of};
 ghost use Rattle.ac_report.specs.Texts.{line, lines};
 ghost use Rattle.ac_report.specs.Pages.{IsAssignment, LosesSome, TakesWhole, behind};
 
@@ -14,7 +14,7 @@ use crate::fault::PageFault;
 use ac_base::{Id, NoMemory, Sink, push_all};
 use ac_query::Query;
 use ac_rules::Source;
-use ac_tables::Cloud;
+use ac_cloud::Cloud;
 use std::alloc::Global;
 
 // Whether no further list is wanted.

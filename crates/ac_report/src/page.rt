@@ -4,8 +4,8 @@ ghost use Rattle.std.specs.List.{All};
 ghost use Rattle.std.specs.Io.KnownBytes.{Appends};
 ghost use Rattle.serde_json.specs.Written.{comma_if};
 ghost use Rattle.ac_base.specs.Devices.{Rises, TakesPart};
-ghost use Rattle.ac_tables.specs.Cloud.CloudWorld.{providers_of};
-ghost use Rattle.ac_tables.specs.World.{id_at};
+ghost use Rattle.ac_cloud.specs.Cloud.CloudWorld.{providers_of};
+ghost use Rattle.ac_cloud.specs.World.{id_at};
 ghost use Rattle.ac_query.specs.Shown.Queries.{asked_of};
 ghost use Rattle.ac_rules.specs.Pages.{cut};
 ghost use Rattle.ac_report.specs.Marks.{IsMarked, has_root, requests_text, summaries_text};
@@ -19,7 +19,7 @@ use crate::summary::summary_piece;
 use ac_base::{Sink, WriteFailed, push_all};
 use ac_query::Query;
 use ac_rules::Source;
-use ac_tables::Cloud;
+use ac_cloud::Cloud;
 use std::alloc::{AllocError, Global};
 
 // Pushes a text, after a comma where something stands before.

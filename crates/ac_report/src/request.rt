@@ -7,7 +7,7 @@ ghost use Rattle.ac_query.specs.Asked.{slots_of};
 ghost use Rattle.ac_query.specs.Shown.Groups.{group_entry};
 ghost use Rattle.ac_query.specs.Shown.Queries.{asked_of};
 ghost use Rattle.ac_rules.specs.Placed.{assigned};
-ghost use Rattle.ac_tables.specs.Cloud.CloudWorld.{providers_of};
+ghost use Rattle.ac_cloud.specs.Cloud.CloudWorld.{providers_of};
 ghost use Rattle.ac_report.specs.Pages.{IsAssignment};
 ghost use Rattle.ac_query.specs.Laws.InOrder.{group_name};
 ghost use Rattle.ac_report.specs.Parts.{gathered_onto, sums_from};
@@ -19,7 +19,7 @@ use crate::serving::{all_hosts, gives, hosts_of, is_needed_from, needs_of, sum_o
 use ac_base::NoMemory;
 use ac_query::{Group, Query};
 use ac_rules::slots::count_slots;
-use ac_tables::Cloud;
+use ac_cloud::Cloud;
 use serde_json::{Map, Value, json};
 use std::alloc::{AllocError, Global};
 

@@ -2,15 +2,15 @@
 ghost use Rattle.std.specs.Prelude.{◌≡◌, ◌<◌, IfOk, map, length, string_bytes};
 ghost use Rattle.serde_json.specs.View.{view};
 ghost use Rattle.ac_base.specs.Names.{trait_bytes};
-ghost use Rattle.ac_tables.specs.World.{id_at, parent_of};
-ghost use Rattle.ac_tables.specs.Cloud.CloudWorld.{providers_of};
-ghost use Rattle.ac_tables.specs.Cloud.Entries.{entry_pair};
+ghost use Rattle.ac_cloud.specs.World.{id_at, parent_of};
+ghost use Rattle.ac_cloud.specs.Cloud.CloudWorld.{providers_of};
+ghost use Rattle.ac_cloud.specs.Cloud.Entries.{entry_pair};
 ghost use Rattle.ac_report.specs.Trees.{id_or_null, texts, holdings, summary};
 ghost use Rattle.ac_report.specs.Texts.{summary_piece, summary_text};
 
 use crate::ids::{id_value, quoted_id};
 use ac_base::{Id, NoMemory, TraitName};
-use ac_tables::{Cloud, Entry};
+use ac_cloud::{Cloud, Entry};
 use serde_json::{Map, Value, json};
 use std::alloc::{AllocError, Global};
 

@@ -4,3 +4,4 @@ pub mod Elements
 pub mod PlacedLemmas
 pub mod SlotLemmas
 pub mod PlaceLemmas
+pub mod Locating

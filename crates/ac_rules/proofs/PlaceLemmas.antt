@@ -3,7 +3,7 @@ use Rattle.std.proofs.Common.{◌≡◌, ◌≢◌, ◌==◌, ℕ, ◌+◌, ◌-
 use Rattle.std.specs.List.{position_from}
 use Rattle.std.specs.Option.{is_some}
 use Rattle.std.proofs.lemmas.Bool.{cases_Bool, cases_eq, eqb-true, eq-eqb, ne_eqb}
-use Rattle.ac_tables.specs.World.{Provider, provider_at, is_member, id_at, place_of, is_provider, root_of}
+use Rattle.ac_cloud.specs.World.{Provider, provider_at, is_member, id_at, place_of, is_provider, root_of}
 use Rattle.ac_rules.specs.Laws.{AreInOrder}
 use Rattle.ac_rules.specs.Placed.{Placed}
 use Rattle.ac_rules.specs.Own.{counts_in, tree_fits}

@@ -2,7 +2,7 @@
 use Rattle.std.specs.Prelude.{◌≡◌, ◌<◌, ◌+◌, ℕ, true, false, List, [], ◌∷◌, ◌++◌, map, length, Option, Some, None, ◌≢◌, ◌↔◌, slice_index_or}
 use Rattle.std.specs.List.{AllByRecursion}
 use Rattle.ac_query.specs.Asked.{Asked, slots_of, is_isolated}
-use Rattle.ac_tables.specs.World.{Provider, provider_at, id_at}
+use Rattle.ac_cloud.specs.World.{Provider, provider_at, id_at}
 use Rattle.ac_rules.specs.Order.{lex_lt}
 use Rattle.ac_rules.specs.Lists.{IsListBelow, IsRising}
 use Rattle.ac_rules.specs.Placed.{Placed}

@@ -9,3 +9,4 @@ pub mod Judge
 pub mod Pages
 pub mod Odometer
 pub mod Laws
+pub mod Located

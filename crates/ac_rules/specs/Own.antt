@@ -5,7 +5,7 @@ use Rattle.std.specs.Option.{is_none, is_some, option_map, unwrap_or}
 use Rattle.ac_base.specs.Quantities.{InventoryNumbers, units}
 use Rattle.ac_query.specs.Pairs.Values.{AggregateRule}
 use Rattle.ac_query.specs.Asked.{Group}
-use Rattle.ac_tables.specs.World.{Provider, provider_at, place_of, root_of, entry_in, has_trait, is_member}
+use Rattle.ac_cloud.specs.World.{Provider, provider_at, place_of, root_of, entry_in, has_trait, is_member}
 use Rattle.ac_rules.specs.Placed.{Placed}
 
 -- ---- Units

@@ -5,7 +5,7 @@ use Rattle.std.specs.Option.{is_none, is_some}
 use Rattle.std.specs.Str.{bytes_eq}
 use Rattle.ac_base.specs.Quantities.{InventoryNumbers, capacity}
 use Rattle.ac_query.specs.Asked.{Asked, Group, Slot, is_isolated, lists_suffix}
-use Rattle.ac_tables.specs.World.{Provider, provider_at, id_at, used_of, has_trait, is_root, is_above, is_available_at}
+use Rattle.ac_cloud.specs.World.{Provider, provider_at, id_at, used_of, has_trait, is_root, is_above, is_available_at}
 use Rattle.ac_rules.specs.Placed.{Placed}
 use Rattle.ac_rules.specs.Own.{inventory_of, has_all, has_any, has_none}
 

@@ -1,7 +1,7 @@
 //! The verdict on one list of providers.
 ghost use Rattle.std.specs.Prelude.{◌≡◌, ◌<◌, length};
 ghost use Rattle.std.specs.List.{All};
-ghost use Rattle.ac_tables.specs.Cloud.CloudWorld.{providers_of};
+ghost use Rattle.ac_cloud.specs.Cloud.CloudWorld.{providers_of};
 ghost use Rattle.ac_query.specs.Asked.{slots_of};
 ghost use Rattle.ac_query.specs.Shown.Queries.{asked_of};
 ghost use Rattle.ac_rules.specs.Judge.{judge, is_candidate};
@@ -12,7 +12,7 @@ use crate::rules::sums::have_room;
 use crate::rules::whole::{are_collective, are_isolated, have_tops};
 use crate::verdict::{Rule, Verdict};
 use ac_query::Query;
-use ac_tables::Cloud;
+use ac_cloud::Cloud;
 
 /// The verdict on one list of providers, a place for each slot: the first rule, in their order, that it breaks at any
 /// place. It takes no memory.

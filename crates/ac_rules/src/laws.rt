@@ -2,7 +2,7 @@
 
 ghost use Rattle.std.specs.Prelude.{List};
 ghost use Rattle.ac_query.specs.Asked.{Asked};
-ghost use Rattle.ac_tables.specs.World.{Provider};
+ghost use Rattle.ac_cloud.specs.World.{Provider};
 ghost use Rattle.ac_rules.specs.Laws.{AreInOrder, PrefixOpen, PagesJoin, RestBegins, JudgesCandidates, SumsSayFull, IsolateSaysApart};
 
 /// Each front of a candidate is open, so a search that leaves what isn't open loses none.

@@ -6,6 +6,7 @@
 
 pub mod judging;
 pub mod laws;
+pub mod located;
 pub mod plain;
 pub mod rules;
 pub mod slots;
@@ -13,6 +14,7 @@ pub mod source;
 pub mod verdict;
 
 pub use judging::verify;
+pub use located::InCloud;
 pub use plain::Plain;
 pub use source::Source;
 pub use verdict::{Rule, Verdict};

@@ -3,7 +3,7 @@ ghost use Rattle.std.specs.Prelude.{◌≡◌, ◌<◌, ◌&&◌, length, [], �
 ghost use Rattle.std.specs.Bool.{MatchBool};
 ghost use Rattle.std.specs.Option.{option_map};
 ghost use Rattle.std.specs.List.{All};
-ghost use Rattle.ac_tables.specs.Cloud.CloudWorld.{providers_of};
+ghost use Rattle.ac_cloud.specs.Cloud.CloudWorld.{providers_of};
 ghost use Rattle.ac_query.specs.Asked.{slots_of};
 ghost use Rattle.ac_query.specs.Shown.Queries.{asked_of};
 ghost use Rattle.ac_query.specs.Tokens as tokens;
@@ -22,7 +22,7 @@ use crate::slots::count_slots;
 use crate::source::Source;
 use ac_base::{Id, NoMemory};
 use ac_query::{Query, Token};
-use ac_tables::Cloud;
+use ac_cloud::Cloud;
 use std::alloc::Global;
 
 /// Goes through all lists of providers in order, and gives those that are candidates.

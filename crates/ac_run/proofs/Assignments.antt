@@ -11,8 +11,8 @@ use Rattle.ac_rules.specs.Judge.{is_candidate}
 use Rattle.ac_rules.specs.Lists.{all_lists}
 use Rattle.ac_rules.specs.Pages.{candidates, is_after, rest}
 use Rattle.ac_rules.proofs.PlaceLemmas.{found_within}
-use Rattle.ac_query.specs.Located.{places_of}
-use Rattle.ac_tables.specs.World.{Provider, place_of}
+use Rattle.ac_rules.specs.Located.{places_of}
+use Rattle.ac_cloud.specs.World.{Provider, place_of}
 
 kept : (P : List ℕ → Type 0) (test : List ℕ → Bool) (lists : List (List ℕ)) → Each P lists → Each P (filter test lists)
 kept P test lists h = each_weaker (λ t. (test t ≡ true) × P t) P (filter test lists) (λ t q. q.1) (each_filter P test lists h)

@@ -1,7 +1,7 @@
 -- What is known of the answer once the tables were read.
 use Rattle.std.proofs.Common.{◌≡◌, ◌∙◌, ℕ, List, Option, Some, None, refl, sym, ap, subst}
 use Rattle.ac_tables.specs.Tables.{tables_fault, world_stated}
-use Rattle.ac_tables.specs.World.{World}
+use Rattle.ac_cloud.specs.World.{World}
 use Rattle.ac_tables.specs.declared.fault.Table.{Table}
 use Rattle.ac_tables.specs.declared.fault.TableFault.{TableFault}
 use Rattle.ac_tables.specs.declared.fault.TableFault.TheVariants as fault

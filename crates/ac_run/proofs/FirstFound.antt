@@ -7,7 +7,7 @@ use Rattle.ac_rules.proofs.Elements.{each_all, filter_all}
 use Rattle.ac_rules.specs.Lists.{head_of}
 use Rattle.ac_rules.specs.Pages.{candidates, is_after, rest}
 use Rattle.ac_rules.specs.Together.{is_empty}
-use Rattle.ac_tables.specs.World.{Provider}
+use Rattle.ac_cloud.specs.World.{Provider}
 use Rattle.ac_run.specs.Explanation.{has_candidate}
 
 -- without a token all candidates are left

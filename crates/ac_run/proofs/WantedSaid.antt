@@ -1,7 +1,7 @@
 -- What each command says of a query and a token that were read, and of those that were refused.
 use Rattle.std.proofs.Common.{◌≡◌, ◌∙◌, ℕ, List, Option, Some, refl, ap}
 use Rattle.ac_query.specs.Asked.{Asked}
-use Rattle.ac_tables.specs.World.{World}
+use Rattle.ac_cloud.specs.World.{World}
 use Rattle.ac_run.specs.Answer.{Says, Task, answer_in, explanation, page_body, page_lines, past_query, verdict_line}
 use Rattle.ac_run.specs.Jobs.{ExplainsAsked, ExplainsWanted}
 use Rattle.ac_run.specs.declared.refusal.Refusal.{Refusal}

@@ -6,13 +6,13 @@ use Rattle.ac_tables.specs.Tables.AggregateTable.{aggregate_columns}
 use Rattle.ac_tables.specs.Tables.TraitTable.{trait_columns}
 use Rattle.ac_tables.specs.Tables.UsageTable.{usage_columns}
 use Rattle.ac_tables.specs.Tables.{Tables, records_or_header, tables_fault, world_stated}
-use Rattle.ac_tables.specs.World.{World, Provider}
+use Rattle.ac_cloud.specs.World.{World, Provider}
 use Rattle.ac_tables.specs.declared.fault.TableFault.{TableFault}
 use Rattle.ac_tables.specs.declared.fault.TableFault.TheVariants as fault
 use Rattle.ac_query.specs.declared.version.Version.{Version}
 use Rattle.ac_query.specs.Asked.{Asked}
 use Rattle.ac_query.specs.Faults.{query_fault}
-use Rattle.ac_query.specs.Located.{places_of}
+use Rattle.ac_rules.specs.Located.{places_of}
 use Rattle.ac_query.specs.Laws.Gathered.{asked_by}
 use Rattle.ac_query.specs.Pairs.{pairs_of}
 use Rattle.ac_query.specs.Tokens.{token_fault}

@@ -1,7 +1,7 @@
 -- What a job asks, and why it is refused.
 use Rattle.std.specs.Prelude.{◌≡◌, length, Option, Some, None, ⊤}
 use Rattle.std.specs.Option.{option_map}
-use Rattle.ac_tables.specs.World.{World}
+use Rattle.ac_cloud.specs.World.{World}
 use Rattle.ac_query.specs.Asked.{slots_of}
 use Rattle.ac_query.specs.Faults.{Fault}
 use Rattle.ac_query.specs.Shown.Faults.{fault_shown}

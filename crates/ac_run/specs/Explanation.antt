@@ -3,7 +3,7 @@ use Rattle.std.specs.Prelude.{ℕ, ◌+◌, Bool, true, false, not, List, [], �
 use Rattle.std.specs.Fmt.{decimal}
 use Rattle.std.specs.List.{flat_map, range_with_len}
 use Rattle.ac_query.specs.Asked.{Asked, Slot, slots_of}
-use Rattle.ac_tables.specs.World.{Provider}
+use Rattle.ac_cloud.specs.World.{Provider}
 use Rattle.ac_search.specs.Explained.{SlotCounts, TreeCounts, slot_counts, tree_counts}
 use Rattle.ac_rules.specs.Pages.{candidates}
 use Rattle.ac_rules.specs.Placed.{slot_at}

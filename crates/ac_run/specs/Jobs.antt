@@ -1,7 +1,7 @@
 -- Jobs as tasks, and why what they ask is refused.
 use Rattle.std.specs.Prelude.{◌≡◌, ⊤}
 use Rattle.std.specs.Option.{option_map}
-use Rattle.ac_tables.specs.World.{World}
+use Rattle.ac_cloud.specs.World.{World}
 use Rattle.ac_run.specs.Answer.{Says, Task, answer_in, past_query, refused}
 use Rattle.ac_run.specs.Refusals.{line_of}
 use Rattle.ac_run.specs.declared.refusal.Refusal.{Refusal}

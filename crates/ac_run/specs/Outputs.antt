@@ -1,7 +1,7 @@
 -- The small outputs: the counts of the tables, and the verdict on a list.
 use Rattle.std.specs.Prelude.{ℕ, List, [], ◌∷◌, codes}
 use Rattle.std.specs.Fmt.{decimal}
-use Rattle.ac_tables.specs.World.{Sizes}
+use Rattle.ac_cloud.specs.World.{Sizes}
 use Rattle.ac_rules.specs.declared.verdict.Rule.{Rule}
 use Rattle.ac_rules.specs.declared.verdict.Rule.TheVariants as rule
 use Rattle.ac_rules.specs.declared.verdict.Verdict.{Verdict}

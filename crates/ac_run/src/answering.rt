@@ -2,7 +2,7 @@
 ghost use Rattle.std.specs.Prelude.{◌≡◌, ◌≤◌, IfOk, OnErr, Err, Some, None, length};
 ghost use Rattle.std.specs.Option.{option_map};
 ghost use Rattle.ac_base.specs.Devices.{Rises, TakesPart};
-ghost use Rattle.ac_tables.specs.Cloud.CloudWorld.{providers_of, world_of};
+ghost use Rattle.ac_cloud.specs.Cloud.CloudWorld.{providers_of, world_of};
 ghost use Rattle.ac_query.specs.Asked.{slots_of};
 ghost use Rattle.ac_query.specs.Shown.Queries.{asked_of};
 ghost use Rattle.ac_query.specs.Tokens.{ids_of};
@@ -18,7 +18,7 @@ use crate::outputs::{push_counts, verdict_status, verdict_text};
 use ac_base::{NoMemory, Sink, push_all};
 use ac_query::{Query, Token};
 use ac_report::{PageFault, write_page, write_tokens};
-use ac_rules::verify;
+use ac_rules::{InCloud, verify};
 use ac_search::{Walk, tree_counts};
 use ac_tables::Cloud;
 use std::alloc::Global;

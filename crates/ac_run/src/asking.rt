@@ -8,7 +8,7 @@ ghost use Rattle.ac_query.specs.Laws.Gathered.{asked_by};
 ghost use Rattle.ac_query.specs.Pairs.{pairs_of};
 ghost use Rattle.ac_query.specs.Shown.Queries.{asked_of};
 ghost use Rattle.ac_query.specs.Tokens.{ids_of};
-ghost use Rattle.ac_tables.specs.World.{World};
+ghost use Rattle.ac_cloud.specs.World.{World};
 ghost use Rattle.ac_run.specs.Answer.{Says, answer_in, ids_given, past_query, token_refusal};
 ghost use Rattle.ac_run.specs.Asking.{ExplainsQuery, ExplainsToken, HasIdForEachSlot, IsRefusalOf, answer_to};
 ghost use Rattle.ac_run.specs.Jobs.{ExplainsAsked, ExplainsWanted, task_of};

@@ -1,6 +1,6 @@
 //! Small outputs, pushed without memory: the counts of the tables, and the verdict on a list.
 ghost use Rattle.std.specs.Prelude.{◌≡◌, ◌≤◌};
-ghost use Rattle.ac_tables.specs.Cloud.CloudWorld.{sizes_of};
+ghost use Rattle.ac_cloud.specs.Cloud.CloudWorld.{sizes_of};
 ghost use Rattle.ac_run.specs.Outputs.{broken_line, counts, verdict_status, verdict_text};
 ghost use Rattle.ac_run.specs.Writing.{Pushes};
 

@@ -3,7 +3,7 @@ ghost use Rattle.std.specs.Prelude.{◌≡◌, IfOk, IfErr, OnOk, None};
 ghost use Rattle.std.specs.Option.{option_map};
 ghost use Rattle.ac_query.specs.Jobs.{HasToken};
 ghost use Rattle.ac_tables.specs.Tables.{tables_fault, world_stated};
-ghost use Rattle.ac_tables.specs.Cloud.CloudWorld.{world_of};
+ghost use Rattle.ac_cloud.specs.Cloud.CloudWorld.{world_of};
 ghost use Rattle.ac_run.specs.Answer.{answer, tables_in};
 ghost use Rattle.ac_run.specs.Asking.{HasIdForEachSlot, answer_to};
 ghost use Rattle.ac_run.specs.Draining.{texts_shown};
@@ -16,7 +16,7 @@ use crate::draining::{Inputs, Texts, read_tables};
 use crate::refusal::Refusal;
 use ac_base::Feed;
 use ac_query::Job;
-use ac_tables::{Cloud, Sources, TableFault};
+use ac_tables::{Cloud, FromTables, Sources, TableFault};
 use std::alloc::Global;
 
 /// A cloud, and what is wanted of it.

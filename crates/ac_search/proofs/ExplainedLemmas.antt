@@ -9,7 +9,7 @@ use Rattle.std.proofs.lemmas.List.{ext_get_or, length-append}
 use Rattle.std.proofs.lemmas.List.Folds.{list_all_more}
 use Rattle.std.proofs.lemmas.List.FromFn.{get_or-map-range_with_len, length-map-range_with_len, length-range_with_len}
 use Rattle.ac_query.specs.Asked.{Asked, Slot, slots_of}
-use Rattle.ac_tables.specs.World.{Provider}
+use Rattle.ac_cloud.specs.World.{Provider}
 use Rattle.ac_search.specs.Ahead.{load_of, hosts_of, serves, IsHosted}
 use Rattle.ac_search.specs.Explained.{count_below, in_slot, is_served, meets_room, meets_tree, tree_counts}
 use Rattle.ac_search.specs.Laws.{NoneWithoutRoots}

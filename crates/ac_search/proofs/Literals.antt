@@ -2,7 +2,7 @@
 use Rattle.std.proofs.Common.{◌≡◌, ℕ, Bool, true, false, List, [], ◌∷◌, Option, None, Some, codes, refl}
 use Rattle.ac_query.specs.Asked.{Asked, Group}
 use Rattle.ac_query.specs.Pairs.Values.{AggregateRule}
-use Rattle.ac_tables.specs.World.{Provider, UsedInventory}
+use Rattle.ac_cloud.specs.World.{Provider, UsedInventory}
 use Rattle.ac_rules.specs.Own.{units_fit, traits_fit, meets_rule, aggregates_fit, tree_fits}
 use Rattle.ac_rules.specs.Together.{is_brought, collective, holds_sums, sums, is_set_apart, are_apart, isolate, is_top, subtree, takes_root, hosts_all, anchor}
 use Rattle.ac_rules.specs.Judge.{tests, judge, is_candidate}

@@ -2,7 +2,7 @@
 use Rattle.std.specs.Prelude.{ℕ, Bool, ◌&&◌, List, length}
 use Rattle.std.specs.List.{list_all, list_any, filter, range_with_len}
 use Rattle.ac_query.specs.Asked.{Asked, Slot, slots_of}
-use Rattle.ac_tables.specs.World.{Provider, id_at, is_root}
+use Rattle.ac_cloud.specs.World.{Provider, id_at, is_root}
 use Rattle.ac_rules.specs.Placed.{Placed}
 use Rattle.ac_rules.specs.Own.{units_fit, traits_fit, aggregates_fit, tree_fits}
 use Rattle.ac_rules.specs.Together.{takes_root}

@@ -1,7 +1,7 @@
 -- The lists of `same_subtree` of which a walk knows ahead.
 use Rattle.std.specs.Prelude.{◌≡◌, ℕ, ◌<◌, true, false, List, [], length, map, get_or, slice_index_or}
 use Rattle.ac_query.specs.Asked.{Asked, slots_of, lists_suffix}
-use Rattle.ac_tables.specs.World.{Provider}
+use Rattle.ac_cloud.specs.World.{Provider}
 use Rattle.ac_search.specs.Parts.{AreParts}
 use Rattle.ac_search.specs.QuerySearch.{choices_of}
 use Rattle.ac_search.specs.Trees.{AreByPart}

@@ -1,7 +1,7 @@
 -- What the laws say of the counts of an explanation.
 use Rattle.std.specs.Prelude.{◌≡◌, List, []}
 use Rattle.ac_query.specs.Asked.{Asked}
-use Rattle.ac_tables.specs.World.{Provider}
+use Rattle.ac_cloud.specs.World.{Provider}
 use Rattle.ac_rules.specs.Pages.{candidates}
 use Rattle.ac_search.specs.Explained.{tree_counts}
 

@@ -5,7 +5,7 @@ use Rattle.std.specs.Option.{unwrap_or}
 use Rattle.std.specs.List.{list_all}
 use Rattle.std.specs.Str.{bytes_eq}
 use Rattle.std.specs.Global.{Vec}
-use Rattle.ac_tables.specs.World.{Provider, provider_at, used_of}
+use Rattle.ac_cloud.specs.World.{Provider, provider_at, used_of}
 use Rattle.ac_rules.specs.Own.{inventory_of}
 use Rattle.ac_rules.specs.Room.{room_in}
 use Rattle.ac_rules.specs.Placed.{Placed}

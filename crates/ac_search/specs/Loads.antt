@@ -2,7 +2,7 @@
 pub mod Columns
 use Rattle.std.specs.Prelude.{◌≡◌, ℕ, ◌+◌, ◌-◌, ◌*◌, ◌/◌, ◌^◌, ◌<◌, ◌&&◌, if◌then◌else◌, Bool, true, false, nat_le, min, List, [], ◌∷◌, length, map, get_or, slice_index, slice_index_or}
 use Rattle.std.specs.Global.{Vec}
-use Rattle.ac_tables.specs.World.{Provider}
+use Rattle.ac_cloud.specs.World.{Provider}
 use Rattle.ac_rules.specs.Placed.{slot_at}
 use Rattle.ac_search.specs.QuerySearch.{choice_of, choices_of}
 use Rattle.ac_search.specs.Left.{ask_pair, wanted, left_in, row_of}

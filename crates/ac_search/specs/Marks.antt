@@ -1,7 +1,7 @@
 -- Which providers are taken by slots that stand apart, and at how many providers of a front a root is available.
 use Rattle.std.specs.Prelude.{◌≡◌, ℕ, ◌+◌, ◌<◌, Bool, ◌&&◌, ◌==◌, if◌then◌else◌, List, [], ◌∷◌, length, slice_index}
 use Rattle.ac_query.specs.Asked.{Asked, Slot, is_isolated}
-use Rattle.ac_tables.specs.World.{Provider, is_available_at}
+use Rattle.ac_cloud.specs.World.{Provider, is_available_at}
 use Rattle.ac_rules.specs.Placed.{Placed}
 use Rattle.ac_rules.specs.Together.{is_set_apart}
 

@@ -2,7 +2,7 @@
 use Rattle.std.specs.Prelude.{◌≡◌, ℕ, ◌<◌, Bool, true, List, length, Option, slice_index, slice_index_or, IfSome}
 use Rattle.std.specs.Option.{option_map}
 use Rattle.ac_query.specs.Asked.{Asked, slots_of, lists_suffix}
-use Rattle.ac_tables.specs.World.{Provider, id_at, parent_of}
+use Rattle.ac_cloud.specs.World.{Provider, id_at, parent_of}
 use Rattle.ac_rules.specs.Lists.{IsListBelow}
 use Rattle.ac_rules.specs.Placed.{slot_at}
 use Rattle.ac_rules.specs.Judge.{is_candidate}

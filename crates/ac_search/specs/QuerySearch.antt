@@ -2,7 +2,7 @@
 use Rattle.std.specs.Prelude.{ℕ, ◌+◌, ◌&&◌, ◌==◌, zero, suc, Bool, true, not, nat_lt, cond, List, [], ◌∷◌, map, length, take, Option, Some, None}
 use Rattle.std.specs.List.{list_all, filter, range_with_len}
 use Rattle.ac_query.specs.Asked.{Asked, Slot, slots_of}
-use Rattle.ac_tables.specs.World.{Provider, provider_at, id_at}
+use Rattle.ac_cloud.specs.World.{Provider, provider_at, id_at}
 use Rattle.ac_rules.specs.Placed.{Placed, assigned}
 use Rattle.ac_rules.specs.Own.{units_fit, traits_fit, aggregates_fit, tree_fits}
 use Rattle.ac_rules.specs.Together.{collective, holds, subtree}

@@ -2,7 +2,7 @@
 pub mod Keys
 use Rattle.std.specs.Prelude.{◌≡◌, ℕ, ◌<◌, ◌≤◌, true, List, [], length, slice_index, slice_index_or}
 use Rattle.std.specs.List.{range_with_len}
-use Rattle.ac_tables.specs.World.{Provider, is_available_at}
+use Rattle.ac_cloud.specs.World.{Provider, is_available_at}
 use Rattle.ac_search.specs.Trees.Keys.{key_of, is_there, IsUnder}
 use Rattle.ac_search.specs.declared.trees.ByTree.{ByTree}
 use Rattle.ac_search.specs.declared.ahead.Ahead.{Ahead}

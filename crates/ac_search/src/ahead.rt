@@ -3,7 +3,7 @@
 ghost use Rattle.std.specs.Prelude.{◌≡◌, ◌+◌, ◌-◌, ◌/◌, ◌<◌, ◌≤◌, ◌^◌, ◌++◌, ℕ, List, true, length, min, IfOk};
 ghost use Rattle.std.specs.List.{All, range_with_len};
 ghost use Rattle.ac_base.specs.Names.{class_bytes};
-ghost use Rattle.ac_tables.specs.Cloud.CloudWorld.{providers_of};
+ghost use Rattle.ac_cloud.specs.Cloud.CloudWorld.{providers_of};
 ghost use Rattle.ac_query.specs.Asked.{slots_of};
 ghost use Rattle.ac_search.specs.Left.Accounts.{providers_in, asked_in, texts_in, Accounts};
 ghost use Rattle.ac_search.specs.Ahead.{load_of, hosts_of, IsHosted};
@@ -16,7 +16,7 @@ use crate::ledger::Ledger;
 use crate::ledger::rooms::{Ask, left_in, number_of, wanted};
 use crate::trees::ByTree;
 use ac_base::{ClassName, NoMemory};
-use ac_tables::Cloud;
+use ac_cloud::Cloud;
 use std::alloc::Global;
 
 // How many amounts the slots may ask together, and how many providers a tree may have, to be looked at.

@@ -2,8 +2,8 @@
 //! for each slot.
 
 ghost use Rattle.std.specs.Prelude.{◌≡◌, ◌<◌, ◌^◌, IfOk, [], length};
-ghost use Rattle.ac_tables.specs.World.{id_at, is_root, provider_at};
-ghost use Rattle.ac_tables.specs.Cloud.CloudWorld.{providers_of};
+ghost use Rattle.ac_cloud.specs.World.{id_at, is_root, provider_at};
+ghost use Rattle.ac_cloud.specs.Cloud.CloudWorld.{providers_of};
 ghost use Rattle.ac_query.specs.Asked.{slots_of};
 ghost use Rattle.ac_query.specs.Shown.Groups.{need_entry};
 ghost use Rattle.ac_query.specs.Shown.Queries.{asked_of};
@@ -21,7 +21,7 @@ use ac_query::{Need, Query};
 use ac_rules::rules::own::{has_aggregates, has_slot_traits, has_units, is_in_tree};
 use ac_rules::rules::sums::room_at;
 use ac_rules::slots::{count_slots, needs_at};
-use ac_tables::Cloud;
+use ac_cloud::Cloud;
 use std::alloc::Global;
 
 /// How many providers meet what a slot asks. Each number counts those that meet all that stands before it, too.

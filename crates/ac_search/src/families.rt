@@ -5,7 +5,7 @@ ghost use Rattle.ac_search.specs.Trees.{IsByPart, AreByPart};
 ghost use Rattle.std.specs.List.{All};
 ghost use Rattle.ac_query.specs.Asked.{Asked, slots_of, lists_suffix};
 ghost use Rattle.ac_query.specs.Shown.Queries.{asked_of};
-ghost use Rattle.ac_tables.specs.World.{Provider};
+ghost use Rattle.ac_cloud.specs.World.{Provider};
 ghost use Rattle.ac_rules.specs.Placed.{slot_at};
 ghost use Rattle.ac_search.specs.Left.Accounts.{providers_in, asked_in, Accounts};
 ghost use Rattle.ac_search.specs.Loads.{choices_in};

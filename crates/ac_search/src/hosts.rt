@@ -13,7 +13,7 @@ use crate::ledger::Ledger;
 use crate::ledger::marks::taken_roots;
 use ac_base::NoMemory;
 use ac_rules::slots::count_slots;
-use ac_tables::Cloud;
+use ac_cloud::Cloud;
 use column::Column;
 pub(crate) use column::count_asking;
 pub(crate) use loads::limit;

@@ -2,13 +2,13 @@
 
 ghost use Rattle.std.specs.Prelude.{◌≡◌, ◌<◌, ◌≤◌, IfOk, length, map};
 ghost use Rattle.std.specs.Option.{option_map};
-ghost use Rattle.ac_tables.specs.Cloud.CloudWorld.{providers_of};
+ghost use Rattle.ac_cloud.specs.Cloud.CloudWorld.{providers_of};
 ghost use Rattle.ac_query.specs.Tokens as tokens;
 ghost use Rattle.ac_search.specs.QuerySearch.{rank_of, least_after, least_of};
 
 use ac_base::{Id, NoMemory};
 use ac_query::Token;
-use ac_tables::Cloud;
+use ac_cloud::Cloud;
 use std::alloc::Global;
 
 // The first place whose provider's id isn't below; past the end where there is none.

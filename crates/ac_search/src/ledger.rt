@@ -3,8 +3,8 @@
 ghost use Rattle.std.specs.Prelude.{◌≡◌, ◌<◌, ◌≤◌, ◌^◌, ◌++◌, ◌∷◌, ◌&&◌, ◌==◌, [], ℕ, List, length, map, true, false, not, nat_lt, slice_index, slice_index_or, IfOk};
 ghost use Rattle.std.specs.List.{All, list_all, list_any, range_with_len};
 ghost use Rattle.ac_base.specs.Names.{class_bytes};
-ghost use Rattle.ac_tables.specs.Cloud.CloudWorld.{providers_of};
-ghost use Rattle.ac_tables.specs.World.{anchors_of};
+ghost use Rattle.ac_cloud.specs.Cloud.CloudWorld.{providers_of};
+ghost use Rattle.ac_cloud.specs.World.{anchors_of};
 ghost use Rattle.ac_query.specs.Asked.{slots_of};
 ghost use Rattle.ac_query.specs.Shown.Queries.{asked_of};
 ghost use Rattle.ac_rules.specs.Placed.{slot_at, assigned};
@@ -23,7 +23,7 @@ use crate::ledger::rooms::{
 };
 use ac_base::{ClassName, NoMemory};
 use ac_query::Query;
-use ac_tables::Cloud;
+use ac_cloud::Cloud;
 use std::alloc::Global;
 
 /// What a path takes of the rooms, and which providers and roots it meets.

@@ -2,7 +2,7 @@
 
 ghost use Rattle.std.specs.Prelude.{◌≡◌, ◌<◌, ◌≤◌, true, length};
 ghost use Rattle.std.specs.List.{All, list_all};
-ghost use Rattle.ac_tables.specs.Cloud.CloudWorld.{providers_of};
+ghost use Rattle.ac_cloud.specs.Cloud.CloudWorld.{providers_of};
 ghost use Rattle.ac_query.specs.Asked.{slots_of};
 ghost use Rattle.ac_query.specs.Shown.Queries.{asked_of};
 ghost use Rattle.ac_rules.specs.Placed.{placed_at, assigned};
@@ -14,7 +14,7 @@ use ac_rules::rules::anchor::has_anchor;
 use ac_rules::rules::own::{has_aggregates, has_slot_traits, has_units, is_in_tree};
 use ac_rules::rules::sums::have_room;
 use ac_rules::rules::whole::{are_collective, are_isolated, have_tops};
-use ac_tables::Cloud;
+use ac_cloud::Cloud;
 
 /// Whether a provider meets the rules of a slot alone.
 #[tactic(auto, unfolding(crate::specs::QuerySearch::fits))]

@@ -2,12 +2,12 @@
 
 ghost use Rattle.std.specs.Prelude.{◌≡◌, ◌+◌, ◌*◌, ◌<◌, ◌≤◌, ◌^◌, ◌++◌, ◌||◌, ℕ, List, [], true, false, length, map, IfOk, MatchOption, slice_index, slice_index_or};
 ghost use Rattle.std.specs.List.{All, list_any};
-ghost use Rattle.ac_tables.specs.Cloud.CloudWorld.{providers_of};
-ghost use Rattle.ac_tables.specs.World.{Provider, is_available_at, anchors_of};
+ghost use Rattle.ac_cloud.specs.Cloud.CloudWorld.{providers_of};
+ghost use Rattle.ac_cloud.specs.World.{Provider, is_available_at, anchors_of};
 ghost use Rattle.ac_search.specs.Trees.Keys.{key_of, is_there, IsUnder, IsLeastFrom, IsNextIn};
 
 use ac_base::NoMemory;
-use ac_tables::Cloud;
+use ac_cloud::Cloud;
 use std::alloc::Global;
 
 // How many pairs of a choice and a tree in which it is available are kept for a slot.

@@ -2,7 +2,7 @@
 ghost use Rattle.std.specs.Prelude.{◌≡◌, ◌<◌, length, map, take, true, false, None, IfOk};
 ghost use Rattle.std.specs.Bool.{MatchBool};
 ghost use Rattle.std.specs.Option.{option_map};
-ghost use Rattle.ac_tables.specs.Cloud.CloudWorld.{providers_of};
+ghost use Rattle.ac_cloud.specs.Cloud.CloudWorld.{providers_of};
 ghost use Rattle.ac_query.specs.Asked.{slots_of};
 ghost use Rattle.ac_query.specs.Shown.Queries.{asked_of};
 ghost use Rattle.ac_query.specs.Tokens as tokens;
@@ -28,7 +28,7 @@ use ac_base::{Id, NoMemory};
 use ac_query::{Query, Token};
 use ac_rules::slots::count_slots;
 use ac_rules::source::Source;
-use ac_tables::Cloud;
+use ac_cloud::Cloud;
 use std::alloc::Global;
 use trying::start_of;
 

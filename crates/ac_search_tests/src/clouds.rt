@@ -1,6 +1,6 @@
 //! Small clouds and queries, of which several modules make examples.
 use ac_query::{Query, Version};
-use ac_tables::{Cloud, Sources};
+use ac_tables::{Cloud, FromTables, Sources};
 use std::alloc::{AllocError, Global};
 
 // What stands before the last two digits of each UUID here.

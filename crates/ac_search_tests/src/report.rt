@@ -3,7 +3,7 @@ ghost use Rattle.std.specs.Prelude.{◌≤◌, drop, length, map};
 ghost use Rattle.std.specs.Bool.{OnTrue};
 ghost use Rattle.std.specs.List.{All};
 ghost use Rattle.ac_query.specs.Shown.Queries.{asked_of};
-ghost use Rattle.ac_tables.specs.Cloud.CloudWorld.{providers_of};
+ghost use Rattle.ac_cloud.specs.Cloud.CloudWorld.{providers_of};
 ghost use Rattle.ac_report.specs.Pages.{IsAssignment};
 
 use crate::clouds::{NONE, ONE, PAIR, Rows, cloud_of, expanded, query_of};

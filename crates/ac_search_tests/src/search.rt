@@ -1,7 +1,7 @@
 //! Searches over small clouds: what the modules below share.
 ghost use Rattle.std.specs.Prelude.{◌<◌, length, IfOk};
 ghost use Rattle.std.specs.List.{All};
-ghost use Rattle.ac_tables.specs.Cloud.CloudWorld.{providers_of};
+ghost use Rattle.ac_cloud.specs.Cloud.CloudWorld.{providers_of};
 
 use crate::clouds::{Rows, cloud_of, expanded, query_of};
 use ac_base::Id;

@@ -1,12 +1,4 @@
--- The parts of a cloud, by the places of providers.
-pub mod AnchorFacts
-pub mod AnchorLists
-pub mod AvailableFacts
+-- The parents and the entries of providers, by their places.
 pub mod BuildFacts
-pub mod CloudFacts
-pub mod GroupFacts
 pub mod JoinFacts
-pub mod KeptFacts
 pub mod KinFacts
-pub mod WideAggregates
-pub mod WorldFacts

@@ -1,12 +1,8 @@
--- Lists in order: sets, maps, and binary search.
+-- Rows in order, and the sets and maps of a provider.
 pub mod Least
 pub mod OrderFacts
-pub mod Rising
 pub mod RiseFacts
-pub mod SameItems
-pub mod SortedSets
 pub mod SortedTies
-pub mod SearchFacts
 pub mod ProviderMaps
 pub mod ProviderSets
-pub mod ListFacts
+pub mod RowLists

@@ -1,11 +1,11 @@
 -- What was gathered is the world that the tables state.
 use Rattle.ac_tables.proofs.Common.{◌≡◌, ◌<◌, ◌+◌, ◌∙◌, ℕ, List, [], ◌∷◌, map, length, get_or, refl, sym, ap, ap₂, option_and_then, sum_by, fold, get_or-map, InventoryNumbers, TextMap, rank, providers_said, said_parent, inventories_said, usages_said, traits_said, aggregates_said, AreKin, Provider, with_used_lists, numbered_at, Tables, inventories_of, amounts_of, names_of, aggregates_of, with_used, gathered}
 use Rattle.std.proofs.lemmas.List.Folds.{fold-map}
-use Rattle.ac_tables.specs.World.{Sizes}
-use Rattle.ac_tables.specs.Cloud.Numbered.{numbered}
+use Rattle.ac_cloud.specs.World.{Sizes}
+use Rattle.ac_cloud.specs.Cloud.Numbered.{numbered}
 use Rattle.ac_tables.proofs.Places.BuildFacts.{agree}
 use Rattle.ac_tables.proofs.Places.JoinFacts.{zip_maps}
-use Rattle.ac_tables.proofs.Sorted.ListFacts.{by_places}
+use Rattle.ac_tables.proofs.Sorted.RowLists.{by_places}
 
 same_provider : (p q : Provider) → p.id ≡ q.id → p.parent ≡ q.parent → p.entries ≡ q.entries → p.traits ≡ q.traits → p.aggregates ≡ q.aggregates → p ≡ q
 same_provider p q e1 e2 e3 e4 e5 = λ i. record { id = e1 i; parent = e2 i; entries = e3 i; traits = e4 i; aggregates = e5 i }

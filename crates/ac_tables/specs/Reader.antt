@@ -5,5 +5,5 @@ pub mod InventoryRows
 pub mod ProviderLaws
 pub mod Listings
 pub mod ColumnPlaces
-pub mod ListBounds
-pub mod ListsOf
+pub mod Kin
+pub mod EntryLists

@@ -17,13 +17,13 @@ use Rattle.ac_base.specs.Texts.{text_cmp}
 use Rattle.ac_base.specs.Quantities.{InventoryNumbers}
 use Rattle.ac_tables.specs.Tables.Checks.{Row, first_failing}
 use Rattle.ac_tables.specs.Tables.Rows.{records_of}
-use Rattle.ac_tables.specs.Sorted.{TextMap, rising, map_of}
+use Rattle.ac_base.specs.Sorted.{TextMap, rising, map_of}
 use Rattle.ac_tables.specs.Tables.ProviderTable.{providers_said, said_parent, provider_checks}
 use Rattle.ac_tables.specs.Tables.InventoryTable.{InventoryRecord, inventories_said, inventory_checks}
 use Rattle.ac_tables.specs.Tables.UsageTable.{UsageRecord, usages_said, usage_checks}
 use Rattle.ac_tables.specs.Tables.TraitTable.{TraitRecord, traits_said, trait_checks}
 use Rattle.ac_tables.specs.Tables.AggregateTable.{AggregateRecord, aggregates_said, aggregate_checks}
-use Rattle.ac_tables.specs.World.{Provider, World, UsedInventory}
+use Rattle.ac_cloud.specs.World.{Provider, World, UsedInventory}
 use Rattle.ac_tables.specs.declared.fault.TableFault.{TableFault}
 
 -- the records of the five tables

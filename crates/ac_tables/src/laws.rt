@@ -1,30 +1,11 @@
 //! Laws of the definitions. Each function does nothing: its contract is the law.
-ghost use Rattle.ac_tables.specs.Laws.{ChainIsAbove, CloudInOrder, CloudIsForest, OrderHolds, ProvidersInOrder, TopIsRoot};
+ghost use Rattle.ac_tables.specs.Laws.{OrderHolds, ProvidersInOrder};
 
-/// Where a chain of parents ends, it holds just the providers that are above: a list of parents leads to them.
-pub fn chain_is_above()
-    ensures { ChainIsAbove }
-{}
-
-/// Where a chain of parents ends, its top is the one root: above the provider, and without a parent.
-pub fn top_is_root()
-    ensures { TopIsRoot }
-{}
+pub use ac_cloud::laws::{chain_is_above, cloud_in_order, cloud_is_forest, top_is_root};
 
 /// The providers that tables state stand in the order of their ids, which are numbers of 128 bits.
 pub fn providers_in_order()
     ensures { ProvidersInOrder }
-{}
-
-/// So do the providers of each cloud.
-pub fn cloud_in_order()
-    ensures { CloudInOrder }
-{}
-
-/// In each cloud every chain of parents ends. So the root of a provider is above it and has no parent, no other provider is both, and the chain of
-/// its parents holds just those that are above it.
-pub fn cloud_is_forest()
-    ensures { CloudIsForest }
 {}
 
 /// What is gathered in order, of ids, of names or by class, rises, and is just what it was gathered of.

@@ -3,7 +3,6 @@
 //! It knows nothing of queries or of searches.
 #![tactic(auto)]
 
-pub mod cloud;
 pub mod fault;
 pub mod laws;
 pub mod read;
@@ -11,8 +10,7 @@ mod reader;
 pub mod reading;
 mod tables;
 
-pub use cloud::entry::Entry;
-pub use cloud::{Cloud, Counts};
+pub use ac_cloud::{Cloud, Counts, Entry};
 pub use fault::{Table, TableFault, TableKind};
-pub use read::{FiveTables, Sources};
+pub use read::{FiveTables, FromTables, Sources};
 pub use reading::{ReadFault, drain};

@@ -4,10 +4,11 @@ ghost use Rattle.ac_tables.specs.Tables.Checks.{Tells};
 ghost use Rattle.ac_tables.specs.Tables.{tables_fault, world_stated};
 ghost use Rattle.ac_tables.specs.SourceText.{text_or};
 
-use crate::cloud::build::Parts;
-use crate::cloud::{Cloud, Counts};
+use ac_cloud::cloud::build::Parts;
+use ac_cloud::{Cloud, Counts};
 use crate::fault::TableFault;
 use crate::tables::aggregates::read_aggregates;
+use crate::tables::entries::join;
 use crate::tables::inventories::Inventories;
 use crate::tables::providers::{Providers, read_providers};
 use crate::tables::traits::read_traits;
@@ -43,15 +44,24 @@ fn text_or<'a>(text: Option<&'a [u8]>, header: &'a [u8]) -> &'a [u8]
     }
 }
 
-impl Cloud {
-    ghost use Rattle.ac_tables.specs.Cloud.CloudWorld.{world_of};
+/// What is read from tables: `Cloud::read`.
+pub trait FromTables: Sized {
+    ghost use Rattle.ac_tables.specs.Source.{AreFew};
+
+    /// Reads the tables, each of at most 67108864 bytes.
+    fn read(alloc: Global, src: &Sources) -> Result<Self, TableFault>
+        requires { AreFew src.now };
+}
+
+impl FromTables for Cloud {
+    ghost use Rattle.ac_cloud.specs.Cloud.CloudWorld.{world_of};
     ghost use Rattle.ac_tables.specs.Source.{tables_of, AreFew};
 
     /// Reads the tables, each of at most 67108864 bytes.
     ///
     /// The fault is the first in the order of the tables and their checks. Where a growth is refused, a fault that stands
     /// before it is told instead. The growths that are needed to find a fault of the trees stand before that fault.
-    pub fn read(alloc: Global, src: &Sources) -> Result<Cloud, TableFault>
+    fn read(alloc: Global, src: &Sources) -> Result<Cloud, TableFault>
         requires { AreFew src.now }
         ensures world { IfOk result (λ cloud. world_of cloud ≡ world_stated (tables_of src.now)) }
         ensures ok { IfOk result (λ _. tables_fault (tables_of src.now) ≡ None) }
@@ -91,11 +101,13 @@ impl Cloud {
             traits: traits.count() as u32,
             aggregates: aggregates.count() as u32,
         };
+        let Inventories { ids, rows } = inventories;
+        let entries = join(alloc, rows, &usages)?;
         let parts = Parts {
+            ids,
             parents,
             roots,
-            inventories,
-            usages,
+            entries,
             traits,
             aggregates,
             counts,

@@ -3,7 +3,6 @@
 pub(crate) mod fields;
 pub(crate) mod gather;
 pub(crate) mod header;
-pub(crate) mod lists;
 pub(crate) mod record;
 pub(crate) mod records;
 pub(crate) mod row;

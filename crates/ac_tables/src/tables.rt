@@ -1,6 +1,7 @@
 //! The five tables: what a record of each says, and what all its records do.
 
 pub(crate) mod aggregates;
+pub(crate) mod entries;
 pub(crate) mod inventories;
 pub(crate) mod listing;
 pub(crate) mod provider_record;

@@ -8,8 +8,8 @@ use Rattle.std.proofs.lemmas.List.{map-append}
 use Rattle.std.proofs.lemmas.Map.Entries.{lookup_from_place}
 use Rattle.std.proofs.lemmas.Map.Keys.{IsDistinct-from_sorted}
 use Rattle.ac_base.specs.Texts.{text_cmp}
-use Rattle.ac_tables.proofs.Sorted.OrderFacts.{name_rising}
-use Rattle.ac_tables.proofs.Sorted.SortedSets.{rising_sorted}
+use Rattle.ac_base.proofs.Sorted.SameItems.{name_rising}
+use Rattle.ac_base.proofs.Sorted.SortedSets.{rising_sorted}
 use Rattle.ac_query.specs.declared.version.Version.{Version}
 use Rattle.ac_query.specs.Pairs.Values.{Part, Given}
 use Rattle.ac_query.specs.Pairs.{given}

@@ -9,7 +9,7 @@ use Rattle.std.specs.Str.{bytes_eq}
 use Rattle.std.proofs.lemmas.Cmp.{nat_list_cmp_total}
 use Rattle.std.proofs.lemmas.Map.Views.{All-insert_key, All-values-insert_entry, IfSome-lookup_from_All}
 use Rattle.ac_base.specs.Texts.{text_cmp, id_value}
-use Rattle.ac_tables.proofs.Sorted.SortedSets.{insert_sorted, empty_sorted}
+use Rattle.ac_base.proofs.Sorted.SortedSets.{insert_sorted, empty_sorted}
 use Rattle.ac_query.specs.declared.reading.parameter.Field.TheVariants as field
 use Rattle.ac_query.specs.declared.version.Version.{Version}
 use Rattle.ac_query.specs.Pairs.Parameters.{Parameter, of_group, root_required, group_policy, same_subtree, limit, parameter}

@@ -9,12 +9,12 @@ use Rattle.std.specs.Str.{bytes_eq}
 use Rattle.std.proofs.lemmas.Cmp.{nat_list_cmp_total}
 use Rattle.std.proofs.lemmas.Map.Text.{is_eq-slice_cmp}
 use Rattle.ac_base.specs.Texts.{text_cmp}
-use Rattle.ac_tables.specs.Sorted.{TextMap, map_of}
-use Rattle.ac_tables.proofs.Sorted.SameItems.{there_after}
+use Rattle.ac_base.specs.Sorted.{TextMap, map_of}
+use Rattle.ac_base.proofs.Sorted.SameItems.{there_after}
 use Rattle.ac_query.specs.Texts.{has_text, items_of}
 use Rattle.ac_query.specs.Pairs.Values.{need_value, needs_value, with_need, with_need_item}
 use Rattle.ac_query.specs.Laws.{are_apart, by_class, values_of}
-use Rattle.ac_tables.specs.Reader.RecordLaws.{eq_turned}
+use Rattle.ac_base.proofs.Small.{eq_turned}
 
 abbrev Need : Type 0
 Need = List ℕ × ℕ

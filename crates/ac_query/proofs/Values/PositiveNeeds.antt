@@ -12,7 +12,7 @@ use Rattle.std.specs.Cmp.Lexicographic.{texts_ties}
 use Rattle.std.proofs.lemmas.Cmp.{nat_list_cmp_total}
 use Rattle.std.proofs.lemmas.Map.Views.{All-values-insert_entry}
 use Rattle.ac_base.specs.Texts.{text_cmp, name_value, count_value}
-use Rattle.ac_tables.proofs.Sorted.SortedSets.{insert_sorted, empty_sorted}
+use Rattle.ac_base.proofs.Sorted.SortedSets.{insert_sorted, empty_sorted}
 use Rattle.ac_query.specs.Texts.{is_colon, items_of}
 use Rattle.ac_query.specs.Pairs.Values.{positive, amount_value, need_of, has_colon, need_value, with_need, with_need_item, needs_value}
 use Rattle.ac_query.specs.Laws.InOrder.{AreApart, AreNeeds}

@@ -2,6 +2,7 @@
 use super::pair;
 use ac_base::NoMemory;
 use ac_query::{Query, QueryFault, Token, TokenFault, Version};
+use ac_rules::InCloud;
 use std::alloc::Global;
 
 const BOTH: &str = "00000000-0000-0000-0000-000000000001,00000000-0000-0000-0000-000000000002";

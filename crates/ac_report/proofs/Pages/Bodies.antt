@@ -3,10 +3,10 @@ use Rattle.std.proofs.Common.{◌≡◌, ◌∙◌, ℕ, List, [], ◌∷◌, �
 use Rattle.std.specs.Io.KnownBytes.{Appends}
 use Rattle.ac_base.specs.Devices.{TakesPart}
 use Rattle.ac_query.specs.Asked.{Asked}
-use Rattle.ac_tables.specs.declared.cloud.Cloud.{Cloud}
-use Rattle.ac_tables.specs.Cloud.CloudWorld.{providers_of}
-use Rattle.ac_tables.specs.World.{Provider}
-use Rattle.ac_tables.proofs.ProvidersStated.{cloud_in_order}
+use Rattle.ac_cloud.specs.declared.cloud.Cloud.{Cloud}
+use Rattle.ac_cloud.specs.Cloud.CloudWorld.{providers_of}
+use Rattle.ac_cloud.specs.World.{Provider}
+use Rattle.ac_cloud.proofs.InOrder.{cloud_in_order}
 use Rattle.ac_report.specs.Marks.{requests_text, summaries_text}
 use Rattle.ac_report.specs.Pages.{TakesWhole}
 use Rattle.ac_report.specs.Texts.{body, head_text, joined, middle_text, pieces, request_text, summarized, summary_piece, tail_text, with_commas}

@@ -5,8 +5,8 @@ use Rattle.serde_json.specs.Data.{Data, Items, array, object, string, Members, n
 use Rattle.serde_json.specs.View.{items_of}
 use Rattle.serde_json.specs.Written.{compact_text, items_text, members_text, comma_if}
 use Rattle.serde_json.proofs.OnLiterals.{serde_json_on_literals}
-use Rattle.ac_tables.specs.Laws.{AreProviders}
-use Rattle.ac_tables.specs.World.{Provider, id_at, root_of}
+use Rattle.ac_cloud.specs.Laws.{AreProviders}
+use Rattle.ac_cloud.specs.World.{Provider, id_at, root_of}
 use Rattle.ac_query.specs.Asked.{Asked}
 use Rattle.ac_report.specs.Trees.{gathered, provider_text, request, summary}
 use Rattle.ac_report.specs.Texts.{request_text, summary_text, summarized, body_tree, body, with_commas, summary_piece, head_text, middle_text, tail_text, pieces, joined, meets_root}

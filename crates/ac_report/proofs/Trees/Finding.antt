@@ -12,8 +12,8 @@ use Rattle.serde_json.specs.View.{items_of}
 use Rattle.ac_base.specs.Texts.{text_cmp}
 use Rattle.ac_query.specs.Asked.{Group}
 use Rattle.ac_rules.specs.Placed.{Placed}
-use Rattle.ac_tables.specs.World.{Provider}
-use Rattle.ac_tables.specs.Sorted.{rising}
+use Rattle.ac_cloud.specs.World.{Provider}
+use Rattle.ac_base.specs.Sorted.{rising}
 use Rattle.ac_query.specs.Laws.InOrder.{group_name, AreApart}
 use Rattle.ac_report.specs.Parts.{gathered_onto}
 use Rattle.ac_report.specs.Trees.{hosts, mapping, mappings_from, provider_text, texts}

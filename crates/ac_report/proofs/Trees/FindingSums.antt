@@ -7,14 +7,14 @@ use Rattle.std.proofs.lemmas.Bool.Decides.{eqb_tells}
 use Rattle.serde_json.specs.Data.{Data, Members, no_members, put, number, unsigned}
 use Rattle.ac_rules.specs.Placed.{Placed}
 use Rattle.ac_rules.specs.Together.{amount_of, sum_on, is_empty}
-use Rattle.ac_tables.specs.World.{Provider}
-use Rattle.ac_tables.specs.Sorted.{rising}
+use Rattle.ac_cloud.specs.World.{Provider}
+use Rattle.ac_base.specs.Sorted.{rising}
 use Rattle.ac_report.specs.Parts.{gathered_onto}
 use Rattle.ac_report.specs.Trees.{gathered, gives, needs_on, provider_text, sum, allocation}
 use Rattle.ac_report.proofs.Trees.Finding.{find, find_put, AreTold}
-use Rattle.ac_tables.specs.Reader.RecordLaws.{eq_turned}
+use Rattle.ac_base.proofs.Small.{eq_turned}
 use Rattle.ac_report.proofs.Trees.Gathering.{Named, bytes_eq_refl}
-use Rattle.ac_tables.proofs.Sorted.SameItems.{member_rising}
+use Rattle.ac_base.proofs.Sorted.SameItems.{member_rising}
 use Rattle.ac_report.proofs.SlotLemmas.{needs_none, sum_on_is}
 
 abbrev pub here : List Provider → List Placed → ℕ → Named

@@ -5,8 +5,8 @@ use Rattle.std.proofs.lemmas.Cmp.{nat_list_cmp_total}
 use Rattle.std.specs.Ordering.{ordering_reverse}
 use Rattle.serde_json.specs.Data.{Data, Members, no_members, member, put}
 use Rattle.ac_base.specs.Texts.{text_cmp}
-use Rattle.ac_tables.specs.Laws.{AreProviders}
-use Rattle.ac_tables.specs.World.{Provider, id_at}
+use Rattle.ac_cloud.specs.Laws.{AreProviders}
+use Rattle.ac_cloud.specs.World.{Provider, id_at}
 use Rattle.ac_report.specs.Trees.{gathered, provider_text}
 use Rattle.ac_report.proofs.IdTexts.{texts_rise}
 use Rattle.ac_report.proofs.Trees.Gathering.{Named}

@@ -6,7 +6,7 @@ use Rattle.std.proofs.lemmas.Bool.{eq-eqb, ne_eqb}
 use Rattle.std.proofs.lemmas.Bool.Decides.{eqb_tells}
 use Rattle.std.proofs.lemmas.Cmp.{ranked}
 use Rattle.std.proofs.lemmas.List.{get_or-set_same, get_or-set_other}
-use Rattle.ac_tables.specs.World.{Provider, id_at, root_of}
+use Rattle.ac_cloud.specs.World.{Provider, id_at, root_of}
 use Rattle.ac_rules.specs.Laws.{AreInOrder}
 use Rattle.ac_rules.specs.Lists.{head_of, tail_of}
 use Rattle.ac_rules.specs.Pages.{cut}

@@ -8,10 +8,10 @@ use Rattle.serde_json.specs.View.{view, items_of}
 use Rattle.serde_json.specs.Written.{compact_text, has_float, items_have_float, members_have_float}
 use Rattle.serde_json.specs.declared.value.Value.{Value}
 use Rattle.ac_base.specs.Texts.{text_cmp}
-use Rattle.ac_tables.specs.World.{UsedInventory, Provider, provider_at, id_at, parent_of}
+use Rattle.ac_cloud.specs.World.{UsedInventory, Provider, provider_at, id_at, parent_of}
 use Rattle.ac_query.specs.Asked.{Group, Asked}
 use Rattle.ac_rules.specs.Placed.{Placed, assigned}
-use Rattle.ac_tables.specs.Sorted.{rising}
+use Rattle.ac_base.specs.Sorted.{rising}
 use Rattle.ac_report.specs.Trees.{gathered, texts, id_or_null, holding, holdings, summary, needs_on, sum, allocation, gives, allocations, provider_text, mapping, mappings_from, mappings, request}
 
 texts_items_plain : (ts : List (List ℕ)) → items_have_float (items_of (map string ts)) ≡ false

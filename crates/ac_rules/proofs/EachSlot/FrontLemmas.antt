@@ -6,7 +6,7 @@ use Rattle.std.proofs.lemmas.Bool.Decides.{nat_tests}
 use Rattle.std.proofs.lemmas.List.Folds.{list_all-append}
 use Rattle.ac_base.specs.Quantities.{InventoryNumbers}
 use Rattle.ac_query.specs.Asked.{Asked, slots_of, is_isolated}
-use Rattle.ac_tables.specs.World.{Provider, provider_at, used_of, is_available_at}
+use Rattle.ac_cloud.specs.World.{Provider, provider_at, used_of, is_available_at}
 use Rattle.ac_rules.specs.Placed.{Placed, placed, assigned}
 use Rattle.ac_rules.specs.Own.{inventory_of, units_fit, traits_fit, aggregates_fit, tree_fits}
 use Rattle.ac_rules.specs.Together.{sum_on, has_room, holds_sums, sums, are_apart, all_apart, isolate, takes_root, hosts_all, anchor}

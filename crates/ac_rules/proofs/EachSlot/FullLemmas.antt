@@ -4,7 +4,7 @@ use Rattle.std.specs.List.{list_all, AllByRecursion}
 use Rattle.std.specs.Str.{bytes_eq}
 use Rattle.std.proofs.lemmas.Bool.{cases_Bool, cases_eq, cases_lt, and_parts, and_from, eq-eqb, ne_eqb}
 use Rattle.std.proofs.lemmas.Slice.Eq.{bytes_eq-Decides}
-use Rattle.ac_tables.specs.World.{Provider, provider_at}
+use Rattle.ac_cloud.specs.World.{Provider, provider_at}
 use Rattle.ac_rules.specs.Placed.{Placed}
 use Rattle.ac_rules.specs.Together.{amount_of, sum_on, holds, holds_sums, sums}
 use Rattle.ac_rules.specs.Laws.{AskAmounts, IsFull, SumsSayFull}

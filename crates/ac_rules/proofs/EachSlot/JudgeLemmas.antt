@@ -2,7 +2,7 @@
 use Rattle.std.proofs.Common.{inl, inr, ◌≡◌, ℕ, true, List, [], ◌∷◌, refl, false, sym, ◌∙◌}
 use Rattle.std.proofs.lemmas.Bool.{cases_Bool, and_parts, false_from_ne_true}
 use Rattle.ac_query.specs.Asked.{Asked}
-use Rattle.ac_tables.specs.World.{Provider}
+use Rattle.ac_cloud.specs.World.{Provider}
 use Rattle.ac_rules.specs.Placed.{assigned}
 use Rattle.ac_rules.specs.Judge.{Test, tests, first_broken, all_hold, judge, is_candidate}
 use Rattle.ac_rules.specs.Laws.{JudgesCandidates}

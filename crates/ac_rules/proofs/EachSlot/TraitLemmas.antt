@@ -3,8 +3,8 @@ use Rattle.std.proofs.Common.{◌≡◌, ◌∙◌, ◌&&◌, ◌||◌, ℕ, Boo
 use Rattle.std.specs.List.{list_any, list_all}
 use Rattle.std.specs.Str.{bytes_eq}
 use Rattle.std.proofs.lemmas.Cmp.{nat_list_eq_equiv}
-use Rattle.ac_tables.proofs.Places.AnchorFacts.{any_swap}
-use Rattle.ac_tables.proofs.Sorted.SearchFacts.{any_same}
+use Rattle.ac_cloud.proofs.Places.AnchorFacts.{any_swap}
+use Rattle.ac_base.proofs.Sorted.SearchFacts.{any_same}
 
 -- one of the first is among the second, or one of the second among the first
 pub either_way : (ts ns : List (List ℕ)) → list_any (λ t. list_any (bytes_eq t) ns) ts ≡ list_any (λ n. list_any (bytes_eq n) ts) ns

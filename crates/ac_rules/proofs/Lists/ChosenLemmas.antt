@@ -2,7 +2,7 @@
 use Rattle.std.proofs.Common.{◌≡◌, ◌&&◌, ℕ, true, false, List, [], ◌∷◌, length, Option, inl, inr, refl}
 use Rattle.std.proofs.lemmas.Bool.{cases_Bool, and_parts}
 use Rattle.ac_query.specs.Asked.{Asked, slots_of}
-use Rattle.ac_tables.specs.World.{Provider}
+use Rattle.ac_cloud.specs.World.{Provider}
 use Rattle.ac_rules.specs.Lists.{all_lists}
 use Rattle.ac_rules.specs.Judge.{is_candidate}
 use Rattle.ac_rules.specs.Pages.{candidates, is_after, rest}

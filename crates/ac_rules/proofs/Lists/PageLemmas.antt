@@ -4,7 +4,7 @@ use Rattle.std.proofs.Math.Seq.{take-add}
 use Rattle.std.specs.List.{filter, AllByRecursion as Each}
 use Rattle.std.proofs.lemmas.List.Elements.{recursion_from_All}
 use Rattle.ac_query.specs.Asked.{Asked, slots_of}
-use Rattle.ac_tables.specs.World.{Provider, id_at}
+use Rattle.ac_cloud.specs.World.{Provider, id_at}
 use Rattle.ac_rules.specs.Order.{lex_lt}
 use Rattle.ac_rules.specs.Lists.{IsListBelow, IsRising}
 use Rattle.ac_rules.specs.Pages.{candidates, ids_of, is_after, rest, cut}

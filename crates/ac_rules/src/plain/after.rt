@@ -2,12 +2,12 @@
 
 ghost use Rattle.std.specs.Prelude.{◌≡◌, ◌<◌, length};
 ghost use Rattle.std.specs.List.{All};
-ghost use Rattle.ac_tables.specs.Cloud.CloudWorld.{providers_of};
+ghost use Rattle.ac_cloud.specs.Cloud.CloudWorld.{providers_of};
 ghost use Rattle.ac_rules.specs.Order.{lex_lt};
 ghost use Rattle.ac_rules.specs.Pages.{ids_of};
 
 use ac_base::Id;
-use ac_tables::Cloud;
+use ac_cloud::Cloud;
 
 /// Whether the ids of a list of providers are after these.
 pub(crate) fn is_after(cloud: &Cloud, ids: &[Id], list: &[u32]) -> bool

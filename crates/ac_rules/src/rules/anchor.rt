@@ -2,8 +2,8 @@
 
 ghost use Rattle.std.specs.Prelude.{◌≡◌, ◌<◌, ◌≤◌, ◌&&◌, length};
 ghost use Rattle.std.specs.List.{All, list_all, list_any, range_with_len};
-ghost use Rattle.ac_tables.specs.World.{is_available_at};
-ghost use Rattle.ac_tables.specs.Cloud.CloudWorld.{providers_of};
+ghost use Rattle.ac_cloud.specs.World.{is_available_at};
+ghost use Rattle.ac_cloud.specs.Cloud.CloudWorld.{providers_of};
 ghost use Rattle.ac_query.specs.Asked.{slots_of};
 ghost use Rattle.ac_query.specs.Shown.Queries.{asked_of};
 ghost use Rattle.ac_rules.specs.Placed.{assigned};
@@ -11,7 +11,7 @@ ghost use Rattle.ac_rules.specs.Together.{takes_root, anchor};
 
 use crate::rules::own::{has_all, has_none};
 use ac_query::Query;
-use ac_tables::Cloud;
+use ac_cloud::Cloud;
 
 // Whether a provider is a root that has what the query asks of the root.
 #[tactic(auto, using(crate::proofs::EachSlot::AnchorLemmas::available_itself), unfolding(crate::specs::Together::takes_root))]

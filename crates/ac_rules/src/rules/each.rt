@@ -2,7 +2,7 @@
 
 ghost use Rattle.std.specs.Prelude.{◌≡◌, ◌<◌, ◌≤◌, length};
 ghost use Rattle.std.specs.List.{All, list_all};
-ghost use Rattle.ac_tables.specs.Cloud.CloudWorld.{providers_of};
+ghost use Rattle.ac_cloud.specs.Cloud.CloudWorld.{providers_of};
 ghost use Rattle.ac_query.specs.Asked.{slots_of};
 ghost use Rattle.ac_query.specs.Shown.Queries.{asked_of};
 ghost use Rattle.ac_rules.specs.Placed.{assigned};
@@ -10,7 +10,7 @@ ghost use Rattle.ac_rules.specs.Own.{units_fit, traits_fit, aggregates_fit, tree
 
 use crate::rules::own::{has_aggregates, has_slot_traits, has_units, is_in_tree};
 use ac_query::Query;
-use ac_tables::Cloud;
+use ac_cloud::Cloud;
 
 /// Units, of every slot.
 #[tactic(auto, using(crate::proofs::PlacedLemmas::placed_more, crate::proofs::PlacedLemmas::placed_end))]

@@ -6,8 +6,8 @@ ghost use Rattle.std.specs.List.Sorted.{IsStrictlySortedBy};
 ghost use Rattle.std.specs.Str.{bytes_eq};
 ghost use Rattle.ac_base.specs.Names.{trait_bytes};
 ghost use Rattle.ac_base.specs.Texts.{text_cmp};
-ghost use Rattle.ac_tables.specs.World.{provider_at};
-ghost use Rattle.ac_tables.specs.Cloud.CloudWorld.{providers_of};
+ghost use Rattle.ac_cloud.specs.World.{provider_at};
+ghost use Rattle.ac_cloud.specs.Cloud.CloudWorld.{providers_of};
 ghost use Rattle.ac_query.specs.Asked.{slots_of};
 ghost use Rattle.ac_query.specs.Shown.Groups.{need_entry, rule_shown, any_of_shown, group_asked};
 ghost use Rattle.ac_query.specs.Shown.Queries.{asked_of};
@@ -17,7 +17,7 @@ ghost use Rattle.ac_rules.specs.Own.{inventory_of, admits, units_fit, has_all, h
 use crate::slots::{group_at, is_suffixed, needs_at};
 use ac_base::{Id, TraitName};
 use ac_query::{AggregateRule, AnyOf, Group, Need, Query};
-use ac_tables::Cloud;
+use ac_cloud::Cloud;
 
 // Whether the provider has an inventory of the class whose units admit the amount.
 fn admits_need(cloud: &Cloud, ix: u32, need: &Need) -> bool

@@ -3,8 +3,8 @@
 ghost use Rattle.std.specs.Prelude.{◌≡◌, ◌<◌, ◌≤◌, length, map};
 ghost use Rattle.std.specs.List.{All};
 ghost use Rattle.ac_base.specs.Names.{class_bytes};
-ghost use Rattle.ac_tables.specs.World.{provider_at, used_of};
-ghost use Rattle.ac_tables.specs.Cloud.CloudWorld.{providers_of};
+ghost use Rattle.ac_cloud.specs.World.{provider_at, used_of};
+ghost use Rattle.ac_cloud.specs.Cloud.CloudWorld.{providers_of};
 ghost use Rattle.ac_query.specs.Asked.{slots_of};
 ghost use Rattle.ac_query.specs.Shown.Groups.{need_entry};
 ghost use Rattle.ac_query.specs.Shown.Queries.{asked_of};
@@ -16,7 +16,7 @@ ghost use Rattle.ac_rules.specs.Together.{amount_of, sum_on, holds, holds_sums, 
 use crate::slots::needs_at;
 use ac_base::ClassName;
 use ac_query::{Need, Query};
-use ac_tables::Cloud;
+use ac_cloud::Cloud;
 
 // The most of a class that one assignment may take of a provider: `max_unit`, or what is left of the capacity.
 // `None` where it has none of the class, or more is used than there is.

@@ -5,7 +5,7 @@ ghost use Rattle.std.specs.List.{All, list_all, list_any};
 ghost use Rattle.std.specs.List.Sorted.{IsStrictlySortedBy};
 ghost use Rattle.ac_base.specs.Names.{trait_bytes};
 ghost use Rattle.ac_base.specs.Texts.{text_cmp};
-ghost use Rattle.ac_tables.specs.Cloud.CloudWorld.{providers_of};
+ghost use Rattle.ac_cloud.specs.Cloud.CloudWorld.{providers_of};
 ghost use Rattle.ac_query.specs.Asked.{slots_of};
 ghost use Rattle.ac_query.specs.Shown.Groups.{any_of_shown, group_asked};
 ghost use Rattle.ac_query.specs.Shown.Queries.{asked_of};
@@ -16,7 +16,7 @@ use crate::rules::own::has_any;
 use crate::slots::{is_listed, is_set_apart, is_suffixed};
 use ac_base::TraitName;
 use ac_query::{AnyOf, Group, Query};
-use ac_tables::Cloud;
+use ac_cloud::Cloud;
 
 // Whether the provider of some unsuffixed slot has a trait.
 #[tactic(auto, using(crate::proofs::PlacedLemmas::placed_more, crate::proofs::PlacedLemmas::placed_end), unfolding(crate::specs::Together::is_brought))]

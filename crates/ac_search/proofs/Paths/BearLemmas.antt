@@ -6,7 +6,7 @@ use Rattle.std.proofs.lemmas.Bool.{cases_Bool, cases_eq, cases_lt, and_parts, eq
 use Rattle.std.proofs.lemmas.Bool.Decides.{nat_tests}
 use Rattle.std.proofs.Math.Nat.{le-div_iff_mul-le}
 use Rattle.ac_query.specs.Asked.{Asked, Slot, slots_of, is_isolated}
-use Rattle.ac_tables.specs.World.{Provider, provider_at, used_of}
+use Rattle.ac_cloud.specs.World.{Provider, provider_at, used_of}
 use Rattle.ac_rules.specs.Placed.{Placed, placed, assigned}
 use Rattle.ac_rules.specs.Own.{inventory_of, units_fit, traits_fit, aggregates_fit, tree_fits}
 use Rattle.ac_search.specs.Left.{room_on}

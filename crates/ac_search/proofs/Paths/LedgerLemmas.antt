@@ -19,7 +19,7 @@ use Rattle.ac_query.specs.Shown.Slots.{slot_shown}
 use Rattle.ac_query.specs.declared.group.Need.{Need}
 use Rattle.ac_query.specs.declared.group.Group as rust
 use Rattle.ac_query.specs.declared.query.Query.{Query}
-use Rattle.ac_tables.specs.World.{Provider, provider_at, is_available_at, anchors_of}
+use Rattle.ac_cloud.specs.World.{Provider, provider_at, is_available_at, anchors_of}
 use Rattle.ac_rules.specs.Placed.{placed, placed_at, slot_at, no_slot, assigned}
 use Rattle.ac_rules.specs.Together.{sum_on, holds, sums, isolate, takes_root}
 use Rattle.ac_rules.specs.Judge.{is_open}

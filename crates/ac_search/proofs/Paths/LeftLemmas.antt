@@ -14,7 +14,7 @@ use Rattle.ac_base.specs.Quantities.{InventoryNumbers, capacity}
 use Rattle.ac_base.specs.Texts.{text_cmp}
 use Rattle.ac_query.specs.Laws.InOrder.{AreApart}
 use Rattle.ac_query.proofs.Values.PositiveNeeds.{apart_from_sorted}
-use Rattle.ac_tables.specs.World.{Provider, provider_at, used_of}
+use Rattle.ac_cloud.specs.World.{Provider, provider_at, used_of}
 use Rattle.ac_rules.specs.Own.{inventory_of}
 use Rattle.ac_rules.specs.Room.{room_in}
 use Rattle.ac_rules.specs.Placed.{Placed}

@@ -2,7 +2,7 @@
 use Rattle.std.proofs.Common.{◌≡◌, ℕ, ◌+◌, ◌*◌, ◌<◌, ◌≤◌, zero, suc, Bool, true, false, List, [], ◌∷◌, ◌++◌, inl, inr, length, drop, get_or, slice_index, slice_set, refl, sym, ap, ◌∙◌, subst, arith, drop-cons, add-one}
 use Rattle.std.specs.Prelude.{◌==◌, if◌then◌else◌, min, cond}
 use Rattle.std.specs.List.{filter, range_with_len, AllByRecursion as Each}
-use Rattle.ac_tables.specs.World.{Provider, is_available_at, anchors_of}
+use Rattle.ac_cloud.specs.World.{Provider, is_available_at, anchors_of}
 use Rattle.ac_search.specs.Marks.{times}
 use Rattle.ac_search.proofs.Paths.MarkLemmas.{times_anchors}
 use Rattle.ac_search.proofs.Search.OpenLemmas.{choice_more}

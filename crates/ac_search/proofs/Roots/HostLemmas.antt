@@ -5,7 +5,7 @@ use Rattle.std.proofs.lemmas.Bool.{and_parts}
 use Rattle.std.proofs.lemmas.List.Elements.{recursion_from_All}
 use Rattle.std.proofs.lemmas.List.Folds.{list_all-append}
 use Rattle.ac_query.specs.Asked.{Asked, Slot, slots_of}
-use Rattle.ac_tables.specs.World.{Provider, is_available_at}
+use Rattle.ac_cloud.specs.World.{Provider, is_available_at}
 use Rattle.ac_rules.specs.Placed.{Placed, placed, assigned}
 use Rattle.ac_rules.specs.Together.{hosts_all}
 use Rattle.ac_rules.specs.Judge.{is_candidate, is_open}

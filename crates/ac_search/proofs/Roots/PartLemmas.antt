@@ -10,8 +10,8 @@ use Rattle.std.proofs.lemmas.List.{get_or_past, take-append-drop, get_or-map, ge
 use Rattle.std.proofs.lemmas.List.Folds.{list_all_at}
 use Rattle.std.proofs.lemmas.List.Elements.{recursion_from_All}
 use Rattle.ac_query.specs.Asked.{Asked, Slot, slots_of, lists_suffix}
-use Rattle.ac_tables.specs.Trees.{chain}
-use Rattle.ac_tables.specs.World.{Provider, id_at, parent_of, is_above}
+use Rattle.ac_cloud.specs.Trees.{chain}
+use Rattle.ac_cloud.specs.World.{Provider, id_at, parent_of, is_above}
 use Rattle.ac_rules.specs.Laws.{AreInOrder}
 use Rattle.ac_rules.specs.Lists.{IsListBelow}
 use Rattle.ac_rules.specs.Order.{lex_lt}

@@ -7,7 +7,7 @@ use Rattle.std.specs.List.{list_all, list_any, range_with_len, Contains, AllByRe
 use Rattle.std.proofs.lemmas.Bool.{cases_Bool, cases_eq, and_parts, eq-eqb, ne_eqb, false≢true, false_from_ne_true}
 use Rattle.std.proofs.lemmas.List.Folds.{list_all-append, list_any-append, list_any_at}
 use Rattle.ac_query.specs.Asked.{Asked, slots_of}
-use Rattle.ac_tables.specs.World.{Provider, is_available_at, anchors_of}
+use Rattle.ac_cloud.specs.World.{Provider, is_available_at, anchors_of}
 use Rattle.ac_rules.specs.Placed.{assigned}
 use Rattle.ac_rules.specs.Together.{takes_root}
 use Rattle.ac_rules.specs.Judge.{is_open}

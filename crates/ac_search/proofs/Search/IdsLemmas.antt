@@ -3,7 +3,7 @@ use Rattle.std.proofs.Common.{◌≡◌, ℕ, ◌+◌, ◌<◌, ◌&&◌, zero, 
 use Rattle.std.specs.List.{flat_map, range_with_len, AllByRecursion as Each}
 use Rattle.std.proofs.lemmas.Bool.{cases_Bool}
 use Rattle.ac_query.specs.Asked.{Asked, slots_of}
-use Rattle.ac_tables.specs.World.{Provider}
+use Rattle.ac_cloud.specs.World.{Provider}
 use Rattle.ac_rules.specs.Order.{lex_lt}
 use Rattle.ac_rules.specs.Judge.{is_open}
 use Rattle.ac_rules.specs.Laws.{AreInOrder}

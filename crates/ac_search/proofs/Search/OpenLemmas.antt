@@ -10,7 +10,7 @@ use Rattle.std.proofs.lemmas.List.FromFn.{length-range_with_len, get_or-range_wi
 use Rattle.std.proofs.lemmas.List.Elements.{filter-append}
 use Rattle.std.proofs.Common.{cond, add-one}
 use Rattle.ac_query.specs.Asked.{Asked, Slot, slots_of}
-use Rattle.ac_tables.specs.World.{Provider, provider_at, used_of}
+use Rattle.ac_cloud.specs.World.{Provider, provider_at, used_of}
 use Rattle.ac_rules.specs.Placed.{Placed, placed, placed_at, slot_at, no_slot, assigned}
 use Rattle.ac_rules.specs.Own.{inventory_of, units_fit, traits_fit, aggregates_fit, tree_fits}
 use Rattle.ac_rules.specs.Together.{amount_of, sum_on, holds, holds_sums, sums, isolate, anchor}

@@ -8,8 +8,8 @@ use Rattle.std.proofs.lemmas.List.{get_or_past}
 use Rattle.std.specs.Option.{option_map}
 use Rattle.ac_base.specs.Devices.{last_count, Rises}
 use Rattle.ac_query.specs.Shown.Queries.{asked_of}
-use Rattle.ac_tables.specs.Cloud.CloudWorld.{providers_of}
-use Rattle.ac_tables.proofs.ProvidersStated.{cloud_in_order}
+use Rattle.ac_cloud.specs.Cloud.CloudWorld.{providers_of}
+use Rattle.ac_cloud.proofs.InOrder.{cloud_in_order}
 use Rattle.ac_rules.specs.Order.{lex_lt}
 use Rattle.ac_search.specs.Search.{Search, all_shorter, choices_at, next_at, from, between}
 use Rattle.ac_search.specs.QuerySearch.{open_between}

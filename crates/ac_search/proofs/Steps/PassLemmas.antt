@@ -4,7 +4,7 @@ use Rattle.std.specs.List.{slice_index}
 use Rattle.std.specs.Global.{Vec}
 use Rattle.std.proofs.lemmas.Bool.{cases_order, false_from_ne_true, false≢true}
 use Rattle.std.proofs.lemmas.List.{set-set, get_or_default}
-use Rattle.ac_tables.specs.World.{Provider, is_available_at, anchors_of}
+use Rattle.ac_cloud.specs.World.{Provider, is_available_at, anchors_of}
 use Rattle.ac_search.specs.Left.Accounts.{providers_in, asked_in}
 use Rattle.ac_search.specs.Trees.Keys.{is_there}
 use Rattle.ac_search.specs.Trees.{IsByTree}

@@ -6,9 +6,9 @@ use Rattle.std.specs.Prelude.{min}
 use Rattle.std.proofs.lemmas.Bool.{cases_lt}
 use Rattle.ac_base.specs.Devices.{last_count, one_more, Rises}
 use Rattle.ac_query.specs.Shown.Queries.{asked_of}
-use Rattle.ac_tables.specs.Cloud.CloudWorld.{providers_of}
-use Rattle.ac_tables.specs.declared.cloud.Cloud.{Cloud}
-use Rattle.ac_tables.proofs.Places.CloudFacts.{size}
+use Rattle.ac_cloud.specs.Cloud.CloudWorld.{providers_of}
+use Rattle.ac_cloud.specs.declared.cloud.Cloud.{Cloud}
+use Rattle.ac_cloud.proofs.Places.CloudFacts.{size}
 use Rattle.ac_rules.specs.Order.{lex_lt}
 use Rattle.ac_search.specs.Search.{Search, choices_at, next_at, next_front, left_from, between}
 use Rattle.ac_search.specs.Shown.Walk.{search_in, front_in, path_in, left_of, changed, IsSame}

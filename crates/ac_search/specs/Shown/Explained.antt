@@ -2,7 +2,7 @@
 use Rattle.std.specs.Prelude.{ℕ, ◌&&◌, Bool, List, length, map, if◌then◌else◌}
 use Rattle.std.specs.List.{list_all, filter, range_with_len}
 use Rattle.ac_query.specs.Asked.{Asked, Slot}
-use Rattle.ac_tables.specs.World.{Provider}
+use Rattle.ac_cloud.specs.World.{Provider}
 use Rattle.ac_rules.specs.Together.{takes_root}
 use Rattle.ac_search.specs.Explained.{SlotCounts, TreeCounts, in_slot, is_served, meets_room}
 use Rattle.ac_search.specs.declared.explaining.SlotCounts as slot

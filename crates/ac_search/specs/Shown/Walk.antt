@@ -4,8 +4,8 @@ use Rattle.std.specs.Option.{option_map}
 use Rattle.ac_base.specs.Devices.{last_count, Rises}
 use Rattle.ac_query.specs.Asked.{Asked}
 use Rattle.ac_query.specs.Shown.Queries.{asked_of}
-use Rattle.ac_tables.specs.Cloud.CloudWorld.{providers_of}
-use Rattle.ac_tables.specs.World.{Provider}
+use Rattle.ac_cloud.specs.Cloud.CloudWorld.{providers_of}
+use Rattle.ac_cloud.specs.World.{Provider}
 use Rattle.ac_search.specs.Search.{Search, next_front, left_from}
 use Rattle.ac_search.specs.QuerySearch.{search_of, open_between}
 use Rattle.ac_search.specs.declared.walk.Walk.{Walk}

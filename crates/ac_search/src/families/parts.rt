@@ -5,7 +5,7 @@ ghost use Rattle.std.specs.Prelude.{◌≡◌, ◌<◌, ℕ, [], true, length, m
 ghost use Rattle.std.specs.List.{All};
 ghost use Rattle.ac_query.specs.Asked.{slots_of, lists_suffix};
 ghost use Rattle.ac_query.specs.Shown.Queries.{asked_of};
-ghost use Rattle.ac_tables.specs.Cloud.CloudWorld.{providers_of};
+ghost use Rattle.ac_cloud.specs.Cloud.CloudWorld.{providers_of};
 ghost use Rattle.ac_rules.specs.Placed.{slot_at};
 ghost use Rattle.ac_search.specs.Left.Accounts.{asked_in, Accounts};
 ghost use Rattle.ac_search.specs.Left.{ask_pair, row_of, has_each};
@@ -18,7 +18,7 @@ use crate::ledger::rooms::{Ask, Room, has_each};
 use ac_base::NoMemory;
 use ac_query::Query;
 use ac_rules::slots::{count_slots, is_listed};
-use ac_tables::Cloud;
+use ac_cloud::Cloud;
 use std::alloc::Global;
 
 // Marks each provider of a list.

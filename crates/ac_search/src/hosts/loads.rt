@@ -1,11 +1,11 @@
 //! What the providers of each root have together.
 
 ghost use Rattle.std.specs.Prelude.{◌≡◌, ℕ, length, map, slice_index, IfOk};
-ghost use Rattle.ac_tables.specs.Cloud.CloudWorld.{providers_of, root_lists_of};
+ghost use Rattle.ac_cloud.specs.Cloud.CloudWorld.{providers_of, root_lists_of};
 ghost use Rattle.ac_search.specs.Loads.{IsAdded, AreBrought, AreSplit, AreLoads, AreReaching, AreLimited};
 
 use ac_base::NoMemory;
-use ac_tables::Cloud;
+use ac_cloud::Cloud;
 use std::alloc::Global;
 
 // Adds an amount at each root of a list; a sum stays where it can't rise.

@@ -3,7 +3,7 @@
 
 ghost use Rattle.std.specs.Prelude.{◌≡◌, ◌+◌, ◌-◌, ◌<◌, ◌≤◌, ◌^◌, ◌&&◌, ◌==◌, ℕ, length, map, slice_index, slice_index_or, true, false, if◌then◌else◌, IfOk};
 ghost use Rattle.std.specs.List.{All, list_any, range_with_len};
-ghost use Rattle.ac_tables.specs.Cloud.CloudWorld.{providers_of};
+ghost use Rattle.ac_cloud.specs.Cloud.CloudWorld.{providers_of};
 ghost use Rattle.ac_query.specs.Asked.{slots_of};
 ghost use Rattle.ac_query.specs.Shown.Queries.{asked_of};
 ghost use Rattle.ac_rules.specs.Placed.{slot_at};
@@ -14,7 +14,7 @@ use ac_base::NoMemory;
 use ac_query::Query;
 use ac_rules::rules::anchor::takes_root;
 use ac_rules::slots::{count_slots, is_set_apart};
-use ac_tables::Cloud;
+use ac_cloud::Cloud;
 use std::alloc::Global;
 
 // Whether a slot needs a provider for itself among its like.

@@ -3,7 +3,7 @@
 ghost use Rattle.std.specs.Prelude.{◌≡◌, ◌+◌, ◌<◌, ◌≤◌, ◌^◌, ◌==◌, ℕ, List, length, map, [], if◌then◌else◌, IfOk};
 ghost use Rattle.std.specs.List.{AllByRecursion};
 ghost use Rattle.ac_base.specs.Names.{class_bytes};
-ghost use Rattle.ac_tables.specs.Cloud.CloudWorld.{providers_of};
+ghost use Rattle.ac_cloud.specs.Cloud.CloudWorld.{providers_of};
 ghost use Rattle.ac_query.specs.Asked.{slots_of};
 ghost use Rattle.ac_query.specs.Shown.Groups.{need_entry};
 ghost use Rattle.ac_query.specs.Shown.Queries.{asked_of};
@@ -14,7 +14,7 @@ use ac_base::{ClassName, NoMemory};
 use ac_query::{Need, Query};
 use ac_rules::rules::sums::room_at;
 use ac_rules::slots::{count_slots, needs_at};
-use ac_tables::Cloud;
+use ac_cloud::Cloud;
 use std::alloc::Global;
 
 /// What a slot asks of a class, by the class's number.

@@ -6,13 +6,13 @@ use Rattle.ac_tables.specs.Reader.TableRows.{Stops, IsReadUpTo}
 use Rattle.ac_tables.specs.Tables.Checks.{fault_at}
 use Rattle.ac_tables.specs.declared.fault.RecordFault.TheVariants as record_fault
 use Rattle.ac_tables.specs.declared.fault.TableKind.TheVariants as kind
-use Rattle.ac_tables.proofs.Small.{clash}
+use Rattle.ac_base.proofs.Small.{clash}
 use Rattle.ac_tables.specs.declared.fault.TableFault.TheVariants as fault
 use Rattle.std.proofs.lemmas.Bool.{and_left, and_right, false_from_ne_true}
 use Rattle.std.proofs.lemmas.List.Elements.{All-from_get_or}
 use Rattle.std.proofs.lemmas.Map.Keys.{apart_from_distinct, IsDistinct-IsPermutation}
 use Rattle.ac_tables.proofs.Gathered.RowOrder.{row_total, rows_strict}
-use Rattle.ac_tables.proofs.Sorted.SearchFacts.{any_map}
+use Rattle.ac_base.proofs.Sorted.SearchFacts.{any_map}
 use Rattle.ac_tables.proofs.Sorted.SortedTies.{Sorting, none_sooner, repeated, with_head}
 use Rattle.ac_tables.proofs.Gathered.JoinedFault.{checks_at, joined_none, joined_at}
 

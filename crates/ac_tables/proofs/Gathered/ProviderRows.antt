@@ -3,7 +3,8 @@ use Rattle.ac_tables.proofs.Common.{◌≡◌, ◌∙◌, ◌<◌, ℕ, zero, su
 use Rattle.std.specs.List.Sorted.{IsStrictlySortedBy}
 use Rattle.std.proofs.lemmas.Cmp.{tied_itself}
 use Rattle.std.proofs.lemmas.List.Elements.{filter_passes}
-use Rattle.ac_tables.proofs.Small.{are_equal}
+use Rattle.ac_base.proofs.Small.{are_equal}
+use Rattle.ac_base.proofs.Sorted.SameItems.{map_has}
 
 module _ {X : Type 0} (p : X → Bool) where
   pub filter_has : (xs : List X) (x : X) → Contains xs x → p x ≡ true → Contains (filter p xs) x
@@ -28,9 +29,6 @@ module _ {X : Type 0} (p : X → Bool) where
       at later passes (suc k, inside, here) = let r = later (k, omega arith, here) in ((suc r.0.0, (let i = r.0.1 in omega (arith, i)), r.0.2), r.1)
 
 module _ {X Y : Type 0} (f : X → Y) where
-  pub map_has : (xs : List X) (x : X) → Contains xs x → Contains (map f xs) (f x)
-  map_has xs x c = (c.0, (let i = c.1 in let s = length-map xs f in omega (arith, i, s)), get_or-map f xs c.0 x (f x) c.1 ∙ ap f c.2)
-
   pub has_map : (xs : List X) (y : Y) → Contains (map f xs) y → (x : X) × Contains xs x × (f x ≡ y)
   has_map [] y c = let i = c.1 in absurd (omega (arith, i))
   has_map (x ∷ xs) y (zero, inside, here) = (x, (zero, omega arith, refl), here)

@@ -1,7 +1,7 @@
 -- The rows of one provider, cut out of a sorted list.
 use Rattle.ac_tables.proofs.Common.{◌≡◌, ◌∙◌, ◌+◌, ◌-◌, ◌<◌, ◌≤◌, ◌++◌, ℕ, zero, suc, Bool, true, false, List, [], ◌∷◌, length, get_or, take, drop, refl, sym, ap, subst, arith, inl, inr, ◌==◌, filter, IsNonDecreasingBy, cases_lt, get_or_append_left, length-append, IsStart, TableRow}
 use Rattle.std.proofs.lemmas.List.{get_or_push}
-use Rattle.ac_tables.proofs.Small.{equal, differ}
+use Rattle.ac_base.proofs.Small.{equal, differ}
 
 module _ {X : Type 0} (p : X → Bool) where
   none_kept : (xs : List X) → ((k : ℕ) (d : X) → k < length xs → p (get_or xs k d) ≡ false) → filter p xs ≡ []

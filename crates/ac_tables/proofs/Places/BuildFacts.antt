@@ -2,8 +2,9 @@
 use Rattle.ac_tables.proofs.Common.{◌≡◌, ◌<◌, ◌+◌, ◌∙◌, ℕ, true, false, List, [], ◌∷◌, map, length, get_or, Option, Some, None, refl, sym, ap, arith, inl, inr, ◌==◌, IfSome, option_map, option_and_then, is_some, position_from, cases_Bool, get_or-map, length-map, top, is_endless, rank, parent_in, AreWithin, AreParents, ProviderRecord, said_parent, is_one_of}
 use Rattle.std.proofs.lemmas.Iterator.Adapters.{position_from-zero}
 use Rattle.std.proofs.lemmas.List.Quantifiers.{position-Some}
-use Rattle.ac_tables.proofs.Trees.PlaceTrees.{steps}
-use Rattle.ac_tables.proofs.Small.{are_equal}
+use Rattle.ac_cloud.proofs.Trees.PlaceTrees.{steps}
+use Rattle.ac_base.proofs.Small.{are_equal}
+use Rattle.ac_cloud.specs.Cloud.Forests.{IsForest}
 
 -- what has a place is there
 pub ranked : (ids : List ℕ) (q j : ℕ) → rank ids q ≡ Some j → (j < length ids) × (get_or ids j 0 ≡ q)
@@ -39,14 +40,6 @@ module _ (ids : List ℕ) (rows : List ProviderRecord) (known : (i q : ℕ) → 
   pub are_within : AreWithin (length ids) parents
   are_within i j h e = some_rank (said_parent rows (name i)) j (sym (at_place i h) ∙ e)
 
-  if_some : (n i : ℕ) (o : Option ℕ) → ((j : ℕ) → o ≡ Some j → j < n) → IfSome o (λ j. j < n)
-  if_some n i None f = tt
-  if_some n i (Some j) f = f j refl
-
-  pub are_parents : AreParents parents
-  are_parents i h =
-      if_some (length parents) i (get_or parents i None) (λ j e. let k = are_within i j (omega (arith, h, same_size)) e in omega (arith, k, same_size))
-
   agree_on : (i : ℕ) → i < length ids → (o : Option ℕ) → said_parent rows (name i) ≡ o → o ≡ option_map name (option_and_then (rank ids) o)
   agree_on i h None e = refl
   agree_on i h (Some q) e =
@@ -60,8 +53,21 @@ module _ (ids : List ℕ) (rows : List ProviderRecord) (known : (i q : ℕ) → 
   nothing None e = refl
   nothing (Some q) e = absurd (cc)
 
-  pub chains_end : ((i : ℕ) → i < length ids → is_endless (said_parent rows) (length ids) (get_or ids i 0) ≡ false) → (i : ℕ) → i < length ids → parent_in parents (top (parent_in parents) (length ids) i) ≡ None
+  chains_end : ((i : ℕ) → i < length ids → is_endless (said_parent rows) (length ids) (get_or ids i 0) ≡ false) → (i : ℕ) → i < length ids → parent_in parents (top (parent_in parents) (length ids) i) ≡ None
   chains_end ends i h =
       let s = steps (said_parent rows) name (length ids) parents are_within agree (length ids) i h in
       nothing (parent_in parents (top (parent_in parents) (length ids) i))
       (ap is_some (sym (agree (top (parent_in parents) (length ids) i) s.0)) ∙ ap (λ (x : ℕ). is_some (said_parent rows x)) (sym s.1) ∙ ends i h)
+
+  -- these parents with their roots, where each chain ends
+  pub forest : (roots : List ℕ) → length roots ≡ length parents → ((i : ℕ) → i < length parents → get_or roots i 0 ≡ top (parent_in parents) (length parents) i)
+      → ((i : ℕ) → i < length ids → is_endless (said_parent rows) (length ids) (get_or ids i 0) ≡ false) → IsForest (length ids) parents roots
+  forest roots sized tops ends =
+      let rooted = λ (i : ℕ) (h : i < length ids). tops i (omega (arith, h, same_size)) ∙ ap (λ (n : ℕ). top (parent_in parents) n i) same_size in
+      record {
+        with_parents = same_size;
+        with_roots = sized ∙ same_size;
+        within = are_within;
+        rooted = rooted;
+        ends = λ i h. ap (parent_in parents) (rooted i h) ∙ chains_end ends i h;
+      }

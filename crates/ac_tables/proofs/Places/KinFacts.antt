@@ -6,9 +6,9 @@ use Rattle.ac_tables.specs.declared.fault.TableKind.TheVariants as kind
 use Rattle.std.proofs.lemmas.Iterator.Adapters.{position_from-zero}
 use Rattle.std.proofs.lemmas.List.Quantifiers.{position-Some}
 use Rattle.ac_tables.proofs.Records.ProviderFaults.{none_fails}
-use Rattle.ac_tables.proofs.Sorted.Rising.{one_of_place}
-use Rattle.ac_tables.proofs.Sorted.SameItems.{member_rising}
-use Rattle.ac_tables.proofs.Small.{are_equal}
+use Rattle.ac_cloud.proofs.Rising.{one_of_place}
+use Rattle.ac_base.proofs.Sorted.SameItems.{member_rising}
+use Rattle.ac_base.proofs.Small.{are_equal}
 use Rattle.ac_tables.proofs.Records.TreeFaults.{AreTrees, endless_fault}
 
 -- a place that was found has that id

@@ -2,7 +2,7 @@
 use Rattle.ac_tables.proofs.Common.{◌≡◌, ◌==◌, ℕ, List, map, length, get_or, refl, filter, range_with_len, class_bytes, InventoryNumbers, text_cmp, ClassName, IsRising, class_pair, inventory_shown, InventoryRecord, same_place, TableRow}
 use Rattle.ac_tables.specs.Reader.InventoryRows.{AreInventories}
 use Rattle.ac_tables.specs.Tables.{inventories_of}
-use Rattle.ac_tables.proofs.Sorted.ListFacts.{of_each}
+use Rattle.ac_tables.proofs.Sorted.RowLists.{of_each}
 use Rattle.ac_tables.proofs.Sorted.ProviderMaps.{shown_map}
 
 pub inventory_lists_here : (ids : List ℕ) → IsRising ids → (said : List InventoryRecord) (rows : List (TableRow ClassName InventoryNumbers)) → AreInventories ids said rows

@@ -3,7 +3,7 @@ use Rattle.ac_tables.proofs.Common.{◌≡◌, ◌∙◌, ◌<◌, ◌++◌, ℕ
 use Rattle.ac_tables.specs.Tables.InventoryTable.{known_checks}
 use Rattle.ac_tables.specs.declared.fault.TableKind.TheVariants as kind
 use Rattle.ac_tables.proofs.FirstFailing.{append_none}
-use Rattle.ac_tables.proofs.Sorted.Rising.{one_of_place}
+use Rattle.ac_cloud.proofs.Rising.{one_of_place}
 
 pub unknown : (ids : List ℕ) (id said : ℕ) → id ≡ said → is_one_of ids id ≡ false → first_failing (known_checks ids said) ≡ Some kind.UnknownProvider
 unfolding known_checks

@@ -1,7 +1,7 @@
 -- The first record of a marked row, and the first fault of a pass over all records.
 use Rattle.ac_tables.proofs.Common.{◌≡◌, ◌∙◌, ◌+◌, ◌<◌, ◌≤◌, ℕ, zero, suc, Bool, true, false, List, [], ◌∷◌, length, get_or, min, Option, Some, None, refl, sym, ap, subst, arith, inl, inr, ◌⊎◌, option_map, cases_Bool, cases_lt, get_or-map, get_or_default, length-map, Contains-get_or, Contains-permutation, IsPermutation-sym, nat_cmp, first_failing, pass, IsFirstBelow, IsFirst, ProviderRecord, no_record, provider_shown, row_shown, sooner, IsTable, Table, TableKind, TableRow, Named}
 use Rattle.ac_tables.specs.declared.fault.TableFault.TheVariants as fault
-use Rattle.ac_tables.proofs.Small.{clash, min_left, min_right, is_min_left, is_min_right}
+use Rattle.ac_base.proofs.Small.{clash, min_left, min_right, is_min_left, is_min_right}
 
 -- below a place, or at it
 last_or : (i k : ℕ) → k < i + 1 → (k < i) ⊎ (k ≡ i)

@@ -4,13 +4,14 @@ use Rattle.std.specs.Cmp.{nat_cmp_total, unsigned_tied}
 use Rattle.std.specs.List.{IsDistinct}
 use Rattle.std.proofs.lemmas.Map.Keys.{IsDistinct-IsPermutation, apart_from_distinct}
 use Rattle.ac_tables.specs.Tables.ProviderTable.{is_at, place_of}
-use Rattle.ac_tables.proofs.Places.BuildFacts.{agree, are_within, are_parents, same_size, has_rank}
+use Rattle.ac_cloud.proofs.Places.WorldFacts.{are_parents}
+use Rattle.ac_tables.proofs.Places.BuildFacts.{agree, are_within, same_size, has_rank}
 use Rattle.ac_tables.proofs.Places.KinFacts.{kin_known, place_member}
 use Rattle.ac_tables.proofs.Records.ProviderFaults.{are_trees}
 use Rattle.ac_tables.proofs.Records.Marks.{record_of, said_at, size}
-use Rattle.ac_tables.proofs.Trees.PlaceTrees.{steps}
-use Rattle.ac_tables.proofs.Sorted.Rising.{rank_none}
-use Rattle.ac_tables.proofs.Sorted.SameItems.{is_rising, member_rising}
+use Rattle.ac_cloud.proofs.Trees.PlaceTrees.{steps}
+use Rattle.ac_cloud.proofs.Rising.{rank_none}
+use Rattle.ac_base.proofs.Sorted.SameItems.{is_rising, member_rising}
 use Rattle.ac_tables.proofs.Gathered.ProviderRows.{keys_sorted}
 use Rattle.ac_tables.proofs.Records.TreeFaults.{AreDistinct, AreTrees, unknown_fault}
 
@@ -137,7 +138,7 @@ module _ (said : List ProviderRecord) (rows : List ListingRow) (t : IsTable nat_
       as_many = same_size ids said known_here parents parents_are
 
       pub are_places : AreParents parents
-      are_places = are_parents ids said known_here parents parents_are
+      are_places = are_parents parents (length ids) (same_size ids said known_here parents parents_are) (are_within ids said known_here parents parents_are)
 
       some_map : (f : ℕ → ℕ) (o : Option ℕ) → is_some (option_map f o) ≡ is_some o
       some_map f None = refl

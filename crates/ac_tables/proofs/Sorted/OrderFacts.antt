@@ -1,15 +1,9 @@
 -- What is gathered in order: it rises, and is just what it was gathered of.
 use Rattle.ac_tables.proofs.Common.{◌≡◌, ◌∙◌, ℕ, List, reverse, sym, list_any, bytes_eq, is_at, nat_cmp_total, nat_list_cmp_total, is_eq-slice_cmp, text_cmp, map_of, rising}
 use Rattle.ac_tables.specs.Laws.{IsMapOf, OrderHolds}
-use Rattle.ac_tables.proofs.Sorted.SameItems.{any_rising, last_given, map_rises, member_rising}
-use Rattle.ac_tables.proofs.Sorted.SearchFacts.{any_same, lookup_same}
-use Rattle.ac_tables.proofs.Sorted.SortedSets.{rising_sorted}
-
-pub name_rising : (q : List ℕ) (names : List (List ℕ)) → list_any (bytes_eq q) (rising text_cmp names) ≡ list_any (bytes_eq q) names
-name_rising q names =
-    any_same (bytes_eq q) (is_at (text_cmp q)) (λ n. sym (is_eq-slice_cmp q n)) (rising text_cmp names)
-    ∙ any_rising nat_list_cmp_total q names
-    ∙ any_same (is_at (text_cmp q)) (bytes_eq q) (is_eq-slice_cmp q) names
+use Rattle.ac_base.proofs.Sorted.SameItems.{last_given, map_rises, member_rising, name_rising}
+use Rattle.ac_base.proofs.Sorted.SearchFacts.{lookup_same}
+use Rattle.ac_base.proofs.Sorted.SortedSets.{rising_sorted}
 
 map_holds : {X : Type 0} (pairs : List (List ℕ × X)) → IsMapOf pairs (map_of pairs)
 map_holds pairs = record {

@@ -1,6 +1,6 @@
 -- What the rows of one provider show, in their order, is the map of all that is said of it.
 use Rattle.ac_tables.proofs.Common.{◌≡◌, ◌∙◌, ◌<◌, ℕ, Bool, true, List, map, refl, sym, ap, ◌==◌, Ordering, filter, nat_list_cmp_total, Contains-permutation, IsPermutation-sym, All-permutation, exact_bytes, text_cmp, map_of, row_shown, IsTable, TableRow, map-map}
-use Rattle.ac_tables.proofs.Sorted.SameItems.{is_map}
+use Rattle.ac_base.proofs.Sorted.SameItems.{is_map}
 use Rattle.ac_tables.proofs.Gathered.ProviderRows.{own_moved, own_keys_sorted, of_provider}
 
 module _ {V K X : Type 0} (cmp : K → K → Ordering) (bytes : K → List ℕ) (same : (a b : K) → cmp a b ≡ text_cmp (bytes a) (bytes b))

@@ -3,10 +3,10 @@ use Rattle.ac_tables.proofs.Common.{◌≡◌, ◌∙◌, ◌<◌, ℕ, Bool, tr
 use Rattle.std.proofs.Common.{Any}
 use Rattle.std.proofs.lemmas.List.Kept.{IsStrictlySortedBy-dedup, Any-dedup, Contains-from_dedup}
 use Rattle.ac_tables.proofs.Gathered.RowOrder.{row_total}
-use Rattle.ac_tables.proofs.Sorted.SameItems.{is_rising}
-use Rattle.ac_tables.proofs.Gathered.ProviderRows.{filter_has, has_filter, map_has, has_map, own_moved, own_keys_sorted, of_provider}
+use Rattle.ac_base.proofs.Sorted.SameItems.{is_rising, map_has}
+use Rattle.ac_tables.proofs.Gathered.ProviderRows.{filter_has, has_filter, has_map, own_moved, own_keys_sorted, of_provider}
 use Rattle.ac_tables.proofs.Gathered.RowPlaces.{places_rise}
-use Rattle.ac_tables.proofs.Sorted.SearchFacts.{in_order}
+use Rattle.ac_base.proofs.Sorted.SearchFacts.{in_order}
 
 both_equal : (a b : Ordering) → is_eq (ordering_then a b) ≡ true → (a ≡ Equal) × (b ≡ Equal)
 both_equal Less b e = absurd (cc)

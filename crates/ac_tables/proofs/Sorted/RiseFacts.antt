@@ -1,9 +1,9 @@
 -- What is gathered of each provider rises.
 use Rattle.ac_tables.proofs.Common.{◌≡◌, ◌∙◌, ℕ, List, [], ◌∷◌, map, get_or, refl, sym, ap, subst, nat_cmp, ◌==◌, All, filter, IsPermutation, IsStrictlySortedBy, nat_cmp_total, nat_list_cmp_total, class_bytes, trait_bytes, text_cmp, InventoryNumbers, ClassName, TraitName, TextMap, InventoryRecord, UsageRecord, TraitRecord, AggregateRecord, class_pair, inventory_records_shown, TableRow, Inventories, map-id}
 use Rattle.ac_tables.specs.Tables.{inventories_of, amounts_of, names_of, aggregates_of}
-use Rattle.ac_tables.proofs.Sorted.SortedSets.{rising_sorted}
-use Rattle.ac_tables.proofs.Sorted.SameItems.{map_rises}
-use Rattle.ac_tables.proofs.Sorted.ListFacts.{all_gathered}
+use Rattle.ac_base.proofs.Sorted.SortedSets.{rising_sorted}
+use Rattle.ac_base.proofs.Sorted.SameItems.{map_rises}
+use Rattle.ac_tables.proofs.Sorted.RowLists.{all_gathered}
 
 -- what the rows of the inventories show, beside ids that are equal
 pub said_here : (own : Inventories) (ids : List ℕ) (said : List InventoryRecord) → own.ids.ids.items ≡ ids → IsPermutation said (inventory_records_shown ids own.rows.items.items) → IsPermutation said (inventory_records_shown own.ids.ids.items own.rows.items.items)

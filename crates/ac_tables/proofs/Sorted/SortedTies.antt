@@ -4,7 +4,7 @@ use Rattle.std.proofs.lemmas.Bool.{cases_order, true_from_ne_false}
 use Rattle.std.proofs.lemmas.List.Sorted.{ranks_by}
 use Rattle.std.proofs.lemmas.Map.Keys.{apart_from_distinct, IsDistinct-from_apart, IsDistinct-IsPermutation}
 use Rattle.std.proofs.lemmas.Cmp.{tied_back}
-use Rattle.ac_tables.proofs.Small.{clash, differ, equal}
+use Rattle.ac_base.proofs.Small.{clash, differ, equal}
 use Rattle.ac_tables.proofs.Gathered.RowOrder.{below_of, equal_of}
 
 pub with_head : {X : Type 0} (xs : List X) (P : Type 0) → 0 < length xs → (X → P) → P

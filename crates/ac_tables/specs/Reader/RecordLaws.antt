@@ -4,8 +4,9 @@ use Rattle.std.specs.Prelude.{◌==◌, ◌&&◌, not}
 use Rattle.std.specs.declared.cmp.Ordering.{Ordering}
 use Rattle.std.specs.declared.cmp.Ordering.TheVariants.{Less, Equal, Greater}
 use Rattle.std.specs.Ordering.{nat_cmp, ordering_then, is_eq}
-use Rattle.std.specs.Cmp.{unsigned_tied, both_ways}
+use Rattle.std.specs.Cmp.{unsigned_tied}
 use Rattle.std.proofs.lemmas.Slice.Eq.{bytes_eq-Decides}
+use Rattle.ac_base.proofs.Small.{eq_turned}
 use Rattle.std.specs.List.{All, list_any}
 use Rattle.std.specs.Str.{bytes_eq}
 use Rattle.std.proofs.lemmas.Bool.{cases_Bool, cases_eq, cases_order}
@@ -16,9 +17,10 @@ use Rattle.ac_base.specs.declared.name.ClassName.{ClassName}
 use Rattle.ac_base.specs.declared.name.TraitName.{TraitName}
 use Rattle.ac_tables.specs.Tables.Checks.{Row, Check, first_failing}
 use Rattle.ac_tables.specs.Tables.Columns.{id_in, text_in}
-use Rattle.ac_tables.specs.Cloud.RisingIds.{IsRising}
+use Rattle.ac_cloud.specs.Cloud.RisingIds.{IsRising}
 use Rattle.ac_tables.specs.Reader.TableRows.{IsKeyed}
-use Rattle.ac_tables.specs.Tables.InventoryTable.{InventoryRecord, provider_name, class_name, inventory_said, inventory_record_checks, inventory_field_checks, once_checks, known_checks, is_inventory_of, is_one_of}
+use Rattle.ac_tables.specs.Tables.InventoryTable.{InventoryRecord, provider_name, class_name, inventory_said, inventory_record_checks, inventory_field_checks, once_checks, known_checks, is_inventory_of}
+use Rattle.ac_base.specs.Sorted.{is_one_of}
 use Rattle.ac_tables.specs.Tables.UsageTable.{UsageRecord, usage_said, usage_field_checks, usage_row_checks, used_checks, is_usage}
 use Rattle.ac_tables.specs.Tables.TraitTable.{trait_said, trait_record_checks}
 use Rattle.ac_tables.specs.Tables.AggregateTable.{aggregate_said, aggregate_record_checks}
@@ -156,9 +158,6 @@ same_place ids rising p q hp hq = elim (cases_eq p q) [
   | inl e ↦ equal _ _ (ap (λ i. get_or ids i 0) e) ∙ sym (equal p q e)
   | inr ne ↦ differ _ _ (apart_rising ids rising p q hp hq ne) ∙ sym (differ p q ne)
 ]
-
-pub eq_turned : (a b : List ℕ) → bytes_eq a b ≡ bytes_eq b a
-eq_turned a b = both_ways (bytes_eq a b) (bytes_eq b a) (λ e. (bytes_eq-Decides b a).1 (sym ((bytes_eq-Decides a b).0 e))) (λ e. (bytes_eq-Decides a b).1 (sym ((bytes_eq-Decides b a).0 e)))
 
 -- keys are equal together with what they show
 pub keys_apart : {X : Type 0} (ids : List ℕ) → IsRising ids → (p q : ℕ) (k l : ClassName) (x y : X) → p < length ids → q < length ids

@@ -5,6 +5,7 @@ use Rattle.std.specs.List.{list_any}
 use Rattle.std.specs.Str.{bytes_eq}
 use Rattle.ac_base.specs.Texts.{name_value, ratio_value}
 use Rattle.ac_base.specs.Quantities.{InventoryNumbers}
+use Rattle.ac_base.specs.Sorted.{is_one_of}
 use Rattle.ac_tables.specs.Tables.Checks.{Row, Check, first_failing}
 use Rattle.ac_tables.specs.Tables.Columns.{table_checks, said_by, text_in, id_in, number_in, bad_width, bad_id, bad_number}
 use Rattle.ac_tables.specs.declared.fault.Table.TheVariants as table
@@ -67,10 +68,6 @@ bad_class header row = (is_none (name_value (text_in header class_name row)), ki
 -- an inventory of this provider and class
 abbrev pub is_inventory_of : ℕ → List ℕ → InventoryRecord → Bool
 is_inventory_of id class h = (h.provider == id) && bytes_eq class h.class
-
--- a provider is there
-abbrev pub is_one_of : List ℕ → ℕ → Bool
-is_one_of ids id = list_any (λ p. p == id) ids
 
 -- the checks of the fields of a inventory
 unfoldable pub number_checks : Row → Row → List Check

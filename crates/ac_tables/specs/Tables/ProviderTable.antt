@@ -6,7 +6,7 @@ use Rattle.std.specs.Str.{bytes_eq}
 use Rattle.ac_base.specs.Texts.{id_value}
 use Rattle.ac_tables.specs.Tables.Checks.{Row, Check, first_failing, pass}
 use Rattle.ac_tables.specs.Tables.Columns.{table_checks, said_by, text_in, id_in, bad_width, bad_id}
-use Rattle.ac_tables.specs.Trees.{top, is_endless}
+use Rattle.ac_cloud.specs.Trees.{top, is_endless}
 use Rattle.ac_tables.specs.declared.fault.Table.TheVariants as table
 use Rattle.ac_tables.specs.declared.fault.TableKind.TheVariants as kind
 use Rattle.ac_tables.specs.declared.fault.TableFault.{TableFault}

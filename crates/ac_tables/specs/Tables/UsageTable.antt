@@ -4,7 +4,8 @@ use Rattle.std.specs.List.{list_any}
 use Rattle.std.specs.Str.{bytes_eq}
 use Rattle.ac_tables.specs.Tables.Checks.{Row, Check, first_failing}
 use Rattle.ac_tables.specs.Tables.Columns.{table_checks, said_by, text_in, id_in, number_in, bad_number}
-use Rattle.ac_tables.specs.Tables.InventoryTable.{InventoryRecord, provider_name, class_name, owner_checks, class_checks, is_inventory_of, is_one_of}
+use Rattle.ac_tables.specs.Tables.InventoryTable.{InventoryRecord, provider_name, class_name, owner_checks, class_checks, is_inventory_of}
+use Rattle.ac_base.specs.Sorted.{is_one_of}
 use Rattle.ac_tables.specs.declared.fault.Table.TheVariants as table
 use Rattle.ac_tables.specs.declared.fault.TableKind.TheVariants as kind
 use Rattle.ac_tables.specs.declared.fault.TableFault.{TableFault}

@@ -7,7 +7,7 @@ ghost use Rattle.ac_tables.specs.Drain.{most_bytes};
 ghost use Rattle.ac_tables.specs.Reader.TableRows.{is_past, IsReadUpTo, IsLeastRepeat, IsTable};
 ghost use Rattle.ac_tables.specs.Tables.Rows.{IsReading, rows_left, records_of};
 
-use crate::cloud::provider_index::Expected;
+use ac_cloud::Expected;
 use crate::fault::{RecordFault, Table, TableFault, TableKind};
 use crate::reader::header::open_table;
 use crate::reader::record::{Record, Seen};

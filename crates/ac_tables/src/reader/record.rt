@@ -7,7 +7,7 @@ ghost use Rattle.ac_tables.specs.Reader.TableRows.{IsKeyed};
 ghost use Rattle.ac_tables.specs.Tables.Checks.{Row, Check, first_failing, TellsKind};
 ghost use Rattle.ac_tables.specs.Tables.Columns.{bytes_of};
 
-use crate::cloud::provider_index::Expected;
+use ac_cloud::Expected;
 use crate::fault::{RecordFault, Table};
 use ac_base::Names;
 use csv::ByteRecord;

@@ -3,10 +3,10 @@ ghost use Rattle.std.specs.Prelude.{◌≡◌, ◌≤◌, ◌<◌, ◌+◌, ◌=
 ghost use Rattle.std.specs.List.{filter, All, range_with_len};
 ghost use Rattle.std.specs.List.Sorted.{IsNonDecreasingBy};
 ghost use Rattle.ac_tables.specs.Reader.TableRows.{AreStarts};
-ghost use Rattle.ac_tables.specs.Reader.ListsOf.{lists_of};
+ghost use Rattle.ac_cloud.specs.ListsOf.{lists_of};
 
-use crate::cloud::provider_index::Ids;
-use crate::reader::lists::Lists;
+use ac_cloud::Ids;
+use ac_cloud::Lists;
 use crate::reader::row::TableRow;
 use std::alloc::{AllocError, Global};
 

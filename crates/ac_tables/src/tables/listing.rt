@@ -2,12 +2,12 @@
 ghost use Rattle.std.specs.Prelude.{◌≡◌, ◌<◌, ◌&&◌, ◌==◌, not, ℕ, false, Some, None, List, length, map, get_or, IfOk, IfErr};
 ghost use Rattle.std.specs.Option.{option_and_then, is_some, is_none};
 ghost use Rattle.ac_tables.specs.Reader.Listings.{IsListing, IsFirst};
-ghost use Rattle.ac_tables.specs.Cloud.Places.{rank};
+ghost use Rattle.ac_cloud.specs.Cloud.Places.{rank};
 ghost use Rattle.ac_tables.specs.Tables.ProviderTable.{ProviderRecord};
 ghost use Rattle.ac_tables.specs.declared.reader.row.TableRow.{TableRow as ListingRow};
 ghost use Rattle.ac_tables.specs.declared.tables.provider_record.Named.{Named as NamedShown};
 
-use crate::cloud::provider_index::{Expected, Ids};
+use ac_cloud::{Expected, Ids};
 use crate::fault::{Table, TableFault, TableKind};
 use crate::reader::row::{TableRow, sooner};
 use crate::tables::provider_record::Named;

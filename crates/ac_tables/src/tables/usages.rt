@@ -11,7 +11,7 @@ ghost use Rattle.ac_tables.specs.Reader.InventoryRows.{inventory_records_shown, 
 ghost use Rattle.ac_tables.specs.Reader.RecordLaws.{lone_checks, usages_keyed, keys_apart};
 ghost use Rattle.std.specs.List.Sorted.{IsPermutation};
 ghost use Rattle.ac_tables.specs.Drain.{most_bytes};
-ghost use Rattle.ac_tables.specs.Reader.ListsOf.{lists_of};
+ghost use Rattle.ac_cloud.specs.ListsOf.{lists_of};
 ghost use Rattle.ac_tables.specs.Tables.Rows.{records_of};
 ghost use Rattle.ac_tables.specs.Tables.{amounts_of};
 ghost use Rattle.ac_tables.specs.declared.fault.Table.TheVariants as table;
@@ -20,7 +20,7 @@ use crate::fault::{RecordFault, Table, TableFault, TableKind};
 use crate::reader::fields::{CLASS, OWNER, read_class, read_owner};
 use crate::reader::gather::read_table;
 use crate::reader::header::column_at;
-use crate::reader::lists::Lists;
+use ac_cloud::Lists;
 use crate::reader::record::{Record, Seen};
 use crate::reader::records::text_at;
 use crate::reader::row::TableRow;

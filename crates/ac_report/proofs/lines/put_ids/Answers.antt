@@ -3,8 +3,8 @@ use Rattle.std.proofs.lemmas.List.{get_or-map, length-map, take_all}
 use Rattle.ac_query.specs.Tokens.{ids_text, part_text}
 use Rattle.ac_query.proofs.WrittenIds.{next_part}
 use Rattle.ac_rules.specs.Pages.{ids_of}
-use Rattle.ac_tables.specs.Cloud.CloudWorld.{providers_of}
-use Rattle.ac_tables.specs.World.{id_at}
+use Rattle.ac_cloud.specs.Cloud.CloudWorld.{providers_of}
+use Rattle.ac_cloud.specs.World.{id_at}
 use Rattle.ac_report.proofs.lines.put_ids.Goals as goal
 
 pub loop-place-preserved : goal.loop-place-preserved

@@ -1,7 +1,7 @@
 use Rattle.std.proofs.Common.{◌≡◌, ◌++◌, take}
 use Rattle.ac_query.specs.Tokens.{ids_text}
 use Rattle.ac_rules.specs.Pages.{ids_of}
-use Rattle.ac_tables.specs.Cloud.CloudWorld.{providers_of}
+use Rattle.ac_cloud.specs.Cloud.CloudWorld.{providers_of}
 use Rattle.ac_report.proofs.lines.put_ids.Given as goal
 
 abbrev pub invariant-loop-place : goal.invariant-loop-place

@@ -1,8 +1,8 @@
 use Rattle.std.proofs.Common.{◌∙◌, ◌||◌, ap, false, get_or, arith}
 use Rattle.std.specs.List.{list_any}
 use Rattle.std.proofs.lemmas.List.{drop_more}
-use Rattle.ac_tables.specs.Cloud.CloudWorld.{providers_of}
-use Rattle.ac_tables.specs.World.{id_at}
+use Rattle.ac_cloud.specs.Cloud.CloudWorld.{providers_of}
+use Rattle.ac_cloud.specs.World.{id_at}
 use Rattle.ac_report.specs.Marks.{has_root}
 use Rattle.ac_report.proofs.Trees.Marking.{or_step}
 use Rattle.ac_report.proofs.page.mark_roots.Goals as goal

@@ -1,7 +1,7 @@
 use Rattle.std.proofs.Common.{◌≡◌, ℕ, ◌<◌, ◌||◌, false, length, get_or, drop}
 use Rattle.std.specs.List.{list_any}
-use Rattle.ac_tables.specs.Cloud.CloudWorld.{providers_of}
-use Rattle.ac_tables.specs.World.{id_at}
+use Rattle.ac_cloud.specs.Cloud.CloudWorld.{providers_of}
+use Rattle.ac_cloud.specs.World.{id_at}
 use Rattle.ac_report.specs.Marks.{has_root}
 use Rattle.ac_report.proofs.page.mark_roots.Given as goal
 

@@ -2,8 +2,8 @@ use Rattle.std.proofs.Common.{◌≡◌, ◌<◌, ◌≤◌, ◌+◌, ◌||◌, 
 use Rattle.std.specs.List.{All, list_any}
 use Rattle.ac_query.specs.Shown.Queries.{asked_of}
 use Rattle.ac_rules.specs.Pages.{cut}
-use Rattle.ac_tables.specs.Cloud.CloudWorld.{providers_of}
-use Rattle.ac_tables.specs.World.{id_at}
+use Rattle.ac_cloud.specs.Cloud.CloudWorld.{providers_of}
+use Rattle.ac_cloud.specs.World.{id_at}
 use Rattle.ac_report.specs.Pages.{IsAssignment, behind}
 use Rattle.ac_report.specs.Texts.{meets_root, request_text, with_commas}
 use Rattle.ac_report.proofs.Pages.Wholes.{IsDone}

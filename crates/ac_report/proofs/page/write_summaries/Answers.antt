@@ -1,7 +1,7 @@
 use Rattle.std.proofs.Common.{◌≡◌, ◌++◌, map, ℕ, ◌+◌, ◌-◌, suc, Bool, true, false, length, sym, ap, ◌∙◌, refl, arith, rules}
 use Rattle.std.specs.List.{filter, list_any, range_with_len}
-use Rattle.ac_tables.specs.Cloud.CloudWorld.{providers_of}
-use Rattle.ac_tables.specs.World.{id_at, root_of}
+use Rattle.ac_cloud.specs.Cloud.CloudWorld.{providers_of}
+use Rattle.ac_cloud.specs.World.{id_at, root_of}
 use Rattle.serde_json.specs.Written.{comma_if}
 use Rattle.ac_report.specs.Texts.{summary_piece, meets_root, with_commas}
 use Rattle.ac_report.proofs.Pages.Wholes.{all_done, done_whole, one_done, one_part, same_done}

@@ -1,7 +1,7 @@
 use Rattle.std.proofs.Common.{ℕ, ◌≤◌, ◌-◌, false, List, length, map}
 use Rattle.std.specs.List.{filter, list_any, range_with_len}
-use Rattle.ac_tables.specs.Cloud.CloudWorld.{providers_of}
-use Rattle.ac_tables.specs.World.{id_at, root_of}
+use Rattle.ac_cloud.specs.Cloud.CloudWorld.{providers_of}
+use Rattle.ac_cloud.specs.World.{id_at, root_of}
 use Rattle.ac_report.specs.Marks.{IsMarked}
 use Rattle.ac_report.specs.Texts.{meets_root, summary_piece, with_commas}
 use Rattle.ac_report.proofs.Pages.Wholes.{IsDone}

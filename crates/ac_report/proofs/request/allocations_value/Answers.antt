@@ -6,7 +6,7 @@ use Rattle.serde_json.specs.View.{members_view}
 use Rattle.serde_json.proofs.Views.{view-Object}
 use Rattle.ac_query.specs.Shown.Queries.{asked_of}
 use Rattle.ac_rules.specs.Placed.{assigned}
-use Rattle.ac_tables.specs.Cloud.CloudWorld.{providers_of}
+use Rattle.ac_cloud.specs.Cloud.CloudWorld.{providers_of}
 use Rattle.ac_report.specs.Parts.{gathered_onto}
 use Rattle.ac_report.specs.Trees.{gives, provider_text, allocation, allocations}
 use Rattle.ac_report.proofs.SlotLemmas.{all_rising}

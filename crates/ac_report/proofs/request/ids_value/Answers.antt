@@ -4,7 +4,7 @@ use Rattle.serde_json.specs.Data.{array, string}
 use Rattle.serde_json.specs.View.{items_of}
 use Rattle.serde_json.proofs.Views.{view-Array}
 use Rattle.ac_base.specs.Texts.{id_text}
-use Rattle.ac_tables.specs.Cloud.CloudWorld.{providers_of}
+use Rattle.ac_cloud.specs.Cloud.CloudWorld.{providers_of}
 use Rattle.ac_report.specs.Trees.{provider_text, texts}
 use Rattle.ac_report.proofs.Trees.Gathering.{shown_more}
 use Rattle.ac_report.proofs.request.ids_value.Goals as goal

@@ -3,7 +3,7 @@ use Rattle.std.specs.List.{All}
 use Rattle.ac_query.specs.Asked.{slots_of}
 use Rattle.ac_query.specs.Shown.Queries.{asked_of}
 use Rattle.ac_rules.specs.Placed.{assigned}
-use Rattle.ac_tables.specs.Cloud.CloudWorld.{providers_of}
+use Rattle.ac_cloud.specs.Cloud.CloudWorld.{providers_of}
 use Rattle.ac_report.specs.Trees.{hosts}
 use Rattle.ac_report.proofs.SlotLemmas.{all_hosts, all_rising}
 use Rattle.ac_report.proofs.request.mappings_value.Goals as goal

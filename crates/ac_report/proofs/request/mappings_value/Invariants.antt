@@ -3,7 +3,7 @@ use Rattle.serde_json.specs.View.{members_view}
 use Rattle.ac_query.specs.Shown.Groups.{group_entry}
 use Rattle.ac_query.specs.Shown.Queries.{asked_of}
 use Rattle.ac_rules.specs.Placed.{assigned}
-use Rattle.ac_tables.specs.Cloud.CloudWorld.{providers_of}
+use Rattle.ac_cloud.specs.Cloud.CloudWorld.{providers_of}
 use Rattle.ac_report.specs.Parts.{gathered_onto}
 use Rattle.ac_report.specs.Trees.{gathered, mappings_from}
 use Rattle.ac_report.proofs.request.mappings_value.Given as goal

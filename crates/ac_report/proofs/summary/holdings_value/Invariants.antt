@@ -1,6 +1,6 @@
 use Rattle.std.proofs.Common.{◌≡◌, map, take}
 use Rattle.serde_json.specs.View.{members_view}
-use Rattle.ac_tables.specs.Cloud.Entries.{entry_pair}
+use Rattle.ac_cloud.specs.Cloud.Entries.{entry_pair}
 use Rattle.ac_report.specs.Trees.{gathered, holding}
 use Rattle.ac_report.proofs.summary.holdings_value.Given as goal
 

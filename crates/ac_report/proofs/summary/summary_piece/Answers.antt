@@ -2,7 +2,7 @@ use Rattle.std.proofs.Common.{◌≡◌, ◌∙◌, ◌++◌, ◌∷◌, [], ap,
 use Rattle.serde_json.specs.Data.{string}
 use Rattle.serde_json.specs.Written.{compact_text}
 use Rattle.ac_base.specs.Texts.{id_text}
-use Rattle.ac_tables.specs.Cloud.CloudWorld.{providers_of}
+use Rattle.ac_cloud.specs.Cloud.CloudWorld.{providers_of}
 use Rattle.ac_report.specs.Texts.{summary_piece, summary_text}
 use Rattle.ac_report.specs.Trees.{provider_text}
 use Rattle.ac_report.proofs.summary.summary_piece.Goals as goal

@@ -1,6 +1,6 @@
 use Rattle.std.proofs.Common.{◌∙◌, ap}
 use Rattle.serde_json.specs.Written.{compact_text, has_float}
-use Rattle.ac_tables.specs.Cloud.CloudWorld.{providers_of}
+use Rattle.ac_cloud.specs.Cloud.CloudWorld.{providers_of}
 use Rattle.ac_report.specs.Texts.{summary_text}
 use Rattle.ac_report.proofs.Trees.PlainTrees.{summary_plain}
 use Rattle.ac_report.proofs.summary.summary_text.Goals as goal

@@ -2,7 +2,7 @@ use Rattle.std.proofs.Common.{sym, subst}
 use Rattle.std.specs.List.{All}
 use Rattle.ac_query.specs.Shown.Queries.{asked_of}
 use Rattle.ac_report.specs.Pages.{IsAssignment}
-use Rattle.ac_tables.specs.Cloud.CloudWorld.{providers_of}
+use Rattle.ac_cloud.specs.Cloud.CloudWorld.{providers_of}
 use Rattle.ac_base.proofs.Leaving.{part_none}
 use Rattle.ac_run.proofs.Assignments.{assignments}
 use Rattle.ac_run.proofs.answering.write_body.Goals as goal

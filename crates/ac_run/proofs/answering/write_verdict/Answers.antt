@@ -5,7 +5,7 @@ use Rattle.std.proofs.lemmas.List.Elements.{All-from_recursion}
 use Rattle.ac_base.specs.Devices.{TakesPart}
 use Rattle.ac_query.specs.Shown.Queries.{asked_of}
 use Rattle.ac_query.specs.Tokens.{ids_of}
-use Rattle.ac_tables.specs.Cloud.CloudWorld.{providers_of}
+use Rattle.ac_cloud.specs.Cloud.CloudWorld.{providers_of}
 use Rattle.ac_run.specs.Answer.{verdict_line, verdict_on}
 use Rattle.ac_run.specs.Run.{IsWritten}
 use Rattle.ac_run.proofs.Assignments.{located}

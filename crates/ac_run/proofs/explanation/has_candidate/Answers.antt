@@ -5,7 +5,7 @@ use Rattle.ac_rules.specs.Lists.{head_of}
 use Rattle.ac_rules.specs.Together.{is_empty}
 use Rattle.ac_search.specs.Explained.{TreeCounts}
 use Rattle.ac_search.proofs.ExplainedLemmas.{none_without_roots}
-use Rattle.ac_tables.specs.Cloud.CloudWorld.{providers_of}
+use Rattle.ac_cloud.specs.Cloud.CloudWorld.{providers_of}
 use Rattle.ac_run.proofs.FirstFound.{first_found}
 use Rattle.ac_run.proofs.explanation.has_candidate.Goals as goal
 

@@ -2,7 +2,7 @@ use Rattle.std.proofs.Common.{◌+◌, ℕ, length, arith}
 use Rattle.ac_query.specs.Asked.{slots_of}
 use Rattle.ac_query.specs.Shown.Queries.{asked_of}
 use Rattle.ac_rules.specs.Placed.{slot_at}
-use Rattle.ac_tables.specs.Cloud.CloudWorld.{providers_of}
+use Rattle.ac_cloud.specs.Cloud.CloudWorld.{providers_of}
 use Rattle.ac_run.specs.Explanation.{slot_line}
 use Rattle.ac_run.proofs.PiecesWritten.{on_err}
 use Rattle.ac_run.proofs.SlotsWritten.{place_part, place_written}

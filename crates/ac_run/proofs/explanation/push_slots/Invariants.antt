@@ -4,7 +4,7 @@ use Rattle.ac_base.proofs.Leaving.{Leaves}
 use Rattle.ac_query.specs.Asked.{slots_of}
 use Rattle.ac_query.specs.Shown.Queries.{asked_of}
 use Rattle.ac_rules.specs.Placed.{slot_at}
-use Rattle.ac_tables.specs.Cloud.CloudWorld.{providers_of}
+use Rattle.ac_cloud.specs.Cloud.CloudWorld.{providers_of}
 use Rattle.ac_run.specs.Explanation.{slot_line, slot_lines}
 use Rattle.ac_run.proofs.explanation.push_slots.Given as goal
 

@@ -1,5 +1,5 @@
 use Rattle.std.proofs.Common.{◌∙◌}
-use Rattle.ac_tables.specs.Cloud.CloudWorld.{world_of}
+use Rattle.ac_cloud.specs.Cloud.CloudWorld.{world_of}
 use Rattle.ac_run.proofs.Attempted.{answers, explains_reading, explains_tables, explains_wanted}
 use Rattle.ac_run.specs.Draining.{texts_shown}
 use Rattle.ac_run.specs.Jobs.{task_of}

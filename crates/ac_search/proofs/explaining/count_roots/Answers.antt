@@ -1,6 +1,6 @@
 use Rattle.std.proofs.Common.{◌∙◌, true, false, sym, arith}
-use Rattle.ac_tables.specs.World.{id_at, is_root}
-use Rattle.ac_tables.specs.Cloud.CloudWorld.{providers_of}
+use Rattle.ac_cloud.specs.World.{id_at, is_root}
+use Rattle.ac_cloud.specs.Cloud.CloudWorld.{providers_of}
 use Rattle.ac_rules.proofs.EachSlot.AnchorLemmas.{available_itself}
 use Rattle.ac_search.proofs.ExplainedLemmas.{count_few, counted}
 use Rattle.ac_search.proofs.explaining.count_roots.Goals as goal

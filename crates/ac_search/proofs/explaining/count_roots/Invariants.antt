@@ -1,6 +1,6 @@
 use Rattle.std.proofs.Common.{◌≡◌}
-use Rattle.ac_tables.specs.World.{id_at, is_root}
-use Rattle.ac_tables.specs.Cloud.CloudWorld.{providers_of}
+use Rattle.ac_cloud.specs.World.{id_at, is_root}
+use Rattle.ac_cloud.specs.Cloud.CloudWorld.{providers_of}
 use Rattle.ac_search.specs.Explained.{count_below}
 use Rattle.ac_search.proofs.explaining.count_roots.Given as goal
 

@@ -1,8 +1,8 @@
 use Rattle.std.proofs.Common.{◌≡◌, ℕ, List, map, drop}
 use Rattle.std.specs.List.{list_all}
-use Rattle.ac_tables.specs.World.{provider_at}
+use Rattle.ac_cloud.specs.World.{provider_at}
 use Rattle.ac_query.specs.Shown.Groups.{need_entry}
-use Rattle.ac_tables.specs.Cloud.CloudWorld.{providers_of}
+use Rattle.ac_cloud.specs.Cloud.CloudWorld.{providers_of}
 use Rattle.ac_rules.specs.Together.{holds}
 use Rattle.ac_search.proofs.explaining.has_room_alone.Given as goal
 

@@ -2,7 +2,7 @@ use Rattle.std.proofs.Common.{ℕ, arith}
 use Rattle.std.specs.Prelude.{if◌then◌else◌}
 use Rattle.std.proofs.lemmas.Grind.{common_steps}
 use Rattle.ac_query.specs.Shown.Queries.{asked_of}
-use Rattle.ac_tables.specs.Cloud.CloudWorld.{providers_of}
+use Rattle.ac_cloud.specs.Cloud.CloudWorld.{providers_of}
 use Rattle.ac_rules.specs.Placed.{placed_at}
 use Rattle.ac_search.specs.Explained.{meets_room}
 use Rattle.ac_search.proofs.Search.OpenLemmas.{map_range_more}

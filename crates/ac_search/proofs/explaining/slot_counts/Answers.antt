@@ -1,6 +1,6 @@
 use Rattle.std.proofs.Common.{◌∙◌, true, false, sym, arith}
 use Rattle.ac_query.specs.Shown.Queries.{asked_of}
-use Rattle.ac_tables.specs.Cloud.CloudWorld.{providers_of}
+use Rattle.ac_cloud.specs.Cloud.CloudWorld.{providers_of}
 use Rattle.ac_rules.specs.Placed.{placed_at}
 use Rattle.ac_search.specs.Explained.{meets_units, meets_traits, meets_aggregates, meets_tree, meets_room}
 use Rattle.ac_search.proofs.ExplainedLemmas.{both, count_few, counted, not_both}

@@ -3,7 +3,7 @@ use Rattle.std.proofs.lemmas.List.{with_items_is}
 use Rattle.std.proofs.lemmas.List.FromFn.{length-map-range_with_len}
 use Rattle.std.specs.List.{list_all, range_with_len}
 use Rattle.ac_query.specs.Shown.Queries.{asked_of}
-use Rattle.ac_tables.specs.Cloud.CloudWorld.{providers_of}
+use Rattle.ac_cloud.specs.Cloud.CloudWorld.{providers_of}
 use Rattle.ac_query.specs.Asked.{slots_of}
 use Rattle.ac_search.specs.Explained.{is_served}
 use Rattle.ac_search.specs.Shown.Explained.{marked}

@@ -1,7 +1,7 @@
 use Rattle.std.proofs.Common.{◌≡◌, ◌<◌, ℕ, true, length, slice_index}
 use Rattle.std.specs.Prelude.{MatchOption}
-use Rattle.ac_tables.specs.World.{anchors_of}
-use Rattle.ac_tables.specs.Cloud.CloudWorld.{providers_of}
+use Rattle.ac_cloud.specs.World.{anchors_of}
+use Rattle.ac_cloud.specs.Cloud.CloudWorld.{providers_of}
 use Rattle.ac_search.specs.Trees.Keys.{is_there}
 use Rattle.ac_search.proofs.trees.bound_by.Given as goal
 

@@ -1,6 +1,6 @@
 use Rattle.std.proofs.Common.{◌≡◌, ◌∙◌, ◌++◌, ℕ, List, true, map, refl, sym, ap, subst}
-use Rattle.ac_tables.specs.Cloud.CloudWorld.{providers_of}
-use Rattle.ac_tables.specs.World.{anchors_of}
+use Rattle.ac_cloud.specs.Cloud.CloudWorld.{providers_of}
+use Rattle.ac_cloud.specs.World.{anchors_of}
 use Rattle.ac_search.specs.Trees.Keys.{key_of, is_there}
 use Rattle.ac_search.proofs.Roots.RootLemmas.{if_ok}
 use Rattle.ac_search.proofs.Roots.TreeLemmas.{or_left, there_new, there_map, anchor_there}

@@ -1,6 +1,6 @@
 use Rattle.std.proofs.Common.{◌<◌, length}
 use Rattle.std.specs.List.{All}
-use Rattle.ac_tables.specs.Cloud.CloudWorld.{providers_of}
+use Rattle.ac_cloud.specs.Cloud.CloudWorld.{providers_of}
 use Rattle.ac_search_tests.proofs.search.places.Given as goal
 
 abbrev pub invariant-loop-piece : goal.invariant-loop-piece

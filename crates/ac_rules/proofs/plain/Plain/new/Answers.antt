@@ -1,7 +1,7 @@
 use Rattle.std.proofs.Common.{ap, ◌∙◌}
 use Rattle.std.specs.Option.{option_map}
 use Rattle.ac_query.specs.Shown.Queries.{asked_of}
-use Rattle.ac_tables.specs.Cloud.CloudWorld.{providers_of}
+use Rattle.ac_cloud.specs.Cloud.CloudWorld.{providers_of}
 use Rattle.ac_rules.specs.Pages.{rest}
 use Rattle.ac_rules.specs.Shown.Plain.{chosen}
 use Rattle.ac_rules.proofs.Lists.ChosenLemmas.{chosen_all}

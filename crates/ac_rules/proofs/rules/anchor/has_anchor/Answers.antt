@@ -2,7 +2,7 @@ use Rattle.std.proofs.Common.{◌<◌, length, sym, ap, ◌∙◌, subst}
 use Rattle.std.specs.List.{All, list_any}
 use Rattle.ac_query.specs.Asked.{slots_of}
 use Rattle.ac_query.specs.Shown.Queries.{asked_of}
-use Rattle.ac_tables.specs.Cloud.CloudWorld.{providers_of}
+use Rattle.ac_cloud.specs.Cloud.CloudWorld.{providers_of}
 use Rattle.ac_rules.proofs.EachSlot.AnchorLemmas.{anchors_list, anchor_first, anchor_none, anchors_within}
 use Rattle.ac_rules.proofs.rules.anchor.has_anchor.Goals as goal
 

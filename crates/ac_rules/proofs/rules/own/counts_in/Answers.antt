@@ -1,7 +1,7 @@
 use Rattle.std.proofs.Common.{sym, ◌∙◌}
 use Rattle.ac_query.specs.Shown.Queries.{asked_of}
-use Rattle.ac_tables.specs.Cloud.CloudWorld.{providers_of}
-use Rattle.ac_tables.proofs.ProvidersStated.{cloud_in_order}
+use Rattle.ac_cloud.specs.Cloud.CloudWorld.{providers_of}
+use Rattle.ac_cloud.proofs.InOrder.{cloud_in_order}
 use Rattle.ac_rules.specs.Placed.{placed_at}
 use Rattle.ac_rules.proofs.PlaceLemmas.{root_counts}
 use Rattle.ac_rules.proofs.rules.own.counts_in.Goals as goal

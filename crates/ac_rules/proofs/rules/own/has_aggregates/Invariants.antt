@@ -3,7 +3,7 @@ use Rattle.std.specs.List.{list_all}
 use Rattle.ac_query.specs.Shown.Queries.{asked_of}
 use Rattle.ac_query.specs.Shown.Groups.{rule_shown}
 use Rattle.ac_query.specs.Pairs.Values.{AggregateRule}
-use Rattle.ac_tables.specs.Cloud.CloudWorld.{providers_of}
+use Rattle.ac_cloud.specs.Cloud.CloudWorld.{providers_of}
 use Rattle.ac_rules.specs.Placed.{placed_at}
 use Rattle.ac_rules.specs.Own.{meets_rule}
 use Rattle.ac_rules.proofs.rules.own.has_aggregates.Given as goal

@@ -1,7 +1,7 @@
 use Rattle.std.proofs.Common.{◌≡◌, map, drop}
 use Rattle.ac_base.specs.Names.{trait_bytes}
-use Rattle.ac_tables.specs.World.{provider_at}
-use Rattle.ac_tables.specs.Cloud.CloudWorld.{providers_of}
+use Rattle.ac_cloud.specs.World.{provider_at}
+use Rattle.ac_cloud.specs.Cloud.CloudWorld.{providers_of}
 use Rattle.ac_rules.specs.Own.{has_any}
 use Rattle.ac_rules.proofs.rules.own.has_any_of_few.Given as goal
 

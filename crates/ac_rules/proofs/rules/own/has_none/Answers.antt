@@ -1,7 +1,7 @@
 use Rattle.std.proofs.Common.{◌∙◌, sym, ap, map, not}
 use Rattle.ac_base.specs.Names.{trait_bytes}
-use Rattle.ac_tables.specs.World.{provider_at, has_trait}
-use Rattle.ac_tables.specs.Cloud.CloudWorld.{providers_of}
+use Rattle.ac_cloud.specs.World.{provider_at, has_trait}
+use Rattle.ac_cloud.specs.Cloud.CloudWorld.{providers_of}
 use Rattle.ac_rules.proofs.EachSlot.TraitLemmas.{all_fail}
 use Rattle.ac_rules.proofs.rules.own.has_none.Goals as goal
 

@@ -1,7 +1,7 @@
 use Rattle.std.proofs.Common.{◌≡◌, map, drop}
 use Rattle.ac_query.specs.Shown.Groups.{any_of_shown}
-use Rattle.ac_tables.specs.World.{provider_at}
-use Rattle.ac_tables.specs.Cloud.CloudWorld.{providers_of}
+use Rattle.ac_cloud.specs.World.{provider_at}
+use Rattle.ac_cloud.specs.Cloud.CloudWorld.{providers_of}
 use Rattle.ac_rules.specs.Own.{has_one_of_each}
 use Rattle.ac_rules.proofs.rules.own.has_one_of_each.Given as goal
 

@@ -5,7 +5,7 @@ use Rattle.std.proofs.lemmas.Cmp.{nat_list_cmp_total}
 use Rattle.std.proofs.lemmas.Map.Text.{is_eq-slice_cmp}
 use Rattle.ac_base.specs.Texts.{text_cmp}
 use Rattle.ac_base.specs.Names.{trait_bytes}
-use Rattle.ac_tables.proofs.Sorted.SearchFacts.{any_map, found, found_any}
+use Rattle.ac_base.proofs.Sorted.SearchFacts.{any_map, found, found_any}
 use Rattle.ac_rules.proofs.rules.own.is_among.Goals as goal
 
 pub returns : goal.returns

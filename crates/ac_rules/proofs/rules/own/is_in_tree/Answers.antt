@@ -1,8 +1,8 @@
 use Rattle.std.proofs.Common.{ap, sym, ◌∙◌}
 use Rattle.ac_query.specs.Shown.Queries.{asked_of}
-use Rattle.ac_tables.specs.World.{id_at, root_of}
-use Rattle.ac_tables.specs.Cloud.CloudWorld.{providers_of}
-use Rattle.ac_tables.proofs.ProvidersStated.{cloud_in_order}
+use Rattle.ac_cloud.specs.World.{id_at, root_of}
+use Rattle.ac_cloud.specs.Cloud.CloudWorld.{providers_of}
+use Rattle.ac_cloud.proofs.InOrder.{cloud_in_order}
 use Rattle.ac_rules.specs.Placed.{placed_at}
 use Rattle.ac_rules.proofs.PlaceLemmas.{found_within, place_in_order, tree_at}
 use Rattle.ac_rules.proofs.rules.own.is_in_tree.Goals as goal

@@ -1,9 +1,9 @@
 use Rattle.std.proofs.Common.{◌≡◌, ℕ, List, map, drop}
 use Rattle.std.specs.List.{list_all}
-use Rattle.ac_tables.specs.World.{provider_at}
+use Rattle.ac_cloud.specs.World.{provider_at}
 use Rattle.ac_query.specs.Shown.Groups.{need_entry}
 use Rattle.ac_query.specs.Shown.Queries.{asked_of}
-use Rattle.ac_tables.specs.Cloud.CloudWorld.{providers_of}
+use Rattle.ac_cloud.specs.Cloud.CloudWorld.{providers_of}
 use Rattle.ac_rules.specs.Placed.{assigned}
 use Rattle.ac_rules.specs.Together.{sum_on, holds}
 use Rattle.ac_rules.proofs.rules.sums.has_room_at.Given as goal

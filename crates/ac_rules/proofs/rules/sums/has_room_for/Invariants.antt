@@ -1,9 +1,9 @@
 use Rattle.std.proofs.Common.{◌≡◌, ◌≤◌, nat_le, length, drop}
 use Rattle.ac_base.specs.Names.{class_bytes}
-use Rattle.ac_tables.specs.World.{provider_at}
+use Rattle.ac_cloud.specs.World.{provider_at}
 use Rattle.ac_query.specs.Asked.{slots_of}
 use Rattle.ac_query.specs.Shown.Queries.{asked_of}
-use Rattle.ac_tables.specs.Cloud.CloudWorld.{providers_of}
+use Rattle.ac_cloud.specs.Cloud.CloudWorld.{providers_of}
 use Rattle.ac_rules.specs.Placed.{placed}
 use Rattle.ac_rules.specs.Together.{sum_on, holds}
 use Rattle.ac_rules.proofs.rules.sums.has_room_for.Given as goal

@@ -4,7 +4,7 @@ use Rattle.std.specs.Option.{is_some}
 use Rattle.ac_query.specs.Asked.{Group}
 use Rattle.ac_query.specs.Shown.Groups.{group_entry}
 use Rattle.ac_query.specs.Shown.Queries.{asked_of}
-use Rattle.ac_tables.specs.Cloud.CloudWorld.{providers_of}
+use Rattle.ac_cloud.specs.Cloud.CloudWorld.{providers_of}
 use Rattle.ac_rules.specs.Placed.{assigned}
 use Rattle.ac_rules.specs.Together.{are_brought}
 use Rattle.ac_rules.proofs.rules.whole.are_collective.Given as goal

@@ -3,7 +3,7 @@ use Rattle.std.specs.List.{list_any}
 use Rattle.ac_base.specs.Names.{trait_bytes}
 use Rattle.ac_query.specs.Asked.{slots_of}
 use Rattle.ac_query.specs.Shown.Queries.{asked_of}
-use Rattle.ac_tables.specs.Cloud.CloudWorld.{providers_of}
+use Rattle.ac_cloud.specs.Cloud.CloudWorld.{providers_of}
 use Rattle.ac_rules.specs.Placed.{Placed, placed}
 use Rattle.ac_rules.specs.Together.{brings}
 use Rattle.ac_rules.proofs.rules.whole.is_brought.Given as goal

@@ -4,8 +4,8 @@ use Rattle.std.specs.Option.{is_none}
 use Rattle.ac_base.specs.Names.{trait_bytes}
 use Rattle.ac_query.specs.Asked.{slots_of}
 use Rattle.ac_query.specs.Shown.Queries.{asked_of}
-use Rattle.ac_tables.specs.World.{provider_at}
-use Rattle.ac_tables.specs.Cloud.CloudWorld.{providers_of}
+use Rattle.ac_cloud.specs.World.{provider_at}
+use Rattle.ac_cloud.specs.Cloud.CloudWorld.{providers_of}
 use Rattle.ac_rules.specs.Placed.{Placed, placed}
 use Rattle.ac_rules.specs.Own.{has_any}
 use Rattle.ac_rules.proofs.rules.whole.is_one_brought.Given as goal

@@ -1,5 +1,5 @@
 use Rattle.std.proofs.Common.{◌≡◌, ◌∙◌, ◌-◌, ◌/◌, ◌^◌, ◌<◌, ℕ, length, map, ap, arith}
-use Rattle.ac_tables.specs.World.{is_available_at}
+use Rattle.ac_cloud.specs.World.{is_available_at}
 use Rattle.ac_search.specs.Left.Accounts.{providers_in}
 use Rattle.ac_search.specs.Left.{left_in, room_pair, row_of}
 use Rattle.ac_search.proofs.Paths.AheadLemmas.{all_counted, none_passed, load_found}

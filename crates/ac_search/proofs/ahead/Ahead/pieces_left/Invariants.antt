@@ -1,7 +1,7 @@
 use Rattle.std.proofs.Common.{◌≤◌, ◌-◌, ◌^◌, ◌/◌}
 use Rattle.std.specs.Prelude.{min}
 use Rattle.std.specs.List.{filter, range_with_len}
-use Rattle.ac_tables.specs.World.{is_available_at}
+use Rattle.ac_cloud.specs.World.{is_available_at}
 use Rattle.ac_search.specs.Left.Accounts.{providers_in}
 use Rattle.ac_search.specs.Ahead.{load_of}
 use Rattle.ac_search.specs.Left.{left_in, row_of}

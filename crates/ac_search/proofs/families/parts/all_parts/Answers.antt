@@ -1,6 +1,6 @@
 use Rattle.ac_query.specs.Shown.Queries.{asked_of}
-use Rattle.ac_tables.specs.Cloud.CloudWorld.{providers_of}
-use Rattle.ac_tables.proofs.ProvidersStated.{cloud_in_order}
+use Rattle.ac_cloud.specs.Cloud.CloudWorld.{providers_of}
+use Rattle.ac_cloud.proofs.InOrder.{cloud_in_order}
 use Rattle.ac_search.proofs.Roots.PartLemmas.{linked_parts}
 use Rattle.ac_search.proofs.families.parts.all_parts.Goals as goal
 

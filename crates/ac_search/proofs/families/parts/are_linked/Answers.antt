@@ -1,6 +1,6 @@
 use Rattle.std.proofs.Common.{inl, inr, arith, subst, sym}
 use Rattle.std.proofs.lemmas.Bool.{cases_eq}
-use Rattle.ac_tables.specs.Cloud.CloudWorld.{providers_of}
+use Rattle.ac_cloud.specs.Cloud.CloudWorld.{providers_of}
 use Rattle.ac_search.specs.Parts.{IsLinked}
 use Rattle.ac_search.proofs.families.parts.are_linked.Goals as goal
 

@@ -4,7 +4,7 @@ use Rattle.std.proofs.lemmas.Bool.{cases_eq}
 use Rattle.std.proofs.lemmas.List.{with_items_is}
 use Rattle.ac_query.specs.Asked.{slots_of, lists_suffix}
 use Rattle.ac_query.specs.Shown.Queries.{asked_of}
-use Rattle.ac_tables.specs.Cloud.CloudWorld.{providers_of}
+use Rattle.ac_cloud.specs.Cloud.CloudWorld.{providers_of}
 use Rattle.ac_rules.specs.Placed.{slot_at}
 use Rattle.ac_search.specs.QuerySearch.{choice_of}
 use Rattle.ac_search.proofs.Roots.PartLemmas.{slot_choices}

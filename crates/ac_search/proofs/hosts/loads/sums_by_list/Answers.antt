@@ -2,8 +2,8 @@ use Rattle.std.proofs.Common.{◌≡◌, ◌∙◌, ◌<◌, ◌-◌, ◌+◌, �
 use Rattle.std.specs.Global.{Vec}
 use Rattle.std.proofs.lemmas.Bool.{cases_lt}
 use Rattle.std.proofs.lemmas.List.{get_or_past, get_or_read, get_or-replicate, length-map, length-replicate, length-set}
-use Rattle.ac_tables.specs.Cloud.Anchors.{list_items}
-use Rattle.ac_tables.specs.Cloud.CloudWorld.{providers_of, root_lists_of}
+use Rattle.ac_cloud.specs.Cloud.Anchors.{list_items}
+use Rattle.ac_cloud.specs.Cloud.CloudWorld.{providers_of, root_lists_of}
 use Rattle.ac_search.specs.Loads.{brought_at}
 use Rattle.ac_search.proofs.Roots.CountLemmas.{brought_none, listed_next, load_next, load_hosts}
 use Rattle.ac_search.proofs.hosts.loads.sums_by_list.Goals as goal

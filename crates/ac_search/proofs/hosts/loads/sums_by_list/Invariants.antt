@@ -1,8 +1,8 @@
 use Rattle.std.proofs.Common.{◌≡◌, ◌<◌, ◌-◌, ◌+◌, ◌^◌, ℕ, length, slice_index}
 use Rattle.std.specs.Prelude.{min}
 use Rattle.std.specs.List.{filter, range_with_len}
-use Rattle.ac_tables.specs.World.{is_available_at}
-use Rattle.ac_tables.specs.Cloud.CloudWorld.{providers_of, root_lists_of}
+use Rattle.ac_cloud.specs.World.{is_available_at}
+use Rattle.ac_cloud.specs.Cloud.CloudWorld.{providers_of, root_lists_of}
 use Rattle.ac_search.specs.Ahead.{load_of}
 use Rattle.ac_search.specs.Loads.{brought_at}
 use Rattle.ac_search.proofs.hosts.loads.sums_by_list.Given as goal

@@ -1,7 +1,7 @@
 use Rattle.std.proofs.Common.{arith}
 use Rattle.std.proofs.lemmas.Grind.{common_steps}
 use Rattle.ac_query.specs.Shown.Queries.{asked_of}
-use Rattle.ac_tables.specs.Cloud.CloudWorld.{providers_of}
+use Rattle.ac_cloud.specs.Cloud.CloudWorld.{providers_of}
 use Rattle.ac_rules.specs.Together.{takes_root}
 use Rattle.ac_search.proofs.Search.OpenLemmas.{map_range_more}
 use Rattle.ac_search.proofs.ledger.marks.taken_roots.Goals as goal

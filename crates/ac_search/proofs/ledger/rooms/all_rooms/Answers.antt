@@ -1,7 +1,7 @@
 use Rattle.std.proofs.Common.{◌≡◌, ◌∙◌, ◌<◌, ◌∷◌, ◌++◌, [], ℕ, inl, inr, length, map, sym, ap, subst, arith, length-append}
 use Rattle.std.proofs.lemmas.Bool.{cases_eq}
 use Rattle.ac_base.specs.Names.{class_bytes}
-use Rattle.ac_tables.specs.Cloud.CloudWorld.{providers_of}
+use Rattle.ac_cloud.specs.Cloud.CloudWorld.{providers_of}
 use Rattle.ac_search.specs.Left.{room_pair, IsRow, row_of}
 use Rattle.ac_search.proofs.Paths.RowLemmas.{row_kept, row_pushed}
 use Rattle.ac_search.proofs.ledger.rooms.all_rooms.Goals as goal

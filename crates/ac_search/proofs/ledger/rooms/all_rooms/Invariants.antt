@@ -1,6 +1,6 @@
 use Rattle.std.proofs.Common.{◌≡◌, ◌<◌, ℕ, length, map}
 use Rattle.ac_base.specs.Names.{class_bytes}
-use Rattle.ac_tables.specs.Cloud.CloudWorld.{providers_of}
+use Rattle.ac_cloud.specs.Cloud.CloudWorld.{providers_of}
 use Rattle.ac_search.specs.Left.{IsRow, row_of}
 use Rattle.ac_search.proofs.ledger.rooms.all_rooms.Given as goal
 

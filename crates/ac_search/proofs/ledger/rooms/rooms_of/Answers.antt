@@ -4,7 +4,7 @@ use Rattle.std.specs.List.{AllByRecursion}
 use Rattle.std.proofs.lemmas.Bool.{cases_eq}
 use Rattle.std.proofs.lemmas.List.{get_or-map, length-map, map-append}
 use Rattle.ac_base.specs.Names.{class_bytes}
-use Rattle.ac_tables.specs.Cloud.CloudWorld.{providers_of}
+use Rattle.ac_cloud.specs.Cloud.CloudWorld.{providers_of}
 use Rattle.ac_search.specs.Left.{place_of, room_pair, room_on, left_in}
 use Rattle.ac_search.proofs.Paths.LeftLemmas.{known_at}
 use Rattle.ac_search.proofs.Paths.RoomLemmas.{pairs, low_more, low_pushed, fills_pushed, fills_on}

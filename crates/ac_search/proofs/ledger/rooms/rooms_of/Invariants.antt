@@ -1,7 +1,7 @@
 use Rattle.std.proofs.Common.{◌≡◌, ◌<◌, ◌^◌, [], ℕ, map, slice_index_or}
 use Rattle.std.specs.List.{AllByRecursion}
 use Rattle.ac_base.specs.Names.{class_bytes}
-use Rattle.ac_tables.specs.Cloud.CloudWorld.{providers_of}
+use Rattle.ac_cloud.specs.Cloud.CloudWorld.{providers_of}
 use Rattle.ac_search.specs.Left.{room_pair, left_in, room_on}
 use Rattle.ac_search.proofs.ledger.rooms.rooms_of.Given as goal
 

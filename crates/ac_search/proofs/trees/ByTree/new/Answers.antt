@@ -2,8 +2,8 @@ use Rattle.std.proofs.Common.{◌≡◌, ℕ, true, length, slice_index, inl, in
 use Rattle.std.specs.List.Sorted.{IsNonDecreasing}
 use Rattle.std.proofs.lemmas.Bool.{cases_eq}
 use Rattle.std.proofs.lemmas.List.Sorted.{Contains-permutation, IsNonDecreasingBy-from_sort}
-use Rattle.ac_tables.specs.Cloud.CloudWorld.{providers_of}
-use Rattle.ac_tables.specs.World.{is_available_at}
+use Rattle.ac_cloud.specs.Cloud.CloudWorld.{providers_of}
+use Rattle.ac_cloud.specs.World.{is_available_at}
 use Rattle.ac_search.specs.Trees.Keys.{IsUnder}
 use Rattle.ac_search.proofs.Steps.StepLemmas.{few_providers}
 use Rattle.ac_search.proofs.Roots.TreeLemmas.{under_more, there_at, at_there}

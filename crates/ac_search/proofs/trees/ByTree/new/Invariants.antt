@@ -1,6 +1,6 @@
 use Rattle.std.proofs.Common.{◌≡◌, ◌<◌, ℕ, true, length, slice_index}
-use Rattle.ac_tables.specs.Cloud.CloudWorld.{providers_of}
-use Rattle.ac_tables.specs.World.{is_available_at}
+use Rattle.ac_cloud.specs.Cloud.CloudWorld.{providers_of}
+use Rattle.ac_cloud.specs.World.{is_available_at}
 use Rattle.ac_search.specs.Trees.Keys.{IsUnder}
 use Rattle.ac_search.proofs.trees.ByTree.new.Given as goal
 

@@ -1,5 +1,5 @@
 use Rattle.std.proofs.Common.{◌≡◌, ◌<◌, ℕ, length, map, [], slice_index_or}
-use Rattle.ac_tables.specs.Cloud.CloudWorld.{providers_of}
+use Rattle.ac_cloud.specs.Cloud.CloudWorld.{providers_of}
 use Rattle.ac_search.specs.Trees.{IsByTree}
 use Rattle.ac_search.specs.declared.trees.ByTree.{ByTree}
 use Rattle.ac_search.proofs.trees.ByTree.of_slots.Given as goal

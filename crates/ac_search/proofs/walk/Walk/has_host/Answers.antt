@@ -1,7 +1,7 @@
 use Rattle.std.proofs.Common.{◌≡◌, ◌∙◌, ◌<◌, ◌&&◌, ◌++◌, ◌∷◌, [], ℕ, false, length, take, slice_index, slice_index_or, sym, ap, subst, arith, length-take-le}
 use Rattle.std.specs.Prelude.{◌==◌}
 use Rattle.std.specs.List.{All, list_any}
-use Rattle.ac_tables.specs.World.{anchors_of}
+use Rattle.ac_cloud.specs.World.{anchors_of}
 use Rattle.ac_search.specs.Left.Accounts.{providers_in, asked_in}
 use Rattle.ac_search.specs.Search.{IsDead}
 use Rattle.ac_search.specs.Shown.Walk.{search_in}

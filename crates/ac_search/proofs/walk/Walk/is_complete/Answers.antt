@@ -1,6 +1,6 @@
 use Rattle.std.proofs.Common.{◌≡◌, ◌<◌, suc, length, take, sym, ◌∙◌, subst, arith, take_all}
 use Rattle.std.specs.List.{All}
-use Rattle.ac_tables.specs.Cloud.CloudWorld.{providers_of}
+use Rattle.ac_cloud.specs.Cloud.CloudWorld.{providers_of}
 use Rattle.ac_search.proofs.Steps.PathLemmas.{IsPut, front_low}
 use Rattle.ac_search.proofs.walk.Walk.is_complete.Goals as goal
 

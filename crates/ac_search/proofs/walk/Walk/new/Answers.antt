@@ -4,10 +4,10 @@ use Rattle.std.specs.Option.{option_map}
 use Rattle.ac_query.specs.Asked.{slots_of}
 use Rattle.ac_query.specs.Shown.Queries.{asked_of}
 use Rattle.ac_query.specs.Tokens as tokens
-use Rattle.ac_tables.specs.Cloud.CloudWorld.{providers_of}
+use Rattle.ac_cloud.specs.Cloud.CloudWorld.{providers_of}
 use Rattle.ac_search.specs.Search.{Search, sought, IsStart, choices_at, least_at}
 use Rattle.ac_search.specs.QuerySearch.{search_of, least_of}
-use Rattle.ac_tables.proofs.ProvidersStated.{cloud_in_order}
+use Rattle.ac_cloud.proofs.InOrder.{cloud_in_order}
 use Rattle.ac_search.proofs.Search.SoughtLemmas.{IsSearch}
 use Rattle.ac_search.proofs.Roots.KeptLemmas.{kept_choices, kept_few, kept_low}
 use Rattle.ac_search.proofs.Steps.BeginLemmas.{sound_new, left_new}

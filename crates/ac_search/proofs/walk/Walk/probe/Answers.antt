@@ -1,7 +1,7 @@
 use Rattle.std.proofs.Common.{◌≡◌, ℕ, ◌<◌, suc, Bool, true, false, List, ◌∷◌, take, length, set, arith, ap, sym, ◌∙◌, subst, get_or-set_same}
 use Rattle.std.specs.List.{slice_index}
 use Rattle.ac_query.specs.Shown.Queries.{asked_of}
-use Rattle.ac_tables.specs.Cloud.CloudWorld.{providers_of}
+use Rattle.ac_cloud.specs.Cloud.CloudWorld.{providers_of}
 use Rattle.ac_rules.specs.Judge.{is_open}
 use Rattle.ac_search.specs.Search.{Search, IsDead, choices_at, next_at, left_from}
 use Rattle.ac_search.specs.QuerySearch.{completes}

@@ -1,5 +1,5 @@
 use Rattle.ac_tables.proofs.Common.{◌∙◌, ap, lists_in}
-use Rattle.ac_tables.proofs.Sorted.ListFacts.{lists_map}
+use Rattle.ac_cloud.proofs.ListFacts.{lists_map}
 use Rattle.ac_tables.proofs.reader.split.keys_of.Goals as goal
 
 pub returns-clause-lists : goal.returns-clause-lists

@@ -1,4 +1,4 @@
-use Rattle.ac_tables.proofs.Sorted.ListFacts.{bounds, split_lists}
+use Rattle.ac_tables.proofs.Sorted.RowLists.{bounds, split_lists}
 use Rattle.ac_tables.proofs.reader.split.split.Goals as goal
 
 pub invariant_of-result : goal.invariant_of-result

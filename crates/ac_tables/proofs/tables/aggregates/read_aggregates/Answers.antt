@@ -2,7 +2,7 @@ use Rattle.ac_tables.proofs.Common.{◌∙◌, ◌<◌, ℕ, false, List, map, l
 use Rattle.ac_tables.specs.Tables.AggregateTable.{aggregates_fault}
 use Rattle.ac_tables.specs.Tables.{aggregates_of}
 use Rattle.ac_tables.proofs.Sorted.ProviderSets.{shown_set, once_sorted}
-use Rattle.ac_tables.proofs.Sorted.ListFacts.{of_each}
+use Rattle.ac_tables.proofs.Sorted.RowLists.{of_each}
 use Rattle.ac_tables.proofs.tables.aggregates.read_aggregates.Goals as goal
 
 abbrev aggregate_shown : List ℕ → ℕ → ℕ → Unit {0} → AggregateRecord

@@ -1,5 +1,5 @@
 use Rattle.ac_tables.proofs.Common.{◌∙◌, rules, is_eq, bytes_eq, nat_list_cmp_total, always_returns_same, is_eq-slice_cmp, class_bytes, InventoryNumbers, text_cmp, ClassName, eq_turned, TableRow}
-use Rattle.ac_tables.proofs.Sorted.SearchFacts.{any_same, found, found_any}
+use Rattle.ac_base.proofs.Sorted.SearchFacts.{any_same, found, found_any}
 use Rattle.ac_tables.proofs.tables.inventories.has_class.Goals as goal
 
 pub returns : goal.returns

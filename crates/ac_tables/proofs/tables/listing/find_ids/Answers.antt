@@ -1,7 +1,7 @@
 use Rattle.ac_tables.proofs.Common.{sym, subst, ◌∙◌, All, IsRising}
 use Rattle.ac_tables.proofs.Records.ProviderIds.{Fits, ids_fit}
 use Rattle.ac_tables.proofs.Records.ProviderRecords.{ids_are, keys_rise}
-use Rattle.ac_tables.proofs.Sorted.Rising.{rising_from_sorted}
+use Rattle.ac_cloud.proofs.Rising.{rising_from_sorted}
 use Rattle.ac_tables.proofs.tables.listing.find_ids.Goals as goal
 
 pub new-requires-clause-rising : goal.new-requires-clause-rising

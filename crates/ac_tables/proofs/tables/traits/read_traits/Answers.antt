@@ -2,7 +2,7 @@ use Rattle.ac_tables.proofs.Common.{◌∙◌, ◌<◌, ℕ, false, List, map, l
 use Rattle.ac_tables.specs.Tables.TraitTable.{traits_fault}
 use Rattle.ac_tables.specs.Tables.{names_of}
 use Rattle.ac_tables.proofs.Sorted.ProviderSets.{shown_set, once_sorted}
-use Rattle.ac_tables.proofs.Sorted.ListFacts.{of_each}
+use Rattle.ac_tables.proofs.Sorted.RowLists.{of_each}
 use Rattle.ac_tables.proofs.tables.traits.read_traits.Goals as goal
 
 abbrev trait_cmp : TraitName → TraitName → Ordering

@@ -2,7 +2,7 @@ use Rattle.ac_tables.proofs.Common.{◌∙◌, ℕ, List, Option, map, length, g
 use Rattle.ac_tables.specs.Tables.{amounts_of}
 use Rattle.ac_tables.proofs.Gathered.RowPlaces.{places_rise}
 use Rattle.ac_tables.proofs.Sorted.ProviderMaps.{shown_map}
-use Rattle.ac_tables.proofs.Sorted.ListFacts.{of_each}
+use Rattle.ac_tables.proofs.Sorted.RowLists.{of_each}
 use Rattle.ac_tables.proofs.Records.UsageChecks.{same_fault}
 use Rattle.ac_tables.proofs.tables.usages.read_usages.Goals as goal
 

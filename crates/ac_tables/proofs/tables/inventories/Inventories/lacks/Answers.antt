@@ -1,6 +1,7 @@
 use Rattle.ac_tables.proofs.Common.{◌∙◌, List, [], map, ap, sym, subst, arith, ◌==◌, not, list_any, IsStrictlySortedBy, bytes_eq, class_bytes, text_cmp, InventoryNumbers, ClassName, TableRow}
 use Rattle.ac_tables.proofs.Records.UsageKeys.{any_filter}
-use Rattle.ac_tables.proofs.Sorted.ListFacts.{lists_size, split_here}
+use Rattle.ac_cloud.proofs.ListFacts.{lists_size}
+use Rattle.ac_tables.proofs.Sorted.RowLists.{split_here}
 use Rattle.ac_tables.proofs.tables.inventories.Inventories.lacks.Goals as goal
 
 pub of-requires : goal.of-requires

@@ -1,10 +1,10 @@
 use Rattle.ac_tables.proofs.Common.{rules, ◌≡◌, ◌∙◌, None, sym, ap, list_any, fields_of, class_bytes, first_failing, id_in, provider_name, is_inventory_of, inventory_records_shown}
 use Rattle.ac_tables.specs.Tables.UsageTable.{usage_said, usage_field_checks}
-use Rattle.ac_tables.proofs.Sorted.Rising.{one_of_place}
+use Rattle.ac_cloud.proofs.Rising.{one_of_place}
 use Rattle.ac_tables.proofs.FirstFailing.{append_some, none_both, tells_back, tells_front, unless_err, unless_none, unless_value}
 use Rattle.ac_tables.proofs.Records.KnownFacts.{later}
 use Rattle.ac_tables.proofs.Records.UsageKeys.{any_shown, lone_unknown, lone_nothing, lone_fine}
-use Rattle.ac_tables.proofs.Small.{not_true, not_false}
+use Rattle.ac_base.proofs.Small.{not_true, not_false}
 use Rattle.ac_tables.proofs.tables.usages.UsageTableRecord.read.Goals as goal
 use Rattle.ac_tables.proofs.tables.usages.UsageTableRecord.read.Goals.{In-Ok, In-Ok-read_class, In-Ok-read_amount}
 

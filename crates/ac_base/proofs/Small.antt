@@ -1,0 +1,69 @@
+-- Small facts of numbers, of truth values, of options and of texts.
+use Rattle.std.proofs.Common.{◌≡◌, ◌≢◌, ◌+◌, ◌<◌, ◌≤◌, ℕ, Bool, true, false, Option, Some, None, refl, arith, rules, inl, inr, ◌⊎◌, ◌==◌, ◌||◌, min, not, is_some, subst}
+use Rattle.std.proofs.lemmas.Bool.{cases_lt}
+use Rattle.std.specs.Cmp.{both_ways}
+use Rattle.std.specs.Prelude.{List}
+use Rattle.std.specs.Str.{bytes_eq}
+use Rattle.std.proofs.Common.{sym}
+use Rattle.std.proofs.lemmas.Slice.Eq.{bytes_eq-Decides}
+
+pub clash : (b : Bool) → b ≡ false → b ≡ true → ⊥
+clash b e f = cc
+
+pub not_true : (b : Bool) → not b ≡ true → b ≡ false
+not_true true e = absurd (cc)
+not_true false e = refl
+
+pub not_false : (b : Bool) → not b ≡ false → b ≡ true
+not_false true e = refl
+not_false false e = absurd (cc)
+
+pub or_again : (b c : Bool) → (b || c) ≡ (b || (b || c))
+or_again true c = refl
+or_again false c = refl
+
+pub or_swapped : (a b c : Bool) → (a || (b || c)) ≡ (b || (a || c))
+or_swapped true true c = refl
+or_swapped true false c = refl
+or_swapped false b c = refl
+
+pub or_grouped : (a b c : Bool) → (a || (b || c)) ≡ ((a || b) || c)
+or_grouped true b c = refl
+or_grouped false b c = refl
+
+pub equal : (a b : ℕ) → a ≡ b → (a == b) ≡ true
+equal a b e = search (arith, rules)
+
+pub differ : (a b : ℕ) → a ≢ b → (a == b) ≡ false
+differ a b ne = search (arith, rules)
+
+pub are_equal : (a b : ℕ) → (a == b) ≡ true → a ≡ b
+are_equal a b h = search (arith, rules)
+
+pub min_left : (m n a : ℕ) → m ≤ a → min m n ≤ a
+min_left m n a h = omega arith
+
+pub min_right : (m n a : ℕ) → a ≡ n → min m n ≤ a
+min_right m n a h = omega arith
+
+pub is_min_left : (m n a : ℕ) → m < n → a ≡ m → a ≡ min m n
+is_min_left m n a h e = omega arith
+
+pub is_min_right : (m n a : ℕ) → n ≤ m → a ≡ n → a ≡ min m n
+is_min_right m n a h e = omega arith
+
+pub some_or_none : (o : Option ℕ) → ((q : ℕ) × (o ≡ Some q)) ⊎ (o ≡ None)
+some_or_none None = inr refl
+some_or_none (Some q) = inl (q, refl)
+
+-- what holds of the first places and of one more
+pub one_more : (P : ℕ → Type 0) (n : ℕ) → ((b : ℕ) → b < n → P b) → P n → (b : ℕ) → b < n + 1 → P b
+one_more P n first last b h = elim (cases_lt b n) [ inl less ↦ first b less | inr e ↦ (let same : n ≡ b = omega (arith, e, h) in subst P same last) ]
+
+pub none_is : (o : Option ℕ) → is_some o ≡ false → o ≡ None
+none_is None e = refl
+none_is (Some x) e = absurd (cc)
+
+-- texts are equal both ways
+pub eq_turned : (a b : List ℕ) → bytes_eq a b ≡ bytes_eq b a
+eq_turned a b = both_ways (bytes_eq a b) (bytes_eq b a) (λ e. (bytes_eq-Decides b a).1 (sym ((bytes_eq-Decides a b).0 e))) (λ e. (bytes_eq-Decides a b).1 (sym ((bytes_eq-Decides b a).0 e)))

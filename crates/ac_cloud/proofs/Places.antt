@@ -1,0 +1,9 @@
+-- The parts of a cloud, by the places of providers.
+pub mod AnchorFacts
+pub mod AnchorLists
+pub mod AvailableFacts
+pub mod CloudFacts
+pub mod GroupFacts
+pub mod KeptFacts
+pub mod WideAggregates
+pub mod WorldFacts

@@ -1,0 +1,26 @@
+use Rattle.ac_cloud.proofs.Common.{◌≡◌, ◌<◌, ℕ, None, Some, Option, [], length, get_or, sym, ap, arith, get_or_read, length-map, list_items, Cloud, providers_of, anchors_of}
+use Rattle.std.specs.Prelude.{MatchOption}
+use Rattle.ac_cloud.specs.Cloud.CloudWorld.{root_lists_of}
+use Rattle.ac_cloud.proofs.Places.CloudFacts.{inside, parts}
+use Rattle.ac_cloud.proofs.Places.AnchorFacts.{anchors_listed, anchors_unlisted}
+use Rattle.ac_cloud.proofs.cloud.Cloud.root_list.Goals as goal
+
+pub index-requires : goal.index-requires
+index-requires c = omega (arith, inside c.args.self.now c.args.ix c.requires, c.args.self.now.anchors.places.ok.0, (parts c.args.self.now).with_anchors)
+
+listed : (cloud : Cloud) (ix : ℕ) (place : Option ℕ) → ix < length cloud.ids.ids.items → get_or cloud.anchors.places.items ix None ≡ place
+    → MatchOption place (length (anchors_of (providers_of cloud) ix) ≡ 1)
+    (λ k. (k < length (root_lists_of cloud)) × (get_or (root_lists_of cloud) k [] ≡ anchors_of (providers_of cloud) ix))
+unfolding root_lists_of
+listed cloud ix None h here = sym (ap length (anchors_unlisted cloud ix h here))
+listed cloud ix (Some k) h here =
+    let list = anchors_listed cloud ix k h here in
+    (omega (arith, list.0, length-map cloud.anchors.lists.items list_items), list.1)
+
+pub returns : goal.returns
+returns c =
+    let cloud = c.args.self.now in
+    let places = cloud.anchors.places.items in
+    let h = inside cloud c.args.ix c.requires in
+    let k : c.args.ix < length places = omega (arith, h, (parts cloud).with_anchors) in
+    listed cloud c.args.ix _ h (sym (get_or_read places _ _ k c.index.ensures None))

@@ -1,0 +1,6 @@
+pub mod World
+pub mod Trees
+pub mod Cloud
+pub mod ListBounds
+pub mod ListsOf
+pub mod Laws

@@ -1,0 +1,49 @@
+//! The lists of all providers, one after the other in one vector.
+ghost use Rattle.std.specs.Prelude.{◌≡◌, ◌≤◌, ◌<◌, ◌-◌, [], length, get_or, take, drop};
+ghost use Rattle.std.specs.List.{sum_by};
+ghost use Rattle.std.proofs.Props.{props};
+ghost use Rattle.ac_cloud.specs.ListBounds.{AreBounds};
+
+/// A list for each provider: where it starts, and behind all lists where the last one ends.
+#[derive(Drop)]
+pub struct Lists<X> {
+    pub items: Vec<X>,
+    pub starts: Vec<usize>,
+    ghost bounds: { AreBounds (length items.items) starts.items } by { Prim.hlevel props },
+}
+
+// A part of a list.
+fn cut<X>(items: &[X], from: usize, to: usize) -> &[X]
+    requires order { from ≤ to }
+    requires inside { to ≤ length items.now }
+    ensures { result.now ≡ take (to - from) (drop from items.now) }
+{
+    &items[from..to]
+}
+
+impl<X> Lists<X> {
+    ghost use Rattle.ac_cloud.specs.ListsOf.{lists_of};
+
+    /// How many lists there are.
+    pub fn len(&self) -> usize
+        ensures { result ≡ length (lists_of self.now) }
+    {
+        self.starts.len() - 1
+    }
+
+    /// How many items all lists have.
+    pub fn count(&self) -> usize
+        ensures sum { result ≡ sum_by length (lists_of self.now) }
+        ensures items { result ≡ length self.now.items.items }
+    {
+        self.items.len()
+    }
+
+    /// The list of a provider.
+    pub fn of(&self, place: usize) -> &[X]
+        requires { place < length (lists_of self.now) }
+        ensures { result.now ≡ get_or (lists_of self.now) place [] }
+    {
+        cut(&self.items, self.starts[place], self.starts[place + 1])
+    }
+}

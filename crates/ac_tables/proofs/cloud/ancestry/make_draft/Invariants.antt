@@ -1,5 +1,0 @@
-use Rattle.ac_tables.proofs.Common.{◌≡◌, length}
-use Rattle.ac_tables.proofs.cloud.ancestry.make_draft.Given as goal
-
-abbrev pub invariant-loop-step : goal.invariant-loop-step
-invariant-loop-step l = (length l.entered.items ≡ length l.parents) × (length l.left.items ≡ length l.parents) × (length l.order.items ≡ length l.parents)

@@ -1,5 +1,0 @@
-use Rattle.ac_tables.proofs.Common.{◌≡◌, ℕ, is_met, meets, lists_of}
-use Rattle.ac_tables.proofs.cloud.roots_by_aggregate.Groups.gather.Given as goal
-
-abbrev pub invariant-loop-place : goal.invariant-loop-place
-invariant-loop-place l = (a r : ℕ) → is_met l.groups.map a r ≡ meets l.roots (lists_of l.aggregates) l.place a r

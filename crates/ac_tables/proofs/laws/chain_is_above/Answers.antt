@@ -1,5 +1,0 @@
-use Rattle.ac_tables.proofs.Trees.LawFacts.{chain_is_above}
-use Rattle.ac_tables.proofs.laws.chain_is_above.Goals as goal
-
-pub returns : goal.returns
-returns c = chain_is_above

@@ -1,5 +1,0 @@
-use Rattle.ac_tables.proofs.Trees.LawFacts.{top_is_root}
-use Rattle.ac_tables.proofs.laws.top_is_root.Goals as goal
-
-pub returns : goal.returns
-returns c = top_is_root

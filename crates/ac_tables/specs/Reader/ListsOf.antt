@@ -1,7 +1,0 @@
--- The lists of all providers.
-use Rattle.std.specs.Prelude.{List}
-use Rattle.ac_tables.specs.Reader.ListBounds.{lists_in}
-use Rattle.ac_tables.specs.declared.reader.lists.Lists.{Lists}
-
-abbrev pub lists_of : {X : Type 0} → Lists X → List (List X)
-lists_of lists = lists_in lists.items.items lists.starts.items
