@@ -5,3 +5,4 @@ pub mod PlacedLemmas
 pub mod SlotLemmas
 pub mod PlaceLemmas
 pub mod Locating
+pub mod ChainLemmas

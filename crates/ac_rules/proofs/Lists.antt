@@ -1,5 +1,4 @@
 -- All lists of numbers in order, and the candidates among them.
-pub mod AheadLemmas
 pub mod ListLemmas
 pub mod OdometerLemmas
 pub mod OrderLemmas

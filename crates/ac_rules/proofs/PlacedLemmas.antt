@@ -21,6 +21,10 @@ pub placed_none : (ss : List Slot) → placed ss [] ≡ []
 placed_none [] = refl
 placed_none (s ∷ ss) = refl
 
+-- from place 0 on: all
+pub placed_whole : (ss : List Slot) (t : List ℕ) (i : ℕ) → i ≡ 0 → placed (drop i ss) (drop i t) ≡ placed ss t
+placed_whole ss t i h = rw h refl
+
 -- nothing is left past the end
 pub placed_end : (ss : List Slot) (t : List ℕ) (i : ℕ) → length t ≤ i → placed (drop i ss) (drop i t) ≡ []
 placed_end ss t i h = rw (drop_all i t h) (placed_none (drop i ss))

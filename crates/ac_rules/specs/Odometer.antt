@@ -1,7 +1,6 @@
 -- The next list in order, and the lists that are still to come.
-use Rattle.std.specs.Prelude.{ℕ, ◌+◌, ◌==◌, ◌&&◌, Bool, true, false, not, nat_lt, List, [], ◌∷◌, length, replicate, if◌then◌else◌, Option, None, Some}
-use Rattle.std.specs.List.{filter}
-use Rattle.ac_rules.specs.Order.{lex_lt}
+use Rattle.std.specs.Prelude.{ℕ, ◌+◌, ◌-◌, ◌==◌, ◌&&◌, Bool, true, false, nat_lt, List, [], ◌∷◌, ◌++◌, map, length, replicate, if◌then◌else◌, Option, None, Some}
+use Rattle.std.specs.List.{flat_map, range_with_len}
 use Rattle.ac_rules.specs.Lists.{all_lists}
 use Rattle.ac_rules.specs.declared.plain.odometer.Stage.{Stage}
 use Rattle.ac_rules.specs.declared.plain.odometer.Stage.TheVariants.{Fresh, Given, Ended}
@@ -16,15 +15,20 @@ abbrev pub successor : ℕ → List ℕ → Option (List ℕ)
 successor n [] = None
 successor n (first ∷ more) = successor_by n first (length more) (successor n more)
 
--- whether a list is still to come
-abbrev pub is_ahead : Stage → List ℕ → List ℕ → Bool
-is_ahead Fresh list t = not (lex_lt t list)
-is_ahead Given list t = lex_lt list t
-is_ahead Ended list t = false
+-- these lists, each behind a number from a on below n
+abbrev pub headed : ℕ → List (List ℕ) → ℕ → List (List ℕ)
+headed n lists a = flat_map (λ first. map (λ t. first ∷ t) lists) (range_with_len a (n - a))
+
+-- the lists of as many numbers below n that come after a list: those with the same first number, and those with a later one
+abbrev pub lists_after : ℕ → List ℕ → List (List ℕ)
+lists_after n [] = []
+lists_after n (first ∷ more) = map (λ t. first ∷ t) (lists_after n more) ++ headed n (all_lists n (length more)) (first + 1)
 
 -- the lists of numbers below n that are still to come
-unfoldable pub ahead : ℕ → Stage → List ℕ → List (List ℕ)
-ahead n stage list = filter (λ t. is_ahead stage list t) (all_lists n (length list))
+abbrev pub ahead : ℕ → Stage → List ℕ → List (List ℕ)
+ahead n Fresh list = list ∷ lists_after n list
+ahead n Given list = lists_after n list
+ahead n Ended list = []
 
 abbrev pub has_ended : Stage → Bool
 has_ended Fresh = false

@@ -1,3 +1,4 @@
 -- What sources show.
 pub mod Lists
 pub mod Plain
+pub mod Assignments

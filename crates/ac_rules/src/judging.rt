@@ -6,10 +6,7 @@ ghost use Rattle.ac_query.specs.Asked.{slots_of};
 ghost use Rattle.ac_query.specs.Shown.Queries.{asked_of};
 ghost use Rattle.ac_rules.specs.Judge.{judge, is_candidate};
 
-use crate::rules::anchor::has_anchor;
-use crate::rules::each::{all_are_in_trees, all_have_aggregates, all_have_traits, all_have_units};
-use crate::rules::sums::have_room;
-use crate::rules::whole::{are_collective, are_isolated, have_tops};
+use crate::assignment::Assignment;
 use crate::verdict::{Rule, Verdict};
 use ac_query::Query;
 use ac_cloud::Cloud;
@@ -22,31 +19,32 @@ pub fn verify(cloud: &Cloud, query: &Query, list: &[u32]) -> Verdict
     requires providers { All (λ p. p < length (providers_of cloud.now)) list.now }
     ensures { result ≡ judge (providers_of cloud.now) (asked_of query.now) list.now }
 {
-    if !all_have_units(cloud, query, list) {
+    let assignment = Assignment { cloud, query, list };
+    if !assignment.has_units() {
         return Verdict::Broken(Rule::Units);
     }
-    if !all_have_traits(cloud, query, list) {
+    if !assignment.has_slot_traits() {
         return Verdict::Broken(Rule::SlotTraits);
     }
-    if !all_have_aggregates(cloud, query, list) {
+    if !assignment.has_aggregates() {
         return Verdict::Broken(Rule::Aggregates);
     }
-    if !all_are_in_trees(cloud, query, list) {
+    if !assignment.is_in_trees() {
         return Verdict::Broken(Rule::Tree);
     }
-    if !are_collective(cloud, query, list) {
+    if !assignment.is_collective() {
         return Verdict::Broken(Rule::Collective);
     }
-    if !have_room(cloud, query, list) {
+    if !assignment.has_room() {
         return Verdict::Broken(Rule::Sums);
     }
-    if !are_isolated(query, list) {
+    if !assignment.is_isolated() {
         return Verdict::Broken(Rule::Isolate);
     }
-    if !have_tops(cloud, query, list) {
+    if !assignment.has_tops() {
         return Verdict::Broken(Rule::Subtree);
     }
-    if !has_anchor(cloud, query, list) {
+    if !assignment.has_anchor() {
         return Verdict::Broken(Rule::Anchor);
     }
     Verdict::Candidate

@@ -4,6 +4,7 @@
 //! It knows nothing of the texts of tables and queries, nor of what is printed, nor of how a search avoids lists.
 #![tactic(auto)]
 
+pub mod assignment;
 pub mod judging;
 pub mod laws;
 pub mod located;
@@ -13,6 +14,7 @@ pub mod slots;
 pub mod source;
 pub mod verdict;
 
+pub use assignment::{Assignment, Placed};
 pub use judging::verify;
 pub use located::InCloud;
 pub use plain::Plain;

@@ -75,7 +75,7 @@ impl<'a> Plain<'a> {
         }
     }
 
-    // Whether it is a candidate, and comes after them.
+    // Whether the list that it has come to is a candidate, and comes after the ids.
     fn is_wanted(&self) -> bool
         requires { All (λ p. p < length (providers_of self.now.cloud.now))
             (list_of self.now.lists) }
@@ -87,7 +87,8 @@ impl<'a> Plain<'a> {
         is_candidate(self.cloud, self.query, self.lists.list()) && self.is_after()
     }
 
-    // Goes on to the next candidate, where there is one.
+    // Goes on to the next candidate after the ids, where there is one.
+    #[tactic(auto, using(crate::proofs::Lists::ChosenLemmas::chosen_here, crate::proofs::Lists::ChosenLemmas::chosen_later, crate::proofs::Lists::ChosenLemmas::chosen_none))]
     fn step(&mut self) -> bool
         ensures { MatchBool result (left_of self.old ≡ list_of self.new.lists ∷ left_of self.new)
             ((left_of self.old ≡ []) × (left_of self.new ≡ [])) }

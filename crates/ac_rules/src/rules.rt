@@ -2,6 +2,7 @@
 
 pub mod anchor;
 pub(crate) mod each;
-pub mod own;
+pub(crate) mod own;
 pub mod sums;
-pub mod whole;
+pub(crate) mod traits;
+pub(crate) mod whole;

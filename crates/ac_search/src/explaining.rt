@@ -18,7 +18,7 @@ use crate::ledger::marks::taken_roots;
 use crate::open::fits_slot;
 use ac_base::NoMemory;
 use ac_query::{Need, Query};
-use ac_rules::rules::own::{has_aggregates, has_slot_traits, has_units, is_in_tree};
+use ac_rules::Placed;
 use ac_rules::rules::sums::room_at;
 use ac_rules::slots::{count_slots, needs_at};
 use ac_cloud::Cloud;
@@ -90,19 +90,25 @@ pub fn slot_counts(cloud: &Cloud, query: &Query, s: usize) -> SlotCounts
     let mut tree = 0;
     let mut room = 0;
     for ix in 0..cloud.len() {
-        if !has_units(cloud, query, s, ix) {
+        let placed = Placed {
+            cloud,
+            query,
+            slot: s,
+            provider: ix,
+        };
+        if !placed.has_units() {
             continue;
         }
         units += 1;
-        if !has_slot_traits(cloud, query, s, ix) {
+        if !placed.has_slot_traits() {
             continue;
         }
         traits += 1;
-        if !has_aggregates(cloud, query, s, ix) {
+        if !placed.has_aggregates() {
             continue;
         }
         aggregates += 1;
-        if !is_in_tree(cloud, query, s, ix) {
+        if !placed.is_in_tree() {
             continue;
         }
         tree += 1;

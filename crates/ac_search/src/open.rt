@@ -10,10 +10,7 @@ ghost use Rattle.ac_rules.specs.Judge.{is_open};
 ghost use Rattle.ac_search.specs.QuerySearch.{fits, completes};
 
 use ac_query::Query;
-use ac_rules::rules::anchor::has_anchor;
-use ac_rules::rules::own::{has_aggregates, has_slot_traits, has_units, is_in_tree};
-use ac_rules::rules::sums::have_room;
-use ac_rules::rules::whole::{are_collective, are_isolated, have_tops};
+use ac_rules::{Assignment, Placed};
 use ac_cloud::Cloud;
 
 /// Whether a provider meets the rules of a slot alone.
@@ -23,10 +20,16 @@ pub(crate) fn fits_slot(cloud: &Cloud, query: &Query, s: usize, ix: u32) -> bool
     requires provider { ix < length (providers_of cloud.now) }
     ensures { result ≡ fits (providers_of cloud.now) (placed_at (asked_of query.now) s ix) }
 {
-    has_units(cloud, query, s, ix)
-        && has_slot_traits(cloud, query, s, ix)
-        && has_aggregates(cloud, query, s, ix)
-        && is_in_tree(cloud, query, s, ix)
+    let placed = Placed {
+        cloud,
+        query,
+        slot: s,
+        provider: ix,
+    };
+    placed.has_units()
+        && placed.has_slot_traits()
+        && placed.has_aggregates()
+        && placed.is_in_tree()
 }
 
 /// Whether a list, each of whose providers meets the rules of its slot alone, is open.
@@ -38,7 +41,12 @@ pub(crate) fn is_open(cloud: &Cloud, query: &Query, front: &[u32]) -> bool
         (assigned (asked_of query.now) front.now) ≡ true }
     ensures { result ≡ is_open (providers_of cloud.now) (asked_of query.now) front.now }
 {
-    have_room(cloud, query, front) && are_isolated(query, front) && has_anchor(cloud, query, front)
+    let front = Assignment {
+        cloud,
+        query,
+        list: front,
+    };
+    front.has_room() && front.is_isolated() && front.has_anchor()
 }
 
 /// Whether a list meets what isn't asked of its fronts.
@@ -47,5 +55,6 @@ pub(crate) fn completes(cloud: &Cloud, query: &Query, list: &[u32]) -> bool
     requires providers { All (λ p. p < length (providers_of cloud.now)) list.now }
     ensures { result ≡ completes (providers_of cloud.now) (asked_of query.now) list.now }
 {
-    are_collective(cloud, query, list) && have_tops(cloud, query, list)
+    let list = Assignment { cloud, query, list };
+    list.is_collective() && list.has_tops()
 }

@@ -33,6 +33,7 @@ impl AllLists {
     }
 
     /// Goes on to the next list, where there is one.
+    #[tactic(auto, using(crate::proofs::Lists::OdometerLemmas::given_next, crate::proofs::Lists::OdometerLemmas::given_last, crate::proofs::Lists::OdometerLemmas::next_below))]
     pub(crate) fn step(&mut self) -> bool
         ensures given { MatchBool result (lists_left self.old
             ≡ list_of self.new ∷ lists_left self.new) ((lists_left self.old ≡ [])

@@ -1,5 +1,5 @@
 //! Lists of numbers counted up, as an odometer counts.
-ghost use Rattle.std.specs.Prelude.{◌≡◌, Some, None};
+ghost use Rattle.std.specs.Prelude.{◌≡◌, Some, None, length, replicate};
 ghost use Rattle.std.specs.Bool.{MatchBool};
 ghost use Rattle.ac_rules.specs.Odometer.{start, successor};
 
@@ -25,20 +25,22 @@ pub(crate) fn start(width: usize, bound: u32) -> Stage
     }
 }
 
-/// Sets a list to the next one of as many numbers below a bound, where there is one.
+/// Sets a list to the next one of as many numbers below a bound, or to zeros where there is none.
 pub(crate) fn count_up(list: &mut [u32], bound: u32) -> bool
-    ensures { MatchBool result (successor bound list.old ≡ Some list.new) (successor bound list.old
-        ≡ None) }
+    ensures { MatchBool result (successor bound list.old ≡ Some list.new)
+        ((successor bound list.old ≡ None) × (list.new ≡ replicate (length list.old) 0)) }
 {
-    let mut place = list.len();
-    while place > 0 {
-        place -= 1;
-        let number = list[place];
-        if number < bound && number + 1 < bound {
-            list[place] = number + 1;
-            return true;
-        }
-        list[place] = 0;
+    let Some((first, more)) = list.split_first_mut() else {
+        return false;
+    };
+    if count_up(more, bound) {
+        return true;
     }
-    false
+    if *first < bound && *first + 1 < bound {
+        *first += 1;
+        true
+    } else {
+        *first = 0;
+        false
+    }
 }

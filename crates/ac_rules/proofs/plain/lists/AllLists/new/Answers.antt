@@ -1,4 +1,4 @@
-use Rattle.ac_rules.proofs.Lists.AheadLemmas.{start_ahead}
+use Rattle.ac_rules.proofs.Lists.OdometerLemmas.{start_ahead}
 use Rattle.ac_rules.proofs.plain.lists.AllLists.new.Goals as goal
 
 pub returns-clause-left : goal.returns-clause-left

@@ -1,0 +1,7 @@
+use Rattle.std.proofs.Common.{rules}
+use Rattle.ac_rules.specs.Own.{units_fit}
+use Rattle.ac_rules.proofs.ChainLemmas.{all_slots}
+use Rattle.ac_rules.proofs.assignment.Assignment.has_units.Goals as goal
+
+pub returns : goal.returns
+returns c = all_slots _ _ units_fit c.all.new.self _ _ c.all.ensures.ran c.slots.ensures (λ x b q k. search rules)
