@@ -8,7 +8,7 @@ use Rattle.ac_query.specs.declared.query.Query.{Query}
 use Rattle.ac_query.specs.Asked.{Group, Asked, Slot, class_slot, group_slots, slots_from, slots_of}
 use Rattle.ac_query.specs.Faults.{Fault, no_resources, first_fault, has_resources, listed_suffixes, group_condition, suffix_condition, needs_policy, slot_count, entry_count, is_too_large, asked_conditions}
 use Rattle.ac_query.specs.Shown.Queries.{asked_of}
-use Rattle.ac_query.proofs.Pairs.Once.{second_part}
+use Rattle.ac_query.proofs.Pairs.PairSteps.{neither}
 
 -- the slots of a group
 count_of : (i : ℕ) (g : Option (List ℕ) × Group) → length (group_slots i g) ≡ slot_count g
@@ -44,13 +44,13 @@ second_holds_not true c f g h = absurd (cc)
 second_holds_not false true f g h = absurd (cc)
 second_holds_not false false f g h = refl
 
-neither : (b c : Bool) → b || c ≡ false → b ≡ false
-neither true c h = h
-neither false c h = refl
+fewer : (b c : Bool) → b || c ≡ false → b ≡ false
+fewer true c h = h
+fewer false c h = refl
 
-neither_later : (b c : Bool) → b || c ≡ false → c ≡ false
-neither_later true c h = absurd (cc)
-neither_later false c h = h
+fewer_later : (b c : Bool) → b || c ≡ false → c ≡ false
+fewer_later true c h = absurd (cc)
+fewer_later false c h = h
 
 module _ (a : Asked) (fine : first_fault (asked_conditions a) ≡ None) where
   some_resources : list_any has_resources a.groups ≡ true
@@ -59,20 +59,20 @@ module _ (a : Asked) (fine : first_fault (asked_conditions a) ≡ None) where
   not_too_large : is_too_large a.groups ≡ false
   not_too_large =
       second_holds_not (nat_lt 1 (length (filter needs_policy a.groups)) && is_none a.policy) (is_too_large a.groups) _ _
-      (second_part (((not (list_any has_resources a.groups), no_resources) ∷ map (group_condition (listed_suffixes a)) a.groups) ++ map (suffix_condition a.groups) (listed_suffixes a)) _ fine)
+      (neither (((not (list_any has_resources a.groups), no_resources) ∷ map (group_condition (listed_suffixes a)) a.groups) ++ map (suffix_condition a.groups) (listed_suffixes a)) _ fine).1
 
   pub some_slots : 0 < length (slots_from 0 a.groups)
   some_slots = let some = have_slots a.groups some_resources in omega (arith, length-slots_from 0 a.groups)
 
   pub few_slots : length (slots_from 0 a.groups) ≤ 64
   few_slots =
-      let few : nat_lt 64 (sum_by slot_count a.groups) ≡ false = neither _ _ not_too_large in
+      let few : nat_lt 64 (sum_by slot_count a.groups) ≡ false = fewer _ _ not_too_large in
       let count : sum_by slot_count a.groups ≤ 64 = grind (arith, nat_tests) in
       omega (arith, length-slots_from 0 a.groups)
 
   pub few_entries : sum_by entry_count a.groups ≤ 256
   few_entries =
-      let few : nat_lt 256 (sum_by entry_count a.groups) ≡ false = neither_later _ _ not_too_large in
+      let few : nat_lt 256 (sum_by entry_count a.groups) ≡ false = fewer_later _ _ not_too_large in
       grind (arith, nat_tests)
 
 -- ---- what all slots of a query need

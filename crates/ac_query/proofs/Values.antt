@@ -1,6 +1,6 @@
 -- The values of texts: their items, and what is gathered of them.
 pub mod Items
-pub mod ListItems
+pub mod Marks
 pub mod NeedItems
 pub mod NeedSteps
 pub mod Pieces
@@ -8,4 +8,3 @@ pub mod PositiveNeeds
 pub mod Inserts
 pub mod NameSets
 pub mod Choosing
-pub mod LongSuffixes

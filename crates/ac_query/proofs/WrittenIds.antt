@@ -1,11 +1,11 @@
 -- Ids in written form, and lists of them.
 use Rattle.std.proofs.Common.{◌≡◌, ℕ, zero, suc, ◌+◌, ◌<◌, ◌^◌, ◌/◌, ◌%◌, nat_lt, arith, Bool, true, false, List, [], ◌∷◌, ◌++◌, length, map, take, get_or, Some, refl, sym, ap, ◌∙◌, append_assoc, inl, if◌then◌else◌}
 use Rattle.std.proofs.lemmas.Bool.Decides.{nat_tests}
-use Rattle.std.proofs.lemmas.List.{map-append, append-nil, take_more, length-take-le}
+use Rattle.std.proofs.lemmas.List.{map-append, take_more, length-take-le}
 use Rattle.std.proofs.lemmas.List.Splits.{slice_split_none, slice_split_at}
 use Rattle.std.proofs.lemmas.Str.{IsUtf8-from_ascii}
 use Rattle.std.specs.Int.{w128, to_be_bytes, from_be_bytes}
-use Rattle.std.specs.List.{All, AllByRecursion, fold, join_with_byte}
+use Rattle.std.specs.List.{All, AllByRecursion, join_with_byte}
 use Rattle.std.specs.Option.{option_map}
 use Rattle.std.specs.Str.{IsUtf8}
 use Rattle.uuid.specs.Text.{lower, hyphen, hex_digit, nibble, digit_place, is_hyphen_place}
@@ -14,7 +14,7 @@ use Rattle.uuid.proofs.RoundTrips.{parses_hyphenated}
 use Rattle.uuid.proofs.OrderLemmas.{from_be_bytes-to_be_bytes_16}
 use Rattle.ac_base.specs.Texts.{id_value, id_text}
 use Rattle.ac_query.specs.Texts.{is_comma, items_of}
-use Rattle.ac_query.specs.Pairs.Values.{with_id_item, ids_value}
+use Rattle.ac_query.specs.Pairs.Values.{values_of, ids_value}
 use Rattle.ac_query.specs.Tokens.{part_text, ids_text}
 use Rattle.ac_query.specs.Laws.{TokenReads}
 
@@ -66,13 +66,10 @@ parts_are id [] = slice_split_none is_comma (id_text id) (no_comma id)
 parts_are id (i ∷ ids) =
     slice_split_at is_comma (id_text id) 44 (ids_text (i ∷ ids)) (no_comma id) refl ∙ ap (λ l. id_text id ∷ l) (parts_are i ids)
 
-gathers : (have ids : List ℕ) → AllByRecursion (λ i. i < 2 ^ 128) ids → fold with_id_item (Some have) (map id_text ids) ≡ Some (have ++ ids)
-gathers have [] fit = ap (λ l. Some l) (sym (append-nil have))
-gathers have (i ∷ ids) fit =
-    ap (λ o. fold with_id_item (option_map (λ id. have ++ id ∷ []) o) (map id_text ids)) (id_reads i fit.0)
-    ∙ gathers (have ++ i ∷ []) ids fit.1
-    ∙ ap (λ l. Some l) (append_assoc have (i ∷ []) ids)
+reads : (ids : List ℕ) → AllByRecursion (λ i. i < 2 ^ 128) ids → values_of id_value (map id_text ids) ≡ Some ids
+reads [] fit = refl
+reads (i ∷ ids) fit = rw (id_reads i fit.0, reads ids fit.1) refl
 
 pub token_reads : TokenReads
 unfolding ids_value
-token_reads id ids fit = ap (fold with_id_item (Some [])) (parts_are id ids) ∙ gathers [] (id ∷ ids) fit
+token_reads id ids fit = ap (values_of id_value) (parts_are id ids) ∙ reads (id ∷ ids) fit

@@ -83,25 +83,25 @@ same_suffix None (Some t) = false
 same_suffix (Some s) None = false
 same_suffix (Some s) (Some t) = bytes_eq s t
 
--- what is given of the group of a suffix
-abbrev pub part_of : Option (List ℕ) → Given → Option Part
-part_of s (in_group t p) = if same_suffix s t then Some p else None
-part_of s (root_traits t) = None
-part_of s (policy b) = None
-part_of s (subtree names) = None
-part_of s (at_most n) = None
+-- what is given of a group, and its suffix
+abbrev pub group_part : Given → Option (Option (List ℕ) × Part)
+group_part (in_group s p) = Some (s, p)
+group_part (root_traits t) = None
+group_part (policy b) = None
+group_part (subtree names) = None
+group_part (at_most n) = None
+
+-- all that is given of groups, in order
+abbrev pub group_parts : List Given → List (Option (List ℕ) × Part)
+group_parts gs = filter_map group_part gs
+
+-- a part, where it is of the group of a suffix
+abbrev pub part_for : Option (List ℕ) → Option (List ℕ) × Part → Option Part
+part_for s e = if same_suffix s e.0 then Some e.1 else None
 
 -- all that is given of the group of a suffix, in order
 abbrev pub parts_of : Option (List ℕ) → List Given → List Part
-parts_of s gs = filter_map (part_of s) gs
-
--- the suffix that is given, where there is one
-abbrev pub suffix_in : Given → Option (List ℕ)
-suffix_in (in_group s p) = s
-suffix_in (root_traits t) = None
-suffix_in (policy b) = None
-suffix_in (subtree names) = None
-suffix_in (at_most n) = None
+parts_of s gs = filter_map (part_for s) (group_parts gs)
 
 -- the unsuffixed group, where it has a part
 abbrev pub unsuffixed : List Part → List (Option (List ℕ))
@@ -110,7 +110,7 @@ unsuffixed (p ∷ ps) = None ∷ []
 
 -- The groups that are given: the unsuffixed one first, then suffixes in byte order, each once.
 abbrev pub groups_given : List Given → List (Option (List ℕ))
-groups_given gs = unsuffixed (parts_of None gs) ++ map (λ s. Some s) (in_byte_order (filter_map suffix_in gs))
+groups_given gs = unsuffixed (parts_of None gs) ++ map (λ s. Some s) (in_byte_order (filter_map (λ e. e.0) (group_parts gs)))
 
 -- the traits that are required of the root
 abbrev pub root_required_in : Given → List (List ℕ)

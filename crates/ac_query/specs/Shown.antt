@@ -18,7 +18,8 @@ use Rattle.ac_base.specs.declared.name.TraitName.{TraitName}
 use Rattle.ac_base.specs.Names.{class_bytes, trait_bytes, suffix_bytes}
 use Rattle.ac_query.specs.declared.reading.amount.Amount.{Amount}
 use Rattle.ac_query.specs.declared.reading.traits.Traits as rust
-use Rattle.ac_query.specs.Pairs.Values.{Traits}
+use Rattle.ac_query.specs.declared.reading.traits.MarkedTrait as rust_mark
+use Rattle.ac_query.specs.Pairs.Values.{Marked, Traits}
 
 -- a class and its amount
 abbrev pub need_shown : ClassName × Amount → List ℕ × ℕ
@@ -35,6 +36,10 @@ names_shown s = map trait_bytes s.keys
 -- the names of two sets, in byte order
 abbrev pub traits_shown : rust.Traits → Traits
 traits_shown t = record { required = names_shown t.required; forbidden = names_shown t.forbidden }
+
+-- a trait's name, and whether it is forbidden
+abbrev pub mark_shown : rust_mark.MarkedTrait → Marked
+mark_shown m = (m.forbids, trait_bytes m.name)
 
 -- the suffixes of a set, in byte order
 abbrev pub suffixes_shown : BTreeSet Suffix → List (List ℕ)

@@ -4,6 +4,7 @@ pub mod amount;
 pub mod check;
 pub mod draft;
 pub mod given;
+pub mod items;
 pub mod parameter;
 pub mod pass;
 pub mod traits;

@@ -43,9 +43,9 @@ pub struct Token {
 impl Token {
     /// Reads UUIDs between commas, one for each slot of the query. They needn't be those of a candidate.
     pub fn read(alloc: Global, text: &str, query: &Query) -> Result<Token, TokenFault>
-        ensures fine { OnOk result (token_fault (asked_of query.now) text.now ≡ None) }
+        ensures ok { OnOk result (token_fault (asked_of query.now) text.now ≡ None) }
         ensures ids { IfOk result (λ token. ids_value text.now ≡ Some (ids_of token)) }
-        ensures err { IfErr result (λ e. IfSome (fault_told e) (λ f.
+        ensures fault { IfErr result (λ e. IfSome (fault_told e) (λ f.
             token_fault (asked_of query.now) text.now ≡ Some f)) }
     {
         let Some(ids) = read_ids(alloc, text)? else {

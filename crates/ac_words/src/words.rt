@@ -110,7 +110,7 @@ fn fault_of(alloc: Global, error: &clap::Error) -> Result<WordFault, AllocError>
 /// Reads the words of a command line, of which the first is the program's own name.
 pub fn read_words(alloc: Global, words: &[String]) -> Result<Words, WordFault>
     ensures entries { IfOk result (Says (named (map string_bytes words.now))) }
-    ensures faultless { OnOk result (faults (map string_bytes words.now) ≡ []) }
+    ensures ok { OnOk result (faults (map string_bytes words.now) ≡ []) }
     ensures fault { IfErr result (Tells (faults (map string_bytes words.now))) }
     ensures taken { IsTrue (is_taken (map string_bytes words.now))
         → IfErr result (λ fault. fault ≡ NoMemory) }

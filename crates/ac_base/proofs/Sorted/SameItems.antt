@@ -98,10 +98,11 @@ insert_keys {K} {X} R (e ∷ es) k v =
     ∙ ap (λ l. match_ordering (R k e.0) (k ∷ e.0 ∷ keys_of es) (e.0 ∷ keys_of es) (e.0 ∷ l)) (insert_keys R es k v)
 
 module _ {K X : Type 0} {R : K → K → Ordering} (o : IsTotalOrder R) where
-  abbrev value_at : K → List (K × X) → Option X
+  abbrev pub value_at : K → List (K × X) → Option X
   value_at q es = lookup (is_at (R q)) es
 
-  value_after : (q : K) (m : List (K × X)) (k : K) (v : X) → value_at q (insert_entry R m k v) ≡ (if is_at (R q) k then Some v else value_at q m)
+  -- the value of a key after an insertion is the new one where it is that key
+  pub value_after : (q : K) (m : List (K × X)) (k : K) (v : X) → value_at q (insert_entry R m k v) ≡ (if is_at (R q) k then Some v else value_at q m)
   value_after q [] k v = refl
   value_after q (e ∷ es) k v = by_order (R k e.0) refl (value_after q es k v)
     where

@@ -4,16 +4,21 @@ ghost use Rattle.std.specs.Option.{option_map};
 ghost use Rattle.ac_base.specs.Texts.{name_value};
 ghost use Rattle.ac_base.specs.Names.{class_bytes};
 
+use super::texts::owned_name;
 use super::{ClassName, Names, NoMemory};
 use std::alloc::Global;
 
 impl ClassName {
     /// Reads 1 to 255 characters of `A-Z 0-9 _`; every other text is no name.
+    #[tactic(auto, using(crate::proofs::NameFacts::value_named))]
     pub fn read(alloc: Global, text: &[u8]) -> Result<Option<ClassName>, NoMemory>
         ensures value { IfOk result (λ name. option_map class_bytes name ≡ name_value text.now) }
         ensures unnamed { name_value text.now ≡ None → result ≡ Ok None }
     {
-        Names::new(alloc).class(text)
+        let Some(text) = owned_name(alloc, text)? else {
+            return Ok(None);
+        };
+        Ok(Some(ClassName { text }))
     }
 
     /// The name as it was read.

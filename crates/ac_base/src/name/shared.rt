@@ -6,7 +6,7 @@ ghost use Rattle.std.specs.Rc.{rc_str_bytes};
 ghost use Rattle.std.specs.Str.{IsUtf8};
 
 use super::NoMemory;
-use super::texts::is_name;
+use super::texts::{as_text, is_name};
 use crate::id::Id;
 use std::alloc::Global;
 use std::collections::BTreeSet;
@@ -30,9 +30,10 @@ struct ReadId {
     ghost reads: { id_value text ≡ Some id },
 }
 
-// How many names that were read lately are kept, and how many bytes at its end tell a name's slot.
-const SLOTS: usize = 256;
+// How many names that were read lately are kept.
+const RECENT: usize = 256;
 
+// How many bytes at the end of a name tell where it is kept.
 const TOLD_BY: usize = 4;
 
 // The text of a name, which equal names share.
@@ -43,12 +44,12 @@ struct KnownName {
 }
 
 // Where a name is kept that was read lately.
-fn slot_of(text: &[u8]) -> usize {
-    let mut slot = text.len();
+fn recent_index(text: &[u8]) -> usize {
+    let mut hash = text.len();
     for byte in text.iter().rev().take(TOLD_BY) {
-        slot = slot.wrapping_mul(31).wrapping_add(*byte as usize);
+        hash = hash.wrapping_mul(31).wrapping_add(*byte as usize);
     }
-    slot % SLOTS
+    hash % RECENT
 }
 
 impl Names {
@@ -89,9 +90,7 @@ impl Names {
         requires { IsUtf8 text.now }
         ensures { IfOk result (λ shared. rc_str_bytes shared ≡ text.now) }
     {
-        let Ok(text) = std::str::from_utf8(text) else {
-            unreachable!()
-        };
+        let text = as_text(text);
         if let Some(known) = self.texts.get(text) {
             return Ok(known.clone()?);
         }
@@ -101,15 +100,15 @@ impl Names {
     }
 
     // Keeps a name where it is looked for first.
-    fn keep(&mut self, slot: usize, shared: &RcStr) -> Result<(), NoMemory>
+    fn keep(&mut self, index: usize, shared: &RcStr) -> Result<(), NoMemory>
         requires { IsTrue (is_name (rc_str_bytes shared.now)) }
     {
         if self.recent.is_empty() {
-            for _ in 0..SLOTS {
+            for _ in 0..RECENT {
                 self.recent.push(None)?;
             }
         }
-        if let Some(place) = self.recent.get_mut(slot) {
+        if let Some(place) = self.recent.get_mut(index) {
             let text = shared.clone()?;
             *place = Some(KnownName { text });
         }
@@ -122,8 +121,8 @@ impl Names {
         ensures value { IfOk result (λ name. option_map rc_str_bytes name ≡ name_value text.now) }
         ensures unnamed { name_value text.now ≡ None → result ≡ Ok None }
     {
-        let slot = slot_of(text);
-        if let Some(Some(known)) = self.recent.get(slot) {
+        let index = recent_index(text);
+        if let Some(Some(known)) = self.recent.get(index) {
             if known.text.as_str().as_bytes() == text {
                 return Ok(Some(known.text.clone()?));
             }
@@ -132,7 +131,7 @@ impl Names {
             return Ok(None);
         }
         let shared = self.find(text)?;
-        self.keep(slot, &shared)?;
+        self.keep(index, &shared)?;
         Ok(Some(shared))
     }
 }

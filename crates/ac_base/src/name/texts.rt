@@ -1,12 +1,15 @@
 //! The alphabets of names and suffixes.
-ghost use Rattle.std.specs.Prelude.{◌≡◌, IfOk};
+ghost use Rattle.std.specs.Prelude.{◌≡◌, IfOk, None, Ok};
 ghost use Rattle.std.specs.List.{list_all};
+ghost use Rattle.std.specs.Option.{option_map};
+ghost use Rattle.std.specs.Rc.{rc_str_bytes};
 ghost use Rattle.std.specs.Str.{IsUtf8};
 ghost use Rattle.std.specs.String.{string_bytes};
-ghost use Rattle.ac_base.specs.Texts.{is_name_char, is_name, is_suffix_char, is_suffix};
+ghost use Rattle.ac_base.specs.Texts.{is_name_char, is_name, name_value, is_suffix_char, is_suffix};
 
 use super::NoMemory;
 use std::alloc::Global;
+use std::rc::RcStr;
 
 fn is_name_char(b: u8) -> bool
     ensures { result ≡ is_name_char b }
@@ -44,13 +47,33 @@ pub(super) fn is_suffix(text: &[u8]) -> bool
     !text.is_empty() && text.len() <= 64 && are_suffix_chars(text)
 }
 
+// Bytes that are text, as text.
+pub(super) fn as_text(bytes: &[u8]) -> &str
+    requires { IsUtf8 bytes.now }
+    ensures { result.now ≡ bytes.now }
+{
+    match std::str::from_utf8(bytes) {
+        Ok(text) => text,
+        Err(_) => unreachable!(),
+    }
+}
+
 // A text of its own.
 pub(super) fn owned(alloc: Global, text: &[u8]) -> Result<String, NoMemory>
     requires { IsUtf8 text.now }
     ensures { IfOk result (λ s. string_bytes s ≡ text.now) }
 {
-    match std::str::from_utf8(text) {
-        Ok(text) => Ok(String::from_str(alloc, text)?),
-        Err(_) => unreachable!(),
+    Ok(String::from_str(alloc, as_text(text))?)
+}
+
+// A name with a text of its own; every other text is no name.
+#[tactic(auto, using(crate::proofs::NameFacts::text_name))]
+pub(super) fn owned_name(alloc: Global, text: &[u8]) -> Result<Option<RcStr>, NoMemory>
+    ensures value { IfOk result (λ name. option_map rc_str_bytes name ≡ name_value text.now) }
+    ensures unnamed { name_value text.now ≡ None → result ≡ Ok None }
+{
+    if !is_name(text) {
+        return Ok(None);
     }
+    Ok(Some(RcStr::from_str(alloc, as_text(text))?))
 }

@@ -14,12 +14,12 @@ use Rattle.ac_query.specs.declared.version.Version.{Version}
 use Rattle.ac_query.specs.Pairs.Values.{Part, Given}
 use Rattle.ac_query.specs.Pairs.{given}
 use Rattle.ac_query.specs.Asked.{Group, Asked}
-use Rattle.ac_query.specs.Asks.{IsTold, needs_in, tree_in, AsksOfGroup, parts_of, unsuffixed, suffix_in, policy_in, limit_in, Asks}
-use Rattle.ac_query.specs.Laws.Gathered.{empty_group, nothing, with_part, plain_groups, of_suffix, as_asked, gathered, asked_by}
+use Rattle.ac_query.specs.Asks.{IsTold, needs_in, tree_in, AsksOfGroup, group_parts, parts_of, unsuffixed, root_required_in, root_forbidden_in, policy_in, subtree_in, limit_in, Asks}
+use Rattle.ac_query.specs.Laws.Gathered.{empty_group, with_part, add_plain, add_suffixed, plain_groups, of_suffix, as_asked, gathered, asked_by}
 use Rattle.ac_query.specs.Faults.{first_fault, pairs_conditions}
 use Rattle.ac_query.specs.Laws.{AsksOnce, OrderHolds}
 use Rattle.ac_query.proofs.Pairs.Once.{policy_once, limit_once, needs_once, tree_once}
-use Rattle.ac_query.proofs.Pairs.Gathering.{told_from_short, group_asks, policy_latest, limit_latest, subtrees_all, root_required_all, root_forbidden_all, grown_all, grown_there, plain_grown, suffixes_all, found_grown}
+use Rattle.ac_query.proofs.Pairs.Gathering.{told_once, all_read, all_listed, gathered_is, group_asks, grown_all, grown_there, plain_grown, suffixes_all, found_grown}
 
 -- ---- texts in byte order
 pub order_holds : OrderHolds
@@ -56,6 +56,9 @@ module _ (version : Version) (pairs : List (List ℕ × List ℕ)) (fine : first
   abbrev all : List Given
   all = given version pairs
 
+  abbrev es : List (Option (List ℕ) × Part)
+  es = group_parts (given version pairs)
+
   group_fits : (s : Option (List ℕ)) (g : Group) → Some g ≡ grown_all None (parts_of s all) → AsksOfGroup (parts_of s all) g
   group_fits s g is =
       subst (AsksOfGroup (parts_of s all)) (sym (grown_is (parts_of s all) g is)) (group_asks (parts_of s all) (needs_once version pairs fine s) (tree_once version pairs fine s))
@@ -64,30 +67,30 @@ module _ (version : Version) (pairs : List (List ℕ × List ℕ)) (fine : first
   plain_fits None is = tt
   plain_fits (Some g) is = (group_fits None g is, tt)
 
-  sorted : IsStrictlySortedBy text_cmp (keys_of (gathered version pairs).suffixed)
-  sorted = subst (IsStrictlySortedBy text_cmp) (sym (suffixes_all nothing all)) (rising_sorted nat_list_cmp_total (filter_map suffix_in all))
+  sorted : IsStrictlySortedBy text_cmp (keys_of (fold add_suffixed [] es))
+  sorted = subst (IsStrictlySortedBy text_cmp) (sym (suffixes_all [] es)) (rising_sorted nat_list_cmp_total (filter_map (λ e. e.0) es))
 
-  suffixed_fits : AllByRecursion (λ e. AsksOfGroup (parts_of e.0 all) e.1) (map of_suffix (gathered version pairs).suffixed)
+  suffixed_fits : AllByRecursion (λ e. AsksOfGroup (parts_of e.0 all) e.1) (map of_suffix (fold add_suffixed [] es))
   suffixed_fits =
-      all_map of_suffix (λ e. AsksOfGroup (parts_of e.0 all) e.1) (gathered version pairs).suffixed
-      (all_from_places _ (gathered version pairs).suffixed
+      all_map of_suffix (λ e. AsksOfGroup (parts_of e.0 all) e.1) (fold add_suffixed [] es)
+      (all_from_places _ (fold add_suffixed [] es)
       (λ i e is. group_fits (Some e.0) e.1
-      (sym (lookup_from_place (eq_by_cmp_equiv nat_list_cmp_total) (gathered version pairs).suffixed i e.0 e.1 (IsDistinct-from_sorted text_cmp _ sorted) is)
-      ∙ found_grown e.0 nothing all)))
+      (sym (lookup_from_place (eq_by_cmp_equiv nat_list_cmp_total) (fold add_suffixed [] es) i e.0 e.1 (IsDistinct-from_sorted text_cmp _ sorted) is)
+      ∙ found_grown e.0 [] es)))
 
   pub asks : Asks version pairs (as_asked (gathered version pairs))
-  asks = record {
+  asks = subst (λ d. Asks version pairs (as_asked d)) (sym (gathered_is all)) record {
     groups =
-        map-append (λ e. e.0) (plain_groups (gathered version pairs).plain) (map of_suffix (gathered version pairs).suffixed)
+        map-append (λ e. e.0) (plain_groups (fold add_plain None es)) (map of_suffix (fold add_suffixed [] es))
         ∙ ap₂ (λ a b. a ++ b)
-        (ap (λ o. map (λ e. e.0) (plain_groups o)) (plain_grown nothing all) ∙ plain_named (parts_of None all))
-        (suffixes_named (gathered version pairs).suffixed ∙ ap (map (λ s. Some s)) (suffixes_all nothing all));
-    parts = all_append _ (plain_groups (gathered version pairs).plain) _ (plain_fits (gathered version pairs).plain (plain_grown nothing all)) suffixed_fits;
-    policy = subst (λ v. IsTold None v (filter_map policy_in all)) (sym (policy_latest nothing all)) (told_from_short None (filter_map policy_in all) (policy_once version pairs fine));
-    subtrees = subtrees_all nothing all;
-    root_required = root_required_all nothing all;
-    root_forbidden = root_forbidden_all nothing all;
-    limit = subst (λ v. IsTold None v (filter_map limit_in all)) (sym (limit_latest nothing all)) (told_from_short None (filter_map limit_in all) (limit_once version pairs fine));
+        (ap (λ o. map (λ e. e.0) (plain_groups o)) (plain_grown None es) ∙ plain_named (parts_of None all))
+        (suffixes_named (fold add_suffixed [] es) ∙ ap (map (λ s. Some s)) (suffixes_all [] es));
+    parts = all_append _ (plain_groups (fold add_plain None es)) _ (plain_fits (fold add_plain None es) (plain_grown None es)) suffixed_fits;
+    policy = told_once policy_in None all (policy_once version pairs fine);
+    subtrees = all_listed subtree_in all;
+    root_required = all_read root_required_in [] all;
+    root_forbidden = all_read root_forbidden_in [] all;
+    limit = told_once limit_in None all (limit_once version pairs fine);
   }
 
 -- ---- no other record

@@ -1,223 +1,200 @@
 -- Where no pair has a fault, a parameter that may not be repeated is given once at most.
-use Rattle.std.proofs.Common.{◌≡◌, ℕ, ◌+◌, Bool, true, false, not, ◌&&◌, ◌||◌, List, [], ◌∷◌, ◌++◌, Option, Some, None, is_none, refl, sym, ap, ap₂, ◌∙◌, subst, if◌then◌else◌}
+use Rattle.std.proofs.Common.{◌≡◌, ℕ, ◌+◌, Bool, true, false, not, ◌&&◌, ◌||◌, List, [], ◌∷◌, ◌++◌, Option, Some, None, IfSome, is_none, refl, sym, ap, ap₂, ◌∙◌, subst, if◌then◌else◌}
 use Rattle.std.specs.List.{filter_map, cons_option}
 use Rattle.std.specs.Option.{option_map, option_and_then}
 use Rattle.std.specs.Cmp.Lexicographic.{same_text}
-use Rattle.ac_base.specs.Texts.{id_value}
-use Rattle.ac_query.specs.declared.reading.parameter.Field.TheVariants as field
 use Rattle.std.specs.Str.{bytes_eq}
 use Rattle.std.proofs.lemmas.Cmp.{nat_list_eq_equiv}
+use Rattle.std.proofs.lemmas.Option.{IfSome_then}
+use Rattle.ac_base.specs.Texts.{id_value}
+use Rattle.ac_query.specs.declared.reading.parameter.Field.{Field}
+use Rattle.ac_query.specs.declared.reading.parameter.Field.TheVariants as field
 use Rattle.ac_query.specs.declared.version.Version.{Version}
 use Rattle.ac_query.specs.Texts.{has_text}
 use Rattle.ac_query.specs.Pairs.Parameters.{Parameter, of_group, root_required, group_policy, same_subtree, limit, parameter, may_repeat}
 use Rattle.ac_query.specs.Pairs.Values.{Part, needs, traits, any_of, aggregates, tree, Given, in_group, root_traits, policy, subtree, at_most, given_of, needs_value, traits_value, names_value, any_of_text, required_part, required_value, rule_value, policy_value, subtree_value, amount_value}
-use Rattle.ac_query.specs.Asks.{same_suffix, part_of, parts_of, needs_in, tree_in, policy_in, limit_in}
+use Rattle.ac_query.specs.Asks.{same_suffix, group_part, part_for, parts_of, needs_in, tree_in, policy_in, limit_in}
 use Rattle.ac_query.specs.Pairs.{read_pair, given}
 use Rattle.ac_query.specs.Faults.{Fault, first_fault, is_repeat, conditions_of, pair_conditions, pairs_conditions}
+use Rattle.ac_query.specs.Laws.InOrder.{AreNeeds}
+use Rattle.ac_query.proofs.Values.Choosing.{map_some}
+use Rattle.ac_query.proofs.Values.PositiveNeeds.{needs_are}
 use Rattle.ac_query.proofs.Pairs.Earlier.{has_text-push}
-use Rattle.ac_query.proofs.Pairs.ParameterNames.{name_of, name_is}
+use Rattle.ac_query.proofs.Pairs.ParameterNames.{name_of, IsLong, HasLong, Names, named}
+use Rattle.ac_query.proofs.Pairs.PairSteps.{neither}
 
 -- what is at most one
 pub data IsShort {A : Type 0} : List A → Type 0 where
   none : IsShort []
   one : (x : A) → IsShort (x ∷ [])
 
--- no fault of two lists of conditions is none of each
-pub first_part : (a b : List (Bool × Fault)) → first_fault (a ++ b) ≡ None → first_fault a ≡ None
-first_part [] b h = refl
-first_part ((true, f) ∷ a) b h = absurd (cc)
-first_part ((false, f) ∷ a) b h = first_part a b h
+-- ---- which parameter gave what is given
+abbrev field_by : Part → Field
+field_by (needs v) = field.Resources
+field_by (traits t) = field.Required
+field_by (any_of a) = field.Required
+field_by (aggregates r) = field.MemberOf
+field_by (tree u) = field.InTree
 
-pub second_part : (a b : List (Bool × Fault)) → first_fault (a ++ b) ≡ None → first_fault b ≡ None
-second_part [] b h = h
-second_part ((true, f) ∷ a) b h = absurd (cc)
-second_part ((false, f) ∷ a) b h = second_part a b h
+abbrev pub given_by : Given → Parameter
+given_by (in_group g p) = of_group (field_by p) g
+given_by (root_traits t) = root_required
+given_by (policy b) = group_policy
+given_by (subtree names) = same_subtree
+given_by (at_most n) = limit
 
--- a pair without a fault: its parameter, which is no repeat, and what it gives
+-- the suffix and the needs of a part of a group
+abbrev pub IsSound : Option (List ℕ) × Part → Type 0
+IsSound e = IsLong e.0 × IfSome (needs_in e.1) AreNeeds
+
+pub record Gives (q : Parameter) (v : Given) : Type 0 where
+  pub by : given_by v ≡ q
+  pub sound : IfSome (group_part v) IsSound
+
+made : {X : Type 0} (P : Given → Type 0) (make : X → Given) (o : Option X) → ((x : X) → P (make x)) → IfSome (option_map make o) P
+made P make None h = tt
+made P make (Some x) h = h x
+
+required_by : (g : Option (List ℕ)) (text : List ℕ) (list : Option (List ℕ)) → IsLong g → IfSome (option_map (in_group g) (required_part text list)) (Gives (of_group field.Required g))
+required_by g text (Some list) long = of (names_value list)
+  where
+    of : (o : Option (List (List ℕ))) → IfSome (option_map (in_group g) (option_map any_of o)) (Gives (of_group field.Required g))
+    of None = tt
+    of (Some names) = record { by = refl; sound = (long, tt) }
+required_by g text None long = of (traits_value text)
+  where
+    of : (o : Option _) → IfSome (option_map (in_group g) (option_map traits o)) (Gives (of_group field.Required g))
+    of None = tt
+    of (Some t) = record { by = refl; sound = (long, tt) }
+
+pub value_given : (version : Version) (q : Parameter) (text : List ℕ) → HasLong q → IfSome (given_of version q text) (Gives q)
+unfolding required_value
+value_given version (of_group field.Resources g) text long =
+    map_some AreNeeds (Gives (of_group field.Resources g)) (λ v. in_group g (needs v)) (needs_value text) (needs_are text) (λ v h. record { by = refl; sound = (long, h) })
+value_given version (of_group field.Required g) text long = required_by g text (any_of_text version text) long
+value_given version (of_group field.MemberOf g) text long = made _ (λ v. in_group g (aggregates v)) (rule_value text) (λ v. record { by = refl; sound = (long, tt) })
+value_given version (of_group field.InTree g) text long = made _ (λ v. in_group g (tree v)) (id_value text) (λ v. record { by = refl; sound = (long, tt) })
+value_given version root_required text long = made _ root_traits (traits_value text) (λ v. record { by = refl; sound = tt })
+value_given version group_policy text long = made _ policy (policy_value text) (λ v. record { by = refl; sound = tt })
+value_given version same_subtree text long = made _ subtree (subtree_value text) (λ v. record { by = refl; sound = tt })
+value_given version limit text long = made _ at_most (amount_value text) (λ v. record { by = refl; sound = tt })
+
+-- ---- a pair without a fault
 record IsFine (version : Version) (earlier : List (List ℕ)) (p : List ℕ × List ℕ) : Type 0 where
-  of : Parameter
-  is : parameter p.0 ≡ Some of
-  fresh : is_repeat version earlier p.0 of ≡ false
   value : Given
-  gives : given_of version of p.1 ≡ Some value
+  read : read_pair version p ≡ Some value
+  name : p.0 ≡ name_of (given_by value)
+  fresh : is_repeat version earlier p.0 (given_by value) ≡ false
 
 module _ (version : Version) (n : ℕ) (earlier : List (List ℕ)) (p : List ℕ × List ℕ) where
-  fine_value : (q : Parameter) → parameter p.0 ≡ Some q → is_repeat version earlier p.0 q ≡ false → (o : Option Given) → given_of version q p.1 ≡ o
-      → (f : Fault) (rest : Option Fault) → (if is_none o then Some f else rest) ≡ None → IsFine version earlier p
-  fine_value q is fresh None gives f rest h = absurd (cc)
-  fine_value q is fresh (Some v) gives f rest h = record { of = q; is = is; fresh = fresh; value = v; gives = gives }
+  fine_known : (q : Parameter) → parameter p.0 ≡ Some q → Names p.0 q → (b : Bool) → is_repeat version earlier p.0 q ≡ b
+      → (o : Option Given) → given_of version q p.1 ≡ o → IfSome o (Gives q)
+      → (f g : Fault) (rest : Option Fault) → (if b then Some f else if is_none o then Some g else rest) ≡ None → IsFine version earlier p
+  fine_known q is names true again o gives by f g rest h = absurd (cc)
+  fine_known q is names false fresh None gives by f g rest h = absurd (cc)
+  fine_known q is names false fresh (Some v) gives by f g rest h = record {
+    value = v;
+    read = ap (option_and_then (λ r. given_of version r p.1)) is ∙ gives;
+    name = names.is ∙ ap name_of (sym by.by);
+    fresh = ap (is_repeat version earlier p.0) by.by ∙ fresh;
+  }
 
-  fine_known : (q : Parameter) → parameter p.0 ≡ Some q → (b : Bool) → is_repeat version earlier p.0 q ≡ b
-      → (f g : Fault) (rest : Option Fault) → (if b then Some f else (if is_none (given_of version q p.1) then Some g else rest)) ≡ None → IsFine version earlier p
-  fine_known q is true again f g rest h = absurd (cc)
-  fine_known q is false again f g rest h = fine_value q is again (given_of version q p.1) refl g rest h
+  fine_of : (o : Option Parameter) → parameter p.0 ≡ o → IfSome o (Names p.0) → first_fault (conditions_of version n earlier p o) ≡ None → IsFine version earlier p
+  fine_of None is names h = absurd (cc)
+  fine_of (Some q) is names h = fine_known q is names (is_repeat version earlier p.0 q) refl (given_of version q p.1) refl (value_given version q p.1 names.long) _ _ _ h
 
-  fine_of : (o : Option Parameter) → parameter p.0 ≡ o → first_fault (conditions_of version n earlier p o) ≡ None → IsFine version earlier p
-  fine_of None is h = absurd (cc)
-  fine_of (Some q) is h = fine_known q is (is_repeat version earlier p.0 q) refl _ _ _ h
-
-fine_pair : (version : Version) (n : ℕ) (earlier : List (List ℕ)) (p : List ℕ × List ℕ) → first_fault (pair_conditions version n earlier p) ≡ None → IsFine version earlier p
-fine_pair version n earlier p h = fine_of version n earlier p (parameter p.0) refl h
-
-read_is : (version : Version) (earlier : List (List ℕ)) (p : List ℕ × List ℕ) (f : IsFine version earlier p) → read_pair version p ≡ Some f.value
-read_is version earlier p f = ap (option_and_then (λ q. given_of version q p.1)) f.is ∙ f.gives
+  fine_pair : first_fault (pair_conditions version n earlier p) ≡ None → IsFine version earlier p
+  fine_pair h = fine_of (parameter p.0) refl (named p.0) h
 
 -- ---- what one parameter gives
 module _ (version : Version) {V : Type 0} (pick : Given → Option V) (q : Parameter) (once : may_repeat version q ≡ false)
-    (only : (r : Parameter) (text : List ℕ) (v : Given) (x : V) → given_of version r text ≡ Some v → pick v ≡ Some x → r ≡ q) where
-  -- the name of a pair that gives it
-  named : (earlier : List (List ℕ)) (p : List ℕ × List ℕ) (f : IsFine version earlier p) (x : V) → pick f.value ≡ Some x → (f.of ≡ q) × (p.0 ≡ name_of q)
-  named earlier p f x picked =
-      let same : f.of ≡ q = only f.of p.1 f.value x f.gives picked in
-      (same, name_is p.0 f.of f.is ∙ ap name_of same)
+    (only : (v : Given) → IfSome (pick v) (λ _. given_by v ≡ q)) where
+  -- nothing behind a pair of its name, and else one at most
+  abbrev IsLeft : Bool → List V → Type 0
+  IsLeft true xs = xs ≡ []
+  IsLeft false xs = IsShort xs
 
-  -- what a pair gives first
-  opened : (earlier : List (List ℕ)) (p : List ℕ × List ℕ) (ps : List (List ℕ × List ℕ)) (f : IsFine version earlier p)
-      → filter_map pick (given version (p ∷ ps)) ≡ cons_option (pick f.value) (filter_map pick (given version ps))
-  opened earlier p ps f = ap (λ o. filter_map pick (cons_option o (given version ps))) (read_is version earlier p f)
+  short_left : (b : Bool) (xs : List V) → IsLeft b xs → IsShort xs
+  short_left true xs is = subst IsShort (sym is) none
+  short_left false xs short = short
 
-  -- a repeat is no pair without a fault
-  no_repeat : (earlier : List (List ℕ)) (p : List ℕ × List ℕ) (f : IsFine version earlier p) (x : V) → has_text earlier (name_of q) ≡ true → pick f.value ≡ Some x → ⊥
-  no_repeat earlier p f x there picked =
-      let of = named earlier p f x picked in
-      let again : is_repeat version earlier p.0 f.of ≡ true = ap₂ (λ r t. is_repeat version earlier t r) of.0 of.1 ∙ ap₂ (λ r t. not r && t) once there in
-      let clash : true ≡ false = sym again ∙ f.fresh in
+  none_left : (b : Bool) → IsLeft b []
+  none_left true = refl
+  none_left false = none
+
+  one_pair : (earlier : List (List ℕ)) (p : List ℕ × List ℕ) (f : IsFine version earlier p) (o : Option V) → IfSome o (λ _. given_by f.value ≡ q) → (b : Bool) → has_text earlier (name_of q) ≡ b
+      → (xs : List V) → IsLeft (b || (bytes_eq (name_of q) p.0 || false)) xs → IsLeft b (cons_option o xs)
+  one_pair earlier p f None by true there xs left = left
+  one_pair earlier p f None by false there xs left = short_left _ xs left
+  one_pair earlier p f (Some x) by true there xs left =
+      let again : is_repeat version earlier p.0 (given_by f.value) ≡ true =
+      ap₂ (λ r t. is_repeat version earlier t r) by (f.name ∙ ap name_of by) ∙ ap₂ (λ r t. not r && t) once there in
       absurd (cc)
+  one_pair earlier p f (Some x) by false there xs left =
+      let same : bytes_eq (name_of q) p.0 ≡ true = ap (bytes_eq (name_of q)) (f.name ∙ ap name_of by) ∙ nat_list_eq_equiv.refl (name_of q) in
+      let end : xs ≡ [] = subst (λ b. IsLeft (b || false) xs) same left in
+      subst (λ l. IsShort (x ∷ l)) (sym end) (one x)
 
-  -- behind a pair of its name none gives it
-  none_more : (n : ℕ) (earlier : List (List ℕ)) (ps : List (List ℕ × List ℕ)) → has_text earlier (name_of q) ≡ true → first_fault (pairs_conditions version n earlier ps) ≡ None
-      → filter_map pick (given version ps) ≡ []
-  none_more n earlier [] there fine = refl
-  none_more n earlier (p ∷ ps) there fine =
-      let f = fine_pair version n earlier p (first_part (pair_conditions version n earlier p) _ fine) in
-      opened earlier p ps f
-      ∙ by_pick f (pick f.value) refl
-      (none_more (n + 1) (earlier ++ p.0 ∷ []) ps (has_text-push earlier p.0 (name_of q) ∙ ap (λ b. b || (bytes_eq (name_of q) p.0 || false)) there)
-      (second_part (pair_conditions version n earlier p) _ fine))
-    where
-      by_pick : (f : IsFine version earlier p) (o : Option V) → pick f.value ≡ o → filter_map pick (given version ps) ≡ [] → cons_option o (filter_map pick (given version ps)) ≡ []
-      by_pick f None is later = later
-      by_pick f (Some x) is later = absurd (no_repeat earlier p f x there is)
-
-  -- no two pairs give it
-  pub is_short : (n : ℕ) (earlier : List (List ℕ)) (ps : List (List ℕ × List ℕ)) → first_fault (pairs_conditions version n earlier ps) ≡ None → IsShort (filter_map pick (given version ps))
-  is_short n earlier [] fine = none
+  pub is_short : (n : ℕ) (earlier : List (List ℕ)) (ps : List (List ℕ × List ℕ)) → first_fault (pairs_conditions version n earlier ps) ≡ None
+      → IsLeft (has_text earlier (name_of q)) (filter_map pick (given version ps))
+  is_short n earlier [] fine = none_left (has_text earlier (name_of q))
   is_short n earlier (p ∷ ps) fine =
-      let f = fine_pair version n earlier p (first_part (pair_conditions version n earlier p) _ fine) in
-      let rest = second_part (pair_conditions version n earlier p) _ fine in
-      subst IsShort (sym (opened earlier p ps f)) (by_pick f (pick f.value) refl rest (is_short (n + 1) (earlier ++ p.0 ∷ []) ps rest))
-    where
-      or_true : (b : Bool) → b || (true || false) ≡ true
-      or_true true = refl
-      or_true false = refl
+      let both = neither (pair_conditions version n earlier p) (pairs_conditions version (n + 1) (earlier ++ p.0 ∷ []) ps) fine in
+      let f = fine_pair version n earlier p both.0 in
+      subst (IsLeft (has_text earlier (name_of q))) (sym (ap (λ o. filter_map pick (cons_option o (given version ps))) f.read))
+      (one_pair earlier p f (pick f.value) (only f.value) (has_text earlier (name_of q)) refl (filter_map pick (given version ps))
+      (subst (λ b. IsLeft b (filter_map pick (given version ps))) (has_text-push earlier p.0 (name_of q)) (is_short (n + 1) (earlier ++ p.0 ∷ []) ps both.1)))
 
-      there : p.0 ≡ name_of q → has_text (earlier ++ p.0 ∷ []) (name_of q) ≡ true
-      there is =
-          has_text-push earlier p.0 (name_of q)
-          ∙ ap (λ b. has_text earlier (name_of q) || (b || false)) (ap (bytes_eq (name_of q)) is ∙ nat_list_eq_equiv.refl (name_of q))
-          ∙ or_true (has_text earlier (name_of q))
-
-      by_pick : (f : IsFine version earlier p) (o : Option V) → pick f.value ≡ o → first_fault (pairs_conditions version (n + 1) (earlier ++ p.0 ∷ []) ps) ≡ None
-          → IsShort (filter_map pick (given version ps)) → IsShort (cons_option o (filter_map pick (given version ps)))
-      by_pick f None is fine later = later
-      by_pick f (Some x) is fine later =
-          subst (λ l. IsShort (x ∷ l)) (sym (none_more (n + 1) (earlier ++ p.0 ∷ []) ps (there (named earlier p f x is).1) fine)) (one x)
-
--- ---- which parameter gave what is given
-parameter_of_part : Option (List ℕ) → Part → Parameter
-parameter_of_part g (needs v) = of_group field.Resources g
-parameter_of_part g (traits t) = of_group field.Required g
-parameter_of_part g (any_of a) = of_group field.Required g
-parameter_of_part g (aggregates r) = of_group field.MemberOf g
-parameter_of_part g (tree u) = of_group field.InTree g
-
-pub parameter_of : Given → Parameter
-parameter_of (in_group g p) = parameter_of_part g p
-parameter_of (root_traits t) = root_required
-parameter_of (policy b) = group_policy
-parameter_of (subtree names) = same_subtree
-parameter_of (at_most n) = limit
-
-made : {X : Type 0} (make : X → Given) (q : Parameter) → ((x : X) → parameter_of (make x) ≡ q) → (o : Option X) (v : Given) → option_map make o ≡ Some v → q ≡ parameter_of v
-made make q is None v h = absurd (cc)
-made make q is (Some x) v h = let e : make x ≡ v = cc in sym (is x) ∙ ap parameter_of e
-
-module _ (g : Option (List ℕ)) where
-  made_part : {X : Type 0} (make : X → Part) → ((x : X) → parameter_of (in_group g (make x)) ≡ of_group field.Required g)
-      → (o : Option X) (v : Given) → option_map (in_group g) (option_map make o) ≡ Some v → of_group field.Required g ≡ parameter_of v
-  made_part make is None v h = absurd (cc)
-  made_part make is (Some x) v h = let e : in_group g (make x) ≡ v = cc in sym (is x) ∙ ap parameter_of e
-
-  required_by : (text : List ℕ) (list : Option (List ℕ)) (v : Given) → option_map (in_group g) (required_part text list) ≡ Some v → of_group field.Required g ≡ parameter_of v
-  unfolding parameter_of parameter_of_part
-  required_by text (Some list) v h = made_part any_of (λ x. refl) (names_value list) v h
-  required_by text None v h = made_part traits (λ x. refl) (traits_value text) v h
-
-pub given_by : (version : Version) (r : Parameter) (text : List ℕ) (v : Given) → given_of version r text ≡ Some v → r ≡ parameter_of v
-unfolding parameter_of parameter_of_part required_value
-given_by version (of_group field.Resources g) text v h = made (λ x. in_group g (needs x)) _ (λ x. refl) (needs_value text) v h
-given_by version (of_group field.Required g) text v h = required_by g text (any_of_text version text) v h
-given_by version (of_group field.MemberOf g) text v h = made (λ x. in_group g (aggregates x)) _ (λ x. refl) (rule_value text) v h
-given_by version (of_group field.InTree g) text v h = made (λ x. in_group g (tree x)) _ (λ x. refl) (id_value text) v h
-given_by version root_required text v h = made root_traits _ (λ x. refl) (traits_value text) v h
-given_by version group_policy text v h = made policy _ (λ x. refl) (policy_value text) v h
-given_by version same_subtree text v h = made subtree _ (λ x. refl) (subtree_value text) v h
-given_by version limit text v h = made at_most _ (λ x. refl) (amount_value text) v h
-
+-- ---- the fields of which each is told once
 same_is : (s t : Option (List ℕ)) → same_suffix s t ≡ true → s ≡ t
 same_is None None h = refl
 same_is None (Some t) h = absurd (cc)
 same_is (Some s) None h = absurd (cc)
 same_is (Some s) (Some t) h = ap (λ x. Some x) (same_text s t (sym h))
 
--- a part that is picked of a group
-part_is : {X : Type 0} (f : Part → Option X) (s g : Option (List ℕ)) (p : Part) (x : X) → option_and_then f (if same_suffix s g then Some p else None) ≡ Some x → (s ≡ g) × (f p ≡ Some x)
-part_is f s g p x h = by_test (same_suffix s g) refl h
-  where
-    by_test : (b : Bool) → same_suffix s g ≡ b → option_and_then f (if b then Some p else None) ≡ Some x → (s ≡ g) × (f p ≡ Some x)
-    by_test true is k = (same_is s g is, k)
-    by_test false is k = absurd (cc)
+needs_by : (p : Part) → IfSome (needs_in p) (λ _. field_by p ≡ field.Resources)
+needs_by (needs v) = refl
+needs_by (traits t) = tt
+needs_by (any_of a) = tt
+needs_by (aggregates r) = tt
+needs_by (tree u) = tt
 
-module _ (s : Option (List ℕ)) where
-  needs_by : (v : Given) (x : List (List ℕ × ℕ)) → option_and_then needs_in (part_of s v) ≡ Some x → parameter_of v ≡ of_group field.Resources s
-  unfolding parameter_of parameter_of_part
-  needs_by (in_group g (needs n)) x h = ap (of_group field.Resources) (sym (part_is needs_in s g (needs n) x h).0)
-  needs_by (in_group g (traits t)) x h = let k = (part_is needs_in s g (traits t) x h).1 in absurd (cc)
-  needs_by (in_group g (any_of a)) x h = let k = (part_is needs_in s g (any_of a) x h).1 in absurd (cc)
-  needs_by (in_group g (aggregates r)) x h = let k = (part_is needs_in s g (aggregates r) x h).1 in absurd (cc)
-  needs_by (in_group g (tree u)) x h = let k = (part_is needs_in s g (tree u) x h).1 in absurd (cc)
-  needs_by (root_traits t) x h = absurd (cc)
-  needs_by (policy b) x h = absurd (cc)
-  needs_by (subtree names) x h = absurd (cc)
-  needs_by (at_most n) x h = absurd (cc)
+tree_by : (p : Part) → IfSome (tree_in p) (λ _. field_by p ≡ field.InTree)
+tree_by (needs v) = tt
+tree_by (traits t) = tt
+tree_by (any_of a) = tt
+tree_by (aggregates r) = tt
+tree_by (tree u) = refl
 
-  tree_by : (v : Given) (x : Option ℕ) → option_and_then tree_in (part_of s v) ≡ Some x → parameter_of v ≡ of_group field.InTree s
-  unfolding parameter_of parameter_of_part
-  tree_by (in_group g (needs n)) x h = let k = (part_is tree_in s g (needs n) x h).1 in absurd (cc)
-  tree_by (in_group g (traits t)) x h = let k = (part_is tree_in s g (traits t) x h).1 in absurd (cc)
-  tree_by (in_group g (any_of a)) x h = let k = (part_is tree_in s g (any_of a) x h).1 in absurd (cc)
-  tree_by (in_group g (aggregates r)) x h = let k = (part_is tree_in s g (aggregates r) x h).1 in absurd (cc)
-  tree_by (in_group g (tree u)) x h = ap (of_group field.InTree) (sym (part_is tree_in s g (tree u) x h).0)
-  tree_by (root_traits t) x h = absurd (cc)
-  tree_by (policy b) x h = absurd (cc)
-  tree_by (subtree names) x h = absurd (cc)
-  tree_by (at_most n) x h = absurd (cc)
+policy_by : (v : Given) → IfSome (policy_in v) (λ _. given_by v ≡ group_policy)
+policy_by (in_group g p) = tt
+policy_by (root_traits t) = tt
+policy_by (policy b) = refl
+policy_by (subtree names) = tt
+policy_by (at_most n) = tt
 
-policy_by : (v : Given) (x : Option Bool) → policy_in v ≡ Some x → parameter_of v ≡ group_policy
-unfolding parameter_of parameter_of_part
-policy_by (in_group g p) x h = absurd (cc)
-policy_by (root_traits t) x h = absurd (cc)
-policy_by (policy b) x h = refl
-policy_by (subtree names) x h = absurd (cc)
-policy_by (at_most n) x h = absurd (cc)
+limit_by : (v : Given) → IfSome (limit_in v) (λ _. given_by v ≡ limit)
+limit_by (in_group g p) = tt
+limit_by (root_traits t) = tt
+limit_by (policy b) = tt
+limit_by (subtree names) = tt
+limit_by (at_most n) = refl
 
-limit_by : (v : Given) (x : Option ℕ) → limit_in v ≡ Some x → parameter_of v ≡ limit
-unfolding parameter_of parameter_of_part
-limit_by (in_group g p) x h = absurd (cc)
-limit_by (root_traits t) x h = absurd (cc)
-limit_by (policy b) x h = absurd (cc)
-limit_by (subtree names) x h = absurd (cc)
-limit_by (at_most n) x h = refl
+-- what is said of a group by one of its fields
+module _ {X : Type 0} (s : Option (List ℕ)) (f : Part → Option X) (at : Field) (by : (p : Part) → IfSome (f p) (λ _. field_by p ≡ at)) where
+  abbrev said : Given → Option X
+  said v = option_and_then f (option_and_then (part_for s) (group_part v))
+
+  said_by : (v : Given) → IfSome (said v) (λ _. given_by v ≡ of_group at s)
+  said_by (in_group g p) = of (same_suffix s g) refl
+    where
+      of : (b : Bool) → same_suffix s g ≡ b → IfSome (option_and_then f (if b then Some p else None)) (λ _. of_group (field_by p) g ≡ of_group at s)
+      of true is = IfSome_then (f p) (by p) (λ x e. ap₂ of_group e (sym (same_is s g is)))
+      of false is = tt
+  said_by (root_traits t) = tt
+  said_by (policy b) = tt
+  said_by (subtree names) = tt
+  said_by (at_most n) = tt
 
 -- one after the other
 module _ {X Y Z : Type 0} (f : X → Option Y) (g : Y → Option Z) where
@@ -229,21 +206,22 @@ module _ {X Y Z : Type 0} (f : X → Option Y) (g : Y → Option Z) where
   filter_map-filter_map [] = refl
   filter_map-filter_map (x ∷ xs) = at_first (f x) (filter_map f xs) ∙ ap (cons_option (option_and_then g (f x))) (filter_map-filter_map xs)
 
--- ---- where no pair has a fault
 module _ (version : Version) (pairs : List (List ℕ × List ℕ)) (fine : first_fault (pairs_conditions version 1 [] pairs) ≡ None) where
   pub policy_once : IsShort (filter_map policy_in (given version pairs))
-  policy_once = is_short version policy_in group_policy refl (λ r text v x h k. given_by version r text v h ∙ policy_by v x k) 1 [] pairs fine
+  policy_once = is_short version policy_in group_policy refl policy_by 1 [] pairs fine
 
   pub limit_once : IsShort (filter_map limit_in (given version pairs))
-  limit_once = is_short version limit_in limit refl (λ r text v x h k. given_by version r text v h ∙ limit_by v x k) 1 [] pairs fine
+  limit_once = is_short version limit_in limit refl limit_by 1 [] pairs fine
 
   module _ (s : Option (List ℕ)) where
+    part_once : {X : Type 0} (f : Part → Option X) (at : Field) → ((p : Part) → IfSome (f p) (λ _. field_by p ≡ at)) → may_repeat version (of_group at s) ≡ false
+        → IsShort (filter_map f (parts_of s (given version pairs)))
+    part_once f at by once =
+        subst IsShort (sym (ap (filter_map f) (filter_map-filter_map group_part (part_for s) (given version pairs)) ∙ filter_map-filter_map (λ v. option_and_then (part_for s) (group_part v)) f (given version pairs)))
+        (is_short version (said s f at by) (of_group at s) once (said_by s f at by) 1 [] pairs fine)
+
     pub needs_once : IsShort (filter_map needs_in (parts_of s (given version pairs)))
-    needs_once =
-        subst IsShort (sym (filter_map-filter_map (part_of s) needs_in (given version pairs)))
-        (is_short version (λ v. option_and_then needs_in (part_of s v)) (of_group field.Resources s) refl (λ r text v x h k. given_by version r text v h ∙ needs_by s v x k) 1 [] pairs fine)
+    needs_once = part_once needs_in field.Resources needs_by refl
 
     pub tree_once : IsShort (filter_map tree_in (parts_of s (given version pairs)))
-    tree_once =
-        subst IsShort (sym (filter_map-filter_map (part_of s) tree_in (given version pairs)))
-        (is_short version (λ v. option_and_then tree_in (part_of s v)) (of_group field.InTree s) refl (λ r text v x h k. given_by version r text v h ∙ tree_by s v x k) 1 [] pairs fine)
+    tree_once = part_once tree_in field.InTree tree_by refl

@@ -1,6 +1,7 @@
 -- What the conditions of a pair come to.
 use Rattle.std.proofs.Common.{◌≡◌, ℕ, Bool, true, false, not, ◌&&◌, List, [], ◌∷◌, ◌++◌, Option, Some, None, Result, Ok, Err, IfErr, IfSome, nat_lt, ◌<◌, ◌≤◌, arith, length, refl, sym, ap, subst, ◌∙◌}
 use Rattle.std.proofs.lemmas.Bool.Decides.{nat_tests}
+use Rattle.std.specs.Option.{option_or}
 use Rattle.std.specs.Result.{IsErrAnd}
 use Rattle.ac_query.specs.declared.version.Version.{Version}
 use Rattle.ac_query.specs.Texts.{has_text}
@@ -41,15 +42,24 @@ err_is (Ok v) P x is told = tt
 err_is (Err e) P x is told = subst P (sym is) told
 
 -- the first fault of two lists of conditions
+first_fault-both : (a b : List (Bool × Fault)) → first_fault (a ++ b) ≡ option_or (first_fault a) (first_fault b)
+first_fault-both [] b = refl
+first_fault-both ((true, f) ∷ a) b = refl
+first_fault-both ((false, f) ∷ a) b = first_fault-both a b
+
+-- no fault of two lists is none of each
+pub neither : (a b : List (Bool × Fault)) → first_fault (a ++ b) ≡ None → (first_fault a ≡ None) × (first_fault b ≡ None)
+neither a b h = of (first_fault a) (first_fault b) (sym (first_fault-both a b) ∙ h)
+  where
+    of : (x y : Option Fault) → option_or x y ≡ None → (x ≡ None) × (y ≡ None)
+    of None y h = (refl, h)
+    of (Some f) y h = absurd (cc)
+
 pub first_fault-append : (a b : List (Bool × Fault)) → first_fault a ≡ None → first_fault (a ++ b) ≡ first_fault b
-first_fault-append [] b h = refl
-first_fault-append ((true, f) ∷ a) b h = absurd (cc)
-first_fault-append ((false, f) ∷ a) b h = first_fault-append a b h
+first_fault-append a b none = first_fault-both a b ∙ ap (λ o. option_or o (first_fault b)) none
 
 pub first_fault-found : (a b : List (Bool × Fault)) (f : Fault) → first_fault a ≡ Some f → first_fault (a ++ b) ≡ Some f
-first_fault-found [] b f h = absurd (cc)
-first_fault-found ((true, g) ∷ a) b f h = h
-first_fault-found ((false, g) ∷ a) b f h = first_fault-found a b f h
+first_fault-found a b f found = first_fault-both a b ∙ ap (λ o. option_or o (first_fault b)) found
 
 -- a query that isn't too long
 module _ (version : Version) (query : List ℕ) (fits : length query ≤ 65536) where

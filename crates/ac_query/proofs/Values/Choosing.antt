@@ -1,7 +1,7 @@
 -- What holds of the value that a reader gives, where it gives one.
-use Rattle.std.proofs.Common.{Bool, true, false, List, [], ◌∷◌, Option, Some, None, IfSome, if◌then◌else◌}
+use Rattle.std.proofs.Common.{Bool, true, false, List, Option, Some, None, IfSome, if◌then◌else◌}
 use Rattle.std.specs.Bool.{⊤}
-use Rattle.std.specs.List.{AllByRecursion, filter_map, cons_option}
+use Rattle.std.specs.List.{AllByRecursion, cons_option}
 use Rattle.std.specs.Option.{option_map, option_and_then}
 use Rattle.ac_query.specs.Pairs.Parameters.{Parameter, or_else}
 
@@ -25,10 +25,6 @@ pub else_some : (P : Parameter → Type 0) (x y : Option Parameter) → IfSome x
 else_some P None y h k = k
 else_some P (Some p) y h k = h
 
-one_more : {A : Type 0} (P : A → Type 0) (o : Option A) (xs : List A) → IfSome o P → AllByRecursion P xs → AllByRecursion P (cons_option o xs)
+pub one_more : {A : Type 0} (P : A → Type 0) (o : Option A) (xs : List A) → IfSome o P → AllByRecursion P xs → AllByRecursion P (cons_option o xs)
 one_more P None xs h all = all
 one_more P (Some a) xs h all = (h, all)
-
-pub all_chosen : {A B : Type 0} (P : B → Type 0) (f : A → Option B) → ((a : A) → IfSome (f a) P) → (xs : List A) → AllByRecursion P (filter_map f xs)
-all_chosen P f h [] = tt
-all_chosen P f h (x ∷ xs) = one_more P (f x) (filter_map f xs) (h x) (all_chosen P f h xs)

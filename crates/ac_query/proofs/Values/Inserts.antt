@@ -1,5 +1,5 @@
 -- A value that is set where its key is there, and one that is inserted.
-use Rattle.std.proofs.Common.{◌≡◌, List, [], ◌∷◌, Some, None, refl, sym, ap, ◌∙◌}
+use Rattle.std.proofs.Common.{◌≡◌, ℕ, subst, List, [], ◌∷◌, Some, None, refl, sym, ap, ◌∙◌}
 use Rattle.std.specs.declared.cmp.Ordering.{Ordering}
 use Rattle.std.specs.declared.cmp.Ordering.TheVariants.{Less, Equal, Greater}
 use Rattle.std.specs.Ordering.{is_eq}
@@ -10,6 +10,11 @@ use Rattle.std.specs.BTreeMap.{insert_entry, is_at}
 use Rattle.std.proofs.lemmas.Map.{lookup-none}
 use Rattle.std.proofs.lemmas.Map.Entries.{none_below_head, lookup_tail}
 use Rattle.std.proofs.lemmas.Map.Keys.{sorted_tail}
+use Rattle.std.specs.BTreeSet.{insert_key}
+use Rattle.ac_base.specs.Texts.{text_cmp}
+use Rattle.std.proofs.lemmas.Cmp.{nat_list_cmp_total}
+use Rattle.ac_base.proofs.Sorted.SameItems.{keys_gathered}
+use Rattle.ac_base.proofs.Sorted.SortedSets.{insert_sorted}
 
 module _ {K X : Type 0} {R : K → K → Ordering} (o : IsTotalOrder R) (k : K) (v w : X) where
   -- at a head that compares so
@@ -28,3 +33,11 @@ module _ {K X : Type 0} {R : K → K → Ordering} (o : IsTotalOrder R) (k : K) 
   set_value-insert [] sorted there = absurd (cc)
   set_value-insert (e ∷ es) sorted there =
       at_head e es (R k e.0) refl sorted there (set_value-insert es (sorted_tail R e.0 (keys_of es) sorted))
+
+-- entries by texts, with one more
+module _ {X : Type 0} (es : List (List ℕ × X)) (k : List ℕ) (v : X) where
+  pub keys_with : keys_of (insert_entry text_cmp es k v) ≡ insert_key text_cmp (keys_of es) k
+  keys_with = keys_gathered nat_list_cmp_total es ((k, v) ∷ [])
+
+  pub still_sorted : IsStrictlySortedBy text_cmp (keys_of es) → IsStrictlySortedBy text_cmp (keys_of (insert_entry text_cmp es k v))
+  still_sorted sorted = subst (IsStrictlySortedBy text_cmp) (sym keys_with) (insert_sorted nat_list_cmp_total (keys_of es) k sorted)

@@ -1,33 +1,23 @@
--- A loop over the items of a text that gathers them.
-use Rattle.std.proofs.Common.{◌≡◌, ℕ, List, [], ◌∷◌, Option, Some, None, Bor, refl, sym, ap, ◌∙◌}
-use Rattle.std.specs.declared.cmp.Ordering.{Ordering}
-use Rattle.std.specs.List.{fold}
+-- The values of a list, item by item.
+use Rattle.std.proofs.Common.{◌≡◌, List, [], ◌∷◌, ◌++◌, Option, Some, None, refl, sym, ap, ◌∙◌, append_assoc, append-nil}
 use Rattle.std.specs.Option.{option_map}
-use Rattle.std.specs.BTreeSet.{insert_key}
-use Rattle.std.specs.declared.str.Split.{Split}
-use Rattle.std.specs.Str.Iter.{split_pattern}
-use Rattle.ac_query.proofs.Values.Pieces.{Steps, parts_left, next_part}
+use Rattle.ac_query.specs.Pairs.Values.{values_of}
 
--- one more name
-pub one_more : {L : Type 0} (cmp : L → L → Ordering) (value : Option L) (name : L) (have more : List L) → value ≡ Some name → more ≡ insert_key cmp have name
-    → Some more ≡ option_map (insert_key cmp have) value
-one_more cmp value name have more is added = rw (is, added) refl
+module _ {T X : Type 0} (value : T → Option X) where
+  -- some values, and those of what is left
+  abbrev pub values_behind : List X → List T → Option (List X)
+  values_behind have left = option_map (λ rest. have ++ rest) (values_of value left)
 
--- A loop over the items of a text that adds each to what it has; add is what an item adds.
-module _ {A : Type 0} (add : Option A → List ℕ → Option A) where
-  -- the loop goes on
-  pub goes_on : (have more whole : Option A) (s t : Split ℕ) (x : Bor (List ℕ)) → split_pattern s ≡ 44 → Steps s (Some x) t
-      → fold add have (parts_left s) ≡ whole → more ≡ add have x.now → fold add more (parts_left t) ≡ whole
-  goes_on have more whole s t x comma step holds next =
-      ap (λ m. fold add m (parts_left t)) next ∙ sym (ap (fold add have) (next_part s t x comma step)) ∙ holds
+  module _ (have : List X) (left rest : List T) (t : T) (whole : Option (List X)) (turn : left ≡ t ∷ rest) (holds : values_behind have left ≡ whole) where
+    pub has_value : (more : List X) (x : X) → value t ≡ Some x → more ≡ have ++ x ∷ [] → values_behind more rest ≡ whole
+    has_value more x is added = rw added (of (values_of value rest) ∙ sym (ap (values_behind have) turn ∙ (rw is refl)) ∙ holds)
+      where
+        of : (o : Option (List X)) → option_map (λ vs. (have ++ x ∷ []) ++ vs) o ≡ option_map (λ vs. have ++ vs) (option_map (λ vs. x ∷ vs) o)
+        of None = refl
+        of (Some vs) = ap (λ l. Some l) (append_assoc have (x ∷ []) vs)
 
-  -- nothing comes of an item that adds nothing
-  module _ (never : (item : List ℕ) → add None item ≡ None) where
-    of_none : (items : List (List ℕ)) → fold add None items ≡ None
-    of_none [] = refl
-    of_none (x ∷ xs) = ap (λ a. fold add a xs) (never x) ∙ of_none xs
+    pub has_none : value t ≡ None → None ≡ whole
+    has_none is = sym (ap (values_behind have) turn ∙ (rw is refl)) ∙ holds
 
-    pub stops : (have whole : Option A) (s t : Split ℕ) (x : Bor (List ℕ)) → split_pattern s ≡ 44 → Steps s (Some x) t
-        → fold add have (parts_left s) ≡ whole → None ≡ add have x.now → None ≡ whole
-    stops have whole s t x comma step holds next =
-        sym (of_none (parts_left t)) ∙ goes_on have None whole s t x comma step holds next
+  pub all_valued : (have : List X) → values_behind have [] ≡ Some have
+  all_valued have = ap (λ l. Some l) (append-nil have)

@@ -1,9 +1,9 @@
 -- Sets of names as lists of their bytes.
-use Rattle.std.proofs.Common.{◌≡◌, ℕ, Bool, true, false, ◌||◌, List, [], ◌∷◌, map, refl, sym, ap, ap₂, ◌∙◌}
+use Rattle.std.proofs.Common.{◌≡◌, ℕ, ◌||◌, List, [], ◌∷◌, map, refl, sym, ap, ap₂, ◌∙◌}
 use Rattle.std.specs.declared.cmp.Ordering.{Ordering}
 use Rattle.std.specs.declared.cmp.Ordering.TheVariants.{Less}
 use Rattle.std.specs.Ordering.{is_eq}
-use Rattle.std.specs.List.{list_any, AllByRecursion}
+use Rattle.std.specs.List.{fold, list_any, AllByRecursion}
 use Rattle.std.specs.List.Sorted.{IsStrictlySortedBy}
 use Rattle.std.specs.BTreeMap.{is_at}
 use Rattle.std.specs.Cmp.Lexicographic.{texts_ties}
@@ -32,6 +32,11 @@ module _ {K : Type 0} (f : K → List ℕ) (cmp : K → K → Ordering) (same : 
   rising_shown [] h = tt
   rising_shown (k ∷ ks) h = (below_shown k ks h.0, rising_shown ks h.1)
 
+  -- names that are added to a set
+  pub all_shown : (ks xs : List K) → map f (fold (insert_key cmp) ks xs) ≡ in_order_with (map f ks) (map f xs)
+  all_shown ks [] = refl
+  all_shown ks (x ∷ xs) = all_shown (insert_key cmp ks x) xs ∙ ap (λ ts. in_order_with ts (map f xs)) (insert_key_shown f cmp text_cmp same ks x)
+
   -- one more of the names that are added to a set, as a copy
   pub adds_copy : (have new left rest : List K) (x y : K) (whole : List (List ℕ)) → left ≡ x ∷ rest → new ≡ insert_key cmp have y → f y ≡ f x
       → in_order_with (map f have) (map f left) ≡ whole → in_order_with (map f new) (map f rest) ≡ whole
@@ -44,11 +49,3 @@ module _ {K : Type 0} (f : K → List ℕ) (cmp : K → K → Ordering) (same : 
   pub adds_one : (have new left rest : List K) (x : K) (whole : List (List ℕ)) → left ≡ x ∷ rest → new ≡ insert_key cmp have x
       → in_order_with (map f have) (map f left) ≡ whole → in_order_with (map f new) (map f rest) ≡ whole
   adds_one have new left rest x whole turn added holds = adds_copy have new left rest x x whole turn added refl holds
-
--- a search through names
-module _ {K : Type 0} (f : K → List ℕ) (test : List ℕ → Bool) (left rest : List K) (x : K) (whole : Bool) (turn : left ≡ x ∷ rest) (holds : list_any test (map f left) ≡ whole) where
-  pub found_one : test (f x) ≡ true → true ≡ whole
-  found_one there = sym (ap (λ b. b || list_any test (map f rest)) there) ∙ sym (ap (λ l. list_any test (map f l)) turn) ∙ holds
-
-  pub looks_on : test (f x) ≡ false → list_any test (map f rest) ≡ whole
-  looks_on there = sym (ap (λ b. b || list_any test (map f rest)) there) ∙ sym (ap (λ l. list_any test (map f l)) turn) ∙ holds

@@ -6,9 +6,10 @@ use Rattle.std.specs.BTreeMap.{insert_entry, is_at}
 use Rattle.ac_base.specs.Texts.{text_cmp}
 use Rattle.ac_query.specs.declared.version.Version.{Version}
 use Rattle.ac_query.specs.Texts.{in_order_with}
-use Rattle.ac_query.specs.Pairs.Values.{Traits, no_traits, Part, needs, traits, any_of, aggregates, tree, Given, in_group, root_traits, policy, subtree, at_most}
+use Rattle.ac_query.specs.Pairs.Values.{Traits, no_traits, Part, Given}
 use Rattle.ac_query.specs.Pairs.{given}
 use Rattle.ac_query.specs.Asked.{Group, Asked}
+use Rattle.ac_query.specs.Asks.{needs_in, required_in, forbidden_in, any_of_in, rule_in, tree_in, group_part, root_required_in, root_forbidden_in, policy_in, subtree_in, limit_in}
 
 -- what is gathered so far: the unsuffixed group, where it is there, and groups by suffix, in byte order
 pub record Gathered : Type 0 where
@@ -29,13 +30,29 @@ nothing = record { plain = None; suffixed = []; policy = None; subtrees = []; ro
 abbrev pub joined_traits : Traits → Traits → Traits
 joined_traits have more = record { required = in_order_with have.required more.required; forbidden = in_order_with have.forbidden more.forbidden }
 
+-- what there was, with one more where there is one
+abbrev pub with_some : {A B : Type 0} → (A → B → A) → A → Option B → A
+with_some add a None = a
+with_some add a (Some b) = add a b
+
+-- the later of two
+abbrev pub later : {A : Type 0} → A → A → A
+later a b = b
+
+-- a list with one more behind it
+abbrev pub with_last : {A : Type 0} → List A → A → List A
+with_last xs x = xs ++ x ∷ []
+
 -- a group with one more part
 abbrev pub with_part : Group → Part → Group
-with_part g (needs v) = record g { needs = v }
-with_part g (traits t) = record g { required = in_order_with g.required t.required; forbidden = in_order_with g.forbidden t.forbidden }
-with_part g (any_of names) = record g { any_of = g.any_of ++ names ∷ [] }
-with_part g (aggregates r) = record g { member_of = g.member_of ++ r ∷ [] }
-with_part g (tree u) = record g { in_tree = Some u }
+with_part g p = record {
+  needs = with_some later g.needs (needs_in p);
+  required = in_order_with g.required (required_in p);
+  forbidden = in_order_with g.forbidden (forbidden_in p);
+  any_of = with_some with_last g.any_of (any_of_in p);
+  member_of = with_some with_last g.member_of (rule_in p);
+  in_tree = with_some later g.in_tree (tree_in p);
+}
 
 -- a group that is perhaps there, with one more part
 abbrev pub grown : Option Group → Part → Group
@@ -45,14 +62,26 @@ grown g p = with_part (unwrap_or g empty_group) p
 abbrev pub with_suffixed : List (List ℕ × Group) → List ℕ → Part → List (List ℕ × Group)
 with_suffixed groups s p = insert_entry text_cmp groups s (grown (lookup (is_at (text_cmp s)) groups) p)
 
+-- the unsuffixed group, with one more part where that is its own
+abbrev pub add_plain : Option Group → Option (List ℕ) × Part → Option Group
+add_plain g (None, p) = Some (grown g p)
+add_plain g (Some s, p) = g
+
+-- the groups of suffixes, with one more part where that is of one of them
+abbrev pub add_suffixed : List (List ℕ × Group) → Option (List ℕ) × Part → List (List ℕ × Group)
+add_suffixed groups (None, p) = groups
+add_suffixed groups (Some s, p) = with_suffixed groups s p
+
 -- what is gathered, with what one more pair gives
 abbrev pub with_given : Gathered → Given → Gathered
-with_given a (in_group None p) = record a { plain = Some (grown a.plain p) }
-with_given a (in_group (Some s) p) = record a { suffixed = with_suffixed a.suffixed s p }
-with_given a (root_traits t) = record a { root = joined_traits a.root t }
-with_given a (policy b) = record a { policy = Some b }
-with_given a (subtree names) = record a { subtrees = a.subtrees ++ names ∷ [] }
-with_given a (at_most n) = record a { limit = Some n }
+with_given a v = record {
+  plain = with_some add_plain a.plain (group_part v);
+  suffixed = with_some add_suffixed a.suffixed (group_part v);
+  policy = with_some later a.policy (policy_in v);
+  subtrees = with_some with_last a.subtrees (subtree_in v);
+  root = record { required = in_order_with a.root.required (root_required_in v); forbidden = in_order_with a.root.forbidden (root_forbidden_in v) };
+  limit = with_some later a.limit (limit_in v);
+}
 
 -- the unsuffixed group, where it is there
 abbrev pub plain_groups : Option Group → List (Option (List ℕ) × Group)

@@ -1,17 +1,26 @@
 -- The value of each parameter's text.
-use Rattle.std.specs.Prelude.{ℕ, Bool, true, false, ◌==◌, nat_lt, List, [], ◌∷◌, ◌++◌, length, codes, Option, Some, None, is_some, if◌then◌else◌}
-use Rattle.std.specs.List.{fold, list_any, position_or_len, before_first, after_first}
+use Rattle.std.specs.Prelude.{ℕ, Bool, true, false, ◌==◌, ◌&&◌, not, nat_lt, List, [], ◌∷◌, length, map, codes, Option, Some, None, if◌then◌else◌}
+use Rattle.std.specs.List.{filter, list_any, position_or_len, before_first, after_first}
 use Rattle.std.specs.Option.{option_map, option_and_then}
-use Rattle.std.specs.Map.{lookup}
-use Rattle.std.specs.BTreeMap.{insert_entry, is_at}
-use Rattle.std.specs.BTreeSet.{insert_key}
 use Rattle.std.specs.Str.{bytes_eq}
-use Rattle.ac_base.specs.Texts.{text_cmp, name_value, suffix_value, id_value, count_value}
+use Rattle.ac_base.specs.Texts.{name_value, suffix_value, id_value, count_value}
+use Rattle.ac_base.specs.Sorted.{TextMap, map_of}
 use Rattle.ac_query.specs.declared.reading.parameter.Field.TheVariants as field
 use Rattle.ac_query.specs.declared.version.Version.{Version}
-use Rattle.ac_query.specs.Texts.{is_colon, items_of, behind, has_text}
+use Rattle.ac_query.specs.Texts.{is_colon, items_of, behind, has_text, in_byte_order}
 use Rattle.ac_query.specs.Versions.{has_any_of}
 use Rattle.ac_query.specs.Pairs.Parameters.{Parameter, of_group, root_required, group_policy, same_subtree, limit}
+
+-- ---- lists
+
+-- the values of these, where each has one
+abbrev pub values_of : {T X : Type 0} → (T → Option X) → List T → Option (List X)
+values_of value [] = Some []
+values_of value (t ∷ ts) = option_and_then (λ v. option_map (λ vs. v ∷ vs) (values_of value ts)) (value t)
+
+-- the values of the items between commas, where each has one
+abbrev pub list_value : {X : Type 0} → (List ℕ → Option X) → List ℕ → Option (List X)
+list_value value text = values_of value (items_of text)
 
 -- ---- `resources`: amounts by class
 
@@ -35,18 +44,18 @@ has_colon text = nat_lt (position_or_len is_colon text) (length text)
 unfoldable pub need_value : List ℕ → Option (List ℕ × ℕ)
 need_value item = if has_colon item then need_of (before_first is_colon item) (after_first is_colon item) else None
 
--- needs, classes in byte order, and one more; none where its class is there
-abbrev pub with_need : List (List ℕ × ℕ) → List ℕ × ℕ → Option (List (List ℕ × ℕ))
-with_need needs need =
-    if is_some (lookup (is_at (text_cmp need.0)) needs) then None else Some (insert_entry text_cmp needs need.0 need.1)
+-- whether texts differ from these, and from each other
+abbrev pub are_apart : List (List ℕ) → List (List ℕ) → Bool
+are_apart seen [] = true
+are_apart seen (t ∷ ts) = not (has_text seen t) && are_apart (t ∷ seen) ts
 
--- needs and what a further item says
-abbrev pub with_need_item : Option (List (List ℕ × ℕ)) → List ℕ → Option (List (List ℕ × ℕ))
-with_need_item needs item = option_and_then (λ before. option_and_then (with_need before) (need_value item)) needs
+-- amounts by class, classes in byte order, where no class stands twice
+abbrev pub by_class : List (List ℕ × ℕ) → Option (TextMap ℕ)
+by_class needs = if are_apart [] (map (λ n. n.0) needs) then Some (map_of needs) else None
 
 -- `CLASS:n,..`: each class once
 unfoldable pub needs_value : List ℕ → Option (List (List ℕ × ℕ))
-needs_value text = fold with_need_item (Some []) (items_of text)
+needs_value text = option_and_then by_class (list_value need_value text)
 
 -- ---- `required`, `root_required`
 
@@ -58,21 +67,28 @@ pub record Traits : Type 0 where
 abbrev pub no_traits : Traits
 no_traits = record { required = []; forbidden = [] }
 
--- names and one more, where a text is a name
-abbrev pub with_name : List (List ℕ) → List ℕ → Option (List (List ℕ))
-with_name names text = option_map (insert_key text_cmp names) (name_value text)
+-- a trait's name, and whether it is forbidden
+abbrev pub Marked : Type 0
+Marked = Bool × List ℕ
 
--- traits and an item that is `!TRAIT`, where there is something behind `!`, or `TRAIT`
-abbrev pub with_trait : Traits → List ℕ → Option (List ℕ) → Option Traits
-with_trait t item (Some name) = option_map (λ names. record t { forbidden = names }) (with_name t.forbidden name)
-with_trait t item None = option_map (λ names. record t { required = names }) (with_name t.required item)
+-- what stands behind `!` is forbidden, and an item without it required
+abbrev pub mark_of : List ℕ → Option (List ℕ) → Option Marked
+mark_of item (Some name) = option_map (λ n. (true, n)) (name_value name)
+mark_of item None = option_map (λ n. (false, n)) (name_value item)
 
-abbrev pub with_trait_item : Option Traits → List ℕ → Option Traits
-with_trait_item traits item = option_and_then (λ t. with_trait t item (behind (codes "!") item)) traits
+unfoldable pub marked_value : List ℕ → Option Marked
+marked_value item = mark_of item (behind (codes "!") item)
+
+-- the names that are required and those that are forbidden
+abbrev pub parted : List Marked → Traits
+parted marks = record {
+  required = in_byte_order (map (λ m. m.1) (filter (λ m. not m.0) marks));
+  forbidden = in_byte_order (map (λ m. m.1) (filter (λ m. m.0) marks));
+}
 
 -- `TRAIT` or `!TRAIT`, one or more
 unfoldable pub traits_value : List ℕ → Option Traits
-traits_value text = fold with_trait_item (Some no_traits) (items_of text)
+traits_value text = option_map parted (list_value marked_value text)
 
 -- whether a trait is required and forbidden
 abbrev pub is_conflicting : Traits → Bool
@@ -80,13 +96,9 @@ is_conflicting t = list_any (has_text t.forbidden) t.required
 
 -- ---- a list of traits of which one is asked
 
--- names and what a further item says
-abbrev pub with_name_item : Option (List (List ℕ)) → List ℕ → Option (List (List ℕ))
-with_name_item names item = option_and_then (λ before. with_name before item) names
-
 -- `TRAIT,..`: one or more, in byte order, each once
 unfoldable pub names_value : List ℕ → Option (List (List ℕ))
-names_value text = fold with_name_item (Some []) (items_of text)
+names_value text = option_map in_byte_order (list_value name_value text)
 
 -- what stands behind `in:`, where the version has such lists
 unfoldable pub any_of_text : Version → List ℕ → Option (List ℕ)
@@ -99,13 +111,9 @@ pub record AggregateRule : Type 0 where
   pub forbids : Bool
   pub ids : List ℕ
 
--- ids and what a further item says
-abbrev pub with_id_item : Option (List ℕ) → List ℕ → Option (List ℕ)
-with_id_item ids item = option_and_then (λ before. option_map (λ id. before ++ id ∷ []) (id_value item)) ids
-
--- `U,..`: one or more
+-- `U,..`: one or more, as written
 unfoldable pub ids_value : List ℕ → Option (List ℕ)
-ids_value text = fold with_id_item (Some []) (items_of text)
+ids_value text = list_value id_value text
 
 -- `in:U,..`, where there is something behind `in:`, or `U`
 abbrev pub listed_ids : List ℕ → Option (List ℕ) → Option (List ℕ)
@@ -127,13 +135,9 @@ rule_value text = rule_of text (behind (codes "!") text)
 
 -- ---- `same_subtree`
 
--- suffixes in byte order, each once, and what a further item says
-abbrev pub with_suffix_item : Option (List (List ℕ)) → List ℕ → Option (List (List ℕ))
-with_suffix_item names item = option_and_then (λ before. option_map (insert_key text_cmp before) (suffix_value item)) names
-
--- `S,..`: one or more
+-- `S,..`: one or more, in byte order, each once
 unfoldable pub subtree_value : List ℕ → Option (List (List ℕ))
-subtree_value text = fold with_suffix_item (Some []) (items_of text)
+subtree_value text = option_map in_byte_order (list_value suffix_value text)
 
 -- ---- `group_policy`
 

@@ -41,7 +41,7 @@ impl Query {
         ensures shown { slot_shown (asked_of self.now).groups result
             ≡ slice_get (slots_of (asked_of self.now)) s }
         ensures there { IsSome (slot_shown (asked_of self.now).groups result) }
-        ensures within { result.group < length (asked_of self.now).groups }
+        ensures inside { result.group < length (asked_of self.now).groups }
     {
         self.slots[s]
     }

@@ -176,11 +176,11 @@ impl Query {
     /// Its pairs are those of `application/x-www-form-urlencoded`. The first fault in the order of the definition is told;
     /// want of memory is told where a growth was refused.
     pub fn read(alloc: Global, text: &str, version: Version) -> Result<Query, QueryFault>
-        ensures fine { OnOk result (query_fault version text.now ≡ None) }
+        ensures ok { OnOk result (query_fault version text.now ≡ None) }
         ensures asks { IfOk result (λ query. Asks version (pairs_of text.now) (asked_of query)) }
         ensures record { IfOk result (λ query. asked_of query
             ≡ asked_by version (pairs_of text.now)) }
-        ensures err { IfErr result (λ e. IfSome (fault_shown e) (λ f.
+        ensures fault { IfErr result (λ e. IfSome (fault_shown e) (λ f.
             query_fault version text.now ≡ Some f)) }
         ensures long { 65536 < length text.now → result ≡ Err QueryFault.QueryTooLong }
     {

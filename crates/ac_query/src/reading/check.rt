@@ -217,9 +217,9 @@ fn is_bare(plain: &Option<GroupDraft>) -> bool
 
 /// Tells the first group without resources that no list has.
 fn check_groups(alloc: Global, draft: &Draft, listed: &BTreeSet<Suffix>) -> Result<(), QueryFault>
-    ensures fine { OnOk result (first_fault (map (group_condition (suffixes_shown listed.now))
+    ensures ok { OnOk result (first_fault (map (group_condition (suffixes_shown listed.now))
         (draft_asked draft.now).groups) ≡ None) }
-    ensures err { IfErr result (λ e. IfSome (fault_shown e) (λ f.
+    ensures fault { IfErr result (λ e. IfSome (fault_shown e) (λ f.
         first_fault (map (group_condition (suffixes_shown listed.now))
         (draft_asked draft.now).groups) ≡ Some f)) }
 {
@@ -237,9 +237,9 @@ fn check_groups(alloc: Global, draft: &Draft, listed: &BTreeSet<Suffix>) -> Resu
 
 /// Tells the first listed suffix of no group.
 fn check_suffixes(alloc: Global, draft: &Draft, listed: &BTreeSet<Suffix>) -> Result<(), QueryFault>
-    ensures fine { OnOk result (first_fault (map (suffix_condition (draft_asked draft.now).groups)
+    ensures ok { OnOk result (first_fault (map (suffix_condition (draft_asked draft.now).groups)
         (suffixes_shown listed.now)) ≡ None) }
-    ensures err { IfErr result (λ e. IfSome (fault_shown e) (λ f.
+    ensures fault { IfErr result (λ e. IfSome (fault_shown e) (λ f.
         first_fault (map (suffix_condition (draft_asked draft.now).groups)
         (suffixes_shown listed.now)) ≡ Some f)) }
 {
@@ -254,8 +254,8 @@ fn check_suffixes(alloc: Global, draft: &Draft, listed: &BTreeSet<Suffix>) -> Re
 
 /// Tells the first fault of all that is asked.
 pub(crate) fn check(alloc: Global, draft: &Draft) -> Result<(), QueryFault>
-    ensures fine { OnOk result (first_fault (asked_conditions (draft_asked draft.now)) ≡ None) }
-    ensures err { IfErr result (λ e. IfSome (fault_shown e) (λ f.
+    ensures ok { OnOk result (first_fault (asked_conditions (draft_asked draft.now)) ≡ None) }
+    ensures fault { IfErr result (λ e. IfSome (fault_shown e) (λ f.
         first_fault (asked_conditions (draft_asked draft.now)) ≡ Some f)) }
 {
     if !has_resources(draft) {

@@ -31,12 +31,12 @@ fn is_repeat(
     name: String,
     parameter: &Parameter,
 ) -> Result<bool, QueryFault>
-    ensures ok { IfOk result (λ again. again
+    ensures repeated { IfOk result (λ again. again
         ≡ is_repeat version (texts_shown earlier.old) (string_bytes name)
         (parameter_shown parameter.now)) }
     ensures earlier { OnOk result (texts_shown earlier.new
         ≡ insert_key text_cmp (texts_shown earlier.old) (string_bytes name)) }
-    ensures err { IfErr result (λ e. fault_shown e ≡ None) }
+    ensures fault { IfErr result (λ e. fault_shown e ≡ None) }
 {
     let is_new = earlier.insert(name)?;
     if parameter.may_repeat(version) {
@@ -54,13 +54,13 @@ fn read_pair(
     name: String,
     text: &str,
 ) -> Result<Given, QueryFault>
-    ensures fine { OnOk result (first_fault (pair_conditions version number
+    ensures ok { OnOk result (first_fault (pair_conditions version number
         (texts_shown earlier.old) (string_bytes name, text.now)) ≡ None) }
     ensures value { IfOk result (λ g. read_pair version (string_bytes name, text.now)
         ≡ Some (given_shown g)) }
     ensures earlier { OnOk result (texts_shown earlier.new
         ≡ insert_key text_cmp (texts_shown earlier.old) (string_bytes name)) }
-    ensures err { IfErr result (λ e. IfSome (fault_shown e) (λ f.
+    ensures fault { IfErr result (λ e. IfSome (fault_shown e) (λ f.
         first_fault (pair_conditions version number (texts_shown earlier.old)
         (string_bytes name, text.now)) ≡ Some f)) }
 {
@@ -83,10 +83,10 @@ fn read_pair(
 /// What the pairs of a query ask for, or their first fault.
 fn read_pairs(alloc: Global, text: &str, version: Version) -> Result<Draft, QueryFault>
     requires { length text.now ≤ 65536 }
-    ensures fine { OnOk result (first_fault (pairs_conditions version 1 [] (pairs_of text.now))
+    ensures ok { OnOk result (first_fault (pairs_conditions version 1 [] (pairs_of text.now))
         ≡ None) }
-    ensures ok { IfOk result (λ draft. draft_shown draft ≡ gathered version (pairs_of text.now)) }
-    ensures err { IfErr result (λ e. IfSome (fault_shown e) (λ f.
+    ensures draft { IfOk result (λ draft. draft_shown draft ≡ gathered version (pairs_of text.now)) }
+    ensures fault { IfErr result (λ e. IfSome (fault_shown e) (λ f.
         first_fault (pairs_conditions version 1 [] (pairs_of text.now)) ≡ Some f)) }
 {
     let mut draft = Draft::new(alloc);
@@ -103,9 +103,9 @@ fn read_pairs(alloc: Global, text: &str, version: Version) -> Result<Draft, Quer
 
 /// What a query asks for, or the first of the faults of its text and its pairs.
 pub(crate) fn read_draft(alloc: Global, text: &str, version: Version) -> Result<Draft, QueryFault>
-    ensures fine { OnOk result (first_fault (text_conditions version text.now) ≡ None) }
-    ensures ok { IfOk result (λ draft. draft_shown draft ≡ gathered version (pairs_of text.now)) }
-    ensures err { IfErr result (λ e. IfSome (fault_shown e) (λ f.
+    ensures ok { OnOk result (first_fault (text_conditions version text.now) ≡ None) }
+    ensures draft { IfOk result (λ draft. draft_shown draft ≡ gathered version (pairs_of text.now)) }
+    ensures fault { IfErr result (λ e. IfSome (fault_shown e) (λ f.
         first_fault (text_conditions version text.now) ≡ Some f)) }
     ensures long { 65536 < length text.now → result ≡ Err QueryFault.QueryTooLong }
 {

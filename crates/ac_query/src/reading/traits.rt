@@ -4,10 +4,12 @@ ghost use Rattle.std.specs.List.Sorted.{IsStrictlySortedBy};
 ghost use Rattle.ac_base.specs.Names.{trait_bytes};
 ghost use Rattle.ac_base.specs.Texts.{text_cmp};
 ghost use Rattle.ac_query.specs.Texts.{in_order_with};
-ghost use Rattle.ac_query.specs.Pairs.Values.{no_traits, is_conflicting};
+ghost use Rattle.ac_query.specs.Pairs.Values.{Marked, marked_value, parted, no_traits, is_conflicting};
 ghost use Rattle.ac_query.specs.Laws.Gathered.{joined_traits};
-ghost use Rattle.ac_query.specs.Shown.{names_shown, traits_shown};
+ghost use Rattle.ac_query.specs.Shown.{names_shown, mark_shown, traits_shown};
 
+use crate::reading::items::Item;
+use crate::reading::parameter::behind;
 use ac_base::{NoMemory, TraitName};
 use std::alloc::Global;
 use std::collections::BTreeSet;
@@ -17,6 +19,33 @@ use std::collections::BTreeSet;
 pub(crate) struct Traits {
     pub(crate) required: BTreeSet<TraitName>,
     pub(crate) forbidden: BTreeSet<TraitName>,
+}
+
+/// A trait of a list, and whether it is forbidden there.
+#[derive(Drop)]
+pub(crate) struct MarkedTrait {
+    pub(crate) forbids: bool,
+    pub(crate) name: TraitName,
+}
+
+impl Item for MarkedTrait {
+    ghost Shown = { Marked };
+
+    ghost shown = { mark_shown };
+
+    ghost value = { marked_value };
+
+    #[tactic(auto, unfolding(crate::specs::Pairs::Values::marked_value))]
+    fn read_item(alloc: Global, text: &str) -> Result<Option<MarkedTrait>, NoMemory> {
+        let (forbids, name) = match behind("!", text) {
+            Some(name) => (true, name),
+            None => (false, text),
+        };
+        match TraitName::read(alloc, name.as_bytes())? {
+            Some(name) => Ok(Some(MarkedTrait { forbids, name })),
+            None => Ok(None),
+        }
+    }
 }
 
 /// Adds names to those that are there.
@@ -58,6 +87,21 @@ impl Traits {
         }
     }
 
+    /// The traits of a list.
+    pub(crate) fn of(alloc: Global, list: Vec<MarkedTrait>) -> Result<Traits, NoMemory>
+        ensures { IfOk result (λ traits. traits_shown traits ≡ parted (map mark_shown list.items)) }
+    {
+        let mut traits = Traits::new(alloc);
+        for marked in list {
+            if marked.forbids {
+                traits.forbidden.insert(marked.name)?;
+            } else {
+                traits.required.insert(marked.name)?;
+            }
+        }
+        Ok(traits)
+    }
+
     /// Adds traits to those that are there.
     pub(crate) fn join(&mut self, more: Traits) -> Result<(), NoMemory>
         ensures { OnOk result (traits_shown self.new
@@ -72,11 +116,8 @@ impl Traits {
     pub(crate) fn is_conflicting(&self) -> bool
         ensures { result ≡ is_conflicting (traits_shown self.now) }
     {
-        for name in &self.required {
-            if self.forbidden.contains(name) {
-                return true;
-            }
-        }
-        false
+        self.required
+            .iter()
+            .any(|name| self.forbidden.contains(name))
     }
 }

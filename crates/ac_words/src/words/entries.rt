@@ -165,7 +165,7 @@ fn words_with(
 pub(super) fn words_of(alloc: Global, matches: &ArgMatches<'_>) -> Result<Words, WordFault>
     requires { IsComplete (subcommand_rows_of matches.now) }
     ensures entries { IfOk result (Says (subcommand_rows_of matches.now)) }
-    ensures faultless { OnOk result (own_faults (subcommand_rows_of matches.now) ≡ []) }
+    ensures ok { OnOk result (own_faults (subcommand_rows_of matches.now) ≡ []) }
     ensures fault { IfErr result (Tells (own_faults (subcommand_rows_of matches.now))) }
 {
     let (command, entries) = chosen(matches);

@@ -110,7 +110,7 @@ pub(super) fn check_tables(
     command: Command,
     entries: &ArgMatches<'_>,
 ) -> Result<(), WordFault>
-    ensures faultless { OnOk result (table_kinds (rows_of (found_of entries.now)) ≡ []) }
+    ensures ok { OnOk result (table_kinds (rows_of (found_of entries.now)) ≡ []) }
     ensures fault { IfErr result (Tells (table_kinds (rows_of (found_of entries.now)))) }
 {
     if entry(entries, "tables").is_some() {

@@ -1,5 +1,7 @@
-use Rattle.ac_query.proofs.Values.ListItems.{lists_mean}
+use Rattle.std.proofs.Common.{refl}
+use Rattle.ac_query.specs.Pairs.Values.{ids_value, names_value, needs_value, subtree_value, traits_value}
 use Rattle.ac_query.proofs.laws.lists_mean.Goals as goal
 
 pub returns : goal.returns
-returns c = lists_mean
+unfolding ids_value names_value needs_value subtree_value traits_value
+returns c = record { names = λ text. refl; suffixes = λ text. refl; ids = λ text. refl; traits = λ text. refl; needs = λ text. refl }

@@ -75,13 +75,13 @@ returns-in-Ok-clause-entries c =
     let found = (c.in-Ok.ensures.matches (ap is_simple same ∙ program_simple)).1 ∙ found-named _ words same in
     rw (← found) c.words_of.ensures.entries
 
-pub returns-in-Ok-clause-faultless : goal.returns-in-Ok-clause-faultless
-returns-in-Ok-clause-faultless c =
+pub returns-in-Ok-clause-ok : goal.returns-in-Ok-clause-ok
+returns-in-Ok-clause-ok c =
     let same = c.in_ok-grammar.ensures in
     let words = map string_bytes c.args.words.now in
     let none = sym (fault-program _ words same) ∙ c.in-Ok.ensures.kinds (ap is_simple_and_free same ∙ program_free) in
     let found = (c.in-Ok.ensures.matches (ap is_simple same ∙ program_simple)).1 ∙ found-named _ words same in
-    on_ok_weaker c.words_of.result (λ none_other. own-left words none ∙ sym (ap own_faults found) ∙ none_other) c.words_of.ensures.faultless
+    on_ok_weaker c.words_of.result (λ none_other. own-left words none ∙ sym (ap own_faults found) ∙ none_other) c.words_of.ensures.ok
 
 pub returns-in-Ok-clause-fault : goal.returns-in-Ok-clause-fault
 returns-in-Ok-clause-fault c =

@@ -12,7 +12,7 @@ use Rattle.ac_query.proofs.query.Query.in_subtree.Goals as goal
 pub returns-in-Some : goal.returns-in-Some
 returns-in-Some c =
     listed_is (asked_of c.args.self.now).groups c.slot-slot.result.group (group_entry c.index.result.now)
-    (shown_read group_entry c.args.self.now.groups.items c.slot-slot.result.group c.index.result.now c.slot-slot.ensures.within c.index.ensures)
+    (shown_read group_entry c.args.self.now.groups.items c.slot-slot.result.group c.index.result.now c.slot-slot.ensures.inside c.index.ensures)
     c.slot-slot.result.class _ c.slot-slot.ensures.shown (slot_there (slots_of (asked_of c.args.self.now)) c.args.s _ c.requires.slot refl)
     _ (suffixes_shown c.index-in-Some.result.now) (suffix_bytes c.in-Some.suffix) _
     (shown_read suffixes_shown c.args.self.now.subtrees.items c.args.k c.index-in-Some.result.now c.requires.list c.index-in-Some.ensures)
@@ -22,6 +22,6 @@ returns-in-Some c =
 pub returns-in-None : goal.returns-in-None
 returns-in-None c =
     unlisted_is (asked_of c.args.self.now).groups c.slot-slot.result.group (group_entry c.index.result.now)
-    (shown_read group_entry c.args.self.now.groups.items c.slot-slot.result.group c.index.result.now c.slot-slot.ensures.within c.index.ensures)
+    (shown_read group_entry c.args.self.now.groups.items c.slot-slot.result.group c.index.result.now c.slot-slot.ensures.inside c.index.ensures)
     c.slot-slot.result.class _ c.slot-slot.ensures.shown (slot_there (slots_of (asked_of c.args.self.now)) c.args.s _ c.requires.slot refl)
     _ (ap (option_map suffix_bytes) c.in-None.is)

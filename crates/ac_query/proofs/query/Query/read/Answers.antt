@@ -7,22 +7,22 @@ use Rattle.ac_query.proofs.Pairs.PairSteps.{err_is}
 use Rattle.ac_query.proofs.Wholes.{asked_is, text_tells, goes_on, whole_tells, asks_record}
 use Rattle.ac_query.proofs.query.Query.read.Goals as goal
 
-pub returns-in_err-draft-clause-err : goal.returns-in_err-draft-clause-err
-returns-in_err-draft-clause-err c =
+pub returns-in_err-draft-clause-fault : goal.returns-in_err-draft-clause-fault
+returns-in_err-draft-clause-fault c =
     err_is _ (λ e. IfSome (fault_shown e) (λ f. query_fault c.args.version c.args.text.now ≡ Some f)) _ c.from_residual.ensures.1
-    (text_tells c.args.version c.args.text.now (fault_shown c.in_err-draft.field-0.0) c.in_err-draft.ensures.err)
+    (text_tells c.args.version c.args.text.now (fault_shown c.in_err-draft.field-0.0) c.in_err-draft.ensures.fault)
 
-pub returns-in_err-check-clause-err : goal.returns-in_err-check-clause-err
-returns-in_err-check-clause-err c =
+pub returns-in_err-check-clause-fault : goal.returns-in_err-check-clause-fault
+returns-in_err-check-clause-fault c =
     err_is _ (λ e. IfSome (fault_shown e) (λ f. query_fault c.args.version c.args.text.now ≡ Some f)) _ c.from_residual-in_err-check.ensures.1
-    (whole_tells c.args.version c.args.text.now c.in_ok-draft.ensures.fine (draft_shown c.in_ok-draft.draft) c.in_ok-draft.ensures.ok
-    (fault_shown c.in_err-check.field-0.0) c.in_err-check.ensures.err)
+    (whole_tells c.args.version c.args.text.now c.in_ok-draft.ensures.ok (draft_shown c.in_ok-draft.draft) c.in_ok-draft.ensures.draft
+    (fault_shown c.in_err-check.field-0.0) c.in_err-check.ensures.fault)
 
-pub returns-clause-fine : goal.returns-clause-fine
-returns-clause-fine c = goes_on c.args.version c.args.text.now c.in_ok-draft.ensures.fine (draft_shown c.in_ok-draft.draft) c.in_ok-draft.ensures.ok ∙ c.in_ok-check.ensures.fine
+pub returns-clause-ok : goal.returns-clause-ok
+returns-clause-ok c = goes_on c.args.version c.args.text.now c.in_ok-draft.ensures.ok (draft_shown c.in_ok-draft.draft) c.in_ok-draft.ensures.draft ∙ c.in_ok-check.ensures.ok
 
 pub returns-clause-record : goal.returns-clause-record
-returns-clause-record c = c.in_ok-query.ensures ∙ asked_is c.args.version (pairs_of c.args.text.now) (draft_shown c.in_ok-draft.draft) c.in_ok-draft.ensures.ok
+returns-clause-record c = c.in_ok-query.ensures ∙ asked_is c.args.version (pairs_of c.args.text.now) (draft_shown c.in_ok-draft.draft) c.in_ok-draft.ensures.draft
 
 pub returns-clause-asks : goal.returns-clause-asks
-returns-clause-asks c = asks_record c.args.version c.args.text.now c.in_ok-draft.ensures.fine _ (returns-clause-record c)
+returns-clause-asks c = asks_record c.args.version c.args.text.now c.in_ok-draft.ensures.ok _ (returns-clause-record c)

@@ -16,5 +16,5 @@ pub returns-in-None-clause-needs : goal.returns-in-None-clause-needs
 returns-in-None-clause-needs c =
     ap (λ l. Some l) c.needs-needs.ensures.needs
     ∙ needs_whole c.slot-slot.result.group c.slot-slot.result.class (group_entry c.index.result.now) _ _ c.in-None.is
-    (shown_read group_entry c.args.self.now.groups.items c.slot-slot.result.group c.index.result.now c.slot-slot.ensures.within c.index.ensures)
+    (shown_read group_entry c.args.self.now.groups.items c.slot-slot.result.group c.index.result.now c.slot-slot.ensures.inside c.index.ensures)
     c.slot-slot.ensures.shown (slot_there (slots_of (asked_of c.args.self.now)) c.args.s _ c.requires refl)

@@ -38,7 +38,7 @@ loop-pair-preserved c =
           pass_goes_on c.args.version (owned_pairs_left c.loop-pair.pair-iterator) (owned_pairs_left c.next.new.self) step.0 step.1 step.2
           (string_bytes c.in_ok-name.name, c.as_str.result.now) step.3.0.2 value_is
           (c.loop-pair.number + 1) (texts_shown c.loop-pair.earlier) _ c.loop-pair.invariant.faults (texts_shown c.read_pair.new.earlier)
-          c.in_ok-given.ensures.fine c.in_ok-given.ensures.earlier;
+          c.in_ok-given.ensures.ok c.in_ok-given.ensures.earlier;
       asked =
           adds_on c.args.version (owned_pairs_left c.loop-pair.pair-iterator) (owned_pairs_left c.next.new.self) step.0 step.1 step.2
           (string_bytes c.in_ok-name.name, c.as_str.result.now) step.3.0.2 value_is
@@ -46,13 +46,13 @@ loop-pair-preserved c =
           c.in_ok-given.ensures.value c.in_ok-add.ensures;
     }
 
-pub returns-in_err-given-clause-err : goal.returns-in_err-given-clause-err
-returns-in_err-given-clause-err c =
+pub returns-in_err-given-clause-fault : goal.returns-in_err-given-clause-fault
+returns-in_err-given-clause-fault c =
     let step = rw c.in_ok-name.was at c.in-Some.ensures.steps in
     let value_is = c.as_str.ensures.value ∙ step.3.1.2 in
     let told =
     pass_stops c.args.version (owned_pairs_left c.loop-pair.pair-iterator) (owned_pairs_left c.next.new.self) step.0 step.1 step.2
     (string_bytes c.in_ok-name.name, c.as_str.result.now) step.3.0.2 value_is
     (c.loop-pair.number + 1) (texts_shown c.loop-pair.earlier) _ c.loop-pair.invariant.faults (fault_shown c.in_err-given.field-0.0)
-    c.in_err-given.ensures.err in
+    c.in_err-given.ensures.fault in
     err_is _ (λ e. IfSome (fault_shown e) (λ f. first_fault (pairs_conditions c.args.version 1 [] (pairs_of c.args.text.now)) ≡ Some f)) _ c.from_residual-in_err-given.ensures.1 told
