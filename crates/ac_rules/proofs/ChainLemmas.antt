@@ -1,5 +1,5 @@
 -- What `all` and `any` answer: over what the items of a list show, and over the slots of an assignment.
-use Rattle.std.proofs.Common.{◌≡◌, ◌∙◌, sym, Bool, true, false, List, [], ◌∷◌, Option, map, refl, ap}
+use Rattle.std.proofs.Common.{◌≡◌, ◌∙◌, sym, Bool, true, false, List, Option, map, refl}
 use Rattle.std.specs.List.{list_all, list_any, FoldsTo}
 use Rattle.std.specs.Option.{MatchOption}
 use Rattle.std.specs.Fn.{Called}
@@ -7,7 +7,7 @@ use Rattle.std.specs.Iterator.{YieldsThen, YieldsFirstBy}
 use Rattle.std.specs.Slice.Iter.{iter_rest}
 use Rattle.std.specs.declared.slice.Iter.{Iter}
 use Rattle.std.proofs.iter.Yields.{fronts}
-use Rattle.std.proofs.lemmas.Iterator.{YieldsList, YieldsList-from_slice}
+use Rattle.std.proofs.lemmas.Iterator.{YieldsList-from_slice}
 use Rattle.std.proofs.lemmas.Iterator.Consumers.{YieldsList-from_first}
 use Rattle.std.proofs.lemmas.Iterator.Search.{all_from_yields_List, any_from_yields_List}
 use Rattle.std.proofs.lemmas.List.Folds.{list_all-map}
@@ -30,16 +30,16 @@ Ran {S} {A} {F} steps g s u f go stop r =
 abbrev pub Answers : {A F : Type 0} → Mut F (A × Unit {0}) Bool → F → (A → Bool) → Type 0
 Answers {A} {F} g f test = (x : A) (b : Bool) (q : F) → Called g f (x, tt) b q → (q ≡ f) × (b ≡ test x)
 
-module _ {S A B C F : Type 0} {steps : S → Option A → S → Type 0} {v : A → B} {g : Mut F (A × Unit {0}) Bool} {s : S} {xs : List B} where
-  pub all_shown : (h : B → C) (test : C → Bool) (u : S) (f : F) (r : Bool) → Ran steps g s u f true false r → YieldsList steps v s xs
-      → Answers g f (λ x. test (h (v x))) → r ≡ list_all test (map h xs)
-  all_shown h test u f r ran items says =
-      all_from_yields_List (λ y. test (h y)) u f r ran items says ∙ sym (list_all-map test h xs)
+module _ {A B F : Type 0} {g : Mut F (Bor A × Unit {0}) Bool} {s : Iter A} (h : A → B) (test : B → Bool) (xs : List A) where
+  pub all_items : (u : Iter A) (f : F) (r : Bool) → Ran fronts g s u f true false r → iter_rest s ≡ xs
+      → Answers g f (λ x. test (h x.now)) → r ≡ list_all test (map h xs)
+  all_items u f r ran rest says =
+      all_from_yields_List (λ y. test (h y)) u f r ran (YieldsList-from_slice xs rest) says ∙ sym (list_all-map test h xs)
 
-  pub any_shown : (h : B → C) (test : C → Bool) (u : S) (f : F) (r : Bool) → Ran steps g s u f false true r → YieldsList steps v s xs
-      → Answers g f (λ x. test (h (v x))) → r ≡ list_any test (map h xs)
-  any_shown h test u f r ran items says =
-      any_from_yields_List (λ y. test (h y)) u f r ran items says ∙ any_map (λ y. test (h y)) test h (λ _. refl) xs
+  pub any_items : (u : Iter A) (f : F) (r : Bool) → Ran fronts g s u f false true r → iter_rest s ≡ xs
+      → Answers g f (λ x. test (h x.now)) → r ≡ list_any test (map h xs)
+  any_items u f r ran rest says =
+      any_from_yields_List (λ y. test (h y)) u f r ran (YieldsList-from_slice xs rest) says ∙ any_map (λ y. test (h y)) test h (λ _. refl) xs
 
 module _ {F : Type 0} {g : Mut F (rust.Placed × Unit {0}) Bool} {s : Slots} (all : List Provider) (xs : List Placed) (test : List Provider → Placed → Bool) where
   pub all_slots : (u : Slots) (f : F) (r : Bool) → Ran (YieldsFirstBy shown slots_left) g s u f true false r → slots_left s ≡ all_in all xs

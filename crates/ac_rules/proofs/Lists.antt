@@ -2,6 +2,5 @@
 pub mod ListLemmas
 pub mod OdometerLemmas
 pub mod OrderLemmas
-pub mod ChosenLemmas
 pub mod RestLemmas
 pub mod PageLemmas

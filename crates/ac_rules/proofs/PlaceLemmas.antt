@@ -1,9 +1,11 @@
 -- Providers by their ids and by their places.
-use Rattle.std.proofs.Common.{◌≡◌, ◌≢◌, ◌==◌, ℕ, ◌+◌, ◌-◌, ◌<◌, ◌≤◌, zero, suc, List, [], ◌∷◌, length, inl, inr, false, Some, refl, sym, ap, ◌∙◌, subst, arith}
+use Rattle.std.proofs.Common.{◌≡◌, ◌≢◌, ◌==◌, ℕ, ◌+◌, ◌<◌, zero, suc, List, [], ◌∷◌, length, inl, inr, false, Some, refl, sym, ap, ◌∙◌, arith}
 use Rattle.std.specs.List.{position_from}
 use Rattle.std.specs.Option.{is_some}
-use Rattle.std.proofs.lemmas.Bool.{cases_Bool, cases_eq, eqb-true, eq-eqb, ne_eqb}
-use Rattle.ac_cloud.specs.World.{Provider, provider_at, is_member, id_at, place_of, is_provider, root_of}
+use Rattle.std.proofs.lemmas.Bool.{cases_eq, eqb-true, eq-eqb, ne_eqb}
+use Rattle.std.proofs.lemmas.Iterator.Adapters.{position_from-zero}
+use Rattle.std.proofs.lemmas.List.Quantifiers.{position-Some}
+use Rattle.ac_cloud.specs.World.{Provider, no_provider, provider_at, is_member, id_at, place_of, is_provider, root_of}
 use Rattle.ac_rules.specs.Laws.{AreInOrder}
 use Rattle.ac_rules.specs.Placed.{Placed}
 use Rattle.ac_rules.specs.Own.{counts_in, tree_fits}
@@ -13,21 +15,10 @@ pub record IsPlaced (all : List Provider) (id p : ℕ) : Type 0 where
   pub within : p < length all
   pub named : id_at all p ≡ id
 
-found_from : (all : List Provider) (id i p : ℕ) → position_from (is_provider id) i all ≡ Some p → (i ≤ p) × IsPlaced all id (p - i)
-found_from [] id i p h = cc
-found_from (q ∷ all) id i p h = elim (cases_Bool (q.id == id)) [
-  | inl e ↦
-      let at : i ≡ p = cc (rw e at h) in
-      let first : 0 ≡ p - i = omega arith in
-      (omega arith, subst (IsPlaced (q ∷ all) id) first (record { within = omega arith; named = eqb-true q.id id e }))
-  | inr e ↦
-      let more = found_from all id (i + 1) p (rw e at h) in
-      let later : suc (p - (i + 1)) ≡ p - i = let l = more.0 in omega arith in
-      (let l = more.0 in omega arith, subst (IsPlaced (q ∷ all) id) later (record { within = let w = more.1.within in omega arith; named = more.1.named }))
-]
-
 pub found_at : (all : List Provider) (id p : ℕ) → place_of all id ≡ Some p → IsPlaced all id p
-found_at all id p h = let same : p - 0 ≡ p = omega arith in subst (IsPlaced all id) same (found_from all id 0 p h).1
+found_at all id p h =
+    let found = position-Some (is_provider id) all p no_provider (position_from-zero (is_provider id) all ∙ h) in
+    record { within = found.0; named = eqb-true (id_at all p) id found.1 }
 
 pub found_within : (all : List Provider) (id p : ℕ) → place_of all id ≡ Some p → p < length all
 found_within all id p h = (found_at all id p h).within

@@ -1,15 +1,14 @@
 -- Slots by their places, and their groups.
-use Rattle.std.proofs.Common.{◌≡◌, ℕ, ◌<◌, zero, suc, List, [], ◌∷◌, length, Option, Some, refl, arith, slice_index_or, get_or, slice_get}
+use Rattle.std.proofs.Common.{◌≡◌, ℕ, ◌<◌, List, [], length, Option, Some, refl, slice_index_or, get_or, slice_get}
 use Rattle.std.specs.List.{AllByRecursion as Each}
 use Rattle.std.proofs.lemmas.Option.{slice_get-get_or, slice_get_within, get_or_from_slice_get}
+use Rattle.std.proofs.lemmas.List.Elements.{All-get_or, All-from_recursion}
 use Rattle.ac_query.specs.Asked.{in_subtree, lists_suffix, Asked, Group, slots_of}
 use Rattle.ac_query.proofs.SlotPlaces.{slots_name_groups}
 use Rattle.ac_rules.specs.Placed.{slot_at, no_slot}
 
 pub each_at : {X : Type 0} (P : X → Type 0) (xs : List X) (i : ℕ) (d : X) → Each P xs → i < length xs → P (slice_index_or xs i d)
-each_at P [] i d h k = absurd (omega arith)
-each_at P (x ∷ xs) zero d h k = h.0
-each_at P (x ∷ xs) (suc i) d h k = each_at P xs i d h.1 (omega arith)
+each_at P xs i d h k = All-get_or P xs i d k (All-from_recursion P xs h)
 
 -- the group of a slot stands at its place
 group_there : (asked : Asked) (s : ℕ) → s < length (slots_of asked)

@@ -1,5 +1,5 @@
 -- The nine rules in their order: candidates, the first rule that is broken, and fronts that are still open.
-use Rattle.std.specs.Prelude.{ℕ, Bool, cond, ◌&&◌, List, [], ◌∷◌}
+use Rattle.std.specs.Prelude.{ℕ, Bool, if◌then◌else◌, ◌&&◌, List, [], ◌∷◌}
 use Rattle.std.specs.List.{list_all}
 use Rattle.ac_query.specs.Asked.{Asked}
 use Rattle.ac_cloud.specs.World.{Provider}
@@ -35,7 +35,7 @@ tests all asked xs =
 -- the first that doesn't hold
 abbrev pub first_broken : List Test → Verdict
 first_broken [] = Candidate
-first_broken (t ∷ ts) = cond t.holds (first_broken ts) (Broken t.rule)
+first_broken (t ∷ ts) = if t.holds then first_broken ts else Broken t.rule
 
 abbrev pub all_hold : List Test → Bool
 all_hold ts = list_all (λ t. t.holds) ts

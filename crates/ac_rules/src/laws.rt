@@ -6,11 +6,13 @@ ghost use Rattle.ac_cloud.specs.World.{Provider};
 ghost use Rattle.ac_rules.specs.Laws.{AreInOrder, PrefixOpen, PagesJoin, RestBegins, JudgesCandidates, SumsSayFull, IsolateSaysApart};
 
 /// Each front of a candidate is open, so a search that leaves what isn't open loses none.
+#[tactic(auto, using(crate::proofs::EachSlot::FrontLemmas::prefix_open))]
 pub fn prefix_open()
     ensures { PrefixOpen }
 {}
 
 /// A page, and the one that goes on after its last list, are one page.
+#[tactic(auto, using(crate::proofs::Lists::PageLemmas::pages_join))]
 pub fn pages_join()
     ensures { PagesJoin }
 {}
@@ -21,16 +23,19 @@ pub fn rest_begins()
 {}
 
 /// The verdict is that no rule is broken exactly where a list is a candidate.
+#[tactic(auto, using(crate::proofs::EachSlot::JudgeLemmas::judges_candidates))]
 pub fn judges_candidates()
     ensures { JudgesCandidates }
 {}
 
 /// Sums is kept exactly where, wherever slots ask anything of a class on a provider, it has room for their sum.
+#[tactic(auto, using(crate::proofs::EachSlot::FullLemmas::sums_say_full))]
 pub fn sums_say_full()
     ensures { SumsSayFull }
 {}
 
 /// Isolate, where it is asked for, is kept exactly where every two suffixed slots with classes have different providers.
+#[tactic(auto, using(crate::proofs::EachSlot::ApartLemmas::isolate_says_apart))]
 pub fn isolate_says_apart()
     ensures { IsolateSaysApart }
 {}

@@ -42,6 +42,7 @@ impl<'a> Plain<'a> {
 
     /// Begins with the first candidate after the ids of a token, or with the first of all. It takes all its memory
     /// here; `next` takes none.
+    #[tactic(auto, unfolding(crate::specs::Pages::rest, crate::specs::Pages::candidates))]
     pub fn new(
         alloc: Global,
         cloud: &'a Cloud,
@@ -88,7 +89,6 @@ impl<'a> Plain<'a> {
     }
 
     // Goes on to the next candidate after the ids, where there is one.
-    #[tactic(auto, using(crate::proofs::Lists::ChosenLemmas::chosen_here, crate::proofs::Lists::ChosenLemmas::chosen_later, crate::proofs::Lists::ChosenLemmas::chosen_none))]
     fn step(&mut self) -> bool
         ensures { MatchBool result (left_of self.old ≡ list_of self.new.lists ∷ left_of self.new)
             ((left_of self.old ≡ []) × (left_of self.new ≡ [])) }

@@ -63,6 +63,7 @@ pub fn is_set_apart(query: &Query, s: usize) -> bool
 }
 
 /// Whether list `k` of `same_subtree` names the suffix of a slot.
+#[tactic(auto, using(crate::proofs::SlotLemmas::listed_at))]
 pub fn is_listed(query: &Query, k: usize, s: usize) -> bool
     requires list { k < length (asked_of query.now).subtrees }
     requires slot { s < length (slots_of (asked_of query.now)) }

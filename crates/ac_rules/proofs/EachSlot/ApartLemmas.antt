@@ -2,18 +2,17 @@
 use Rattle.std.proofs.Common.{inl, inr, ◌≡◌, ◌≢◌, ℕ, ◌<◌, zero, suc, Bool, true, List, [], ◌∷◌, length, slice_index_or, refl, arith}
 use Rattle.std.specs.List.{list_all}
 use Rattle.std.proofs.lemmas.Bool.{cases_Bool, and_parts, and_from, eq-eqb, ne_eqb, false≢true}
+use Rattle.std.proofs.lemmas.List.Elements.{All-get_or, All-from_get_or}
+use Rattle.std.proofs.lemmas.List.Sums.{AllPass-from_list_all, list_all-from_AllPass}
 use Rattle.ac_rules.specs.Placed.{Placed}
 use Rattle.ac_rules.specs.Together.{is_set_apart, are_apart, all_apart, isolate}
 use Rattle.ac_rules.specs.Laws.{StandApart, IsolateSaysApart}
 
 all_at : (f : Placed → Bool) (d : Placed) (xs : List Placed) (j : ℕ) → list_all f xs ≡ true → j < length xs → f (slice_index_or xs j d) ≡ true
-all_at f d [] j h k = absurd (omega arith)
-all_at f d (x ∷ xs) zero h k = (and_parts (f x) (list_all f xs) h).0
-all_at f d (x ∷ xs) (suc j) h k = all_at f d xs j (and_parts (f x) (list_all f xs) h).1 (omega arith)
+all_at f d xs j h k = All-get_or (λ x. f x ≡ true) xs j d k (AllPass-from_list_all f xs h)
 
 all_from : (f : Placed → Bool) (d : Placed) (xs : List Placed) → ((j : ℕ) → j < length xs → f (slice_index_or xs j d) ≡ true) → list_all f xs ≡ true
-all_from f d [] h = refl
-all_from f d (x ∷ xs) h = and_from (f x) (list_all f xs) (h zero (omega arith)) (all_from f d xs (λ j k. h (suc j) (omega arith)))
+all_from f d xs h = list_all-from_AllPass f xs (All-from_get_or (λ x. f x ≡ true) xs d h)
 
 differ : (x y : Placed) → are_apart x y ≡ true → is_set_apart x.slot ≡ true → is_set_apart y.slot ≡ true → x.provider ≢ y.provider
 unfolding are_apart

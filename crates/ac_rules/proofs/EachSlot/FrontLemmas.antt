@@ -4,6 +4,8 @@ use Rattle.std.specs.List.{list_all, list_any, range_with_len}
 use Rattle.std.proofs.lemmas.Bool.{cases_Bool, and_parts, and_from}
 use Rattle.std.proofs.lemmas.Bool.Decides.{nat_tests}
 use Rattle.std.proofs.lemmas.List.Folds.{list_all-append}
+use Rattle.std.proofs.lemmas.List.Elements.{All-weaker}
+use Rattle.std.proofs.lemmas.List.Sums.{AllPass-from_list_all, list_all-from_AllPass}
 use Rattle.ac_base.specs.Quantities.{InventoryNumbers}
 use Rattle.ac_query.specs.Asked.{Asked, slots_of, is_isolated}
 use Rattle.ac_cloud.specs.World.{Provider, provider_at, used_of, is_available_at}
@@ -20,10 +22,8 @@ all_front f xs ys h = (and_parts (list_all f xs) (list_all f ys) (sym (list_all-
 
 -- a weaker test
 pub all_weaker : {X : Type 0} (f g : X → Bool) → ((x : X) → f x ≡ true → g x ≡ true) → (xs : List X) → list_all f xs ≡ true → list_all g xs ≡ true
-all_weaker f g weaker [] h = refl
-all_weaker f g weaker (x ∷ xs) h =
-    let both = and_parts (f x) (list_all f xs) h in
-    and_from (g x) (list_all g xs) (weaker x both.0) (all_weaker f g weaker xs both.1)
+all_weaker f g weaker xs h =
+    list_all-from_AllPass g xs (All-weaker (λ x. f x ≡ true) (λ x. g x ≡ true) weaker xs (AllPass-from_list_all f xs h))
 
 pub any_weaker : {X : Type 0} (f g : X → Bool) → ((x : X) → f x ≡ true → g x ≡ true) → (xs : List X) → list_any f xs ≡ true → list_any g xs ≡ true
 any_weaker f g weaker [] h = h

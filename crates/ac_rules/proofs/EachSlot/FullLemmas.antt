@@ -30,20 +30,14 @@ pub full_from : (all : List Provider) (xs ys : List Placed) → list_all (λ x. 
 full_from all xs [] h p c k = absurd (omega arith)
 full_from all xs (y ∷ ys) h p c k =
     let both = and_parts (holds_sums all xs y) (list_all (λ x. holds_sums all xs x) ys) h in
-    elim (cases_eq y.provider p) [
-      | inl e ↦ elim (cases_lt 0 (amount_of y.slot.needs c)) [
-        | inl l ↦ subst (λ (q : ℕ). holds (provider_at all q) c (sum_on xs q c) ≡ true) e (slot_full all xs y c both.0 l)
-        | inr l ↦
-            let same = eq-eqb y.provider p e in
-            let more = rw same at k in
-            let less : 0 < sum_on ys p c = omega arith in
-            full_from all xs ys both.1 p c less
+    elim (cases_lt 0 (sum_on ys p c)) [
+      | inl l ↦ full_from all xs ys both.1 p c l
+      | inr g ↦ elim (cases_eq y.provider p) [
+        | inl e ↦
+            let more = rw (eq-eqb y.provider p e) at k in
+            subst (λ (q : ℕ). holds (provider_at all q) c (sum_on xs q c) ≡ true) e (slot_full all xs y c both.0 (omega arith))
+        | inr e ↦ let none = rw (ne_eqb y.provider p e) at k in absurd (omega arith)
       ]
-      | inr e ↦
-          let other = ne_eqb y.provider p e in
-          let more = rw other at k in
-          let less : 0 < sum_on ys p c = omega arith in
-          full_from all xs ys both.1 p c less
     ]
 
 needs_from : (all : List Provider) (xs : List Placed) (p : ℕ) → IsFull all xs → (needs : List (List ℕ × ℕ)) → AllByRecursion (λ need. 0 < need.1) needs

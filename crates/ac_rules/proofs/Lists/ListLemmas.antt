@@ -1,9 +1,9 @@
 -- All lists of numbers: each once, in order.
-use Rattle.std.proofs.Common.{◌≡◌, ℕ, ◌+◌, ◌<◌, ◌≤◌, zero, suc, Bool, true, List, [], ◌∷◌, ◌++◌, inl, inr, length, map, refl, ap, arith}
+use Rattle.std.proofs.Common.{◌≡◌, ℕ, ◌+◌, ◌<◌, ◌≤◌, zero, suc, Bool, true, List, [], ◌∷◌, ◌++◌, inl, inr, map, refl, ap, arith}
 use Rattle.std.specs.List.{flat_map, filter, range_with_len, AllByRecursion as Each}
 use Rattle.std.proofs.lemmas.Bool.{cases_Bool, cases_lt}
 use Rattle.std.proofs.lemmas.Bool.Decides.{nat_tests}
-use Rattle.std.proofs.lemmas.List.Elements.{All-from_recursion, recursion_from_All}
+use Rattle.std.proofs.lemmas.List.Elements.{All-nil, All-cons, All-head, All-tail}
 use Rattle.ac_rules.specs.Order.{lex_lt}
 use Rattle.ac_rules.specs.Lists.{all_lists, IsListBelow, IsRising}
 use Rattle.ac_rules.proofs.Elements.{Among, each_append, each_map, each_weaker, each_all, among_map, among_flat_map, each_filter}
@@ -68,21 +68,16 @@ pub among_range : (a m p : ℕ) → a ≤ p → p < a + m → Among (range_with_
 among_range a zero p h k = absurd (omega arith)
 among_range a (suc m) p h k = elim (cases_lt a p) [ inl l ↦ inr (among_range (a + 1) m p (omega arith) (omega arith)) | inr g ↦ inl (omega arith) ]
 
-among_lists : (n k : ℕ) (t : List ℕ) → length t ≡ k → Each (λ p. p < n) t → Among (all_lists n k) t
-among_lists n zero [] e h = inl refl
-among_lists n zero (p ∷ t) e h = absurd (omega arith)
-among_lists n (suc k) [] e h = absurd (omega arith)
-among_lists n (suc k) (p ∷ t) e h =
-    among_flat_map (λ p. map (λ t. p ∷ t) (all_lists n k)) (range_with_len 0 n) p (p ∷ t)
-    (among_range 0 n p (omega arith) (let b : p < n = h.0 in omega arith))
-    (among_map (λ t. p ∷ t) (all_lists n k) t (among_lists n k t (omega arith) h.1))
-
 -- each list of k numbers below n is there
 pub among_all_lists : (n k : ℕ) (t : List ℕ) → IsListBelow n k t → Among (all_lists n k) t
-among_all_lists n k t h = among_lists n k t h.long (recursion_from_All (λ p. p < n) t h.below)
-
-abbrev IsBelow : ℕ → ℕ → List ℕ → Type 0
-IsBelow n k t = (length t ≡ k) × Each (λ p. p < n) t
+among_all_lists n zero [] h = inl refl
+among_all_lists n zero (p ∷ t) h = absurd (omega arith)
+among_all_lists n (suc k) [] h = absurd (omega arith)
+among_all_lists n (suc k) (p ∷ t) h =
+    among_flat_map (λ p. map (λ t. p ∷ t) (all_lists n k)) (range_with_len 0 n) p (p ∷ t)
+    (among_range 0 n p (omega arith) (let b : p < n = All-head (λ p. p < n) p t h.below in omega arith))
+    (among_map (λ t. p ∷ t) (all_lists n k) t
+    (among_all_lists n k t (record { long = omega arith; below = All-tail (λ p. p < n) p t h.below })))
 
 pub each_under : (P : List ℕ → Type 0) (ls : List (List ℕ)) (a m n : ℕ) → a + m ≤ n → ((p : ℕ) → p < n → Each (λ t. P (p ∷ t)) ls)
     → Each P (under ls (range_with_len a m))
@@ -91,12 +86,9 @@ each_under P ls a (suc m) n h f = each_append P (map (λ t. a ∷ t) ls) (under 
     (each_map P (λ t. a ∷ t) ls (f a (omega arith)))
     (each_under P ls (a + 1) m n (omega arith) f)
 
-each_list : (n k : ℕ) → Each (IsBelow n k) (all_lists n k)
-each_list n zero = ((refl, tt), tt)
-each_list n (suc k) = each_under (IsBelow n (suc k)) (all_lists n k) 0 n n (omega arith)
-    (λ p b. each_weaker (IsBelow n k) (λ t. IsBelow n (suc k) (p ∷ t)) (all_lists n k) (λ t h. (ap suc h.0, (b, h.1))) (each_list n k))
-
 -- and nothing else
 pub each_all_lists : (n k : ℕ) → Each (IsListBelow n k) (all_lists n k)
-each_all_lists n k = each_weaker (IsBelow n k) (IsListBelow n k) (all_lists n k)
-    (λ t h. record { long = h.0; below = All-from_recursion (λ p. p < n) t h.1 }) (each_list n k)
+each_all_lists n zero = (record { long = refl; below = All-nil (λ p. p < n) }, tt)
+each_all_lists n (suc k) = each_under (IsListBelow n (suc k)) (all_lists n k) 0 n n (omega arith)
+    (λ p b. each_weaker (IsListBelow n k) (λ t. IsListBelow n (suc k) (p ∷ t)) (all_lists n k)
+    (λ t h. record { long = ap suc h.long; below = All-cons (λ p. p < n) p t b h.below }) (each_all_lists n k))

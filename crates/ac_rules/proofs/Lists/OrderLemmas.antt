@@ -1,9 +1,8 @@
 -- The order of lists is strict and total.
-use Rattle.std.proofs.Common.{drop, length, nat_lt, length-drop, ◌≤◌, ◌≡◌, ℕ, ◌<◌, true, false, List, [], ◌∷◌, map, refl, sym, ap, ◌∙◌, arith, inl, inr}
+use Rattle.std.proofs.Common.{◌≡◌, ℕ, ◌<◌, true, false, List, [], ◌∷◌, map, refl, sym, ap, ◌∙◌, arith, inl, inr}
 use Rattle.std.specs.List.{AllByRecursion as Each}
 use Rattle.std.proofs.lemmas.Bool.{cases_order, false_from_ne_true, false≢true}
 use Rattle.std.proofs.lemmas.Bool.Decides.{nat_tests}
-use Rattle.std.proofs.lemmas.List.{drop_all}
 use Rattle.ac_rules.specs.Order.{lex_lt}
 
 pub lex_irrefl : (xs : List ℕ) → lex_lt xs xs ≡ false
@@ -49,16 +48,3 @@ lex_map f n rises (x ∷ xs) (y ∷ ys) h k =
         | inr g ↦ let less = rises y x g below in grind (arith, nat_tests)
       ]
     ]
-
-before_any : (f : ℕ → ℕ) (ys : List ℕ) → lex_lt [] (map f ys) ≡ nat_lt 0 (length ys)
-before_any f [] = refl
-before_any f (y ∷ ys) = grind (arith, nat_tests)
-
--- where the first list ends, the longer one is after it
-pub lex_end : (f : ℕ → ℕ) (xs ys : List ℕ) (i : ℕ) → length xs ≤ i → i ≤ length xs → i ≤ length ys
-    → nat_lt (length xs) (length ys) ≡ lex_lt (drop i xs) (map f (drop i ys))
-lex_end f xs ys i past h k =
-    let size = length-drop i ys in
-    let first : lex_lt [] (map f (drop i ys)) ≡ nat_lt 0 (length (drop i ys)) = before_any f (drop i ys) in
-    let test : nat_lt (length xs) (length ys) ≡ nat_lt 0 (length (drop i ys)) = grind (arith, nat_tests) in
-    rw (drop_all i xs past) (test ∙ sym first)

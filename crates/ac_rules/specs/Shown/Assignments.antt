@@ -1,5 +1,5 @@
 -- What slots with providers show.
-use Rattle.std.specs.Prelude.{ℕ, List, map, drop}
+use Rattle.std.specs.Prelude.{List, map, drop}
 use Rattle.ac_query.specs.Asked.{slots_of}
 use Rattle.ac_query.specs.Shown.Queries.{asked_of}
 use Rattle.ac_cloud.specs.World.{Provider}

@@ -16,7 +16,7 @@ abbrev pub after_of : Plain → Option (List ℕ)
 after_of p = option_map (λ ids. ids.items) p.after
 
 -- of some lists, the candidates after a list of ids
-unfoldable pub chosen : List Provider → Asked → Option (List ℕ) → List (List ℕ) → List (List ℕ)
+abbrev pub chosen : List Provider → Asked → Option (List ℕ) → List (List ℕ) → List (List ℕ)
 chosen all asked x ts = filter (λ t. is_after all x t) (filter (λ t. is_candidate all asked t) ts)
 
 -- the candidates after them among the lists that are still to come

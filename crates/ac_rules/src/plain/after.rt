@@ -14,14 +14,12 @@ pub(crate) fn is_after(cloud: &Cloud, ids: &[Id], list: &[u32]) -> bool
     requires { All (λ p. p < length (providers_of cloud.now)) list.now }
     ensures { result ≡ lex_lt ids.now (ids_of (providers_of cloud.now) list.now) }
 {
-    for (i, id) in ids.iter().enumerate() {
-        if i == list.len() {
-            return false;
-        }
-        let other = cloud.id(list[i]);
-        if *id != other {
-            return *id < other;
+    match (ids.split_first(), list.split_first()) {
+        (_, None) => false,
+        (None, Some(_)) => true,
+        (Some((id, ids)), Some((ix, list))) => {
+            let other = cloud.id(*ix);
+            *id < other || (*id == other && is_after(cloud, ids, list))
         }
     }
-    ids.len() < list.len()
 }

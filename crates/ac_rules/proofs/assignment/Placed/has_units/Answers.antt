@@ -1,12 +1,9 @@
 use Rattle.std.proofs.Common.{rules}
-use Rattle.std.proofs.lemmas.Iterator.{YieldsList-from_slice}
 use Rattle.ac_query.specs.Shown.Groups.{need_entry}
 use Rattle.ac_rules.specs.Own.{units_fit}
-use Rattle.ac_rules.proofs.ChainLemmas.{all_shown}
+use Rattle.ac_rules.proofs.ChainLemmas.{all_items}
 use Rattle.ac_rules.proofs.assignment.Placed.has_units.Goals as goal
 
 pub returns : goal.returns
 unfolding units_fit
-returns c = rw (← c.needs_at.ensures) (all_shown need_entry _ _ _ _ c.all.ensures.ran
-    (YieldsList-from_slice _ c.iter.ensures.rest)
-    (λ x b q k. search rules))
+returns c = rw (← c.needs_at.ensures) (all_items need_entry _ _ _ _ _ c.all.ensures.ran c.iter.ensures.rest (λ x b q k. search rules))
