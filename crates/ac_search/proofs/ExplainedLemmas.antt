@@ -10,12 +10,12 @@ use Rattle.std.proofs.lemmas.List.Folds.{list_all_more}
 use Rattle.std.proofs.lemmas.List.FromFn.{get_or-map-range_with_len, length-map-range_with_len, length-range_with_len}
 use Rattle.ac_query.specs.Asked.{Asked, Slot, slots_of}
 use Rattle.ac_cloud.specs.World.{Provider}
-use Rattle.ac_search.specs.Ahead.{load_of, hosts_of, serves, IsHosted}
+use Rattle.ac_prune.specs.Ahead.{load_of, hosts_of, serves, IsHosted}
 use Rattle.ac_search.specs.Explained.{count_below, in_slot, is_served, meets_room, meets_tree, tree_counts}
 use Rattle.ac_search.specs.Laws.{NoneWithoutRoots}
-use Rattle.ac_search.specs.QuerySearch.{fits, has_room_alone}
+use Rattle.ac_prune.specs.QuerySearch.{fits, has_room_alone}
 use Rattle.ac_search.specs.Shown.Explained.{marked, served, served_roots}
-use Rattle.ac_search.specs.Loads.{AreLimited}
+use Rattle.ac_prune.specs.Loads.{AreLimited}
 use Rattle.ac_rules.specs.Judge.{is_candidate}
 use Rattle.ac_rules.specs.Lists.{IsListBelow, all_lists}
 use Rattle.ac_rules.specs.Pages.{candidates}
@@ -24,11 +24,11 @@ use Rattle.ac_rules.specs.Together.{amount_of, sum_on, takes_root, hosts_all, an
 use Rattle.ac_rules.proofs.EachSlot.AnchorLemmas.{each_range}
 use Rattle.ac_rules.proofs.Elements.{Among, each_weaker, filter_none}
 use Rattle.ac_rules.proofs.Lists.ListLemmas.{each_all_lists}
-use Rattle.ac_search.proofs.Paths.BearLemmas.{each_serves}
-use Rattle.ac_search.proofs.Roots.HostLemmas.{behind_hosts, candidate_open, candidate_parts}
-use Rattle.ac_search.proofs.Roots.TreeLemmas.{or_left, or_right}
-use Rattle.ac_search.proofs.Search.OpenLemmas.{amounts_among, choice_more, filter_few, room_each}
-use Rattle.ac_search.proofs.Roots.RootLemmas.{any_within, hosts_low, served_fits}
+use Rattle.ac_prune.proofs.Paths.BearLemmas.{each_serves}
+use Rattle.ac_prune.proofs.Roots.HostLemmas.{behind_hosts, candidate_open, candidate_parts}
+use Rattle.ac_prune.proofs.Roots.TreeLemmas.{or_left, or_right}
+use Rattle.ac_prune.proofs.Search.OpenLemmas.{amounts_among, choice_more, filter_few, room_each}
+use Rattle.ac_prune.proofs.Roots.RootLemmas.{any_within, hosts_low, served_fits}
 
 -- one more place
 pub counted : (test : ℕ → Bool) (n count : ℕ) (b : Bool) → count ≡ count_below n test → test n ≡ b → cond b (count + 1) count ≡ count_below (n + 1) test

@@ -1,6 +1,4 @@
 pub mod Search
-pub mod Roots
-pub mod Paths
 pub mod Steps
 pub mod ExplainedLemmas
 mod Literals

@@ -1,7 +1,6 @@
 -- What a search looks for, and from where on.
 pub mod FrontOrder
+pub mod BoundLemmas
 pub mod ShorterLemmas
-pub mod SoughtLemmas
-pub mod OpenLemmas
 pub mod LeastLemmas
 pub mod IdsLemmas

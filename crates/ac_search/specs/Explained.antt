@@ -6,8 +6,8 @@ use Rattle.ac_cloud.specs.World.{Provider, id_at, is_root}
 use Rattle.ac_rules.specs.Placed.{Placed}
 use Rattle.ac_rules.specs.Own.{units_fit, traits_fit, aggregates_fit, tree_fits}
 use Rattle.ac_rules.specs.Together.{takes_root}
-use Rattle.ac_search.specs.QuerySearch.{has_room_alone}
-use Rattle.ac_search.specs.Ahead.{hosts_of}
+use Rattle.ac_prune.specs.QuerySearch.{has_room_alone}
+use Rattle.ac_prune.specs.Ahead.{hosts_of}
 
 -- ---- What a slot's provider is asked, one after another
 

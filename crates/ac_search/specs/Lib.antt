@@ -1,12 +1,5 @@
 pub mod Shown
-pub mod Left
-pub mod Marks
-pub mod Trees
 pub mod Search
-pub mod QuerySearch
-pub mod Ahead
-pub mod Loads
+pub mod Between
 pub mod Explained
-pub mod Parts
-pub mod Families
 pub mod Laws

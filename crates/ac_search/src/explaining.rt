@@ -10,13 +10,11 @@ ghost use Rattle.ac_query.specs.Shown.Queries.{asked_of};
 ghost use Rattle.ac_rules.specs.Placed.{placed_at, slot_at};
 ghost use Rattle.ac_rules.specs.Together.{holds};
 ghost use Rattle.ac_search.specs.Explained.{count_of, meets_room, slot_counts, tree_counts};
-ghost use Rattle.ac_search.specs.QuerySearch.{has_room_alone};
+ghost use Rattle.ac_prune.specs.QuerySearch.{has_room_alone};
 ghost use Rattle.ac_search.specs.Shown.Explained.{marked, served, served_roots, slot_counted, trees_counted};
 
-use crate::hosts::limit;
-use crate::ledger::marks::taken_roots;
-use crate::open::fits_slot;
 use ac_base::NoMemory;
+use ac_prune::{fits_slot, limit, taken_roots};
 use ac_query::{Need, Query};
 use ac_rules::Placed;
 use ac_rules::rules::sums::room_at;
@@ -63,7 +61,7 @@ fn has_room_of(cloud: &Cloud, ix: u32, need: &Need) -> bool
 }
 
 // Whether a provider has room for what a slot alone asks.
-#[tactic(auto, unfolding(crate::specs::QuerySearch::has_room_alone))]
+#[tactic(auto, unfolding(ac_prune::specs::QuerySearch::has_room_alone))]
 fn has_room_alone(cloud: &Cloud, query: &Query, s: usize, ix: u32) -> bool
     requires slot { s < length (slots_of (asked_of query.now)) }
     requires provider { ix < length (providers_of cloud.now) }
@@ -127,7 +125,7 @@ pub fn slot_counts(cloud: &Cloud, query: &Query, s: usize) -> SlotCounts
 }
 
 // Whether a provider meets all that a slot asks, room included.
-#[tactic(auto, unfolding(crate::specs::QuerySearch::fits))]
+#[tactic(auto, unfolding(ac_prune::specs::QuerySearch::fits))]
 fn serves(cloud: &Cloud, query: &Query, s: usize, ix: u32) -> bool
     requires slot { s < length (slots_of (asked_of query.now)) }
     requires provider { ix < length (providers_of cloud.now) }

@@ -4,7 +4,7 @@ ghost use Rattle.std.specs.Prelude.{◌≡◌, ◌<◌, ◌≤◌, IfOk, length,
 ghost use Rattle.std.specs.Option.{option_map};
 ghost use Rattle.ac_cloud.specs.Cloud.CloudWorld.{providers_of};
 ghost use Rattle.ac_query.specs.Tokens as tokens;
-ghost use Rattle.ac_search.specs.QuerySearch.{rank_of, least_after, least_of};
+ghost use Rattle.ac_search.specs.Between.{rank_of, least_after, least_of};
 
 use ac_base::{Id, NoMemory};
 use ac_query::Token;

@@ -5,16 +5,9 @@
 //! `ac_rules`, handed on.
 #![tactic(auto)]
 
-mod ahead;
-mod choices;
 mod explaining;
-mod families;
-mod hosts;
 pub mod laws;
 mod least;
-mod ledger;
-mod open;
-mod trees;
 pub mod walk;
 
 pub use ac_rules::{Plain, Rule, Source, Verdict, verify};

@@ -6,25 +6,19 @@ ghost use Rattle.ac_cloud.specs.Cloud.CloudWorld.{providers_of};
 ghost use Rattle.ac_query.specs.Asked.{slots_of};
 ghost use Rattle.ac_query.specs.Shown.Queries.{asked_of};
 ghost use Rattle.ac_query.specs.Tokens as tokens;
-ghost use Rattle.ac_search.specs.Left.Accounts.{providers_in, asked_in, Accounts};
+ghost use Rattle.ac_prune.specs.Left.Accounts.{providers_in, asked_in, Accounts};
 ghost use Rattle.ac_rules.specs.Pages.{rest};
 ghost use Rattle.ac_search.specs.Search.{IsSound};
-ghost use Rattle.ac_search.specs.QuerySearch.{choices_of, search_of, least_of};
-ghost use Rattle.ac_search.specs.Trees.{AreByTree, HasProviders};
-ghost use Rattle.ac_search.specs.Ahead.{AreRoots};
-ghost use Rattle.ac_search.specs.Families.{AreFamilies};
+ghost use Rattle.ac_prune.specs.QuerySearch.{choices_of, search_of};
+ghost use Rattle.ac_search.specs.Between.{least_of};
+ghost use Rattle.ac_prune.specs.Tests.{AreTests, AreTests-prop};
 
 mod passing;
 mod trying;
 
-use crate::ahead::Ahead;
-use crate::choices::all_choices;
-use crate::families::Family;
-use crate::hosts::host_roots;
 use crate::least::least_of;
-use crate::ledger::Ledger;
-use crate::trees::ByTree;
 use ac_base::{Id, NoMemory};
+use ac_prune::{Ledger, Lookout, all_choices};
 use ac_query::{Query, Token};
 use ac_rules::slots::count_slots;
 use ac_rules::source::Source;
@@ -53,14 +47,8 @@ pub struct Walk<'a> {
     least: Vec<u32>,
     // The providers that each slot may have by its own rules.
     choices: Vec<Vec<u32>>,
-    // The same by tree.
-    trees: Vec<ByTree>,
-    // The roots that may host a candidate.
-    hosts: Vec<bool>,
-    // The lists of `same_subtree`.
-    families: Vec<Family>,
-    // What a tree has left for later slots is looked at by this.
-    ahead: Ahead,
+    // The tests by which it looks ahead.
+    lookout: Lookout,
     // The providers so far, as many as the depth says, and where each stands among the choices of its slot.
     path: Vec<u32>,
     places: Vec<usize>,
@@ -70,10 +58,7 @@ pub struct Walk<'a> {
     probes: u64,
     ghost resumed: { least.items ≡ least_of (providers_in ledger) (length (slots_of (asked_in ledger))) (option_map (λ ids. ids.items) after) },
     ghost listed: { map (λ v. v.items) choices.items ≡ choices_of (providers_in ledger) (asked_in ledger) },
-    ghost by_tree: { AreByTree (providers_in ledger) (choices_of (providers_in ledger) (asked_in ledger)) trees.items },
-    ghost hosting: { AreRoots (providers_in ledger) (asked_in ledger) hosts.items },
-    ghost grouped: { AreFamilies (providers_in ledger) (asked_in ledger) families.items },
-    ghost looking: { HasProviders (providers_in ledger) ahead },
+    ghost looking: { AreTests (providers_in ledger) (asked_in ledger) lookout } by { AreTests-prop (providers_in ledger) (asked_in ledger) lookout },
     ghost sound: { IsSound (search_of (providers_in ledger) (asked_in ledger)) least.items path.items places.items depth seeking probes },
     ghost accounted: { Accounts ledger (take depth path.items) },
 }
@@ -105,10 +90,7 @@ impl<'a> Walk<'a> {
         let after = ids_of(alloc, after)?;
         let ledger = Ledger::new(alloc, cloud, query)?;
         let choices = all_choices(alloc, &ledger)?;
-        let trees = ByTree::of_slots(alloc, cloud, &choices)?;
-        let hosts = host_roots(alloc, &ledger, &choices)?;
-        let families = Family::of_query(alloc, &ledger, &choices)?;
-        let ahead = Ahead::new(alloc, &ledger)?;
+        let lookout = Lookout::new(alloc, &ledger, &choices)?;
         let path = vec![in alloc; 0u32; width]?;
         let mut places = vec![in alloc; 0usize; width]?;
         places[0] = start_of(&choices[0], &least, 0);
@@ -117,10 +99,7 @@ impl<'a> Walk<'a> {
             after,
             least,
             choices,
-            trees,
-            hosts,
-            families,
-            ahead,
+            lookout,
             path,
             places,
             depth: 0,

@@ -8,7 +8,8 @@ use Rattle.ac_rules.specs.Order.{lex_lt}
 use Rattle.ac_rules.specs.Judge.{is_open}
 use Rattle.ac_rules.specs.Laws.{AreInOrder}
 use Rattle.ac_search.specs.Search.{below, is_up_to, is_between, between}
-use Rattle.ac_search.specs.QuerySearch.{search_of, least_of, is_from, open_between}
+use Rattle.ac_prune.specs.QuerySearch.{search_of}
+use Rattle.ac_search.specs.Between.{least_of, is_from, open_between}
 use Rattle.ac_rules.proofs.Elements.{each_append}
 use Rattle.ac_rules.proofs.EachSlot.AnchorLemmas.{each_range}
 use Rattle.ac_search.proofs.Search.LeastLemmas.{before_least, cut_nil}

@@ -7,13 +7,14 @@ use Rattle.ac_cloud.specs.World.{Provider, id_at}
 use Rattle.ac_rules.specs.Order.{lex_lt}
 use Rattle.ac_rules.specs.Pages.{ids_of}
 use Rattle.ac_rules.specs.Laws.{AreInOrder}
-use Rattle.ac_search.specs.QuerySearch.{rank_of, is_known, least_after}
+use Rattle.ac_search.specs.Between.{rank_of, is_known, least_after}
 use Rattle.ac_rules.proofs.Lists.OrderLemmas.{lex_nil}
 use Rattle.ac_rules.proofs.Elements.{filter_agree, each_weaker}
 use Rattle.ac_rules.proofs.Lists.RestLemmas.{IsChosen, each_candidate}
-use Rattle.ac_search.specs.Search.{sought}
+use Rattle.ac_prune.specs.Search.{sought}
 use Rattle.ac_rules.specs.Pages.{is_after, candidates, rest}
-use Rattle.ac_search.specs.QuerySearch.{least_of, search_of}
+use Rattle.ac_prune.specs.QuerySearch.{search_of}
+use Rattle.ac_search.specs.Between.{least_of}
 use Rattle.ac_query.specs.Asked.{Asked, slots_of}
 use Rattle.std.proofs.lemmas.List.Elements.{recursion_from_All}
 use Rattle.std.proofs.Common.{Option, Some, None}

@@ -4,11 +4,12 @@ use Rattle.std.specs.List.{filter}
 use Rattle.std.proofs.lemmas.Bool.{cases_lt, false≢true}
 use Rattle.std.proofs.lemmas.Bool.Decides.{nat_tests}
 use Rattle.std.proofs.Math.Nat.{mul-le-mul_left}
-use Rattle.ac_search.specs.Search.{Search, all_shorter, sought, choices_at, next_at, next_front, from, left_from, is_met, met, least_at, IsStart, Enters, IsSound}
+use Rattle.ac_prune.specs.Search.{Search, sought, choices_at, next_at}
+use Rattle.ac_search.specs.Search.{all_shorter, next_front, from, left_from, is_met, met, least_at, IsStart, Enters, IsSound}
 use Rattle.ac_rules.proofs.Elements.{each_all, each_both, each_weaker, filter_all, count_more}
 use Rattle.ac_search.proofs.Search.FrontOrder.{lex_one}
 use Rattle.ac_search.proofs.Search.ShorterLemmas.{among_all_shorter}
-use Rattle.ac_search.proofs.Search.SoughtLemmas.{IsSearch, IsSought, each_sought}
+use Rattle.ac_prune.proofs.Search.SoughtLemmas.{IsSearch, IsSought, each_sought}
 use Rattle.ac_search.proofs.Steps.EntryLemmas.{enter_seeking_at}
 use Rattle.ac_search.proofs.Steps.MoveLemmas.{behind_none}
 

@@ -4,11 +4,12 @@ use Rattle.std.specs.List.{filter}
 use Rattle.std.proofs.lemmas.Bool.{and_parts, and_from, not_from_false, not-true, false_from_ne_true, false≢true}
 use Rattle.std.proofs.lemmas.List.{take-append-le}
 use Rattle.ac_rules.specs.Order.{lex_lt}
-use Rattle.ac_search.specs.Search.{Search, all_shorter, is_up_to, is_between, between, is_met, met}
+use Rattle.ac_prune.specs.Search.{Search}
+use Rattle.ac_search.specs.Search.{all_shorter, is_up_to, is_between, between, is_met, met}
 use Rattle.ac_rules.proofs.Elements.{each_weaker, count_less}
 use Rattle.ac_search.proofs.Search.FrontOrder.{lex_low_more, lex_high_more, lex_cut}
 use Rattle.ac_search.proofs.Search.ShorterLemmas.{each_all_shorter, length-below}
-use Rattle.ac_search.proofs.Search.SoughtLemmas.{IsSearch}
+use Rattle.ac_prune.proofs.Search.SoughtLemmas.{IsSearch}
 
 low_front : (x q w : List ℕ) → not (lex_lt (q ++ w) (take (length (q ++ w)) x)) ≡ true → not (lex_lt q (take (length q) x)) ≡ true
 low_front x q w h = not_from_false _ (false_from_ne_true _ (λ e. false≢true (sym (not-true _ h) ∙ lex_low_more x q w e)))

@@ -11,8 +11,9 @@ use Rattle.ac_query.specs.Shown.Queries.{asked_of}
 use Rattle.ac_cloud.specs.Cloud.CloudWorld.{providers_of}
 use Rattle.ac_cloud.proofs.InOrder.{cloud_in_order}
 use Rattle.ac_rules.specs.Order.{lex_lt}
-use Rattle.ac_search.specs.Search.{Search, all_shorter, choices_at, next_at, from, between}
-use Rattle.ac_search.specs.QuerySearch.{open_between}
+use Rattle.ac_prune.specs.Search.{Search, choices_at, next_at}
+use Rattle.ac_search.specs.Search.{all_shorter, from, between}
+use Rattle.ac_search.specs.Between.{open_between}
 use Rattle.ac_search.specs.Shown.Walk.{cloud_in, query_in, token_in, given_in, changed, search_in, front_in, left_of, IsSame, Tries}
 use Rattle.ac_search.specs.Search.Steps.{IsTried, Goes, Gives, Ends, IsBounded, Advances, Finishes}
 use Rattle.ac_search.specs.declared.walk.Walk.{Walk}
@@ -20,7 +21,7 @@ use Rattle.ac_rules.proofs.Elements.{each_append, each_weaker, each_all, count_m
 use Rattle.ac_rules.proofs.Lists.OrderLemmas.{lex_irrefl, lex_trans}
 use Rattle.ac_search.proofs.Search.ShorterLemmas.{among_all_shorter}
 use Rattle.ac_search.proofs.Search.IdsLemmas.{between_by_ids}
-use Rattle.ac_search.proofs.Search.SoughtLemmas.{low_at}
+use Rattle.ac_prune.proofs.Search.SoughtLemmas.{low_at}
 use Rattle.ac_search.proofs.Steps.ChangeLemmas.{differing_front}
 use Rattle.ac_search.proofs.Steps.MoveLemmas.{path_low}
 use Rattle.ac_search.proofs.Steps.StepLemmas.{laws_in, search_same, same_then, bounded_then, rises_later}

@@ -5,11 +5,12 @@ use Rattle.std.proofs.lemmas.Bool.{cases_lt, lt-ltb, le-ltb, false≢true}
 use Rattle.std.proofs.lemmas.Bool.Decides.{nat_tests}
 use Rattle.std.proofs.lemmas.List.{get_or_default, take_at}
 use Rattle.ac_rules.specs.Order.{lex_lt}
-use Rattle.ac_search.specs.Search.{Search, sought, choices_at, next_at, least_at, IsStart, Enters}
+use Rattle.ac_prune.specs.Search.{Search, sought, choices_at, next_at}
+use Rattle.ac_search.specs.Search.{least_at, IsStart, Enters}
 use Rattle.ac_rules.proofs.Elements.{each_weaker}
 use Rattle.ac_rules.proofs.Lists.OrderLemmas.{lex_asym, lex_trans}
 use Rattle.ac_search.proofs.Search.FrontOrder.{lex_append, lex_one, lex_longer, lex_cut_after}
-use Rattle.ac_search.proofs.Search.SoughtLemmas.{IsSearch, IsSought, each_sought, choice_in, least_from}
+use Rattle.ac_prune.proofs.Search.SoughtLemmas.{IsSearch, IsSought, each_sought, choice_in, least_from}
 
 -- no candidate after x goes on from q by a choice before the start
 least_of : (m : Search) → IsSearch m → (x q : List ℕ) (j v : ℕ) → length q < m.width → IsStart (choices_at m (length q)) v j → ((t s : List ℕ) (r : ℕ) → IsSought m x t → t ≡ q ++ r ∷ s → v ≤ r) → Each (λ t. (r : ℕ) (s : List ℕ) → t ≡ q ++ r ∷ s → next_at m (length q) j ≤ r) (sought m x)

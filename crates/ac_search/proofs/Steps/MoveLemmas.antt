@@ -6,13 +6,14 @@ use Rattle.std.proofs.lemmas.Bool.Decides.{nat_tests}
 use Rattle.std.proofs.lemmas.List.{take-set, take_more, get_or_past}
 use Rattle.std.proofs.Math.Nat.{mul-le-mul_left}
 use Rattle.ac_rules.specs.Order.{lex_lt}
-use Rattle.ac_search.specs.Search.{Search, all_shorter, sought, choices_at, next_at, next_front, left_from, is_met, met, behind, IsSound, Enters}
+use Rattle.ac_prune.specs.Search.{Search, sought, choices_at, next_at}
+use Rattle.ac_search.specs.Search.{all_shorter, next_front, left_from, is_met, met, behind, IsSound, Enters}
 use Rattle.ac_rules.proofs.Elements.{Among, each_weaker, each_all, each_both, each_append, count_less, count_more}
 use Rattle.ac_rules.proofs.Lists.OrderLemmas.{lex_asym, lex_trans, lex_irrefl}
 use Rattle.ac_search.proofs.Search.FrontOrder.{lex_append, lex_one, lex_longer, lex_le_trans, lex_uncut, lex_cut_after}
 use Rattle.ac_search.proofs.Search.ShorterLemmas.{among_all_shorter}
-use Rattle.ac_search.proofs.Roots.BoundLemmas.{skip_left, push_left, pop_left, after_left, head_from}
-use Rattle.ac_search.proofs.Search.SoughtLemmas.{IsSearch, IsSought, each_sought, rising_sought, among_sought, low_at, choice_in, next_above, next_least}
+use Rattle.ac_search.proofs.Search.BoundLemmas.{skip_left, push_left, pop_left, after_left, head_from}
+use Rattle.ac_prune.proofs.Search.SoughtLemmas.{IsSearch, IsSought, each_sought, rising_sought, among_sought, low_at, choice_in, next_above, next_least}
 
 -- a walk that goes up has met at least as much
 pub met_up : (m : Search) (x c d : List ℕ) → lex_lt c d ≡ true → met m x c ≤ met m x d

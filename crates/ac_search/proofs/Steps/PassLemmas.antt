@@ -1,19 +1,14 @@
 -- A walk passes over choices that lead to nothing: nothing that is left is lost.
-use Rattle.std.proofs.Common.{◌≡◌, ℕ, ◌+◌, ◌<◌, ◌≤◌, ◌-◌, zero, suc, Bool, true, false, List, [], ◌∷◌, ◌++◌, length, take, set, inl, inr, Option, None, Some, refl, sym, ap, ◌∙◌, subst, arith, get_or, get_or-set_same, slice_index_or, append_assoc, length-append, length-take-le}
+use Rattle.std.proofs.Common.{◌≡◌, ℕ, ◌+◌, ◌<◌, ◌≤◌, ◌-◌, zero, suc, Bool, true, false, List, [], ◌∷◌, ◌++◌, length, take, set, Option, None, Some, refl, sym, ap, ◌∙◌, subst, arith, get_or-set_same, slice_index_or}
 use Rattle.std.specs.List.{slice_index}
-use Rattle.std.specs.Global.{Vec}
-use Rattle.std.proofs.lemmas.Bool.{cases_order, false_from_ne_true, false≢true}
+use Rattle.std.proofs.lemmas.Bool.{false_from_ne_true, false≢true}
 use Rattle.std.proofs.lemmas.List.{set-set, get_or_default}
-use Rattle.ac_cloud.specs.World.{Provider, is_available_at, anchors_of}
-use Rattle.ac_search.specs.Left.Accounts.{providers_in, asked_in}
-use Rattle.ac_search.specs.Trees.Keys.{is_there}
-use Rattle.ac_search.specs.Trees.{IsByTree}
-use Rattle.ac_search.specs.Families.{IsFamily, choices_here}
-use Rattle.ac_search.specs.declared.trees.ByTree.{ByTree}
-use Rattle.ac_search.specs.declared.families.Family.{Family}
+use Rattle.ac_prune.specs.Left.Accounts.{providers_in}
+use Rattle.ac_prune.specs.Fronts.{LeadsNowhere, LeadNowhere}
+use Rattle.ac_prune.specs.declared.front.Front.{Front}
 use Rattle.ac_rules.specs.Order.{lex_lt}
-use Rattle.ac_rules.specs.Lists.{IsListBelow}
-use Rattle.ac_search.specs.Search.{Search, choices_at, next_at, next_front, left_from, IsDead, AllDead, IsSound}
+use Rattle.ac_prune.specs.Search.{Search, choices_at, next_at, IsDead, AllDead}
+use Rattle.ac_search.specs.Search.{next_front, left_from, IsSound}
 use Rattle.ac_search.specs.Shown.Walk.{search_in, front_in}
 use Rattle.ac_search.specs.Search.Steps.{IsTried, Passes, StepGives, Goes, Gives, Ends}
 use Rattle.ac_search.specs.declared.walk.Walk.{Walk}
@@ -21,12 +16,10 @@ use Rattle.ac_search.specs.declared.walk.Step.{Step}
 use Rattle.ac_search.specs.declared.walk.Step.TheVariants.{Given, Went, Ended}
 use Rattle.ac_rules.proofs.Lists.OrderLemmas.{lex_trans}
 use Rattle.ac_search.proofs.Search.FrontOrder.{lex_le_trans}
-use Rattle.ac_search.proofs.Search.SoughtLemmas.{IsSearch, low_at}
+use Rattle.ac_prune.proofs.Search.SoughtLemmas.{IsSearch, low_at}
 use Rattle.ac_search.proofs.Steps.MoveLemmas.{sound_next, forward_next}
-use Rattle.ac_search.proofs.Steps.TryLemmas.{left_dead, closed_dead}
-use Rattle.ac_search.proofs.Roots.KeptLemmas.{kept_choices}
+use Rattle.ac_search.proofs.Steps.TryLemmas.{left_dead}
 use Rattle.ac_search.proofs.Steps.StepLemmas.{laws_in, same_then, bounded_then, tried_on, rises_later}
-use Rattle.ac_search.proofs.Roots.TreeLemmas.{elsewhere_closed}
 
 -- at place j of depth d it stands as it stood
 pub record StandsAt (m : Search) (x path places : List ℕ) (d j probes : ℕ) : Type 0 where
@@ -108,88 +101,35 @@ step_passed Given w u v a b = gives_passed w u v a b
 step_passed Went w u v a b = goes_passed w u v a b
 step_passed Ended w u v a b = ends_passed w u v a b
 
--- ---- Choices that are read
+-- ---- A front of the tests
 
--- how many there are
-pub choices_many : (w : Walk) (v : Vec ℕ) → v ≡ slice_index_or w.choices.items w.depth v → length v.items ≡ length (choices_at (search_in w) w.depth)
-choices_many w v is = ap length (kept_choices (search_in w) (laws_in w) w.choices.items w.depth v w.listed w.sound.within is)
+-- it is of the walk's path and slot
+pub record IsFront (w : Walk) (f : Front) : Type 0 where
+  pub ledger : f.ledger.now ≡ w.ledger
+  pub path : f.path.now ≡ take w.depth w.path.items
+  pub choices : f.choices.now ≡ choices_at (search_in w) w.depth
 
--- the choice that was read
-pub choice_read : (w : Walk) (i p : ℕ) (v : Vec ℕ) → i < length (choices_at (search_in w) w.depth) → v ≡ slice_index_or w.choices.items w.depth v → p ≡ slice_index_or v.items i p → p ≡ next_at (search_in w) w.depth i
-choice_read w i p v among of is =
-    let m = search_in w in
-    let kept = kept_choices m (laws_in w) w.choices.items w.depth v w.listed w.sound.within of in
-    is ∙ (get_or_default v.items i p m.count (omega (arith, among, ap length kept)) ∙ ap (λ (xs : List ℕ). slice_index_or xs i m.count) kept)
+front_choice : (w : Walk) (f : Front) (i : ℕ) → IsFront w f → i < length f.choices.now → slice_index f.choices.now i ≡ next_at (search_in w) w.depth i
+front_choice w f i is inside = get_or_default f.choices.now i 0 (search_in w).count inside ∙ ap (λ (xs : List ℕ). slice_index_or xs i (search_in w).count) is.choices
 
-pub choice_low : (w : Walk) (i p : ℕ) → i < length (choices_at (search_in w) w.depth) → p ≡ next_at (search_in w) w.depth i → p < length (providers_in w.ledger)
-choice_low w i p among is = omega (arith, is, low_at (search_in w) (laws_in w) w.depth i w.sound.within among)
+pub front_low : (w : Walk) (f : Front) (i : ℕ) → IsFront w f → i < length f.choices.now → slice_index f.choices.now i < length (providers_in f.ledger.now)
+front_low w f i is inside =
+    let low = low_at (search_in w) (laws_in w) w.depth i w.sound.within (omega (arith, inside, ap length is.choices)) in
+    omega (arith, low, front_choice w f i is inside, ap (λ l. length (providers_in l)) is.ledger)
 
--- ---- Choices of other trees
+-- what leads nowhere behind it is dead
+pub choice_dead : (w : Walk) (f : Front) (i : ℕ) → IsFront w f → i < length f.choices.now → LeadsNowhere f (slice_index f.choices.now i)
+    → IsDead (search_in w) (take w.depth w.path.items ++ next_at (search_in w) w.depth i ∷ [])
+choice_dead w f i is inside dead =
+    let there : IsDead (search_in w) (take w.depth w.path.items ++ slice_index f.choices.now i ∷ []) = rw (is.ledger, is.path) at dead in
+    subst (λ (p : ℕ). IsDead (search_in w) (take w.depth w.path.items ++ p ∷ [])) (front_choice w f i is inside) there
 
--- the choices of the slot at which a walk stands, by tree
-pub tree_at : (w : Walk) (b : ByTree) → b ≡ slice_index_or w.trees.items w.depth b → IsByTree (providers_in w.ledger) (choices_at (search_in w) w.depth) b
-unfolding choices_at
-tree_at w b is =
-    subst (IsByTree (providers_in w.ledger) (slice_index_or (search_in w).choices w.depth [])) (sym is)
-    (w.by_tree.each w.depth b (omega (arith, (laws_in w).slots, w.sound.within)))
+pub choices_dead : (w : Walk) (f : Front) (from to : ℕ) → IsFront w f → to ≤ length f.choices.now → LeadNowhere f from to → AllDead (search_in w) (take w.depth w.path.items) w.depth from to
+choices_dead w f from to is within dead i above less = choice_dead w f i is (omega (arith, less, within)) (dead i above less)
 
--- what isn't available where a provider of its path is leads on to no open list
-others_closed : (w : Walk) (b i : ℕ) → is_there (take w.depth w.path.items) b ≡ true → i < length (choices_at (search_in w) w.depth)
-    → ((r : ℕ) → is_there (anchors_of (providers_in w.ledger) b) r ≡ true → r < length (providers_in w.ledger) → is_available_at (providers_in w.ledger) (slice_index (choices_at (search_in w) w.depth) i) r ≡ false)
-    → (search_in w).is_open (take w.depth w.path.items ++ next_at (search_in w) w.depth i ∷ []) ≡ false
-others_closed w b i there inside away =
-    let m = search_in w in
-    let q = take w.depth w.path.items in
-    let p = next_at m w.depth i in
-    let same : slice_index (choices_at m w.depth) i ≡ p = get_or_default (choices_at m w.depth) i 0 m.count inside in
-    elsewhere_closed (providers_in w.ledger) (asked_in w.ledger) q b p there (λ r home low. subst (λ (x : ℕ). is_available_at (providers_in w.ledger) x r ≡ false) same (away r home low))
-    (omega (arith, length-append q (p ∷ []), length-take-le w.depth w.path.items (omega (arith, w.sound.path_len, w.sound.within)), w.sound.within))
-
--- so the places before the next one of these trees lead to nothing
-pub beside_dead : (w : Walk) (b from next : ℕ) (t : ByTree) → is_there (take w.depth w.path.items) b ≡ true → t ≡ slice_index_or w.trees.items w.depth t → next ≤ t.count
-    → ((all : List Provider) (choices : List ℕ) → IsByTree all choices t → (r i : ℕ) → is_there (anchors_of (providers_in w.ledger) b) r ≡ true → r < length all → from ≤ i → i < next → is_available_at all (slice_index choices i) r ≡ false)
-    → AllDead (search_in w) (take w.depth w.path.items) w.depth from next
-beside_dead w b from next t there of within passed i above less =
-    let m = search_in w in
-    let tree = tree_at w t of in
-    closed_dead m (laws_in w) (take w.depth w.path.items ++ next_at m w.depth i ∷ [])
-    (others_closed w b i there (omega (arith, less, within, tree.count)) (λ r home low. passed (providers_in w.ledger) (choices_at m w.depth) tree r i home low above less))
-
--- some places up to one, and those from there on
-pub dead_on : (m : Search) (q : List ℕ) (d from at to : ℕ) → AllDead m q d from at → AllDead m q d at to → AllDead m q d from to
-dead_on m q d from at to before behind i above less = elim (cases_order i at) [
-  | inl e ↦ behind i (omega (arith, e)) less
-  | inr o ↦ elim o [ inl l ↦ before i above l | inr g ↦ behind i (omega (arith, g)) less ]
-]
-
--- all places where the path itself leads to nothing
-pub front_dead : (m : Search) (q : List ℕ) (d from to : ℕ) → IsDead m q → AllDead m q d from to
-front_dead m q d from to dead i above less v list =
-    let same = append_assoc q (next_at m d i ∷ []) v in
-    subst (λ (l : List ℕ). m.is_wanted l ≡ false) (sym same) (dead (next_at m d i ∷ v) (subst (IsListBelow m.count m.width) same list))
-
--- ---- Choices of other parts
-
--- a list of `same_subtree` that was read
-pub family_at : (w : Walk) (list : List Family) (i : ℕ) (f : Family) → list ≡ w.families.items → i < length list → f ≡ slice_index_or list i f → IsFamily (providers_in w.ledger) (asked_in w.ledger) (get_or (asked_in w.ledger).subtrees i []) f
-family_at w list i f same h is =
-    let names = get_or (asked_in w.ledger).subtrees i [] in
-    subst (IsFamily (providers_in w.ledger) (asked_in w.ledger) names) (sym (is ∙ ap (λ (l : List Family). slice_index_or l i f) same)) (w.grouped i f (omega (arith, h, ap length same)))
-
--- the choices behind a path are those of the slot
-pub here_at : (w : Walk) (q : List ℕ) → q ≡ take w.depth w.path.items → choices_here (providers_in w.ledger) (asked_in w.ledger) q ≡ choices_at (search_in w) w.depth
-unfolding choices_at
-here_at w q is = ap (λ (n : ℕ). slice_index_or (search_in w).choices n []) (ap length is ∙ length-take-le w.depth w.path.items (omega (arith, w.sound.path_len, w.sound.within)))
-
--- the places before the next one in the part of the path lead to nothing
-pub apart_dead : (w : Walk) (q : List ℕ) (from next : ℕ) → q ≡ take w.depth w.path.items → next ≤ length (choices_at (search_in w) w.depth)
-    → ((i : ℕ) → from ≤ i → i < next → IsDead (search_in w) (q ++ slice_index (choices_here (providers_in w.ledger) (asked_in w.ledger) q) i ∷ []))
-    → AllDead (search_in w) (take w.depth w.path.items) w.depth from next
-apart_dead w q from next is within dead i above less =
-    let m = search_in w in
-    let same : slice_index (choices_here (providers_in w.ledger) (asked_in w.ledger) q) i ≡ next_at m w.depth i =
-    ap (λ (l : List ℕ). slice_index l i) (here_at w q is) ∙ get_or_default (choices_at m w.depth) i 0 m.count (omega (arith, less, within)) in
-    subst (λ (l : List ℕ). IsDead m (l ++ next_at m w.depth i ∷ [])) is (subst (λ (p : ℕ). IsDead m (q ++ p ∷ [])) same (dead i above less))
+-- a place that was read
+pub place_read : (w : Walk) (place : ℕ) → place ≡ slice_index_or w.places.items w.depth place → place ≡ slice_index w.places.items w.depth
+place_read w place is = is ∙ get_or_default w.places.items w.depth place 0 (omega (arith, w.sound.places_len, w.sound.within))
 
 -- it stands behind places that lead to nothing
 pub stands_behind : (w : Walk) (next : ℕ) → slice_index w.places.items w.depth < next → next ≤ length (choices_at (search_in w) w.depth)

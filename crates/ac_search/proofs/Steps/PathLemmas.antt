@@ -9,12 +9,12 @@ use Rattle.ac_query.specs.Shown.Queries.{asked_of}
 use Rattle.ac_cloud.specs.Cloud.CloudWorld.{providers_of}
 use Rattle.ac_rules.specs.Placed.{placed_at, slot_at, assigned}
 use Rattle.ac_rules.specs.Judge.{is_open}
-use Rattle.ac_search.specs.Search.{choices_at, next_at}
-use Rattle.ac_search.specs.QuerySearch.{fits}
+use Rattle.ac_prune.specs.Search.{choices_at, next_at}
+use Rattle.ac_prune.specs.QuerySearch.{fits}
 use Rattle.ac_search.specs.Shown.Walk.{search_in}
 use Rattle.ac_search.specs.declared.walk.Walk.{Walk}
 use Rattle.ac_rules.proofs.SlotLemmas.{each_at}
-use Rattle.ac_search.proofs.Search.OpenLemmas.{choices_here, each_choice, fits_placed, is_search}
+use Rattle.ac_prune.proofs.Search.OpenLemmas.{choices_here, each_choice, fits_placed, is_search}
 use Rattle.ac_search.proofs.Steps.MoveLemmas.{each_front, front_back}
 
 -- a provider is put behind the path

@@ -4,7 +4,8 @@ use Rattle.std.specs.List.{slice_index}
 use Rattle.std.proofs.lemmas.Bool.{cases_Bool, cases_lt}
 use Rattle.std.proofs.lemmas.List.{take_more, get_or_push}
 use Rattle.ac_rules.specs.Order.{lex_lt}
-use Rattle.ac_search.specs.Search.{Search, choices_at, next_at, next_front, HasAt, IsSound}
+use Rattle.ac_prune.specs.Search.{Search, choices_at, next_at}
+use Rattle.ac_search.specs.Search.{next_front, HasAt, IsSound}
 use Rattle.ac_search.proofs.Search.FrontOrder.{lex_uncut}
 use Rattle.ac_rules.proofs.Lists.OrderLemmas.{lex_total}
 

@@ -7,22 +7,17 @@ use Rattle.std.proofs.lemmas.Bool.{cases_lt}
 use Rattle.ac_base.specs.Devices.{last_count, one_more, Rises}
 use Rattle.ac_query.specs.Shown.Queries.{asked_of}
 use Rattle.ac_cloud.specs.Cloud.CloudWorld.{providers_of}
-use Rattle.ac_cloud.specs.declared.cloud.Cloud.{Cloud}
-use Rattle.ac_cloud.proofs.Places.CloudFacts.{size}
 use Rattle.ac_rules.specs.Order.{lex_lt}
-use Rattle.ac_search.specs.Search.{Search, choices_at, next_at, next_front, left_from, between}
+use Rattle.ac_prune.specs.Search.{Search, choices_at, next_at}
+use Rattle.ac_search.specs.Search.{next_front, left_from, between}
 use Rattle.ac_search.specs.Shown.Walk.{search_in, front_in, path_in, left_of, changed, IsSame}
 use Rattle.ac_search.specs.Search.Steps.{IsTried, Goes, Gives, IsBounded}
 use Rattle.ac_search.specs.declared.walk.Walk.{Walk}
-use Rattle.ac_search.proofs.Search.SoughtLemmas.{IsSearch}
-use Rattle.ac_search.proofs.Search.OpenLemmas.{is_search}
+use Rattle.ac_prune.proofs.Search.SoughtLemmas.{IsSearch}
+use Rattle.ac_prune.proofs.Search.OpenLemmas.{is_search}
 use Rattle.ac_search.proofs.Steps.ChangeLemmas.{changed_more, one_more_kept, one_more_rises, one_more_pays}
 use Rattle.ac_search.proofs.Steps.MoveLemmas.{forward_next, front_back}
 use Rattle.ac_search.proofs.Steps.TryLemmas.{counted_given, whole_front}
-
--- a cloud has few providers
-pub few_providers : (cloud : Cloud) → length (providers_of cloud) ≤ 65536
-few_providers cloud = omega (arith, size cloud, cloud.ids.few)
 
 pub laws_in : (w : Walk) → IsSearch (search_in w)
 laws_in w = is_search (providers_of w.ledger.cloud.now) (asked_of w.ledger.query.now)

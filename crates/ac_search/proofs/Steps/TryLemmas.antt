@@ -1,16 +1,17 @@
 -- What a try of the next choice comes to.
 use Rattle.std.proofs.Common.{◌≡◌, ℕ, ◌+◌, ◌*◌, ◌<◌, ◌≤◌, suc, Bool, true, false, List, [], ◌∷◌, ◌++◌, length, take, set, None, Some, sym, ap, ◌∙◌, subst, arith, append_assoc, length-append, length-take-le, take_all}
 use Rattle.std.specs.List.{slice_index}
-use Rattle.std.proofs.lemmas.Bool.{false≢true, false_from_ne_true}
+use Rattle.std.proofs.lemmas.Bool.{false≢true}
 use Rattle.std.proofs.lemmas.Bool.Decides.{nat_tests}
 use Rattle.std.proofs.lemmas.List.{get_or_past}
 use Rattle.std.proofs.lemmas.List.Elements.{All-from_recursion}
 use Rattle.std.proofs.Math.Nat.{mul-le-mul_left}
 use Rattle.ac_rules.specs.Lists.{IsListBelow}
-use Rattle.ac_search.specs.Search.{Search, IsDead, sought, between, choices_at, next_at, next_front, from, left_from, IsSound}
+use Rattle.ac_prune.specs.Search.{Search, IsDead, sought, choices_at, next_at}
+use Rattle.ac_search.specs.Search.{between, next_front, from, left_from, IsSound}
 use Rattle.ac_rules.proofs.Elements.{each_weaker, each_append, filter_none}
 use Rattle.ac_search.proofs.Search.FrontOrder.{lex_one}
-use Rattle.ac_search.proofs.Search.SoughtLemmas.{IsSearch, IsSought, each_sought, low_at}
+use Rattle.ac_prune.proofs.Search.SoughtLemmas.{IsSearch, IsSought, each_sought, low_at}
 use Rattle.ac_search.proofs.Steps.MoveLemmas.{left_next, left_given, front_back, path_low}
 use Rattle.ac_search.proofs.Steps.BetweenLemmas.{met_all, met_given}
 
@@ -36,10 +37,6 @@ left_dead m laws x path places d seeking probes s l dead = sym (left_next m laws
         let same : t ≡ (q ++ p ∷ []) ++ u = e ∙ sym (append_assoc q (p ∷ []) u) in
         let list : IsListBelow m.count m.width ((q ++ p ∷ []) ++ u) = subst (IsListBelow m.count m.width) same (record { long = h.long; below = All-from_recursion (λ r. r < m.count) t h.low }) in
         false≢true (sym (dead u list) ∙ subst (λ (v : List ℕ). m.is_wanted v ≡ true) same h.wanted)
-
--- a list that isn't open is dead
-pub closed_dead : (m : Search) → IsSearch m → (q : List ℕ) → m.is_open q ≡ false → IsDead m q
-closed_dead m laws q closed v list = false_from_ne_true _ (λ h. false≢true (sym closed ∙ laws.front q v (laws.wanted (q ++ v) h)))
 
 -- a whole path that isn't wanted is nothing that is sought
 pub left_lacking : (m : Search) → IsSearch m → (x path places : List ℕ) (d : ℕ) (seeking : Bool) (probes : ℕ) → IsSound m x path places d seeking probes → slice_index places d < length (choices_at m d) → suc d ≡ m.width

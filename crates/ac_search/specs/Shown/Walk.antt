@@ -6,8 +6,10 @@ use Rattle.ac_query.specs.Asked.{Asked}
 use Rattle.ac_query.specs.Shown.Queries.{asked_of}
 use Rattle.ac_cloud.specs.Cloud.CloudWorld.{providers_of}
 use Rattle.ac_cloud.specs.World.{Provider}
-use Rattle.ac_search.specs.Search.{Search, next_front, left_from}
-use Rattle.ac_search.specs.QuerySearch.{search_of, open_between}
+use Rattle.ac_prune.specs.Search.{Search}
+use Rattle.ac_search.specs.Search.{next_front, left_from}
+use Rattle.ac_prune.specs.QuerySearch.{search_of}
+use Rattle.ac_search.specs.Between.{open_between}
 use Rattle.ac_search.specs.declared.walk.Walk.{Walk}
 
 -- the providers of its cloud

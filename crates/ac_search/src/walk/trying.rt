@@ -1,13 +1,14 @@
 //! Trying a provider behind the path of a walk, and taking it back.
 ghost use Rattle.std.specs.Prelude.{◌≡◌, ◌+◌, ◌<◌, ◌≤◌, ◌++◌, ◌∷◌, [], length, take, true, false, suc, MatchOption, IsTrue, ◌↔◌, slice_index, slice_set};
 ghost use Rattle.ac_base.specs.Devices.{one_more};
-ghost use Rattle.ac_search.specs.Left.Accounts.{providers_in, asked_in};
+ghost use Rattle.ac_prune.specs.Left.Accounts.{providers_in, asked_in};
 ghost use Rattle.ac_rules.specs.Judge.{is_open};
-ghost use Rattle.ac_search.specs.Search.{IsDead, IsStart, Enters, HasAt, least_at, choices_at, next_at};
-ghost use Rattle.ac_search.specs.QuerySearch.{completes};
+ghost use Rattle.ac_prune.specs.Search.{IsDead, choices_at, next_at};
+ghost use Rattle.ac_search.specs.Search.{IsStart, Enters, HasAt, least_at};
+ghost use Rattle.ac_prune.specs.QuerySearch.{completes};
 
 use super::{Step, Walk};
-use crate::open::completes;
+use ac_prune::completes;
 
 impl<'a> Walk<'a> {
     ghost use Rattle.ac_search.specs.Shown.Walk.{search_in, IsSame};

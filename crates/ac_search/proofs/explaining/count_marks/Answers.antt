@@ -1,6 +1,6 @@
 use Rattle.std.proofs.Common.{arith, take}
 use Rattle.std.proofs.lemmas.List.{length-take}
-use Rattle.ac_search.proofs.Search.OpenLemmas.{filter_few}
+use Rattle.ac_prune.proofs.Search.OpenLemmas.{filter_few}
 use Rattle.ac_search.proofs.explaining.count_marks.Goals as goal
 
 pub overflow_add-count : goal.overflow_add-count

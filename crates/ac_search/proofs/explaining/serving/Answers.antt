@@ -5,7 +5,7 @@ use Rattle.ac_query.specs.Shown.Queries.{asked_of}
 use Rattle.ac_cloud.specs.Cloud.CloudWorld.{providers_of}
 use Rattle.ac_rules.specs.Placed.{placed_at}
 use Rattle.ac_search.specs.Explained.{meets_room}
-use Rattle.ac_search.proofs.Search.OpenLemmas.{map_range_more}
+use Rattle.ac_prune.proofs.Search.OpenLemmas.{map_range_more}
 use Rattle.ac_search.proofs.explaining.serving.Goals as goal
 
 pub loop-ix-preserved : goal.loop-ix-preserved

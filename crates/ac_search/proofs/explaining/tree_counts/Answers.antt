@@ -9,7 +9,7 @@ use Rattle.ac_search.specs.Explained.{is_served}
 use Rattle.ac_search.specs.Shown.Explained.{marked}
 use Rattle.ac_rules.specs.Together.{takes_root}
 use Rattle.ac_search.proofs.ExplainedLemmas.{marked_map, served_none}
-use Rattle.ac_search.proofs.Steps.StepLemmas.{few_providers}
+use Rattle.ac_prune.proofs.Roots.TreeLemmas.{few_providers}
 use Rattle.ac_search.proofs.explaining.tree_counts.Goals as goal
 
 pub count_marks-root_traits-requires : goal.count_marks-root_traits-requires

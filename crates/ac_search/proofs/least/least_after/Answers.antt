@@ -3,7 +3,7 @@ use Rattle.std.proofs.lemmas.Bool.Decides.{nat_tests}
 use Rattle.std.proofs.lemmas.List.{get_or_read}
 use Rattle.ac_cloud.specs.World.{Provider, id_at}
 use Rattle.ac_cloud.specs.Cloud.CloudWorld.{providers_of}
-use Rattle.ac_search.specs.QuerySearch.{rank_of, is_known, least_after}
+use Rattle.ac_search.specs.Between.{rank_of, is_known, least_after}
 use Rattle.ac_search.proofs.least.least_after.Goals as goal
 use Rattle.ac_search.proofs.least.least_after.Goals.{then-place-len, else-place-len, else-known-via-then-known+else-s-width-2, else-known-via-else-known}
 

@@ -1,6 +1,6 @@
 use Rattle.std.proofs.Common.{◌≡◌, ◌-◌, ◌≤◌, ◌++◌, drop}
 use Rattle.ac_cloud.specs.Cloud.CloudWorld.{providers_of}
-use Rattle.ac_search.specs.QuerySearch.{least_after}
+use Rattle.ac_search.specs.Between.{least_after}
 use Rattle.ac_search.proofs.least.least_after.Given as goal
 
 abbrev pub invariant-loop-s : goal.invariant-loop-s

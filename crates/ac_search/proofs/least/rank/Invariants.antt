@@ -1,6 +1,6 @@
 use Rattle.std.proofs.Common.{◌≡◌, ◌+◌, drop}
 use Rattle.ac_cloud.specs.Cloud.CloudWorld.{providers_of}
-use Rattle.ac_search.specs.QuerySearch.{rank_of}
+use Rattle.ac_search.specs.Between.{rank_of}
 use Rattle.ac_search.proofs.least.rank.Given as goal
 
 abbrev pub invariant-loop-ix : goal.invariant-loop-ix

@@ -1,7 +1,7 @@
 use Rattle.std.proofs.Common.{◌≡◌, ◌<◌, length, slice_index, slice_index_or, arith, ◌∙◌}
 use Rattle.std.proofs.lemmas.List.{get_or_default}
 use Rattle.ac_search.specs.Shown.Walk.{search_in}
-use Rattle.ac_search.proofs.Roots.KeptLemmas.{kept_choices}
+use Rattle.ac_prune.proofs.Roots.KeptLemmas.{kept_choices}
 use Rattle.ac_search.proofs.Steps.StepLemmas.{laws_in}
 use Rattle.ac_search.proofs.walk.Walk.choice.Goals as goal
 

@@ -1,11 +1,12 @@
 use Rattle.std.proofs.Common.{◌≡◌, ℕ, ◌+◌, ◌<◌, suc, true, false, List, [], ◌∷◌, ◌++◌, take, length, slice_index, slice_index_or, arith, sym, ◌∙◌, length-append, length-take-le, Global}
 use Rattle.std.specs.declared.vec.Vec.{Vec}
 use Rattle.std.proofs.lemmas.Bool.{false≢true}
-use Rattle.ac_search.specs.Search.{IsStart, Enters, HasAt, choices_at, least_at, next_at}
+use Rattle.ac_prune.specs.Search.{choices_at, next_at}
+use Rattle.ac_search.specs.Search.{IsStart, Enters, HasAt, least_at}
 use Rattle.ac_search.specs.Shown.Walk.{search_in}
 use Rattle.ac_search.specs.declared.walk.Walk.{Walk}
 use Rattle.ac_search.proofs.Steps.EntryLemmas.{enter_seeking_at, enter_passed_at}
-use Rattle.ac_search.proofs.Roots.KeptLemmas.{kept_choices}
+use Rattle.ac_prune.proofs.Roots.KeptLemmas.{kept_choices}
 use Rattle.ac_search.proofs.Steps.SeekLemmas.{passed_by, sought_by}
 use Rattle.ac_search.proofs.Steps.StepLemmas.{laws_in}
 use Rattle.ac_search.proofs.walk.Walk.entry.Goals as goal

@@ -1,27 +1,21 @@
-use Rattle.std.proofs.Common.{◌≡◌, ◌∙◌, ◌<◌, ℕ, set, slice_index, slice_index_or, refl, arith, get_or-set_same}
-use Rattle.std.proofs.lemmas.List.{get_or_default}
+use Rattle.std.proofs.Common.{◌<◌, set, slice_index, refl, arith, get_or-set_same}
 use Rattle.ac_search.specs.Search.{next_front}
 use Rattle.ac_search.specs.Shown.Walk.{search_in, front_in}
-use Rattle.ac_search.specs.declared.walk.Walk.{Walk}
 use Rattle.ac_rules.proofs.Lists.OrderLemmas.{lex_irrefl, lex_asym}
-use Rattle.ac_search.proofs.Steps.PassLemmas.{stands_behind}
+use Rattle.ac_search.proofs.Steps.PassLemmas.{place_read, stands_behind}
 use Rattle.ac_search.proofs.walk.Walk.go_on.Goals as goal
-
--- a place that was read
-read : (w : Walk) (place : ℕ) → place ≡ slice_index_or w.places.items w.depth place → place ≡ slice_index w.places.items w.depth
-read w place is = is ∙ get_or_default w.places.items w.depth place 0 (omega (arith, w.sound.places_len, w.sound.within))
 
 pub invariant_of-self : goal.invariant_of-self
 invariant_of-self c =
     let w = c.args.self.now in
-    let later : slice_index w.places.items w.depth < c.args.place = omega (arith, read w c.index.result.now c.index.ensures, c.if-place-index.true) in
+    let later : slice_index w.places.items w.depth < c.args.place = omega (arith, place_read w c.index.result.now c.index.ensures, c.if-place-index.true) in
     let stands = stands_behind w c.args.place later c.requires.within c.requires.dead in
-    record { resumed = w.resumed; listed = w.listed; by_tree = w.by_tree; hosting = w.hosting; grouped = w.grouped; looking = w.looking; sound = stands.sound; accounted = w.accounted }
+    record { resumed = w.resumed; listed = w.listed; looking = w.looking; sound = stands.sound; accounted = w.accounted }
 
 pub returns-then-place-index-clause-passes : goal.returns-then-place-index-clause-passes
 returns-then-place-index-clause-passes c =
     let w = c.args.self.now in
-    let later : slice_index w.places.items w.depth < c.args.place = omega (arith, read w c.index.result.now c.index.ensures, c.if-place-index.true) in
+    let later : slice_index w.places.items w.depth < c.args.place = omega (arith, place_read w c.index.result.now c.index.ensures, c.if-place-index.true) in
     let stands = stands_behind w c.args.place later c.requires.within c.requires.dead in
     record {
       same = record { cloud = refl; query = refl; after = refl; least = refl };

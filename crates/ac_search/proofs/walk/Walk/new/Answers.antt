@@ -5,14 +5,16 @@ use Rattle.ac_query.specs.Asked.{slots_of}
 use Rattle.ac_query.specs.Shown.Queries.{asked_of}
 use Rattle.ac_query.specs.Tokens as tokens
 use Rattle.ac_cloud.specs.Cloud.CloudWorld.{providers_of}
-use Rattle.ac_search.specs.Search.{Search, sought, IsStart, choices_at, least_at}
-use Rattle.ac_search.specs.QuerySearch.{search_of, least_of}
+use Rattle.ac_prune.specs.Search.{Search, sought, choices_at}
+use Rattle.ac_search.specs.Search.{IsStart, least_at}
+use Rattle.ac_prune.specs.QuerySearch.{search_of}
+use Rattle.ac_search.specs.Between.{least_of}
 use Rattle.ac_cloud.proofs.InOrder.{cloud_in_order}
-use Rattle.ac_search.proofs.Search.SoughtLemmas.{IsSearch}
-use Rattle.ac_search.proofs.Roots.KeptLemmas.{kept_choices, kept_few, kept_low}
+use Rattle.ac_prune.proofs.Search.SoughtLemmas.{IsSearch}
+use Rattle.ac_prune.proofs.Roots.KeptLemmas.{length_kept, kept_choices}
 use Rattle.ac_search.proofs.Steps.BeginLemmas.{sound_new, left_new}
 use Rattle.ac_search.proofs.Search.LeastLemmas.{least_len, rest_sought}
-use Rattle.ac_search.proofs.Search.OpenLemmas.{is_search}
+use Rattle.ac_prune.proofs.Search.OpenLemmas.{is_search}
 use Rattle.ac_search.proofs.walk.Walk.new.Goals as goal
 
 -- where the first slot begins
@@ -20,23 +22,14 @@ start_is : (m : Search) → IsSearch m → (kept : List (Vec ℕ Global)) (v : V
     → IsStart list (least_at least 0) j → IsStart (choices_at m 0) (least_at x 0) j
 start_is m laws kept v list least x j listed some is same least_is start = rw (same ∙ kept_choices m laws kept 0 v listed some is, least_is) at start
 
--- the lists that are grouped by tree
-lists_are : (kept : List (Vec ℕ Global)) (given : List (Vec ℕ Global)) (all : List (List ℕ)) → given ≡ kept → map (λ (u : Vec ℕ Global). u.items) kept ≡ all → map (λ (u : Vec ℕ Global). u.items) given ≡ all
-lists_are kept given all same listed = rw same listed
+pub new-requires-2-clause-choices : goal.new-requires-2-clause-choices
+new-requires-2-clause-choices c = rw c.deref.ensures.value c.in_ok-choices.ensures
 
-pub of_slots-requires-clause-few : goal.of_slots-requires-clause-few
-of_slots-requires-clause-few c = λ s h.
+pub index-requires : goal.index-requires
+index-requires c =
     let m = search_of (providers_of c.args.cloud.now) (asked_of c.args.query.now) in
-    kept_few m (is_search (providers_of c.args.cloud.now) (asked_of c.args.query.now)) c.deref.result.now (lists_are c.in_ok-choices.choices.items c.deref.result.now m.choices c.deref.ensures.value (rw (c.in_ok-ledger.ensures.cloud, c.in_ok-ledger.ensures.query) at c.in_ok-choices.ensures)) s h
-
-pub of_slots-requires-clause-providers : goal.of_slots-requires-clause-providers
-of_slots-requires-clause-providers c = λ s h.
-    let m = search_of (providers_of c.args.cloud.now) (asked_of c.args.query.now) in
-    kept_low m (is_search (providers_of c.args.cloud.now) (asked_of c.args.query.now)) c.deref.result.now (lists_are c.in_ok-choices.choices.items c.deref.result.now m.choices c.deref.ensures.value (rw (c.in_ok-ledger.ensures.cloud, c.in_ok-ledger.ensures.query) at c.in_ok-choices.ensures)) s h
-
-pub host_roots-requires-clause-choices : goal.host_roots-requires-clause-choices
-host_roots-requires-clause-choices c =
-    lists_are c.in_ok-choices.choices.items c.deref-2.result.now _ c.deref-2.ensures.value c.in_ok-choices.ensures
+    let many = length_kept m (is_search (providers_of c.args.cloud.now) (asked_of c.args.query.now)) c.in_ok-choices.choices.items (rw (c.in_ok-ledger.ensures.cloud, c.in_ok-ledger.ensures.query) at c.in_ok-choices.ensures) in
+    omega (arith, many, c.count_slots-width.ensures.some, c.count_slots-width.ensures.count)
 
 pub invariant_of-result : goal.invariant_of-result
 invariant_of-result c =
@@ -47,14 +40,11 @@ invariant_of-result c =
     let x = option_map (λ t. tokens.ids_of t.now) c.args.after in
     let width = c.count_slots-width.ensures.count in
     let short = least_len all c.count_slots-width.result x in
-    let start = start_is m laws c.in_ok-choices.choices.items c.index.result.now c.deref-4.result.now c.deref-5.result.now c.in_ok-least.least.items c.start_of.result (rw (c.in_ok-ledger.ensures.cloud, c.in_ok-ledger.ensures.query) at c.in_ok-choices.ensures) (omega (arith, c.count_slots-width.ensures.some)) c.index.ensures c.deref-4.ensures.value c.deref-5.ensures.value c.start_of.ensures in
+    let start = start_is m laws c.in_ok-choices.choices.items c.index.result.now c.deref-2.result.now c.deref-3.result.now c.in_ok-least.least.items c.start_of.result (rw (c.in_ok-ledger.ensures.cloud, c.in_ok-ledger.ensures.query) at c.in_ok-choices.ensures) (omega (arith, c.count_slots-width.ensures.some)) c.index.ensures c.deref-2.ensures.value c.deref-3.ensures.value c.start_of.ensures in
     record {
       listed = c.in_ok-choices.ensures;
-      by_tree = rw (c.in_ok-ledger.ensures.cloud, c.in_ok-ledger.ensures.query) (rw (lists_are c.in_ok-choices.choices.items c.deref.result.now (search_of (providers_of c.args.cloud.now) (asked_of c.args.query.now)).choices c.deref.ensures.value (rw (c.in_ok-ledger.ensures.cloud, c.in_ok-ledger.ensures.query) at c.in_ok-choices.ensures)) at c.in_ok-trees.ensures);
       resumed = rw (c.in_ok-ledger.ensures.cloud, c.in_ok-ledger.ensures.query, ← width, c.in_ok-after.ensures) c.in_ok-least.ensures;
-      hosting = c.in_ok-hosts.ensures;
-      grouped = c.in_ok-families.ensures;
-      looking = c.in_ok-ahead.ensures;
+      looking = c.in_ok-lookout.ensures;
       accounted = c.in_ok-ledger.ensures.accounts;
       sound = rw (c.in_ok-ledger.ensures.cloud, c.in_ok-ledger.ensures.query) (sound_new m laws c.in_ok-least.least.items c.in_ok-path.path.items c.in_ok-places.places.items c.start_of.result
           (omega (arith, ap length c.in_ok-least.ensures))
@@ -71,7 +61,7 @@ returns-clause-left c =
     let x = option_map (λ t. tokens.ids_of t.now) c.args.after in
     let width = c.count_slots-width.ensures.count in
     let some : 0 < m.width = omega (arith, c.count_slots-width.ensures.some) in
-    let start = start_is m laws c.in_ok-choices.choices.items c.index.result.now c.deref-4.result.now c.deref-5.result.now c.in_ok-least.least.items c.start_of.result (rw (c.in_ok-ledger.ensures.cloud, c.in_ok-ledger.ensures.query) at c.in_ok-choices.ensures) some c.index.ensures c.deref-4.ensures.value c.deref-5.ensures.value c.start_of.ensures in
+    let start = start_is m laws c.in_ok-choices.choices.items c.index.result.now c.deref-2.result.now c.deref-3.result.now c.in_ok-least.least.items c.start_of.result (rw (c.in_ok-ledger.ensures.cloud, c.in_ok-ledger.ensures.query) at c.in_ok-choices.ensures) some c.index.ensures c.deref-2.ensures.value c.deref-3.ensures.value c.start_of.ensures in
     let least : c.in_ok-least.least.items ≡ least_of all (length (slots_of asked)) x = c.in_ok-least.ensures ∙ ap (λ (k : ℕ). least_of all k x) width in
     rw (c.in_ok-ledger.ensures.cloud, c.in_ok-ledger.ensures.query) (left_new m laws c.in_ok-least.least.items c.in_ok-path.path.items c.in_ok-places.places.items c.start_of.result (omega (arith, c.in_ok-places.places.ok, c.in_ok-places.ensures.len)) some start
     ∙ (ap (λ (y : List ℕ). sought m y) least ∙ rest_sought all (cloud_in_order c.args.cloud.now).order asked some x))

@@ -1,13 +1,20 @@
-use Rattle.std.proofs.Common.{◌≡◌, ◌∙◌, slice_index, arith}
-use Rattle.std.proofs.lemmas.List.{get_or_default}
-use Rattle.ac_search.proofs.Steps.PassLemmas.{choices_many}
+use Rattle.std.proofs.Common.{ap, arith, length}
+use Rattle.std.proofs.lemmas.Bool.{not-true}
+use Rattle.ac_search.proofs.Steps.PassLemmas.{IsFront, choice_dead, front_low, place_read}
 use Rattle.ac_search.proofs.walk.Walk.next_is_dead.Goals as goal
 
 pub may_follow-requires : goal.may_follow-requires
-may_follow-requires c = record { among = omega (arith, choices_many c.args.self.now c.index.result.now c.index.ensures, c.if-place-len.true, c.len.ensures) }
-
-pub returns-then-place-len-clause-among : goal.returns-then-place-len-clause-among
-returns-then-place-len-clause-among c _ =
+may_follow-requires c =
     let w = c.args.self.now in
-    let place : c.index-place.result.now ≡ slice_index w.places.items w.depth = c.index-place.ensures ∙ get_or_default w.places.items w.depth c.index-place.result.now 0 (omega (arith, w.sound.places_len, w.sound.within)) in
-    omega (arith, choices_many w c.index.result.now c.index.ensures, c.if-place-len.true, c.len.ensures)
+    let is : IsFront w c.front-front.result = record { ledger = c.front-front.ensures.ledger; path = c.front-front.ensures.path; choices = c.front-front.ensures.choices } in
+    record { of = rw c.front-front.ensures.ledger w.looking; provider = front_low w c.front-front.result c.index-place.result.now is c.if-place-front.true }
+
+pub returns-then-place-front-clause-among : goal.returns-then-place-front-clause-among
+returns-then-place-front-clause-among c _ =
+    omega (arith, place_read c.args.self.now c.index-place.result.now c.index-place.ensures, c.if-place-front.true, ap length c.front-front.ensures.choices)
+
+pub returns-then-place-front-clause-dead : goal.returns-then-place-front-clause-dead
+returns-then-place-front-clause-dead c h =
+    let w = c.args.self.now in
+    let is : IsFront w c.front-front.result = record { ledger = c.front-front.ensures.ledger; path = c.front-front.ensures.path; choices = c.front-front.ensures.choices } in
+    rw (place_read w c.index-place.result.now c.index-place.ensures) at (choice_dead w c.front-front.result c.index-place.result.now is c.if-place-front.true (c.may_follow.ensures.dead (not-true c.may_follow.result h)))

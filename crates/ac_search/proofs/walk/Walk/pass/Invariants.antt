@@ -1,12 +1,12 @@
 use Rattle.std.proofs.Common.{◌-◌, length}
 use Rattle.std.specs.List.{slice_index}
-use Rattle.ac_search.specs.Search.{choices_at}
+use Rattle.ac_prune.specs.Search.{choices_at}
 use Rattle.ac_search.specs.Shown.Walk.{search_in}
 use Rattle.ac_search.specs.Search.Steps.{Passes}
 use Rattle.ac_search.proofs.walk.Walk.pass.Given as goal
 
-abbrev pub invariant-loop-provider : goal.invariant-loop-provider
-invariant-loop-provider l = Passes l.fn.self l.self
+abbrev pub invariant-loop-bound : goal.invariant-loop-bound
+invariant-loop-bound l = Passes l.fn.self l.self
 
-abbrev pub decreases-loop-provider : goal.decreases-loop-provider
-decreases-loop-provider l = length (choices_at (search_in l.self) l.self.depth) - slice_index l.self.places.items l.self.depth
+abbrev pub decreases-loop-bound : goal.decreases-loop-bound
+decreases-loop-bound l = length (choices_at (search_in l.self) l.self.depth) - slice_index l.self.places.items l.self.depth

@@ -1,7 +1,7 @@
 use Rattle.std.proofs.Common.{◌≡◌, ℕ, ◌+◌, suc, true, List, [], ◌∷◌, ◌++◌, slice_index, refl, arith, sym, subst}
 use Rattle.ac_base.specs.Devices.{Rises}
 use Rattle.ac_rules.specs.Judge.{is_open}
-use Rattle.ac_search.specs.Left.Accounts.{providers_in, asked_in, Accounts}
+use Rattle.ac_prune.specs.Left.Accounts.{providers_in, asked_in, Accounts}
 use Rattle.ac_search.specs.Shown.Walk.{search_in, path_in, changed}
 use Rattle.ac_search.proofs.Steps.ChangeLemmas.{changed_more, one_more_kept, one_more_most, one_more_some, one_more_rises, one_more_pays}
 use Rattle.ac_search.proofs.Steps.MoveLemmas.{sound_place, left_place, forward_place, front_back}
@@ -27,10 +27,7 @@ invariant_of-self-2 c =
     record {
       resumed = rw (c.take.ensures.same.cloud, c.take.ensures.same.query) w.resumed;
       listed = rw (c.take.ensures.same.cloud, c.take.ensures.same.query) w.listed;
-      by_tree = rw (c.take.ensures.same.cloud, c.take.ensures.same.query) w.by_tree;
-      hosting = rw (c.take.ensures.same.cloud, c.take.ensures.same.query) w.hosting;
-      grouped = rw (c.take.ensures.same.cloud, c.take.ensures.same.query) w.grouped;
-      looking = rw c.take.ensures.same.cloud w.looking;
+      looking = rw (c.take.ensures.same.cloud, c.take.ensures.same.query) w.looking;
       accounted = rw next (subst (Accounts c.take.new.self) (sym (front_put w c.deref.result.now c.index-provider.result.now c.deref.ensures.value c.index-provider.ensures)) c.take.ensures.accounts);
       sound = rw (c.take.ensures.same.cloud, c.take.ensures.same.query, next) (sound_place m (laws_in w) w.least.items w.path.items w.places.items w.depth w.seeking c.entry-start.result.1 w.probes c.args.tries c.entry-start.result.0
           w.sound c.requires.short c.requires.among c.requires.put opens c.entry-start.ensures.within (rw same at c.entry-start.ensures.enters) (rw same at c.entry-start.ensures.seeks) (omega (arith, c.requires.counted, one_more_most w.probes)) (omega (arith, c.requires.counted, one_more_some w.probes)));

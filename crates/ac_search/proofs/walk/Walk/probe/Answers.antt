@@ -3,11 +3,12 @@ use Rattle.std.specs.List.{slice_index}
 use Rattle.ac_query.specs.Shown.Queries.{asked_of}
 use Rattle.ac_cloud.specs.Cloud.CloudWorld.{providers_of}
 use Rattle.ac_rules.specs.Judge.{is_open}
-use Rattle.ac_search.specs.Search.{Search, IsDead, choices_at, next_at, left_from}
-use Rattle.ac_search.specs.QuerySearch.{completes}
+use Rattle.ac_prune.specs.Search.{Search, IsDead, choices_at, next_at}
+use Rattle.ac_search.specs.Search.{left_from}
+use Rattle.ac_prune.specs.QuerySearch.{completes}
 use Rattle.ac_search.specs.Shown.Walk.{search_in, front_in, IsSame}
 use Rattle.ac_search.specs.declared.walk.Walk.{Walk}
-use Rattle.ac_search.proofs.Search.OpenLemmas.{candidate_completes}
+use Rattle.ac_prune.proofs.Search.OpenLemmas.{candidate_completes}
 use Rattle.ac_search.proofs.Steps.PathLemmas.{IsPut}
 use Rattle.ac_search.proofs.Steps.TryLemmas.{put_front, whole_front, left_dead, left_lacking, left_whole}
 use Rattle.ac_search.proofs.Steps.StepLemmas.{laws_in, search_same, Stays, stays_put, goes_put, gives_put, Skips, kept_skip, rises_skip, tried_skip, goes_skip, left_skip, bounded_skip, front_after}

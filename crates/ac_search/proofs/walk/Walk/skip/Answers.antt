@@ -3,7 +3,8 @@ use Rattle.std.proofs.lemmas.List.{get_or_default}
 use Rattle.ac_search.specs.Shown.Walk.{search_in}
 use Rattle.ac_search.proofs.Steps.ChangeLemmas.{one_more_kept, one_more_most}
 use Rattle.ac_search.proofs.Steps.MoveLemmas.{sound_next}
-use Rattle.ac_search.proofs.Steps.StepLemmas.{few_providers, laws_in}
+use Rattle.ac_prune.proofs.Roots.TreeLemmas.{few_providers}
+use Rattle.ac_search.proofs.Steps.StepLemmas.{laws_in}
 use Rattle.ac_search.proofs.walk.Walk.skip.Goals as goal
 
 pub overflow_add-index_mut : goal.overflow_add-index_mut
@@ -20,9 +21,6 @@ invariant_of-self c =
     record {
       resumed = w.resumed;
       listed = w.listed;
-      by_tree = w.by_tree;
-      hosting = w.hosting;
-      grouped = w.grouped;
       looking = w.looking;
       accounted = w.accounted;
       sound = rw place (sound_next (search_in w) (laws_in w) w.least.items w.path.items w.path.items w.places.items w.depth w.seeking w.probes c.args.tries w.sound c.requires.among refl refl (omega (arith, c.requires.counted, one_more_most w.probes)) (omega (arith, c.requires.counted, one_more_kept w.probes)));

@@ -2,12 +2,12 @@ use Rattle.std.proofs.Common.{◌≡◌, suc, true, Bool, List, [], ◌∷◌, �
 use Rattle.std.specs.List.{list_all}
 use Rattle.ac_rules.specs.Placed.{assigned}
 use Rattle.ac_rules.specs.Judge.{is_open}
-use Rattle.ac_search.specs.QuerySearch.{fits}
-use Rattle.ac_search.specs.Left.Accounts.{providers_in, asked_in}
+use Rattle.ac_prune.specs.QuerySearch.{fits}
+use Rattle.ac_prune.specs.Left.Accounts.{providers_in, asked_in}
 use Rattle.ac_search.specs.Shown.Walk.{search_in}
 use Rattle.ac_search.specs.declared.walk.Walk.{Walk}
 use Rattle.ac_search.proofs.Steps.StepLemmas.{laws_in}
-use Rattle.ac_search.proofs.Steps.TryLemmas.{closed_dead}
+use Rattle.ac_prune.proofs.Search.SoughtLemmas.{closed_dead}
 use Rattle.ac_search.proofs.Steps.PathLemmas.{IsPut, put_low, front_put, front_fits, path_opens}
 use Rattle.ac_search.proofs.walk.Walk.stays_open.Goals as goal
 

@@ -7,7 +7,8 @@ use Rattle.ac_search.specs.declared.walk.Walk.{Walk}
 use Rattle.ac_search.proofs.Steps.ChangeLemmas.{changed_less, fewer_paid}
 use Rattle.ac_search.proofs.Steps.MoveLemmas.{sound_back, left_back, forward_back, front_back}
 use Rattle.ac_search.proofs.Steps.PathLemmas.{placed_low}
-use Rattle.ac_search.proofs.Steps.StepLemmas.{few_providers, laws_in}
+use Rattle.ac_prune.proofs.Roots.TreeLemmas.{few_providers}
+use Rattle.ac_search.proofs.Steps.StepLemmas.{laws_in}
 use Rattle.ac_search.proofs.walk.Walk.take_back.Goals as goal
 
 -- it stands one below its depth
@@ -36,10 +37,7 @@ invariant_of-self c =
     record {
       resumed = rw (c.give_back.ensures.same.cloud, c.give_back.ensures.same.query) w.resumed;
       listed = rw (c.give_back.ensures.same.cloud, c.give_back.ensures.same.query) w.listed;
-      by_tree = rw (c.give_back.ensures.same.cloud, c.give_back.ensures.same.query) w.by_tree;
-      hosting = rw (c.give_back.ensures.same.cloud, c.give_back.ensures.same.query) w.hosting;
-      grouped = rw (c.give_back.ensures.same.cloud, c.give_back.ensures.same.query) w.grouped;
-      looking = rw c.give_back.ensures.same.cloud w.looking;
+      looking = rw (c.give_back.ensures.same.cloud, c.give_back.ensures.same.query) w.looking;
       accounted = rw c.deref.ensures.value at c.give_back.ensures.accounts;
       sound = rw (c.give_back.ensures.same.cloud, c.give_back.ensures.same.query, place) (sound_back (search_in w) (laws_in w) w.least.items w.path.items w.places.items e w.seeking w.probes s);
     }

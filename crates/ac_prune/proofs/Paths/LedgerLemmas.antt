@@ -1,0 +1,278 @@
+-- What a ledger knows of a slot and a provider, and how it accounts for one provider more and less.
+use Rattle.std.proofs.Common.{◌≡◌, ◌∙◌, ℕ, ◌+◌, ◌<◌, ◌≤◌, ◌^◌, Bool, true, false, inl, inr, not, ◌&&◌, List, [], ◌∷◌, ◌++◌, map, length, Option, Some, None, refl, sym, ap, ap₂, subst, arith, length-append, nat_le, nat_lt, replicate, slice_index, slice_index_or}
+use Rattle.std.specs.Prelude.{◌==◌, if◌then◌else◌}
+use Rattle.std.specs.Global.{Vec}
+use Rattle.std.specs.List.{list_all, list_any, range_with_len, AllByRecursion as Each}
+use Rattle.std.proofs.lemmas.Bool.{cases_Bool, eq-eqb, false≢true, false_from_ne_true}
+use Rattle.std.proofs.lemmas.Bool.Decides.{nat_tests}
+use Rattle.std.proofs.lemmas.List.{get_or-map, get_or-replicate, length-map}
+use Rattle.std.proofs.lemmas.List.FromFn.{length-range_with_len, get_or-range_with_len}
+use Rattle.std.proofs.lemmas.List.Elements.{recursion_from_All}
+use Rattle.std.specs.List.Sorted.{IsStrictlySortedBy}
+use Rattle.ac_base.specs.Texts.{text_cmp}
+use Rattle.ac_query.proofs.Values.NameSets.{one_rises}
+use Rattle.ac_query.proofs.Values.NeedSteps.{classes_kept}
+use Rattle.ac_query.specs.Asked.{Asked, Slot, Group, slots_of, slots_from, group_slots, class_slot}
+use Rattle.ac_query.specs.Shown.Groups.{need_entry, suffix_of, group_asked, group_entry}
+use Rattle.ac_query.specs.Shown.Queries.{asked_of}
+use Rattle.ac_query.specs.Shown.Slots.{slot_shown}
+use Rattle.ac_query.specs.declared.group.Need.{Need}
+use Rattle.ac_query.specs.declared.group.Group as rust
+use Rattle.ac_query.specs.declared.query.Query.{Query}
+use Rattle.ac_cloud.specs.World.{Provider, provider_at, is_available_at, anchors_of}
+use Rattle.ac_rules.specs.Placed.{placed, placed_at, slot_at, no_slot, assigned}
+use Rattle.ac_rules.specs.Together.{sum_on, holds, sums, isolate, takes_root}
+use Rattle.ac_rules.specs.Judge.{is_open}
+use Rattle.ac_prune.specs.QuerySearch.{fits, has_room_alone}
+use Rattle.ac_rules.specs.Laws.{AskAmounts}
+use Rattle.ac_prune.specs.Left.{place_of, IsKnown, IsThere, AreRows, AreLeft, ask_pair, numbered, wanted, left_in, has_each, suffices, room_on, row_of}
+use Rattle.ac_prune.specs.Marks.{needs_own, marks_at, times, AreMarks, AreHits}
+use Rattle.ac_prune.specs.Left.Accounts.{providers_in, asked_in, texts_in, Accounts}
+use Rattle.ac_prune.specs.declared.ledger.rooms.Ask.{Ask}
+use Rattle.ac_prune.specs.declared.ledger.rooms.Room.{Room}
+use Rattle.ac_prune.specs.declared.ledger.Ledger.{Ledger}
+use Rattle.ac_rules.proofs.Elements.{each_append, each_map, each_weaker}
+use Rattle.ac_rules.proofs.SlotLemmas.{each_at}
+use Rattle.ac_rules.proofs.PlacedLemmas.{placed_none}
+use Rattle.ac_rules.proofs.EachSlot.FrontLemmas.{Opens, open_parts}
+use Rattle.ac_prune.proofs.Search.OpenLemmas.{placed_next, open_together, front_open}
+use Rattle.ac_prune.proofs.Paths.RoomLemmas.{there_left}
+use Rattle.ac_prune.proofs.Paths.LeftLemmas.{sums_next, sum_here, wanted_is, wanted_fits, wanted_class, each_suffices, holds_less, less_holds}
+use Rattle.ac_prune.proofs.Paths.MarkLemmas.{isolate_next, anchor_next, marks_more, marks_most, hits_more, hits_most, times_anchors}
+
+-- ---- Queries ask for amounts
+
+needs_positive : (needs : List Need) → Each (λ need. 0 < need.1) (map need_entry needs)
+needs_positive [] = tt
+needs_positive (n ∷ needs) = (n.amount.positive, needs_positive needs)
+
+abbrev Asks : Slot → Type 0
+Asks s = Each (λ need. 0 < need.1) s.needs
+
+group_asks : (i : ℕ) (suffix : Option (List ℕ)) (g : Group) → Each (λ need. 0 < need.1) g.needs → Each Asks (group_slots i (suffix, g))
+group_asks i None g h = each_map Asks (class_slot i g) g.needs (each_weaker (λ need. 0 < need.1) (λ need. Asks (class_slot i g need)) g.needs (λ need p. (p, tt)) h)
+group_asks i (Some s) g h = (h, tt)
+
+slots_ask : (i : ℕ) (gs : List rust.Group) → Each Asks (slots_from i (map group_entry gs))
+slots_ask i [] = tt
+slots_ask i (g ∷ gs) = each_append Asks (group_slots i (group_entry g)) (slots_from (i + 1) (map group_entry gs)) (group_asks i (suffix_of g) (group_asked g) (needs_positive g.needs.items)) (slots_ask (i + 1) gs)
+
+query_asks : (query : Query) → Each Asks (slots_of (asked_of query))
+query_asks query = slots_ask 0 query.groups.items
+
+-- ---- Queries ask for each class of a group once
+
+abbrev Rises : Slot → Type 0
+Rises s = IsStrictlySortedBy text_cmp (map (λ need. need.0) s.needs)
+
+group_rises : (i : ℕ) (suffix : Option (List ℕ)) (g : Group) → IsStrictlySortedBy text_cmp (map (λ need. need.0) g.needs) → Each Rises (group_slots i (suffix, g))
+group_rises i None g h = each_map Rises (class_slot i g) g.needs (each_needs g.needs)
+  where
+    each_needs : (needs : List (List ℕ × ℕ)) → Each (λ need. Rises (class_slot i g need)) needs
+    each_needs [] = tt
+    each_needs (n ∷ needs) = (one_rises n.0, each_needs needs)
+group_rises i (Some s) g h = (h, tt)
+
+slots_rise : (i : ℕ) (gs : List rust.Group) → Each Rises (slots_from i (map group_entry gs))
+slots_rise i [] = tt
+slots_rise i (g ∷ gs) = each_append Rises (group_slots i (group_entry g)) (slots_from (i + 1) (map group_entry gs))
+    (group_rises i (suffix_of g) (group_asked g) (subst (IsStrictlySortedBy text_cmp) (sym (classes_kept g.needs.items)) g.needs_rising)) (slots_rise (i + 1) gs)
+
+pub slot_rises : (query : Query) (s : ℕ) → s < length (slots_of (asked_of query)) → Rises (slot_at (asked_of query) s)
+slot_rises query s h = each_at Rises (slots_of (asked_of query)) s no_slot (slots_rise 0 query.groups.items) h
+
+slot_asks : (query : Query) (s : ℕ) → s < length (slots_of (asked_of query)) → Asks (slot_at (asked_of query) s)
+slot_asks query s h = each_at Asks (slots_of (asked_of query)) s no_slot (query_asks query) h
+
+placed_ask : (ss : List Slot) (q : List ℕ) → Each Asks ss → AskAmounts (placed ss q)
+placed_ask [] q h = tt
+placed_ask (s ∷ ss) [] h = tt
+placed_ask (s ∷ ss) (p ∷ q) h = (h.0, placed_ask ss q h.1)
+
+pub few_slots : (query : Query) → length (slots_of (asked_of query)) ≤ 64
+few_slots query = omega (arith, query.few, ap length query.slotted, length-map query.slots.items (slot_shown (map group_entry query.groups.items)), length-map (slots_of (asked_of query)) (λ (s : Slot). Some s))
+
+-- ---- What it knows of a slot
+
+pub known_in : (l : Ledger) (s : ℕ) → s < length (slots_of (asked_in l)) → Each (λ need. IsKnown (texts_in l) need.0) (slot_at (asked_in l) s).needs
+known_in l s h = recursion_from_All (λ need. IsKnown (texts_in l) need.0) (slot_at (asked_in l) s).needs (l.known s h)
+
+pub asks_at : (l : Ledger) (s : ℕ) (v : Vec Ask) → s < length (slots_of (asked_in l)) → v ≡ slice_index_or l.asks.items s v
+    → map ask_pair v.items ≡ map (numbered (texts_in l)) (slot_at (asked_in l) s).needs
+asks_at l s v h e =
+    let f = λ (u : Vec Ask). map ask_pair u.items in
+    let g = λ (slot : Slot). map (numbered (texts_in l)) slot.needs in
+    let many : s < length l.asks.items = omega (arith, h, ap length l.asked, length-map l.asks.items f, length-map (slots_of (asked_in l)) g) in
+    ap f e ∙ (sym (get_or-map f l.asks.items s v [] many) ∙ (ap (λ (ls : List (List (ℕ × ℕ))). slice_index_or ls s []) l.asked ∙ get_or-map g (slots_of (asked_in l)) s no_slot [] h))
+
+pub lone_at : (l : Ledger) (s : ℕ) (b : Bool) → s < length (slots_of (asked_in l)) → b ≡ slice_index_or l.lone.items s b → b ≡ needs_own (asked_in l) (slot_at (asked_in l) s)
+lone_at l s b h e =
+    e ∙ (ap (λ (bs : List Bool). slice_index_or bs s b) l.alone ∙ get_or-map (needs_own (asked_in l)) (slots_of (asked_in l)) s no_slot b h)
+
+taken_at : (l : Ledger) (r : ℕ) → r < length (providers_in l) → slice_index_or l.taken.items r false ≡ takes_root (providers_in l) (asked_in l) r
+taken_at l r h =
+    let n = length (providers_in l) in
+    let size : r < length (range_with_len 0 n) = omega (arith, h, length-range_with_len 0 n) in
+    let here : slice_index_or (range_with_len 0 n) r 0 ≡ r = get_or-range_with_len 0 n r 0 h ∙ omega arith in
+    ap (λ (bs : List Bool). slice_index_or bs r false) l.rooted
+    ∙ (get_or-map (takes_root (providers_in l) (asked_in l)) (range_with_len 0 n) r 0 false size ∙ ap (takes_root (providers_in l) (asked_in l)) here)
+
+-- ---- One more provider
+
+pub open_next : (l : Ledger) (q : List ℕ) (p : ℕ) → length q < length (slots_of (asked_in l)) → p < length (providers_in l) → Accounts l q
+    → list_all (λ x. fits (providers_in l) x) (assigned (asked_in l) (q ++ p ∷ [])) ≡ true → is_open (providers_in l) (asked_in l) q ≡ true
+    → is_open (providers_in l) (asked_in l) (q ++ p ∷ [])
+    ≡ (suffices (row_of l.rows.items p) (map (numbered (texts_in l)) (slot_at (asked_in l) (length q)).needs)
+    && (not (needs_own (asked_in l) (slot_at (asked_in l) (length q)) && nat_lt 0 (slice_index l.marks.items p))
+    && list_any (λ r. slice_index_or l.taken.items r false && (slice_index l.hits.items r == length q)) (anchors_of (providers_in l) p)))
+unfolding is_open
+open_next l q p h k accounts own open_q =
+    let all = providers_in l in
+    let asked = asked_in l in
+    let xs = assigned asked q in
+    let x = placed_at asked (length q) p in
+    let parts : Opens all asked xs = open_parts all asked xs open_q in
+    let next = placed_next asked q p h in
+    let slots = query_asks l.query.now in
+    let short : length (q ++ p ∷ []) ≤ length (slots_of asked) = omega (arith, h, length-append q (p ∷ [])) in
+    let more : AskAmounts (xs ++ x ∷ []) = subst AskAmounts next (placed_ask (slots_of asked) (q ++ p ∷ []) slots) in
+    let room : sums all (assigned asked (q ++ p ∷ [])) ≡ suffices (row_of l.rows.items p) (map (numbered (texts_in l)) (slot_at asked (length q)).needs) =
+    ap (sums all) next ∙ sums_next all (texts_in l) (row_of l.rows.items p) xs x (λ c known. accounts.left p c k known) (known_in l (length q) h) (placed_ask (slots_of asked) q slots) more (slot_asks l.query.now (length q) h) parts.sums in
+    let apart : isolate asked (assigned asked (q ++ p ∷ [])) ≡ not (needs_own asked (slot_at asked (length q)) && nat_lt 0 (slice_index l.marks.items p)) =
+    ap (isolate asked) next ∙ (isolate_next asked xs x parts.isolate ∙ ap (λ (n : ℕ). not (needs_own asked (slot_at asked (length q)) && nat_lt 0 n)) (sym (accounts.marks p k))) in
+    open_together all asked (q ++ p ∷ []) own
+    ∙ ap₂ (λ a b. a && b) room (ap₂ (λ a b. a && b) apart (sym (anchor_next all asked (slots_of asked) q p l.taken.items l.hits.items short (taken_at l) accounts.hits)))
+
+-- ---- Room to count
+
+placed_few : (ss : List Slot) (q : List ℕ) → length (placed ss q) ≤ length q
+placed_few [] q = omega arith
+placed_few (s ∷ ss) [] = omega arith
+placed_few (s ∷ ss) (p ∷ q) = let more = placed_few ss q in omega arith
+
+-- an open front has room for what its last provider takes
+pub room_for : (l : Ledger) (q : List ℕ) (p k : ℕ) → length q < length (slots_of (asked_in l)) → p < length (providers_in l) → Accounts l q → is_open (providers_in l) (asked_in l) (q ++ p ∷ []) ≡ true
+    → wanted (map (numbered (texts_in l)) (slot_at (asked_in l) (length q)).needs) k ≤ left_in (row_of l.rows.items p) k
+unfolding is_open
+room_for l q p k h within accounts opens =
+    let all = providers_in l in
+    let asked = asked_in l in
+    let xs = assigned asked q in
+    let x = placed_at asked (length q) p in
+    let next = placed_next asked q p h in
+    let slots = query_asks l.query.now in
+    let front : Opens all asked xs = open_parts all asked xs (front_open all asked q (p ∷ []) opens) in
+    let whole : Opens all asked (assigned asked (q ++ p ∷ [])) = open_parts all asked (assigned asked (q ++ p ∷ [])) opens in
+    let more : AskAmounts (xs ++ x ∷ []) = subst AskAmounts next (placed_ask (slots_of asked) (q ++ p ∷ []) slots) in
+    let enough : suffices (row_of l.rows.items p) (map (numbered (texts_in l)) (slot_at asked (length q)).needs) ≡ true =
+    sym (ap (sums all) next ∙ sums_next all (texts_in l) (row_of l.rows.items p) xs x (λ c known. accounts.left p c within known) (known_in l (length q) h) (placed_ask (slots_of asked) q slots) more (slot_asks l.query.now (length q) h) front.sums) ∙ whole.sums in
+    wanted_fits (row_of l.rows.items p) (map (numbered (texts_in l)) (slot_at asked (length q)).needs) k enough
+
+pub room_to_mark : (l : Ledger) (q : List ℕ) (p : ℕ) → length q < length (slots_of (asked_in l)) → p < length (providers_in l) → Accounts l q → slice_index l.marks.items p < 64
+room_to_mark l q p h within accounts =
+    omega (arith, accounts.marks p within, marks_most (asked_in l) (assigned (asked_in l) q) p, placed_few (slots_of (asked_in l)) q, h, few_slots l.query.now)
+
+pub room_to_hit : (l : Ledger) (q : List ℕ) (p r : ℕ) → length q < length (slots_of (asked_in l)) → r < length (providers_in l) → Accounts l q
+    → slice_index l.hits.items r + times r (anchors_of (providers_in l) p) < 2 ^ 32
+room_to_hit l q p r h within accounts =
+    let once = times_anchors (providers_in l) p r within in
+    elim (cases_Bool (is_available_at (providers_in l) p r)) [
+      | inl e ↦ let one = rw e at once in omega (arith, one, accounts.hits r within, hits_most (providers_in l) q r, h, few_slots l.query.now)
+      | inr e ↦ let none = rw e at once in omega (arith, none, accounts.hits r within, hits_most (providers_in l) q r, h, few_slots l.query.now)
+    ]
+
+-- what is given back was taken of a small room, which is there
+pub room_back : (l : Ledger) (q : List ℕ) (p k : ℕ) → length q < length (slots_of (asked_in l)) → p < length (providers_in l) → Accounts l (q ++ p ∷ [])
+    → 0 < wanted (map (numbered (texts_in l)) (slot_at (asked_in l) (length q)).needs) k
+    → IsThere (row_of l.rows.items p) k × (left_in (row_of l.rows.items p) k + wanted (map (numbered (texts_in l)) (slot_at (asked_in l) (length q)).needs) k < 2 ^ 64)
+room_back l q p k h within accounts some =
+    let all = providers_in l in
+    let asked = asked_in l in
+    let needs = (slot_at asked (length q)).needs in
+    let known = known_in l (length q) h in
+    let at = wanted_class (texts_in l) needs k known some in
+    let c = at.0 in
+    let sum = sum_here (assigned asked q) (placed_at asked (length q) p) p c refl in
+    let same = ap (λ xs. sum_on xs p c) (placed_next asked q p h) in
+    let left = accounts.left p c within at.1.0 in
+    let is = wanted_is (texts_in l) needs c known in
+    let asks : 0 < wanted (map (numbered (texts_in l)) needs) (place_of (texts_in l) c) = subst (λ (j : ℕ). 0 < wanted (map (numbered (texts_in l)) needs) j) (sym at.1.1) some in
+    let there = l.there p c within at.1.0 (omega (arith, sum, same, left, is, asks)) in
+    let small = l.small p c within at.1.0 in
+    subst (λ (j : ℕ). IsThere (row_of l.rows.items p) j × (left_in (row_of l.rows.items p) j + wanted (map (numbered (texts_in l)) needs) j < 2 ^ 64)) at.1.1
+    (there, omega (arith, sum, same, left, is, small))
+
+pub mark_there : (l : Ledger) (q : List ℕ) (p : ℕ) → length q < length (slots_of (asked_in l)) → p < length (providers_in l) → Accounts l (q ++ p ∷ [])
+    → needs_own (asked_in l) (slot_at (asked_in l) (length q)) ≡ true → 0 < slice_index l.marks.items p
+mark_there l q p h within accounts lone =
+    let asked = asked_in l in
+    let itself = eq-eqb p p refl in
+    let more = rw (lone, itself) at (marks_more asked (assigned asked q) (placed_at asked (length q) p) p) in
+    let same = ap (λ xs. marks_at asked xs p) (placed_next asked q p h) in
+    omega (arith, accounts.marks p within, same, more)
+
+pub hit_there : (l : Ledger) (q : List ℕ) (p r : ℕ) → r < length (providers_in l) → Accounts l (q ++ p ∷ []) → times r (anchors_of (providers_in l) p) ≤ slice_index l.hits.items r
+hit_there l q p r within accounts = omega (arith, accounts.hits r within, hits_more (providers_in l) q p r, times_anchors (providers_in l) p r within)
+
+-- ---- The accounts of one more and of one less
+
+pub marks_next : (all : List Provider) (asked : Asked) (q : List ℕ) (p : ℕ) (lone : Bool) (old new : List ℕ) → length q < length (slots_of asked) → lone ≡ needs_own asked (slot_at asked (length q))
+    → ((r : ℕ) → slice_index new r ≡ slice_index old r + (if lone && (p == r) then 1 else 0)) → AreMarks all asked old (assigned asked q) → AreMarks all asked new (assigned asked (q ++ p ∷ []))
+marks_next all asked q p lone old new h is change old_marks r within =
+    let more = marks_more asked (assigned asked q) (placed_at asked (length q) p) r in
+    let same = ap (λ xs. marks_at asked xs r) (placed_next asked q p h) in
+    omega (arith, rw is at (change r), old_marks r within, more, same)
+
+pub marks_back : (all : List Provider) (asked : Asked) (q : List ℕ) (p : ℕ) (lone : Bool) (old new : List ℕ) → length q < length (slots_of asked) → lone ≡ needs_own asked (slot_at asked (length q))
+    → ((r : ℕ) → slice_index new r + (if lone && (p == r) then 1 else 0) ≡ slice_index old r) → AreMarks all asked old (assigned asked (q ++ p ∷ [])) → AreMarks all asked new (assigned asked q)
+marks_back all asked q p lone old new h is change old_marks r within =
+    let more = marks_more asked (assigned asked q) (placed_at asked (length q) p) r in
+    let same = ap (λ xs. marks_at asked xs r) (placed_next asked q p h) in
+    omega (arith, rw is at (change r), old_marks r within, more, same)
+
+pub hits_next : (all : List Provider) (q : List ℕ) (p : ℕ) (old new : List ℕ) → ((r : ℕ) → slice_index new r ≡ slice_index old r + times r (anchors_of all p)) → AreHits all old q → AreHits all new (q ++ p ∷ [])
+hits_next all q p old new change old_hits r within = omega (arith, change r, old_hits r within, hits_more all q p r, times_anchors all p r within)
+
+pub hits_back : (all : List Provider) (q : List ℕ) (p : ℕ) (old new : List ℕ) → ((r : ℕ) → slice_index new r + times r (anchors_of all p) ≡ slice_index old r) → AreHits all old (q ++ p ∷ []) → AreHits all new q
+hits_back all q p old new change old_hits r within = omega (arith, change r, old_hits r within, hits_more all q p r, times_anchors all p r within)
+
+-- ---- The accounts of nothing
+
+pub left_none : (all : List Provider) (asked : Asked) (texts : List (List ℕ)) (rows : List (Vec Room)) → AreRows all texts rows → AreLeft all texts rows (assigned asked [])
+left_none all asked texts rows made p c h known = omega (arith, (made.each p h).left c known, ap (λ xs. sum_on xs p c) (placed_none (slots_of asked)))
+
+pub there_made : (all : List Provider) (texts : List (List ℕ)) (rows : List (Vec Room)) → AreRows all texts rows
+    → (p : ℕ) (c : List ℕ) → p < length all → IsKnown texts c → 0 < room_on all p c → IsThere (row_of rows p) (place_of texts c)
+there_made all texts rows made p c h known some = there_left (row_of rows p) (place_of texts c) (omega (arith, (made.each p h).left c known, some))
+
+pub marks_empty : (all : List Provider) (asked : Asked) (marks : List ℕ) → marks ≡ replicate (length all) 0 → AreMarks all asked marks (assigned asked [])
+marks_empty all asked marks made p h =
+    ap (λ (l : List ℕ). slice_index l p) made ∙ (get_or-replicate (length all) p 0 0 h ∙ sym (ap (λ xs. marks_at asked xs p) (placed_none (slots_of asked))))
+
+pub hits_empty : (all : List Provider) (hits : List ℕ) → hits ≡ replicate (length all) 0 → AreHits all hits []
+hits_empty all hits made r h = ap (λ (l : List ℕ). slice_index l r) made ∙ get_or-replicate (length all) r 0 0 h
+
+-- ---- Room for a slot alone
+
+each_alone : (l : Ledger) (p : ℕ) (needs : List (List ℕ × ℕ)) → p < length (providers_in l) → Accounts l [] → Each (λ need. IsKnown (texts_in l) need.0) needs → Each (λ need. 0 < need.1) needs
+    → has_each (row_of l.rows.items p) (map (numbered (texts_in l)) needs) ≡ list_all (λ (need : List ℕ × ℕ). holds (provider_at (providers_in l) p) need.0 need.1) needs
+each_alone l p [] low accounts known some = refl
+each_alone l p (n ∷ ns) low accounts known some =
+    let all = providers_in l in
+    let left = left_in (row_of l.rows.items p) (place_of (texts_in l) n.0) in
+    let nothing : sum_on (assigned (asked_in l) []) p n.0 ≡ 0 = ap (λ xs. sum_on xs p n.0) (placed_none (slots_of (asked_in l))) in
+    let room : left ≡ room_on all p n.0 = omega (arith, accounts.left p n.0 low known.0, nothing) in
+    let here : nat_le n.1 left ≡ holds (provider_at all p) n.0 n.1 = elim (cases_Bool (holds (provider_at all p) n.0 n.1)) [
+      | inl e ↦ let less : n.1 ≤ left = omega (arith, holds_less all p n.0 n.1 e, room) in rw e (grind (arith, nat_tests))
+      | inr e ↦ rw e (false_from_ne_true _ (λ t. let less : n.1 ≤ left = grind (arith, nat_tests) in false≢true (sym e ∙ less_holds all p n.0 n.1 some.0 (omega (arith, less, room)))))
+    ] in
+    ap₂ (λ a b. a && b) here (each_alone l p ns low accounts known.1 some.1)
+
+-- the row of a provider has enough for a slot exactly where the provider has room for it alone
+pub enough_alone : (l : Ledger) (s p : ℕ) → s < length (slots_of (asked_in l)) → p < length (providers_in l) → Accounts l []
+    → suffices (row_of l.rows.items p) (map (numbered (texts_in l)) (slot_at (asked_in l) s).needs) ≡ has_room_alone (providers_in l) (placed_at (asked_in l) s p)
+unfolding has_room_alone
+enough_alone l s p h low accounts =
+    let needs = (slot_at (asked_in l) s).needs in
+    sym (each_suffices (texts_in l) (row_of l.rows.items p) needs (known_in l s h) (slot_rises l.query.now s h))
+    ∙ each_alone l p needs low accounts (known_in l s h) (each_at Asks (slots_of (asked_in l)) s no_slot (query_asks l.query.now) h)

@@ -1,0 +1,267 @@
+-- What is left of rooms, when one more slot takes its part.
+use Rattle.std.proofs.Common.{◌≡◌, ◌≢◌, ◌∙◌, ℕ, ◌+◌, ◌<◌, ◌≤◌, Bool, true, false, ◌&&◌, List, [], ◌∷◌, ◌++◌, map, inl, inr, Option, None, Some, refl, sym, ap, ap₂, subst, arith, nat_le, slice_index_or}
+use Rattle.std.specs.Prelude.{◌==◌, if◌then◌else◌}
+use Rattle.std.specs.Option.{unwrap_or}
+use Rattle.std.specs.List.{list_all, AllByRecursion as Each}
+use Rattle.std.specs.Str.{bytes_eq}
+use Rattle.std.specs.Global.{Vec}
+use Rattle.std.proofs.lemmas.Bool.{cases_Bool, cases_eq, cases_lt, and_parts, and_from, eq-eqb, ne_eqb, false≢true, false_from_ne_true}
+use Rattle.std.proofs.lemmas.Bool.Decides.{nat_tests}
+use Rattle.std.proofs.lemmas.List.{map-append}
+use Rattle.std.proofs.lemmas.Slice.Eq.{bytes_eq-Decides}
+use Rattle.std.specs.List.Sorted.{IsStrictlySortedBy}
+use Rattle.ac_base.specs.Quantities.{InventoryNumbers, capacity}
+use Rattle.ac_base.specs.Texts.{text_cmp}
+use Rattle.ac_query.specs.Laws.InOrder.{AreApart}
+use Rattle.ac_query.proofs.Values.PositiveNeeds.{apart_from_sorted}
+use Rattle.ac_cloud.specs.World.{Provider, provider_at, used_of}
+use Rattle.ac_rules.specs.Own.{inventory_of}
+use Rattle.ac_rules.specs.Room.{room_in}
+use Rattle.ac_rules.specs.Placed.{Placed}
+use Rattle.ac_rules.specs.Together.{amount_of, sum_on, has_room, holds, sums}
+use Rattle.ac_rules.specs.Laws.{AskAmounts, IsFull}
+use Rattle.ac_prune.specs.Left.{place_of, IsKnown, numbered, wanted, left_in, has_each, suffices, room_on, row_of, Takes, AreLeft}
+use Rattle.ac_prune.specs.declared.ledger.rooms.Room.{Room}
+use Rattle.ac_rules.proofs.EachSlot.FullLemmas.{sums_say_full}
+
+-- a class that is known stands at its place
+pub known_at : (classes : List (List ℕ)) (c : List ℕ) → IsKnown classes c → slice_index_or classes (place_of classes c) [] ≡ c
+known_at [] c h = absurd (omega arith)
+known_at (d ∷ classes) c h = elim (cases_Bool (bytes_eq d c)) [
+  | inl e ↦ rw e ((bytes_eq-Decides d c).0 e)
+  | inr e ↦ let less : IsKnown classes c = let more = rw e at h in omega arith in rw e (known_at classes c less)
+]
+
+same_place : (classes : List (List ℕ)) (c d : List ℕ) → IsKnown classes c → place_of classes c ≡ place_of classes d → c ≡ d
+same_place classes c d h e =
+    let there : IsKnown classes d = omega (arith, e, h) in
+    sym (known_at classes c h) ∙ (ap (λ (k : ℕ). slice_index_or classes k []) e ∙ known_at classes d there)
+
+-- one more class
+known_more : (classes : List (List ℕ)) (d c : List ℕ) → IsKnown classes c → IsKnown (classes ++ d ∷ []) c
+known_more [] d c h = absurd (omega arith)
+known_more (b ∷ classes) d c h = elim (cases_Bool (bytes_eq b c)) [
+  | inl e ↦ rw e (omega arith)
+  | inr e ↦ let less : IsKnown classes c = let more = rw e at h in omega arith in let more = known_more classes d c less in rw e (omega (arith, more))
+]
+
+known_last : (classes : List (List ℕ)) (c : List ℕ) → IsKnown (classes ++ c ∷ []) c
+known_last [] c = let same = (bytes_eq-Decides c c).1 refl in rw same (omega arith)
+known_last (b ∷ classes) c = elim (cases_Bool (bytes_eq b c)) [
+  | inl e ↦ rw e (omega arith)
+  | inr e ↦ let more = known_last classes c in rw e (omega (arith, more))
+]
+
+pub known_pushed : {X : Type 0} (text : X → List ℕ) (xs : List X) (x : X) → IsKnown (map text (xs ++ x ∷ [])) (text x)
+known_pushed text xs x = subst (λ ts. IsKnown ts (text x)) (sym (map-append text xs (x ∷ []))) (known_last (map text xs) (text x))
+
+pub known_kept : {X : Type 0} (text : X → List ℕ) (xs : List X) (x : X) (c : List ℕ) → IsKnown (map text xs) c → IsKnown (map text (xs ++ x ∷ [])) c
+known_kept text xs x c h = subst (λ ts. IsKnown ts c) (sym (map-append text xs (x ∷ []))) (known_more (map text xs) (text x) c h)
+
+-- a number of a class stands for its text
+number_test : (classes : List (List ℕ)) (c d : List ℕ) → IsKnown classes c → (place_of classes c == place_of classes d) ≡ bytes_eq c d
+number_test classes c d h = elim (cases_Bool (bytes_eq c d)) [
+  | inl e ↦ rw e (eq-eqb (place_of classes c) (place_of classes d) (ap (place_of classes) ((bytes_eq-Decides c d).0 e)))
+  | inr e ↦ rw e (ne_eqb (place_of classes c) (place_of classes d) (λ s. false≢true (sym e ∙ (bytes_eq-Decides c d).1 (same_place classes c d h s))))
+]
+
+-- what asks want of a class is what the needs ask of it
+pub wanted_is : (classes : List (List ℕ)) (needs : List (List ℕ × ℕ)) (c : List ℕ) → Each (λ need. IsKnown classes need.0) needs
+    → wanted (map (numbered classes) needs) (place_of classes c) ≡ amount_of needs c
+wanted_is classes [] c h = refl
+wanted_is classes (need ∷ needs) c h = ap₂ (λ (b : Bool) (n : ℕ). (if b then need.1 else 0) + n) (number_test classes need.0 c h.0) (wanted_is classes needs c h.1)
+
+-- ---- Rooms
+
+pub room_enough : (inventory : Option InventoryNumbers) (used m : ℕ) → has_room inventory used m ≡ true → m ≤ unwrap_or (room_in inventory used) 0
+room_enough None used m h = absurd (false≢true h)
+room_enough (Some inventory) used m h = elim (cases_Bool (nat_le used (capacity inventory))) [
+  | inl e ↦ rw e (grind (arith, nat_tests))
+  | inr e ↦ absurd (grind (arith, nat_tests))
+]
+
+enough_room : (inventory : Option InventoryNumbers) (used m : ℕ) → 0 < m → m ≤ unwrap_or (room_in inventory used) 0 → has_room inventory used m ≡ true
+enough_room None used m some h = absurd (omega (arith, some, h))
+enough_room (Some inventory) used m some h = elim (cases_Bool (nat_le used (capacity inventory))) [
+  | inl e ↦ let less = rw e at h in grind (arith, nat_tests)
+  | inr e ↦ let less = rw e at h in absurd (omega (arith, some, less))
+]
+
+pub holds_less : (all : List Provider) (p : ℕ) (c : List ℕ) (m : ℕ) → holds (provider_at all p) c m ≡ true → m ≤ room_on all p c
+holds_less all p c m h = room_enough (inventory_of (provider_at all p) c) (used_of (provider_at all p) c) m h
+
+pub less_holds : (all : List Provider) (p : ℕ) (c : List ℕ) (m : ℕ) → 0 < m → m ≤ room_on all p c → holds (provider_at all p) c m ≡ true
+less_holds all p c m some h = enough_room (inventory_of (provider_at all p) c) (used_of (provider_at all p) c) m some h
+
+-- ---- One more slot
+
+sum_more : (xs : List Placed) (x : Placed) (p : ℕ) (c : List ℕ) → sum_on (xs ++ x ∷ []) p c ≡ sum_on xs p c + (if x.provider == p then amount_of x.slot.needs c else 0)
+sum_more [] x p c = omega arith
+sum_more (y ∷ xs) x p c = let more = sum_more xs x p c in omega arith
+
+-- it asks of its own provider
+pub sum_here : (xs : List Placed) (x : Placed) (p : ℕ) (c : List ℕ) → x.provider ≡ p → sum_on (xs ++ x ∷ []) p c ≡ sum_on xs p c + amount_of x.slot.needs c
+sum_here xs x p c e = let same = eq-eqb x.provider p e in rw same at (sum_more xs x p c)
+
+pub sum_other : (xs : List Placed) (x : Placed) (p : ℕ) (c : List ℕ) → x.provider ≢ p → sum_on (xs ++ x ∷ []) p c ≡ sum_on xs p c
+sum_other xs x p c e = let other = ne_eqb x.provider p e in let more = rw other at (sum_more xs x p c) in omega arith
+
+-- each class of which something is asked has enough in the row
+suffices_from : (classes : List (List ℕ)) (row : List (ℕ × ℕ)) (needs ns : List (List ℕ × ℕ)) → Each (λ need. IsKnown classes need.0) needs
+    → ((c : List ℕ) → IsKnown classes c → 0 < amount_of ns c → amount_of needs c ≤ left_in row (place_of classes c))
+    → Each (λ need. IsKnown classes need.0) ns → Each (λ need. 0 < need.1) ns
+    → list_all (λ a. nat_le (wanted (map (numbered classes) needs) a.0) (left_in row a.0)) (map (numbered classes) ns) ≡ true
+suffices_from classes row needs [] all enough known some = refl
+suffices_from classes row needs (n ∷ ns) all enough known some =
+    let itself = (bytes_eq-Decides n.0 n.0).1 refl in
+    let asks : 0 < amount_of (n ∷ ns) n.0 = let one = some.0 in rw itself (omega arith) in
+    let here = enough n.0 known.0 asks in
+    let is = wanted_is classes needs n.0 all in
+    and_from _ _ (rw is (grind (arith, nat_tests)))
+    (suffices_from classes row needs ns all (λ c k more. enough c k (omega (arith, more))) known.1 some.1)
+
+suffices_at : (classes : List (List ℕ)) (row : List (ℕ × ℕ)) (needs ns : List (List ℕ × ℕ)) (c : List ℕ) → Each (λ need. IsKnown classes need.0) needs
+    → Each (λ need. IsKnown classes need.0) ns
+    → list_all (λ a. nat_le (wanted (map (numbered classes) needs) a.0) (left_in row a.0)) (map (numbered classes) ns) ≡ true → 0 < amount_of ns c
+    → IsKnown classes c × (amount_of needs c ≤ left_in row (place_of classes c))
+suffices_at classes row needs [] c all known h asks = absurd (omega arith)
+suffices_at classes row needs (n ∷ ns) c all known h asks =
+    let both = and_parts _ _ h in
+    elim (cases_Bool (bytes_eq n.0 c)) [
+      | inl e ↦
+          let same : n.0 ≡ c = (bytes_eq-Decides n.0 c).0 e in
+          let test : nat_le (wanted (map (numbered classes) needs) (place_of classes n.0)) (left_in row (place_of classes n.0)) ≡ true = both.0 in
+          let less : wanted (map (numbered classes) needs) (place_of classes n.0) ≤ left_in row (place_of classes n.0) = grind (arith, nat_tests) in
+          let fits : amount_of needs n.0 ≤ left_in row (place_of classes n.0) = omega (arith, less, wanted_is classes needs n.0 all) in
+          subst (λ (d : List ℕ). IsKnown classes d × (amount_of needs d ≤ left_in row (place_of classes d))) same (known.0, fits)
+      | inr e ↦ let less : 0 < amount_of ns c = let more = rw e at asks in omega arith in suffices_at classes row needs ns c all known.1 both.1 less
+    ]
+
+-- ---- Classes that stand once
+
+-- what needs ask of their own classes, which differ
+amount_none : (needs : List (List ℕ × ℕ)) (c : List ℕ) → Each (λ d. bytes_eq c d ≡ false) (map (λ need. need.0) needs) → amount_of needs c ≡ 0
+amount_none [] c h = refl
+amount_none (n ∷ needs) c h =
+    let other : bytes_eq n.0 c ≡ false = false_from_ne_true _ (λ e. false≢true (sym h.0 ∙ (bytes_eq-Decides c n.0).1 (sym ((bytes_eq-Decides n.0 c).0 e)))) in
+    let none = amount_none needs c h.1 in
+    rw other (omega (arith, none))
+
+amounts_once : (needs : List (List ℕ × ℕ)) → AreApart (map (λ need. need.0) needs) → Each (λ need. amount_of needs need.0 ≡ need.1) needs
+amounts_once [] h = tt
+amounts_once (n ∷ needs) h =
+    let itself = (bytes_eq-Decides n.0 n.0).1 refl in
+    let alone = amount_none needs n.0 h.0 in
+    (rw itself (omega (arith, alone)), more needs h.0 (amounts_once needs h.1))
+  where
+    more : (ns : List (List ℕ × ℕ)) → Each (λ d. bytes_eq n.0 d ≡ false) (map (λ need. need.0) ns) → Each (λ need. amount_of needs need.0 ≡ need.1) ns → Each (λ need. amount_of (n ∷ needs) need.0 ≡ need.1) ns
+    more [] apart all = tt
+    more (m ∷ ns) apart all = let here = all.0 in let differ = apart.0 in (rw differ (omega (arith, here)), more ns apart.1 all.1)
+
+-- so a row has enough for all where it has each amount
+pub each_suffices : (classes : List (List ℕ)) (row : List (ℕ × ℕ)) (needs : List (List ℕ × ℕ)) → Each (λ need. IsKnown classes need.0) needs → IsStrictlySortedBy text_cmp (map (λ need. need.0) needs)
+    → has_each row (map (numbered classes) needs) ≡ suffices row (map (numbered classes) needs)
+each_suffices classes row needs known rising = along needs (amounts_once needs (apart_from_sorted (map (λ need. need.0) needs) rising))
+  where
+    along : (ns : List (List ℕ × ℕ)) → Each (λ need. amount_of needs need.0 ≡ need.1) ns
+        → list_all (λ a. nat_le a.1 (left_in row a.0)) (map (numbered classes) ns) ≡ list_all (λ a. nat_le (wanted (map (numbered classes) needs) a.0) (left_in row a.0)) (map (numbered classes) ns)
+    along [] once = refl
+    along (n ∷ ns) once = ap₂ (λ (m : ℕ) (b : Bool). nat_le m (left_in row (place_of classes n.0)) && b) (sym (wanted_is classes needs n.0 known ∙ once.0)) (along ns once.1)
+
+-- What a row must have left of its provider's rooms.
+abbrev pub IsLeft : List Provider → List (List ℕ) → List (ℕ × ℕ) → List Placed → ℕ → Type 0
+IsLeft all classes row xs p = (c : List ℕ) → IsKnown classes c → left_in row (place_of classes c) + sum_on xs p c ≡ room_on all p c
+
+full_next : (all : List Provider) (classes : List (List ℕ)) (row : List (ℕ × ℕ)) (xs : List Placed) (x : Placed) → IsLeft all classes row xs x.provider
+    → Each (λ need. IsKnown classes need.0) x.slot.needs → IsFull all xs → suffices row (map (numbered classes) x.slot.needs) ≡ true → IsFull all (xs ++ x ∷ [])
+full_next all classes row xs x left known full enough p c asked = elim (cases_eq x.provider p) [
+  | inl e ↦
+      let sum = sum_here xs x p c e in
+      elim (cases_lt 0 (amount_of x.slot.needs c)) [
+        | inl l ↦
+            let at = suffices_at classes row x.slot.needs x.slot.needs c known known enough l in
+            let room = subst (λ (r : ℕ). left_in row (place_of classes c) + sum_on xs r c ≡ room_on all r c) e (left c at.0) in
+            less_holds all p c (sum_on (xs ++ x ∷ []) p c) asked (omega (arith, sum, room, at.1))
+        | inr l ↦
+            let same : sum_on (xs ++ x ∷ []) p c ≡ sum_on xs p c = omega (arith, sum, l) in
+            rw same (full p c (omega (arith, same, asked)))
+      ]
+  | inr e ↦ let same = sum_other xs x p c e in rw same (full p c (omega (arith, same, asked)))
+]
+
+-- The next slot's rooms suffice exactly where the row of its provider has enough left.
+pub sums_next : (all : List Provider) (classes : List (List ℕ)) (row : List (ℕ × ℕ)) (xs : List Placed) (x : Placed) → IsLeft all classes row xs x.provider
+    → Each (λ need. IsKnown classes need.0) x.slot.needs → AskAmounts xs → AskAmounts (xs ++ x ∷ []) → Each (λ need. 0 < need.1) x.slot.needs → sums all xs ≡ true
+    → sums all (xs ++ x ∷ []) ≡ suffices row (map (numbered classes) x.slot.needs)
+sums_next all classes row xs x left known some more own fine = same_tests (sums all (xs ++ x ∷ [])) (suffices row (map (numbered classes) x.slot.needs)) down up
+  where
+    same_tests : (a b : Bool) → (a ≡ true → b ≡ true) → (b ≡ true → a ≡ true) → a ≡ b
+    same_tests true b f g = sym (f refl)
+    same_tests false true f g = g refl
+    same_tests false false f g = refl
+
+    down : sums all (xs ++ x ∷ []) ≡ true → suffices row (map (numbered classes) x.slot.needs) ≡ true
+    down h =
+        let full = (sums_say_full all (xs ++ x ∷ []) more).0 h in
+        suffices_from classes row x.slot.needs x.slot.needs known
+        (λ c k asks.
+        let sum = sum_here xs x x.provider c refl in
+        let less = holds_less all x.provider c (sum_on (xs ++ x ∷ []) x.provider c) (full x.provider c (omega (arith, sum, asks))) in
+        omega (arith, sum, less, left c k)) known own
+
+    up : suffices row (map (numbered classes) x.slot.needs) ≡ true → sums all (xs ++ x ∷ []) ≡ true
+    up h = (sums_say_full all (xs ++ x ∷ []) more).1 (full_next all classes row xs x left known ((sums_say_full all xs some).0 fine) h)
+
+-- ---- Rows
+
+-- one more slot takes its part
+pub left_more : (all : List Provider) (classes : List (List ℕ)) (rows new : List (Vec Room)) (xs : List Placed) (x : Placed)
+    → Each (λ need. IsKnown classes need.0) x.slot.needs → Takes rows x.provider (map (numbered classes) x.slot.needs) new
+    → AreLeft all classes rows xs → AreLeft all classes new (xs ++ x ∷ [])
+left_more all classes rows new xs x known takes left p c h k = elim (cases_eq x.provider p) [
+  | inl e ↦
+      let here = subst (λ (r : ℕ). left_in (row_of new r) (place_of classes c) + wanted (map (numbered classes) x.slot.needs) (place_of classes c) ≡ left_in (row_of rows r) (place_of classes c)) e (takes.here (place_of classes c)) in
+      omega (arith, here, wanted_is classes x.slot.needs c known, sum_here xs x p c e, left p c h k)
+  | inr e ↦
+      let same = ap (λ (row : List (ℕ × ℕ)). left_in row (place_of classes c)) (takes.others p (λ s. e (sym s))) in
+      omega (arith, same, sum_other xs x p c e, left p c h k)
+]
+
+-- and gives it back
+pub left_less : (all : List Provider) (classes : List (List ℕ)) (rows new : List (Vec Room)) (xs : List Placed) (x : Placed)
+    → Each (λ need. IsKnown classes need.0) x.slot.needs → Takes new x.provider (map (numbered classes) x.slot.needs) rows
+    → AreLeft all classes rows (xs ++ x ∷ []) → AreLeft all classes new xs
+left_less all classes rows new xs x known takes left p c h k = elim (cases_eq x.provider p) [
+  | inl e ↦
+      let here = subst (λ (r : ℕ). left_in (row_of rows r) (place_of classes c) + wanted (map (numbered classes) x.slot.needs) (place_of classes c) ≡ left_in (row_of new r) (place_of classes c)) e (takes.here (place_of classes c)) in
+      omega (arith, here, wanted_is classes x.slot.needs c known, sum_here xs x p c e, left p c h k)
+  | inr e ↦
+      let same = ap (λ (row : List (ℕ × ℕ)). left_in row (place_of classes c)) (takes.others p (λ s. e (sym s))) in
+      omega (arith, same, sum_other xs x p c e, left p c h k)
+]
+
+-- ---- What asks want of a row
+
+wanted_at : (row : List (ℕ × ℕ)) (asks ns : List (ℕ × ℕ)) (k : ℕ) → list_all (λ a. nat_le (wanted asks a.0) (left_in row a.0)) ns ≡ true → 0 < wanted ns k → wanted asks k ≤ left_in row k
+wanted_at row asks [] k h some = absurd (omega arith)
+wanted_at row asks (a ∷ ns) k h some =
+    let both = and_parts _ _ h in
+    elim (cases_eq a.0 k) [
+      | inl e ↦
+          let test : nat_le (wanted asks a.0) (left_in row a.0) ≡ true = both.0 in
+          let less : wanted asks a.0 ≤ left_in row a.0 = grind (arith, nat_tests) in
+          subst (λ (j : ℕ). wanted asks j ≤ left_in row j) e less
+      | inr e ↦ let other = ne_eqb a.0 k e in let more = rw other at some in wanted_at row asks ns k both.1 (omega (arith, more))
+    ]
+
+pub wanted_fits : (row : List (ℕ × ℕ)) (asks : List (ℕ × ℕ)) (k : ℕ) → suffices row asks ≡ true → wanted asks k ≤ left_in row k
+wanted_fits row asks k h = elim (cases_lt 0 (wanted asks k)) [ inl l ↦ wanted_at row asks asks k h l | inr l ↦ omega (arith, l) ]
+
+-- what is wanted of a number is wanted of a class that has it
+pub wanted_class : (classes : List (List ℕ)) (needs : List (List ℕ × ℕ)) (k : ℕ) → Each (λ need. IsKnown classes need.0) needs → 0 < wanted (map (numbered classes) needs) k
+    → (c : List ℕ) × (IsKnown classes c × (place_of classes c ≡ k))
+wanted_class classes [] k known some = absurd (omega arith)
+wanted_class classes (n ∷ needs) k known some = elim (cases_eq (place_of classes n.0) k) [
+  | inl e ↦ (n.0, (known.0, e))
+  | inr e ↦ let other = ne_eqb (place_of classes n.0) k e in let more = rw other at some in wanted_class classes needs k known.1 (omega (arith, more))
+]

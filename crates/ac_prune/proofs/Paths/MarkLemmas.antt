@@ -1,0 +1,152 @@
+-- Marks and hits, when one more slot has its provider.
+use Rattle.std.proofs.Common.{◌≡◌, ◌∙◌, ℕ, ◌+◌, ◌<◌, ◌≤◌, zero, suc, Bool, true, false, not, ◌&&◌, ◌||◌, List, [], ◌∷◌, ◌++◌, length, inl, inr, refl, sym, ap, ap₂, arith, nat_lt, slice_index, slice_index_or}
+use Rattle.std.specs.Prelude.{◌==◌, if◌then◌else◌}
+use Rattle.std.specs.List.{list_all, list_any, filter, range_with_len, AllByRecursion as Each}
+use Rattle.std.proofs.lemmas.Bool.{cases_Bool, cases_eq, eq-eqb, ne_eqb}
+use Rattle.std.proofs.lemmas.Bool.Decides.{nat_tests}
+use Rattle.std.proofs.lemmas.List.Folds.{list_all-append}
+use Rattle.ac_query.specs.Asked.{Asked, Slot, is_isolated}
+use Rattle.ac_cloud.specs.World.{Provider, is_available_at, anchors_of}
+use Rattle.ac_rules.specs.Placed.{Placed, placed}
+use Rattle.ac_rules.specs.Together.{is_set_apart, are_apart, all_apart, isolate, takes_root, anchor}
+use Rattle.ac_prune.specs.Marks.{needs_own, marks_at, times, hits_at, AreHits}
+use Rattle.ac_rules.proofs.EachSlot.AnchorLemmas.{anchors_list, anchor_list, any_filter, any_agree, each_range}
+use Rattle.ac_rules.proofs.Elements.{each_filter, each_weaker}
+
+-- ---- Marks
+
+pub marks_more : (asked : Asked) (xs : List Placed) (x : Placed) (p : ℕ) → marks_at asked (xs ++ x ∷ []) p ≡ marks_at asked xs p + (if needs_own asked x.slot && (x.provider == p) then 1 else 0)
+marks_more asked [] x p = omega arith
+marks_more asked (y ∷ xs) x p = let more = marks_more asked xs x p in omega arith
+
+pub marks_most : (asked : Asked) (xs : List Placed) (p : ℕ) → marks_at asked xs p ≤ length xs
+marks_most asked [] p = omega arith
+marks_most asked (x ∷ xs) p = let more = marks_most asked xs p in elim (cases_Bool (needs_own asked x.slot && (x.provider == p))) [ inl e ↦ rw e (omega arith) | inr e ↦ rw e (omega arith) ]
+
+-- a slot behind others stands apart from each
+apart_next : (xs : List Placed) (x : Placed) → all_apart (xs ++ x ∷ []) ≡ all_apart xs && list_all (λ y. are_apart y x) xs
+apart_next [] x = refl
+apart_next (y ∷ xs) x =
+    let here = list_all-append (λ z. are_apart y z) xs (x ∷ []) in
+    let more = apart_next xs x in
+    rw (here, more) (four (list_all (λ z. are_apart y z) xs) (are_apart y x) (all_apart xs) (list_all (λ z. are_apart z x) xs))
+  where
+    four : (a b c d : Bool) → (a && (b && true)) && (c && d) ≡ (a && c) && (b && d)
+    four false b c d = refl
+    four true false true d = refl
+    four true false false d = refl
+    four true true c d = refl
+
+some_mark : (b : Bool) (m : ℕ) → nat_lt 0 ((if b then 1 else 0) + m) ≡ b || nat_lt 0 m
+some_mark true m = grind (arith, nat_tests)
+some_mark false m = ap (nat_lt 0) (omega arith)
+
+-- where it is asked for, it does where no mark is at its provider
+marks_none : (asked : Asked) (xs : List Placed) (x : Placed) → is_isolated asked ≡ true
+    → list_all (λ y. are_apart y x) xs ≡ not (is_set_apart x.slot && nat_lt 0 (marks_at asked xs x.provider))
+unfolding are_apart
+marks_none asked [] x is = elim (cases_Bool (is_set_apart x.slot)) [ inl e ↦ rw e refl | inr e ↦ rw e refl ]
+marks_none asked (y ∷ xs) x is =
+    rw (some_mark (needs_own asked y.slot && (y.provider == x.provider)) (marks_at asked xs x.provider), marks_none asked xs x is, is)
+    (both (is_set_apart y.slot) (is_set_apart x.slot) (y.provider == x.provider) (nat_lt 0 (marks_at asked xs x.provider)))
+  where
+    both : (a b c d : Bool) → not (a && b && c) && not (b && d) ≡ not (b && (((true && a) && c) || d))
+    both true true true d = refl
+    both true true false true = refl
+    both true true false false = refl
+    both true false c d = refl
+    both false true c true = refl
+    both false true c false = refl
+    both false false c d = refl
+
+-- The next slot keeps Isolate exactly where it needs no provider for itself, or its own has no mark.
+pub isolate_next : (asked : Asked) (xs : List Placed) (x : Placed) → isolate asked xs ≡ true
+    → isolate asked (xs ++ x ∷ []) ≡ not (needs_own asked x.slot && nat_lt 0 (marks_at asked xs x.provider))
+unfolding isolate
+isolate_next asked xs x h = elim (cases_Bool (is_isolated asked)) [
+  | inl e ↦ let apart = rw e at h in rw (e, apart_next xs x, apart) (marks_none asked xs x e)
+  | inr e ↦ rw e refl
+]
+
+-- ---- Hits
+
+pub hits_more : (all : List Provider) (q : List ℕ) (p r : ℕ) → hits_at all (q ++ p ∷ []) r ≡ hits_at all q r + (if is_available_at all p r then 1 else 0)
+hits_more all [] p r = omega arith
+hits_more all (s ∷ q) p r = let more = hits_more all q p r in omega arith
+
+pub hits_most : (all : List Provider) (q : List ℕ) (r : ℕ) → hits_at all q r ≤ length q
+hits_most all [] r = omega arith
+hits_most all (p ∷ q) r = let more = hits_most all q r in elim (cases_Bool (is_available_at all p r)) [ inl e ↦ rw e (omega arith) | inr e ↦ rw e (omega arith) ]
+
+-- all are available where each hits
+pub all_hit : (all : List Provider) (q : List ℕ) (r : ℕ) → list_all (λ p. is_available_at all p r) q ≡ (hits_at all q r == length q)
+all_hit all [] r = refl
+all_hit all (p ∷ q) r =
+    let more = all_hit all q r in
+    let most = hits_most all q r in
+    elim (cases_Bool (is_available_at all p r)) [
+      | inl e ↦ rw (e, more) (grind (arith, nat_tests))
+      | inr e ↦ rw e (sym (ne_eqb (0 + hits_at all q r) (suc (length q)) (λ s. omega (arith, s, most))))
+    ]
+
+zero_more : (n : ℕ) → 0 + n ≡ n
+zero_more n = omega arith
+
+-- a root stands once among those below n that pass a test
+pub times_filter : (f : ℕ → Bool) (a n r : ℕ) → r < a + n → times r (filter f (range_with_len a n)) ≡ (if nat_lt r a then 0 else (if f r then 1 else 0))
+times_filter f a zero r h = let low : nat_lt r a ≡ true = grind (arith, nat_tests) in rw low refl
+times_filter f a (suc n) r h = elim (cases_eq a r) [
+  | inl e ↦
+      let later = times_filter f (a + 1) n r (omega (arith, h)) in
+      let low : nat_lt r (a + 1) ≡ true = grind (arith, nat_tests) in
+      let here : nat_lt r a ≡ false = grind (arith, nat_tests) in
+      let none = rw low at later in
+      elim (cases_Bool (f a)) [
+        | inl t ↦ let same = ap f e in rw (t, here, none, eq-eqb a r e) (let passes : f r ≡ true = sym same ∙ t in rw passes refl)
+        | inr t ↦ let same = ap f e in rw (t, here, none) (let fails : f r ≡ false = sym same ∙ t in rw fails refl)
+      ]
+  | inr e ↦
+      let later = times_filter f (a + 1) n r (omega (arith, h)) in
+      let same : nat_lt r (a + 1) ≡ nat_lt r a = grind (arith, nat_tests, e) in
+      elim (cases_Bool (f a)) [
+        | inl t ↦ rw (t, ne_eqb a r e) (zero_more (times r (filter f (range_with_len (a + 1) n))) ∙ (later ∙ rw same refl))
+        | inr t ↦ rw t (later ∙ rw same refl)
+      ]
+]
+
+pub times_anchors : (all : List Provider) (p r : ℕ) → r < length all → times r (anchors_of all p) ≡ (if is_available_at all p r then 1 else 0)
+times_anchors all p r h =
+    let low : nat_lt r 0 ≡ false = grind (arith, nat_tests) in
+    rw low at (times_filter (is_available_at all p) 0 (length all) r (omega (arith, h)))
+
+-- of those within a bound
+any_within : (f g : ℕ → Bool) (zs : List ℕ) → Each (λ z. f z ≡ g z) zs → list_any f zs ≡ list_any g zs
+any_within f g [] h = refl
+any_within f g (z ∷ zs) h = ap₂ (λ a b. a || b) h.0 (any_within f g zs h.1)
+
+-- the test of one more provider at a root
+at_root : (all : List Provider) (asked : Asked) (q : List ℕ) (p r : ℕ)
+    → is_available_at all p r && (takes_root all asked r && (hits_at all q r == length q)) ≡ anchors_list all asked (q ++ p ∷ []) r
+at_root all asked q p r =
+    rw (list_all-append (λ s. is_available_at all s r) q (p ∷ []), all_hit all q r)
+    (three (is_available_at all p r) (takes_root all asked r) (hits_at all q r == length q))
+  where
+    three : (a t h : Bool) → a && (t && h) ≡ t && (h && (a && true))
+    three true true true = refl
+    three true true false = refl
+    three true false h = refl
+    three false true true = refl
+    three false true false = refl
+    three false false h = refl
+
+-- The next provider keeps an anchor exactly where one of its own roots is taken and was hit by all before.
+pub anchor_next : (all : List Provider) (asked : Asked) (ss : List Slot) (q : List ℕ) (p : ℕ) (taken : List Bool) (hits : List ℕ) → length (q ++ p ∷ []) ≤ length ss
+    → ((r : ℕ) → r < length all → slice_index_or taken r false ≡ takes_root all asked r) → AreHits all hits q
+    → list_any (λ r. slice_index_or taken r false && (slice_index hits r == length q)) (anchors_of all p) ≡ anchor all asked (placed ss (q ++ p ∷ []))
+anchor_next all asked ss q p taken hits short takes hit =
+    any_within (λ r. slice_index_or taken r false && (slice_index hits r == length q)) (λ r. takes_root all asked r && (hits_at all q r == length q)) (anchors_of all p)
+    (each_weaker (λ r. (is_available_at all p r ≡ true) × (r < length all)) _ (anchors_of all p) (λ r h. ap₂ (λ (a : Bool) (n : ℕ). a && (n == length q)) (takes r h.1) (hit r h.1))
+    (each_filter (λ r. r < length all) (is_available_at all p) (range_with_len 0 (length all)) (each_range 0 (length all) (length all) (omega arith))))
+    ∙ (any_filter (λ r. takes_root all asked r && (hits_at all q r == length q)) (is_available_at all p) (range_with_len 0 (length all))
+    ∙ (any_agree (λ r. is_available_at all p r && (takes_root all asked r && (hits_at all q r == length q))) (λ r. anchors_list all asked (q ++ p ∷ []) r) (λ r. at_root all asked q p r) (range_with_len 0 (length all))
+    ∙ sym (anchor_list all asked ss (q ++ p ∷ []) short)))

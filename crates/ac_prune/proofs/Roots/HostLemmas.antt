@@ -1,0 +1,74 @@
+-- What a root must have where a candidate stands.
+use Rattle.std.proofs.Common.{◌≡◌, ℕ, ◌<◌, Bool, true, List, [], ◌∷◌, ◌++◌, length, refl, sym, ◌∙◌, subst, arith, length-append, length-drop}
+use Rattle.std.specs.List.{list_all, range_with_len, AllByRecursion as Each}
+use Rattle.std.proofs.lemmas.Bool.{and_parts}
+use Rattle.std.proofs.lemmas.List.Elements.{recursion_from_All}
+use Rattle.std.proofs.lemmas.List.Folds.{list_all-append}
+use Rattle.ac_query.specs.Asked.{Asked, Slot, slots_of}
+use Rattle.ac_cloud.specs.World.{Provider, is_available_at}
+use Rattle.ac_rules.specs.Placed.{Placed, placed, assigned}
+use Rattle.ac_rules.specs.Together.{hosts_all}
+use Rattle.ac_rules.specs.Judge.{is_candidate, is_open}
+use Rattle.ac_prune.specs.Ahead.{load_of, hosts_of, later, IsHosted, RoomsReach}
+use Rattle.ac_rules.proofs.Elements.{Among, among_filter}
+use Rattle.ac_rules.proofs.Lists.ListLemmas.{among_range}
+use Rattle.ac_rules.proofs.PlacedLemmas.{placed_append}
+use Rattle.ac_rules.proofs.EachSlot.FrontLemmas.{Opens, candidate_opens}
+use Rattle.ac_prune.proofs.Search.OpenLemmas.{is_search}
+use Rattle.ac_prune.proofs.Roots.CountLemmas.{boxes_reach}
+
+-- a provider that is available at a root is among its hosts
+pub among_hosts : (all : List Provider) (r p : ℕ) → p < length all → is_available_at all p r ≡ true → Among (hosts_of all r) p
+unfolding hosts_of
+among_hosts all r p h a = among_filter (λ p. is_available_at all p r) (range_with_len 0 (length all)) p (among_range 0 (length all) p (omega arith) (omega arith)) a
+
+-- what slots weigh, each of which is placed
+pub weight_placed : (w : Slot → ℕ) (ss : List Slot) (t : List ℕ) → length t ≡ length ss → load_of (λ x. w x.slot) (placed ss t) ≡ load_of w ss
+weight_placed w [] t h = refl
+weight_placed w (s ∷ ss) [] h = absurd (omega arith)
+weight_placed w (s ∷ ss) (p ∷ t) h = let more = weight_placed w ss t (omega arith) in omega arith
+
+-- each provider is available there
+each_host : (all : List Provider) (r : ℕ) (ss : List Slot) (t : List ℕ) → Each (λ p. p < length all) t → list_all (λ x. is_available_at all x.provider r) (placed ss t) ≡ true
+    → Each (λ x. Among (hosts_of all r) x.provider) (placed ss t)
+each_host all r [] t low h = tt
+each_host all r (s ∷ ss) [] low h = tt
+each_host all r (s ∷ ss) (p ∷ t) low h =
+    let both = and_parts (is_available_at all p r) (list_all (λ x. is_available_at all x.provider r) (placed ss t)) h in
+    (among_hosts all r p low.0 both.0, each_host all r ss t low.1 both.1)
+
+each_behind : {X : Type 0} (P : X → Type 0) (xs ys : List X) → Each P (xs ++ ys) → Each P ys
+each_behind P [] ys h = h
+each_behind P (x ∷ xs) ys h = each_behind P xs ys h.1
+
+pub all_behind : {X : Type 0} (f : X → Bool) (xs ys : List X) → list_all f (xs ++ ys) ≡ true → list_all f ys ≡ true
+all_behind f xs ys h = (and_parts (list_all f xs) (list_all f ys) (sym (list_all-append f xs ys) ∙ h)).1
+
+-- those behind the front stand there too
+pub behind_hosts : (all : List Provider) (asked : Asked) (q v : List ℕ) (r : ℕ) → IsHosted all asked r (q ++ v) → Each (λ x. Among (hosts_of all r) x.provider) (placed (later asked q) v)
+unfolding hosts_all
+behind_hosts all asked q v r h =
+    let there : list_all (λ x. is_available_at all x.provider r) (assigned asked q ++ placed (later asked q) v) ≡ true =
+    subst (λ xs. list_all (λ x. is_available_at all x.provider r) xs ≡ true) (placed_append (slots_of asked) q v) h.hosts in
+    each_host all r (later asked q) v (each_behind (λ p. p < length all) q v (recursion_from_All (λ p. p < length all) (q ++ v) h.list.below))
+    (all_behind (λ x. is_available_at all x.provider r) (assigned asked q) (placed (later asked q) v) there)
+
+-- as many as the later slots
+pub behind_long : (all : List Provider) (asked : Asked) (q v : List ℕ) (r : ℕ) → IsHosted all asked r (q ++ v) → length v ≡ length (later asked q)
+behind_long all asked q v r h = omega (arith, h.list.long, length-append q v, length-drop (length q) (slots_of asked))
+
+-- a candidate is open
+pub candidate_open : (all : List Provider) (asked : Asked) (t : List ℕ) → is_candidate all asked t ≡ true → is_open all asked t ≡ true
+candidate_open all asked t h = (is_search all asked).wanted t h
+
+pub rooms_reach : RoomsReach
+rooms_reach all asked q v r weight room bears h =
+    let reach = boxes_reach (λ (x : Placed). x.provider) (λ (x : Placed). weight x.slot) room (placed (later asked q) v) (hosts_of all r) (behind_hosts all asked q v r h)
+    (bears v (candidate_open all asked (q ++ v) h.candidate)) in
+    omega (arith, reach, weight_placed weight (later asked q) v (behind_long all asked q v r h))
+
+-- ---- What a root must have
+
+pub candidate_parts : (all : List Provider) (asked : Asked) (t : List ℕ) → is_candidate all asked t ≡ true → Opens all asked (assigned asked t)
+unfolding is_candidate
+candidate_parts all asked t h = candidate_opens all asked (assigned asked t) h

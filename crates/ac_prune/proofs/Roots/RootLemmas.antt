@@ -1,0 +1,303 @@
+-- What is counted for all roots: a root at which a candidate stands stays marked.
+use Rattle.std.proofs.Common.{inl, inr, ◌≡◌, ◌∙◌, ℕ, ◌+◌, ◌/◌, ◌<◌, ◌≤◌, zero, suc, Bool, true, false, ◌&&◌, List, [], ◌∷◌, ◌++◌, length, map, Result, Ok, Err, refl, sym, ap, ap₂, subst, arith, nat_le, slice_index, slice_index_or}
+use Rattle.std.specs.Prelude.{◌==◌, if◌then◌else◌, min, take, IfOk}
+use Rattle.std.specs.List.{All, list_all, list_any, range_with_len, AllByRecursion as Each}
+use Rattle.std.specs.Global.{Vec}
+use Rattle.std.specs.Str.{bytes_eq}
+use Rattle.std.proofs.lemmas.Slice.Eq.{bytes_eq-Decides}
+use Rattle.std.proofs.lemmas.Bool.{cases_Bool, and_parts, and_from, false≢true, false_from_ne_true}
+use Rattle.std.proofs.lemmas.List.Folds.{list_all-append}
+use Rattle.std.proofs.lemmas.List.{get_or-map, take_more}
+use Rattle.std.proofs.lemmas.List.Elements.{All-from_recursion, recursion_from_All}
+use Rattle.std.proofs.lemmas.List.FromFn.{length-range_with_len, get_or-range_with_len}
+use Rattle.std.proofs.lemmas.Bool.Decides.{nat_tests}
+use Rattle.ac_query.specs.Asked.{Asked, Slot, slots_of}
+use Rattle.ac_cloud.specs.World.{Provider, provider_at, is_available_at, anchors_of}
+use Rattle.ac_prune.specs.Marks.{AreHits, needs_own}
+use Rattle.ac_prune.specs.Search.{IsDead}
+use Rattle.ac_rules.specs.Placed.{Placed, placed, slot_at, no_slot, assigned}
+use Rattle.ac_rules.specs.Together.{amount_of, sum_on, holds, takes_root, hosts_all, anchor}
+use Rattle.ac_rules.specs.Judge.{is_candidate}
+use Rattle.ac_rules.specs.Lists.{IsListBelow}
+use Rattle.ac_prune.specs.QuerySearch.{fits, choice_of, search_of}
+use Rattle.ac_prune.specs.Left.{ask_pair, numbered, wanted, left_in, place_of, IsKnown, row_of, has_each}
+use Rattle.ac_prune.specs.Left.Accounts.{providers_in, asked_in, texts_in, Accounts}
+use Rattle.ac_prune.specs.Loads.{AreServing}
+use Rattle.ac_prune.specs.Ahead.{load_of, hosts_of, IsHosted, left_on, asks_much, lone_much, serves, AreHosts, AreRoots}
+use Rattle.ac_prune.specs.declared.ledger.Ledger.{Ledger}
+use Rattle.ac_prune.specs.declared.ledger.rooms.Ask.{Ask}
+use Rattle.ac_rules.proofs.Elements.{Among, each_weaker, each_filter}
+use Rattle.ac_rules.proofs.EachSlot.AnchorLemmas.{each_range, hosts_list, any_filter}
+use Rattle.ac_prune.proofs.Paths.MarkLemmas.{all_hit}
+use Rattle.ac_rules.proofs.EachSlot.FrontLemmas.{Opens}
+use Rattle.ac_rules.proofs.SlotLemmas.{each_at}
+use Rattle.ac_prune.proofs.Paths.LeftLemmas.{each_suffices, wanted_is, holds_less}
+use Rattle.ac_prune.proofs.Search.OpenLemmas.{each_choice}
+use Rattle.ac_prune.proofs.Search.SoughtLemmas.{place_of as place_of_choice}
+use Rattle.ac_prune.proofs.Paths.LedgerLemmas.{slot_rises, known_in, asks_at, lone_at}
+use Rattle.ac_prune.proofs.Roots.CountLemmas.{load_of_append}
+use Rattle.ac_prune.proofs.Paths.BearLemmas.{left_bears, pieces_bear, lone_bears, each_serves}
+use Rattle.ac_prune.proofs.Roots.PartLemmas.{choice_there}
+use Rattle.ac_prune.proofs.Roots.HostLemmas.{rooms_reach, behind_hosts, candidate_open, candidate_parts}
+
+pub if_ok : {X E : Type 0} (P Q : X → Type 0) (r : Result X E) → ((x : X) → P x → Q x) → IfOk r P → IfOk r Q
+if_ok P Q (Ok x) f h = f x h
+if_ok P Q (Err e) f h = tt
+
+-- where a further test leaves each root at which a candidate stands
+pub keeps : (all : List Provider) (asked : Asked) (old new : List Bool) (test : ℕ → Bool) → AreHosts all asked old
+    → ((r : ℕ) → r < length all → slice_index_or new r false ≡ (slice_index_or old r false && test r))
+    → ((r : ℕ) (t : List ℕ) → r < length all → IsHosted all asked r t → test r ≡ true) → AreHosts all asked new
+keeps all asked old new test was is passes r t h hosted = is r h ∙ and_from (slice_index_or old r false) (test r) (was r t h hosted) (passes r t h hosted)
+
+pub hosts_low : (all : List Provider) (r : ℕ) → Each (λ p. p < length all) (hosts_of all r)
+unfolding hosts_of
+hosts_low all r = each_weaker _ (λ p. p < length all) (hosts_of all r) (λ p h. h.1)
+    (each_filter (λ p. p < length all) (λ p. is_available_at all p r) (range_with_len 0 (length all)) (each_range 0 (length all) (length all) (omega arith)))
+
+pub load_within : (f g : ℕ → ℕ) (n : ℕ) (xs : List ℕ) → Each (λ x. x < n) xs → ((x : ℕ) → x < n → f x ≤ g x) → load_of f xs ≤ load_of g xs
+load_within f g n [] low h = omega arith
+load_within f g n (x ∷ xs) low h = let here = h x low.0 in let more = load_within f g n xs low.1 h in omega (arith, here, more)
+
+pub each_index : {X : Type 0} (P : X → Type 0) (xs : List X) (d : X) → ((i : ℕ) → i < length xs → P (slice_index_or xs i d)) → Each P xs
+each_index P [] d h = tt
+each_index P (x ∷ xs) d h = (h 0 (omega arith), each_index P xs d (λ i l. h (suc i) (omega (arith, l))))
+
+-- what all slots ask of a class, by its number
+pub asks_load : (classes : List (List ℕ)) (c : List ℕ) (ss : List Slot) → Each (λ s. Each (λ need. IsKnown classes need.0) s.needs) ss
+    → load_of (λ a. wanted a (place_of classes c)) (map (λ s. map (numbered classes) s.needs) ss) ≡ load_of (λ s. amount_of s.needs c) ss
+asks_load classes c [] h = refl
+asks_load classes c (s ∷ ss) h = ap₂ (λ m n. m + n) (wanted_is classes s.needs c h.0) (asks_load classes c ss h.1)
+
+pub asks_in : (l : Ledger) (c : List ℕ) → load_of (λ a. wanted a (place_of (texts_in l) c)) (map (λ (v : Vec Ask). map ask_pair v.items) l.asks.items) ≡ load_of (λ s. amount_of s.needs c) (slots_of (asked_in l))
+asks_in l c = ap (load_of (λ a. wanted a (place_of (texts_in l) c))) l.asked
+    ∙ asks_load (texts_in l) c (slots_of (asked_in l)) (each_index (λ s. Each (λ need. IsKnown (texts_in l) need.0) s.needs) (slots_of (asked_in l)) no_slot (known_in l))
+
+-- the rows of a root's providers reach what all slots ask
+pub class_hosted : (l : Ledger) (r : ℕ) (t : List ℕ) (c : List ℕ) → Accounts l [] → IsKnown (texts_in l) c → IsHosted (providers_in l) (asked_in l) r t
+    → load_of (λ s. amount_of s.needs c) (slots_of (asked_in l)) ≤ load_of (λ p. left_in (row_of l.rows.items p) (place_of (texts_in l) c)) (hosts_of (providers_in l) r)
+class_hosted l r t c accounts known hosted =
+    let all = providers_in l in
+    let asked = asked_in l in
+    let reach = rooms_reach all asked [] t r (λ s. amount_of s.needs c) (λ p. left_on all asked [] c p) (left_bears all asked [] c) hosted in
+    let same = load_within (λ p. left_on all asked [] c p) (λ p. left_in (row_of l.rows.items p) (place_of (texts_in l) c)) (length all) (hosts_of all r) (hosts_low all r)
+    (λ p h. omega (arith, accounts.left p c h known)) in
+    omega (arith, reach, same)
+
+pub class_keeps : (l : Ledger) (old new : List Bool) (rooms : List ℕ) (k most : ℕ) (c : List ℕ) → IsKnown (texts_in l) c → Accounts l [] → AreHosts (providers_in l) (asked_in l) old
+    → k ≡ place_of (texts_in l) c → ((p : ℕ) → p < length l.rows.items → slice_index rooms p ≡ left_in (row_of l.rows.items p) k)
+    → most ≤ load_of (λ a. wanted a k) (map (λ (v : Vec Ask). map ask_pair v.items) l.asks.items)
+    → ((r : ℕ) → r < length (providers_in l) → slice_index_or new r false ≡ (slice_index_or old r false && nat_le most (load_of (λ p. slice_index rooms p) (hosts_of (providers_in l) r))))
+    → AreHosts (providers_in l) (asked_in l) new
+class_keeps l old new rooms k most c known accounts was number col less is =
+    let all = providers_in l in
+    let asked = asked_in l in
+    keeps all asked old new (λ r. nat_le most (load_of (λ p. slice_index rooms p) (hosts_of all r))) was is
+    (λ r t h hosted.
+    let reach = class_hosted l r t c accounts known hosted in
+    let same = load_within (λ p. left_in (row_of l.rows.items p) (place_of (texts_in l) c)) (λ p. slice_index rooms p) (length all) (hosts_of all r) (hosts_low all r)
+    (λ p low. let at = col p (omega (arith, low, l.as_many)) in let there = ap (left_in (row_of l.rows.items p)) number in omega (arith, at, there)) in
+    let asks = asks_in l c in
+    let wants : most ≤ load_of (λ s. amount_of s.needs c) (slots_of asked) = omega (arith, asks, rw number at less) in
+    let enough : most ≤ load_of (λ p. slice_index rooms p) (hosts_of all r) = omega (arith, wants, reach, same) in
+    grind (arith, nat_tests))
+
+-- each class of a list is known there
+known_at_place : {X : Type 0} (text : X → List ℕ) (xs : List X) (i : ℕ) (d : X) → i < length xs → IsKnown (map text xs) (text (slice_index_or xs i d))
+known_at_place text [] i d h = absurd (omega arith)
+known_at_place text (x ∷ xs) zero d h = let same = (bytes_eq-Decides (text x) (text x)).1 refl in rw same (omega arith)
+known_at_place text (x ∷ xs) (suc i) d h = elim (cases_Bool (bytes_eq (text x) (text (slice_index_or xs i d)))) [
+  | inl e ↦ rw e (omega arith)
+  | inr e ↦ let more = known_at_place text xs i d (omega arith) in rw e (omega (arith, more))
+]
+
+pub known_item : {X : Type 0} (text : X → List ℕ) (xs : List X) (i : ℕ) (x : X) → i < length xs → x ≡ slice_index_or xs i x → IsKnown (map text xs) (text x)
+known_item text xs i x h is = subst (λ y. IsKnown (map text xs) (text y)) (sym is) (known_at_place text xs i x h)
+
+-- ---- A choice for each slot
+
+among_load : (f : ℕ → ℕ) (xs : List ℕ) (x : ℕ) → Among xs x → f x ≤ load_of f xs
+among_load f [] x h = absurd h
+among_load f (y ∷ xs) x h = elim h [
+  | inl e ↦ subst (λ (z : ℕ). f z ≤ f y + load_of f xs) e (omega arith)
+  | inr m ↦ let more = among_load f xs x m in omega (arith, more)
+]
+
+-- what holds of each slot with its provider
+placed_holds : (P : Slot → ℕ → Type 0) (ss : List Slot) (t : List ℕ) (s : ℕ) → length t ≡ length ss → s < length ss → Each (λ (y : Placed). P y.slot y.provider) (placed ss t)
+    → P (slice_index_or ss s no_slot) (slice_index t s)
+placed_holds P [] t s size h each = absurd (omega (arith, h))
+placed_holds P (x ∷ ss) [] s size h each = absurd (omega (arith, size))
+placed_holds P (x ∷ ss) (p ∷ t) zero size h each = each.0
+placed_holds P (x ∷ ss) (p ∷ t) (suc s) size h each = placed_holds P ss t s (omega (arith, size)) (omega (arith, h)) each.1
+
+-- a row has for a slot what its provider holds
+holds_suffice : (l : Ledger) (p : ℕ) (needs ns : List (List ℕ × ℕ)) → p < length (providers_in l) → Accounts l [] → Each (λ need. IsKnown (texts_in l) need.0) needs → Each (λ need. IsKnown (texts_in l) need.0) ns
+    → list_all (λ (need : List ℕ × ℕ). holds (provider_at (providers_in l) p) need.0 (sum_on (assigned (asked_in l) []) p need.0 + amount_of needs need.0)) ns ≡ true
+    → list_all (λ (a : ℕ × ℕ). nat_le (wanted (map (numbered (texts_in l)) needs) a.0) (left_in (row_of l.rows.items p) a.0)) (map (numbered (texts_in l)) ns) ≡ true
+holds_suffice l p needs [] low accounts all known h = refl
+holds_suffice l p needs (n ∷ ns) low accounts all known h =
+    let asked_here = sum_on (assigned (asked_in l) []) p n.0 + amount_of needs n.0 in
+    let both = and_parts (holds (provider_at (providers_in l) p) n.0 asked_here) (list_all (λ (need : List ℕ × ℕ). holds (provider_at (providers_in l) p) need.0 (sum_on (assigned (asked_in l) []) p need.0 + amount_of needs need.0)) ns) h in
+    let less = holds_less (providers_in l) p n.0 asked_here both.0 in
+    let is = wanted_is (texts_in l) needs n.0 all in
+    let room = accounts.left p n.0 low known.0 in
+    let fits : wanted (map (numbered (texts_in l)) needs) (place_of (texts_in l) n.0) ≤ left_in (row_of l.rows.items p) (place_of (texts_in l) n.0) = omega (arith, less, is, room) in
+    and_from _ _ (grind (arith, nat_tests)) (holds_suffice l p needs ns low accounts all known.1 both.1)
+
+-- a provider that serves a slot before anything is placed fits it, and holds what it asks
+pub served_fits : (all : List Provider) (asked : Asked) (slot : Slot) (p : ℕ) → serves all asked [] slot p ≡ true
+    → (fits all (record { slot = slot; provider = p }) ≡ true)
+    × (list_all (λ (need : List ℕ × ℕ). holds (provider_at all p) need.0 (sum_on (assigned asked []) p need.0 + amount_of slot.needs need.0)) slot.needs ≡ true)
+unfolding serves
+served_fits all asked slot p h = and_parts _ _ h
+
+-- the row of a provider that serves a slot has enough for it
+pub row_serves : (l : Ledger) (s p : ℕ) (asks : List (ℕ × ℕ)) → s < length (slots_of (asked_in l)) → Accounts l [] → p < length (providers_in l) → serves (providers_in l) (asked_in l) [] (slot_at (asked_in l) s) p ≡ true
+    → asks ≡ map (numbered (texts_in l)) (slot_at (asked_in l) s).needs → has_each (row_of l.rows.items p) asks ≡ true
+row_serves l s p asks h accounts low serve want =
+    let slot = slot_at (asked_in l) s in
+    let both = served_fits (providers_in l) (asked_in l) slot p serve in
+    subst (λ (ns : List (ℕ × ℕ)). has_each (row_of l.rows.items p) ns ≡ true) (sym want)
+    (each_suffices (texts_in l) (row_of l.rows.items p) slot.needs (known_in l s h) (slot_rises l.query.now s h) ∙ holds_suffice l p slot.needs slot.needs low accounts (known_in l s h) (known_in l s h) both.1)
+
+-- so does that of a candidate's provider
+pub candidate_row : (l : Ledger) (s : ℕ) (asks : List (ℕ × ℕ)) → s < length (slots_of (asked_in l)) → Accounts l [] → asks ≡ map (numbered (texts_in l)) (slot_at (asked_in l) s).needs
+    → (t : List ℕ) → IsListBelow (length (providers_in l)) (length (slots_of (asked_in l))) t → is_candidate (providers_in l) (asked_in l) t ≡ true → has_each (row_of l.rows.items (slice_index t s)) asks ≡ true
+candidate_row l s asks h accounts want t list candidate =
+    let all = providers_in l in
+    let asked = asked_in l in
+    let serve = each_serves all asked [] t (candidate_open all asked t candidate) in
+    let low : slice_index t s < length all = each_at (λ p. p < length all) t s 0 (recursion_from_All (λ p. p < length all) t list.below) (omega (arith, h, list.long)) in
+    row_serves l s (slice_index t s) asks h accounts low (placed_holds (λ slot p. serves all asked [] slot p ≡ true) (slots_of asked) t s list.long h serve) want
+
+-- at a root at which a candidate stands some choice of a slot is available
+pub slot_hosted : (l : Ledger) (r : ℕ) (t : List ℕ) (s : ℕ) (choices rooms : List ℕ) → s < length (slots_of (asked_in l)) → IsHosted (providers_in l) (asked_in l) r t
+    → choices ≡ choice_of (providers_in l) (asked_in l) (slot_at (asked_in l) s) → AreServing choices rooms → 1 ≤ load_of (λ p. slice_index rooms p) (hosts_of (providers_in l) r)
+slot_hosted l r t s choices rooms h hosted are some =
+    let all = providers_in l in
+    let asked = asked_in l in
+    let p = slice_index t s in
+    let host = placed_holds (λ slot p. Among (hosts_of all r) p) (slots_of asked) t s hosted.list.long h (behind_hosts all asked [] t r hosted) in
+    let there : Among choices p = subst (λ (xs : List ℕ). Among xs p) (sym are) (choice_there all asked t s hosted.list hosted.candidate h) in
+    let at = place_of_choice choices p there in
+    let here = subst (λ (x : ℕ). 0 < slice_index rooms x) (at.2 0) (some at.0 at.1) in
+    let reach = among_load (λ p. slice_index rooms p) (hosts_of all r) p host in
+    omega (arith, here, reach)
+
+pub slot_keeps : (l : Ledger) (old new : List Bool) (choices rooms : List ℕ) (s : ℕ) → s < length (slots_of (asked_in l)) → AreHosts (providers_in l) (asked_in l) old
+    → choices ≡ choice_of (providers_in l) (asked_in l) (slot_at (asked_in l) s) → AreServing choices rooms
+    → ((r : ℕ) → r < length (providers_in l) → slice_index_or new r false ≡ (slice_index_or old r false && nat_le 1 (load_of (λ p. slice_index rooms p) (hosts_of (providers_in l) r))))
+    → AreHosts (providers_in l) (asked_in l) new
+slot_keeps l old new choices rooms s h was are some is =
+    keeps (providers_in l) (asked_in l) old new (λ r. nat_le 1 (load_of (λ p. slice_index rooms p) (hosts_of (providers_in l) r))) was is
+    (λ r t low hosted. let reach = slot_hosted l r t s choices rooms h hosted are some in grind (arith, nat_tests))
+
+-- it begins with the roots that the query takes
+pub takes_host : (all : List Provider) (asked : Asked) (taken : List Bool) → taken ≡ map (takes_root all asked) (range_with_len 0 (length all)) → AreHosts all asked taken
+takes_host all asked taken is r t h hosted =
+    let n = length all in
+    let size : r < length (range_with_len 0 n) = omega (arith, h, length-range_with_len 0 n) in
+    let here : slice_index_or (range_with_len 0 n) r 0 ≡ r = get_or-range_with_len 0 n r 0 h ∙ omega arith in
+    ap (λ (bs : List Bool). slice_index_or bs r false) is
+    ∙ (get_or-map (takes_root all asked) (range_with_len 0 n) r 0 false size ∙ (ap (takes_root all asked) here ∙ hosted.takes))
+
+pub choice_low : (all : List Provider) (asked : Asked) (slot : Slot) → All (λ p. p < length all) (choice_of all asked slot)
+choice_low all asked slot = All-from_recursion (λ p. p < length all) (choice_of all asked slot) (each_weaker _ (λ p. p < length all) (choice_of all asked slot) (λ p h. h.1) (each_choice all asked slot))
+
+-- ---- Fronts that no marked root has
+
+pub any_within : (f g : ℕ → Bool) (zs : List ℕ) → Each (λ z. f z ≡ true → g z ≡ true) zs → list_any f zs ≡ true → list_any g zs ≡ true
+any_within f g [] each h = h
+any_within f g (z ∷ zs) each h = elim (cases_Bool (f z)) [
+  | inl e ↦ rw (each.0 e) refl
+  | inr e ↦ let more = any_within f g zs each.1 (rw e at h) in elim (cases_Bool (g z)) [ inl t ↦ rw t refl | inr t ↦ rw (t, more) refl ]
+]
+
+-- a front is dead where no marked root has all of it
+pub root_dead : (all : List Provider) (asked : Asked) (q : List ℕ) (p : ℕ) (may : List Bool) (hits : List ℕ) → AreRoots all asked may → AreHits all hits q
+    → list_any (λ r. slice_index_or may r false && (slice_index hits r == length q)) (anchors_of all p) ≡ false → IsDead (search_of all asked) (q ++ p ∷ [])
+unfolding anchor
+root_dead all asked q p may hits roots hit none v list = false_from_ne_true _ (λ candidate.
+    let t = (q ++ p ∷ []) ++ v in
+    let has = λ (r : ℕ). slice_index_or may r false && (slice_index hits r == length q) in
+    let opens : Opens all asked (assigned asked t) = candidate_parts all asked t candidate in
+    let one = λ (r : ℕ) (low : r < length all) (h : takes_root all asked r && hosts_all all (assigned asked t) r ≡ true).
+    let both = and_parts (takes_root all asked r) (hosts_all all (assigned asked t) r) h in
+    let hosted : IsHosted all asked r t = record { list = list; candidate = candidate; takes = both.0; hosts = both.1 } in
+    let each : list_all (λ x. is_available_at all x r) t ≡ true = sym (hosts_list all (slots_of asked) t r (omega (arith, list.long))) ∙ both.1 in
+    let front = and_parts (list_all (λ x. is_available_at all x r) (q ++ p ∷ [])) (list_all (λ x. is_available_at all x r) v) (sym (list_all-append (λ x. is_available_at all x r) (q ++ p ∷ []) v) ∙ each) in
+    let parts = and_parts (list_all (λ x. is_available_at all x r) q) (list_all (λ x. is_available_at all x r) (p ∷ [])) (sym (list_all-append (λ x. is_available_at all x r) q (p ∷ [])) ∙ front.0) in
+    let here = (and_parts (is_available_at all p r) true parts.1).0 in
+    let met : (slice_index hits r == length q) ≡ true = ap (λ (n : ℕ). n == length q) (hit r low) ∙ (sym (all_hit all q r) ∙ parts.0) in
+    and_from (is_available_at all p r) (has r) here (and_from (slice_index_or may r false) (slice_index hits r == length q) (roots.hosts r t low hosted) met) in
+    let some = any_within (λ r. takes_root all asked r && hosts_all all (assigned asked t) r) (λ r. is_available_at all p r && has r) (range_with_len 0 (length all))
+    (each_weaker (λ r. r < length all) (λ r. takes_root all asked r && hosts_all all (assigned asked t) r ≡ true → is_available_at all p r && has r ≡ true) (range_with_len 0 (length all)) one (each_range 0 (length all) (length all) (omega arith)))
+    opens.anchor in
+    false≢true (sym none ∙ (any_filter has (is_available_at all p) (range_with_len 0 (length all)) ∙ some)))
+
+-- ---- Pieces
+
+-- how many slots ask so much, by the number of the class
+pub asks_count : (classes : List (List ℕ)) (c : List ℕ) (a : ℕ) (ss : List Slot) → Each (λ s. Each (λ need. IsKnown classes need.0) s.needs) ss
+    → load_of (λ n. if nat_le a (wanted n (place_of classes c)) then 1 else 0) (map (λ s. map (numbered classes) s.needs) ss) ≡ load_of (asks_much c a) ss
+asks_count classes c a [] h = refl
+asks_count classes c a (s ∷ ss) h = ap₂ (λ m n. (if nat_le a m then 1 else 0) + n) (wanted_is classes s.needs c h.0) (asks_count classes c a ss h.1)
+
+count_in : (l : Ledger) (c : List ℕ) (a : ℕ) → load_of (λ n. if nat_le a (wanted n (place_of (texts_in l) c)) then 1 else 0) (map (λ (v : Vec Ask). map ask_pair v.items) l.asks.items) ≡ load_of (asks_much c a) (slots_of (asked_in l))
+count_in l c a = ap (load_of (λ n. if nat_le a (wanted n (place_of (texts_in l) c)) then 1 else 0)) l.asked
+    ∙ asks_count (texts_in l) c a (slots_of (asked_in l)) (each_index (λ s. Each (λ need. IsKnown (texts_in l) need.0) s.needs) (slots_of (asked_in l)) no_slot (known_in l))
+
+pub pieces_keep : (l : Ledger) (old new : List Bool) (pieces : List ℕ) (k a most : ℕ) (c : List ℕ) → 0 < a → IsKnown (texts_in l) c → Accounts l [] → AreHosts (providers_in l) (asked_in l) old
+    → k ≡ place_of (texts_in l) c → ((p : ℕ) → p < length (providers_in l) → slice_index pieces p ≡ left_in (row_of l.rows.items p) k / a)
+    → most ≤ load_of (λ n. if nat_le a (wanted n k) then 1 else 0) (map (λ (v : Vec Ask). map ask_pair v.items) l.asks.items)
+    → ((r : ℕ) → r < length (providers_in l) → slice_index_or new r false ≡ (slice_index_or old r false && nat_le most (load_of (λ p. slice_index pieces p) (hosts_of (providers_in l) r))))
+    → AreHosts (providers_in l) (asked_in l) new
+pieces_keep l old new pieces k a most c some known accounts was number col less is =
+    let all = providers_in l in
+    let asked = asked_in l in
+    keeps all asked old new (λ r. nat_le most (load_of (λ p. slice_index pieces p) (hosts_of all r))) was is
+    (λ r t h hosted.
+    let reach = rooms_reach all asked [] t r (asks_much c a) (λ p. left_on all asked [] c p / a) (pieces_bear all asked [] c a some) hosted in
+    let same = load_within (λ p. left_on all asked [] c p / a) (λ p. slice_index pieces p) (length all) (hosts_of all r) (hosts_low all r)
+    (λ p low.
+    let left : left_on all asked [] c p ≡ left_in (row_of l.rows.items p) k = let there = ap (left_in (row_of l.rows.items p)) number in omega (arith, accounts.left p c low known, there) in
+    let one : left_on all asked [] c p / a ≡ slice_index pieces p = ap (λ (n : ℕ). n / a) left ∙ sym (col p low) in
+    omega (arith, one)) in
+    let asks = count_in l c a in
+    let wants : most ≤ load_of (asks_much c a) (slots_of asked) = omega (arith, asks, rw number at less) in
+    let enough : most ≤ load_of (λ p. slice_index pieces p) (hosts_of all r) = omega (arith, wants, reach, same) in
+    grind (arith, nat_tests))
+
+pub lone_keep : (l : Ledger) (old new : List Bool) (ones : List ℕ) (k a most : ℕ) (c : List ℕ) → 0 < a → IsKnown (texts_in l) c → Accounts l [] → AreHosts (providers_in l) (asked_in l) old
+    → k ≡ place_of (texts_in l) c → ((p : ℕ) → p < length (providers_in l) → slice_index ones p ≡ min (left_in (row_of l.rows.items p) k / a) 1)
+    → most ≤ load_of (lone_much (asked_in l) c a) (slots_of (asked_in l))
+    → ((r : ℕ) → r < length (providers_in l) → slice_index_or new r false ≡ (slice_index_or old r false && nat_le most (load_of (λ p. slice_index ones p) (hosts_of (providers_in l) r))))
+    → AreHosts (providers_in l) (asked_in l) new
+lone_keep l old new ones k a most c some known accounts was number col wants is =
+    let all = providers_in l in
+    let asked = asked_in l in
+    keeps all asked old new (λ r. nat_le most (load_of (λ p. slice_index ones p) (hosts_of all r))) was is
+    (λ r t h hosted.
+    let reach = rooms_reach all asked [] t r (lone_much asked c a) (λ p. min (left_on all asked [] c p / a) 1) (lone_bears all asked [] c a some) hosted in
+    let same = load_within (λ p. min (left_on all asked [] c p / a) 1) (λ p. slice_index ones p) (length all) (hosts_of all r) (hosts_low all r)
+    (λ p low.
+    let left : left_on all asked [] c p ≡ left_in (row_of l.rows.items p) k = let there = ap (left_in (row_of l.rows.items p)) number in omega (arith, accounts.left p c low known, there) in
+    let one : min (left_on all asked [] c p / a) 1 ≡ slice_index ones p = ap (λ (n : ℕ). min (n / a) 1) left ∙ sym (col p low) in
+    omega (arith, one)) in
+    let enough : most ≤ load_of (λ p. slice_index ones p) (hosts_of all r) = omega (arith, wants, reach, same) in
+    grind (arith, nat_tests))
+
+-- one slot more
+pub load_take : (w : Slot → ℕ) (ss : List Slot) (s : ℕ) → s < length ss → load_of w (take (s + 1) ss) ≡ load_of w (take s ss) + w (slice_index_or ss s no_slot)
+load_take w ss s h = ap (load_of w) (take_more ss s no_slot h) ∙ (load_of_append w (take s ss) (slice_index_or ss s no_slot ∷ []) ∙ omega arith)
+
+-- what is told of a slot that needs a provider for itself
+pub lone_told : (l : Ledger) (s k a w : ℕ) (c : List ℕ) (b : Bool) (v : Vec Ask) → s < length (slots_of (asked_in l)) → k ≡ place_of (texts_in l) c → b ≡ slice_index_or l.lone.items s b → v ≡ slice_index_or l.asks.items s v
+    → w ≤ wanted (map ask_pair v.items) k → b ≡ true → a ≤ w → 1 ≤ lone_much (asked_in l) c a (slot_at (asked_in l) s)
+lone_told l s k a w c b v h number is of less lone much =
+    let own : needs_own (asked_in l) (slot_at (asked_in l) s) ≡ true = sym (lone_at l s b h is) ∙ lone in
+    let asks = asks_at l s v h of in
+    let wants : wanted (map ask_pair v.items) k ≡ amount_of (slot_at (asked_in l) s).needs c = ap₂ (λ (ns : List (ℕ × ℕ)) (j : ℕ). wanted ns j) asks number ∙ wanted_is (texts_in l) (slot_at (asked_in l) s).needs c (known_in l s h) in
+    let enough : nat_le a (amount_of (slot_at (asked_in l) s).needs c) ≡ true = let fits : a ≤ amount_of (slot_at (asked_in l) s).needs c = omega (arith, less, much, wants) in grind (arith, nat_tests) in
+    rw (own, enough) (omega arith)

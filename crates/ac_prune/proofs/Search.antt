@@ -1,0 +1,3 @@
+-- What a search looks for, and what is open.
+pub mod SoughtLemmas
+pub mod OpenLemmas

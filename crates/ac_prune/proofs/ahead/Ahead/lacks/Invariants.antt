@@ -1,0 +1,4 @@
+use Rattle.ac_prune.proofs.ahead.Ahead.lacks.Given as goal
+
+abbrev pub invariant-loop-asks : goal.invariant-loop-asks
+invariant-loop-asks l = Unit {0}

@@ -1,0 +1,11 @@
+pub mod Search
+pub mod QuerySearch
+pub mod Left
+pub mod Marks
+pub mod Trees
+pub mod Ahead
+pub mod Loads
+pub mod Parts
+pub mod Families
+pub mod Fronts
+pub mod Tests

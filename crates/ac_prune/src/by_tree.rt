@@ -1,0 +1,173 @@
+//! Places by tree, or by part of the forest, of which the next one of a tree is found by binary search.
+
+ghost use Rattle.std.specs.Prelude.{◌≡◌, ◌+◌, ◌*◌, ◌<◌, ◌≤◌, ◌^◌, ◌++◌, ◌||◌, ℕ, List, [], true, false, length, map, IfOk, MatchOption, slice_index, slice_index_or};
+ghost use Rattle.std.specs.List.{All, list_any};
+ghost use Rattle.ac_cloud.specs.Cloud.CloudWorld.{providers_of};
+ghost use Rattle.ac_cloud.specs.World.{Provider, is_available_at};
+ghost use Rattle.ac_prune.specs.Trees.Keys.{key_of, is_there, IsUnder, IsLeastFrom, IsNextIn};
+
+use ac_base::NoMemory;
+use ac_cloud::Cloud;
+use std::alloc::Global;
+
+// How many pairs of a choice and a tree in which it is available are kept for a slot.
+const MOST_PAIRS: u64 = 1 << 18;
+
+/// The places of a slot's choices by tree: each choice stands in each tree in which it is available. Where that would be
+/// too many pairs, those of several trees stand in one tree of their own, past all others.
+#[derive(Drop)]
+pub(crate) struct ByTree {
+    // For each choice the number of each of its trees, which is the place of its root, and its place as one number; rising.
+    keys: Vec<u64>,
+    // How many choices there are.
+    count: usize,
+    // The number of the tree of those whose trees aren't told apart.
+    wide: u32,
+    ghost rising: { (i j : ℕ) → i ≤ j → j < length keys.items → slice_index keys.items i ≤ slice_index keys.items j },
+    ghost few: { count ≤ 65536 },
+    ghost last: { wide ≤ 65536 },
+}
+
+// Of how many trees a choice may be, to be kept in each: of any number, or of one.
+fn most_trees(cloud: &Cloud, choices: &[u32]) -> usize
+    requires { All (λ p. p < length (providers_of cloud.now)) choices.now }
+{
+    let mut pairs = 0u64;
+    for ix in choices {
+        pairs = pairs.saturating_add(cloud.anchors(*ix).len() as u64);
+    }
+    if pairs <= MOST_PAIRS { usize::MAX } else { 1 }
+}
+
+// A tree and a place as one number, so that places are in order tree by tree.
+fn key(tree: u32, place: usize) -> u64
+    requires { place < 2 ^ 32 }
+    ensures { result ≡ key_of tree place }
+{
+    u64::from(tree) * 4_294_967_296 + place as u64
+}
+
+// Adds a place under each of some trees.
+fn push_keys(keys: &mut Vec<u64>, trees: &[u32], place: usize) -> Result<(), NoMemory>
+    requires { place < 2 ^ 32 }
+    ensures { IfOk result (λ _. keys.new.items
+        ≡ keys.old.items ++ map (λ r. key_of r place) trees.now) }
+{
+    for tree in trees {
+        keys.push(key(*tree, place))?;
+    }
+    Ok(())
+}
+
+// Adds the place of a choice under each of its trees, or under the one past all others where they are more than so many.
+fn push_choice(
+    keys: &mut Vec<u64>,
+    cloud: &Cloud,
+    ix: u32,
+    place: usize,
+    most: usize,
+) -> Result<(), NoMemory>
+    requires choice { ix < length (providers_of cloud.now) }
+    requires place { place < 2 ^ 32 }
+    ensures kept { IfOk result (λ _. (x : ℕ) → is_there keys.old.items x ≡ true
+        → is_there keys.new.items x ≡ true) }
+    ensures placed { IfOk result (λ _. (r : ℕ) → r < length (providers_of cloud.now)
+        → is_available_at (providers_of cloud.now) ix r ≡ true
+        → IsUnder keys.new.items (length (providers_of cloud.now)) r place) }
+{
+    let trees = cloud.anchors(ix);
+    if trees.len() <= most {
+        push_keys(keys, trees, place)
+    } else {
+        Ok(keys.push(key(cloud.len(), place))?)
+    }
+}
+
+// The least of some numbers from a bound on; the greatest of all where there is none.
+fn least_from(numbers: &[u64], bound: u64) -> u64
+    requires { (i j : ℕ) → i ≤ j → j < length numbers.now
+        → slice_index numbers.now i ≤ slice_index numbers.now j }
+    ensures { IsLeastFrom numbers.now bound result }
+{
+    match numbers.binary_search(&bound) {
+        Ok(_) => bound,
+        Err(at) if at < numbers.len() => numbers[at],
+        Err(_) => u64::MAX,
+    }
+}
+
+impl ByTree {
+    ghost use Rattle.ac_prune.specs.Trees.{IsByTree, AreByTree, IsByPart};
+
+    /// Those of some choices.
+    pub(crate) fn new(alloc: Global, cloud: &Cloud, choices: &[u32]) -> Result<ByTree, NoMemory>
+        requires few { length choices.now ≤ length (providers_of cloud.now) }
+        requires providers { All (λ p. p < length (providers_of cloud.now)) choices.now }
+        ensures { IfOk result (λ trees. IsByTree (providers_of cloud.now) choices.now trees) }
+    {
+        let most = most_trees(cloud, choices);
+        let mut keys = Vec::new(alloc);
+        for (place, ix) in choices.iter().enumerate() {
+            push_choice(&mut keys, cloud, *ix, place, most)?;
+        }
+        keys.sort_unstable();
+        Ok(ByTree {
+            keys,
+            count: choices.len(),
+            wide: cloud.len(),
+        })
+    }
+
+    /// The places of a slot's choices by their parts of the forest, a number for each provider.
+    pub(crate) fn by_part(alloc: Global, choices: &[u32], parts: &[u32]) -> Result<ByTree, NoMemory>
+        requires few { length choices.now ≤ 65536 }
+        requires providers { All (λ p. p < length parts.now) choices.now }
+        ensures { IfOk result (λ places. IsByPart choices.now parts.now places) }
+    {
+        let mut keys = Vec::new(alloc);
+        for (place, ix) in choices.iter().enumerate() {
+            keys.push(key(parts[*ix as usize], place))?;
+        }
+        keys.sort_unstable();
+        Ok(ByTree {
+            keys,
+            count: choices.len(),
+            wide: 0,
+        })
+    }
+
+    /// How many choices there are.
+    pub(crate) fn len(&self) -> usize
+        ensures { result ≡ self.now.count }
+    {
+        self.count
+    }
+
+    /// The least place from one on in a tree, or in a part; past the end where there is none.
+    pub(crate) fn next_in(&self, tree: u32, from: usize) -> usize
+        requires { from ≤ self.now.count }
+        ensures { IsNextIn self.now.keys.items self.now.count tree from result }
+    {
+        let least = least_from(&self.keys, key(tree, from)) - key(tree, 0);
+        least.min(self.count as u64) as usize
+    }
+
+    /// The least place from one on whose choice may be available in one of some trees; past the end where there is none.
+    pub(crate) fn next(&self, trees: &[u32], from: usize) -> usize
+        requires { from ≤ self.now.count }
+        ensures kept { from ≤ result }
+        ensures within { result ≤ self.now.count }
+        ensures there { result < self.now.count
+            → (is_there self.now.keys.items (key_of self.now.wide result)
+            || list_any (λ r. is_there self.now.keys.items (key_of r result)) trees.now) ≡ true }
+        ensures passed { (all : List Provider) (choices : List ℕ) → IsByTree all choices self.now
+            → (r i : ℕ) → is_there trees.now r ≡ true → r < length all → from ≤ i → i < result
+            → is_available_at all (slice_index choices i) r ≡ false }
+    {
+        let mut least = self.next_in(self.wide, from);
+        for tree in trees {
+            least = least.min(self.next_in(*tree, from));
+        }
+        least
+    }
+}

@@ -1,0 +1,69 @@
+//! The providers that each slot may have: those that meet its rules and have room for what it alone asks.
+
+ghost use Rattle.std.specs.Prelude.{◌≡◌, ◌<◌, ◌&&◌, IfOk, [], length, map};
+ghost use Rattle.ac_query.specs.Asked.{slots_of};
+ghost use Rattle.ac_rules.specs.Placed.{placed_at};
+ghost use Rattle.ac_rules.specs.Judge.{is_open};
+ghost use Rattle.ac_prune.specs.Left.Accounts.{providers_in, asked_in, Accounts};
+ghost use Rattle.ac_prune.specs.Loads.{choice_in, choices_in};
+ghost use Rattle.ac_prune.specs.QuerySearch.{fits, has_room_alone};
+
+use crate::ledger::Ledger;
+use crate::open::{fits_slot, is_open};
+use ac_base::NoMemory;
+use ac_rules::slots::count_slots;
+use std::alloc::Global;
+
+// Whether a provider has room for what a slot alone asks.
+fn has_room_alone(ledger: &Ledger, s: usize, ix: u32) -> bool
+    requires slot { s < length (slots_of (asked_in ledger.now)) }
+    requires provider { ix < length (providers_in ledger.now) }
+    requires empty { Accounts ledger.now [] }
+    ensures { result
+        ≡ has_room_alone (providers_in ledger.now) (placed_at (asked_in ledger.now) s ix) }
+{
+    ledger.has_enough(s, ix)
+}
+
+// Whether a provider is one of those that a slot may have, by whether the empty list is open.
+fn is_choice(ledger: &Ledger, s: usize, ix: u32, opens: bool) -> bool
+    requires slot { s < length (slots_of (asked_in ledger.now)) }
+    requires provider { ix < length (providers_in ledger.now) }
+    requires empty { Accounts ledger.now [] }
+    ensures { result ≡ (opens && (fits (providers_in ledger.now)
+        (placed_at (asked_in ledger.now) s ix)
+        && has_room_alone (providers_in ledger.now) (placed_at (asked_in ledger.now) s ix))) }
+{
+    opens && fits_slot(ledger.cloud, ledger.query, s, ix) && has_room_alone(ledger, s, ix)
+}
+
+// The providers that meet the rules of a slot alone and have room for it, in order; none where not even the empty list is
+// open.
+fn slot_choices(alloc: Global, ledger: &Ledger, s: usize, opens: bool) -> Result<Vec<u32>, NoMemory>
+    requires slot { s < length (slots_of (asked_in ledger.now)) }
+    requires empty { Accounts ledger.now [] }
+    requires opens { opens ≡ is_open (providers_in ledger.now) (asked_in ledger.now) [] }
+    ensures { IfOk result (λ choices. choices.items ≡ choice_in ledger.now s) }
+{
+    let mut choices = Vec::new(alloc);
+    for ix in 0..ledger.cloud.len() {
+        if is_choice(ledger, s, ix, opens) {
+            choices.push(ix)?;
+        }
+    }
+    Ok(choices)
+}
+
+/// Those of all slots, by the ledger of an empty path.
+pub fn all_choices(alloc: Global, ledger: &Ledger) -> Result<Vec<Vec<u32>>, NoMemory>
+    requires empty { Accounts ledger.now [] }
+    ensures { IfOk result (λ all. map (λ choices. choices.items) all.items
+        ≡ choices_in ledger.now) }
+{
+    let opens = is_open(ledger.cloud, ledger.query, &[]);
+    let mut all = Vec::new(alloc);
+    for s in 0..count_slots(ledger.query) {
+        all.push(slot_choices(alloc, ledger, s, opens)?)?;
+    }
+    Ok(all)
+}

@@ -1,0 +1,174 @@
+//! The lists of `same_subtree`: which slots each names, and in which parts of the forest their providers stand together.
+
+ghost use Rattle.std.specs.Prelude.{◌≡◌, ◌<◌, ◌≤◌, ◌++◌, ◌∷◌, ℕ, List, [], true, false, length, map, get_or, slice_index, slice_index_or, IfOk};
+ghost use Rattle.ac_prune.specs.Trees.{IsByPart, AreByPart};
+ghost use Rattle.std.specs.List.{All};
+ghost use Rattle.ac_query.specs.Asked.{Asked, slots_of, lists_suffix};
+ghost use Rattle.ac_query.specs.Shown.Queries.{asked_of};
+ghost use Rattle.ac_cloud.specs.World.{Provider};
+ghost use Rattle.ac_rules.specs.Placed.{slot_at};
+ghost use Rattle.ac_prune.specs.Left.Accounts.{providers_in, asked_in, Accounts};
+ghost use Rattle.ac_prune.specs.Loads.{choices_in};
+
+pub mod parts;
+
+use crate::by_tree::ByTree;
+use crate::families::parts::parts_of;
+use crate::front::Front;
+use crate::ledger::Ledger;
+use crate::look_ahead::LookAhead;
+use ac_base::NoMemory;
+use ac_query::Query;
+use ac_rules::slots::{count_slots, is_listed};
+use std::alloc::Global;
+
+// How many choices of a list's slots are kept by part.
+const MOST_PLACES: usize = 1 << 18;
+
+/// A list of `same_subtree`.
+#[derive(Drop)]
+pub(crate) struct Family {
+    // For each slot whether the list names it.
+    named: Vec<bool>,
+    // The first one that is named.
+    first: usize,
+    // For each provider its part.
+    parts: Vec<u32>,
+    // For each slot that is named the places of its choices by part, where they aren't too many; none of the others.
+    places: Vec<ByTree>,
+}
+
+// For each slot whether a list names it.
+fn named_slots(alloc: Global, query: &Query, k: usize) -> Result<Vec<bool>, NoMemory>
+    requires { k < length (asked_of query.now).subtrees }
+    ensures { IfOk result (λ named. named.items
+        ≡ map (λ s. lists_suffix (get_or (asked_of query.now).subtrees k []) s.suffix)
+        (slots_of (asked_of query.now))) }
+{
+    let mut named = Vec::new(alloc);
+    for s in 0..count_slots(query) {
+        named.push(is_listed(query, k, s))?;
+    }
+    Ok(named)
+}
+
+// The first place that is marked; past the end where there is none.
+fn first_marked(marks: &[bool]) -> usize
+    ensures { result < length marks.now → slice_index_or marks.now result false ≡ true }
+{
+    for (place, mark) in marks.iter().enumerate() {
+        if *mark {
+            return place;
+        }
+    }
+    marks.len()
+}
+
+// How many choices the slots that a list names have together.
+fn count_named(named: &[bool], choices: &[Vec<u32>]) -> usize {
+    let mut count = 0usize;
+    for (is_named, list) in named.iter().zip(choices) {
+        if *is_named {
+            count = count.saturating_add(list.len());
+        }
+    }
+    count
+}
+
+// The places of a slot's choices by part, where they are wanted; none otherwise.
+fn places_of(alloc: Global, wanted: bool, list: &[u32], parts: &[u32]) -> Result<ByTree, NoMemory>
+    requires few { length list.now ≤ 65536 }
+    requires providers { All (λ p. p < length parts.now) list.now }
+    ensures { IfOk result (λ places. IsByPart list.now parts.now places) }
+{
+    if wanted {
+        ByTree::by_part(alloc, list, parts)
+    } else {
+        ByTree::by_part(alloc, &[], parts)
+    }
+}
+
+// Those of all slots.
+fn all_places(
+    alloc: Global,
+    named: &[bool],
+    choices: &[Vec<u32>],
+    parts: &[u32],
+) -> Result<Vec<ByTree>, NoMemory>
+    requires named { length named.now ≡ length choices.now }
+    requires few { (s : ℕ) → s < length choices.now
+        → length (slice_index_or (map (λ v. v.items) choices.now) s []) ≤ 65536 }
+    requires providers { (s : ℕ) → s < length choices.now
+        → All (λ p. p < length parts.now) (slice_index_or (map (λ v. v.items) choices.now) s []) }
+    ensures { IfOk result (λ all. AreByPart (map (λ v. v.items) choices.now) parts.now all.items) }
+{
+    let few = count_named(named, choices) <= MOST_PLACES;
+    let mut all = Vec::new(alloc);
+    for (s, list) in choices.iter().enumerate() {
+        all.push(places_of(alloc, few && named[s], list, parts)?)?;
+    }
+    Ok(all)
+}
+
+impl Family {
+    ghost use Rattle.ac_prune.specs.Families.{IsFamily};
+
+    /// The list at a place, of the query of a ledger before anything is placed.
+    pub(crate) fn new(
+        alloc: Global,
+        ledger: &Ledger,
+        k: usize,
+        choices: &[Vec<u32>],
+    ) -> Result<Family, NoMemory>
+        requires list { k < length (asked_in ledger.now).subtrees }
+        requires choices { map (λ v. v.items) choices.now ≡ choices_in ledger.now }
+        requires empty { Accounts ledger.now [] }
+        ensures { IfOk result (λ family.
+            IsFamily (providers_in ledger.now) (asked_in ledger.now) family) }
+    {
+        let parts = parts_of(alloc, ledger, k, choices)?;
+        let named = named_slots(alloc, ledger.query, k)?;
+        let first = first_marked(&named);
+        let places = all_places(alloc, &named, choices, &parts)?;
+        Ok(Family {
+            named,
+            first,
+            parts,
+            places,
+        })
+    }
+}
+
+impl LookAhead for Family {
+    ghost use Rattle.ac_prune.specs.Families.{IsFamily};
+
+    ghost is_of = { IsFamily };
+
+    // The next choice in the part of the path, where the list names the slot and one before it.
+    fn next(&self, front: &Front, from: usize) -> usize {
+        let s = front.path.len();
+        if !self.named[s] || self.first >= s {
+            return from;
+        }
+        let places = &self.places[s];
+        if from < places.len() {
+            places.next_in(self.parts[front.path[self.first] as usize], from)
+        } else {
+            from
+        }
+    }
+
+    // Whether the provider can stand with those of the path that the list names.
+    fn may_follow(&self, front: &Front, provider: u32) -> bool {
+        let s = front.path.len();
+        if !self.named[s] {
+            return true;
+        }
+        let part = self.parts[provider as usize];
+        if self.first < s {
+            let other = self.parts[front.path[self.first] as usize];
+            return part == other;
+        }
+        (part as usize) < self.parts.len()
+    }
+}

@@ -1,0 +1,299 @@
+//! The parts of the forest in which the providers of a list of `same_subtree` can stand together: each reaches down from a
+//! provider that may be above all others of the list.
+
+ghost use Rattle.std.specs.Prelude.{◌≡◌, ◌<◌, ℕ, [], true, length, map, get_or, slice_index, slice_index_or, IfOk};
+ghost use Rattle.std.specs.List.{All};
+ghost use Rattle.ac_query.specs.Asked.{slots_of, lists_suffix};
+ghost use Rattle.ac_query.specs.Shown.Queries.{asked_of};
+ghost use Rattle.ac_cloud.specs.Cloud.CloudWorld.{providers_of};
+ghost use Rattle.ac_rules.specs.Placed.{slot_at};
+ghost use Rattle.ac_prune.specs.Left.Accounts.{asked_in, Accounts};
+ghost use Rattle.ac_prune.specs.Left.{ask_pair, row_of, has_each};
+ghost use Rattle.ac_prune.specs.Loads.{choice_in, choices_in, ArePartsIn};
+ghost use Rattle.ac_prune.specs.Parts.{AreParts, AreTops, AreMarked, IsLinked, AreLinked, KeepSeen};
+ghost use Rattle.ac_prune.specs.QuerySearch.{choices_of};
+
+use crate::ledger::Ledger;
+use crate::ledger::rooms::{Ask, Room, has_each};
+use ac_base::NoMemory;
+use ac_query::Query;
+use ac_rules::slots::{count_slots, is_listed};
+use ac_cloud::Cloud;
+use std::alloc::Global;
+
+// Marks each provider of a list.
+fn mark_each(marks: &mut [bool], list: &[u32])
+    requires { All (λ p. p < length marks.old) list.now }
+    ensures { AreMarked marks.old list.now marks.new }
+{
+    for ix in list {
+        marks[*ix as usize] = true;
+    }
+}
+
+// The same, where a list names the slot of which these are the choices.
+fn mark_slot(marks: &mut [bool], query: &Query, k: usize, s: usize, list: &[u32])
+    requires names { k < length (asked_of query.now).subtrees }
+    requires slot { s < length (slots_of (asked_of query.now)) }
+    requires list { All (λ p. p < length marks.old) list.now }
+    ensures count { length marks.new ≡ length marks.old }
+    ensures kept { (p : ℕ) → slice_index_or marks.old p true ≡ true
+        → slice_index_or marks.new p true ≡ true }
+    ensures marked { lists_suffix (get_or (asked_of query.now).subtrees k [])
+        (slot_at (asked_of query.now) s).suffix ≡ true → (j : ℕ) → j < length list.now
+        → slice_index_or marks.new (slice_index list.now j) true ≡ true }
+{
+    if is_listed(query, k, s) {
+        mark_each(marks, list);
+    }
+}
+
+// Marks each choice of the slots that a list names: one of them is above all others.
+fn tops_of(
+    alloc: Global,
+    cloud: &Cloud,
+    query: &Query,
+    k: usize,
+    choices: &[Vec<u32>],
+) -> Result<Vec<bool>, NoMemory>
+    requires list { k < length (asked_of query.now).subtrees }
+    requires choices { map (λ v. v.items) choices.now
+        ≡ choices_of (providers_of cloud.now) (asked_of query.now) }
+    ensures count { IfOk result (λ tops. length tops.items ≡ length (providers_of cloud.now)) }
+    ensures tops { IfOk result (λ tops.
+        AreTops (providers_of cloud.now) (asked_of query.now)
+        (get_or (asked_of query.now).subtrees k []) tops.items) }
+{
+    let mut tops = vec![in alloc; false; cloud.len() as usize]?;
+    for s in 0..count_slots(query) {
+        mark_slot(&mut tops, query, k, s, &choices[s]);
+    }
+    Ok(tops)
+}
+
+// The part of a provider whose part isn't known yet: that of the first one above it of which it is known, or else the
+// uppermost top on the way.
+fn part_above(cloud: &Cloud, tops: &[bool], parts: &[u32], known: &[bool], ix: u32) -> u32
+    requires provider { ix < length (providers_of cloud.now) }
+    requires tops { length tops.now ≡ length (providers_of cloud.now) }
+    requires parts { length parts.now ≡ length (providers_of cloud.now) }
+    requires known { length known.now ≡ length (providers_of cloud.now) }
+{
+    let none = cloud.len();
+    let mut at = ix;
+    let mut part = none;
+    for _ in 0..none {
+        if known[at as usize] {
+            return if parts[at as usize] < none {
+                parts[at as usize]
+            } else {
+                part
+            };
+        }
+        if tops[at as usize] {
+            part = at;
+        }
+        match cloud.parent(at) {
+            Some(parent) => at = parent,
+            None => return part,
+        }
+    }
+    part
+}
+
+// Puts a provider and those above it into a part, up to its top, unless they are known already.
+fn put_up(cloud: &Cloud, parts: &mut [u32], known: &mut [bool], ix: u32, part: u32)
+    requires provider { ix < length (providers_of cloud.now) }
+    requires parts { length parts.old ≡ length (providers_of cloud.now) }
+    requires known { length known.old ≡ length (providers_of cloud.now) }
+{
+    let mut at = ix;
+    let mut part = part;
+    for _ in 0..cloud.len() {
+        if known[at as usize] {
+            return;
+        }
+        known[at as usize] = true;
+        parts[at as usize] = part;
+        if at == part {
+            part = cloud.len();
+        }
+        match cloud.parent(at) {
+            Some(parent) => at = parent,
+            None => return,
+        }
+    }
+}
+
+// The part of each provider, drawn up without a contract.
+fn draft(alloc: Global, cloud: &Cloud, tops: &[bool]) -> Result<Vec<u32>, NoMemory>
+    requires { length tops.now ≡ length (providers_of cloud.now) }
+    ensures { IfOk result (λ parts. length parts.items ≡ length (providers_of cloud.now)) }
+{
+    let count = cloud.len() as usize;
+    let mut parts = vec![in alloc; cloud.len(); count]?;
+    let mut known = vec![in alloc; false; count]?;
+    for ix in 0..cloud.len() {
+        let part = part_above(cloud, tops, &parts, &known, ix);
+        put_up(cloud, &mut parts, &mut known, ix, part);
+    }
+    Ok(parts)
+}
+
+// Whether a top has a part, and a provider whose parent has one is of that part.
+fn is_linked(cloud: &Cloud, tops: &[bool], parts: &[u32], ix: u32) -> bool
+    requires provider { ix < length (providers_of cloud.now) }
+    requires tops { length tops.now ≡ length (providers_of cloud.now) }
+    requires parts { length parts.now ≡ length (providers_of cloud.now) }
+    ensures { result ≡ true → IsLinked (providers_of cloud.now) tops.now parts.now ix }
+{
+    let part = parts[ix as usize];
+    if tops[ix as usize] && part >= cloud.len() {
+        return false;
+    }
+    match cloud.parent(ix) {
+        Some(parent) => parts[parent as usize] >= cloud.len() || parts[parent as usize] == part,
+        None => true,
+    }
+}
+
+// Whether all are.
+fn are_linked(cloud: &Cloud, tops: &[bool], parts: &[u32]) -> bool
+    requires tops { length tops.now ≡ length (providers_of cloud.now) }
+    requires parts { length parts.now ≡ length (providers_of cloud.now) }
+    ensures { result ≡ true → AreLinked (providers_of cloud.now) tops.now parts.now }
+{
+    for ix in 0..cloud.len() {
+        if !is_linked(cloud, tops, parts, ix) {
+            return false;
+        }
+    }
+    true
+}
+
+// The parts of which each reaches down from a top; one part of all where the draft isn't right.
+fn all_parts(
+    alloc: Global,
+    cloud: &Cloud,
+    query: &Query,
+    k: usize,
+    choices: &[Vec<u32>],
+) -> Result<Vec<u32>, NoMemory>
+    requires list { k < length (asked_of query.now).subtrees }
+    requires choices { map (λ v. v.items) choices.now
+        ≡ choices_of (providers_of cloud.now) (asked_of query.now) }
+    ensures { IfOk result (λ parts.
+        AreParts (providers_of cloud.now) (asked_of query.now)
+        (get_or (asked_of query.now).subtrees k []) parts.items) }
+{
+    let tops = tops_of(alloc, cloud, query, k, choices)?;
+    let parts = draft(alloc, cloud, &tops)?;
+    if are_linked(cloud, &tops, &parts) {
+        return Ok(parts);
+    }
+    Ok(vec![in alloc; 0u32; cloud.len() as usize]?)
+}
+
+// Marks the parts in which a provider of a list stands that has room for what is asked.
+fn mark_parts(marks: &mut [bool], parts: &[u32], list: &[u32], rows: &[Vec<Room>], asks: &[Ask])
+    requires list { All (λ p. p < length parts.now) list.now }
+    requires rows { length rows.now ≡ length parts.now }
+    ensures count { length marks.new ≡ length marks.old }
+    ensures marked { (j : ℕ) → j < length list.now
+        → has_each (row_of rows.now (slice_index list.now j)) (map ask_pair asks.now) ≡ true
+        → slice_index parts.now (slice_index list.now j) < length marks.old
+        → slice_index_or marks.new (slice_index parts.now (slice_index list.now j)) true ≡ true }
+{
+    for ix in list {
+        let at = *ix as usize;
+        let part = parts[at] as usize;
+        if part < marks.len() && has_each(&rows[at], asks) {
+            marks[part] = true;
+        }
+    }
+}
+
+// Drops the parts that have no mark.
+fn keep_marked(parts: &mut [u32], marks: &[bool], none: u32)
+    ensures count { length parts.new ≡ length parts.old }
+    ensures kept { (p : ℕ) → p < length parts.old
+        → slice_index_or marks.now (slice_index parts.old p) true ≡ true
+        → slice_index parts.new p ≡ slice_index parts.old p }
+{
+    for i in 0..parts.len() {
+        let part = parts[i] as usize;
+        if part < marks.len() && !marks[part] {
+            parts[i] = none;
+        }
+    }
+}
+
+// Keeps the parts in which some choice of a slot stands that has room for what is asked.
+fn keep_seen(
+    alloc: Global,
+    parts: &mut [u32],
+    list: &[u32],
+    rows: &[Vec<Room>],
+    asks: &[Ask],
+    none: u32,
+) -> Result<(), NoMemory>
+    requires parts { length parts.old ≡ length rows.now }
+    requires list { All (λ p. p < length rows.now) list.now }
+    ensures { IfOk result (λ _. KeepSeen parts.old list.now (λ p.
+        has_each (row_of rows.now p) (map ask_pair asks.now)) parts.new) }
+{
+    let mut marks = vec![in alloc; false; rows.len()]?;
+    mark_parts(&mut marks, parts, list, rows, asks);
+    keep_marked(parts, &marks, none);
+    Ok(())
+}
+
+// The same, where a list names the slot of which these are the choices.
+fn keep_slot(
+    alloc: Global,
+    ledger: &Ledger,
+    k: usize,
+    s: usize,
+    list: &[u32],
+    parts: &mut [u32],
+) -> Result<(), NoMemory>
+    requires names { k < length (asked_in ledger.now).subtrees }
+    requires slot { s < length (slots_of (asked_in ledger.now)) }
+    requires list { list.now ≡ choice_in ledger.now s }
+    requires empty { Accounts ledger.now [] }
+    requires parts { ArePartsIn ledger.now k parts.old }
+    ensures { IfOk result (λ _. ArePartsIn ledger.now k parts.new) }
+{
+    if !is_listed(ledger.query, k, s) {
+        return Ok(());
+    }
+    keep_seen(
+        alloc,
+        parts,
+        list,
+        &ledger.rows,
+        &ledger.asks[s],
+        ledger.cloud.len(),
+    )
+}
+
+/// For each provider the part of the forest in which it may stand with the others that a list of `same_subtree` names, or
+/// the number of all providers where it can't: some choice of a slot that the list names is above the whole part, and each
+/// of these slots has a choice in it that has room for the slot.
+pub(crate) fn parts_of(
+    alloc: Global,
+    ledger: &Ledger,
+    k: usize,
+    choices: &[Vec<u32>],
+) -> Result<Vec<u32>, NoMemory>
+    requires list { k < length (asked_in ledger.now).subtrees }
+    requires choices { map (λ v. v.items) choices.now ≡ choices_in ledger.now }
+    requires empty { Accounts ledger.now [] }
+    ensures { IfOk result (λ parts. ArePartsIn ledger.now k parts.items) }
+{
+    let mut parts = all_parts(alloc, ledger.cloud, ledger.query, k, choices)?;
+    for s in 0..count_slots(ledger.query) {
+        keep_slot(alloc, ledger, k, s, &choices[s], &mut parts)?;
+    }
+    Ok(parts)
+}

@@ -1,0 +1,195 @@
+//! Which roots may host a candidate: what the providers of each root have together, counted once for all roots.
+
+ghost use Rattle.std.specs.Prelude.{◌≡◌, ◌<◌, [], length, map, IfOk};
+ghost use Rattle.std.specs.List.{All};
+ghost use Rattle.ac_query.specs.Asked.{slots_of};
+ghost use Rattle.ac_prune.specs.Left.Accounts.{asked_in, Accounts};
+ghost use Rattle.ac_prune.specs.Ahead.{AreRoots};
+ghost use Rattle.ac_prune.specs.Loads.{AreServing, MayHost, choice_in, choices_in};
+
+mod column;
+mod loads;
+
+use crate::front::Front;
+use crate::ledger::Ledger;
+use crate::ledger::marks::{has_full, taken_roots};
+use crate::look_ahead::LookAhead;
+use ac_base::NoMemory;
+use ac_rules::slots::count_slots;
+use ac_cloud::Cloud;
+use column::Column;
+pub(crate) use column::count_asking;
+pub use loads::limit;
+use std::alloc::Global;
+
+// How many steps all tests may take together.
+const MOST_STEPS: u64 = 1 << 28;
+
+/// How many tests of all roots may still be made, so that they don't take longer than the search that they shorten.
+#[derive(Drop)]
+pub(crate) struct Budget {
+    tests: u64,
+}
+
+/// What is tested of the classes that the slots ask for.
+#[derive(Clone, Copy)]
+pub(crate) enum ClassTest {
+    /// What all slots ask together.
+    Sums,
+    /// How many slots ask so much or more.
+    Pieces,
+}
+
+// How many steps a test takes: it goes over all providers, and over each list of roots.
+fn count_steps(cloud: &Cloud) -> u64 {
+    let mut steps = u64::from(cloud.len());
+    for list in cloud.root_lists() {
+        steps = steps.saturating_add(list.len() as u64);
+    }
+    steps
+}
+
+impl Budget {
+    fn of_cloud(cloud: &Cloud) -> Budget {
+        Budget {
+            tests: MOST_STEPS / count_steps(cloud).max(1),
+        }
+    }
+
+    fn is_spent(&self) -> bool {
+        self.tests == 0
+    }
+
+    /// Whether one more may be made, which counts.
+    pub(crate) fn take(&mut self) -> bool {
+        let some = !self.is_spent();
+        self.tests = self.tests.saturating_sub(1);
+        some
+    }
+}
+
+// 1 at each of some choices, 0 at the other providers.
+fn serving(alloc: Global, count: usize, choices: &[u32]) -> Result<Vec<u64>, NoMemory>
+    requires { All (λ p. p < count) choices.now }
+    ensures count { IfOk result (λ rooms. length rooms.items ≡ count) }
+    ensures rooms { IfOk result (λ rooms. AreServing choices.now rooms.items) }
+{
+    let mut rooms = vec![in alloc; 0u64; count]?;
+    for ix in choices {
+        rooms[*ix as usize] = 1;
+    }
+    Ok(rooms)
+}
+
+// Drops the roots at which no choice of a slot is available.
+fn limit_slot(
+    alloc: Global,
+    ledger: &Ledger,
+    choices: &[u32],
+    s: usize,
+    may: &mut [bool],
+) -> Result<(), NoMemory>
+    requires slot { s < length (slots_of (asked_in ledger.now)) }
+    requires choices { choices.now ≡ choice_in ledger.now s }
+    requires hosts { MayHost ledger.now may.old }
+    ensures { IfOk result (λ _. MayHost ledger.now may.new) }
+{
+    let rooms = serving(alloc, ledger.cloud.len() as usize, choices)?;
+    limit(alloc, ledger.cloud, may, &rooms, 1)
+}
+
+// Of all slots.
+fn limit_slots(
+    alloc: Global,
+    ledger: &Ledger,
+    choices: &[Vec<u32>],
+    budget: &mut Budget,
+    may: &mut [bool],
+) -> Result<(), NoMemory>
+    requires choices { map (λ v. v.items) choices.now ≡ choices_in ledger.now }
+    requires hosts { MayHost ledger.now may.old }
+    ensures { IfOk result (λ _. MayHost ledger.now may.new) }
+{
+    for s in 0..count_slots(ledger.query) {
+        if !may.contains(&true) || !budget.take() {
+            return Ok(());
+        }
+        limit_slot(alloc, ledger, &choices[s], s, may)?;
+    }
+    Ok(())
+}
+
+// Drops the roots whose providers fail a test of some class, while there are any.
+fn limit_classes(
+    alloc: Global,
+    ledger: &Ledger,
+    test: ClassTest,
+    budget: &mut Budget,
+    may: &mut [bool],
+) -> Result<(), NoMemory>
+    requires empty { Accounts ledger.now [] }
+    requires hosts { MayHost ledger.now may.old }
+    ensures { IfOk result (λ _. MayHost ledger.now may.new) }
+{
+    for class in &ledger.classes {
+        if !may.contains(&true) || budget.is_spent() {
+            return Ok(());
+        }
+        Column::new(alloc, ledger, class)?.limit(alloc, test, budget, may)?;
+    }
+    Ok(())
+}
+
+// By all tests, as far as the budget goes.
+fn limit_all(
+    alloc: Global,
+    ledger: &Ledger,
+    choices: &[Vec<u32>],
+    may: &mut [bool],
+) -> Result<(), NoMemory>
+    requires choices { map (λ v. v.items) choices.now ≡ choices_in ledger.now }
+    requires empty { Accounts ledger.now [] }
+    requires hosts { MayHost ledger.now may.old }
+    ensures { IfOk result (λ _. MayHost ledger.now may.new) }
+{
+    let mut budget = Budget::of_cloud(ledger.cloud);
+    limit_slots(alloc, ledger, choices, &mut budget, may)?;
+    limit_classes(alloc, ledger, ClassTest::Sums, &mut budget, may)?;
+    limit_classes(alloc, ledger, ClassTest::Pieces, &mut budget, may)
+}
+
+/// For each root whether it may host a candidate: the query takes it, some choice of each slot is available there, of each
+/// class its providers have as much as all slots ask, and of each amount that a slot asks they have as many pieces as
+/// slots ask so much or more. These are tested in this order. Where all tests would take too many steps, the last ones
+/// aren't made: that is right too, only slower where no root can.
+#[derive(Drop)]
+pub(crate) struct Hosts {
+    may: Vec<bool>,
+}
+
+impl Hosts {
+    /// Of the cloud and the query of a ledger, before anything is placed, and of the choices of the slots.
+    pub(crate) fn new(
+        alloc: Global,
+        ledger: &Ledger,
+        choices: &[Vec<u32>],
+    ) -> Result<Hosts, NoMemory>
+        requires choices { map (λ v. v.items) choices.now ≡ choices_in ledger.now }
+        requires empty { Accounts ledger.now [] }
+        ensures { IfOk result (λ hosts. MayHost ledger.now hosts.may.items) }
+    {
+        let mut may = taken_roots(alloc, ledger.cloud, ledger.query)?;
+        limit_all(alloc, ledger, choices, &mut may)?;
+        Ok(Hosts { may })
+    }
+}
+
+impl LookAhead for Hosts {
+    ghost is_of = { λ all asked hosts. AreRoots all asked hosts.may.items };
+
+    // Whether some root that may host a candidate has all of the path, and the provider too.
+    fn may_follow(&self, front: &Front, provider: u32) -> bool {
+        let roots = front.ledger.cloud.anchors(provider);
+        has_full(&front.ledger.hits, &self.may, roots, front.path.len())
+    }
+}

@@ -1,0 +1,163 @@
+//! What the path of a walk takes, in plain numbers, so that a try looks at one provider alone.
+
+ghost use Rattle.std.specs.Prelude.{◌≡◌, ◌<◌, ◌≤◌, ◌^◌, ◌++◌, ◌∷◌, ◌&&◌, ◌==◌, [], ℕ, List, length, map, true, false, not, nat_lt, slice_index, slice_index_or, IfOk};
+ghost use Rattle.std.specs.List.{All, list_all, list_any, range_with_len};
+ghost use Rattle.ac_base.specs.Names.{class_bytes};
+ghost use Rattle.ac_cloud.specs.Cloud.CloudWorld.{providers_of};
+ghost use Rattle.ac_cloud.specs.World.{anchors_of};
+ghost use Rattle.ac_query.specs.Asked.{slots_of};
+ghost use Rattle.ac_query.specs.Shown.Queries.{asked_of};
+ghost use Rattle.ac_rules.specs.Placed.{slot_at, assigned};
+ghost use Rattle.ac_rules.specs.Together.{takes_root};
+ghost use Rattle.ac_rules.specs.Judge.{is_open};
+ghost use Rattle.ac_prune.specs.QuerySearch.{fits};
+ghost use Rattle.ac_prune.specs.Left.{IsKnown, ask_pair, numbered, place_of, room_on, row_of, IsThere, suffices};
+ghost use Rattle.ac_prune.specs.Marks.{needs_own};
+
+pub mod marks;
+pub mod rooms;
+
+use crate::ledger::marks::{has_full, hit, lone_slots, mark, taken_roots, unhit, unmark};
+use crate::ledger::rooms::{
+    Ask, Room, all_asks, all_classes, all_rooms, give_row, has_each, take_row,
+};
+use ac_base::{ClassName, NoMemory};
+use ac_query::Query;
+use ac_cloud::Cloud;
+use std::alloc::Global;
+
+/// What a path takes of the rooms, and which providers and roots it meets.
+#[derive(Drop)]
+pub struct Ledger<'a> {
+    pub cloud: &'a Cloud,
+    pub query: &'a Query,
+    // The classes that the slots ask for, what each slot asks of them, and what is left of each provider's rooms.
+    pub(crate) classes: Vec<&'a ClassName>,
+    pub(crate) asks: Vec<Vec<Ask>>,
+    pub(crate) rows: Vec<Vec<Room>>,
+    // The slots that need a provider for themselves, and how many of them each provider has.
+    pub(crate) lone: Vec<bool>,
+    marks: Vec<u32>,
+    // The roots that the query takes, and at how many providers of the path each is available.
+    taken: Vec<bool>,
+    pub(crate) hits: Vec<u32>,
+    ghost known: { (s : ℕ) → s < length (slots_of (asked_of query.now)) → All (λ need. IsKnown (map (λ c. class_bytes c.now) classes.items) need.0) (slot_at (asked_of query.now) s).needs },
+    ghost asked: { map (λ v. map ask_pair v.items) asks.items ≡ map (λ slot. map (numbered (map (λ c. class_bytes c.now) classes.items)) slot.needs) (slots_of (asked_of query.now)) },
+    ghost as_many: { length rows.items ≡ length (providers_of cloud.now) },
+    ghost there: { (p : ℕ) (c : List ℕ) → p < length (providers_of cloud.now) → IsKnown (map (λ c. class_bytes c.now) classes.items) c → 0 < room_on (providers_of cloud.now) p c → IsThere (row_of rows.items p) (place_of (map (λ c. class_bytes c.now) classes.items) c) },
+    ghost small: { (p : ℕ) (c : List ℕ) → p < length (providers_of cloud.now) → IsKnown (map (λ c. class_bytes c.now) classes.items) c → room_on (providers_of cloud.now) p c < 2 ^ 64 },
+    ghost alone: { lone.items ≡ map (needs_own (asked_of query.now)) (slots_of (asked_of query.now)) },
+    ghost marked: { length marks.items ≡ length (providers_of cloud.now) },
+    ghost rooted: { taken.items ≡ map (takes_root (providers_of cloud.now) (asked_of query.now)) (range_with_len 0 (length (providers_of cloud.now))) },
+    ghost met: { length hits.items ≡ length (providers_of cloud.now) },
+}
+
+impl<'a> Ledger<'a> {
+    ghost use Rattle.ac_prune.specs.Left.Accounts.{providers_in, asked_in, texts_in, Accounts, IsSameLedger};
+
+    /// Of an empty path. It takes all its memory here.
+    pub fn new(alloc: Global, cloud: &'a Cloud, query: &'a Query) -> Result<Ledger<'a>, NoMemory>
+        ensures cloud { IfOk result (λ ledger. ledger.cloud ≡ cloud.entry) }
+        ensures query { IfOk result (λ ledger. ledger.query ≡ query.entry) }
+        ensures accounts { IfOk result (λ ledger. Accounts ledger []) }
+    {
+        let classes = all_classes(alloc, query)?;
+        let asks = all_asks(alloc, query, &classes)?;
+        let rows = all_rooms(alloc, cloud, &classes)?;
+        let lone = lone_slots(alloc, query)?;
+        let taken = taken_roots(alloc, cloud, query)?;
+        let count = cloud.len() as usize;
+        let marks = vec![in alloc; 0u32; count]?;
+        let hits = vec![in alloc; 0u32; count]?;
+        Ok(Ledger {
+            cloud,
+            query,
+            classes,
+            asks,
+            rows,
+            lone,
+            marks,
+            taken,
+            hits,
+        })
+    }
+
+    // Whether the next slot may have a provider as far as Isolate goes.
+    fn is_apart(&self, s: usize, ix: u32) -> bool
+        requires slot { s < length (slots_of (asked_in self.now)) }
+        requires provider { ix < length (providers_in self.now) }
+        ensures { result ≡ not (needs_own (asked_in self.now) (slot_at (asked_in self.now) s)
+            && nat_lt 0 (slice_index self.now.marks.items ix)) }
+    {
+        !(self.lone[s] && self.marks[ix as usize] > 0)
+    }
+
+    /// Whether the row of a provider has enough for a slot.
+    pub(crate) fn has_enough(&self, s: usize, ix: u32) -> bool
+        requires slot { s < length (slots_of (asked_in self.now)) }
+        requires provider { ix < length (providers_in self.now) }
+        ensures { result ≡ suffices (row_of self.now.rows.items ix)
+            (map (numbered (texts_in self.now)) (slot_at (asked_in self.now) s).needs) }
+    {
+        has_each(&self.rows[ix as usize], &self.asks[s])
+    }
+
+    // Whether a whole path of a depth keeps a root with one more provider.
+    fn has_root(&self, depth: usize, ix: u32) -> bool
+        requires { ix < length (providers_in self.now) }
+        ensures { result
+            ≡ list_any (λ r. slice_index_or self.now.taken.items r false
+            && (slice_index self.now.hits.items r == depth))
+            (anchors_of (providers_in self.now) ix) }
+    {
+        has_full(&self.hits, &self.taken, self.cloud.anchors(ix), depth)
+    }
+
+    /// Whether an open front stays open with one more provider, which fits its slot.
+    #[tactic(auto, using(crate::proofs::Paths::LedgerLemmas::open_next))]
+    pub fn admits(&self, front: &[u32], ix: u32) -> bool
+        requires slots { length front.now < length (slots_of (asked_in self.now)) }
+        requires provider { ix < length (providers_in self.now) }
+        requires accounts { Accounts self.now front.now }
+        requires own { list_all (λ x. fits (providers_in self.now) x)
+            (assigned (asked_in self.now) (front.now ++ ix ∷ [])) ≡ true }
+        requires open { is_open (providers_in self.now) (asked_in self.now) front.now ≡ true }
+        ensures { result ≡ is_open (providers_in self.now) (asked_in self.now)
+            (front.now ++ ix ∷ []) }
+    {
+        let s = front.len();
+        self.has_enough(s, ix) && self.is_apart(s, ix) && self.has_root(s, ix)
+    }
+
+    /// Takes what one more provider behind an open front gives to its slot.
+    pub fn take(&mut self, front: &[u32], ix: u32)
+        requires slots { length front.now < length (slots_of (asked_in self.old)) }
+        requires provider { ix < length (providers_in self.old) }
+        requires accounts { Accounts self.old front.now }
+        requires open { is_open (providers_in self.old) (asked_in self.old) (front.now ++ ix ∷ [])
+            ≡ true }
+        ensures same { IsSameLedger self.old self.new }
+        ensures accounts { Accounts self.new (front.now ++ ix ∷ []) }
+    {
+        let s = front.len();
+        let at = ix as usize;
+        take_row(&mut self.rows, at, &self.asks[s]);
+        mark(&mut self.marks, self.lone[s], at);
+        hit(&mut self.hits, self.cloud.anchors(ix));
+    }
+
+    /// Gives back what the last provider of a front took.
+    pub fn give_back(&mut self, front: &[u32], ix: u32)
+        requires slots { length front.now < length (slots_of (asked_in self.old)) }
+        requires provider { ix < length (providers_in self.old) }
+        requires accounts { Accounts self.old (front.now ++ ix ∷ []) }
+        ensures same { IsSameLedger self.old self.new }
+        ensures accounts { Accounts self.new front.now }
+    {
+        let s = front.len();
+        let at = ix as usize;
+        give_row(&mut self.rows, at, &self.asks[s]);
+        unmark(&mut self.marks, self.lone[s], at);
+        unhit(&mut self.hits, self.cloud.anchors(ix));
+    }
+}

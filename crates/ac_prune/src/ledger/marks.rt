@@ -1,0 +1,115 @@
+//! Marks in plain numbers: which providers are taken by slots that stand apart, and the roots at which a whole path is
+//! available.
+
+ghost use Rattle.std.specs.Prelude.{◌≡◌, ◌+◌, ◌-◌, ◌<◌, ◌≤◌, ◌^◌, ◌&&◌, ◌==◌, ℕ, length, map, slice_index, slice_index_or, true, false, if◌then◌else◌, IfOk};
+ghost use Rattle.std.specs.List.{All, list_any, range_with_len};
+ghost use Rattle.ac_cloud.specs.Cloud.CloudWorld.{providers_of};
+ghost use Rattle.ac_query.specs.Asked.{slots_of};
+ghost use Rattle.ac_query.specs.Shown.Queries.{asked_of};
+ghost use Rattle.ac_rules.specs.Placed.{slot_at};
+ghost use Rattle.ac_rules.specs.Together.{takes_root};
+ghost use Rattle.ac_prune.specs.Marks.{needs_own, times};
+
+use ac_base::NoMemory;
+use ac_query::Query;
+use ac_rules::rules::anchor::takes_root;
+use ac_rules::slots::{count_slots, is_set_apart};
+use ac_cloud::Cloud;
+use std::alloc::Global;
+
+// Whether a slot needs a provider for itself among its like.
+fn needs_own(query: &Query, s: usize) -> bool
+    requires { s < length (slots_of (asked_of query.now)) }
+    ensures { result ≡ needs_own (asked_of query.now) (slot_at (asked_of query.now) s) }
+{
+    query.isolate() && is_set_apart(query, s)
+}
+
+/// Which slots need a provider for themselves among their like.
+pub(crate) fn lone_slots(alloc: Global, query: &Query) -> Result<Vec<bool>, NoMemory>
+    ensures { IfOk result (λ lone. lone.items
+        ≡ map (needs_own (asked_of query.now)) (slots_of (asked_of query.now))) }
+{
+    let mut lone = Vec::new(alloc);
+    for s in 0..count_slots(query) {
+        lone.push(needs_own(query, s))?;
+    }
+    Ok(lone)
+}
+
+/// Which roots the query takes.
+pub fn taken_roots(alloc: Global, cloud: &Cloud, query: &Query) -> Result<Vec<bool>, NoMemory>
+    ensures { IfOk result (λ taken. taken.items
+        ≡ map (takes_root (providers_of cloud.now) (asked_of query.now))
+        (range_with_len 0 (length (providers_of cloud.now)))) }
+{
+    let mut taken = Vec::new(alloc);
+    for root in 0..cloud.len() {
+        taken.push(takes_root(cloud, query, root))?;
+    }
+    Ok(taken)
+}
+
+/// Counts one more at a provider, where it is for a slot that needs one for itself.
+pub(crate) fn mark(marks: &mut [u32], lone: bool, at: usize)
+    requires within { at < length marks.old }
+    requires room { slice_index marks.old at < 2 ^ 32 - 1 }
+    ensures { (p : ℕ) → slice_index marks.new p
+        ≡ slice_index marks.old p + (if lone && (at == p) then 1 else 0) }
+{
+    if lone {
+        marks[at] += 1;
+    }
+}
+
+/// Counts one less there.
+pub(crate) fn unmark(marks: &mut [u32], lone: bool, at: usize)
+    requires within { at < length marks.old }
+    requires there { lone ≡ true → 0 < slice_index marks.old at }
+    ensures { (p : ℕ) → slice_index marks.new p + (if lone && (at == p) then 1 else 0)
+        ≡ slice_index marks.old p }
+{
+    if lone {
+        marks[at] -= 1;
+    }
+}
+
+/// Counts one more at each root of a list.
+pub(crate) fn hit(hits: &mut [u32], roots: &[u32])
+    requires within { All (λ r. r < length hits.old) roots.now }
+    requires room { (r : ℕ) → r < length hits.old
+        → slice_index hits.old r + times r roots.now < 2 ^ 32 }
+    ensures { (r : ℕ) → slice_index hits.new r ≡ slice_index hits.old r + times r roots.now }
+{
+    for root in roots {
+        hits[*root as usize] += 1;
+    }
+}
+
+/// Counts one less at each root of a list.
+pub(crate) fn unhit(hits: &mut [u32], roots: &[u32])
+    requires within { All (λ r. r < length hits.old) roots.now }
+    requires there { (r : ℕ) → r < length hits.old → times r roots.now ≤ slice_index hits.old r }
+    ensures { (r : ℕ) → slice_index hits.new r + times r roots.now ≡ slice_index hits.old r }
+{
+    for root in roots {
+        hits[*root as usize] -= 1;
+    }
+}
+
+/// Whether the query takes some root of a list that was hit so often.
+pub(crate) fn has_full(hits: &[u32], taken: &[bool], roots: &[u32], depth: usize) -> bool
+    requires hits { All (λ r. r < length hits.now) roots.now }
+    requires taken { All (λ r. r < length taken.now) roots.now }
+    ensures { result
+        ≡ list_any (λ r. slice_index_or taken.now r false && (slice_index hits.now r == depth))
+        roots.now }
+{
+    for root in roots {
+        let root = *root as usize;
+        if taken[root] && hits[root] as usize == depth {
+            return true;
+        }
+    }
+    false
+}

@@ -1,0 +1,95 @@
+//! All tests by which a walk looks ahead.
+ghost use Rattle.std.specs.Prelude.{◌≡◌, [], map, IfOk};
+ghost use Rattle.ac_prune.specs.Left.Accounts.{providers_in, asked_in, Accounts};
+ghost use Rattle.ac_prune.specs.Loads.{choices_in};
+ghost use Rattle.ac_prune.specs.Tests.{AreTests, IsTest};
+
+use crate::ahead::Ahead;
+use crate::families::Family;
+use crate::front::Front;
+use crate::hosts::Hosts;
+use crate::ledger::Ledger;
+use crate::look_ahead::LookAhead;
+use crate::trees::Trees;
+use ac_base::NoMemory;
+use std::alloc::Global;
+
+// How many lists of `same_subtree` are looked at ahead; further ones are judged when all slots have a provider, as all are.
+const MOST_FAMILIES: usize = 16;
+
+/// One of the tests.
+#[derive(Drop)]
+pub(crate) enum Test {
+    Ahead(Ahead),
+    Trees(Trees),
+    Hosts(Hosts),
+    Family(Family),
+}
+
+impl LookAhead for Test {
+    ghost is_of = { IsTest };
+
+    fn next(&self, front: &Front, from: usize) -> usize {
+        match self {
+            Test::Ahead(test) => test.next(front, from),
+            Test::Trees(test) => test.next(front, from),
+            Test::Hosts(test) => test.next(front, from),
+            Test::Family(test) => test.next(front, from),
+        }
+    }
+
+    fn may_follow(&self, front: &Front, provider: u32) -> bool {
+        match self {
+            Test::Ahead(test) => test.may_follow(front, provider),
+            Test::Trees(test) => test.may_follow(front, provider),
+            Test::Hosts(test) => test.may_follow(front, provider),
+            Test::Family(test) => test.may_follow(front, provider),
+        }
+    }
+}
+
+/// All tests, in the order in which they are made.
+#[derive(Drop)]
+pub struct Lookout {
+    tests: Vec<Test>,
+}
+
+impl Lookout {
+    /// Of the cloud and the query of a ledger, before anything is placed, and of the choices of the slots.
+    pub fn new(alloc: Global, ledger: &Ledger, choices: &[Vec<u32>]) -> Result<Lookout, NoMemory>
+        requires choices { map (λ v. v.items) choices.now ≡ choices_in ledger.now }
+        requires empty { Accounts ledger.now [] }
+        ensures { IfOk result (λ lookout.
+            AreTests (providers_in ledger.now) (asked_in ledger.now) lookout) }
+    {
+        let mut tests = Vec::new(alloc);
+        tests.push(Test::Ahead(Ahead::new(alloc, ledger)?))?;
+        tests.push(Test::Trees(Trees::new(alloc, ledger, choices)?))?;
+        tests.push(Test::Hosts(Hosts::new(alloc, ledger, choices)?))?;
+        for k in 0..ledger.query.subtrees().min(MOST_FAMILIES) {
+            tests.push(Test::Family(Family::new(alloc, ledger, k, choices)?))?;
+        }
+        Ok(Lookout { tests })
+    }
+}
+
+impl LookAhead for Lookout {
+    ghost is_of = { AreTests };
+
+    fn next(&self, front: &Front, from: usize) -> usize {
+        let mut place = from;
+        for test in &self.tests {
+            place = test.next(front, place);
+        }
+        place
+    }
+
+    fn may_follow(&self, front: &Front, provider: u32) -> bool {
+        for test in &self.tests {
+            if !test.may_follow(front, provider) {
+                return false;
+            }
+        }
+        true
+    }
+}

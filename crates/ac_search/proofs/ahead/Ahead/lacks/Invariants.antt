@@ -1,4 +1,0 @@
-use Rattle.ac_search.proofs.ahead.Ahead.lacks.Given as goal
-
-abbrev pub invariant-loop-asks : goal.invariant-loop-asks
-invariant-loop-asks l = Unit {0}

@@ -1,9 +1,0 @@
-use Rattle.std.proofs.Common.{◌≡◌, ◌<◌, ℕ, true, length, slice_index, slice_index_or}
-use Rattle.ac_search.proofs.families.parts.mark_each.Given as goal
-
-abbrev pub invariant-loop-ix : goal.invariant-loop-ix
-invariant-loop-ix l = record {
-  count : length l.marks ≡ length l.fn.marks;
-  kept : (p : ℕ) → slice_index_or l.fn.marks p true ≡ true → slice_index_or l.marks p true ≡ true;
-  marked : (j : ℕ) → j < l.ix-index → slice_index_or l.marks (slice_index l.list j) true ≡ true;
-}

@@ -1,5 +1,0 @@
-use Rattle.ac_search.specs.Loads.{ArePartsIn}
-use Rattle.ac_search.proofs.families.parts.parts_of.Given as goal
-
-abbrev pub invariant-loop-s : goal.invariant-loop-s
-invariant-loop-s l = ArePartsIn l.ledger l.k l.parts.items

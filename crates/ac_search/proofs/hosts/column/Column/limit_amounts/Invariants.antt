@@ -1,5 +1,0 @@
-use Rattle.ac_search.specs.Loads.{MayHost}
-use Rattle.ac_search.proofs.hosts.column.Column.limit_amounts.Given as goal
-
-abbrev pub invariant-loop-asks : goal.invariant-loop-asks
-invariant-loop-asks l = MayHost l.self.ledger.now l.may

@@ -1,5 +1,0 @@
-use Rattle.ac_search.specs.Loads.{MayHost}
-use Rattle.ac_search.proofs.hosts.limit_classes.Given as goal
-
-abbrev pub invariant-loop-class : goal.invariant-loop-class
-invariant-loop-class l = MayHost l.ledger l.may
