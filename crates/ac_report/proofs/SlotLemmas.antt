@@ -1,20 +1,18 @@
 -- What slots need of a provider, and whose providers they have.
-use Rattle.std.proofs.Common.{◌≡◌, ℕ, zero, suc, ◌+◌, ◌<◌, ◌≤◌, List, [], ◌∷◌, ◌++◌, map, fold, drop, length, length-append, refl, sym, ap, ◌∙◌, Bool, true, false, not, ◌||◌, nat_cmp, if◌then◌else◌, sum_by, slice_index, arith}
+use Rattle.std.proofs.Common.{◌≡◌, ℕ, zero, suc, ◌+◌, ◌<◌, ◌≤◌, List, [], ◌∷◌, ◌++◌, map, fold, drop, length, refl, sym, ap, ◌∙◌, Bool, true, false, ◌||◌, nat_cmp, if◌then◌else◌, sum_by, slice_index, arith}
 use Rattle.std.specs.Prelude.{nat_eq, slice_index_or}
 use Rattle.std.specs.BTreeSet.{insert_key}
+use Rattle.std.specs.Map.{keys_of}
 use Rattle.std.specs.List.{All, filter, list_any}
-use Rattle.std.proofs.lemmas.List.{length-map}
-use Rattle.std.proofs.lemmas.List.Folds.{list_any-append}
 use Rattle.std.proofs.lemmas.List.Sums.{sum_by-cons}
 use Rattle.std.proofs.lemmas.Map.Views.{All-insert_key}
-use Rattle.ac_query.specs.declared.group.Need.{Need}
+use Rattle.ac_base.specs.Texts.{text_cmp}
 use Rattle.ac_query.specs.Asked.{Slot}
-use Rattle.ac_query.specs.Shown.Groups.{need_entry}
 use Rattle.ac_rules.specs.Placed.{Placed, placed, no_slot}
-use Rattle.ac_rules.specs.Together.{amount_of, sum_on, is_empty}
+use Rattle.ac_rules.specs.Together.{amount_of, sum_on}
 use Rattle.ac_rules.proofs.PlacedLemmas.{placed_more}
 use Rattle.ac_base.specs.Sorted.{rising}
-use Rattle.ac_report.specs.Trees.{gives, hosts, needs_on}
+use Rattle.ac_report.specs.Trees.{hosts, needs_on}
 
 -- a slot needs no more than all slots
 pub few_at : (ss : List Slot) (s : ℕ) → s < length ss → length (slice_index_or ss s no_slot).needs ≤ sum_by (λ s. length s.needs) ss
@@ -32,18 +30,19 @@ pub needs_more : (ss : List Slot) (t : List ℕ) (i ix : ℕ) → i < length t �
     → needs_on (placed (drop i ss) (drop i t)) ix ≡ needs_in ss t i ix ++ needs_on (placed (drop (i + 1) ss) (drop (i + 1) t)) ix
 needs_more ss t i ix h k = ap (λ xs. needs_on xs ix) (placed_more ss t i no_slot h k)
 
-pub count_more : (ss : List Slot) (t : List ℕ) (i ix : ℕ) (here : List Need) → i < length t → i < length ss → map need_entry here ≡ needs_in ss t i ix
-    → length (needs_on (placed (drop i ss) (drop i t)) ix) ≡ length here + length (needs_on (placed (drop (i + 1) ss) (drop (i + 1) t)) ix)
-count_more ss t i ix here h k e =
-    let rest = needs_on (placed (drop (i + 1) ss) (drop (i + 1) t)) ix in
-    ap length (needs_more ss t i ix h k) ∙ length-append (needs_in ss t i ix) rest ∙ ap (λ n. n + length rest) (sym (ap length e) ∙ length-map here need_entry)
-
-pub gives_some : (xs : List Placed) (ix : ℕ) → 0 < length (needs_on xs ix) → gives xs ix ≡ true
-gives_some xs ix h = by (needs_on xs ix) h
+-- the classes that are needed
+pub keys_more : (ss : List Slot) (t : List ℕ) (i ix : ℕ) (done : List (List ℕ)) → i < length t → i < length ss
+    → fold (insert_key text_cmp) done (keys_of (needs_on (placed (drop i ss) (drop i t)) ix))
+    ≡ fold (insert_key text_cmp) (fold (insert_key text_cmp) done (keys_of (needs_in ss t i ix))) (keys_of (needs_on (placed (drop (i + 1) ss) (drop (i + 1) t)) ix))
+keys_more ss t i ix done h k =
+    ap (λ needs. fold (insert_key text_cmp) done (keys_of needs)) (needs_more ss t i ix h k)
+    ∙ by done (needs_in ss t i ix)
   where
-    by : (needs : List (List ℕ × ℕ)) → 0 < length needs → not (is_empty needs) ≡ true
-    by [] h = absurd (omega arith)
-    by (n ∷ needs) h = refl
+    by : (done : List (List ℕ)) (here : List (List ℕ × ℕ))
+        → fold (insert_key text_cmp) done (keys_of (here ++ needs_on (placed (drop (i + 1) ss) (drop (i + 1) t)) ix))
+        ≡ fold (insert_key text_cmp) (fold (insert_key text_cmp) done (keys_of here)) (keys_of (needs_on (placed (drop (i + 1) ss) (drop (i + 1) t)) ix))
+    by done [] = refl
+    by done (need ∷ here) = by (insert_key text_cmp done need.0) here
 
 -- ---- sums
 
@@ -58,10 +57,6 @@ amount_if q false needs = refl
 pub amount_more : (ss : List Slot) (t : List ℕ) (i ix : ℕ) (q : List ℕ) → i < length t → i < length ss
     → amount_of (needs_on (placed (drop i ss) (drop i t)) ix) q ≡ amount_of (needs_in ss t i ix) q + amount_of (needs_on (placed (drop (i + 1) ss) (drop (i + 1) t)) ix) q
 amount_more ss t i ix q h k = ap (λ needs. amount_of needs q) (needs_more ss t i ix h k) ∙ amount_append q (needs_in ss t i ix) _
-
-pub asked_more : (ss : List Slot) (t : List ℕ) (i ix : ℕ) (test : List ℕ × ℕ → Bool) → i < length t → i < length ss
-    → list_any test (needs_on (placed (drop i ss) (drop i t)) ix) ≡ (list_any test (needs_in ss t i ix) || list_any test (needs_on (placed (drop (i + 1) ss) (drop (i + 1) t)) ix))
-asked_more ss t i ix test h k = ap (list_any test) (needs_more ss t i ix h k) ∙ list_any-append test (needs_in ss t i ix) _
 
 -- what is needed of a provider, class by class
 pub sum_on_is : (xs : List Placed) (ix : ℕ) (q : List ℕ) → sum_on xs ix q ≡ amount_of (needs_on xs ix) q

@@ -2,7 +2,8 @@
 pub mod Finding
 pub mod FindingSums
 pub mod Gathering
-pub mod Once
+pub mod Requests
+pub mod Sending
 pub mod Listed
 pub mod PlainTrees
 pub mod Marking

@@ -4,3 +4,4 @@ pub mod Pages
 pub mod Laws
 pub mod Parts
 pub mod Marks
+pub mod Requests

@@ -1,31 +1,34 @@
 //! UUIDs as JSON.
-ghost use Rattle.std.specs.Prelude.{◌≡◌, ◌<◌, IfOk, string_bytes};
-ghost use Rattle.serde_json.specs.Data.{string};
-ghost use Rattle.serde_json.specs.View.{view};
-ghost use Rattle.serde_json.specs.Written.{compact_text};
+ghost use Rattle.std.specs.Prelude.{◌≡◌, OnOk};
+ghost use Rattle.serde.specs.declared.name.Case.TheVariants.{AsIs};
+ghost use Rattle.serde.specs.Event.{Logs, field_key, text};
 ghost use Rattle.ac_base.specs.Texts.{id_text};
 
 use ac_base::Id;
-use serde_json::Value;
-use std::alloc::{AllocError, Global};
+use serde::Serializer;
 
-// The written form of an id, which is ASCII.
-pub(crate) fn id_string(alloc: Global, id: Id) -> Result<String, AllocError>
-    ensures { IfOk result (λ s. string_bytes s ≡ id_text id) }
+// Puts the written form of an id into some room.
+fn write_id(id: Id, room: &mut [u8; 36]) -> &str
+    ensures { result.now ≡ id_text id }
 {
-    String::from_utf8_lossy(alloc, &id.text())
+    *room = id.text();
+    match std::str::from_utf8(room) {
+        Ok(text) => text,
+        Err(_) => unreachable!(),
+    }
 }
 
-// The same as a value.
-pub(crate) fn id_value(alloc: Global, id: Id) -> Result<Value, AllocError>
-    ensures { IfOk result (λ v. view v ≡ string (id_text id)) }
+// Sends an id in written form.
+pub(crate) fn send_id<S: Serializer>(id: Id, out: &mut S) -> Result<(), S::Error>
+    ensures { OnOk result (Logs (S.written out.old) (S.written out.new) (text (id_text id))) }
 {
-    Ok(Value::String(id_string(alloc, id)?))
+    out.str(write_id(id, &mut [0; 36]))
 }
 
-// The same in quotes.
-pub(crate) fn quoted_id(alloc: Global, id: Id) -> Result<String, AllocError>
-    ensures { IfOk result (λ s. string_bytes s ≡ compact_text (string (id_text id))) }
+// Sends an id in written form, as the name of a member.
+pub(crate) fn send_name<S: Serializer>(id: Id, out: &mut S) -> Result<(), S::Error>
+    ensures { OnOk result (Logs (S.written out.old) (S.written out.new)
+        (field_key (id_text id) AsIs)) }
 {
-    id_value(alloc, id)?.to_string(alloc)
+    out.key(write_id(id, &mut [0; 36]))
 }

@@ -15,7 +15,7 @@ ghost use Rattle.ac_report.specs.Texts.{body, head_text, meets_root, middle_text
 use crate::fault::PageFault;
 use crate::lines::is_full;
 use crate::request::request_text;
-use crate::summary::summary_piece;
+use crate::summary::{summary_member, without_braces};
 use ac_base::{Sink, WriteFailed, push_all};
 use ac_query::Query;
 use ac_rules::Source;
@@ -142,8 +142,8 @@ fn write_summary<W: Sink>(
     ensures whole { result ≡ Err PageFault.NoMemory → out.new ≡ out.old }
     ensures failures { W.failures out.old ≤ W.failures out.new }
 {
-    let piece = summary_piece(alloc, cloud, ix)?;
-    push_listed(out, later, piece.as_bytes())?;
+    let member = summary_member(alloc, cloud, ix)?;
+    push_listed(out, later, without_braces(&member))?;
     Ok(())
 }
 

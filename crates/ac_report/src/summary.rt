@@ -1,54 +1,80 @@
 //! The summary of a provider, as JSON.
-ghost use Rattle.std.specs.Prelude.{◌≡◌, ◌<◌, IfOk, map, length, string_bytes};
-ghost use Rattle.serde_json.specs.View.{view};
+ghost use Rattle.std.specs.Prelude.{◌≡◌, ◌<◌, ◌≤◌, ◌++◌, ◌∷◌, ℕ, List, [], IfOk, OnOk, map, length, string_bytes};
+ghost use Rattle.std.specs.List.Sorted.{IsStrictlySortedBy};
+ghost use Rattle.std.specs.Map.{keys_of};
+ghost use Rattle.serde_json.specs.Events.{SendsValue};
 ghost use Rattle.ac_base.specs.Names.{trait_bytes};
+ghost use Rattle.ac_base.specs.Texts.{text_cmp};
 ghost use Rattle.ac_cloud.specs.World.{id_at, parent_of};
 ghost use Rattle.ac_cloud.specs.Cloud.CloudWorld.{providers_of};
 ghost use Rattle.ac_cloud.specs.Cloud.Entries.{entry_pair};
-ghost use Rattle.ac_report.specs.Trees.{id_or_null, texts, holdings, summary};
+ghost use Rattle.ac_report.specs.Parts.{named_summary};
+ghost use Rattle.ac_report.specs.Trees.{holding, id_or_null, texts, holdings, summary};
 ghost use Rattle.ac_report.specs.Texts.{summary_piece, summary_text};
 
-use crate::ids::{id_value, quoted_id};
+use crate::ids::{send_id, send_name};
 use ac_base::{Id, NoMemory, TraitName};
 use ac_cloud::{Cloud, Entry};
-use serde_json::{Map, Value, json};
-use std::alloc::{AllocError, Global};
+use serde::{Described, Serialize, Serializer};
+use std::alloc::Global;
+
+// What is told of a provider.
+#[derive(Clone, Copy)]
+struct Summary<'a> {
+    cloud: &'a Cloud,
+    ix: u32,
+    ghost inside: { ix < length (providers_of cloud.now) },
+}
 
 #[tactic(auto, unfolding(crate::specs::Trees::id_or_null))]
-fn id_or_null(alloc: Global, id: Option<Id>) -> Result<Value, AllocError>
-    ensures { IfOk result (λ v. view v ≡ id_or_null id) }
+fn send_parent<S: Serializer>(id: Option<Id>, out: &mut S) -> Result<(), S::Error>
+    ensures { OnOk result (SendsValue (id_or_null id) (S.written out.old) (S.written out.new)) }
 {
     match id {
-        Some(id) => id_value(alloc, id),
-        None => Ok(Value::Null),
+        Some(id) => send_id(id, out),
+        None => out.unit(),
     }
 }
 
-// The names of traits.
-#[tactic(auto, unfolding(crate::specs::Trees::texts))]
-fn traits_value(alloc: Global, traits: &[TraitName]) -> Result<Value, AllocError>
-    ensures { IfOk result (λ v. view v ≡ texts (map trait_bytes traits.now)) }
+// How much there is of a class, and how much of that is used.
+#[tactic(auto, unfolding(crate::specs::Trees::holding))]
+fn send_holding<S: Serializer>(entry: &Entry, out: &mut S) -> Result<(), S::Error>
+    ensures { OnOk result (SendsValue (holding (entry_pair entry.now)).1 (S.written out.old)
+        (S.written out.new)) }
 {
-    let mut names = Vec::new(alloc);
-    for name in traits {
-        names.push(Value::String(String::from_str(alloc, name.text())?))?;
-    }
-    Ok(Value::Array(names))
+    out.begin_map(Some(2))?;
+    out.key("capacity")?;
+    out.u64(entry.inventory().capacity())?;
+    out.key("used")?;
+    out.u64(u64::from(entry.used()))?;
+    out.end_map()
 }
 
 // What a provider has of each class.
-#[tactic(auto, unfolding(crate::specs::Trees::holdings, crate::specs::Trees::holding))]
-fn holdings_value(alloc: Global, entries: &[Entry]) -> Result<Value, AllocError>
-    ensures { IfOk result (λ v. view v ≡ holdings (map entry_pair entries.now)) }
+#[tactic(auto, unfolding(crate::specs::Trees::holding))]
+fn send_holdings<S: Serializer>(entries: &[Entry], out: &mut S) -> Result<(), S::Error>
+    requires { IsStrictlySortedBy text_cmp (keys_of (map entry_pair entries.now)) }
+    ensures { OnOk result (SendsValue (holdings (map entry_pair entries.now)) (S.written out.old)
+        (S.written out.new)) }
 {
-    let mut members = Map::new(alloc);
+    out.begin_map(Some(entries.len()))?;
     for entry in entries {
-        let capacity = entry.inventory().capacity();
-        let used = entry.used();
-        let holding = json!(in alloc; {"capacity": capacity, "used": used})?;
-        serde_json::put(&mut members, alloc, entry.class().text(), holding)?;
+        out.key(entry.class().text())?;
+        send_holding(entry, out)?;
     }
-    Ok(Value::Object(members))
+    out.end_map()
+}
+
+// The names of traits.
+fn send_traits<S: Serializer>(traits: &[TraitName], out: &mut S) -> Result<(), S::Error>
+    ensures { OnOk result (SendsValue (texts (map trait_bytes traits.now)) (S.written out.old)
+        (S.written out.new)) }
+{
+    out.begin_seq(Some(traits.len()))?;
+    for name in traits {
+        out.str(name.text())?;
+    }
+    out.end_seq()
 }
 
 fn parent_id(cloud: &Cloud, ix: u32) -> Option<Id>
@@ -58,21 +84,24 @@ fn parent_id(cloud: &Cloud, ix: u32) -> Option<Id>
     Some(cloud.id(cloud.parent(ix)?))
 }
 
-#[tactic(auto, unfolding(crate::specs::Trees::summary))]
-fn summary_value(alloc: Global, cloud: &Cloud, ix: u32) -> Result<Value, AllocError>
-    requires { ix < length (providers_of cloud.now) }
-    ensures { IfOk result (λ v. view v ≡ summary (providers_of cloud.now) ix) }
-{
-    let parent = id_or_null(alloc, parent_id(cloud, ix))?;
-    let holdings = holdings_value(alloc, cloud.entries(ix))?;
-    let root = id_value(alloc, cloud.id(cloud.root(ix)))?;
-    let traits = traits_value(alloc, cloud.traits(ix))?;
-    json!(in alloc; {
-        "parent_provider_uuid": parent,
-        "resources": holdings,
-        "root_provider_uuid": root,
-        "traits": traits
-    })
+impl<'a> Described for Summary<'a> {
+    ghost writes = { λ s. SendsValue (summary (providers_of s.cloud.now) s.ix) };
+}
+
+impl<'a> Serialize for Summary<'a> {
+    #[tactic(auto, unfolding(crate::specs::Trees::summary))]
+    fn serialize<S: Serializer>(&self, out: &mut S) -> Result<(), S::Error> {
+        out.begin_map(Some(4))?;
+        out.key("parent_provider_uuid")?;
+        send_parent(parent_id(self.cloud, self.ix), out)?;
+        out.key("resources")?;
+        send_holdings(self.cloud.entries(self.ix), out)?;
+        out.key("root_provider_uuid")?;
+        send_id(self.cloud.id(self.cloud.root(self.ix)), out)?;
+        out.key("traits")?;
+        send_traits(self.cloud.traits(self.ix), out)?;
+        out.end_map()
+    }
 }
 
 /// The summary of a provider as compact JSON: its parent, how much of each class it has and how much of that is used, its root and its traits.
@@ -80,18 +109,48 @@ pub fn summary_text(alloc: Global, cloud: &Cloud, ix: u32) -> Result<String, NoM
     requires { ix < length (providers_of cloud.now) }
     ensures { IfOk result (λ s. string_bytes s ≡ summary_text (providers_of cloud.now) ix) }
 {
-    Ok(summary_value(alloc, cloud, ix)?.to_string(alloc)?)
+    match serde_json::to_string(alloc, &Summary { cloud, ix }) {
+        Ok(text) => Ok(text),
+        Err(_) => Err(NoMemory),
+    }
 }
 
-// A summary after its quoted id and a colon.
-#[tactic(auto, unfolding(crate::specs::Texts::summary_piece))]
-pub(crate) fn summary_piece(alloc: Global, cloud: &Cloud, ix: u32) -> Result<String, NoMemory>
+// A provider's id and its summary, as an object of one member.
+#[derive(Clone, Copy)]
+struct NamedSummary<'a> {
+    summary: Summary<'a>,
+}
+
+impl<'a> Described for NamedSummary<'a> {
+    ghost writes = { λ s. SendsValue (named_summary (providers_of s.summary.cloud.now) s.summary.ix) };
+}
+
+impl<'a> Serialize for NamedSummary<'a> {
+    #[tactic(auto, unfolding(crate::specs::Parts::named_summary))]
+    fn serialize<S: Serializer>(&self, out: &mut S) -> Result<(), S::Error> {
+        out.begin_map(Some(1))?;
+        send_name(self.summary.cloud.id(self.summary.ix), out)?;
+        self.summary.serialize(out)?;
+        out.end_map()
+    }
+}
+
+// A summary after its quoted id and a colon, in braces.
+pub(crate) fn summary_member(alloc: Global, cloud: &Cloud, ix: u32) -> Result<Vec<u8>, NoMemory>
     requires { ix < length (providers_of cloud.now) }
-    ensures { IfOk result (λ s. string_bytes s ≡ summary_piece (providers_of cloud.now) ix) }
+    ensures { IfOk result (λ v. v.items ≡ 123 ∷ (summary_piece (providers_of cloud.now) ix ++ 125 ∷ [])) }
 {
-    let mut piece = quoted_id(alloc, cloud.id(ix))?;
-    let text = summary_text(alloc, cloud, ix)?;
-    piece.push_str(":")?;
-    piece.push_str(text.as_str())?;
-    Ok(piece)
+    let summary = Summary { cloud, ix };
+    match serde_json::to_vec(alloc, &NamedSummary { summary }) {
+        Ok(text) => Ok(text),
+        Err(_) => Err(NoMemory),
+    }
+}
+
+// The member of an object that has just one.
+pub(crate) fn without_braces(text: &[u8]) -> &[u8]
+    requires { 2 ≤ length text.now }
+    ensures { (inner : List ℕ) → text.now ≡ 123 ∷ (inner ++ 125 ∷ []) → result.now ≡ inner }
+{
+    &text[1..text.len() - 1]
 }

@@ -12,7 +12,8 @@ use Rattle.ac_report.specs.Trees.{gathered, provider_text, request, summary}
 use Rattle.ac_report.specs.Texts.{request_text, summary_text, summarized, body_tree, body, with_commas, summary_piece, head_text, middle_text, tail_text, pieces, joined, meets_root}
 use Rattle.ac_report.specs.Marks.{requests_text, summaries_text}
 use Rattle.ac_report.proofs.Trees.Gathering.{Named}
-use Rattle.ac_report.proofs.Trees.Listed.{listed, RiseFrom, gathered_listed, rise_from}
+use Rattle.ac_report.specs.Parts.{listed}
+use Rattle.ac_report.proofs.Trees.Listed.{kept_listed, range_below, range_rises}
 
 -- ---- the parts of the pieces
 
@@ -83,13 +84,13 @@ unfolding body body_tree request_text summary_piece summary_text
 body_is all are asked lists =
     let named : ℕ → Named = λ ix. (provider_text all ix, summary all ix) in
     let places = summarized all lists in
-    let rises : RiseFrom [] (map named places) =
-    rise_from all are (λ ix. list_any (meets_root all (root_of all (id_at all ix))) lists) (summary all) (length all) 0 [] (omega arith) (λ q h k. tt) in
+    let ordered =
+    kept_listed all are (λ ix. list_any (meets_root all (root_of all (id_at all ix))) lists) (summary all) _ (range_rises 0 (length all)) (range_below 0 (length all) (length all) (omega arith)) in
     let requests = requests_text all asked false lists in
     let summaries = summaries_text all false places in
     let items : items_text false (items_of (map (request all asked) lists)) ≡ requests ++ 93 ∷ [] = items_joined (request all asked) false lists in
     let members : members_text false (gathered (map named places)) ≡ summaries ++ 125 ∷ [] =
-    ap (members_text false) (gathered_listed (map named places) rises) ∙ members_joined named false places in
+    ap (members_text false) ordered ∙ members_joined named false places in
     ap (λ l. l ++ 10 ∷ []) (two_members (items_of (map (request all asked) lists)) (gathered (map named places))
     ∙ ap (λ l. 123 ∷ (requests_name ++ 58 ∷ 91 ∷ (l ++ 44 ∷ (summaries_name ++ 58 ∷ 123 ∷ (members_text false (gathered (map named places)) ++ 125 ∷ []))))) items
     ∙ ap (λ l. 123 ∷ (requests_name ++ 58 ∷ 91 ∷ ((requests ++ 93 ∷ []) ++ 44 ∷ (summaries_name ++ 58 ∷ 123 ∷ (l ++ 125 ∷ []))))) members)

@@ -1,72 +1,100 @@
 -- Members whose names rise stand in their order.
-use Rattle.std.proofs.Common.{◌≡◌, ℕ, zero, suc, ◌+◌, ◌<◌, ◌≤◌, List, [], ◌∷◌, ◌++◌, refl, sym, ap, ◌∙◌, subst, Bool, true, false, cond, map, fold, length, append_assoc, append-nil, Less, Greater, arith}
-use Rattle.std.specs.List.{filter, range_with_len}
-use Rattle.std.proofs.lemmas.Cmp.{nat_list_cmp_total}
-use Rattle.std.specs.Ordering.{ordering_reverse}
-use Rattle.serde_json.specs.Data.{Data, Members, no_members, member, put}
+use Rattle.std.proofs.Common.{◌≡◌, ◌∙◌, ◌<◌, ◌≤◌, ◌+◌, ℕ, zero, suc, List, [], ◌∷◌, ◌++◌, Bool, true, false, if◌then◌else◌, map, length, nat_cmp, Ordering, Less, Equal, Greater, refl, sym, ap, append_assoc, append-nil, subst, arith}
+use Rattle.std.specs.BTreeMap.{insert_entry}
+use Rattle.std.specs.List.{AllByRecursion, filter, range_with_len}
+use Rattle.std.specs.List.Sorted.{IsStrictlySortedBy}
+use Rattle.std.specs.Map.{keys_of}
+use Rattle.std.specs.Cmp.{nat_cmp_is}
+use Rattle.std.specs.Ordering.{match_ordering, ordering_reverse}
+use Rattle.std.proofs.lemmas.Cmp.{nat_list_cmp_total, ranked}
+use Rattle.serde_json.specs.Data.{Data, member, put}
 use Rattle.ac_base.specs.Texts.{text_cmp}
 use Rattle.ac_cloud.specs.Laws.{AreProviders}
 use Rattle.ac_cloud.specs.World.{Provider, id_at}
+use Rattle.ac_report.specs.Parts.{gathered_onto, listed}
 use Rattle.ac_report.specs.Trees.{gathered, provider_text}
 use Rattle.ac_report.proofs.IdTexts.{texts_rise}
 use Rattle.ac_report.proofs.Trees.Gathering.{Named}
 
--- one text is before another
-abbrev pub IsBelow : List ℕ → List ℕ → Type 0
-IsBelow a b = text_cmp a b ≡ Less
+below_middle : (first : Named) (done : List Named) (m : Named) (ms : List Named) → AllByRecursion (λ k. text_cmp first.0 k ≡ Less) (keys_of (done ++ m ∷ ms)) → text_cmp first.0 m.0 ≡ Less
+below_middle first [] m ms h = h.0
+below_middle first (x ∷ done) m ms h = below_middle first done m ms h.1
 
--- members in the order of a list
-abbrev pub listed : List Named → Members
-listed [] = no_members
-listed (m ∷ ms) = member m.0 m.1 (listed ms)
+-- a name that is above those before it goes last
+put_last : (done : List Named) (m : Named) (ms : List Named) → IsStrictlySortedBy text_cmp (keys_of (done ++ m ∷ ms)) → put m.0 m.1 (listed done) ≡ listed (done ++ m ∷ [])
+unfolding IsStrictlySortedBy
+put_last [] m ms h = refl
+put_last (first ∷ done) m ms h =
+    let above : text_cmp m.0 first.0 ≡ Greater = nat_list_cmp_total.antisymm m.0 first.0 ∙ ap ordering_reverse (below_middle first done m ms h.0) in
+    rw above (ap (member first.0 first.1) (put_last done m ms h.1))
 
-abbrev pub AllBelow : List ℕ → List Named → Type 0
-AllBelow k [] = Unit {0}
-AllBelow k (m ∷ ms) = IsBelow m.0 k × AllBelow k ms
+onto_listed : (done ms : List Named) → IsStrictlySortedBy text_cmp (keys_of (done ++ ms)) → gathered_onto (listed done) ms ≡ listed (done ++ ms)
+onto_listed done [] h = ap listed (sym (append-nil done))
+onto_listed done (m ∷ ms) h =
+    ap (λ x. gathered_onto x ms) (put_last done m ms h)
+    ∙ onto_listed (done ++ m ∷ []) ms (subst (λ l. IsStrictlySortedBy text_cmp (keys_of l)) (sym (append_assoc done (m ∷ []) ms)) h)
+    ∙ ap listed (append_assoc done (m ∷ []) ms)
 
-abbrev pub RiseFrom : List Named → List Named → Type 0
-RiseFrom done [] = Unit {0}
-RiseFrom done (m ∷ ms) = AllBelow m.0 done × RiseFrom (done ++ m ∷ []) ms
+-- members whose names rise stand in their order
+pub gathered_listed : (ms : List Named) → IsStrictlySortedBy text_cmp (keys_of ms) → gathered ms ≡ listed ms
+gathered_listed ms h = onto_listed [] ms h
 
-above : (k l : List ℕ) → IsBelow l k → text_cmp k l ≡ Greater
-above k l h = nat_list_cmp_total.antisymm k l ∙ ap ordering_reverse h
+-- ---- one member more
 
-put_last : (done : List Named) (k : List ℕ) (d : Data) → AllBelow k done → put k d (listed done) ≡ listed (done ++ (k, d) ∷ [])
-put_last [] k d h = refl
-put_last (m ∷ done) k d h = rw (above k m.0 h.0) (ap (member m.0 m.1) (put_last done k d h.1))
+listed_match : (o : Ordering) (a b c : List Named) → listed (match_ordering o a b c) ≡ match_ordering o (listed a) (listed b) (listed c)
+listed_match Less a b c = refl
+listed_match Equal a b c = refl
+listed_match Greater a b c = refl
 
-fold_listed : (done ms : List Named) → RiseFrom done ms → fold (λ done m. put m.0 m.1 done) (listed done) ms ≡ listed (done ++ ms)
-fold_listed done [] h = ap listed (sym (append-nil done))
-fold_listed done (m ∷ ms) h =
-    let P : Members → Type 0 = λ x. fold (λ done m. put m.0 m.1 done) x ms ≡ listed (done ++ m ∷ ms) in
-    subst P (sym (put_last done m.0 m.1 h.0)) (fold_listed (done ++ m ∷ []) ms h.1 ∙ ap listed (append_assoc done (m ∷ []) ms))
+pub listed_put : (ms : List Named) (k : List ℕ) (d : Data) → put k d (listed ms) ≡ listed (insert_entry text_cmp ms k d)
+listed_put [] k d = refl
+listed_put (m ∷ ms) k d =
+    ap (λ r. match_ordering (text_cmp k m.0) (member k d (member m.0 m.1 (listed ms))) (member m.0 d (listed ms)) (member m.0 m.1 r)) (listed_put ms k d)
+    ∙ sym (listed_match (text_cmp k m.0) _ _ _)
 
-pub gathered_listed : (ms : List Named) → RiseFrom [] ms → gathered ms ≡ listed ms
-gathered_listed ms h = fold_listed [] ms h
-
-below_append : (k : List ℕ) (done : List Named) (m : Named) → AllBelow k done → IsBelow m.0 k → AllBelow k (done ++ m ∷ [])
-below_append k [] m h b = (b, tt)
-below_append k (x ∷ done) m h b = (h.0, below_append k done m h.1 b)
-
-rise_cond : {X : Type 0} (b : Bool) (g : X → Named) (done : List Named) (x : X) (xs : List X) → AllBelow (g x).0 done → RiseFrom (done ++ g x ∷ []) (map g xs) → RiseFrom done (map g xs) → RiseFrom done (map g (cond b (x ∷ xs) xs))
-rise_cond true g done x xs h yes' no' = (h, yes')
-rise_cond false g done x xs h yes' no' = no'
+-- ---- members of providers that rise
 
 -- providers that stand in order have texts in order
-pub provider_texts_rise : (all : List Provider) → AreProviders all → (p q : ℕ) → p < q → q < length all → IsBelow (provider_text all p) (provider_text all q)
+pub provider_texts_rise : (all : List Provider) → AreProviders all → (p q : ℕ) → p < q → q < length all → text_cmp (provider_text all p) (provider_text all q) ≡ Less
 provider_texts_rise all are p q h k = texts_rise (id_at all p) (id_at all q) (are.order p q h k) (are.fit q k)
 
--- the members of providers, rising
-pub rise_from : (all : List Provider) → AreProviders all → (test : ℕ → Bool) (g : ℕ → Data) (n first : ℕ) (done : List Named) → first + n ≡ length all
-    → ((q : ℕ) → first ≤ q → q < length all → AllBelow (provider_text all q) done)
-    → RiseFrom done (map (λ p. (provider_text all p, g p)) (filter test (range_with_len first n)))
-rise_from all are test g zero first done e h = tt
-rise_from all are test g (suc n) first done e h =
-    let here : Named = (provider_text all first, g first) in
-    let after : (first + 1) + n ≡ length all = omega (arith, e) in
-    let later : (q : ℕ) → first + 1 ≤ q → q < length all → AllBelow (provider_text all q) done = λ q a b. h q (omega (arith, a)) b in
-    let with_it : (q : ℕ) → first + 1 ≤ q → q < length all → AllBelow (provider_text all q) (done ++ here ∷ []) =
-    λ q a b. below_append (provider_text all q) done here (later q a b) (provider_texts_rise all are first q (omega (arith, a)) b) in
-    rise_cond (test first) (λ p. (provider_text all p, g p)) done first (filter test (range_with_len (first + 1) n)) (h first (omega arith) (omega (arith, e)))
-    (rise_from all are test g n (first + 1) (done ++ here ∷ []) after with_it)
-    (rise_from all are test g n (first + 1) done after later)
+module _ (all : List Provider) (are : AreProviders all) (t : ℕ → Bool) (g : ℕ → Data) where
+  abbrev there : ℕ → Named
+  there ix = (provider_text all ix, g ix)
+
+  above_kept : (p : ℕ) (ps : List ℕ) → AllByRecursion (λ q. nat_cmp p q ≡ Less) ps → AllByRecursion (λ q. q < length all) ps
+      → AllByRecursion (λ k. text_cmp (provider_text all p) k ≡ Less) (keys_of (map there (filter t ps)))
+  above_kept p [] h b = tt
+  above_kept p (q ∷ ps) h b = by (t q) (provider_texts_rise all are p q (ranked p q Less (sym h.0)) b.0) (above_kept p ps h.1 b.1)
+    where
+      by : (c : Bool) → text_cmp (provider_text all p) (provider_text all q) ≡ Less → AllByRecursion (λ k. text_cmp (provider_text all p) k ≡ Less) (keys_of (map there (filter t ps)))
+          → AllByRecursion (λ k. text_cmp (provider_text all p) k ≡ Less) (keys_of (map there (if c then q ∷ filter t ps else filter t ps)))
+      by true here more = (here, more)
+      by false here more = more
+
+  kept_rise : (ps : List ℕ) → IsStrictlySortedBy nat_cmp ps → AllByRecursion (λ q. q < length all) ps → IsStrictlySortedBy text_cmp (keys_of (map there (filter t ps)))
+  unfolding IsStrictlySortedBy
+  kept_rise [] h b = tt
+  kept_rise (p ∷ ps) h b = by (t p) (above_kept p ps h.0 b.1) (kept_rise ps h.1 b.1)
+    where
+      by : (c : Bool) → AllByRecursion (λ k. text_cmp (provider_text all p) k ≡ Less) (keys_of (map there (filter t ps))) → IsStrictlySortedBy text_cmp (keys_of (map there (filter t ps)))
+          → IsStrictlySortedBy text_cmp (keys_of (map there (if c then p ∷ filter t ps else filter t ps)))
+      by true here more = (here, more)
+      by false here more = more
+
+  -- the members of some that rise
+  pub kept_listed : (ps : List ℕ) → IsStrictlySortedBy nat_cmp ps → AllByRecursion (λ q. q < length all) ps → gathered (map there (filter t ps)) ≡ listed (map there (filter t ps))
+  kept_listed ps h b = gathered_listed (map there (filter t ps)) (kept_rise ps h b)
+
+range_above : (p first n : ℕ) → p < first → AllByRecursion (λ q. nat_cmp p q ≡ Less) (range_with_len first n)
+range_above p first zero h = tt
+range_above p first (suc n) h = (sym (nat_cmp_is p first Less h), range_above p (first + 1) n (omega arith))
+
+pub range_rises : (first n : ℕ) → IsStrictlySortedBy nat_cmp (range_with_len first n)
+unfolding IsStrictlySortedBy
+range_rises first zero = tt
+range_rises first (suc n) = (range_above first (first + 1) n (omega arith), range_rises (first + 1) n)
+
+pub range_below : (first n m : ℕ) → first + n ≤ m → AllByRecursion (λ q. q < m) (range_with_len first n)
+range_below first zero m h = tt
+range_below first (suc n) m h = (omega arith, range_below (first + 1) n m (omega (arith, h)))

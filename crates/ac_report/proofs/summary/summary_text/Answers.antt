@@ -1,12 +1,10 @@
-use Rattle.std.proofs.Common.{◌∙◌, ap}
-use Rattle.serde_json.specs.Written.{compact_text, has_float}
-use Rattle.ac_cloud.specs.Cloud.CloudWorld.{providers_of}
+use Rattle.serde_json.proofs.FreeTexts.{text_of_value}
 use Rattle.ac_report.specs.Texts.{summary_text}
 use Rattle.ac_report.proofs.Trees.PlainTrees.{summary_plain}
 use Rattle.ac_report.proofs.summary.summary_text.Goals as goal
 
-pub returns : goal.returns
+pub returns-in-Ok : goal.returns-in-Ok
 unfolding summary_text
-returns c =
-    let tree = c.in_ok-summary_value.ensures in
-    c.in_ok-to_string.ensures.text (ap has_float tree ∙ summary_plain (providers_of c.args.cloud.now) c.args.ix) ∙ ap compact_text tree
+returns-in-Ok c =
+    let sent = c.in-Ok.ensures.events in
+    text_of_value _ sent.0 _ sent.1 sent.2 (summary_plain c.args.cloud.now c.args.ix c.requires)

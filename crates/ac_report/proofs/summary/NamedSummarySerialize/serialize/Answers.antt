@@ -1,0 +1,23 @@
+use Rattle.std.proofs.Common.{ℕ, subst}
+use Rattle.std.proofs.lemmas.Result.{on_ok_weaker}
+use Rattle.serde.specs.declared.name.Case.TheVariants.{AsIs}
+use Rattle.serde.specs.Event.{Logs, field_key}
+use Rattle.ac_base.specs.Texts.{id_text}
+use Rattle.ac_report.specs.Parts.{named_summary}
+use Rattle.ac_report.proofs.summary.NamedSummarySerialize.serialize.Goals as goal
+
+pub returns : goal.returns
+unfolding named_summary
+returns g c =
+    let w = g.S.Serializer.written in
+    on_ok_weaker c.end_map.result (λ e. (
+      w c.begin_map.new.self,
+      c.in_ok-begin_map.ensures,
+      (
+        w c.send_name.new.out,
+        w c.serialize.new.out,
+        subst (λ (id : ℕ). Logs (w c.begin_map.new.self) (w c.send_name.new.out) (field_key (id_text id) AsIs)) c.id.ensures c.in_ok-send_name.ensures,
+        c.in_ok-serialize.ensures,
+        e,
+      ),
+    )) c.end_map.ensures

@@ -1,0 +1,49 @@
+use Rattle.std.proofs.Common.{List, ℕ, Option, sym, subst, ◌∙◌}
+use Rattle.std.proofs.lemmas.Result.{on_ok_weaker}
+use Rattle.std.specs.List.Sorted.{IsStrictlySortedBy}
+use Rattle.std.specs.Map.{keys_of}
+use Rattle.serde.specs.Event.{Logs, text}
+use Rattle.serde_json.specs.Events.{SendsValue}
+use Rattle.ac_base.specs.Texts.{id_text, text_cmp}
+use Rattle.ac_cloud.specs.World.{UsedInventory}
+use Rattle.ac_report.specs.Trees.{holdings, id_or_null, summary, texts}
+use Rattle.ac_report.proofs.Trees.Sending.{entries_rise}
+use Rattle.ac_report.proofs.summary.SummarySerialize.serialize.Goals as goal
+
+pub send_holdings-requires : goal.send_holdings-requires
+send_holdings-requires g c =
+    subst (λ (es : List (List ℕ × UsedInventory)). IsStrictlySortedBy text_cmp (keys_of es)) (sym c.entries.ensures) (entries_rise c.args.self.now.cloud.now c.args.self.now.ix c.args.self.now.inside)
+
+pub returns : goal.returns
+unfolding summary
+returns g c =
+    let w = g.S.Serializer.written in
+    on_ok_weaker c.end_map.result (λ e. (
+      w c.begin_map.new.self,
+      c.in_ok-begin_map.ensures,
+      (
+        w c.key.new.self,
+        w c.send_parent.new.out,
+        c.in_ok-key.ensures,
+        subst (λ (id : Option ℕ). SendsValue (id_or_null id) (w c.key.new.self) (w c.send_parent.new.out)) c.parent_id.ensures c.in_ok-send_parent.ensures,
+        (
+          w c.key-2.new.self,
+          w c.send_holdings.new.out,
+          c.in_ok-key-2.ensures,
+          subst (λ (es : List (List ℕ × UsedInventory)). SendsValue (holdings es) (w c.key-2.new.self) (w c.send_holdings.new.out)) c.entries.ensures c.in_ok-send_holdings.ensures,
+          (
+            w c.key-3.new.self,
+            w c.send_id.new.out,
+            c.in_ok-key-3.ensures,
+            subst (λ (id : ℕ). Logs (w c.key-3.new.self) (w c.send_id.new.out) (text (id_text id))) (c.id.ensures ∙ c.root.ensures.id) c.in_ok-send_id.ensures,
+            (
+              w c.key-4.new.self,
+              w c.send_traits.new.out,
+              c.in_ok-key-4.ensures,
+              subst (λ (ts : List (List ℕ)). SendsValue (texts ts) (w c.key-4.new.self) (w c.send_traits.new.out)) c.traits.ensures c.in_ok-send_traits.ensures,
+              e,
+            ),
+          ),
+        ),
+      ),
+    )) c.end_map.ensures
