@@ -21,8 +21,8 @@ use Rattle.ac_rules.specs.declared.assignment.Placed as rust
 use Rattle.ac_rules.specs.declared.assignment.Slots.{Slots}
 
 -- calls of a closure went on while it answered `go`, and r is what came of them
-abbrev pub Ran : {S A F : Type 0} → (S → Option A → S → Type 0) → Mut F (A × Unit {0}) Bool → S → S → F → Bool → Bool → Bool → Type 0
-Ran {S} {A} {F} steps g s u f go stop r =
+abbrev pub RunGives : {S A F : Type 0} → (S → Option A → S → Type 0) → Mut F (A × Unit {0}) Bool → S → S → F → Bool → Bool → Bool → Type 0
+RunGives {S} {A} {F} steps g s u f go stop r =
     (ys : List A) × (o : Option A) × (j : F) × YieldsThen steps s ys o u × FoldsTo (λ p x q. Called g p (x, tt) go q) f ys j
     × MatchOption o (r ≡ go) (λ x. (r ≡ stop) × ((h : F) × Called g j (x, tt) stop h))
 
@@ -31,24 +31,24 @@ abbrev pub Answers : {A F : Type 0} → Mut F (A × Unit {0}) Bool → F → (A 
 Answers {A} {F} g f test = (x : A) (b : Bool) (q : F) → Called g f (x, tt) b q → (q ≡ f) × (b ≡ test x)
 
 module _ {A B F : Type 0} {g : Mut F (Bor A × Unit {0}) Bool} {s : Iter A} (h : A → B) (test : B → Bool) (xs : List A) where
-  pub all_items : (u : Iter A) (f : F) (r : Bool) → Ran fronts g s u f true false r → iter_rest s ≡ xs
+  pub all_items : (u : Iter A) (f : F) (r : Bool) → RunGives fronts g s u f true false r → iter_rest s ≡ xs
       → Answers g f (λ x. test (h x.now)) → r ≡ list_all test (map h xs)
   all_items u f r ran rest says =
       all_from_yields_List (λ y. test (h y)) u f r ran (YieldsList-from_slice xs rest) says ∙ sym (list_all-map test h xs)
 
-  pub any_items : (u : Iter A) (f : F) (r : Bool) → Ran fronts g s u f false true r → iter_rest s ≡ xs
+  pub any_items : (u : Iter A) (f : F) (r : Bool) → RunGives fronts g s u f false true r → iter_rest s ≡ xs
       → Answers g f (λ x. test (h x.now)) → r ≡ list_any test (map h xs)
   any_items u f r ran rest says =
       any_from_yields_List (λ y. test (h y)) u f r ran (YieldsList-from_slice xs rest) says ∙ any_map (λ y. test (h y)) test h (λ _. refl) xs
 
 module _ {F : Type 0} {g : Mut F (rust.Placed × Unit {0}) Bool} {s : Slots} (all : List Provider) (xs : List Placed) (test : List Provider → Placed → Bool) where
-  pub all_slots : (u : Slots) (f : F) (r : Bool) → Ran (YieldsFirstBy shown slots_left) g s u f true false r → slots_left s ≡ all_in all xs
+  pub all_slots : (u : Slots) (f : F) (r : Bool) → RunGives (YieldsFirstBy shown slots_left) g s u f true false r → slots_left s ≡ all_in all xs
       → Answers g f (λ x. test (shown x).0 (shown x).1) → r ≡ list_all (test all) xs
   all_slots u f r ran left says =
       all_from_yields_List (λ y. test y.0 y.1) u f r ran (YieldsList-from_first shown slots_left (all_in all xs) left) says
       ∙ list_all-map (λ y. test y.0 y.1) (λ x. (all, x)) xs
 
-  pub any_slots : (u : Slots) (f : F) (r : Bool) → Ran (YieldsFirstBy shown slots_left) g s u f false true r → slots_left s ≡ all_in all xs
+  pub any_slots : (u : Slots) (f : F) (r : Bool) → RunGives (YieldsFirstBy shown slots_left) g s u f false true r → slots_left s ≡ all_in all xs
       → Answers g f (λ x. test (shown x).0 (shown x).1) → r ≡ list_any (test all) xs
   any_slots u f r ran left says =
       any_from_yields_List (λ y. test y.0 y.1) u f r ran (YieldsList-from_first shown slots_left (all_in all xs) left) says

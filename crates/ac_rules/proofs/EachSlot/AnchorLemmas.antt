@@ -4,6 +4,7 @@ use Rattle.std.specs.List.{list_all, list_any, filter, range_with_len, All, AllB
 use Rattle.std.specs.Option.{is_some, is_none}
 use Rattle.std.proofs.lemmas.Bool.{cases_Bool, and_parts, eq-eqb, false≢true}
 use Rattle.std.proofs.lemmas.List.Elements.{All-from_recursion}
+use Rattle.ac_base.proofs.Sorted.SearchFacts.{any_same}
 use Rattle.ac_cloud.specs.Trees.{up, climb}
 use Rattle.ac_cloud.specs.World.{Provider, id_at, place_of, parent_of, root_of, is_root, is_available_at, anchors_of}
 use Rattle.ac_query.specs.Asked.{Asked, Slot}
@@ -34,14 +35,10 @@ available_itself all r = elim (cases_Bool (is_root all (id_at all r))) [
 -- a test of those that pass another
 pub any_filter : (f g : ℕ → Bool) (zs : List ℕ) → list_any f (filter g zs) ≡ list_any (λ z. g z && f z) zs
 any_filter f g [] = refl
-any_filter f g (z ∷ zs) = elim (cases_Bool (g z)) [
-  | inl e ↦ rw (e, any_filter f g zs) refl
-  | inr e ↦ rw (e, any_filter f g zs) refl
-]
+any_filter f g (z ∷ zs) = elim (cases_Bool (g z)) [ inl e ↦ rw (e, any_filter f g zs) refl | inr e ↦ rw (e, any_filter f g zs) refl ]
 
 pub any_agree : (f g : ℕ → Bool) → ((z : ℕ) → f z ≡ g z) → (zs : List ℕ) → list_any f zs ≡ list_any g zs
-any_agree f g same [] = refl
-any_agree f g same (z ∷ zs) = rw (same z, any_agree f g same zs) refl
+any_agree f g same zs = any_same f g same zs
 
 once : (g t h : Bool) → g && (t && (g && h)) ≡ t && (g && h)
 once false false h = refl

@@ -1,5 +1,5 @@
 -- One slot more of what the rules of all slots together test.
-use Rattle.std.proofs.Common.{◌≡◌, ◌≢◌, ◌&&◌, ℕ, Some, ◌+◌, ◌<◌, Bool, List, length, drop, sym, ap, ◌∙◌, arith, slice_index, slice_index_or, nat_le}
+use Rattle.std.proofs.Common.{◌≡◌, ◌≢◌, ◌&&◌, ℕ, Some, ◌+◌, ◌<◌, Bool, List, length, drop, ap, arith, slice_index, slice_index_or, nat_le}
 use Rattle.std.specs.List.{list_all}
 use Rattle.std.proofs.lemmas.Bool.{ne_eqb, eq-eqb}
 use Rattle.std.proofs.lemmas.Bool.Decides.{nat_tests}
@@ -17,17 +17,12 @@ pub apart_more : (ss : List Slot) (t : List ℕ) (i : ℕ) → i < length t → 
 apart_more ss t i h k = ap all_apart (placed_more ss t i no_slot h k)
 
 -- a slot of another provider asks nothing of this one
-sum_skip : (ss : List Slot) (t : List ℕ) (i ix : ℕ) (c : List ℕ) → i < length t → i < length ss → slice_index t i ≢ ix
-    → sum_on (placed (drop i ss) (drop i t)) ix c ≡ sum_on (placed (drop (i + 1) ss) (drop (i + 1) t)) ix c
-sum_skip ss t i ix c h k other =
-    let one = ap (λ xs. sum_on xs ix c) (placed_more ss t i no_slot h k) in
-    let none = ne_eqb (slice_index t i) ix other in
-    let more = rw none at one in
-    more ∙ (omega arith)
-
 pub room_skip : (ss : List Slot) (t : List ℕ) (i ix left : ℕ) (c : List ℕ) (b : Bool) → i < length t → i < length ss → slice_index t i ≢ ix
     → nat_le (sum_on (placed (drop i ss) (drop i t)) ix c) left ≡ b → nat_le (sum_on (placed (drop (i + 1) ss) (drop (i + 1) t)) ix c) left ≡ b
-room_skip ss t i ix left c b h k other e = ap (λ n. nat_le n left) (sym (sum_skip ss t i ix c h k other)) ∙ e
+room_skip ss t i ix left c b h k other e =
+    let one = ap (λ xs. sum_on xs ix c) (placed_more ss t i no_slot h k) in
+    let rest = rw (ne_eqb (slice_index t i) ix other) at one in
+    grind (arith, nat_tests)
 
 -- what a slot of this provider asks is taken
 pub room_take : (ss : List Slot) (t : List ℕ) (i ix left rest : ℕ) (c : List ℕ) (b : Bool) → i < length t → i < length ss → slice_index t i ≡ ix
@@ -35,6 +30,5 @@ pub room_take : (ss : List Slot) (t : List ℕ) (i ix left rest : ℕ) (c : List
     → nat_le (sum_on (placed (drop i ss) (drop i t)) ix c) left ≡ b → nat_le (sum_on (placed (drop (i + 1) ss) (drop (i + 1) t)) ix c) rest ≡ b
 room_take ss t i ix left rest c b h k here taken e =
     let one = ap (λ xs. sum_on xs ix c) (placed_more ss t i no_slot h k) in
-    let same = eq-eqb (slice_index t i) ix here in
-    let all = rw same at one in
+    let all = rw (eq-eqb (slice_index t i) ix here) at one in
     grind (arith, nat_tests)
