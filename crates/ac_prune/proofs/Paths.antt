@@ -1,9 +1,8 @@
 -- What the path of a walk takes, and what it leaves.
 pub mod AheadLemmas
 pub mod BearLemmas
+pub mod ColumnLemmas
 pub mod FrontLemmas
 pub mod LeftLemmas
 pub mod LedgerLemmas
 pub mod MarkLemmas
-pub mod RoomLemmas
-pub mod RowLemmas

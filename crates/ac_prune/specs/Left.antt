@@ -1,17 +1,15 @@
 -- What is left of rooms, class by class: classes by their numbers, and each room less what a front asks of it.
 pub mod Accounts
-use Rattle.std.specs.Prelude.{◌≡◌, ◌≢◌, ℕ, ◌+◌, ◌<◌, ◌^◌, suc, Bool, nat_le, if◌then◌else◌, ◌==◌, List, [], ◌∷◌, map, length, slice_index_or}
+use Rattle.std.specs.Prelude.{◌≡◌, ◌≢◌, ℕ, ◌+◌, ◌<◌, ◌^◌, suc, Bool, nat_le, if◌then◌else◌, ◌==◌, List, [], ◌∷◌, map, length, slice_index, slice_index_or}
 use Rattle.std.specs.Option.{unwrap_or}
-use Rattle.std.specs.List.{list_all}
+use Rattle.std.specs.List.{list_all, range_with_len}
 use Rattle.std.specs.Str.{bytes_eq}
-use Rattle.std.specs.Global.{Vec}
 use Rattle.ac_cloud.specs.World.{Provider, provider_at, used_of}
 use Rattle.ac_rules.specs.Own.{inventory_of}
 use Rattle.ac_rules.specs.Room.{room_in}
 use Rattle.ac_rules.specs.Placed.{Placed}
 use Rattle.ac_rules.specs.Together.{sum_on}
 use Rattle.ac_prune.specs.declared.ledger.rooms.Ask.{Ask}
-use Rattle.ac_prune.specs.declared.ledger.rooms.Room.{Room}
 
 -- the first place of a class among classes; past the end where it isn't there
 abbrev pub place_of : List (List ℕ) → List ℕ → ℕ
@@ -35,62 +33,41 @@ abbrev pub wanted : List (ℕ × ℕ) → ℕ → ℕ
 wanted [] k = 0
 wanted (a ∷ asks) k = (if a.0 == k then a.1 else 0) + wanted asks k
 
--- ---- Rows: what a provider has left of classes, by their numbers
+-- ---- What a provider has left of each class, by its number
 
-abbrev pub room_pair : Room → ℕ × ℕ
-room_pair r = (r.class, r.left)
+-- it has for each ask its amount
+abbrev pub has_each : (ℕ → ℕ) → List (ℕ × ℕ) → Bool
+has_each left asks = list_all (λ a. nat_le a.1 (left a.0)) asks
 
--- the first place of a class in a row; past the end where the row has nothing of it
-abbrev pub place_in : List (ℕ × ℕ) → ℕ → ℕ
-place_in [] k = 0
-place_in (r ∷ row) k = if r.0 == k then 0 else suc (place_in row k)
-
--- a row has something of a class
-abbrev pub IsThere : List (ℕ × ℕ) → ℕ → Type 0
-IsThere row k = place_in row k < length row
-
--- what it has left of it
-abbrev pub left_in : List (ℕ × ℕ) → ℕ → ℕ
-left_in [] k = 0
-left_in (r ∷ row) k = if r.0 == k then r.1 else left_in row k
-
--- a row has for each ask its amount
-abbrev pub has_each : List (ℕ × ℕ) → List (ℕ × ℕ) → Bool
-has_each row asks = list_all (λ a. nat_le a.1 (left_in row a.0)) asks
-
--- a row has for each ask what all of them want of its class
-abbrev pub suffices : List (ℕ × ℕ) → List (ℕ × ℕ) → Bool
-suffices row asks = list_all (λ a. nat_le (wanted asks a.0) (left_in row a.0)) asks
+-- it has for each ask what all of them want of its class
+abbrev pub suffices : (ℕ → ℕ) → List (ℕ × ℕ) → Bool
+suffices left asks = list_all (λ a. nat_le (wanted asks a.0) (left a.0)) asks
 
 -- the most of a class that one assignment may take of a provider; 0 where it has none
 abbrev pub room_on : List Provider → ℕ → List ℕ → ℕ
 room_on all p class = unwrap_or (room_in (inventory_of (provider_at all p) class) (used_of (provider_at all p) class)) 0
 
--- The row of a provider has its room for each class.
-pub record IsRow (all : List Provider) (classes : List (List ℕ)) (p : ℕ) (row : List (ℕ × ℕ)) : Type 0 where
-  pub left : (class : List ℕ) → IsKnown classes class → left_in row (place_of classes class) ≡ room_on all p class
-  pub small : (class : List ℕ) → IsKnown classes class → room_on all p class < 2 ^ 64
+-- the rooms of all providers for a class
+abbrev pub rooms_of : List Provider → List ℕ → List ℕ
+rooms_of all class = map (λ p. room_on all p class) (range_with_len 0 (length all))
 
--- the row of a provider
-abbrev pub row_of : List (Vec Room) → ℕ → List (ℕ × ℕ)
-row_of rows p = slice_index_or (map (λ (v : Vec Room). map room_pair v.items) rows) p []
+-- each of them fits in 64 bits
+abbrev pub AreSmall : List Provider → List ℕ → Type 0
+AreSmall all class = (p : ℕ) → p < length all → room_on all p class < 2 ^ 64
 
--- Each provider has its row.
-pub record AreRows (all : List Provider) (classes : List (List ℕ)) (rows : List (Vec Room)) : Type 0 where
-  pub count : length rows ≡ length all
-  pub each : (p : ℕ) → p < length all → IsRow all classes p (row_of rows p)
+-- ---- Columns: what is left of each class, by its number, at each provider
 
--- Of one provider's row something was taken, and of no other.
-pub record Takes (rows : List (Vec Room)) (p : ℕ) (asks : List (ℕ × ℕ)) (new : List (Vec Room)) : Type 0 where
-  pub here : (k : ℕ) → left_in (row_of new p) k + wanted asks k ≡ left_in (row_of rows p) k
-  pub others : (r : ℕ) → r ≢ p → row_of new r ≡ row_of rows r
+-- what is left of a class at a provider
+abbrev pub left_at : List (List ℕ) → ℕ → ℕ → ℕ
+left_at columns p k = slice_index (slice_index_or columns k []) p
 
--- the rows are as many, of the same classes
-pub record IsShape (rows new : List (Vec Room)) : Type 0 where
-  pub count : length new ≡ length rows
-  pub classes : (p : ℕ) → map (λ r. r.0) (row_of new p) ≡ map (λ r. r.0) (row_of rows p)
+-- Of one provider some asks were taken and others given back, and of no other.
+pub record Moves (columns : List (List ℕ)) (p : ℕ) (taken given : List (ℕ × ℕ)) (new : List (List ℕ)) : Type 0 where
+  pub here : (k : ℕ) → left_at new p k + wanted taken k ≡ left_at columns p k + wanted given k
+  pub others : (r k : ℕ) → r ≢ p → left_at new r k ≡ left_at columns r k
+  pub sizes : map length new ≡ map length columns
 
--- Each row has for each class the room less what a front asks of it.
-abbrev pub AreLeft : List Provider → List (List ℕ) → List (Vec Room) → List Placed → Type 0
-AreLeft all classes rows xs = (p : ℕ) (class : List ℕ) → p < length all → IsKnown classes class
-    → left_in (row_of rows p) (place_of classes class) + sum_on xs p class ≡ room_on all p class
+-- For each class the room of each provider is left, less what a front asks of it.
+abbrev pub AreLeft : List Provider → List (List ℕ) → List (List ℕ) → List Placed → Type 0
+AreLeft all classes columns xs = (p : ℕ) (class : List ℕ) → p < length all → IsKnown classes class
+    → left_at columns p (place_of classes class) + sum_on xs p class ≡ room_on all p class

@@ -5,14 +5,13 @@ use Rattle.std.specs.Global.{Vec}
 use Rattle.ac_cloud.specs.World.{Provider}
 use Rattle.ac_rules.specs.Placed.{slot_at}
 use Rattle.ac_prune.specs.QuerySearch.{choice_of, choices_of}
-use Rattle.ac_prune.specs.Left.{ask_pair, wanted, left_in, row_of}
+use Rattle.ac_prune.specs.Left.{ask_pair, wanted}
 use Rattle.ac_prune.specs.Marks.{times}
 use Rattle.ac_prune.specs.Ahead.{load_in, load_of, hosts_of, AreRoots}
 use Rattle.ac_prune.specs.Left.Accounts.{providers_in, asked_in}
 use Rattle.ac_prune.specs.Parts.{AreParts}
 use Rattle.ac_prune.specs.declared.ledger.Ledger.{Ledger}
 use Rattle.ac_prune.specs.declared.ledger.rooms.Ask.{Ask}
-use Rattle.ac_prune.specs.declared.ledger.rooms.Room.{Room}
 
 -- a number of 64 bits is a load, or both are the greatest number or more
 abbrev pub IsLoad : ℕ → ℕ → Type 0
@@ -69,10 +68,6 @@ ArePartsIn ledger k parts = AreParts (providers_in ledger) (asked_in ledger) (ge
 -- each choice has some room
 abbrev pub AreServing : List ℕ → List ℕ → Type 0
 AreServing choices rooms = (j : ℕ) → j < length choices → 0 < slice_index rooms (slice_index choices j)
-
--- what is left of a class in each row
-abbrev pub IsColumn : List (Vec Room) → ℕ → List ℕ → Type 0
-IsColumn rows class rooms = (p : ℕ) → p < length rows → slice_index rooms p ≡ left_in (row_of rows p) class
 
 -- the pieces of an amount that each room has
 abbrev pub ArePieces : List ℕ → ℕ → List ℕ → Type 0

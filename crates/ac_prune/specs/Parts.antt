@@ -42,7 +42,7 @@ pub record IsLinked (all : List Provider) (tops : List Bool) (parts : List ℕ) 
 abbrev pub AreLinked : List Provider → List Bool → List ℕ → Type 0
 AreLinked all tops parts = (p : ℕ) → p < length all → IsLinked all tops parts p
 
--- who has the part of one of a list that serves keeps it
-pub record KeepSeen (old list : List ℕ) (serves : ℕ → Bool) (new : List ℕ) : Type 0 where
+-- who has the part of one of a list keeps it
+pub record KeepSeen (old list new : List ℕ) : Type 0 where
   pub count : length new ≡ length old
-  pub kept : (p j : ℕ) → p < length old → j < length list → serves (slice_index list j) ≡ true → slice_index old (slice_index list j) ≡ slice_index old p → slice_index new p ≡ slice_index old p
+  pub kept : (p j : ℕ) → p < length old → j < length list → slice_index old (slice_index list j) ≡ slice_index old p → slice_index new p ≡ slice_index old p

@@ -4,9 +4,9 @@ ghost use Rattle.std.specs.Prelude.{◌≡◌, ◌+◌, ◌-◌, ◌/◌, ◌<�
 ghost use Rattle.std.specs.List.{range_with_len};
 ghost use Rattle.ac_base.specs.Names.{class_bytes};
 ghost use Rattle.ac_cloud.specs.Cloud.CloudWorld.{providers_of};
-ghost use Rattle.ac_prune.specs.Left.Accounts.{providers_in, asked_in, texts_in};
+ghost use Rattle.ac_prune.specs.Left.Accounts.{providers_in, asked_in, texts_in, columns_in};
 ghost use Rattle.ac_prune.specs.Ahead.{load_of, hosts_of, IsHosted};
-ghost use Rattle.ac_prune.specs.Left.{IsKnown, left_in, row_of};
+ghost use Rattle.ac_prune.specs.Left.{IsKnown, left_at};
 ghost use Rattle.ac_prune.specs.Fronts.{search_at};
 ghost use Rattle.ac_prune.specs.Search.{IsDead};
 ghost use Rattle.ac_prune.specs.Trees.{HasProviders};
@@ -15,7 +15,7 @@ use crate::by_tree::ByTree;
 use crate::front::Front;
 use crate::hosts::count_asking;
 use crate::ledger::Ledger;
-use crate::ledger::rooms::{Ask, left_in, number_of, wanted};
+use crate::ledger::rooms::{Ask, number_of, wanted};
 use crate::look_ahead::LookAhead;
 use ac_base::{ClassName, NoMemory};
 use ac_cloud::Cloud;
@@ -99,18 +99,19 @@ impl Ahead {
         requires trees { HasProviders (providers_in ledger.now) self.now }
         requires whole { self.now.trees.count ≡ length (providers_in ledger.now) }
         requires root { root < length (providers_in ledger.now) }
+        requires class { class < length (texts_in ledger.now) }
         requires some { 0 < amount }
-        ensures { min (load_of (λ p. left_in (row_of ledger.now.rows.items p) class / amount)
+        ensures { min (load_of (λ p. left_at (columns_in ledger.now) p class / amount)
             (hosts_of (providers_in ledger.now) root)) (2 ^ 64 - 1) ≤ result }
     {
         let mut pieces = 0u64;
         let mut from = 0;
         for _ in 0..MOST_HOSTS {
             let ix = self.trees.next(&[root], from);
-            if ix >= ledger.rows.len() {
+            if ix >= self.trees.len() {
                 return pieces;
             }
-            pieces = pieces.saturating_add(left_in(&ledger.rows[ix], class) / amount);
+            pieces = pieces.saturating_add(ledger.columns[class][ix] / amount);
             from = ix + 1;
         }
         u64::MAX
@@ -170,7 +171,10 @@ impl Ahead {
         ensures { result ≡ true → IsDead (search_at front.now) front.now.path.now }
     {
         let depth = front.path.len();
-        if depth == 0 || depth > self.last || self.trees.len() != front.ledger.rows.len() {
+        if depth == 0
+            || depth > self.last
+            || self.trees.len() != front.ledger.cloud.len() as usize
+        {
             return false;
         }
         let roots = front.ledger.cloud.anchors(front.path[depth - 1]);

@@ -122,7 +122,6 @@ impl Family {
     ) -> Result<Family, NoMemory>
         requires list { k < length (asked_in ledger.now).subtrees }
         requires choices { map (λ v. v.items) choices.now ≡ choices_in ledger.now }
-        requires empty { Accounts ledger.now [] }
         ensures { IfOk result (λ family.
             IsFamily (providers_in ledger.now) (asked_in ledger.now) family) }
     {

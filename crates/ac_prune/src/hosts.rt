@@ -135,7 +135,7 @@ fn limit_classes(
         if !may.contains(&true) || budget.is_spent() {
             return Ok(());
         }
-        Column::new(alloc, ledger, class)?.limit(alloc, test, budget, may)?;
+        Column::new(ledger, class).limit(alloc, test, budget, may)?;
     }
     Ok(())
 }

@@ -1,6 +1,6 @@
 //! What the path of a walk takes, in plain numbers, so that a try looks at one provider alone.
 
-ghost use Rattle.std.specs.Prelude.{◌≡◌, ◌<◌, ◌≤◌, ◌^◌, ◌++◌, ◌∷◌, ◌&&◌, ◌==◌, [], ℕ, List, length, map, true, false, not, nat_lt, slice_index, slice_index_or, IfOk};
+ghost use Rattle.std.specs.Prelude.{◌≡◌, ◌<◌, ◌≤◌, ◌^◌, ◌++◌, ◌∷◌, ◌&&◌, ◌==◌, [], ℕ, List, length, map, replicate, true, false, not, nat_lt, slice_index, slice_index_or, IfOk};
 ghost use Rattle.std.specs.List.{All, list_all, list_any, range_with_len};
 ghost use Rattle.ac_base.specs.Names.{class_bytes};
 ghost use Rattle.ac_cloud.specs.Cloud.CloudWorld.{providers_of};
@@ -11,16 +11,14 @@ ghost use Rattle.ac_rules.specs.Placed.{slot_at, assigned};
 ghost use Rattle.ac_rules.specs.Together.{takes_root};
 ghost use Rattle.ac_rules.specs.Judge.{is_open};
 ghost use Rattle.ac_prune.specs.QuerySearch.{fits};
-ghost use Rattle.ac_prune.specs.Left.{IsKnown, ask_pair, numbered, place_of, room_on, row_of, IsThere, suffices};
+ghost use Rattle.ac_prune.specs.Left.{IsKnown, ask_pair, numbered, left_at, AreSmall, suffices};
 ghost use Rattle.ac_prune.specs.Marks.{needs_own};
 
 pub mod marks;
 pub mod rooms;
 
 use crate::ledger::marks::{has_full, hit, lone_slots, mark, taken_roots, unhit, unmark};
-use crate::ledger::rooms::{
-    Ask, Room, all_asks, all_classes, all_rooms, give_row, has_each, take_row,
-};
+use crate::ledger::rooms::{Ask, all_asks, all_classes, all_columns, give_back, has_each, take};
 use ac_base::{ClassName, NoMemory};
 use ac_query::Query;
 use ac_cloud::Cloud;
@@ -31,10 +29,10 @@ use std::alloc::Global;
 pub struct Ledger<'a> {
     pub cloud: &'a Cloud,
     pub query: &'a Query,
-    // The classes that the slots ask for, what each slot asks of them, and what is left of each provider's rooms.
+    // The classes that the slots ask for, what each slot asks of them, and what is left of each at each provider.
     pub(crate) classes: Vec<&'a ClassName>,
     pub(crate) asks: Vec<Vec<Ask>>,
-    pub(crate) rows: Vec<Vec<Room>>,
+    pub(crate) columns: Vec<Vec<u64>>,
     // The slots that need a provider for themselves, and how many of them each provider has.
     pub(crate) lone: Vec<bool>,
     marks: Vec<u32>,
@@ -43,9 +41,8 @@ pub struct Ledger<'a> {
     pub(crate) hits: Vec<u32>,
     ghost known: { (s : ℕ) → s < length (slots_of (asked_of query.now)) → All (λ need. IsKnown (map (λ c. class_bytes c.now) classes.items) need.0) (slot_at (asked_of query.now) s).needs },
     ghost asked: { map (λ v. map ask_pair v.items) asks.items ≡ map (λ slot. map (numbered (map (λ c. class_bytes c.now) classes.items)) slot.needs) (slots_of (asked_of query.now)) },
-    ghost as_many: { length rows.items ≡ length (providers_of cloud.now) },
-    ghost there: { (p : ℕ) (c : List ℕ) → p < length (providers_of cloud.now) → IsKnown (map (λ c. class_bytes c.now) classes.items) c → 0 < room_on (providers_of cloud.now) p c → IsThere (row_of rows.items p) (place_of (map (λ c. class_bytes c.now) classes.items) c) },
-    ghost small: { (p : ℕ) (c : List ℕ) → p < length (providers_of cloud.now) → IsKnown (map (λ c. class_bytes c.now) classes.items) c → room_on (providers_of cloud.now) p c < 2 ^ 64 },
+    ghost sized: { map (λ column. length column.items) columns.items ≡ replicate (length classes.items) (length (providers_of cloud.now)) },
+    ghost small: { (c : List ℕ) → IsKnown (map (λ c. class_bytes c.now) classes.items) c → AreSmall (providers_of cloud.now) c },
     ghost alone: { lone.items ≡ map (needs_own (asked_of query.now)) (slots_of (asked_of query.now)) },
     ghost marked: { length marks.items ≡ length (providers_of cloud.now) },
     ghost rooted: { taken.items ≡ map (takes_root (providers_of cloud.now) (asked_of query.now)) (range_with_len 0 (length (providers_of cloud.now))) },
@@ -53,7 +50,7 @@ pub struct Ledger<'a> {
 }
 
 impl<'a> Ledger<'a> {
-    ghost use Rattle.ac_prune.specs.Left.Accounts.{providers_in, asked_in, texts_in, Accounts, IsSameLedger};
+    ghost use Rattle.ac_prune.specs.Left.Accounts.{providers_in, asked_in, texts_in, columns_in, Accounts, IsSameLedger};
 
     /// Of an empty path. It takes all its memory here.
     pub fn new(alloc: Global, cloud: &'a Cloud, query: &'a Query) -> Result<Ledger<'a>, NoMemory>
@@ -63,7 +60,7 @@ impl<'a> Ledger<'a> {
     {
         let classes = all_classes(alloc, query)?;
         let asks = all_asks(alloc, query, &classes)?;
-        let rows = all_rooms(alloc, cloud, &classes)?;
+        let columns = all_columns(alloc, cloud, &classes)?;
         let lone = lone_slots(alloc, query)?;
         let taken = taken_roots(alloc, cloud, query)?;
         let count = cloud.len() as usize;
@@ -74,7 +71,7 @@ impl<'a> Ledger<'a> {
             query,
             classes,
             asks,
-            rows,
+            columns,
             lone,
             marks,
             taken,
@@ -92,14 +89,14 @@ impl<'a> Ledger<'a> {
         !(self.lone[s] && self.marks[ix as usize] > 0)
     }
 
-    /// Whether the row of a provider has enough for a slot.
+    /// Whether a provider has enough left for a slot.
     pub(crate) fn has_enough(&self, s: usize, ix: u32) -> bool
         requires slot { s < length (slots_of (asked_in self.now)) }
         requires provider { ix < length (providers_in self.now) }
-        ensures { result ≡ suffices (row_of self.now.rows.items ix)
+        ensures { result ≡ suffices (left_at (columns_in self.now) ix)
             (map (numbered (texts_in self.now)) (slot_at (asked_in self.now) s).needs) }
     {
-        has_each(&self.rows[ix as usize], &self.asks[s])
+        has_each(&self.columns, ix as usize, &self.asks[s])
     }
 
     // Whether a whole path of a depth keeps a root with one more provider.
@@ -141,7 +138,7 @@ impl<'a> Ledger<'a> {
     {
         let s = front.len();
         let at = ix as usize;
-        take_row(&mut self.rows, at, &self.asks[s]);
+        take(&mut self.columns, at, &self.asks[s]);
         mark(&mut self.marks, self.lone[s], at);
         hit(&mut self.hits, self.cloud.anchors(ix));
     }
@@ -156,7 +153,7 @@ impl<'a> Ledger<'a> {
     {
         let s = front.len();
         let at = ix as usize;
-        give_row(&mut self.rows, at, &self.asks[s]);
+        give_back(&mut self.columns, at, &self.asks[s]);
         unmark(&mut self.marks, self.lone[s], at);
         unhit(&mut self.hits, self.cloud.anchors(ix));
     }

@@ -14,10 +14,10 @@ use Rattle.ac_rules.specs.Together.{takes_root, hosts_all, anchor}
 use Rattle.ac_rules.proofs.EachSlot.AnchorLemmas.{each_range, hosts_list}
 use Rattle.ac_rules.proofs.Elements.{each_weaker}
 use Rattle.ac_rules.proofs.EachSlot.FrontLemmas.{Opens}
-use Rattle.ac_prune.specs.Left.Accounts.{providers_in, asked_in, texts_in, Accounts}
+use Rattle.ac_prune.specs.Left.Accounts.{providers_in, asked_in, texts_in, columns_in, Accounts}
 use Rattle.ac_prune.specs.Ahead.{load_of, hosts_of, left_on, asks_much, IsHosted}
 use Rattle.ac_prune.specs.Trees.Keys.{is_there}
-use Rattle.ac_prune.specs.Left.{ask_pair, numbered, left_in, place_of, IsKnown, row_of}
+use Rattle.ac_prune.specs.Left.{ask_pair, numbered, left_at, place_of, IsKnown}
 use Rattle.ac_prune.specs.Loads.{pairs_of, is_much}
 use Rattle.ac_prune.specs.QuerySearch.{search_of}
 use Rattle.ac_prune.specs.Search.{IsDead}
@@ -102,16 +102,16 @@ fewer f (suc n) (x ∷ xs) = let more = fewer f n xs in omega (arith, more)
 
 -- where the pieces that are left at a root are fewer than the later slots ask for, no candidate that goes on from the front stands there
 pub pieces_lack : (l : Ledger) (q : List ℕ) (r k a n left most : ℕ) (c : List ℕ) (asks : List (Vec Ask)) → asks ≡ l.asks.items → 0 < a → IsKnown (texts_in l) c → k ≡ place_of (texts_in l) c → Accounts l q
-    → min (load_of (λ p. left_in (row_of l.rows.items p) k / a) (hosts_of (providers_in l) r)) (2 ^ 64 - 1) ≤ left → left < most → most < 2 ^ 64
+    → min (load_of (λ p. left_at (columns_in l) p k / a) (hosts_of (providers_in l) r)) (2 ^ 64 - 1) ≤ left → left < most → most < 2 ^ 64
     → most ≤ load_of (is_much k a) (pairs_of (take n (drop (length q) asks)))
     → (v : List ℕ) → IsHosted (providers_in l) (asked_in l) r (q ++ v) → ⊥
 pieces_lack l q r k a n left most c asks whole some known number accounts is short fits wants v hosted =
     let all = providers_in l in
     let asked = asked_in l in
     let reach = rooms_reach all asked q v r (asks_much c a) (λ p. left_on all asked q c p / a) (pieces_bear all asked q c a some) hosted in
-    let same = load_within (λ p. left_on all asked q c p / a) (λ p. left_in (row_of l.rows.items p) k / a) (length all) (hosts_of all r) (hosts_low all r)
+    let same = load_within (λ p. left_on all asked q c p / a) (λ p. left_at (columns_in l) p k / a) (length all) (hosts_of all r) (hosts_low all r)
     (λ p low.
-    let rest : left_on all asked q c p ≡ left_in (row_of l.rows.items p) k = let there = ap (left_in (row_of l.rows.items p)) number in omega (arith, accounts.left p c low known, there) in
+    let rest : left_on all asked q c p ≡ left_at (columns_in l) p k = let there = ap (left_at (columns_in l) p) number in omega (arith, accounts.left p c low known, there) in
     let one = ap (λ (m : ℕ). m / a) rest in
     omega (arith, one)) in
     let front = fewer (is_much k a) n (drop (length q) asks) in

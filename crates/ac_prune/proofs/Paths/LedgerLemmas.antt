@@ -2,13 +2,14 @@
 use Rattle.std.proofs.Common.{◌≡◌, ◌∙◌, ℕ, ◌+◌, ◌<◌, ◌≤◌, ◌^◌, Bool, true, false, inl, inr, not, ◌&&◌, List, [], ◌∷◌, ◌++◌, map, length, Option, Some, None, refl, sym, ap, ap₂, subst, arith, length-append, nat_le, nat_lt, replicate, slice_index, slice_index_or}
 use Rattle.std.specs.Prelude.{◌==◌, if◌then◌else◌}
 use Rattle.std.specs.Global.{Vec}
-use Rattle.std.specs.List.{list_all, list_any, range_with_len, AllByRecursion as Each}
+use Rattle.std.specs.List.{list_all, list_any, range_with_len, All, AllByRecursion as Each}
 use Rattle.std.proofs.lemmas.Bool.{cases_Bool, eq-eqb, false≢true, false_from_ne_true}
 use Rattle.std.proofs.lemmas.Bool.Decides.{nat_tests}
 use Rattle.std.proofs.lemmas.List.{get_or-map, get_or-replicate, length-map}
 use Rattle.std.proofs.lemmas.List.FromFn.{length-range_with_len, get_or-range_with_len}
 use Rattle.std.proofs.lemmas.List.Elements.{recursion_from_All}
 use Rattle.std.specs.List.Sorted.{IsStrictlySortedBy}
+use Rattle.ac_base.specs.Names.{class_bytes}
 use Rattle.ac_base.specs.Texts.{text_cmp}
 use Rattle.ac_query.proofs.Values.NameSets.{one_rises}
 use Rattle.ac_query.proofs.Values.NeedSteps.{classes_kept}
@@ -25,18 +26,17 @@ use Rattle.ac_rules.specs.Together.{sum_on, holds, sums, isolate, takes_root}
 use Rattle.ac_rules.specs.Judge.{is_open}
 use Rattle.ac_prune.specs.QuerySearch.{fits, has_room_alone}
 use Rattle.ac_rules.specs.Laws.{AskAmounts}
-use Rattle.ac_prune.specs.Left.{place_of, IsKnown, IsThere, AreRows, AreLeft, ask_pair, numbered, wanted, left_in, has_each, suffices, room_on, row_of}
+use Rattle.ac_prune.specs.Left.{place_of, IsKnown, AreLeft, ask_pair, numbered, wanted, left_at, has_each, suffices, room_on, rooms_of}
 use Rattle.ac_prune.specs.Marks.{needs_own, marks_at, times, AreMarks, AreHits}
-use Rattle.ac_prune.specs.Left.Accounts.{providers_in, asked_in, texts_in, Accounts}
+use Rattle.ac_prune.specs.Left.Accounts.{providers_in, asked_in, texts_in, columns_in, Accounts}
 use Rattle.ac_prune.specs.declared.ledger.rooms.Ask.{Ask}
-use Rattle.ac_prune.specs.declared.ledger.rooms.Room.{Room}
 use Rattle.ac_prune.specs.declared.ledger.Ledger.{Ledger}
 use Rattle.ac_rules.proofs.Elements.{each_append, each_map, each_weaker}
 use Rattle.ac_rules.proofs.SlotLemmas.{each_at}
 use Rattle.ac_rules.proofs.PlacedLemmas.{placed_none}
 use Rattle.ac_rules.proofs.EachSlot.FrontLemmas.{Opens, open_parts}
 use Rattle.ac_prune.proofs.Search.OpenLemmas.{placed_next, open_together, front_open}
-use Rattle.ac_prune.proofs.Paths.RoomLemmas.{there_left}
+use Rattle.ac_prune.proofs.Paths.ColumnLemmas.{column_room, column_at, left_read, sized}
 use Rattle.ac_prune.proofs.Paths.LeftLemmas.{sums_next, sum_here, wanted_is, wanted_fits, wanted_class, each_suffices, holds_less, less_holds}
 use Rattle.ac_prune.proofs.Paths.MarkLemmas.{isolate_next, anchor_next, marks_more, marks_most, hits_more, hits_most, times_anchors}
 
@@ -105,6 +105,35 @@ asks_at l s v h e =
     let many : s < length l.asks.items = omega (arith, h, ap length l.asked, length-map l.asks.items f, length-map (slots_of (asked_in l)) g) in
     ap f e ∙ (sym (get_or-map f l.asks.items s v [] many) ∙ (ap (λ (ls : List (List (ℕ × ℕ))). slice_index_or ls s []) l.asked ∙ get_or-map g (slots_of (asked_in l)) s no_slot [] h))
 
+-- the column of each class
+pub columns_long : (l : Ledger) → (length l.columns.items ≡ length (texts_in l)) × All (λ v. length v.items ≡ length (providers_in l)) l.columns.items
+columns_long l =
+    let long = sized l.columns.items (length l.classes.items) (length (providers_in l)) l.sized in
+    (omega (arith, long.0, length-map l.classes.items (λ v. class_bytes v.now)), long.1)
+
+-- a room that was read
+pub room_read : (l : Ledger) (k p x : ℕ) (v : Vec ℕ) → k < length (texts_in l) → p < length (providers_in l) → v ≡ slice_index_or l.columns.items k v → x ≡ slice_index_or v.items p x → x ≡ left_at (columns_in l) p k
+room_read l k p x v class low at is =
+    let long = columns_long l in
+    let here : k < length l.columns.items = omega (arith, class, long.0) in
+    left_read l.columns.items k p x v here (omega (arith, long.1 k v here, low, ap length (column_at l.columns.items k v here))) (is ∙ ap (λ (w : Vec ℕ). slice_index_or w.items p x) at)
+
+-- what a slot asks is of classes that have one
+pub asks_low : (l : Ledger) (s : ℕ) (v : Vec Ask) → s < length (slots_of (asked_in l)) → v ≡ slice_index_or l.asks.items s v → All (λ a. a.class < length l.columns.items) v.items
+asks_low l s v h e i d less =
+    let needs = (slot_at (asked_in l) s).needs in
+    let f = numbered (texts_in l) in
+    let is = asks_at l s v h e in
+    let many : i < length needs = omega (arith, less, ap length is, length-map v.items ask_pair, length-map needs f) in
+    let none : List ℕ × ℕ = ([], 0) in
+    let pair : ask_pair (slice_index_or v.items i d) ≡ f (slice_index_or needs i none) =
+    sym (get_or-map ask_pair v.items i d (0, 0) less) ∙ (ap (λ (ls : List (ℕ × ℕ)). slice_index_or ls i (0, 0)) is ∙ get_or-map f needs i none (0, 0) many) in
+    let known = each_at (λ need. IsKnown (texts_in l) need.0) needs i none (known_in l s h) many in
+    omega (arith, known, ap (λ (a : ℕ × ℕ). a.0) pair, (columns_long l).0)
+
+pub provider_low : (l : Ledger) (p : ℕ) → p < length (providers_in l) → All (λ v. p < length v.items) l.columns.items
+provider_low l p h i d less = omega (arith, h, (columns_long l).1 i d less)
+
 pub lone_at : (l : Ledger) (s : ℕ) (b : Bool) → s < length (slots_of (asked_in l)) → b ≡ slice_index_or l.lone.items s b → b ≡ needs_own (asked_in l) (slot_at (asked_in l) s)
 lone_at l s b h e =
     e ∙ (ap (λ (bs : List Bool). slice_index_or bs s b) l.alone ∙ get_or-map (needs_own (asked_in l)) (slots_of (asked_in l)) s no_slot b h)
@@ -122,7 +151,7 @@ taken_at l r h =
 pub open_next : (l : Ledger) (q : List ℕ) (p : ℕ) → length q < length (slots_of (asked_in l)) → p < length (providers_in l) → Accounts l q
     → list_all (λ x. fits (providers_in l) x) (assigned (asked_in l) (q ++ p ∷ [])) ≡ true → is_open (providers_in l) (asked_in l) q ≡ true
     → is_open (providers_in l) (asked_in l) (q ++ p ∷ [])
-    ≡ (suffices (row_of l.rows.items p) (map (numbered (texts_in l)) (slot_at (asked_in l) (length q)).needs)
+    ≡ (suffices (left_at (columns_in l) p) (map (numbered (texts_in l)) (slot_at (asked_in l) (length q)).needs)
     && (not (needs_own (asked_in l) (slot_at (asked_in l) (length q)) && nat_lt 0 (slice_index l.marks.items p))
     && list_any (λ r. slice_index_or l.taken.items r false && (slice_index l.hits.items r == length q)) (anchors_of (providers_in l) p)))
 unfolding is_open
@@ -136,8 +165,8 @@ open_next l q p h k accounts own open_q =
     let slots = query_asks l.query.now in
     let short : length (q ++ p ∷ []) ≤ length (slots_of asked) = omega (arith, h, length-append q (p ∷ [])) in
     let more : AskAmounts (xs ++ x ∷ []) = subst AskAmounts next (placed_ask (slots_of asked) (q ++ p ∷ []) slots) in
-    let room : sums all (assigned asked (q ++ p ∷ [])) ≡ suffices (row_of l.rows.items p) (map (numbered (texts_in l)) (slot_at asked (length q)).needs) =
-    ap (sums all) next ∙ sums_next all (texts_in l) (row_of l.rows.items p) xs x (λ c known. accounts.left p c k known) (known_in l (length q) h) (placed_ask (slots_of asked) q slots) more (slot_asks l.query.now (length q) h) parts.sums in
+    let room : sums all (assigned asked (q ++ p ∷ [])) ≡ suffices (left_at (columns_in l) p) (map (numbered (texts_in l)) (slot_at asked (length q)).needs) =
+    ap (sums all) next ∙ sums_next all (texts_in l) (left_at (columns_in l) p) xs x (λ c known. accounts.left p c k known) (known_in l (length q) h) (placed_ask (slots_of asked) q slots) more (slot_asks l.query.now (length q) h) parts.sums in
     let apart : isolate asked (assigned asked (q ++ p ∷ [])) ≡ not (needs_own asked (slot_at asked (length q)) && nat_lt 0 (slice_index l.marks.items p)) =
     ap (isolate asked) next ∙ (isolate_next asked xs x parts.isolate ∙ ap (λ (n : ℕ). not (needs_own asked (slot_at asked (length q)) && nat_lt 0 n)) (sym (accounts.marks p k))) in
     open_together all asked (q ++ p ∷ []) own
@@ -152,7 +181,7 @@ placed_few (s ∷ ss) (p ∷ q) = let more = placed_few ss q in omega arith
 
 -- an open front has room for what its last provider takes
 pub room_for : (l : Ledger) (q : List ℕ) (p k : ℕ) → length q < length (slots_of (asked_in l)) → p < length (providers_in l) → Accounts l q → is_open (providers_in l) (asked_in l) (q ++ p ∷ []) ≡ true
-    → wanted (map (numbered (texts_in l)) (slot_at (asked_in l) (length q)).needs) k ≤ left_in (row_of l.rows.items p) k
+    → wanted (map (numbered (texts_in l)) (slot_at (asked_in l) (length q)).needs) k ≤ left_at (columns_in l) p k
 unfolding is_open
 room_for l q p k h within accounts opens =
     let all = providers_in l in
@@ -164,9 +193,9 @@ room_for l q p k h within accounts opens =
     let front : Opens all asked xs = open_parts all asked xs (front_open all asked q (p ∷ []) opens) in
     let whole : Opens all asked (assigned asked (q ++ p ∷ [])) = open_parts all asked (assigned asked (q ++ p ∷ [])) opens in
     let more : AskAmounts (xs ++ x ∷ []) = subst AskAmounts next (placed_ask (slots_of asked) (q ++ p ∷ []) slots) in
-    let enough : suffices (row_of l.rows.items p) (map (numbered (texts_in l)) (slot_at asked (length q)).needs) ≡ true =
-    sym (ap (sums all) next ∙ sums_next all (texts_in l) (row_of l.rows.items p) xs x (λ c known. accounts.left p c within known) (known_in l (length q) h) (placed_ask (slots_of asked) q slots) more (slot_asks l.query.now (length q) h) front.sums) ∙ whole.sums in
-    wanted_fits (row_of l.rows.items p) (map (numbered (texts_in l)) (slot_at asked (length q)).needs) k enough
+    let enough : suffices (left_at (columns_in l) p) (map (numbered (texts_in l)) (slot_at asked (length q)).needs) ≡ true =
+    sym (ap (sums all) next ∙ sums_next all (texts_in l) (left_at (columns_in l) p) xs x (λ c known. accounts.left p c within known) (known_in l (length q) h) (placed_ask (slots_of asked) q slots) more (slot_asks l.query.now (length q) h) front.sums) ∙ whole.sums in
+    wanted_fits (left_at (columns_in l) p) (map (numbered (texts_in l)) (slot_at asked (length q)).needs) k enough
 
 pub room_to_mark : (l : Ledger) (q : List ℕ) (p : ℕ) → length q < length (slots_of (asked_in l)) → p < length (providers_in l) → Accounts l q → slice_index l.marks.items p < 64
 room_to_mark l q p h within accounts =
@@ -181,26 +210,21 @@ room_to_hit l q p r h within accounts =
       | inr e ↦ let none = rw e at once in omega (arith, none, accounts.hits r within, hits_most (providers_in l) q r, h, few_slots l.query.now)
     ]
 
--- what is given back was taken of a small room, which is there
+-- what is given back was taken of a small room
 pub room_back : (l : Ledger) (q : List ℕ) (p k : ℕ) → length q < length (slots_of (asked_in l)) → p < length (providers_in l) → Accounts l (q ++ p ∷ [])
     → 0 < wanted (map (numbered (texts_in l)) (slot_at (asked_in l) (length q)).needs) k
-    → IsThere (row_of l.rows.items p) k × (left_in (row_of l.rows.items p) k + wanted (map (numbered (texts_in l)) (slot_at (asked_in l) (length q)).needs) k < 2 ^ 64)
+    → left_at (columns_in l) p k + wanted (map (numbered (texts_in l)) (slot_at (asked_in l) (length q)).needs) k < 2 ^ 64
 room_back l q p k h within accounts some =
-    let all = providers_in l in
-    let asked = asked_in l in
-    let needs = (slot_at asked (length q)).needs in
+    let needs = (slot_at (asked_in l) (length q)).needs in
     let known = known_in l (length q) h in
     let at = wanted_class (texts_in l) needs k known some in
     let c = at.0 in
-    let sum = sum_here (assigned asked q) (placed_at asked (length q) p) p c refl in
-    let same = ap (λ xs. sum_on xs p c) (placed_next asked q p h) in
+    let sum = sum_here (assigned (asked_in l) q) (placed_at (asked_in l) (length q) p) p c refl in
+    let same = ap (λ xs. sum_on xs p c) (placed_next (asked_in l) q p h) in
     let left = accounts.left p c within at.1.0 in
     let is = wanted_is (texts_in l) needs c known in
-    let asks : 0 < wanted (map (numbered (texts_in l)) needs) (place_of (texts_in l) c) = subst (λ (j : ℕ). 0 < wanted (map (numbered (texts_in l)) needs) j) (sym at.1.1) some in
-    let there = l.there p c within at.1.0 (omega (arith, sum, same, left, is, asks)) in
-    let small = l.small p c within at.1.0 in
-    subst (λ (j : ℕ). IsThere (row_of l.rows.items p) j × (left_in (row_of l.rows.items p) j + wanted (map (numbered (texts_in l)) needs) j < 2 ^ 64)) at.1.1
-    (there, omega (arith, sum, same, left, is, small))
+    subst (λ (j : ℕ). left_at (columns_in l) p j + wanted (map (numbered (texts_in l)) needs) j < 2 ^ 64) at.1.1
+    (omega (arith, sum, same, left, is, l.small c at.1.0 p within))
 
 pub mark_there : (l : Ledger) (q : List ℕ) (p : ℕ) → length q < length (slots_of (asked_in l)) → p < length (providers_in l) → Accounts l (q ++ p ∷ [])
     → needs_own (asked_in l) (slot_at (asked_in l) (length q)) ≡ true → 0 < slice_index l.marks.items p
@@ -238,12 +262,8 @@ hits_back all q p old new change old_hits r within = omega (arith, change r, old
 
 -- ---- The accounts of nothing
 
-pub left_none : (all : List Provider) (asked : Asked) (texts : List (List ℕ)) (rows : List (Vec Room)) → AreRows all texts rows → AreLeft all texts rows (assigned asked [])
-left_none all asked texts rows made p c h known = omega (arith, (made.each p h).left c known, ap (λ xs. sum_on xs p c) (placed_none (slots_of asked)))
-
-pub there_made : (all : List Provider) (texts : List (List ℕ)) (rows : List (Vec Room)) → AreRows all texts rows
-    → (p : ℕ) (c : List ℕ) → p < length all → IsKnown texts c → 0 < room_on all p c → IsThere (row_of rows p) (place_of texts c)
-there_made all texts rows made p c h known some = there_left (row_of rows p) (place_of texts c) (omega (arith, (made.each p h).left c known, some))
+pub left_none : (all : List Provider) (asked : Asked) (texts columns : List (List ℕ)) → columns ≡ map (rooms_of all) texts → AreLeft all texts columns (assigned asked [])
+left_none all asked texts columns made p c h known = omega (arith, column_room all texts columns made p c h known, ap (λ xs. sum_on xs p c) (placed_none (slots_of asked)))
 
 pub marks_empty : (all : List Provider) (asked : Asked) (marks : List ℕ) → marks ≡ replicate (length all) 0 → AreMarks all asked marks (assigned asked [])
 marks_empty all asked marks made p h =
@@ -255,11 +275,11 @@ hits_empty all hits made r h = ap (λ (l : List ℕ). slice_index l r) made ∙ 
 -- ---- Room for a slot alone
 
 each_alone : (l : Ledger) (p : ℕ) (needs : List (List ℕ × ℕ)) → p < length (providers_in l) → Accounts l [] → Each (λ need. IsKnown (texts_in l) need.0) needs → Each (λ need. 0 < need.1) needs
-    → has_each (row_of l.rows.items p) (map (numbered (texts_in l)) needs) ≡ list_all (λ (need : List ℕ × ℕ). holds (provider_at (providers_in l) p) need.0 need.1) needs
+    → has_each (left_at (columns_in l) p) (map (numbered (texts_in l)) needs) ≡ list_all (λ (need : List ℕ × ℕ). holds (provider_at (providers_in l) p) need.0 need.1) needs
 each_alone l p [] low accounts known some = refl
 each_alone l p (n ∷ ns) low accounts known some =
     let all = providers_in l in
-    let left = left_in (row_of l.rows.items p) (place_of (texts_in l) n.0) in
+    let left = left_at (columns_in l) p (place_of (texts_in l) n.0) in
     let nothing : sum_on (assigned (asked_in l) []) p n.0 ≡ 0 = ap (λ xs. sum_on xs p n.0) (placed_none (slots_of (asked_in l))) in
     let room : left ≡ room_on all p n.0 = omega (arith, accounts.left p n.0 low known.0, nothing) in
     let here : nat_le n.1 left ≡ holds (provider_at all p) n.0 n.1 = elim (cases_Bool (holds (provider_at all p) n.0 n.1)) [
@@ -270,9 +290,9 @@ each_alone l p (n ∷ ns) low accounts known some =
 
 -- the row of a provider has enough for a slot exactly where the provider has room for it alone
 pub enough_alone : (l : Ledger) (s p : ℕ) → s < length (slots_of (asked_in l)) → p < length (providers_in l) → Accounts l []
-    → suffices (row_of l.rows.items p) (map (numbered (texts_in l)) (slot_at (asked_in l) s).needs) ≡ has_room_alone (providers_in l) (placed_at (asked_in l) s p)
+    → suffices (left_at (columns_in l) p) (map (numbered (texts_in l)) (slot_at (asked_in l) s).needs) ≡ has_room_alone (providers_in l) (placed_at (asked_in l) s p)
 unfolding has_room_alone
 enough_alone l s p h low accounts =
     let needs = (slot_at (asked_in l) s).needs in
-    sym (each_suffices (texts_in l) (row_of l.rows.items p) needs (known_in l s h) (slot_rises l.query.now s h))
+    sym (each_suffices (texts_in l) (left_at (columns_in l) p) needs (known_in l s h) (slot_rises l.query.now s h))
     ∙ each_alone l p needs low accounts (known_in l s h) (each_at Asks (slots_of (asked_in l)) s no_slot (query_asks l.query.now) h)

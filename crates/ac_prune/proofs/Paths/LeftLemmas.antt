@@ -4,7 +4,6 @@ use Rattle.std.specs.Prelude.{◌==◌, if◌then◌else◌}
 use Rattle.std.specs.Option.{unwrap_or}
 use Rattle.std.specs.List.{list_all, AllByRecursion as Each}
 use Rattle.std.specs.Str.{bytes_eq}
-use Rattle.std.specs.Global.{Vec}
 use Rattle.std.proofs.lemmas.Bool.{cases_Bool, cases_eq, cases_lt, and_parts, and_from, eq-eqb, ne_eqb, false≢true, false_from_ne_true}
 use Rattle.std.proofs.lemmas.Bool.Decides.{nat_tests}
 use Rattle.std.proofs.lemmas.List.{map-append}
@@ -20,8 +19,7 @@ use Rattle.ac_rules.specs.Room.{room_in}
 use Rattle.ac_rules.specs.Placed.{Placed}
 use Rattle.ac_rules.specs.Together.{amount_of, sum_on, has_room, holds, sums}
 use Rattle.ac_rules.specs.Laws.{AskAmounts, IsFull}
-use Rattle.ac_prune.specs.Left.{place_of, IsKnown, numbered, wanted, left_in, has_each, suffices, room_on, row_of, Takes, AreLeft}
-use Rattle.ac_prune.specs.declared.ledger.rooms.Room.{Room}
+use Rattle.ac_prune.specs.Left.{place_of, IsKnown, numbered, wanted, left_at, has_each, suffices, room_on, Moves, AreLeft}
 use Rattle.ac_rules.proofs.EachSlot.FullLemmas.{sums_say_full}
 
 -- a class that is known stands at its place
@@ -107,10 +105,10 @@ pub sum_other : (xs : List Placed) (x : Placed) (p : ℕ) (c : List ℕ) → x.p
 sum_other xs x p c e = let other = ne_eqb x.provider p e in let more = rw other at (sum_more xs x p c) in omega arith
 
 -- each class of which something is asked has enough in the row
-suffices_from : (classes : List (List ℕ)) (row : List (ℕ × ℕ)) (needs ns : List (List ℕ × ℕ)) → Each (λ need. IsKnown classes need.0) needs
-    → ((c : List ℕ) → IsKnown classes c → 0 < amount_of ns c → amount_of needs c ≤ left_in row (place_of classes c))
+suffices_from : (classes : List (List ℕ)) (row : ℕ → ℕ) (needs ns : List (List ℕ × ℕ)) → Each (λ need. IsKnown classes need.0) needs
+    → ((c : List ℕ) → IsKnown classes c → 0 < amount_of ns c → amount_of needs c ≤ row (place_of classes c))
     → Each (λ need. IsKnown classes need.0) ns → Each (λ need. 0 < need.1) ns
-    → list_all (λ a. nat_le (wanted (map (numbered classes) needs) a.0) (left_in row a.0)) (map (numbered classes) ns) ≡ true
+    → list_all (λ a. nat_le (wanted (map (numbered classes) needs) a.0) (row a.0)) (map (numbered classes) ns) ≡ true
 suffices_from classes row needs [] all enough known some = refl
 suffices_from classes row needs (n ∷ ns) all enough known some =
     let itself = (bytes_eq-Decides n.0 n.0).1 refl in
@@ -120,20 +118,20 @@ suffices_from classes row needs (n ∷ ns) all enough known some =
     and_from _ _ (rw is (grind (arith, nat_tests)))
     (suffices_from classes row needs ns all (λ c k more. enough c k (omega (arith, more))) known.1 some.1)
 
-suffices_at : (classes : List (List ℕ)) (row : List (ℕ × ℕ)) (needs ns : List (List ℕ × ℕ)) (c : List ℕ) → Each (λ need. IsKnown classes need.0) needs
+suffices_at : (classes : List (List ℕ)) (row : ℕ → ℕ) (needs ns : List (List ℕ × ℕ)) (c : List ℕ) → Each (λ need. IsKnown classes need.0) needs
     → Each (λ need. IsKnown classes need.0) ns
-    → list_all (λ a. nat_le (wanted (map (numbered classes) needs) a.0) (left_in row a.0)) (map (numbered classes) ns) ≡ true → 0 < amount_of ns c
-    → IsKnown classes c × (amount_of needs c ≤ left_in row (place_of classes c))
+    → list_all (λ a. nat_le (wanted (map (numbered classes) needs) a.0) (row a.0)) (map (numbered classes) ns) ≡ true → 0 < amount_of ns c
+    → IsKnown classes c × (amount_of needs c ≤ row (place_of classes c))
 suffices_at classes row needs [] c all known h asks = absurd (omega arith)
 suffices_at classes row needs (n ∷ ns) c all known h asks =
     let both = and_parts _ _ h in
     elim (cases_Bool (bytes_eq n.0 c)) [
       | inl e ↦
           let same : n.0 ≡ c = (bytes_eq-Decides n.0 c).0 e in
-          let test : nat_le (wanted (map (numbered classes) needs) (place_of classes n.0)) (left_in row (place_of classes n.0)) ≡ true = both.0 in
-          let less : wanted (map (numbered classes) needs) (place_of classes n.0) ≤ left_in row (place_of classes n.0) = grind (arith, nat_tests) in
-          let fits : amount_of needs n.0 ≤ left_in row (place_of classes n.0) = omega (arith, less, wanted_is classes needs n.0 all) in
-          subst (λ (d : List ℕ). IsKnown classes d × (amount_of needs d ≤ left_in row (place_of classes d))) same (known.0, fits)
+          let test : nat_le (wanted (map (numbered classes) needs) (place_of classes n.0)) (row (place_of classes n.0)) ≡ true = both.0 in
+          let less : wanted (map (numbered classes) needs) (place_of classes n.0) ≤ row (place_of classes n.0) = grind (arith, nat_tests) in
+          let fits : amount_of needs n.0 ≤ row (place_of classes n.0) = omega (arith, less, wanted_is classes needs n.0 all) in
+          subst (λ (d : List ℕ). IsKnown classes d × (amount_of needs d ≤ row (place_of classes d))) same (known.0, fits)
       | inr e ↦ let less : 0 < amount_of ns c = let more = rw e at asks in omega arith in suffices_at classes row needs ns c all known.1 both.1 less
     ]
 
@@ -159,20 +157,20 @@ amounts_once (n ∷ needs) h =
     more (m ∷ ns) apart all = let here = all.0 in let differ = apart.0 in (rw differ (omega (arith, here)), more ns apart.1 all.1)
 
 -- so a row has enough for all where it has each amount
-pub each_suffices : (classes : List (List ℕ)) (row : List (ℕ × ℕ)) (needs : List (List ℕ × ℕ)) → Each (λ need. IsKnown classes need.0) needs → IsStrictlySortedBy text_cmp (map (λ need. need.0) needs)
+pub each_suffices : (classes : List (List ℕ)) (row : ℕ → ℕ) (needs : List (List ℕ × ℕ)) → Each (λ need. IsKnown classes need.0) needs → IsStrictlySortedBy text_cmp (map (λ need. need.0) needs)
     → has_each row (map (numbered classes) needs) ≡ suffices row (map (numbered classes) needs)
 each_suffices classes row needs known rising = along needs (amounts_once needs (apart_from_sorted (map (λ need. need.0) needs) rising))
   where
     along : (ns : List (List ℕ × ℕ)) → Each (λ need. amount_of needs need.0 ≡ need.1) ns
-        → list_all (λ a. nat_le a.1 (left_in row a.0)) (map (numbered classes) ns) ≡ list_all (λ a. nat_le (wanted (map (numbered classes) needs) a.0) (left_in row a.0)) (map (numbered classes) ns)
+        → list_all (λ a. nat_le a.1 (row a.0)) (map (numbered classes) ns) ≡ list_all (λ a. nat_le (wanted (map (numbered classes) needs) a.0) (row a.0)) (map (numbered classes) ns)
     along [] once = refl
-    along (n ∷ ns) once = ap₂ (λ (m : ℕ) (b : Bool). nat_le m (left_in row (place_of classes n.0)) && b) (sym (wanted_is classes needs n.0 known ∙ once.0)) (along ns once.1)
+    along (n ∷ ns) once = ap₂ (λ (m : ℕ) (b : Bool). nat_le m (row (place_of classes n.0)) && b) (sym (wanted_is classes needs n.0 known ∙ once.0)) (along ns once.1)
 
 -- What a row must have left of its provider's rooms.
-abbrev pub IsLeft : List Provider → List (List ℕ) → List (ℕ × ℕ) → List Placed → ℕ → Type 0
-IsLeft all classes row xs p = (c : List ℕ) → IsKnown classes c → left_in row (place_of classes c) + sum_on xs p c ≡ room_on all p c
+abbrev pub IsLeft : List Provider → List (List ℕ) → (ℕ → ℕ) → List Placed → ℕ → Type 0
+IsLeft all classes row xs p = (c : List ℕ) → IsKnown classes c → row (place_of classes c) + sum_on xs p c ≡ room_on all p c
 
-full_next : (all : List Provider) (classes : List (List ℕ)) (row : List (ℕ × ℕ)) (xs : List Placed) (x : Placed) → IsLeft all classes row xs x.provider
+full_next : (all : List Provider) (classes : List (List ℕ)) (row : ℕ → ℕ) (xs : List Placed) (x : Placed) → IsLeft all classes row xs x.provider
     → Each (λ need. IsKnown classes need.0) x.slot.needs → IsFull all xs → suffices row (map (numbered classes) x.slot.needs) ≡ true → IsFull all (xs ++ x ∷ [])
 full_next all classes row xs x left known full enough p c asked = elim (cases_eq x.provider p) [
   | inl e ↦
@@ -180,7 +178,7 @@ full_next all classes row xs x left known full enough p c asked = elim (cases_eq
       elim (cases_lt 0 (amount_of x.slot.needs c)) [
         | inl l ↦
             let at = suffices_at classes row x.slot.needs x.slot.needs c known known enough l in
-            let room = subst (λ (r : ℕ). left_in row (place_of classes c) + sum_on xs r c ≡ room_on all r c) e (left c at.0) in
+            let room = subst (λ (r : ℕ). row (place_of classes c) + sum_on xs r c ≡ room_on all r c) e (left c at.0) in
             less_holds all p c (sum_on (xs ++ x ∷ []) p c) asked (omega (arith, sum, room, at.1))
         | inr l ↦
             let same : sum_on (xs ++ x ∷ []) p c ≡ sum_on xs p c = omega (arith, sum, l) in
@@ -190,7 +188,7 @@ full_next all classes row xs x left known full enough p c asked = elim (cases_eq
 ]
 
 -- The next slot's rooms suffice exactly where the row of its provider has enough left.
-pub sums_next : (all : List Provider) (classes : List (List ℕ)) (row : List (ℕ × ℕ)) (xs : List Placed) (x : Placed) → IsLeft all classes row xs x.provider
+pub sums_next : (all : List Provider) (classes : List (List ℕ)) (row : ℕ → ℕ) (xs : List Placed) (x : Placed) → IsLeft all classes row xs x.provider
     → Each (λ need. IsKnown classes need.0) x.slot.needs → AskAmounts xs → AskAmounts (xs ++ x ∷ []) → Each (λ need. 0 < need.1) x.slot.needs → sums all xs ≡ true
     → sums all (xs ++ x ∷ []) ≡ suffices row (map (numbered classes) x.slot.needs)
 sums_next all classes row xs x left known some more own fine = same_tests (sums all (xs ++ x ∷ [])) (suffices row (map (numbered classes) x.slot.needs)) down up
@@ -212,49 +210,49 @@ sums_next all classes row xs x left known some more own fine = same_tests (sums 
     up : suffices row (map (numbered classes) x.slot.needs) ≡ true → sums all (xs ++ x ∷ []) ≡ true
     up h = (sums_say_full all (xs ++ x ∷ []) more).1 (full_next all classes row xs x left known ((sums_say_full all xs some).0 fine) h)
 
--- ---- Rows
+-- ---- Columns
 
 -- one more slot takes its part
-pub left_more : (all : List Provider) (classes : List (List ℕ)) (rows new : List (Vec Room)) (xs : List Placed) (x : Placed)
-    → Each (λ need. IsKnown classes need.0) x.slot.needs → Takes rows x.provider (map (numbered classes) x.slot.needs) new
-    → AreLeft all classes rows xs → AreLeft all classes new (xs ++ x ∷ [])
-left_more all classes rows new xs x known takes left p c h k = elim (cases_eq x.provider p) [
+pub left_more : (all : List Provider) (classes : List (List ℕ)) (columns new : List (List ℕ)) (xs : List Placed) (x : Placed)
+    → Each (λ need. IsKnown classes need.0) x.slot.needs → Moves columns x.provider (map (numbered classes) x.slot.needs) [] new
+    → AreLeft all classes columns xs → AreLeft all classes new (xs ++ x ∷ [])
+left_more all classes columns new xs x known takes left p c h k = elim (cases_eq x.provider p) [
   | inl e ↦
-      let here = subst (λ (r : ℕ). left_in (row_of new r) (place_of classes c) + wanted (map (numbered classes) x.slot.needs) (place_of classes c) ≡ left_in (row_of rows r) (place_of classes c)) e (takes.here (place_of classes c)) in
+      let here = subst (λ (r : ℕ). left_at new r (place_of classes c) + wanted (map (numbered classes) x.slot.needs) (place_of classes c) ≡ left_at columns r (place_of classes c) + 0) e (takes.here (place_of classes c)) in
       omega (arith, here, wanted_is classes x.slot.needs c known, sum_here xs x p c e, left p c h k)
   | inr e ↦
-      let same = ap (λ (row : List (ℕ × ℕ)). left_in row (place_of classes c)) (takes.others p (λ s. e (sym s))) in
+      let same = takes.others p (place_of classes c) (λ s. e (sym s)) in
       omega (arith, same, sum_other xs x p c e, left p c h k)
 ]
 
 -- and gives it back
-pub left_less : (all : List Provider) (classes : List (List ℕ)) (rows new : List (Vec Room)) (xs : List Placed) (x : Placed)
-    → Each (λ need. IsKnown classes need.0) x.slot.needs → Takes new x.provider (map (numbered classes) x.slot.needs) rows
-    → AreLeft all classes rows (xs ++ x ∷ []) → AreLeft all classes new xs
-left_less all classes rows new xs x known takes left p c h k = elim (cases_eq x.provider p) [
+pub left_less : (all : List Provider) (classes : List (List ℕ)) (columns new : List (List ℕ)) (xs : List Placed) (x : Placed)
+    → Each (λ need. IsKnown classes need.0) x.slot.needs → Moves columns x.provider [] (map (numbered classes) x.slot.needs) new
+    → AreLeft all classes columns (xs ++ x ∷ []) → AreLeft all classes new xs
+left_less all classes columns new xs x known takes left p c h k = elim (cases_eq x.provider p) [
   | inl e ↦
-      let here = subst (λ (r : ℕ). left_in (row_of rows r) (place_of classes c) + wanted (map (numbered classes) x.slot.needs) (place_of classes c) ≡ left_in (row_of new r) (place_of classes c)) e (takes.here (place_of classes c)) in
+      let here = subst (λ (r : ℕ). left_at new r (place_of classes c) + 0 ≡ left_at columns r (place_of classes c) + wanted (map (numbered classes) x.slot.needs) (place_of classes c)) e (takes.here (place_of classes c)) in
       omega (arith, here, wanted_is classes x.slot.needs c known, sum_here xs x p c e, left p c h k)
   | inr e ↦
-      let same = ap (λ (row : List (ℕ × ℕ)). left_in row (place_of classes c)) (takes.others p (λ s. e (sym s))) in
+      let same = takes.others p (place_of classes c) (λ s. e (sym s)) in
       omega (arith, same, sum_other xs x p c e, left p c h k)
 ]
 
--- ---- What asks want of a row
+-- ---- What asks want of a provider
 
-wanted_at : (row : List (ℕ × ℕ)) (asks ns : List (ℕ × ℕ)) (k : ℕ) → list_all (λ a. nat_le (wanted asks a.0) (left_in row a.0)) ns ≡ true → 0 < wanted ns k → wanted asks k ≤ left_in row k
+wanted_at : (row : ℕ → ℕ) (asks ns : List (ℕ × ℕ)) (k : ℕ) → list_all (λ a. nat_le (wanted asks a.0) (row a.0)) ns ≡ true → 0 < wanted ns k → wanted asks k ≤ row k
 wanted_at row asks [] k h some = absurd (omega arith)
 wanted_at row asks (a ∷ ns) k h some =
     let both = and_parts _ _ h in
     elim (cases_eq a.0 k) [
       | inl e ↦
-          let test : nat_le (wanted asks a.0) (left_in row a.0) ≡ true = both.0 in
-          let less : wanted asks a.0 ≤ left_in row a.0 = grind (arith, nat_tests) in
-          subst (λ (j : ℕ). wanted asks j ≤ left_in row j) e less
+          let test : nat_le (wanted asks a.0) (row a.0) ≡ true = both.0 in
+          let less : wanted asks a.0 ≤ row a.0 = grind (arith, nat_tests) in
+          subst (λ (j : ℕ). wanted asks j ≤ row j) e less
       | inr e ↦ let other = ne_eqb a.0 k e in let more = rw other at some in wanted_at row asks ns k both.1 (omega (arith, more))
     ]
 
-pub wanted_fits : (row : List (ℕ × ℕ)) (asks : List (ℕ × ℕ)) (k : ℕ) → suffices row asks ≡ true → wanted asks k ≤ left_in row k
+pub wanted_fits : (row : ℕ → ℕ) (asks : List (ℕ × ℕ)) (k : ℕ) → suffices row asks ≡ true → wanted asks k ≤ row k
 wanted_fits row asks k h = elim (cases_lt 0 (wanted asks k)) [ inl l ↦ wanted_at row asks asks k h l | inr l ↦ omega (arith, l) ]
 
 -- what is wanted of a number is wanted of a class that has it

@@ -1,12 +1,12 @@
 -- In a candidate, the providers that a list of `same_subtree` names stand in one part.
-use Rattle.std.proofs.Common.{inl, inr, ◌⊎◌, ◌≤◌, rules, ◌≡◌, ◌∙◌, ℕ, ◌<◌, zero, suc, Bool, true, false, List, [], ◌∷◌, ◌++◌, length, map, take, drop, Option, None, Some, refl, sym, ap, subst, arith, slice_index, slice_index_or, get_or, length-take-le, length-append}
+use Rattle.std.proofs.Common.{inl, inr, ◌⊎◌, ◌≤◌, rules, ◌≡◌, ◌∙◌, ℕ, ◌<◌, zero, suc, Bool, true, false, List, [], ◌∷◌, ◌++◌, length, map, take, drop, Option, None, Some, refl, sym, ap, subst, arith, slice_index, slice_index_or, get_or, length-take-le}
 use Rattle.std.specs.Prelude.{◌==◌, IfSome}
 use Rattle.std.specs.Option.{option_map, unwrap_or}
 use Rattle.std.specs.List.{list_any}
 use Rattle.std.specs.Global.{Vec}
 use Rattle.std.proofs.Math.Seq.{drop-cons}
 use Rattle.std.proofs.lemmas.Bool.{cases_Bool, cases_eq, cases_order, eq-eqb, ne_eqb, false≢true}
-use Rattle.std.proofs.lemmas.List.{get_or_past, take-append-drop, get_or-map, get_or_append_left, get_or_push}
+use Rattle.std.proofs.lemmas.List.{get_or_past, take-append-drop, get_or-map}
 use Rattle.std.proofs.lemmas.List.Folds.{list_all_at}
 use Rattle.std.proofs.lemmas.List.Elements.{recursion_from_All}
 use Rattle.ac_query.specs.Asked.{Asked, Slot, slots_of, lists_suffix}
@@ -19,7 +19,7 @@ use Rattle.ac_rules.specs.Placed.{Placed, placed, slot_at, no_slot, assigned}
 use Rattle.ac_rules.specs.Together.{listed, is_top, subtree}
 use Rattle.ac_rules.specs.Judge.{tests, all_hold, is_candidate}
 use Rattle.ac_prune.specs.Trees.Keys.{is_there}
-use Rattle.ac_prune.specs.Search.{choices_at, IsDead}
+use Rattle.ac_prune.specs.Search.{choices_at}
 use Rattle.ac_prune.specs.QuerySearch.{choice_of, choices_of, search_of}
 use Rattle.ac_prune.specs.Parts.{IsNamed, AreParts, AreTops, AreLinked, KeepSeen}
 use Rattle.ac_rules.proofs.Elements.{Among}
@@ -195,10 +195,9 @@ linked_parts all order asked k tops parts h size marked links = record {
 
 -- ---- Parts in which each slot has a choice
 
-pub seen_parts : (all : List Provider) (asked : Asked) (names : List (List ℕ)) (old new : List ℕ) (s : ℕ) (serves : ℕ → Bool) → IsNamed asked names s → AreParts all asked names old
-    → ((t : List ℕ) → IsListBelow (length all) (length (slots_of asked)) t → is_candidate all asked t ≡ true → serves (slice_index t s) ≡ true)
-    → KeepSeen old (choice_of all asked (slot_at asked s)) serves new → AreParts all asked names new
-seen_parts all asked names old new s serves named was served keeps = record {
+pub seen_parts : (all : List Provider) (asked : Asked) (names : List (List ℕ)) (old new : List ℕ) (s : ℕ) → IsNamed asked names s → AreParts all asked names old
+    → KeepSeen old (choice_of all asked (slot_at asked s)) new → AreParts all asked names new
+seen_parts all asked names old new s named was keeps = record {
   count = keeps.count ∙ was.count;
   within = λ t u list candidate other. omega (arith, stays t u list candidate other, was.within t u list candidate other);
   one = λ t u v list candidate other third. stays t u list candidate other ∙ (was.one t u v list candidate other third ∙ sym (stays t v list candidate third));
@@ -207,7 +206,7 @@ seen_parts all asked names old new s serves named was served keeps = record {
     stays : (t : List ℕ) (u : ℕ) → IsListBelow (length all) (length (slots_of asked)) t → is_candidate all asked t ≡ true → IsNamed asked names u → slice_index new (slice_index t u) ≡ slice_index old (slice_index t u)
     stays t u list candidate other =
         let place = place_of (choice_of all asked (slot_at asked s)) (slice_index t s) (choice_there all asked t s list candidate named.0) in
-        keeps.kept (slice_index t u) place.0 (omega (arith, each_low all asked t u list other.0, was.count)) place.1 (subst (λ (x : ℕ). serves x ≡ true) (sym (place.2 0)) (served t list candidate)) (ap (slice_index old) (place.2 0) ∙ was.one t s u list candidate named other)
+        keeps.kept (slice_index t u) place.0 (omega (arith, each_low all asked t u list other.0, was.count)) place.1 (ap (slice_index old) (place.2 0) ∙ was.one t s u list candidate named other)
 
 -- ---- Who can't stand with a front
 

@@ -8,7 +8,7 @@ use Rattle.std.proofs.lemmas.Slice.Eq.{bytes_eq-Decides}
 use Rattle.std.proofs.lemmas.Bool.{cases_Bool, and_parts, and_from, false≢true, false_from_ne_true}
 use Rattle.std.proofs.lemmas.List.Folds.{list_all-append}
 use Rattle.std.proofs.lemmas.List.{get_or-map, take_more}
-use Rattle.std.proofs.lemmas.List.Elements.{All-from_recursion, recursion_from_All}
+use Rattle.std.proofs.lemmas.List.Elements.{All-from_recursion}
 use Rattle.std.proofs.lemmas.List.FromFn.{length-range_with_len, get_or-range_with_len}
 use Rattle.std.proofs.lemmas.Bool.Decides.{nat_tests}
 use Rattle.ac_query.specs.Asked.{Asked, Slot, slots_of}
@@ -17,11 +17,9 @@ use Rattle.ac_prune.specs.Marks.{AreHits, needs_own}
 use Rattle.ac_prune.specs.Search.{IsDead}
 use Rattle.ac_rules.specs.Placed.{Placed, placed, slot_at, no_slot, assigned}
 use Rattle.ac_rules.specs.Together.{amount_of, sum_on, holds, takes_root, hosts_all, anchor}
-use Rattle.ac_rules.specs.Judge.{is_candidate}
-use Rattle.ac_rules.specs.Lists.{IsListBelow}
 use Rattle.ac_prune.specs.QuerySearch.{fits, choice_of, search_of}
-use Rattle.ac_prune.specs.Left.{ask_pair, numbered, wanted, left_in, place_of, IsKnown, row_of, has_each}
-use Rattle.ac_prune.specs.Left.Accounts.{providers_in, asked_in, texts_in, Accounts}
+use Rattle.ac_prune.specs.Left.{ask_pair, numbered, wanted, left_at, place_of, IsKnown}
+use Rattle.ac_prune.specs.Left.Accounts.{providers_in, asked_in, texts_in, columns_in, Accounts}
 use Rattle.ac_prune.specs.Loads.{AreServing}
 use Rattle.ac_prune.specs.Ahead.{load_of, hosts_of, IsHosted, left_on, asks_much, lone_much, serves, AreHosts, AreRoots}
 use Rattle.ac_prune.specs.declared.ledger.Ledger.{Ledger}
@@ -30,15 +28,14 @@ use Rattle.ac_rules.proofs.Elements.{Among, each_weaker, each_filter}
 use Rattle.ac_rules.proofs.EachSlot.AnchorLemmas.{each_range, hosts_list, any_filter}
 use Rattle.ac_prune.proofs.Paths.MarkLemmas.{all_hit}
 use Rattle.ac_rules.proofs.EachSlot.FrontLemmas.{Opens}
-use Rattle.ac_rules.proofs.SlotLemmas.{each_at}
-use Rattle.ac_prune.proofs.Paths.LeftLemmas.{each_suffices, wanted_is, holds_less}
+use Rattle.ac_prune.proofs.Paths.LeftLemmas.{wanted_is}
 use Rattle.ac_prune.proofs.Search.OpenLemmas.{each_choice}
 use Rattle.ac_prune.proofs.Search.SoughtLemmas.{place_of as place_of_choice}
-use Rattle.ac_prune.proofs.Paths.LedgerLemmas.{slot_rises, known_in, asks_at, lone_at}
+use Rattle.ac_prune.proofs.Paths.LedgerLemmas.{known_in, asks_at, lone_at}
 use Rattle.ac_prune.proofs.Roots.CountLemmas.{load_of_append}
-use Rattle.ac_prune.proofs.Paths.BearLemmas.{left_bears, pieces_bear, lone_bears, each_serves}
+use Rattle.ac_prune.proofs.Paths.BearLemmas.{left_bears, pieces_bear, lone_bears}
 use Rattle.ac_prune.proofs.Roots.PartLemmas.{choice_there}
-use Rattle.ac_prune.proofs.Roots.HostLemmas.{rooms_reach, behind_hosts, candidate_open, candidate_parts}
+use Rattle.ac_prune.proofs.Roots.HostLemmas.{rooms_reach, behind_hosts, candidate_parts}
 
 pub if_ok : {X E : Type 0} (P Q : X → Type 0) (r : Result X E) → ((x : X) → P x → Q x) → IfOk r P → IfOk r Q
 if_ok P Q (Ok x) f h = f x h
@@ -75,17 +72,17 @@ asks_in l c = ap (load_of (λ a. wanted a (place_of (texts_in l) c))) l.asked
 
 -- the rows of a root's providers reach what all slots ask
 pub class_hosted : (l : Ledger) (r : ℕ) (t : List ℕ) (c : List ℕ) → Accounts l [] → IsKnown (texts_in l) c → IsHosted (providers_in l) (asked_in l) r t
-    → load_of (λ s. amount_of s.needs c) (slots_of (asked_in l)) ≤ load_of (λ p. left_in (row_of l.rows.items p) (place_of (texts_in l) c)) (hosts_of (providers_in l) r)
+    → load_of (λ s. amount_of s.needs c) (slots_of (asked_in l)) ≤ load_of (λ p. left_at (columns_in l) p (place_of (texts_in l) c)) (hosts_of (providers_in l) r)
 class_hosted l r t c accounts known hosted =
     let all = providers_in l in
     let asked = asked_in l in
     let reach = rooms_reach all asked [] t r (λ s. amount_of s.needs c) (λ p. left_on all asked [] c p) (left_bears all asked [] c) hosted in
-    let same = load_within (λ p. left_on all asked [] c p) (λ p. left_in (row_of l.rows.items p) (place_of (texts_in l) c)) (length all) (hosts_of all r) (hosts_low all r)
+    let same = load_within (λ p. left_on all asked [] c p) (λ p. left_at (columns_in l) p (place_of (texts_in l) c)) (length all) (hosts_of all r) (hosts_low all r)
     (λ p h. omega (arith, accounts.left p c h known)) in
     omega (arith, reach, same)
 
 pub class_keeps : (l : Ledger) (old new : List Bool) (rooms : List ℕ) (k most : ℕ) (c : List ℕ) → IsKnown (texts_in l) c → Accounts l [] → AreHosts (providers_in l) (asked_in l) old
-    → k ≡ place_of (texts_in l) c → ((p : ℕ) → p < length l.rows.items → slice_index rooms p ≡ left_in (row_of l.rows.items p) k)
+    → k ≡ place_of (texts_in l) c → ((p : ℕ) → p < length (providers_in l) → slice_index rooms p ≡ left_at (columns_in l) p k)
     → most ≤ load_of (λ a. wanted a k) (map (λ (v : Vec Ask). map ask_pair v.items) l.asks.items)
     → ((r : ℕ) → r < length (providers_in l) → slice_index_or new r false ≡ (slice_index_or old r false && nat_le most (load_of (λ p. slice_index rooms p) (hosts_of (providers_in l) r))))
     → AreHosts (providers_in l) (asked_in l) new
@@ -95,8 +92,8 @@ class_keeps l old new rooms k most c known accounts was number col less is =
     keeps all asked old new (λ r. nat_le most (load_of (λ p. slice_index rooms p) (hosts_of all r))) was is
     (λ r t h hosted.
     let reach = class_hosted l r t c accounts known hosted in
-    let same = load_within (λ p. left_in (row_of l.rows.items p) (place_of (texts_in l) c)) (λ p. slice_index rooms p) (length all) (hosts_of all r) (hosts_low all r)
-    (λ p low. let at = col p (omega (arith, low, l.as_many)) in let there = ap (left_in (row_of l.rows.items p)) number in omega (arith, at, there)) in
+    let same = load_within (λ p. left_at (columns_in l) p (place_of (texts_in l) c)) (λ p. slice_index rooms p) (length all) (hosts_of all r) (hosts_low all r)
+    (λ p low. let at = col p low in let there = ap (left_at (columns_in l) p) number in omega (arith, at, there)) in
     let asks = asks_in l c in
     let wants : most ≤ load_of (λ s. amount_of s.needs c) (slots_of asked) = omega (arith, asks, rw number at less) in
     let enough : most ≤ load_of (λ p. slice_index rooms p) (hosts_of all r) = omega (arith, wants, reach, same) in
@@ -131,45 +128,12 @@ placed_holds P (x ∷ ss) [] s size h each = absurd (omega (arith, size))
 placed_holds P (x ∷ ss) (p ∷ t) zero size h each = each.0
 placed_holds P (x ∷ ss) (p ∷ t) (suc s) size h each = placed_holds P ss t s (omega (arith, size)) (omega (arith, h)) each.1
 
--- a row has for a slot what its provider holds
-holds_suffice : (l : Ledger) (p : ℕ) (needs ns : List (List ℕ × ℕ)) → p < length (providers_in l) → Accounts l [] → Each (λ need. IsKnown (texts_in l) need.0) needs → Each (λ need. IsKnown (texts_in l) need.0) ns
-    → list_all (λ (need : List ℕ × ℕ). holds (provider_at (providers_in l) p) need.0 (sum_on (assigned (asked_in l) []) p need.0 + amount_of needs need.0)) ns ≡ true
-    → list_all (λ (a : ℕ × ℕ). nat_le (wanted (map (numbered (texts_in l)) needs) a.0) (left_in (row_of l.rows.items p) a.0)) (map (numbered (texts_in l)) ns) ≡ true
-holds_suffice l p needs [] low accounts all known h = refl
-holds_suffice l p needs (n ∷ ns) low accounts all known h =
-    let asked_here = sum_on (assigned (asked_in l) []) p n.0 + amount_of needs n.0 in
-    let both = and_parts (holds (provider_at (providers_in l) p) n.0 asked_here) (list_all (λ (need : List ℕ × ℕ). holds (provider_at (providers_in l) p) need.0 (sum_on (assigned (asked_in l) []) p need.0 + amount_of needs need.0)) ns) h in
-    let less = holds_less (providers_in l) p n.0 asked_here both.0 in
-    let is = wanted_is (texts_in l) needs n.0 all in
-    let room = accounts.left p n.0 low known.0 in
-    let fits : wanted (map (numbered (texts_in l)) needs) (place_of (texts_in l) n.0) ≤ left_in (row_of l.rows.items p) (place_of (texts_in l) n.0) = omega (arith, less, is, room) in
-    and_from _ _ (grind (arith, nat_tests)) (holds_suffice l p needs ns low accounts all known.1 both.1)
-
 -- a provider that serves a slot before anything is placed fits it, and holds what it asks
 pub served_fits : (all : List Provider) (asked : Asked) (slot : Slot) (p : ℕ) → serves all asked [] slot p ≡ true
     → (fits all (record { slot = slot; provider = p }) ≡ true)
     × (list_all (λ (need : List ℕ × ℕ). holds (provider_at all p) need.0 (sum_on (assigned asked []) p need.0 + amount_of slot.needs need.0)) slot.needs ≡ true)
 unfolding serves
 served_fits all asked slot p h = and_parts _ _ h
-
--- the row of a provider that serves a slot has enough for it
-pub row_serves : (l : Ledger) (s p : ℕ) (asks : List (ℕ × ℕ)) → s < length (slots_of (asked_in l)) → Accounts l [] → p < length (providers_in l) → serves (providers_in l) (asked_in l) [] (slot_at (asked_in l) s) p ≡ true
-    → asks ≡ map (numbered (texts_in l)) (slot_at (asked_in l) s).needs → has_each (row_of l.rows.items p) asks ≡ true
-row_serves l s p asks h accounts low serve want =
-    let slot = slot_at (asked_in l) s in
-    let both = served_fits (providers_in l) (asked_in l) slot p serve in
-    subst (λ (ns : List (ℕ × ℕ)). has_each (row_of l.rows.items p) ns ≡ true) (sym want)
-    (each_suffices (texts_in l) (row_of l.rows.items p) slot.needs (known_in l s h) (slot_rises l.query.now s h) ∙ holds_suffice l p slot.needs slot.needs low accounts (known_in l s h) (known_in l s h) both.1)
-
--- so does that of a candidate's provider
-pub candidate_row : (l : Ledger) (s : ℕ) (asks : List (ℕ × ℕ)) → s < length (slots_of (asked_in l)) → Accounts l [] → asks ≡ map (numbered (texts_in l)) (slot_at (asked_in l) s).needs
-    → (t : List ℕ) → IsListBelow (length (providers_in l)) (length (slots_of (asked_in l))) t → is_candidate (providers_in l) (asked_in l) t ≡ true → has_each (row_of l.rows.items (slice_index t s)) asks ≡ true
-candidate_row l s asks h accounts want t list candidate =
-    let all = providers_in l in
-    let asked = asked_in l in
-    let serve = each_serves all asked [] t (candidate_open all asked t candidate) in
-    let low : slice_index t s < length all = each_at (λ p. p < length all) t s 0 (recursion_from_All (λ p. p < length all) t list.below) (omega (arith, h, list.long)) in
-    row_serves l s (slice_index t s) asks h accounts low (placed_holds (λ slot p. serves all asked [] slot p ≡ true) (slots_of asked) t s list.long h serve) want
 
 -- at a root at which a candidate stands some choice of a slot is available
 pub slot_hosted : (l : Ledger) (r : ℕ) (t : List ℕ) (s : ℕ) (choices rooms : List ℕ) → s < length (slots_of (asked_in l)) → IsHosted (providers_in l) (asked_in l) r t
@@ -249,7 +213,7 @@ count_in l c a = ap (load_of (λ n. if nat_le a (wanted n (place_of (texts_in l)
     ∙ asks_count (texts_in l) c a (slots_of (asked_in l)) (each_index (λ s. Each (λ need. IsKnown (texts_in l) need.0) s.needs) (slots_of (asked_in l)) no_slot (known_in l))
 
 pub pieces_keep : (l : Ledger) (old new : List Bool) (pieces : List ℕ) (k a most : ℕ) (c : List ℕ) → 0 < a → IsKnown (texts_in l) c → Accounts l [] → AreHosts (providers_in l) (asked_in l) old
-    → k ≡ place_of (texts_in l) c → ((p : ℕ) → p < length (providers_in l) → slice_index pieces p ≡ left_in (row_of l.rows.items p) k / a)
+    → k ≡ place_of (texts_in l) c → ((p : ℕ) → p < length (providers_in l) → slice_index pieces p ≡ left_at (columns_in l) p k / a)
     → most ≤ load_of (λ n. if nat_le a (wanted n k) then 1 else 0) (map (λ (v : Vec Ask). map ask_pair v.items) l.asks.items)
     → ((r : ℕ) → r < length (providers_in l) → slice_index_or new r false ≡ (slice_index_or old r false && nat_le most (load_of (λ p. slice_index pieces p) (hosts_of (providers_in l) r))))
     → AreHosts (providers_in l) (asked_in l) new
@@ -261,7 +225,7 @@ pieces_keep l old new pieces k a most c some known accounts was number col less 
     let reach = rooms_reach all asked [] t r (asks_much c a) (λ p. left_on all asked [] c p / a) (pieces_bear all asked [] c a some) hosted in
     let same = load_within (λ p. left_on all asked [] c p / a) (λ p. slice_index pieces p) (length all) (hosts_of all r) (hosts_low all r)
     (λ p low.
-    let left : left_on all asked [] c p ≡ left_in (row_of l.rows.items p) k = let there = ap (left_in (row_of l.rows.items p)) number in omega (arith, accounts.left p c low known, there) in
+    let left : left_on all asked [] c p ≡ left_at (columns_in l) p k = let there = ap (left_at (columns_in l) p) number in omega (arith, accounts.left p c low known, there) in
     let one : left_on all asked [] c p / a ≡ slice_index pieces p = ap (λ (n : ℕ). n / a) left ∙ sym (col p low) in
     omega (arith, one)) in
     let asks = count_in l c a in
@@ -270,7 +234,7 @@ pieces_keep l old new pieces k a most c some known accounts was number col less 
     grind (arith, nat_tests))
 
 pub lone_keep : (l : Ledger) (old new : List Bool) (ones : List ℕ) (k a most : ℕ) (c : List ℕ) → 0 < a → IsKnown (texts_in l) c → Accounts l [] → AreHosts (providers_in l) (asked_in l) old
-    → k ≡ place_of (texts_in l) c → ((p : ℕ) → p < length (providers_in l) → slice_index ones p ≡ min (left_in (row_of l.rows.items p) k / a) 1)
+    → k ≡ place_of (texts_in l) c → ((p : ℕ) → p < length (providers_in l) → slice_index ones p ≡ min (left_at (columns_in l) p k / a) 1)
     → most ≤ load_of (lone_much (asked_in l) c a) (slots_of (asked_in l))
     → ((r : ℕ) → r < length (providers_in l) → slice_index_or new r false ≡ (slice_index_or old r false && nat_le most (load_of (λ p. slice_index ones p) (hosts_of (providers_in l) r))))
     → AreHosts (providers_in l) (asked_in l) new
@@ -282,7 +246,7 @@ lone_keep l old new ones k a most c some known accounts was number col wants is 
     let reach = rooms_reach all asked [] t r (lone_much asked c a) (λ p. min (left_on all asked [] c p / a) 1) (lone_bears all asked [] c a some) hosted in
     let same = load_within (λ p. min (left_on all asked [] c p / a) 1) (λ p. slice_index ones p) (length all) (hosts_of all r) (hosts_low all r)
     (λ p low.
-    let left : left_on all asked [] c p ≡ left_in (row_of l.rows.items p) k = let there = ap (left_in (row_of l.rows.items p)) number in omega (arith, accounts.left p c low known, there) in
+    let left : left_on all asked [] c p ≡ left_at (columns_in l) p k = let there = ap (left_at (columns_in l) p) number in omega (arith, accounts.left p c low known, there) in
     let one : min (left_on all asked [] c p / a) 1 ≡ slice_index ones p = ap (λ (n : ℕ). min (n / a) 1) left ∙ sym (col p low) in
     omega (arith, one)) in
     let enough : most ≤ load_of (λ p. slice_index ones p) (hosts_of all r) = omega (arith, wants, reach, same) in

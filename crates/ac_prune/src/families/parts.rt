@@ -7,14 +7,12 @@ ghost use Rattle.ac_query.specs.Asked.{slots_of, lists_suffix};
 ghost use Rattle.ac_query.specs.Shown.Queries.{asked_of};
 ghost use Rattle.ac_cloud.specs.Cloud.CloudWorld.{providers_of};
 ghost use Rattle.ac_rules.specs.Placed.{slot_at};
-ghost use Rattle.ac_prune.specs.Left.Accounts.{asked_in, Accounts};
-ghost use Rattle.ac_prune.specs.Left.{ask_pair, row_of, has_each};
+ghost use Rattle.ac_prune.specs.Left.Accounts.{asked_in};
 ghost use Rattle.ac_prune.specs.Loads.{choice_in, choices_in, ArePartsIn};
 ghost use Rattle.ac_prune.specs.Parts.{AreParts, AreTops, AreMarked, IsLinked, AreLinked, KeepSeen};
 ghost use Rattle.ac_prune.specs.QuerySearch.{choices_of};
 
 use crate::ledger::Ledger;
-use crate::ledger::rooms::{Ask, Room, has_each};
 use ac_base::NoMemory;
 use ac_query::Query;
 use ac_rules::slots::{count_slots, is_listed};
@@ -194,20 +192,17 @@ fn all_parts(
     Ok(vec![in alloc; 0u32; cloud.len() as usize]?)
 }
 
-// Marks the parts in which a provider of a list stands that has room for what is asked.
-fn mark_parts(marks: &mut [bool], parts: &[u32], list: &[u32], rows: &[Vec<Room>], asks: &[Ask])
-    requires list { All (λ p. p < length parts.now) list.now }
-    requires rows { length rows.now ≡ length parts.now }
+// Marks the parts in which the providers of a list stand.
+fn mark_parts(marks: &mut [bool], parts: &[u32], list: &[u32])
+    requires { All (λ p. p < length parts.now) list.now }
     ensures count { length marks.new ≡ length marks.old }
     ensures marked { (j : ℕ) → j < length list.now
-        → has_each (row_of rows.now (slice_index list.now j)) (map ask_pair asks.now) ≡ true
         → slice_index parts.now (slice_index list.now j) < length marks.old
         → slice_index_or marks.new (slice_index parts.now (slice_index list.now j)) true ≡ true }
 {
     for ix in list {
-        let at = *ix as usize;
-        let part = parts[at] as usize;
-        if part < marks.len() && has_each(&rows[at], asks) {
+        let part = parts[*ix as usize] as usize;
+        if part < marks.len() {
             marks[part] = true;
         }
     }
@@ -228,27 +223,18 @@ fn keep_marked(parts: &mut [u32], marks: &[bool], none: u32)
     }
 }
 
-// Keeps the parts in which some choice of a slot stands that has room for what is asked.
-fn keep_seen(
-    alloc: Global,
-    parts: &mut [u32],
-    list: &[u32],
-    rows: &[Vec<Room>],
-    asks: &[Ask],
-    none: u32,
-) -> Result<(), NoMemory>
-    requires parts { length parts.old ≡ length rows.now }
-    requires list { All (λ p. p < length rows.now) list.now }
-    ensures { IfOk result (λ _. KeepSeen parts.old list.now (λ p.
-        has_each (row_of rows.now p) (map ask_pair asks.now)) parts.new) }
+// Keeps the parts in which some provider of a list stands.
+fn keep_seen(alloc: Global, parts: &mut [u32], list: &[u32], none: u32) -> Result<(), NoMemory>
+    requires { All (λ p. p < length parts.old) list.now }
+    ensures { IfOk result (λ _. KeepSeen parts.old list.now parts.new) }
 {
-    let mut marks = vec![in alloc; false; rows.len()]?;
-    mark_parts(&mut marks, parts, list, rows, asks);
+    let mut marks = vec![in alloc; false; parts.len()]?;
+    mark_parts(&mut marks, parts, list);
     keep_marked(parts, &marks, none);
     Ok(())
 }
 
-// The same, where a list names the slot of which these are the choices.
+// Keeps the parts in which some choice of a slot stands, where a list names the slot.
 fn keep_slot(
     alloc: Global,
     ledger: &Ledger,
@@ -260,26 +246,18 @@ fn keep_slot(
     requires names { k < length (asked_in ledger.now).subtrees }
     requires slot { s < length (slots_of (asked_in ledger.now)) }
     requires list { list.now ≡ choice_in ledger.now s }
-    requires empty { Accounts ledger.now [] }
     requires parts { ArePartsIn ledger.now k parts.old }
     ensures { IfOk result (λ _. ArePartsIn ledger.now k parts.new) }
 {
     if !is_listed(ledger.query, k, s) {
         return Ok(());
     }
-    keep_seen(
-        alloc,
-        parts,
-        list,
-        &ledger.rows,
-        &ledger.asks[s],
-        ledger.cloud.len(),
-    )
+    keep_seen(alloc, parts, list, ledger.cloud.len())
 }
 
 /// For each provider the part of the forest in which it may stand with the others that a list of `same_subtree` names, or
 /// the number of all providers where it can't: some choice of a slot that the list names is above the whole part, and each
-/// of these slots has a choice in it that has room for the slot.
+/// of these slots has a choice in it.
 pub(crate) fn parts_of(
     alloc: Global,
     ledger: &Ledger,
@@ -288,7 +266,6 @@ pub(crate) fn parts_of(
 ) -> Result<Vec<u32>, NoMemory>
     requires list { k < length (asked_in ledger.now).subtrees }
     requires choices { map (λ v. v.items) choices.now ≡ choices_in ledger.now }
-    requires empty { Accounts ledger.now [] }
     ensures { IfOk result (λ parts. ArePartsIn ledger.now k parts.items) }
 {
     let mut parts = all_parts(alloc, ledger.cloud, ledger.query, k, choices)?;

@@ -1,18 +1,18 @@
 //! What is left of a class at each provider before anything is placed, and which roots have enough of it.
 
-ghost use Rattle.std.specs.Prelude.{◌≡◌, ◌<◌, ◌≤◌, [], length, IfOk};
+ghost use Rattle.std.specs.Prelude.{◌≡◌, ◌<◌, ◌≤◌, [], length, slice_index_or, IfOk};
 ghost use Rattle.ac_base.specs.Names.{class_bytes};
 ghost use Rattle.ac_query.specs.Asked.{slots_of};
-ghost use Rattle.ac_prune.specs.Left.Accounts.{providers_in, asked_in, texts_in, Accounts};
+ghost use Rattle.ac_prune.specs.Left.Accounts.{providers_in, asked_in, texts_in, columns_in, Accounts};
 ghost use Rattle.ac_prune.specs.Ahead.{load_of};
 ghost use Rattle.ac_prune.specs.Left.{wanted, place_of, IsKnown};
-ghost use Rattle.ac_prune.specs.Loads.{IsColumn, ArePieces, AreOnes, MayHost, pairs_of, is_much};
+ghost use Rattle.ac_prune.specs.Loads.{ArePieces, AreOnes, MayHost, pairs_of, is_much};
 ghost use Rattle.ac_rules.specs.Placed.{slot_at};
 
 use super::loads::limit;
 use super::{Budget, ClassTest};
 use crate::ledger::Ledger;
-use crate::ledger::rooms::{Ask, Room, left_in, number_of, wanted};
+use crate::ledger::rooms::{Ask, number_of, wanted};
 use ac_base::{ClassName, NoMemory};
 use ac_rules::slots::count_slots;
 use std::alloc::Global;
@@ -24,24 +24,12 @@ pub(crate) struct Column<'l, 'a> {
     class: &'a ClassName,
     // Its number among the classes of the ledger.
     number: usize,
-    rooms: Vec<u64>,
+    rooms: &'l [u64],
     ghost empty: { Accounts ledger.now [] },
     ghost known: { IsKnown (texts_in ledger.now) (class_bytes class.now) },
     ghost numbered: { number ≡ place_of (texts_in ledger.now) (class_bytes class.now) },
-    ghost as_many: { length rooms.items ≡ length (providers_in ledger.now) },
-    ghost left: { IsColumn ledger.now.rows.items number rooms.items },
-}
-
-// What is left of a class in each row.
-fn left_of(alloc: Global, rows: &[Vec<Room>], class: usize) -> Result<Vec<u64>, NoMemory>
-    ensures count { IfOk result (λ rooms. length rooms.items ≡ length rows.now) }
-    ensures rooms { IfOk result (λ rooms. IsColumn rows.now class rooms.items) }
-{
-    let mut rooms = Vec::new(alloc);
-    for row in rows {
-        rooms.push(left_in(row, class))?;
-    }
-    Ok(rooms)
+    ghost as_many: { length rooms.now ≡ length (providers_in ledger.now) },
+    ghost left: { rooms.now ≡ slice_index_or (columns_in ledger.now) number [] },
 }
 
 // What all slots ask of a class, or less where it is more than can be told.
@@ -97,23 +85,18 @@ impl<'l, 'a> Column<'l, 'a> {
     ghost use Rattle.ac_prune.specs.Loads.Columns.{is_lone, count_of_lone};
 
     /// Of a class that the query asks for.
-    pub(crate) fn new(
-        alloc: Global,
-        ledger: &'l Ledger<'a>,
-        class: &'a ClassName,
-    ) -> Result<Column<'l, 'a>, NoMemory>
+    pub(crate) fn new(ledger: &'l Ledger<'a>, class: &'a ClassName) -> Column<'l, 'a>
         requires empty { Accounts ledger.now [] }
         requires known { IsKnown (texts_in ledger.now) (class_bytes class.now) }
-        ensures { IfOk result (λ column. column.ledger ≡ ledger.entry) }
+        ensures { result.ledger ≡ ledger.entry }
     {
         let number = number_of(&ledger.classes, class);
-        let rooms = left_of(alloc, &ledger.rows, number)?;
-        Ok(Column {
+        Column {
             ledger,
             class,
             number,
-            rooms,
-        })
+            rooms: &ledger.columns[number],
+        }
     }
 
     // Drops the roots whose providers have less of the class than all slots ask.
@@ -122,7 +105,7 @@ impl<'l, 'a> Column<'l, 'a> {
         ensures { IfOk result (λ _. MayHost self.now.ledger.now may.new) }
     {
         let wanted = wanted_of(&self.ledger.asks, self.number);
-        limit(alloc, self.ledger.cloud, may, &self.rooms, wanted)
+        limit(alloc, self.ledger.cloud, may, self.rooms, wanted)
     }
 
     // Drops the roots whose providers have fewer pieces of an amount than slots ask so much or more.
@@ -131,7 +114,7 @@ impl<'l, 'a> Column<'l, 'a> {
         requires hosts { MayHost self.now.ledger.now may.old }
         ensures { IfOk result (λ _. MayHost self.now.ledger.now may.new) }
     {
-        let pieces = pieces(alloc, &self.rooms, amount)?;
+        let pieces = pieces(alloc, self.rooms, amount)?;
         let wanted = count_asking(&self.ledger.asks, self.number, amount);
         limit(alloc, self.ledger.cloud, may, &pieces, wanted)
     }
@@ -165,7 +148,7 @@ impl<'l, 'a> Column<'l, 'a> {
         requires hosts { MayHost self.now.ledger.now may.old }
         ensures { IfOk result (λ _. MayHost self.now.ledger.now may.new) }
     {
-        let pieces = pieces(alloc, &self.rooms, amount)?;
+        let pieces = pieces(alloc, self.rooms, amount)?;
         let ones = at_most_one(alloc, &pieces)?;
         limit(
             alloc,

@@ -1,14 +1,14 @@
-//! Rooms in plain numbers: what each provider can still give of each class that the slots ask for.
+//! Rooms in plain numbers: what each provider can still give of each class that the slots ask for, in a column for each class.
 
-ghost use Rattle.std.specs.Prelude.{◌≡◌, ◌+◌, ◌<◌, ◌≤◌, ◌^◌, ◌==◌, ℕ, List, length, map, [], if◌then◌else◌, IfOk};
-ghost use Rattle.std.specs.List.{AllByRecursion};
+ghost use Rattle.std.specs.Prelude.{◌≡◌, ◌+◌, ◌<◌, ◌≤◌, ◌^◌, ℕ, List, length, map, [], slice_index_or, IfOk};
+ghost use Rattle.std.specs.List.{All, AllByRecursion};
 ghost use Rattle.ac_base.specs.Names.{class_bytes};
 ghost use Rattle.ac_cloud.specs.Cloud.CloudWorld.{providers_of};
 ghost use Rattle.ac_query.specs.Asked.{slots_of};
 ghost use Rattle.ac_query.specs.Shown.Groups.{need_entry};
 ghost use Rattle.ac_query.specs.Shown.Queries.{asked_of};
 ghost use Rattle.ac_rules.specs.Placed.{slot_at};
-ghost use Rattle.ac_prune.specs.Left.{place_of, IsKnown, ask_pair, room_pair, numbered, wanted, place_in, left_in, IsThere, has_each, IsRow, AreRows, row_of, Takes, IsShape};
+ghost use Rattle.ac_prune.specs.Left.{place_of, IsKnown, ask_pair, numbered, wanted, has_each, left_at, rooms_of, AreSmall, Moves};
 
 use ac_base::{ClassName, NoMemory};
 use ac_query::{Need, Query};
@@ -22,13 +22,6 @@ use std::alloc::Global;
 pub(crate) struct Ask {
     pub(crate) class: usize,
     pub(crate) amount: u32,
-}
-
-/// What is left of a provider's room for a class, by the class's number.
-#[derive(Clone, Copy)]
-pub(crate) struct Room {
-    pub(crate) class: usize,
-    pub(crate) left: u64,
 }
 
 // The number of a class among classes; past the end where it isn't there.
@@ -111,28 +104,6 @@ fn asks_of(alloc: Global, classes: &[&ClassName], needs: &[Need]) -> Result<Vec<
     Ok(asks)
 }
 
-// The rooms of a provider, for those of the classes of which it has some left.
-fn rooms_of(
-    alloc: Global,
-    cloud: &Cloud,
-    ix: u32,
-    classes: &[&ClassName],
-) -> Result<Vec<Room>, NoMemory>
-    requires { ix < length (providers_of cloud.now) }
-    ensures { IfOk result (λ rooms.
-        IsRow (providers_of cloud.now) (map (λ c. class_bytes c.now) classes.now) ix
-        (map room_pair rooms.items)) }
-{
-    let mut rooms = Vec::new(alloc);
-    for (class, name) in classes.iter().enumerate() {
-        let left = room_at(cloud, ix, name).unwrap_or(0);
-        if left > 0 {
-            rooms.push(Room { class, left })?;
-        }
-    }
-    Ok(rooms)
-}
-
 /// What each slot asks.
 pub(crate) fn all_asks(
     alloc: Global,
@@ -150,52 +121,47 @@ pub(crate) fn all_asks(
     Ok(all)
 }
 
-/// The rooms of each provider.
-pub(crate) fn all_rooms(
+// The room of each provider for a class.
+fn column_of(alloc: Global, cloud: &Cloud, class: &ClassName) -> Result<Vec<u64>, NoMemory>
+    ensures rooms { IfOk result (λ column.
+        column.items ≡ rooms_of (providers_of cloud.now) (class_bytes class.now)) }
+    ensures small { IfOk result (λ _. AreSmall (providers_of cloud.now) (class_bytes class.now)) }
+{
+    let mut column = Vec::new(alloc);
+    for ix in 0..cloud.len() {
+        column.push(room_at(cloud, ix, class).unwrap_or(0))?;
+    }
+    Ok(column)
+}
+
+/// The rooms of all providers, a column for each class.
+pub(crate) fn all_columns(
     alloc: Global,
     cloud: &Cloud,
     classes: &[&ClassName],
-) -> Result<Vec<Vec<Room>>, NoMemory>
-    ensures { IfOk result (λ all.
-        AreRows (providers_of cloud.now) (map (λ c. class_bytes c.now) classes.now) all.items) }
+) -> Result<Vec<Vec<u64>>, NoMemory>
+    ensures rooms { IfOk result (λ all. map (λ column. column.items) all.items
+        ≡ map (λ c. rooms_of (providers_of cloud.now) (class_bytes c.now)) classes.now) }
+    ensures small { IfOk result (λ _. (k : ℕ) → k < length classes.now
+        → AreSmall (providers_of cloud.now)
+        (slice_index_or (map (λ c. class_bytes c.now) classes.now) k [])) }
 {
     let mut all = Vec::new(alloc);
-    for ix in 0..cloud.len() {
-        all.push(rooms_of(alloc, cloud, ix, classes)?)?;
+    for class in classes {
+        all.push(column_of(alloc, cloud, class)?)?;
     }
     Ok(all)
 }
 
-// The place of a class in a row; past the end where the row has nothing of it.
-fn place_in(row: &[Room], class: usize) -> usize
-    ensures { result ≡ place_in (map room_pair row.now) class }
-{
-    for (i, room) in row.iter().enumerate() {
-        if room.class == class {
-            return i;
-        }
-    }
-    row.len()
-}
-
-// What a row has left of a class.
-pub(crate) fn left_in(row: &[Room], class: usize) -> u64
-    ensures { result ≡ left_in (map room_pair row.now) class }
-{
-    let place = place_in(row, class);
-    if place < row.len() {
-        row[place].left
-    } else {
-        0
-    }
-}
-
-/// Whether a row has for each ask its amount.
-pub(crate) fn has_each(row: &[Room], asks: &[Ask]) -> bool
-    ensures { result ≡ has_each (map room_pair row.now) (map ask_pair asks.now) }
+/// Whether a provider has for each ask its amount.
+pub(crate) fn has_each(columns: &[Vec<u64>], ix: usize, asks: &[Ask]) -> bool
+    requires classes { All (λ a. a.class < length columns.now) asks.now }
+    requires provider { All (λ v. ix < length v.items) columns.now }
+    ensures { result ≡ has_each (left_at (map (λ v. v.items) columns.now) ix)
+        (map ask_pair asks.now) }
 {
     for ask in asks {
-        if left_in(row, ask.class) < u64::from(ask.amount) {
+        if columns[ask.class][ix] < u64::from(ask.amount) {
             return false;
         }
     }
@@ -215,84 +181,32 @@ pub(crate) fn wanted(asks: &[Ask], class: usize) -> u64
     total
 }
 
-// Takes what an ask wants of a row.
-fn take_ask(row: &mut [Room], ask: Ask)
-    requires { ask.amount ≤ left_in (map room_pair row.old) ask.class }
-    ensures takes { (k : ℕ) → left_in (map room_pair row.new) k +
-        (if ask.class == k then ask.amount else 0) ≡ left_in (map room_pair row.old) k }
-    ensures classes { map (λ r. r.class) row.new ≡ map (λ r. r.class) row.old }
-{
-    let place = place_in(row, ask.class);
-    if place < row.len() {
-        row[place].left -= u64::from(ask.amount);
-    }
-}
-
-// Takes what asks want of a row.
-fn take(row: &mut [Room], asks: &[Ask])
-    requires { (k : ℕ) → wanted (map ask_pair asks.now) k ≤ left_in (map room_pair row.old) k }
-    ensures takes { (k : ℕ) → left_in (map room_pair row.new) k + wanted (map ask_pair asks.now) k
-        ≡ left_in (map room_pair row.old) k }
-    ensures classes { map (λ r. r.class) row.new ≡ map (λ r. r.class) row.old }
-{
-    for ask in asks {
-        take_ask(row, *ask);
-    }
-}
-
-// Gives back what an ask wanted of a row.
-fn give_ask(row: &mut [Room], ask: Ask)
-    requires there { 0 < ask.amount → IsThere (map room_pair row.old) ask.class }
-    requires room { 0 < ask.amount → left_in (map room_pair row.old) ask.class + ask.amount
-        < 2 ^ 64 }
-    ensures gives { (k : ℕ) → left_in (map room_pair row.new) k
-        ≡ left_in (map room_pair row.old) k + (if ask.class == k then ask.amount else 0) }
-    ensures classes { map (λ r. r.class) row.new ≡ map (λ r. r.class) row.old }
-{
-    let place = place_in(row, ask.class);
-    if place < row.len() {
-        let left = row[place].left;
-        row[place].left = left + u64::from(ask.amount);
-    }
-}
-
-// Gives back what asks wanted of a row.
-fn give_back(row: &mut [Room], asks: &[Ask])
-    requires there { (k : ℕ) → 0 < wanted (map ask_pair asks.now) k
-        → IsThere (map room_pair row.old) k }
-    requires room { (k : ℕ) → 0 < wanted (map ask_pair asks.now) k
-        → left_in (map room_pair row.old) k + wanted (map ask_pair asks.now) k < 2 ^ 64 }
-    ensures gives { (k : ℕ) → left_in (map room_pair row.new) k
-        ≡ left_in (map room_pair row.old) k + wanted (map ask_pair asks.now) k }
-    ensures classes { map (λ r. r.class) row.new ≡ map (λ r. r.class) row.old }
-{
-    for ask in asks {
-        give_ask(row, *ask);
-    }
-}
-
-/// Takes what asks want of the row of one provider.
-pub(crate) fn take_row(rows: &mut Vec<Vec<Room>>, ix: usize, asks: &[Ask])
-    requires provider { ix < length rows.old.items }
+/// Takes what asks want of a provider.
+pub(crate) fn take(columns: &mut [Vec<u64>], ix: usize, asks: &[Ask])
+    requires classes { All (λ a. a.class < length columns.old) asks.now }
+    requires provider { All (λ v. ix < length v.items) columns.old }
     requires room { (k : ℕ) → wanted (map ask_pair asks.now) k
-        ≤ left_in (row_of rows.old.items ix) k }
-    ensures takes { Takes rows.old.items ix (map ask_pair asks.now) rows.new.items }
-    ensures shape { IsShape rows.old.items rows.new.items }
+        ≤ left_at (map (λ v. v.items) columns.old) ix k }
+    ensures { Moves (map (λ v. v.items) columns.old) ix (map ask_pair asks.now) []
+        (map (λ v. v.items) columns.new) }
 {
-    let row = &mut rows[ix];
-    take(row, asks);
+    for ask in asks {
+        columns[ask.class][ix] -= u64::from(ask.amount);
+    }
 }
 
-/// Gives back what asks wanted of the row of one provider.
-pub(crate) fn give_row(rows: &mut Vec<Vec<Room>>, ix: usize, asks: &[Ask])
-    requires provider { ix < length rows.old.items }
-    requires there { (k : ℕ) → 0 < wanted (map ask_pair asks.now) k
-        → IsThere (row_of rows.old.items ix) k }
+/// Gives back what asks wanted of a provider.
+pub(crate) fn give_back(columns: &mut [Vec<u64>], ix: usize, asks: &[Ask])
+    requires classes { All (λ a. a.class < length columns.old) asks.now }
+    requires provider { All (λ v. ix < length v.items) columns.old }
     requires room { (k : ℕ) → 0 < wanted (map ask_pair asks.now) k
-        → left_in (row_of rows.old.items ix) k + wanted (map ask_pair asks.now) k < 2 ^ 64 }
-    ensures takes { Takes rows.new.items ix (map ask_pair asks.now) rows.old.items }
-    ensures shape { IsShape rows.old.items rows.new.items }
+        → left_at (map (λ v. v.items) columns.old) ix k
+        + wanted (map ask_pair asks.now) k < 2 ^ 64 }
+    ensures { Moves (map (λ v. v.items) columns.old) ix [] (map ask_pair asks.now)
+        (map (λ v. v.items) columns.new) }
 {
-    let row = &mut rows[ix];
-    give_back(row, asks);
+    for ask in asks {
+        let left = columns[ask.class][ix];
+        columns[ask.class][ix] = left + u64::from(ask.amount);
+    }
 }

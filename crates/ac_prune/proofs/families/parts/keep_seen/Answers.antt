@@ -10,8 +10,8 @@ returns c =
     c.deref.ensures.value ∙ with_items_is c.in_ok-marks.marks c.mark_parts.new.marks (c.mark_parts.auto.marks ∙ omega (arith, were, c.in_ok-marks.marks.ok)) in
     record {
       count = c.keep_marked.ensures.count;
-      kept = λ p j inside among serves same.
+      kept = λ p j inside among same.
           c.keep_marked.ensures.kept p inside
           (subst (λ (l : List Bool). slice_index_or l (slice_index c.args.parts.now p) true ≡ true) (sym marks)
-          (seen_part c.deref_mut.result.now c.mark_parts.new.marks c.args.parts.now c.args.list.now p j c.mark_parts.ensures.count (c.mark_parts.ensures.marked j among serves) same));
+          (seen_part c.deref_mut.result.now c.mark_parts.new.marks c.args.parts.now c.args.list.now p j c.mark_parts.ensures.count (c.mark_parts.ensures.marked j among) same));
     }

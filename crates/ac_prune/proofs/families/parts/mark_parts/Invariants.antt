@@ -1,9 +1,8 @@
-use Rattle.std.proofs.Common.{◌≡◌, ◌<◌, ℕ, true, length, map, slice_index, slice_index_or}
-use Rattle.ac_prune.specs.Left.{ask_pair, row_of, has_each}
+use Rattle.std.proofs.Common.{◌≡◌, ◌<◌, ℕ, true, length, slice_index, slice_index_or}
 use Rattle.ac_prune.proofs.families.parts.mark_parts.Given as goal
 
 abbrev pub invariant-loop-ix : goal.invariant-loop-ix
 invariant-loop-ix l = record {
   count : length l.marks ≡ length l.fn.marks;
-  marked : (j : ℕ) → j < l.ix-index → has_each (row_of l.rows (slice_index l.list j)) (map ask_pair l.asks) ≡ true → slice_index l.parts (slice_index l.list j) < length l.fn.marks → slice_index_or l.marks (slice_index l.parts (slice_index l.list j)) true ≡ true;
+  marked : (j : ℕ) → j < l.ix-index → slice_index l.parts (slice_index l.list j) < length l.fn.marks → slice_index_or l.marks (slice_index l.parts (slice_index l.list j)) true ≡ true;
 }

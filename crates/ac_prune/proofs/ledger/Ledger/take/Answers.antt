@@ -2,38 +2,43 @@ use Rattle.std.proofs.Common.{◌≡◌, ◌<◌, ◌∙◌, ◌++◌, ◌∷◌
 use Rattle.std.specs.List.{All}
 use Rattle.std.proofs.lemmas.List.{with_items_is}
 use Rattle.ac_rules.specs.Placed.{placed_at, assigned, slot_at}
-use Rattle.ac_prune.specs.Left.{ask_pair, numbered, place_of, row_of, Takes, AreLeft}
+use Rattle.ac_prune.specs.Left.{ask_pair, numbered, Moves, AreLeft}
 use Rattle.ac_prune.specs.Marks.{AreMarks, AreHits}
-use Rattle.ac_prune.specs.Left.Accounts.{providers_in, asked_in, texts_in}
+use Rattle.ac_prune.specs.Left.Accounts.{providers_in, asked_in, texts_in, columns_in}
 use Rattle.ac_rules.proofs.EachSlot.AnchorLemmas.{anchors_within}
 use Rattle.ac_prune.proofs.Search.OpenLemmas.{placed_next}
-use Rattle.ac_prune.proofs.Paths.RoomLemmas.{there_same}
+use Rattle.ac_prune.proofs.Paths.ColumnLemmas.{items, sizes_items}
 use Rattle.ac_prune.proofs.Paths.LeftLemmas.{left_more}
-use Rattle.ac_prune.proofs.Paths.LedgerLemmas.{asks_at, lone_at, known_in, room_for, room_to_mark, room_to_hit, marks_next, hits_next}
+use Rattle.ac_prune.proofs.Paths.LedgerLemmas.{asks_at, asks_low, provider_low, lone_at, known_in, room_for, room_to_mark, room_to_hit, marks_next, hits_next}
 use Rattle.ac_prune.proofs.ledger.Ledger.take.Goals as goal
 
-pub take_row-requires-clause-room : goal.take_row-requires-clause-room
-take_row-requires-clause-room c = λ k.
+pub take-requires : goal.take-requires
+take-requires c =
     let l = c.args.self.now in
-    let asks = ap (map ask_pair) c.deref.ensures.value ∙ asks_at l (length c.args.front.now) c.index.result.now c.requires.slots c.index.ensures in
-    rw asks (room_for l c.args.front.now c.args.ix k c.requires.slots c.requires.provider c.requires.accounts c.requires.open)
+    let q = c.args.front.now in
+    let asks = ap (map ask_pair) c.deref.ensures.value ∙ asks_at l (length q) c.index.result.now c.requires.slots c.index.ensures in
+    record {
+      classes = rw (c.deref_mut.ensures.value, c.deref.ensures.value) (asks_low l (length q) c.index.result.now c.requires.slots c.index.ensures);
+      provider = rw c.deref_mut.ensures.value (provider_low l c.args.ix c.requires.provider);
+      room = λ k. rw (c.deref_mut.ensures.value, asks) (room_for l q c.args.ix k c.requires.slots c.requires.provider c.requires.accounts c.requires.open);
+    }
 
 pub mark-requires-clause-room : goal.mark-requires-clause-room
 mark-requires-clause-room c =
     let few = room_to_mark c.args.self.now c.args.front.now c.args.ix c.requires.slots c.requires.provider c.requires.accounts in
-    rw c.deref_mut.ensures.value (omega (arith, few))
+    rw c.deref_mut-2.ensures.value (omega (arith, few))
 
 pub hit-requires-clause-within : goal.hit-requires-clause-within
 hit-requires-clause-within c =
     let l = c.args.self.now in
-    let size : length (providers_in l) ≡ length c.deref_mut-2.result.now = sym l.met ∙ sym (ap length c.deref_mut-2.ensures.value) in
+    let size : length (providers_in l) ≡ length c.deref_mut-3.result.now = sym l.met ∙ sym (ap length c.deref_mut-3.ensures.value) in
     subst (λ (n : ℕ). All (λ r. r < n) c.anchors.result.now) size (subst (All (λ r. r < length (providers_in l))) (sym c.anchors.ensures) (anchors_within (providers_in l) c.args.ix))
 
 pub hit-requires-clause-room : goal.hit-requires-clause-room
 hit-requires-clause-room c = λ r h.
     let l = c.args.self.now in
-    let within : r < length (providers_in l) = omega (arith, h, ap length c.deref_mut-2.ensures.value, l.met) in
-    rw (c.deref_mut-2.ensures.value, c.anchors.ensures) (room_to_hit l c.args.front.now c.args.ix r c.requires.slots within c.requires.accounts)
+    let within : r < length (providers_in l) = omega (arith, h, ap length c.deref_mut-3.ensures.value, l.met) in
+    rw (c.deref_mut-3.ensures.value, c.anchors.ensures) (room_to_hit l c.args.front.now c.args.ix r c.requires.slots within c.requires.accounts)
 
 pub returns-clause-accounts : goal.returns-clause-accounts
 returns-clause-accounts c =
@@ -45,32 +50,33 @@ returns-clause-accounts c =
     let x = placed_at asked (length q) p in
     let next = placed_next asked q p c.requires.slots in
     let asks = ap (map ask_pair) c.deref.ensures.value ∙ asks_at l (length q) c.index.result.now c.requires.slots c.index.ensures in
-    let takes : Takes l.rows.items p (map (numbered (texts_in l)) (slot_at asked (length q)).needs) c.take_row.new.rows.items = subst (λ (ns : List (ℕ × ℕ)). Takes l.rows.items p ns c.take_row.new.rows.items) asks c.take_row.ensures.takes in
-    let marks = with_items_is l.marks c.mark.new.marks (c.mark.auto.marks ∙ omega (arith, ap length c.deref_mut.ensures.value, l.marks.ok)) in
-    let hits = with_items_is l.hits c.hit.new.hits (c.hit.auto.hits ∙ omega (arith, ap length c.deref_mut-2.ensures.value, l.hits.ok)) in
+    let cols = with_items_is l.columns c.take.new.columns (c.take.auto.columns ∙ omega (arith, ap length c.deref_mut.ensures.value, l.columns.ok)) in
+    let moves : Moves (columns_in l) p (map (numbered (texts_in l)) (slot_at asked (length q)).needs) [] (items c.take.new.columns) = rw (c.deref_mut.ensures.value, asks) at c.take.ensures in
+    let marks = with_items_is l.marks c.mark.new.marks (c.mark.auto.marks ∙ omega (arith, ap length c.deref_mut-2.ensures.value, l.marks.ok)) in
+    let hits = with_items_is l.hits c.hit.new.hits (c.hit.auto.hits ∙ omega (arith, ap length c.deref_mut-3.ensures.value, l.hits.ok)) in
     record {
-      left = subst (AreLeft all (texts_in l) c.take_row.new.rows.items) (sym next) (left_more all (texts_in l) l.rows.items c.take_row.new.rows.items (assigned asked q) x (known_in l (length q) c.requires.slots) takes c.requires.accounts.left);
+      left = rw cols (subst (AreLeft all (texts_in l) (items c.take.new.columns)) (sym next) (left_more all (texts_in l) (columns_in l) (items c.take.new.columns) (assigned asked q) x (known_in l (length q) c.requires.slots) moves c.requires.accounts.left));
       marks = subst (λ (m : List ℕ). AreMarks all asked m (assigned asked (q ++ p ∷ []))) (sym marks)
-          (marks_next all asked q p c.index-2.result.now l.marks.items c.mark.new.marks c.requires.slots (lone_at l (length q) c.index-2.result.now c.requires.slots c.index-2.ensures) (rw c.deref_mut.ensures.value at c.mark.ensures) c.requires.accounts.marks);
-      hits = subst (λ (m : List ℕ). AreHits all m (q ++ p ∷ [])) (sym hits) (hits_next all q p l.hits.items c.hit.new.hits (rw (c.deref_mut-2.ensures.value, c.anchors.ensures) at c.hit.ensures) c.requires.accounts.hits);
+          (marks_next all asked q p c.index-2.result.now l.marks.items c.mark.new.marks c.requires.slots (lone_at l (length q) c.index-2.result.now c.requires.slots c.index-2.ensures) (rw c.deref_mut-2.ensures.value at c.mark.ensures) c.requires.accounts.marks);
+      hits = subst (λ (m : List ℕ). AreHits all m (q ++ p ∷ [])) (sym hits) (hits_next all q p l.hits.items c.hit.new.hits (rw (c.deref_mut-3.ensures.value, c.anchors.ensures) at c.hit.ensures) c.requires.accounts.hits);
     }
 
-pub invariant_of-self-clause-there : goal.invariant_of-self-clause-there
-invariant_of-self-clause-there c = λ p x h known some.
+pub invariant_of-self-clause-sized : goal.invariant_of-self-clause-sized
+invariant_of-self-clause-sized c =
     let l = c.args.self.now in
-    let new = c.take_row.new.rows.items in
-    there_same (row_of l.rows.items p) (row_of new p) (place_of (texts_in l) x) (sym (c.take_row.ensures.shape.classes p)) (l.there p x h known some)
+    let cols = with_items_is l.columns c.take.new.columns (c.take.auto.columns ∙ omega (arith, ap length c.deref_mut.ensures.value, l.columns.ok)) in
+    rw cols (sizes_items l.columns.items c.take.new.columns (rw c.deref_mut.ensures.value at c.take.ensures.sizes) ∙ l.sized)
 
 pub invariant_of-self-clause-marked : goal.invariant_of-self-clause-marked
 invariant_of-self-clause-marked c =
     let l = c.args.self.now in
-    let were = ap length c.deref_mut.ensures.value in
+    let were = ap length c.deref_mut-2.ensures.value in
     let items = with_items_is l.marks c.mark.new.marks (c.mark.auto.marks ∙ omega (arith, were, l.marks.ok)) in
     omega (arith, ap length items, c.mark.auto.marks, were, l.marked)
 
 pub invariant_of-self-clause-met : goal.invariant_of-self-clause-met
 invariant_of-self-clause-met c =
     let l = c.args.self.now in
-    let were = ap length c.deref_mut-2.ensures.value in
+    let were = ap length c.deref_mut-3.ensures.value in
     let items = with_items_is l.hits c.hit.new.hits (c.hit.auto.hits ∙ omega (arith, were, l.hits.ok)) in
     omega (arith, ap length items, c.hit.auto.hits, were, l.met)

@@ -1,5 +1,4 @@
-use Rattle.std.proofs.Common.{◌≡◌, ◌<◌, ◌≤◌, ◌++◌, ◌∷◌, [], ℕ, List, length, slice_index, slice_index_or, sym, subst, arith, length-append}
-use Rattle.ac_query.specs.Asked.{slots_of}
+use Rattle.std.proofs.Common.{◌≡◌, ◌++◌, ◌∷◌, [], List, length, slice_index, slice_index_or, sym, subst, arith, length-append}
 use Rattle.ac_prune.specs.Left.Accounts.{providers_in, asked_in}
 use Rattle.ac_prune.specs.QuerySearch.{choices_of, search_of}
 use Rattle.ac_prune.specs.Trees.{IsByTree, AreByTree}
