@@ -1,18 +1,21 @@
 -- Assignments with one request are the same.
-use Rattle.std.proofs.Common.{◌≡◌, ℕ, zero, suc, ◌+◌, ◌<◌, List, [], ◌∷◌, ◌++◌, take, drop, map, length, refl, sym, ap, ◌∙◌, Bool, true, false, Option, Some, None, if◌then◌else◌, nat_cmp, Ordering, Less, Equal, Greater, arith}
+use Rattle.std.proofs.Common.{◌≡◌, ℕ, zero, suc, ◌+◌, ◌<◌, List, [], ◌∷◌, ◌++◌, take, drop, map, length, length-append, refl, sym, ap, ◌∙◌, Bool, true, false, Option, Some, None, if◌then◌else◌, nat_cmp, Ordering, Less, Equal, Greater, arith}
 use Rattle.std.specs.Prelude.{nat_eq}
 use Rattle.std.specs.List.{All, AllByRecursion, filter}
 use Rattle.std.specs.Ordering.{is_eq}
 use Rattle.std.proofs.lemmas.Bool.{ne_eqb}
 use Rattle.std.proofs.lemmas.Cmp.{ranked}
 use Rattle.std.proofs.lemmas.Map.Text.{is_eq-slice_cmp}
-use Rattle.std.proofs.lemmas.List.{length-map, length-take, length-drop, take-append-drop}
+use Rattle.std.proofs.lemmas.List.Elements.{All-filter, filter-append}
+use Rattle.std.proofs.lemmas.List.{length-map, map-append, length-take, length-drop, take-append-drop}
 use Rattle.serde_json.specs.Data.{no_members}
+use Rattle.serde_json.specs.Find.{get_member}
 use Rattle.ac_base.specs.Texts.{text_cmp}
 use Rattle.ac_query.specs.Asked.{Asked, Slot, Group, slots_of, slots_from, class_slot}
 use Rattle.ac_query.specs.Laws.Gathered.{asked_by}
 use Rattle.ac_query.specs.Laws.InOrder.{AreNeeds, IsFirstPlain}
 use Rattle.ac_query.proofs.Pairs.Ordered.{query_in_order}
+use Rattle.ac_rules.proofs.PlacedLemmas.{placed_none}
 use Rattle.ac_rules.specs.Placed.{Placed, placed, assigned}
 use Rattle.ac_rules.specs.Together.{sum_on}
 use Rattle.ac_cloud.specs.Laws.{AreProviders}
@@ -23,7 +26,7 @@ use Rattle.ac_tables.proofs.ProvidersStated.{providers_in_order}
 use Rattle.ac_report.specs.Laws.{RequestsDiffer, StatedRequestsDiffer}
 use Rattle.ac_report.specs.Trees.{gathered, gives, hosts, allocations, mappings, mappings_from, provider_text, request}
 use Rattle.ac_report.proofs.Differing.{suffixed_agree, classes_agree}
-use Rattle.ac_report.proofs.Trees.Finding.{AreTold, find, hosts_agree, mappings_agree}
+use Rattle.ac_report.proofs.Trees.Finding.{AreTold, hosts_agree, mappings_agree}
 use Rattle.ac_report.proofs.Trees.FindingSums.{here, taken_of, sums_agree}
 use Rattle.ac_report.proofs.Trees.Gathering.{bytes_eq_refl}
 use Rattle.ac_report.proofs.Trees.Listed.{provider_texts_rise}
@@ -31,24 +34,13 @@ use Rattle.ac_report.proofs.SlotLemmas.{all_cons, all_hosts, all_rising, provide
 
 -- ---- slots in two parts
 
-placed_none : (ss : List Slot) → placed ss [] ≡ []
-placed_none [] = refl
-placed_none (s ∷ ss) = refl
-
 placed_parts : (xs ys : List Slot) (t : List ℕ) → placed (xs ++ ys) t ≡ placed xs (take (length xs) t) ++ placed ys (drop (length xs) t)
 placed_parts [] ys t = refl
 placed_parts (a ∷ xs) ys [] = sym (placed_none ys)
 placed_parts (a ∷ xs) ys (p ∷ t) = ap (λ l. record { slot = a; provider = p } ∷ l) (placed_parts xs ys t)
 
 hosts_parts : (xs ys : List Placed) (k : ℕ) → hosts (xs ++ ys) k ≡ hosts xs k ++ hosts ys k
-hosts_parts [] ys k = refl
-hosts_parts (x ∷ xs) ys k = by (nat_eq x.slot.place k) (hosts_parts xs ys k)
-  where
-    by : (b : Bool) → hosts (xs ++ ys) k ≡ hosts xs k ++ hosts ys k
-        → map (λ x. x.provider) (if b then x ∷ filter (λ x. nat_eq x.slot.place k) (xs ++ ys) else filter (λ x. nat_eq x.slot.place k) (xs ++ ys))
-        ≡ map (λ x. x.provider) (if b then x ∷ filter (λ x. nat_eq x.slot.place k) xs else filter (λ x. nat_eq x.slot.place k) xs) ++ hosts ys k
-    by true more = ap (λ l. x.provider ∷ l) more
-    by false more = more
+hosts_parts xs ys k = let here : Placed → Bool = λ x. nat_eq x.slot.place k in ap (map (λ x. x.provider)) (filter-append here xs ys) ∙ map-append (λ x. x.provider) (filter here xs) (filter here ys)
 
 sums_parts : (xs ys : List Placed) (ix : ℕ) (c : List ℕ) → sum_on (xs ++ ys) ix c ≡ sum_on xs ix c + sum_on ys ix c
 sums_parts [] ys ix c = omega arith
@@ -58,10 +50,7 @@ sums_parts (x ∷ xs) ys ix c = let e = sums_parts xs ys ix c in omega (arith, e
 class_hosts : (g : Group) (needs : List (List ℕ × ℕ)) (t : List ℕ) (k : ℕ) → 0 < k → hosts (placed (map (class_slot 0 g) needs) t) k ≡ []
 class_hosts g [] t k h = refl
 class_hosts g (need ∷ needs) [] k h = refl
-class_hosts g (need ∷ needs) (p ∷ t) k h =
-    ap (λ b. map (λ (x : Placed). x.provider) (if b then record { slot = class_slot 0 g need; provider = p } ∷ filter (λ x. nat_eq x.slot.place k) (placed (map (class_slot 0 g) needs) t) else filter (λ x. nat_eq x.slot.place k) (placed (map (class_slot 0 g) needs) t)))
-    (ne_eqb 0 k (λ e. omega (arith, e, h)))
-    ∙ class_hosts g needs t k h
+class_hosts g (need ∷ needs) (p ∷ t) k h = rw (ne_eqb 0 k (λ e. omega (arith, e, h))) (class_hosts g needs t k h)
 
 part_hosts : (g : Group) (gs : List (Option (List ℕ) × Group)) (t : List ℕ) (k : ℕ) → 0 < k
     → hosts (placed (slots_from 0 ((None, g) ∷ gs)) t) k ≡ hosts (placed (slots_from 1 gs) (drop (length (map (class_slot 0 g) g.needs)) t)) k
@@ -83,10 +72,6 @@ below_part n zero t a = tt
 below_part n (suc m) [] a = tt
 below_part n (suc m) (p ∷ t) a = (a 0 p (omega arith), below_part n m t (λ i d lt. a (suc i) d (omega arith)))
 
-length_parts : {X : Type 0} (xs ys : List X) → length (xs ++ ys) ≡ length xs + length ys
-length_parts [] ys = omega arith
-length_parts (a ∷ xs) ys = let e = length_parts xs ys in omega (arith, e)
-
 same_rest : (a b c d : ℕ) → a + c ≡ b + d → c ≡ d → a ≡ b
 same_rest a b c d e f = omega (arith, e, f)
 
@@ -103,7 +88,7 @@ agree ((None, g) ∷ gs) n t u first needs l m a h s =
     let cs = map (class_slot 0 g) g.needs in
     let size = length cs in
     let count : size ≡ length g.needs = length-map g.needs (class_slot 0 g) in
-    let whole : length (slots_from 0 ((None, g) ∷ gs)) ≡ size + length (slots_from 1 gs) = length_parts cs (slots_from 1 gs) in
+    let whole : length (slots_from 0 ((None, g) ∷ gs)) ≡ size + length (slots_from 1 gs) = length-append cs (slots_from 1 gs) in
     let rest : drop size t ≡ drop size u =
     suffixed_agree 1 gs (drop size t) (drop size u) first (omega (arith, length-drop size t, l, whole)) (omega (arith, length-drop size u, m, whole))
     (λ k low below. sym (ap (rising nat_cmp) (part_hosts g gs t k (omega (arith, low)))) ∙ h k (omega (arith, below)) ∙ ap (rising nat_cmp) (part_hosts g gs u k (omega (arith, low)))) in
@@ -128,14 +113,6 @@ told_by all are Greater p q o h k e = absurd (text_self (provider_text all q) (a
 
 are_told : (all : List Provider) → AreProviders all → AreTold all
 are_told all are p q h k e = told_by all are (nat_cmp p q) p q refl h k e
-
-all_filter : (P : ℕ → Type 0) (g : ℕ → Bool) (ps : List ℕ) → All P ps → All P (filter g ps)
-all_filter P g [] a = a
-all_filter P g (p ∷ ps) a = by (g p) (all_filter P g ps (λ i d lt. a (suc i) d (omega arith)))
-  where
-    by : (b : Bool) → All P (filter g ps) → All P (if b then p ∷ filter g ps else filter g ps)
-    by false more = more
-    by true more = all_cons P p (filter g ps) (a 0 p (omega arith)) more
 
 -- ---- the parts of a request
 
@@ -167,9 +144,9 @@ requests_differ all asked t u are order at au e =
     (λ k low. hosts_agree all told xs ys k (all_hosts P (slots_of asked) t k at.below) (all_hosts P (slots_of asked) u k au.below)
     (mappings_agree all xs ys 0 asked.groups no_members no_members order.names groups k (omega arith) (omega (arith, low))))
     (λ ix c low. sums_agree xs ys ix c
-    (sym (taken_of all told xs t ix (providers_are (slots_of asked) t at.long) low (all_filter P (λ ix. gives xs ix) (rising nat_cmp t) (all_rising P t at.below)))
-    ∙ ap (find (provider_text all ix)) taken
-    ∙ taken_of all told ys u ix (providers_are (slots_of asked) u au.long) low (all_filter P (λ ix. gives ys ix) (rising nat_cmp u) (all_rising P u au.below))))
+    (sym (taken_of all told xs t ix (providers_are (slots_of asked) t at.long) low (All-filter (λ ix. gives xs ix) P (rising nat_cmp t) (all_rising P t at.below)))
+    ∙ ap (get_member (provider_text all ix)) taken
+    ∙ taken_of all told ys u ix (providers_are (slots_of asked) u au.long) low (All-filter (λ ix. gives ys ix) P (rising nat_cmp u) (all_rising P u au.below))))
 
 pub stated_requests_differ : StatedRequestsDiffer
 stated_requests_differ tables version pairs t u =

@@ -17,21 +17,13 @@ hosts_before : (i k : ℕ) (gs : List (Option (List ℕ) × Group)) (t : List �
 hosts_before i k [] t s h = refl
 hosts_before i k ((None, g) ∷ gs) t s h = let no_suffix : false ≡ true = s.0 in absurd (cc)
 hosts_before i k ((Some n, g) ∷ gs) [] s h = refl
-hosts_before i k ((Some n, g) ∷ gs) (p ∷ t) s h =
-    ap (λ b. map (λ (x : Placed). x.provider) (if b then record { slot = suffix_slot i n g; provider = p } ∷ filter (λ x. nat_eq x.slot.place k) (placed (slots_from (i + 1) gs) t) else filter (λ x. nat_eq x.slot.place k) (placed (slots_from (i + 1) gs) t)))
-    (ne_eqb i k (λ e. omega (arith, e, h)))
-    ∙ hosts_before (i + 1) k gs t s.1 (omega arith)
+hosts_before i k ((Some n, g) ∷ gs) (p ∷ t) s h = rw (ne_eqb i k (λ e. omega (arith, e, h))) (hosts_before (i + 1) k gs t s.1 (omega arith))
 
 head_host : (i : ℕ) (n : List ℕ) (g : Group) (gs : List (Option (List ℕ) × Group)) (p : ℕ) (t : List ℕ) → AreSuffixed gs → hosts (placed (slots_from i ((Some n, g) ∷ gs)) (p ∷ t)) i ≡ p ∷ []
-head_host i n g gs p t s =
-    ap (λ b. map (λ (x : Placed). x.provider) (if b then record { slot = suffix_slot i n g; provider = p } ∷ filter (λ x. nat_eq x.slot.place i) (placed (slots_from (i + 1) gs) t) else filter (λ x. nat_eq x.slot.place i) (placed (slots_from (i + 1) gs) t)))
-    (eq-eqb i i refl)
-    ∙ ap (λ l. p ∷ l) (hosts_before (i + 1) i gs t s (omega arith))
+head_host i n g gs p t s = rw (eq-eqb i i refl) (ap (λ l. p ∷ l) (hosts_before (i + 1) i gs t s (omega arith)))
 
 later_host : (i k : ℕ) (n : List ℕ) (g : Group) (gs : List (Option (List ℕ) × Group)) (p : ℕ) (t : List ℕ) → i < k → hosts (placed (slots_from i ((Some n, g) ∷ gs)) (p ∷ t)) k ≡ hosts (placed (slots_from (i + 1) gs) t) k
-later_host i k n g gs p t h =
-    ap (λ b. map (λ (x : Placed). x.provider) (if b then record { slot = suffix_slot i n g; provider = p } ∷ filter (λ x. nat_eq x.slot.place k) (placed (slots_from (i + 1) gs) t) else filter (λ x. nat_eq x.slot.place k) (placed (slots_from (i + 1) gs) t)))
-    (ne_eqb i k (λ e. omega (arith, e, h)))
+later_host i k n g gs p t h = rw (ne_eqb i k (λ e. omega (arith, e, h))) refl
 
 -- suffixed groups have one provider each
 pub suffixed_agree : (i : ℕ) (gs : List (Option (List ℕ) × Group)) (t u : List ℕ) → AreSuffixed gs → length t ≡ length (slots_from i gs) → length u ≡ length (slots_from i gs)
@@ -57,13 +49,11 @@ sum_absent : (i : ℕ) (g : Group) (needs : List (List ℕ × ℕ)) (t : List �
     → sum_on (placed (map (class_slot i g) needs) t) ix c ≡ 0
 sum_absent i g [] t ix c h = refl
 sum_absent i g (need ∷ needs) [] ix c h = refl
-sum_absent i g (need ∷ needs) (p ∷ t) ix c h = by (nat_eq p ix) (bytes_eq need.0 c) h.0 (sum_absent i g needs t ix c h.1)
+sum_absent i g (need ∷ needs) (p ∷ t) ix c h = rw (h.0, sum_absent i g needs t ix c h.1) (none (nat_eq p ix))
   where
-    by : (b d : Bool) → d ≡ false → sum_on (placed (map (class_slot i g) needs) t) ix c ≡ 0
-        → (if b then ((if d then need.1 else 0) + 0) else 0) + sum_on (placed (map (class_slot i g) needs) t) ix c ≡ 0
-    by b true e more = absurd (cc)
-    by true false e more = omega (arith, more)
-    by false false e more = omega (arith, more)
+    none : (b : Bool) → (if b then 0 + 0 else 0) + 0 ≡ 0
+    none true = omega arith
+    none false = omega arith
 
 apart_turned : (c : List ℕ) (needs : List (List ℕ × ℕ)) → AllByRecursion (λ s. bytes_eq c s ≡ false) (map (λ need. need.0) needs) → AllByRecursion (λ need. bytes_eq need.0 c ≡ false) needs
 apart_turned c [] h = tt
@@ -72,10 +62,7 @@ apart_turned c (need ∷ needs) h = (eq_turned need.0 c ∙ h.0, apart_turned c 
 -- the head's share of its own class
 head_sum : (i : ℕ) (g : Group) (need : List ℕ × ℕ) (needs : List (List ℕ × ℕ)) (p : ℕ) (t : List ℕ) (ix : ℕ) → AllByRecursion (λ s. bytes_eq need.0 s ≡ false) (map (λ need. need.0) needs)
     → sum_on (placed (map (class_slot i g) (need ∷ needs)) (p ∷ t)) ix need.0 ≡ (if nat_eq p ix then need.1 else 0)
-head_sum i g need needs p t ix h =
-    ap (λ b. (if nat_eq p ix then ((if b then need.1 else 0) + 0) else 0) + sum_on (placed (map (class_slot i g) needs) t) ix need.0) (bytes_eq_refl need.0)
-    ∙ ap (λ n. (if nat_eq p ix then (need.1 + 0) else 0) + n) (sum_absent i g needs t ix need.0 (apart_turned need.0 needs h))
-    ∙ by (nat_eq p ix)
+head_sum i g need needs p t ix h = rw (bytes_eq_refl need.0, sum_absent i g needs t ix need.0 (apart_turned need.0 needs h)) (by (nat_eq p ix))
   where
     by : (b : Bool) → (if b then (need.1 + 0) else 0) + 0 ≡ (if b then need.1 else 0)
     by true = omega arith

@@ -1,11 +1,11 @@
 -- The written forms of ids rise as the ids do.
-use Rattle.std.proofs.Common.{◌≡◌, ◌⊎◌, inl, inr, ℕ, zero, suc, ◌/◌, ◌%◌, ◌^◌, ◌<◌, ◌≤◌, ◌==◌, ◌≢◌, eqb, ◌||◌, ◌∙◌, refl, sym, ap, ap₂, List, [], ◌∷◌, ◌++◌, true, false, if◌then◌else◌, Less, Equal, nat_cmp, lit<, arith}
+use Rattle.std.proofs.Common.{◌≡◌, ◌⊎◌, inl, inr, ℕ, zero, suc, ◌/◌, ◌%◌, ◌^◌, ◌<◌, ◌≤◌, ◌==◌, ◌||◌, ◌∙◌, refl, sym, ap, ap₂, List, [], ◌∷◌, ◌++◌, if◌then◌else◌, Less, Equal, nat_cmp, lit<, arith}
 use Rattle.std.specs.Int.{byte_at}
 use Rattle.std.specs.Cmp.{nat_cmp_is}
 use Rattle.std.specs.Ordering.{ordering_then}
-use Rattle.std.proofs.Math.Nat.{div-div-eq-div-mul, div-one, div-mul-le_self, pow-suc}
+use Rattle.std.proofs.Math.Nat.{eq-or-lt_of_le, div-div-eq-div-mul, div-one, div-mul-le_self, pow-suc}
 use Rattle.std.proofs.lemmas.Nat.{le-div}
-use Rattle.std.proofs.lemmas.Bool.Decides.{nat_tests, eqb_tells}
+use Rattle.std.proofs.lemmas.Bool.Decides.{nat_tests}
 use Rattle.uuid.specs.Text.{by_index, hex_digit, lower}
 use Rattle.ac_base.specs.Texts.{id_text, text_cmp}
 
@@ -45,22 +45,14 @@ front_same (x ∷ front) xs ys = first_same x x (front ++ xs) (front ++ ys) refl
 hex_rises : (x y : ℕ) → x < y → y < 16 → hex_digit lower x < hex_digit lower y
 hex_rises x y h k = grind (arith, nat_tests)
 
--- two that aren't in the wrong order are equal or in order
-pub at_most_cases : (a b : ℕ) → a ≤ b → (a < b) ⊎ (a ≡ b)
-at_most_cases a b h = told (eqb_tells a b)
-  where
-    told : ((eqb a b ≡ true) × (a ≡ b)) ⊎ ((eqb a b ≡ false) × (a ≢ b)) → (a < b) ⊎ (a ≡ b)
-    told (inl e) = inr e.1
-    told (inr d) = inl (omega (arith, h, d.1))
-
 -- the digits of a smaller byte are smaller
 byte_rises : (x y : ℕ) (xs ys : List ℕ) → x < y → y < 256 → text_cmp (with_byte x xs) (with_byte y ys) ≡ Less
-byte_rises x y xs ys h k = by_case (at_most_cases (x / 16 % 16) (y / 16 % 16) (omega arith))
+byte_rises x y xs ys h k = by_case (eq-or-lt_of_le (omega arith))
   where
-    by_case : (x / 16 % 16 < y / 16 % 16) ⊎ (x / 16 % 16 ≡ y / 16 % 16) → text_cmp (with_byte x xs) (with_byte y ys) ≡ Less
-    by_case (inl l) =
+    by_case : (x / 16 % 16 ≡ y / 16 % 16) ⊎ (x / 16 % 16 < y / 16 % 16) → text_cmp (with_byte x xs) (with_byte y ys) ≡ Less
+    by_case (inr l) =
         first_less (hex_digit lower (x / 16 % 16)) (hex_digit lower (y / 16 % 16)) (hex_digit lower (x % 16) ∷ xs) (hex_digit lower (y % 16) ∷ ys) (hex_rises (x / 16 % 16) (y / 16 % 16) l (omega arith))
-    by_case (inr e) =
+    by_case (inl e) =
         first_same (hex_digit lower (x / 16 % 16)) (hex_digit lower (y / 16 % 16)) (hex_digit lower (x % 16) ∷ xs) (hex_digit lower (y % 16) ∷ ys) (ap (hex_digit lower) e)
         ∙ first_less (hex_digit lower (x % 16)) (hex_digit lower (y % 16)) xs ys (hex_rises (x % 16) (y % 16) (omega (arith, e)) (omega arith))
 
@@ -84,13 +76,13 @@ tops_rise : (k m n : ℕ) → m < n → m / 256 ^ k ≤ n / 256 ^ k
 tops_rise k m n h = le-div (m / 256 ^ k) n (256 ^ k) (pow_positive k) (omega (arith, div-mul-le_self m (256 ^ k)))
 
 -- one more byte, where the bytes before it are the same
-digits_step : (k m n : ℕ) → m / 256 ^ suc k ≡ n / 256 ^ suc k → (m / 256 ^ k < n / 256 ^ k) ⊎ (m / 256 ^ k ≡ n / 256 ^ k)
+digits_step : (k m n : ℕ) → m / 256 ^ suc k ≡ n / 256 ^ suc k → (m / 256 ^ k ≡ n / 256 ^ k) ⊎ (m / 256 ^ k < n / 256 ^ k)
     → (m / 256 ^ k ≡ n / 256 ^ k → text_cmp (digits k m) (digits k n) ≡ Less) → text_cmp (digits (suc k) m) (digits (suc k) n) ≡ Less
-digits_step k m n e (inl l) more =
+digits_step k m n e (inr l) more =
     let tops : m / 256 ^ k / 256 ≡ n / 256 ^ k / 256 = sym (top_step k m) ∙ e ∙ top_step k n in
     let byte = byte_is k n in
     byte_rises (byte_at k m) (byte_at k n) (hyphen_before k ++ digits k m) (hyphen_before k ++ digits k n) (omega (arith, byte_is k m, byte, tops, l)) (omega (arith, byte))
-digits_step k m n e (inr s) more =
+digits_step k m n e (inl s) more =
     let byte : byte_at k m ≡ byte_at k n = byte_is k m ∙ ap (λ q. q % 256) s ∙ sym (byte_is k n) in
     ap (λ b. text_cmp (with_byte b (hyphen_before k ++ digits k m)) (with_byte (byte_at k n) (hyphen_before k ++ digits k n))) byte
     ∙ byte_same (byte_at k n) (hyphen_before k ++ digits k m) (hyphen_before k ++ digits k n)
@@ -100,7 +92,7 @@ digits_step k m n e (inr s) more =
 digits_rise : (k m n : ℕ) → m < n → m / 256 ^ k ≡ n / 256 ^ k → text_cmp (digits k m) (digits k n) ≡ Less
 digits_rise zero m n h e = absurd (omega (arith, sym (div-one m) ∙ e ∙ div-one n))
 digits_rise (suc k) m n h e =
-    digits_step k m n e (at_most_cases (m / 256 ^ k) (n / 256 ^ k) (tops_rise k m n h)) (digits_rise k m n h)
+    digits_step k m n e (eq-or-lt_of_le (tops_rise k m n h)) (digits_rise k m n h)
 
 -- smaller ids have smaller texts
 pub texts_rise : (m n : ℕ) → m < n → n < 2 ^ 128 → text_cmp (id_text m) (id_text n) ≡ Less

@@ -1,5 +1,6 @@
 -- The body of lists, piece by piece.
-use Rattle.std.proofs.Common.{◌≡◌, ℕ, List, [], ◌∷◌, ◌++◌, refl, sym, ap, ◌∙◌, Bool, true, false, map, length, append_assoc, append-nil, codes, arith}
+use Rattle.std.proofs.Common.{◌≡◌, ℕ, List, [], ◌∷◌, ◌++◌, refl, sym, ap, ◌∙◌, Bool, true, false, map, length, append_assoc, append-nil, codes}
+use Rattle.std.proofs.lemmas.Grind.{flat_map-append}
 use Rattle.std.specs.List.{list_any}
 use Rattle.serde_json.specs.Data.{Data, Items, array, object, string, Members, no_members, member}
 use Rattle.serde_json.specs.View.{items_of}
@@ -19,10 +20,6 @@ use Rattle.ac_report.proofs.Trees.Listed.{kept_listed, range_below, range_rises}
 
 abbrev pub page_text : List Provider → Asked → List (List ℕ) → List ℕ
 page_text all asked lists = head_text ++ (requests_text all asked false lists ++ (middle_text ++ (summaries_text all false (summarized all lists) ++ tail_text)))
-
-joined-append : (xs ys : List (List ℕ)) → joined (xs ++ ys) ≡ joined xs ++ joined ys
-joined-append [] ys = refl
-joined-append (x ∷ xs) ys = ap (λ l. x ++ l) (joined-append xs ys) ∙ sym (append_assoc x (joined xs) (joined ys))
 
 -- the items of an array
 items_joined : {X : Type 0} (g : X → Data) (later : Bool) (xs : List X) → items_text later (items_of (map g xs)) ≡ joined (with_commas later (map (λ x. compact_text (g x)) xs)) ++ 93 ∷ []
@@ -48,8 +45,8 @@ pub pieces_joined : (all : List Provider) (asked : Asked) (lists : List (List �
 pieces_joined all asked lists =
     let requests = with_commas false (map (request_text all asked) lists) in
     let summaries = with_commas false (map (summary_piece all) (summarized all lists)) in
-    ap (λ l. head_text ++ l) (joined-append requests (middle_text ∷ (summaries ++ tail_text ∷ []))
-    ∙ ap (λ l. joined requests ++ (middle_text ++ l)) (joined-append summaries (tail_text ∷ []) ∙ ap (λ l. joined summaries ++ l) (append-nil tail_text)))
+    ap (λ l. head_text ++ l) (flat_map-append (λ (t : List ℕ). t) requests (middle_text ∷ (summaries ++ tail_text ∷ []))
+    ∙ ap (λ l. joined requests ++ (middle_text ++ l)) (flat_map-append (λ (t : List ℕ). t) summaries (tail_text ∷ []) ∙ ap (λ l. joined summaries ++ l) (append-nil tail_text)))
 
 -- the fixed texts, by the names of the members
 abbrev requests_name : List ℕ
@@ -85,7 +82,7 @@ body_is all are asked lists =
     let named : ℕ → Named = λ ix. (provider_text all ix, summary all ix) in
     let places = summarized all lists in
     let ordered =
-    kept_listed all are (λ ix. list_any (meets_root all (root_of all (id_at all ix))) lists) (summary all) _ (range_rises 0 (length all)) (range_below 0 (length all) (length all) (omega arith)) in
+    kept_listed all are (summary all) (λ ix. list_any (meets_root all (root_of all (id_at all ix))) lists) _ (range_rises 0 (length all)) (range_below (length all)) in
     let requests = requests_text all asked false lists in
     let summaries = summaries_text all false places in
     let items : items_text false (items_of (map (request all asked) lists)) ≡ requests ++ 93 ∷ [] = items_joined (request all asked) false lists in

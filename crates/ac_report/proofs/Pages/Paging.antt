@@ -31,7 +31,7 @@ IsCounted gone count = count ≡ min gone 4294967295
 abbrev pub Gone : ℕ → Lists → Lists → Type 0
 Gone count old new = (gone : Lists) × (old ≡ gone ++ new) × IsCounted (length gone) count
 
-pub room_step : (limit : Option ℕ) (count : ℕ) → (limit ≡ Some count → ⊥) → IsRoom limit count → IsRoom limit (counted count)
+room_step : (limit : Option ℕ) (count : ℕ) → (limit ≡ Some count → ⊥) → IsRoom limit count → IsRoom limit (counted count)
 room_step None count more h = tt
 room_step (Some n) count more h =
     let apart : n ≡ count → ⊥ = λ e. more (ap (λ k. Some k) e) in
@@ -47,7 +47,7 @@ cut_step (Some n) count (y ∷ ls) x more h e =
     let m : n - count ≡ suc (n - counted count) = omega (arith, h.0, h.1, apart) in
     ap (λ k. take k (y ∷ ls)) m ∙ ap (λ z. z ∷ take (n - counted count) ls) s
 
-pub behind_step : (limit : Option ℕ) (count : ℕ) (ls : Lists) (x : List ℕ) → (limit ≡ Some count → ⊥) → IsRoom limit count → head_of ls ≡ Some x
+behind_step : (limit : Option ℕ) (count : ℕ) (ls : Lists) (x : List ℕ) → (limit ≡ Some count → ⊥) → IsRoom limit count → head_of ls ≡ Some x
     → behind (after limit count) ls ≡ behind (after limit (counted count)) (tail_of ls)
 behind_step limit count [] x more h e = absurd (cc)
 behind_step None count (y ∷ ls) x more h e = refl
@@ -57,7 +57,7 @@ behind_step (Some n) count (y ∷ ls) x more h e =
     ap (λ k. drop k (y ∷ ls)) m
 
 -- one more list is gone
-pub gone_step : (count : ℕ) (old ls : Lists) (x : List ℕ) → head_of ls ≡ Some x → Gone count old ls → Gone (counted count) old (tail_of ls)
+gone_step : (count : ℕ) (old ls : Lists) (x : List ℕ) → head_of ls ≡ Some x → Gone count old ls → Gone (counted count) old (tail_of ls)
 gone_step count old [] x e h = absurd (cc)
 gone_step count old (y ∷ ls) x e h =
     (h.0 ++ y ∷ [], h.1 ∙ sym (append_assoc h.0 (y ∷ []) ls), omega (arith, h.2, length-append h.0 (y ∷ [])))
@@ -76,11 +76,6 @@ loses_one limit count old (y ∷ ls) x e more room h =
     let P : ℕ → Type 0 = λ n. IsWithin n limit in
     (h.0 ++ y ∷ [], h.1 ∙ sym (append_assoc h.0 (y ∷ []) ls), subst P (sym (length-append h.0 (y ∷ []))) (within limit count (length h.0) room h.2 more))
 
--- the same, where the lists that are left are behind the one that was taken
-pub loses_next : (limit : Option ℕ) (count : ℕ) (old ls new : Lists) (x : List ℕ) → new ≡ tail_of ls → Some x ≡ head_of ls → (limit ≡ Some count → ⊥) → IsRoom limit count → Gone count old ls
-    → LosesSome limit old new
-loses_next limit count old ls new x tail head more room h = rw tail (loses_one limit count old ls x (sym head) more room h)
-
 take_short : (n : ℕ) (xs : Lists) → length (take n xs) ≤ n
 take_short zero [] = omega arith
 take_short (suc n) [] = omega arith
@@ -91,7 +86,7 @@ pub loses_page : (limit : Option ℕ) (old : Lists) → LosesSome limit old (beh
 loses_page None old = (old, sym (append-nil old), tt)
 loses_page (Some n) old = (take n old, sym (take-append-drop n old), take_short n old)
 
-pub count_step : (limit : Option ℕ) (ls : Lists) (x : List ℕ) (count all : ℕ) → (limit ≡ Some count → ⊥) → IsRoom limit count → head_of ls ≡ Some x
+count_step : (limit : Option ℕ) (ls : Lists) (x : List ℕ) (count all : ℕ) → (limit ≡ Some count → ⊥) → IsRoom limit count → head_of ls ≡ Some x
     → min (count + length (cut (after limit count) ls)) 4294967295 ≡ min all 4294967295
     → min (counted count + length (cut (after limit (counted count)) (tail_of ls))) 4294967295 ≡ min all 4294967295
 count_step limit ls x count all more room e h =
@@ -103,6 +98,33 @@ pub all_head : (P : List ℕ → Type 0) (ls : Lists) (x : List ℕ) → head_of
 all_head P [] x e h = absurd (cc)
 all_head P (y ∷ ls) x e h = let s : y ≡ x = cc in subst P s (h 0 y (omega arith))
 
-pub all_tail : (P : List ℕ → Type 0) (ls : Lists) → All P ls → All P (tail_of ls)
+all_tail : (P : List ℕ → Type 0) (ls : Lists) → All P ls → All P (tail_of ls)
 all_tail P [] h = h
 all_tail P (y ∷ ls) h = λ k d lt. h (suc k) d (omega arith)
+
+-- how far a page is, of which so many lists are written: the lists that are left, of those there were
+pub record IsPaged (P : List ℕ → Type 0) (limit : Option ℕ) (count : ℕ) (old ls : Lists) : Type 0 where
+  pub assigned : All P ls
+  pub left : behind (after limit count) ls ≡ behind limit old
+  pub number : min (count + length (cut (after limit count) ls)) 4294967295 ≡ min (length (cut limit old)) 4294967295
+  pub small : count ≤ 4294967295
+  pub room : IsRoom limit count
+  pub gone : Gone count old ls
+
+-- the next list is taken
+module _ (P : List ℕ → Type 0) (limit : Option ℕ) (count : ℕ) (old ls : Lists) (x : List ℕ) (more : limit ≡ Some count → ⊥) (head : Some x ≡ head_of ls) (h : IsPaged P limit count old ls) where
+  pub cut_next : cut (after limit count) ls ≡ x ∷ cut (after limit (counted count)) (tail_of ls)
+  cut_next = cut_step limit count ls x more h.room (sym head)
+
+  pub loses_next : (new : Lists) → new ≡ tail_of ls → LosesSome limit old new
+  loses_next new tail = rw tail (loses_one limit count old ls x (sym head) more h.room h.gone)
+
+  pub paged_next : IsPaged P limit (counted count) old (tail_of ls)
+  paged_next = record {
+    assigned = all_tail P ls h.assigned;
+    left = sym (behind_step limit count ls x more h.room (sym head)) ∙ h.left;
+    number = count_step limit ls x count _ more h.room (sym head) h.number;
+    small = omega arith;
+    room = room_step limit count more h.room;
+    gone = gone_step count old ls x (sym head) h.gone;
+  }

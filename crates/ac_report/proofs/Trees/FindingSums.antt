@@ -3,15 +3,18 @@ use Rattle.std.proofs.Common.{◌≡◌, ◌≢◌, ◌⊎◌, inl, inr, ℕ, su
 use Rattle.std.specs.Prelude.{bytes_eq, nat_eq}
 use Rattle.std.specs.List.{All, filter, list_any}
 use Rattle.std.proofs.lemmas.Slice.Eq.{bytes_eq-Decides}
+use Rattle.std.proofs.lemmas.Bool.{eqb-true}
 use Rattle.std.proofs.lemmas.Bool.Decides.{eqb_tells}
+use Rattle.std.proofs.lemmas.Map.Views.{any-filter_same}
 use Rattle.serde_json.specs.Data.{Data, Members, no_members, put, number, unsigned}
+use Rattle.serde_json.specs.Find.{get_member}
 use Rattle.ac_rules.specs.Placed.{Placed}
 use Rattle.ac_rules.specs.Together.{amount_of, sum_on, is_empty}
 use Rattle.ac_cloud.specs.World.{Provider}
 use Rattle.ac_base.specs.Sorted.{rising}
 use Rattle.ac_report.specs.Parts.{gathered_onto}
 use Rattle.ac_report.specs.Trees.{gathered, gives, needs_on, provider_text, sum, allocation}
-use Rattle.ac_report.proofs.Trees.Finding.{find, find_put, AreTold}
+use Rattle.ac_report.proofs.Trees.Finding.{find_put, AreTold}
 use Rattle.ac_base.proofs.Small.{eq_turned}
 use Rattle.ac_report.proofs.Trees.Gathering.{Named, bytes_eq_refl}
 use Rattle.ac_base.proofs.Sorted.SameItems.{member_rising}
@@ -23,49 +26,27 @@ here all xs ix = (provider_text all ix, allocation xs ix)
 one_by : (all : List Provider) → AreTold all → (xs : List Placed) (ix p : ℕ) (any : Bool) (rest : Option Data) → ix < length all → p < length all
     → ((eqb p ix ≡ true) × (p ≡ ix)) ⊎ ((eqb p ix ≡ false) × (p ≢ ix))
     → (if any then Some (allocation xs ix) else (if bytes_eq (provider_text all ix) (provider_text all p) then Some (allocation xs p) else rest)) ≡ (if (eqb p ix || any) then Some (allocation xs ix) else rest)
-one_by all told xs ix p any rest h k (inl s) =
-    ap (λ q. if any then Some (allocation xs ix) else (if bytes_eq (provider_text all ix) (provider_text all q) then Some (allocation xs q) else rest)) s.1
-    ∙ ap (λ b. if any then Some (allocation xs ix) else (if b then Some (allocation xs ix) else rest)) (bytes_eq_refl (provider_text all ix))
-    ∙ same any
-    ∙ ap (λ b. if (b || any) then Some (allocation xs ix) else rest) (sym s.0)
+one_by all told xs ix p any rest h k (inl s) = rw (s.0, s.1, bytes_eq_refl (provider_text all ix)) (same any)
   where
     same : (b : Bool) → (if b then Some (allocation xs ix) else Some (allocation xs ix)) ≡ Some (allocation xs ix)
     same true = refl
     same false = refl
-one_by all told xs ix p any rest h k (inr d) =
-    ap (λ b. if any then Some (allocation xs ix) else (if b then Some (allocation xs p) else rest)) (other (bytes_eq (provider_text all ix) (provider_text all p)) refl)
-    ∙ ap (λ b. if (b || any) then Some (allocation xs ix) else rest) (sym d.0)
+one_by all told xs ix p any rest h k (inr d) = rw (d.0, other (bytes_eq (provider_text all ix) (provider_text all p)) refl) refl
   where
     other : (b : Bool) → b ≡ bytes_eq (provider_text all ix) (provider_text all p) → bytes_eq (provider_text all ix) (provider_text all p) ≡ false
     other true e = absurd (d.1 (sym (told ix p h k ((bytes_eq-Decides (provider_text all ix) (provider_text all p)).0 (sym e)))))
     other false e = sym e
 
 find_rows : (all : List Provider) → AreTold all → (xs : List Placed) (ix : ℕ) (ps : List ℕ) (done : Members) → ix < length all → All (λ p. p < length all) ps
-    → find (provider_text all ix) (gathered_onto done (map (here all xs) ps)) ≡ (if list_any (λ p. nat_eq p ix) ps then Some (allocation xs ix) else find (provider_text all ix) done)
+    → get_member (provider_text all ix) (gathered_onto done (map (here all xs) ps)) ≡ (if list_any (λ p. nat_eq p ix) ps then Some (allocation xs ix) else get_member (provider_text all ix) done)
 find_rows all told xs ix [] done h a = refl
 find_rows all told xs ix (p ∷ ps) done h a =
     find_rows all told xs ix ps (put (provider_text all p) (allocation xs p) done) h (λ i d lt. a (suc i) d (omega arith))
     ∙ ap (λ r. if list_any (λ p. nat_eq p ix) ps then Some (allocation xs ix) else r) (find_put (provider_text all ix) (provider_text all p) (allocation xs p) done)
-    ∙ one_by all told xs ix p (list_any (λ p. nat_eq p ix) ps) (find (provider_text all ix) done) h (a 0 p (omega arith)) (eqb_tells p ix)
+    ∙ one_by all told xs ix p (list_any (λ p. nat_eq p ix) ps) (get_member (provider_text all ix) done) h (a 0 p (omega arith)) (eqb_tells p ix)
 
 any_kept : (g : ℕ → Bool) (ix : ℕ) (ps : List ℕ) → list_any (λ p. nat_eq p ix) (filter g ps) ≡ (g ix && list_any (λ p. nat_eq p ix) ps)
-any_kept g ix [] = none (g ix)
-  where
-    none : (b : Bool) → false ≡ (b && false)
-    none true = refl
-    none false = refl
-any_kept g ix (p ∷ ps) = by (eqb_tells p ix) (g p) refl (any_kept g ix ps)
-  where
-    found : (b a : Bool) → a ≡ (g ix && list_any (λ p. nat_eq p ix) ps) → b ≡ g ix → (if b then true else a) ≡ (g ix && true)
-    found true a e s = ap (λ b. b && true) s
-    found false a e s = e ∙ ap (λ b. b && list_any (λ p. nat_eq p ix) ps) (sym s) ∙ ap (λ b. b && true) s
-
-    by : ((eqb p ix ≡ true) × (p ≡ ix)) ⊎ ((eqb p ix ≡ false) × (p ≢ ix)) → (b : Bool) → b ≡ g p → list_any (λ p. nat_eq p ix) (filter g ps) ≡ (g ix && list_any (λ p. nat_eq p ix) ps)
-        → list_any (λ p. nat_eq p ix) (if b then p ∷ filter g ps else filter g ps) ≡ (g ix && (nat_eq p ix || list_any (λ p. nat_eq p ix) ps))
-    by (inl s) true e more = ap (λ b. b || list_any (λ p. nat_eq p ix) (filter g ps)) s.0 ∙ found true (list_any (λ p. nat_eq p ix) (filter g ps)) more (e ∙ ap g s.1) ∙ ap (λ b. g ix && (b || list_any (λ p. nat_eq p ix) ps)) (sym s.0)
-    by (inl s) false e more = found false (list_any (λ p. nat_eq p ix) (filter g ps)) more (e ∙ ap g s.1) ∙ ap (λ b. g ix && (b || list_any (λ p. nat_eq p ix) ps)) (sym s.0)
-    by (inr d) true e more = ap (λ b. b || list_any (λ p. nat_eq p ix) (filter g ps)) d.0 ∙ more ∙ ap (λ b. g ix && (b || list_any (λ p. nat_eq p ix) ps)) (sym d.0)
-    by (inr d) false e more = more ∙ ap (λ b. g ix && (b || list_any (λ p. nat_eq p ix) ps)) (sym d.0)
+any_kept g ix ps = any-filter_same (λ p. nat_eq p ix) g (g ix) (λ p same. ap g (eqb-true p ix same)) ps
 
 -- who gives is of the list
 giver_listed : (xs : List Placed) (t : List ℕ) (ix : ℕ) → map (λ x. x.provider) xs ≡ t → (gives xs ix && list_any (λ p. nat_eq p ix) t) ≡ gives xs ix
@@ -81,7 +62,7 @@ giver_listed xs t ix e = by (list_any (λ p. nat_eq p ix) t) refl
 
 -- what stands at a provider in `allocations`
 pub taken_of : (all : List Provider) → AreTold all → (xs : List Placed) (t : List ℕ) (ix : ℕ) → map (λ x. x.provider) xs ≡ t → ix < length all → All (λ p. p < length all) (filter (λ ix. gives xs ix) (rising nat_cmp t))
-    → find (provider_text all ix) (gathered (map (here all xs) (filter (λ ix. gives xs ix) (rising nat_cmp t)))) ≡ (if gives xs ix then Some (allocation xs ix) else None)
+    → get_member (provider_text all ix) (gathered (map (here all xs) (filter (λ ix. gives xs ix) (rising nat_cmp t)))) ≡ (if gives xs ix then Some (allocation xs ix) else None)
 taken_of all told xs t ix e h a =
     find_rows all told xs ix (filter (λ ix. gives xs ix) (rising nat_cmp t)) no_members h a
     ∙ ap (λ b. if b then Some (allocation xs ix) else None)
@@ -100,13 +81,13 @@ class_by xs ix c need true any rest e =
 class_by xs ix c need false any rest e = refl
 
 find_sum : (xs : List Placed) (ix : ℕ) (c : List ℕ) (needs : List (List ℕ × ℕ)) (done : Members)
-    → find c (gathered_onto done (map (sum xs ix) needs)) ≡ (if list_any (λ n. bytes_eq c n.0) needs then Some (number (unsigned (sum_on xs ix c))) else find c done)
+    → get_member c (gathered_onto done (map (sum xs ix) needs)) ≡ (if list_any (λ n. bytes_eq c n.0) needs then Some (number (unsigned (sum_on xs ix c))) else get_member c done)
 unfolding sum
 find_sum xs ix c [] done = refl
 find_sum xs ix c (need ∷ needs) done =
     find_sum xs ix c needs (put need.0 (number (unsigned (sum_on xs ix need.0))) done)
     ∙ ap (λ r. if list_any (λ n. bytes_eq c n.0) needs then Some (number (unsigned (sum_on xs ix c))) else r) (find_put c need.0 (number (unsigned (sum_on xs ix need.0))) done)
-    ∙ class_by xs ix c need (bytes_eq c need.0) (list_any (λ n. bytes_eq c n.0) needs) (find c done) refl
+    ∙ class_by xs ix c need (bytes_eq c need.0) (list_any (λ n. bytes_eq c n.0) needs) (get_member c done) refl
 
 amount_absent : (c : List ℕ) (needs : List (List ℕ × ℕ)) → list_any (λ n. bytes_eq c n.0) needs ≡ false → amount_of needs c ≡ 0
 amount_absent c [] h = refl
@@ -132,7 +113,7 @@ allocation_sums xs ys ix c e =
     let members : gathered (map (sum xs ix) (needs_on xs ix)) ≡ gathered (map (sum ys ix) (needs_on ys ix)) = cc in
     same_sums (list_any (λ n. bytes_eq c n.0) (needs_on xs ix)) (list_any (λ n. bytes_eq c n.0) (needs_on ys ix)) (sum_on xs ix c) (sum_on ys ix c)
     (λ h. sum_on_is xs ix c ∙ amount_absent c (needs_on xs ix) h) (λ h. sum_on_is ys ix c ∙ amount_absent c (needs_on ys ix) h)
-    (sym (find_sum xs ix c (needs_on xs ix) no_members) ∙ ap (find c) members ∙ find_sum ys ix c (needs_on ys ix) no_members)
+    (sym (find_sum xs ix c (needs_on xs ix) no_members) ∙ ap (get_member c) members ∙ find_sum ys ix c (needs_on ys ix) no_members)
 
 gives_nothing : (xs : List Placed) (ix : ℕ) (c : List ℕ) → gives xs ix ≡ false → sum_on xs ix c ≡ 0
 gives_nothing xs ix c h = sum_on_is xs ix c ∙ by (needs_on xs ix) h

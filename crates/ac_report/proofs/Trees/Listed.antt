@@ -1,12 +1,15 @@
 -- Members whose names rise stand in their order.
-use Rattle.std.proofs.Common.{◌≡◌, ◌∙◌, ◌<◌, ◌≤◌, ◌+◌, ℕ, zero, suc, List, [], ◌∷◌, ◌++◌, Bool, true, false, if◌then◌else◌, map, length, nat_cmp, Ordering, Less, Equal, Greater, refl, sym, ap, append_assoc, append-nil, subst, arith}
+use Rattle.std.proofs.Common.{◌≡◌, ◌∙◌, ◌<◌, ◌+◌, ℕ, zero, suc, List, [], ◌∷◌, ◌++◌, Bool, map, length, nat_cmp, Ordering, Less, Equal, Greater, refl, sym, ap, append_assoc, append-nil, subst, arith}
 use Rattle.std.specs.BTreeMap.{insert_entry}
-use Rattle.std.specs.List.{AllByRecursion, filter, range_with_len}
+use Rattle.std.specs.List.{All, AllByRecursion, filter, range_with_len}
 use Rattle.std.specs.List.Sorted.{IsStrictlySortedBy}
 use Rattle.std.specs.Map.{keys_of}
 use Rattle.std.specs.Cmp.{nat_cmp_is}
 use Rattle.std.specs.Ordering.{match_ordering, ordering_reverse}
 use Rattle.std.proofs.lemmas.Cmp.{nat_list_cmp_total, ranked}
+use Rattle.std.proofs.lemmas.List.Elements.{All-filter, recursion_from_All}
+use Rattle.std.proofs.lemmas.List.FromFn.{get_or-range_with_len, length-range_with_len}
+use Rattle.std.proofs.lemmas.List.Kept.{IsStrictlySortedBy-filter}
 use Rattle.serde_json.specs.Data.{Data, member, put}
 use Rattle.ac_base.specs.Texts.{text_cmp}
 use Rattle.ac_cloud.specs.Laws.{AreProviders}
@@ -58,33 +61,23 @@ listed_put (m ∷ ms) k d =
 pub provider_texts_rise : (all : List Provider) → AreProviders all → (p q : ℕ) → p < q → q < length all → text_cmp (provider_text all p) (provider_text all q) ≡ Less
 provider_texts_rise all are p q h k = texts_rise (id_at all p) (id_at all q) (are.order p q h k) (are.fit q k)
 
-module _ (all : List Provider) (are : AreProviders all) (t : ℕ → Bool) (g : ℕ → Data) where
+module _ (all : List Provider) (are : AreProviders all) (g : ℕ → Data) where
   abbrev there : ℕ → Named
   there ix = (provider_text all ix, g ix)
 
-  above_kept : (p : ℕ) (ps : List ℕ) → AllByRecursion (λ q. nat_cmp p q ≡ Less) ps → AllByRecursion (λ q. q < length all) ps
-      → AllByRecursion (λ k. text_cmp (provider_text all p) k ≡ Less) (keys_of (map there (filter t ps)))
-  above_kept p [] h b = tt
-  above_kept p (q ∷ ps) h b = by (t q) (provider_texts_rise all are p q (ranked p q Less (sym h.0)) b.0) (above_kept p ps h.1 b.1)
-    where
-      by : (c : Bool) → text_cmp (provider_text all p) (provider_text all q) ≡ Less → AllByRecursion (λ k. text_cmp (provider_text all p) k ≡ Less) (keys_of (map there (filter t ps)))
-          → AllByRecursion (λ k. text_cmp (provider_text all p) k ≡ Less) (keys_of (map there (if c then q ∷ filter t ps else filter t ps)))
-      by true here more = (here, more)
-      by false here more = more
+  texts_above : (p : ℕ) (ps : List ℕ) → AllByRecursion (λ q. nat_cmp p q ≡ Less) ps → AllByRecursion (λ q. q < length all) ps → AllByRecursion (λ k. text_cmp (provider_text all p) k ≡ Less) (keys_of (map there ps))
+  texts_above p [] h b = tt
+  texts_above p (q ∷ ps) h b = (provider_texts_rise all are p q (ranked p q Less (sym h.0)) b.0, texts_above p ps h.1 b.1)
 
-  kept_rise : (ps : List ℕ) → IsStrictlySortedBy nat_cmp ps → AllByRecursion (λ q. q < length all) ps → IsStrictlySortedBy text_cmp (keys_of (map there (filter t ps)))
+  names_rise : (ps : List ℕ) → IsStrictlySortedBy nat_cmp ps → AllByRecursion (λ q. q < length all) ps → IsStrictlySortedBy text_cmp (keys_of (map there ps))
   unfolding IsStrictlySortedBy
-  kept_rise [] h b = tt
-  kept_rise (p ∷ ps) h b = by (t p) (above_kept p ps h.0 b.1) (kept_rise ps h.1 b.1)
-    where
-      by : (c : Bool) → AllByRecursion (λ k. text_cmp (provider_text all p) k ≡ Less) (keys_of (map there (filter t ps))) → IsStrictlySortedBy text_cmp (keys_of (map there (filter t ps)))
-          → IsStrictlySortedBy text_cmp (keys_of (map there (if c then p ∷ filter t ps else filter t ps)))
-      by true here more = (here, more)
-      by false here more = more
+  names_rise [] h b = tt
+  names_rise (p ∷ ps) h b = (texts_above p ps h.0 b.1, names_rise ps h.1 b.1)
 
   -- the members of some that rise
-  pub kept_listed : (ps : List ℕ) → IsStrictlySortedBy nat_cmp ps → AllByRecursion (λ q. q < length all) ps → gathered (map there (filter t ps)) ≡ listed (map there (filter t ps))
-  kept_listed ps h b = gathered_listed (map there (filter t ps)) (kept_rise ps h b)
+  pub kept_listed : (t : ℕ → Bool) (ps : List ℕ) → IsStrictlySortedBy nat_cmp ps → All (λ q. q < length all) ps → gathered (map there (filter t ps)) ≡ listed (map there (filter t ps))
+  kept_listed t ps h b =
+      gathered_listed (map there (filter t ps)) (names_rise (filter t ps) (IsStrictlySortedBy-filter nat_cmp t ps h) (recursion_from_All (λ q. q < length all) (filter t ps) (All-filter t (λ q. q < length all) ps b)))
 
 range_above : (p first n : ℕ) → p < first → AllByRecursion (λ q. nat_cmp p q ≡ Less) (range_with_len first n)
 range_above p first zero h = tt
@@ -95,6 +88,5 @@ unfolding IsStrictlySortedBy
 range_rises first zero = tt
 range_rises first (suc n) = (range_above first (first + 1) n (omega arith), range_rises (first + 1) n)
 
-pub range_below : (first n m : ℕ) → first + n ≤ m → AllByRecursion (λ q. q < m) (range_with_len first n)
-range_below first zero m h = tt
-range_below first (suc n) m h = (omega arith, range_below (first + 1) n m (omega (arith, h)))
+pub range_below : (n : ℕ) → All (λ q. q < n) (range_with_len 0 n)
+range_below n i d h = rw (get_or-range_with_len 0 n i d (omega (arith, h, length-range_with_len 0 n))) (omega (arith, h, length-range_with_len 0 n))

@@ -1,6 +1,7 @@
 -- Marks of roots.
-use Rattle.std.proofs.Common.{◌≡◌, ◌≢◌, ◌⊎◌, inl, inr, ℕ, ◌<◌, List, Option, Some, refl, sym, ap, ◌∙◌, Bool, true, false, ◌||◌, eqb, length, get_or, nat_cmp, Ordering, Less, Equal, Greater, arith}
+use Rattle.std.proofs.Common.{◌≡◌, ◌≢◌, ◌⊎◌, inl, inr, ℕ, ◌<◌, List, ◌∷◌, refl, sym, ap, ◌∙◌, Bool, true, false, ◌||◌, eqb, length, get_or, nat_cmp, Ordering, Less, Equal, Greater, arith}
 use Rattle.std.specs.List.{list_any}
+use Rattle.std.proofs.Math.Bool.{or-false, or-true}
 use Rattle.std.proofs.Math.ListN.{set}
 use Rattle.std.proofs.lemmas.Bool.{eq-eqb, ne_eqb}
 use Rattle.std.proofs.lemmas.Bool.Decides.{eqb_tells}
@@ -8,11 +9,8 @@ use Rattle.std.proofs.lemmas.Cmp.{ranked}
 use Rattle.std.proofs.lemmas.List.{get_or-set_same, get_or-set_other}
 use Rattle.ac_cloud.specs.World.{Provider, id_at, root_of}
 use Rattle.ac_rules.specs.Laws.{AreInOrder}
-use Rattle.ac_rules.specs.Lists.{head_of, tail_of}
-use Rattle.ac_rules.specs.Pages.{cut}
 use Rattle.ac_report.specs.Marks.{has_root}
 use Rattle.ac_report.specs.Texts.{meets_root}
-use Rattle.ac_report.proofs.Pages.Paging.{after, counted, IsRoom, cut_step}
 
 apart_by : (all : List Provider) → AreInOrder all → (o : Ordering) (p q : ℕ) → o ≡ nat_cmp p q → p < length all → q < length all → (p ≡ q → ⊥) → id_at all p ≡ id_at all q → ⊥
 apart_by all order Less p q e k l d s = omega (arith, s, order p q (ranked p q Less e) l)
@@ -23,23 +21,15 @@ apart_by all order Greater p q e k l d s = omega (arith, s, order q p (ranked p 
 pub ids_apart : (all : List Provider) → AreInOrder all → (p q : ℕ) → p < length all → q < length all → (p ≡ q → ⊥) → id_at all p ≡ id_at all q → ⊥
 ids_apart all order p q k l d s = apart_by all order (nat_cmp p q) p q refl k l d s
 
-or_true : (b : Bool) → true ≡ b || true
-or_true true = refl
-or_true false = refl
-
-or_false : (b : Bool) → b ≡ b || false
-or_false true = refl
-or_false false = refl
-
 mark_at : (all : List Provider) → AreInOrder all → (marks : List Bool) (root ix r : ℕ) → length marks ≡ length all → root < length all → id_at all root ≡ root_of all (id_at all ix) → r < length marks
     → ((eqb r root ≡ true) × (r ≡ root)) ⊎ ((eqb r root ≡ false) × (r ≢ root)) → get_or (set marks root true) r false ≡ get_or marks r false || has_root all (id_at all r) ix
 mark_at all order marks root ix r long k is low (inl same) =
     let here : has_root all (id_at all r) ix ≡ true = eq-eqb (root_of all (id_at all ix)) (id_at all r) (sym is ∙ ap (id_at all) (sym same.1)) in
-    ap (λ n. get_or (set marks root true) n false) same.1 ∙ get_or-set_same marks root true false (omega (arith, long, k)) ∙ or_true (get_or marks r false) ∙ ap (λ b. get_or marks r false || b) (sym here)
+    rw (here, or-true) (ap (λ n. get_or (set marks root true) n false) same.1 ∙ get_or-set_same marks root true false (omega (arith, long, k)))
 mark_at all order marks root ix r long k is low (inr other) =
     let there : has_root all (id_at all r) ix ≡ false =
     ne_eqb (root_of all (id_at all ix)) (id_at all r) (λ e. ids_apart all order root r k (omega (arith, long, low)) (λ s. other.1 (sym s)) (is ∙ e)) in
-    get_or-set_other marks root r true false other.1 ∙ or_false (get_or marks r false) ∙ ap (λ b. get_or marks r false || b) (sym there)
+    rw (there, or-false) (get_or-set_other marks root r true false other.1)
 
 -- a root is marked
 pub mark_step : (all : List Provider) → AreInOrder all → (marks : List Bool) (root ix r : ℕ) → length marks ≡ length all → root < length all → id_at all root ≡ root_of all (id_at all ix) → r < length marks
@@ -52,7 +42,7 @@ or_step true x rest whole new h e = h ∙ ap (λ b. b || rest) (sym e)
 or_step false x rest whole new h e = h ∙ ap (λ b. b || rest) (sym e)
 
 -- the roots of one list more
-pub marks_step : (all : List Provider) (limit : Option ℕ) (count : ℕ) (ls : List (List ℕ)) (x : List ℕ) (r : ℕ) (whole m new : Bool) → (limit ≡ Some count → ⊥) → IsRoom limit count → head_of ls ≡ Some x
-    → whole ≡ (m || list_any (meets_root all r) (cut (after limit count) ls)) → new ≡ (m || meets_root all r x) → whole ≡ (new || list_any (meets_root all r) (cut (after limit (counted count)) (tail_of ls)))
-marks_step all limit count ls x r whole m new more room e h k =
-    or_step m (meets_root all r x) (list_any (meets_root all r) (cut (after limit (counted count)) (tail_of ls))) whole new (h ∙ ap (λ ps. m || list_any (meets_root all r) ps) (cut_step limit count ls x more room e)) k
+pub marks_step : (all : List Provider) (ls rest : List (List ℕ)) (x : List ℕ) (r : ℕ) (whole m new : Bool) → ls ≡ x ∷ rest
+    → whole ≡ (m || list_any (meets_root all r) ls) → new ≡ (m || meets_root all r x) → whole ≡ (new || list_any (meets_root all r) rest)
+marks_step all ls rest x r whole m new e h k =
+    or_step m (meets_root all r x) (list_any (meets_root all r) rest) whole new (h ∙ ap (λ ps. m || list_any (meets_root all r) ps) e) k

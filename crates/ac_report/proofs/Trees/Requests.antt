@@ -7,7 +7,6 @@ use Rattle.std.specs.Map.{keys_of}
 use Rattle.std.specs.Ordering.{match_ordering}
 use Rattle.std.proofs.lemmas.Cmp.{nat_cmp_total}
 use Rattle.std.proofs.lemmas.List.{drop_more}
-use Rattle.std.proofs.lemmas.List.Elements.{recursion_from_All}
 use Rattle.serde_json.specs.Data.{Data, object, number, unsigned, no_members, member, put}
 use Rattle.ac_base.specs.Texts.{id_text, text_cmp}
 use Rattle.ac_query.specs.Shown.Queries.{asked_of}
@@ -76,7 +75,7 @@ none_needed (need ∷ needs) = some_kept (need.0 ∷ []) (keys_of needs) refl
 pub allocations_listed : (all : List Provider) → AreProviders all → (xs : List Placed) (list : List ℕ) → All (λ ix. ix < length all) list
     → gathered (map (taken all xs) (filter (λ ix. gives xs ix) (rising nat_cmp list))) ≡ listed (map (taken all xs) (filter (λ ix. gives xs ix) (rising nat_cmp list)))
 allocations_listed all are xs list h =
-    kept_listed all are (λ ix. gives xs ix) (allocation xs) (rising nat_cmp list) (rising_sorted nat_cmp_total list) (recursion_from_All (λ ix. ix < length all) _ (all_rising (λ ix. ix < length all) list h))
+    kept_listed all are (allocation xs) (λ ix. gives xs ix) (rising nat_cmp list) (rising_sorted nat_cmp_total list) (all_rising (λ ix. ix < length all) list h)
 
 -- ---- what is gathered for a request
 

@@ -1,11 +1,10 @@
-use Rattle.std.proofs.Common.{◌≡◌, ◌≤◌, ◌+◌, min, length}
-use Rattle.std.specs.List.{All}
+use Rattle.std.proofs.Common.{◌≤◌, length}
 use Rattle.ac_query.specs.Shown.Queries.{asked_of}
 use Rattle.ac_rules.specs.Pages.{cut}
 use Rattle.ac_cloud.specs.Cloud.CloudWorld.{providers_of}
 use Rattle.ac_report.specs.Texts.{line}
-use Rattle.ac_report.specs.Pages.{IsAssignment, behind}
-use Rattle.ac_report.proofs.Pages.Paging.{after, IsRoom, Gone}
+use Rattle.ac_report.specs.Pages.{IsAssignment}
+use Rattle.ac_report.proofs.Pages.Paging.{IsPaged, after}
 use Rattle.ac_report.proofs.Pages.Wholes.{IsDone}
 use Rattle.ac_report.proofs.lines.write_tokens.Given as goal
 
@@ -17,12 +16,7 @@ invariant-lists g l =
     let asked = asked_of l.query in
     let wanted = after asked.limit l.count in
     record {
-      assigned : All (IsAssignment all asked) (left l.source);
-      behind : behind wanted (left l.source) ≡ behind asked.limit (left l.fn.source);
-      count : min (l.count + length (cut wanted (left l.source))) 4294967295 ≡ min (length (cut asked.limit (left l.fn.source))) 4294967295;
-      counted : l.count ≤ 4294967295;
-      room : IsRoom asked.limit l.count;
-      gone : Gone l.count (left l.fn.source) (left l.source);
+      paged : IsPaged (IsAssignment all asked) asked.limit l.count (left l.fn.source) (left l.source);
       whole : IsDone (line all) (cut asked.limit (left l.fn.source)) (g.W.Sink.taken l.fn.out) (g.W.Sink.taken l.out) (cut wanted (left l.source));
       failures : g.W.Sink.failures l.fn.out ≤ g.W.Sink.failures l.out;
     }

@@ -1,13 +1,13 @@
-use Rattle.std.proofs.Common.{◌≡◌, ◌<◌, ◌≤◌, ◌+◌, ◌||◌, min, length, map, ℕ, false, get_or}
-use Rattle.std.specs.List.{All, list_any}
+use Rattle.std.proofs.Common.{◌≡◌, ◌<◌, ◌≤◌, ◌||◌, length, map, ℕ, false, get_or}
+use Rattle.std.specs.List.{list_any}
 use Rattle.ac_query.specs.Shown.Queries.{asked_of}
 use Rattle.ac_rules.specs.Pages.{cut}
 use Rattle.ac_cloud.specs.Cloud.CloudWorld.{providers_of}
 use Rattle.ac_cloud.specs.World.{id_at}
-use Rattle.ac_report.specs.Pages.{IsAssignment, behind}
+use Rattle.ac_report.specs.Pages.{IsAssignment}
 use Rattle.ac_report.specs.Texts.{meets_root, request_text, with_commas}
 use Rattle.ac_report.proofs.Pages.Wholes.{IsDone}
-use Rattle.ac_report.proofs.Pages.Paging.{after, IsRoom, Gone}
+use Rattle.ac_report.proofs.Pages.Paging.{IsPaged, after}
 use Rattle.ac_report.proofs.page.write_requests.Given as goal
 
 -- what is left to write, of what was there to write
@@ -18,12 +18,7 @@ invariant-lists g l =
     let asked = asked_of l.query in
     let wanted = after asked.limit l.count in
     record {
-      assigned : All (IsAssignment all asked) (left l.source);
-      behind : behind wanted (left l.source) ≡ behind asked.limit (left l.fn.source);
-      count : min (l.count + length (cut wanted (left l.source))) 4294967295 ≡ min (length (cut asked.limit (left l.fn.source))) 4294967295;
-      counted : l.count ≤ 4294967295;
-      room : IsRoom asked.limit l.count;
-      gone : Gone l.count (left l.fn.source) (left l.source);
+      paged : IsPaged (IsAssignment all asked) asked.limit l.count (left l.fn.source) (left l.source);
       marks_long : length l.marks ≡ length all;
       marked : (r : ℕ) → r < length all → list_any (meets_root all (id_at all r)) (cut asked.limit (left l.fn.source)) ≡ (get_or l.marks r false || list_any (meets_root all (id_at all r)) (cut wanted (left l.source)));
       whole : IsDone (λ text. text) (with_commas false (map (request_text all asked) (cut asked.limit (left l.fn.source)))) (g.W.Sink.taken l.fn.out) (g.W.Sink.taken l.out) (with_commas l.later (map (request_text all asked) (cut wanted (left l.source))));

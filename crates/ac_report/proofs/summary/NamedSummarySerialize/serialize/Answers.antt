@@ -10,14 +10,5 @@ pub returns : goal.returns
 unfolding named_summary
 returns g c =
     let w = g.S.Serializer.written in
-    on_ok_weaker c.end_map.result (λ e. (
-      w c.begin_map.new.self,
-      c.in_ok-begin_map.ensures,
-      (
-        w c.send_name.new.out,
-        w c.serialize.new.out,
-        subst (λ (id : ℕ). Logs (w c.begin_map.new.self) (w c.send_name.new.out) (field_key (id_text id) AsIs)) c.id.ensures c.in_ok-send_name.ensures,
-        c.in_ok-serialize.ensures,
-        e,
-      ),
-    )) c.end_map.ensures
+    let name = subst (λ (id : ℕ). Logs (w c.begin_map.new.self) (w c.send_name.new.out) (field_key (id_text id) AsIs)) c.id.ensures c.in_ok-send_name.ensures in
+    on_ok_weaker c.end_map.result (λ e. (_, c.in_ok-begin_map.ensures, (_, _, name, c.in_ok-serialize.ensures, e))) c.end_map.ensures

@@ -18,32 +18,10 @@ pub returns : goal.returns
 unfolding summary
 returns g c =
     let w = g.S.Serializer.written in
-    on_ok_weaker c.end_map.result (λ e. (
-      w c.begin_map.new.self,
-      c.in_ok-begin_map.ensures,
-      (
-        w c.key.new.self,
-        w c.send_parent.new.out,
-        c.in_ok-key.ensures,
-        subst (λ (id : Option ℕ). SendsValue (id_or_null id) (w c.key.new.self) (w c.send_parent.new.out)) c.parent_id.ensures c.in_ok-send_parent.ensures,
-        (
-          w c.key-2.new.self,
-          w c.send_holdings.new.out,
-          c.in_ok-key-2.ensures,
-          subst (λ (es : List (List ℕ × UsedInventory)). SendsValue (holdings es) (w c.key-2.new.self) (w c.send_holdings.new.out)) c.entries.ensures c.in_ok-send_holdings.ensures,
-          (
-            w c.key-3.new.self,
-            w c.send_id.new.out,
-            c.in_ok-key-3.ensures,
-            subst (λ (id : ℕ). Logs (w c.key-3.new.self) (w c.send_id.new.out) (text (id_text id))) (c.id.ensures ∙ c.root.ensures.id) c.in_ok-send_id.ensures,
-            (
-              w c.key-4.new.self,
-              w c.send_traits.new.out,
-              c.in_ok-key-4.ensures,
-              subst (λ (ts : List (List ℕ)). SendsValue (texts ts) (w c.key-4.new.self) (w c.send_traits.new.out)) c.traits.ensures c.in_ok-send_traits.ensures,
-              e,
-            ),
-          ),
-        ),
-      ),
-    )) c.end_map.ensures
+    let parent = subst (λ (id : Option ℕ). SendsValue (id_or_null id) (w c.key.new.self) (w c.send_parent.new.out)) c.parent_id.ensures c.in_ok-send_parent.ensures in
+    let entries = subst (λ (es : List (List ℕ × UsedInventory)). SendsValue (holdings es) (w c.key-2.new.self) (w c.send_holdings.new.out)) c.entries.ensures c.in_ok-send_holdings.ensures in
+    let root = subst (λ (id : ℕ). Logs (w c.key-3.new.self) (w c.send_id.new.out) (text (id_text id))) (c.id.ensures ∙ c.root.ensures.id) c.in_ok-send_id.ensures in
+    let traits = subst (λ (ts : List (List ℕ)). SendsValue (texts ts) (w c.key-4.new.self) (w c.send_traits.new.out)) c.traits.ensures c.in_ok-send_traits.ensures in
+    on_ok_weaker c.end_map.result (λ e.
+    (_, c.in_ok-begin_map.ensures, (_, _, c.in_ok-key.ensures, parent, (_, _, c.in_ok-key-2.ensures, entries, (_, _, c.in_ok-key-3.ensures, root, (_, _, c.in_ok-key-4.ensures, traits, e))))))
+    c.end_map.ensures
