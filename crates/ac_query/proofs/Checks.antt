@@ -1,7 +1,8 @@
 -- What the checks on all that is asked come to.
-use Rattle.std.proofs.Common.{◌≡◌, ℕ, ◌<◌, ◌≤◌, arith, ◌+◌, Bool, true, false, ◌&&◌, ◌||◌, nat_lt, List, [], ◌∷◌, ◌++◌, length, map, Option, Some, None, is_some, is_none, IfSome, refl, sym, ap, ap₂, ◌∙◌, sum_by, if◌then◌else◌}
+use Rattle.std.proofs.Common.{◌≡◌, ℕ, ◌<◌, ◌≤◌, arith, ◌+◌, Bool, true, false, ◌&&◌, ◌||◌, nat_lt, List, [], ◌∷◌, ◌++◌, length, map, Option, Some, None, is_some, is_none, refl, sym, ap, ap₂, ◌∙◌, sum_by, if◌then◌else◌}
 use Rattle.std.specs.Prelude.{filter}
 use Rattle.std.specs.List.{list_any}
+use Rattle.std.specs.Option.{option_or}
 use Rattle.std.specs.Map.{lookup}
 use Rattle.std.specs.BTreeMap.{is_at}
 use Rattle.std.specs.Cmp.Lexicographic.{texts_ties}
@@ -15,7 +16,7 @@ use Rattle.ac_query.specs.Laws.Gathered.{of_suffix}
 use Rattle.ac_query.specs.Faults.{Fault, policy_missing, too_many_slots, first_fault, has_resources, listed_suffixes, group_condition, suffix_condition, is_of, needs_policy, slot_count, entry_count, is_too_large, asked_conditions}
 use Rattle.ac_query.specs.Shown.Draft.{entry_shown}
 use Rattle.ac_query.proofs.Pairs.Drafts.{key_cmp}
-use Rattle.ac_query.proofs.Pairs.PairSteps.{first_fault-append, first_fault-found}
+use Rattle.ac_query.proofs.Pairs.PairSteps.{first_fault-both}
 
 -- whether there is a group of a suffix
 pub group_there : (es : List (Suffix × GroupDraft)) (k : Suffix) → is_some (lookup (is_at (key_cmp k)) es) ≡ list_any (is_of (suffix_bytes k)) (map of_suffix (map entry_shown es))
@@ -47,37 +48,13 @@ module _ (plain : List (Option (List ℕ) × Group)) (es : List (List ℕ × Gro
       let h : nat_lt 64 (classes + suffixes) ≡ false = grind (arith, nat_tests) in
       rw (slots_are, h, sum_by-append entry_count plain (map of_suffix es), sym entries) is
 
--- ---- in order
-module _ (a : Asked) where
-  module _ (some : list_any has_resources a.groups ≡ true) (listed : List (List ℕ)) (is : listed ≡ listed_suffixes a) where
-    abbrev of_groups : List (Bool × Fault)
-    of_groups = map (group_condition listed) a.groups
-
-    abbrev of_suffixes : List (Bool × Fault)
-    of_suffixes = map (suffix_condition a.groups) listed
-
-    abbrev of_whole : List (Bool × Fault)
-    of_whole = (nat_lt 1 (length (filter needs_policy a.groups)) && is_none a.policy, policy_missing) ∷ (is_too_large a.groups, too_many_slots) ∷ []
-
-    begins : first_fault (asked_conditions a) ≡ first_fault ((of_groups ++ of_suffixes) ++ of_whole)
-    begins = rw some (ap (λ ls. first_fault ((map (group_condition ls) a.groups ++ map (suffix_condition a.groups) ls) ++ of_whole)) (sym is))
-
-    pub at_group : (o : Option Fault) → IfSome o (λ f. first_fault of_groups ≡ Some f) → IfSome o (λ f. first_fault (asked_conditions a) ≡ Some f)
-    at_group None told = tt
-    at_group (Some f) told = begins ∙ first_fault-found (of_groups ++ of_suffixes) of_whole f (first_fault-found of_groups of_suffixes f told)
-
-    module _ (groups_fine : first_fault of_groups ≡ None) where
-      pub at_suffix : (o : Option Fault) → IfSome o (λ f. first_fault of_suffixes ≡ Some f) → IfSome o (λ f. first_fault (asked_conditions a) ≡ Some f)
-      at_suffix None told = tt
-      at_suffix (Some f) told = begins ∙ first_fault-found (of_groups ++ of_suffixes) of_whole f (first_fault-append of_groups of_suffixes groups_fine ∙ told)
-
-      module _ (suffixes_fine : first_fault of_suffixes ≡ None) where
-        goes_on : first_fault (asked_conditions a) ≡ first_fault of_whole
-        goes_on = begins ∙ first_fault-append (of_groups ++ of_suffixes) of_whole (first_fault-append of_groups of_suffixes groups_fine ∙ suffixes_fine)
-
-        pub at_policy : nat_lt 1 (length (filter needs_policy a.groups)) && is_none a.policy ≡ true → first_fault (asked_conditions a) ≡ Some policy_missing
-        at_policy lacks = goes_on ∙ (rw lacks refl)
-
-        pub at_end : nat_lt 1 (length (filter needs_policy a.groups)) && is_none a.policy ≡ false
-            → first_fault (asked_conditions a) ≡ (if is_too_large a.groups then Some too_many_slots else None)
-        at_end has = goes_on ∙ (rw has refl)
+-- the conditions in turn, where some group has resources
+pub in_turn : (a : Asked) → list_any has_resources a.groups ≡ true → (listed : List (List ℕ)) → listed ≡ listed_suffixes a
+    → first_fault (asked_conditions a)
+    ≡ option_or (option_or (first_fault (map (group_condition listed) a.groups)) (first_fault (map (suffix_condition a.groups) listed)))
+    (if nat_lt 1 (length (filter needs_policy a.groups)) && is_none a.policy then Some policy_missing else if is_too_large a.groups then Some too_many_slots else None)
+in_turn a some listed is =
+    let groups : List (Bool × Fault) = map (group_condition (listed_suffixes a)) a.groups in
+    let suffixes : List (Bool × Fault) = map (suffix_condition a.groups) (listed_suffixes a) in
+    let whole : List (Bool × Fault) = (nat_lt 1 (length (filter needs_policy a.groups)) && is_none a.policy, policy_missing) ∷ (is_too_large a.groups, too_many_slots) ∷ [] in
+    rw (some, is) (first_fault-both (groups ++ suffixes) whole ∙ ap (λ o. option_or o (first_fault whole)) (first_fault-both groups suffixes))

@@ -1,14 +1,16 @@
 -- How many slots a query without a fault has.
-use Rattle.std.proofs.Common.{◌≡◌, ℕ, ◌+◌, ◌<◌, ◌≤◌, Bool, true, false, not, ◌||◌, nat_lt, List, [], ◌∷◌, ◌++◌, length, length-append, map, filter, is_none, ◌&&◌, Option, Some, None, sum_by, refl, sym, subst, ◌∙◌, arith, if◌then◌else◌}
+use Rattle.std.proofs.Common.{◌≡◌, ℕ, ◌+◌, ◌<◌, ◌≤◌, Bool, true, false, not, ◌||◌, nat_lt, List, [], ◌∷◌, ◌++◌, length, length-append, map, Option, Some, None, sum_by, refl, sym, ap, subst, ◌∙◌, arith}
+use Rattle.std.proofs.Math.Bool.{not-not}
+use Rattle.std.proofs.lemmas.Bool.{or_parts}
 use Rattle.std.proofs.lemmas.Bool.Decides.{nat_tests}
 use Rattle.std.proofs.lemmas.List.{length-map}
 use Rattle.std.proofs.lemmas.List.Sums.{sum_by-cons, sum_by-append}
 use Rattle.std.specs.List.{list_any}
 use Rattle.ac_query.specs.declared.query.Query.{Query}
 use Rattle.ac_query.specs.Asked.{Group, Asked, Slot, class_slot, group_slots, slots_from, slots_of}
-use Rattle.ac_query.specs.Faults.{Fault, no_resources, first_fault, has_resources, listed_suffixes, group_condition, suffix_condition, needs_policy, slot_count, entry_count, is_too_large, asked_conditions}
+use Rattle.ac_query.specs.Faults.{no_resources, first_fault, has_resources, listed_suffixes, group_condition, suffix_condition, slot_count, entry_count, is_too_large, asked_conditions}
 use Rattle.ac_query.specs.Shown.Queries.{asked_of}
-use Rattle.ac_query.proofs.Pairs.PairSteps.{neither}
+use Rattle.ac_query.proofs.Pairs.PairSteps.{holds_not, neither}
 
 -- the slots of a group
 count_of : (i : ℕ) (g : Option (List ℕ) × Group) → length (group_slots i g) ≡ slot_count g
@@ -35,44 +37,27 @@ have_slots (g ∷ gs) h = by_first (has_resources g) refl h (have_slots gs)
     by_first true is h later = let here = has_slot g is in omega (arith, sum_by-cons slot_count g gs)
     by_first false is h later = let there = later h in omega (arith, sum_by-cons slot_count g gs)
 
-first_holds_not : (b : Bool) (f : Fault) (rest : Option Fault) → (if not b then Some f else rest) ≡ None → b ≡ true
-first_holds_not true f rest h = refl
-first_holds_not false f rest h = absurd (cc)
-
-second_holds_not : (b c : Bool) (f g : Fault) → (if b then Some f else (if c then Some g else None)) ≡ None → c ≡ false
-second_holds_not true c f g h = absurd (cc)
-second_holds_not false true f g h = absurd (cc)
-second_holds_not false false f g h = refl
-
-fewer : (b c : Bool) → b || c ≡ false → b ≡ false
-fewer true c h = h
-fewer false c h = refl
-
-fewer_later : (b c : Bool) → b || c ≡ false → c ≡ false
-fewer_later true c h = absurd (cc)
-fewer_later false c h = h
-
 module _ (a : Asked) (fine : first_fault (asked_conditions a) ≡ None) where
   some_resources : list_any has_resources a.groups ≡ true
-  some_resources = first_holds_not (list_any has_resources a.groups) _ _ fine
+  some_resources = sym (not-not (list_any has_resources a.groups)) ∙ ap (λ b. not b) (holds_not _ _ _ fine).0
 
   not_too_large : is_too_large a.groups ≡ false
   not_too_large =
-      second_holds_not (nat_lt 1 (length (filter needs_policy a.groups)) && is_none a.policy) (is_too_large a.groups) _ _
-      (neither (((not (list_any has_resources a.groups), no_resources) ∷ map (group_condition (listed_suffixes a)) a.groups) ++ map (suffix_condition a.groups) (listed_suffixes a)) _ fine).1
+      let last = (neither (((not (list_any has_resources a.groups), no_resources) ∷ map (group_condition (listed_suffixes a)) a.groups) ++ map (suffix_condition a.groups) (listed_suffixes a)) _ fine).1 in
+      (holds_not (is_too_large a.groups) _ _ (holds_not _ _ _ last).1).0
 
   pub some_slots : 0 < length (slots_from 0 a.groups)
   some_slots = let some = have_slots a.groups some_resources in omega (arith, length-slots_from 0 a.groups)
 
   pub few_slots : length (slots_from 0 a.groups) ≤ 64
   few_slots =
-      let few : nat_lt 64 (sum_by slot_count a.groups) ≡ false = fewer _ _ not_too_large in
+      let few : nat_lt 64 (sum_by slot_count a.groups) ≡ false = (or_parts _ _ not_too_large).0 in
       let count : sum_by slot_count a.groups ≤ 64 = grind (arith, nat_tests) in
       omega (arith, length-slots_from 0 a.groups)
 
   pub few_entries : sum_by entry_count a.groups ≤ 256
   few_entries =
-      let few : nat_lt 256 (sum_by entry_count a.groups) ≡ false = fewer_later _ _ not_too_large in
+      let few : nat_lt 256 (sum_by entry_count a.groups) ≡ false = (or_parts _ _ not_too_large).1 in
       grind (arith, nat_tests)
 
 -- ---- what all slots of a query need

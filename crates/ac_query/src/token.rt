@@ -5,7 +5,7 @@ ghost use Rattle.ac_query.specs.Shown.Queries.{asked_of};
 ghost use Rattle.ac_query.specs.Tokens.{ids_of, token_fault, fault_told};
 
 use crate::query::Query;
-use crate::reading::values::read_ids;
+use crate::reading::items::read_list;
 use ac_base::{Id, NoMemory};
 use std::alloc::Global;
 use thiserror::Error;
@@ -42,13 +42,14 @@ pub struct Token {
 
 impl Token {
     /// Reads UUIDs between commas, one for each slot of the query. They needn't be those of a candidate.
+    #[tactic(auto, unfolding(crate::specs::Pairs::Values::ids_value))]
     pub fn read(alloc: Global, text: &str, query: &Query) -> Result<Token, TokenFault>
         ensures ok { OnOk result (token_fault (asked_of query.now) text.now ≡ None) }
         ensures ids { IfOk result (λ token. ids_value text.now ≡ Some (ids_of token)) }
         ensures fault { IfErr result (λ e. IfSome (fault_told e) (λ f.
             token_fault (asked_of query.now) text.now ≡ Some f)) }
     {
-        let Some(ids) = read_ids(alloc, text)? else {
+        let Some(ids) = read_list(alloc, text)? else {
             return Err(TokenFault::BadToken);
         };
         if ids.len() != query.slots().len() {

@@ -4,7 +4,7 @@ ghost use Rattle.std.specs.Option.{option_map};
 ghost use Rattle.ac_base.specs.Texts.{name_value};
 ghost use Rattle.ac_base.specs.Names.{class_bytes};
 
-use super::texts::owned_name;
+use super::texts::read_name;
 use super::{ClassName, Names, NoMemory};
 use std::alloc::Global;
 
@@ -15,7 +15,7 @@ impl ClassName {
         ensures value { IfOk result (λ name. option_map class_bytes name ≡ name_value text.now) }
         ensures unnamed { name_value text.now ≡ None → result ≡ Ok None }
     {
-        let Some(text) = owned_name(alloc, text)? else {
+        let Some(text) = read_name(alloc, text)? else {
             return Ok(None);
         };
         Ok(Some(ClassName { text }))

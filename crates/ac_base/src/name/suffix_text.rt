@@ -4,7 +4,7 @@ ghost use Rattle.std.specs.Option.{option_map};
 ghost use Rattle.ac_base.specs.Texts.{suffix_value};
 ghost use Rattle.ac_base.specs.Names.{suffix_bytes};
 
-use super::texts::{is_suffix, owned};
+use super::texts::{copy_text, is_suffix};
 use super::{NoMemory, Suffix};
 use std::alloc::Global;
 
@@ -18,7 +18,7 @@ impl Suffix {
         if !is_suffix(text) {
             return Ok(None);
         }
-        let text = owned(alloc, text)?;
+        let text = copy_text(alloc, text)?;
         Ok(Some(Suffix { text }))
     }
 

@@ -58,17 +58,17 @@ pub(super) fn as_text(bytes: &[u8]) -> &str
     }
 }
 
-// A text of its own.
-pub(super) fn owned(alloc: Global, text: &[u8]) -> Result<String, NoMemory>
+// Copies a text.
+pub(super) fn copy_text(alloc: Global, text: &[u8]) -> Result<String, NoMemory>
     requires { IsUtf8 text.now }
     ensures { IfOk result (λ s. string_bytes s ≡ text.now) }
 {
     Ok(String::from_str(alloc, as_text(text))?)
 }
 
-// A name with a text of its own; every other text is no name.
+// Reads a name and copies its text; every other text is no name.
 #[tactic(auto, using(crate::proofs::NameFacts::text_name))]
-pub(super) fn owned_name(alloc: Global, text: &[u8]) -> Result<Option<RcStr>, NoMemory>
+pub(super) fn read_name(alloc: Global, text: &[u8]) -> Result<Option<RcStr>, NoMemory>
     ensures value { IfOk result (λ name. option_map rc_str_bytes name ≡ name_value text.now) }
     ensures unnamed { name_value text.now ≡ None → result ≡ Ok None }
 {

@@ -4,7 +4,7 @@ ghost use Rattle.std.specs.Option.{option_map};
 ghost use Rattle.ac_base.specs.Texts.{name_value};
 ghost use Rattle.ac_base.specs.Names.{trait_bytes};
 
-use super::texts::owned_name;
+use super::texts::read_name;
 use super::{Names, NoMemory, TraitName};
 use std::alloc::Global;
 
@@ -15,7 +15,7 @@ impl TraitName {
         ensures value { IfOk result (λ name. option_map trait_bytes name ≡ name_value text.now) }
         ensures unnamed { name_value text.now ≡ None → result ≡ Ok None }
     {
-        let Some(text) = owned_name(alloc, text)? else {
+        let Some(text) = read_name(alloc, text)? else {
             return Ok(None);
         };
         Ok(Some(TraitName { text }))

@@ -51,27 +51,20 @@ pub record Gives (q : Parameter) (v : Given) : Type 0 where
   pub by : given_by v ≡ q
   pub sound : IfSome (group_part v) IsSound
 
-made : {X : Type 0} (P : Given → Type 0) (make : X → Given) (o : Option X) → ((x : X) → P (make x)) → IfSome (option_map make o) P
+made : {X Y : Type 0} (P : Y → Type 0) (make : X → Y) (o : Option X) → ((x : X) → P (make x)) → IfSome (option_map make o) P
 made P make None h = tt
 made P make (Some x) h = h x
 
-required_by : (g : Option (List ℕ)) (text : List ℕ) (list : Option (List ℕ)) → IsLong g → IfSome (option_map (in_group g) (required_part text list)) (Gives (of_group field.Required g))
-required_by g text (Some list) long = of (names_value list)
-  where
-    of : (o : Option (List (List ℕ))) → IfSome (option_map (in_group g) (option_map any_of o)) (Gives (of_group field.Required g))
-    of None = tt
-    of (Some names) = record { by = refl; sound = (long, tt) }
-required_by g text None long = of (traits_value text)
-  where
-    of : (o : Option _) → IfSome (option_map (in_group g) (option_map traits o)) (Gives (of_group field.Required g))
-    of None = tt
-    of (Some t) = record { by = refl; sound = (long, tt) }
+required_by : (g : Option (List ℕ)) (text : List ℕ) (list : Option (List ℕ)) → IsLong g → IfSome (required_part text list) (λ p. Gives (of_group field.Required g) (in_group g p))
+required_by g text (Some list) long = made _ any_of (names_value list) (λ v. record { by = refl; sound = (long, tt) })
+required_by g text None long = made _ traits (traits_value text) (λ v. record { by = refl; sound = (long, tt) })
 
 pub value_given : (version : Version) (q : Parameter) (text : List ℕ) → HasLong q → IfSome (given_of version q text) (Gives q)
 unfolding required_value
 value_given version (of_group field.Resources g) text long =
     map_some AreNeeds (Gives (of_group field.Resources g)) (λ v. in_group g (needs v)) (needs_value text) (needs_are text) (λ v h. record { by = refl; sound = (long, h) })
-value_given version (of_group field.Required g) text long = required_by g text (any_of_text version text) long
+value_given version (of_group field.Required g) text long =
+    map_some _ (Gives (of_group field.Required g)) (in_group g) (required_part text (any_of_text version text)) (required_by g text (any_of_text version text) long) (λ p h. h)
 value_given version (of_group field.MemberOf g) text long = made _ (λ v. in_group g (aggregates v)) (rule_value text) (λ v. record { by = refl; sound = (long, tt) })
 value_given version (of_group field.InTree g) text long = made _ (λ v. in_group g (tree v)) (id_value text) (λ v. record { by = refl; sound = (long, tt) })
 value_given version root_required text long = made _ root_traits (traits_value text) (λ v. record { by = refl; sound = tt })

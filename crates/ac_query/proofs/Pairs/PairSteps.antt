@@ -1,25 +1,13 @@
 -- What the conditions of a pair come to.
-use Rattle.std.proofs.Common.{◌≡◌, ℕ, Bool, true, false, not, ◌&&◌, List, [], ◌∷◌, ◌++◌, Option, Some, None, Result, Ok, Err, IfErr, IfSome, nat_lt, ◌<◌, ◌≤◌, arith, length, refl, sym, ap, subst, ◌∙◌}
+use Rattle.std.proofs.Common.{◌≡◌, ℕ, Bool, true, false, List, [], ◌∷◌, ◌++◌, Option, Some, None, Result, Ok, Err, IfErr, nat_lt, ◌<◌, ◌≤◌, arith, length, refl, sym, ap, subst, ◌∙◌, if◌then◌else◌}
 use Rattle.std.proofs.lemmas.Bool.Decides.{nat_tests}
 use Rattle.std.specs.Option.{option_or}
 use Rattle.std.specs.Result.{IsErrAnd}
 use Rattle.ac_query.specs.declared.version.Version.{Version}
-use Rattle.ac_query.specs.Texts.{has_text}
-use Rattle.ac_query.specs.Pairs.Parameters.{Parameter, parameter, may_repeat}
+use Rattle.ac_query.specs.Pairs.Parameters.{Parameter, parameter}
 use Rattle.ac_query.specs.Pairs.Values.{Given, given_of, is_conflict}
 use Rattle.ac_query.specs.Pairs.{pairs_of}
 use Rattle.ac_query.specs.Faults.{Fault, too_long, repeated, bad_value, conflict, first_fault, is_repeat, pair_conditions, pairs_conditions, text_conditions}
-
-not-not : (b : Bool) → not (not b) ≡ b
-not-not true = refl
-not-not false = refl
-
--- what is_repeat comes to
-pub not_again : (version : Version) (earlier : List (List ℕ)) (name : List ℕ) (q : Parameter) → may_repeat version q ≡ true → false ≡ is_repeat version earlier name q
-not_again version earlier name q may = rw may refl
-
-pub again_is : (version : Version) (earlier : List (List ℕ)) (name : List ℕ) (q : Parameter) (is_new : Bool) → may_repeat version q ≡ false → is_new ≡ not (has_text earlier name) → not is_new ≡ is_repeat version earlier name q
-again_is version earlier name q is_new may new = ap (λ b. not b) new ∙ not-not (has_text earlier name) ∙ sym (ap (λ b. not b && has_text earlier name) may)
 
 module _ (version : Version) (n : ℕ) (earlier : List (List ℕ)) (p : List ℕ × List ℕ) (q : Parameter) (known : parameter p.0 ≡ Some q) where
   pub at_repeat : is_repeat version earlier p.0 q ≡ true → first_fault (pair_conditions version n earlier p) ≡ Some (repeated n)
@@ -42,7 +30,7 @@ err_is (Ok v) P x is told = tt
 err_is (Err e) P x is told = subst P (sym is) told
 
 -- the first fault of two lists of conditions
-first_fault-both : (a b : List (Bool × Fault)) → first_fault (a ++ b) ≡ option_or (first_fault a) (first_fault b)
+pub first_fault-both : (a b : List (Bool × Fault)) → first_fault (a ++ b) ≡ option_or (first_fault a) (first_fault b)
 first_fault-both [] b = refl
 first_fault-both ((true, f) ∷ a) b = refl
 first_fault-both ((false, f) ∷ a) b = first_fault-both a b
@@ -61,17 +49,13 @@ first_fault-append a b none = first_fault-both a b ∙ ap (λ o. option_or o (fi
 pub first_fault-found : (a b : List (Bool × Fault)) (f : Fault) → first_fault a ≡ Some f → first_fault (a ++ b) ≡ Some f
 first_fault-found a b f found = first_fault-both a b ∙ ap (λ o. option_or o (first_fault b)) found
 
--- a query that isn't too long
-module _ (version : Version) (query : List ℕ) (fits : length query ≤ 65536) where
-  short : nat_lt 65536 (length query) ≡ false
-  short = grind (arith, nat_tests)
-
-  pub pairs_are_fine : first_fault (pairs_conditions version 1 [] (pairs_of query)) ≡ None → first_fault (text_conditions version query) ≡ None
-  pairs_are_fine fine = rw short fine
-
-  pub pairs_tell : (o : Option Fault) → IfSome o (λ f. first_fault (pairs_conditions version 1 [] (pairs_of query)) ≡ Some f) → IfSome o (λ f. first_fault (text_conditions version query) ≡ Some f)
-  pairs_tell None told = tt
-  pairs_tell (Some f) told = rw short told
+-- the condition that is first doesn't hold
+pub holds_not : (b : Bool) (f : Fault) (rest : Option Fault) → (if b then Some f else rest) ≡ None → (b ≡ false) × (rest ≡ None)
+holds_not true f rest h = absurd (cc)
+holds_not false f rest h = (refl, h)
 
 pub is_too_long : (version : Version) (query : List ℕ) → 65536 < length query → first_fault (text_conditions version query) ≡ Some too_long
 is_too_long version query long = let h : nat_lt 65536 (length query) ≡ true = grind (arith, nat_tests) in rw h refl
+
+pub pairs_decide : (version : Version) (query : List ℕ) → length query ≤ 65536 → first_fault (pairs_conditions version 1 [] (pairs_of query)) ≡ first_fault (text_conditions version query)
+pairs_decide version query fits = let h : nat_lt 65536 (length query) ≡ false = grind (arith, nat_tests) in rw h refl

@@ -1,6 +1,6 @@
 -- What slots show.
-use Rattle.std.specs.Prelude.{ℕ, length, List, [], ◌∷◌, map, Option, Some, None}
-use Rattle.std.specs.List.{slice_get, range_with_len}
+use Rattle.std.specs.Prelude.{ℕ, List, Option, Some, None}
+use Rattle.std.specs.List.{slice_get}
 use Rattle.std.specs.Option.{option_map, option_and_then}
 use Rattle.ac_query.specs.declared.slot.Slot as rust
 use Rattle.ac_query.specs.Asked.{Group, Slot, class_slot, suffix_slot}
@@ -19,8 +19,3 @@ slot_in i (Some j) (Some s, g) = None
 -- the slot that is meant, where there is one
 abbrev pub slot_shown : List (Option (List ℕ) × Group) → rust.Slot → Option Slot
 slot_shown groups s = option_and_then (slot_in s.group s.class) (slice_get groups s.group)
-
--- the slots of a group at a place
-abbrev pub slots_at : ℕ → Option (List ℕ) × Group → List rust.Slot
-slots_at i (None, g) = map (λ j. record { group = i; class = Some j }) (range_with_len 0 (length g.needs))
-slots_at i (Some s, g) = record { group = i; class = None } ∷ []

@@ -1,10 +1,12 @@
 //! How a query is made of its text.
-ghost use Rattle.std.specs.Prelude.{◌≡◌, ◌<◌, ◌+◌, ◌++◌, IfOk, OnOk, IfErr, IfSome, Err, None, Some, length, map};
+ghost use Rattle.std.specs.Prelude.{◌≡◌, ◌<◌, ◌+◌, ◌++◌, ℕ, List, Option, IfOk, OnOk, IfErr, IfSome, Err, None, Some, length, map};
 ghost use Rattle.std.specs.Option.{option_map};
 ghost use Rattle.std.specs.List.Sorted.{IsStrictlySortedBy};
 ghost use Rattle.ac_base.specs.Names.{suffix_bytes};
 ghost use Rattle.ac_base.specs.Texts.{text_cmp};
-ghost use Rattle.ac_query.specs.Asked.{slots_from};
+ghost use Rattle.std.specs.List.{slice_get};
+ghost use Rattle.ac_query.specs.Asked as Asked;
+ghost use Rattle.ac_query.specs.Asked.{group_slots, slots_from};
 ghost use Rattle.ac_query.specs.Asks.{Asks};
 ghost use Rattle.ac_query.specs.Laws.Gathered.{asked_by};
 ghost use Rattle.ac_query.specs.Pairs.{pairs_of};
@@ -13,7 +15,7 @@ ghost use Rattle.ac_query.specs.Shown.Faults.{fault_shown};
 ghost use Rattle.ac_query.specs.Shown.{needs_shown};
 ghost use Rattle.ac_query.specs.Shown.Draft.{group_drafted, plain_shown, suffixed_shown, draft_asked};
 ghost use Rattle.ac_query.specs.Shown.Groups.{need_class, need_entry, group_entry};
-ghost use Rattle.ac_query.specs.Shown.Slots.{slot_shown, slots_at};
+ghost use Rattle.ac_query.specs.Shown.Slots.{slot_shown};
 ghost use Rattle.ac_query.specs.Shown.Queries.{asked_of};
 ghost use Rattle.ac_query.specs.declared.fault.QueryFault.TheVariants as QueryFault;
 
@@ -107,23 +109,29 @@ fn groups_in_order(
 
 /// Adds the slots of a group: one for each class of the unsuffixed group, one for a suffix.
 fn add_slots(slots: &mut Vec<Slot>, place: usize, group: &Group) -> Result<(), NoMemory>
-    ensures { OnOk result (slots.new.items ≡ slots.old.items
-        ++ slots_at place (group_entry group.now)) }
+    ensures { OnOk result ((all : List (Option (List ℕ) × Asked.Group))
+        → slice_get all place ≡ Some (group_entry group.now)
+        → map (slot_shown all) slots.new.items ≡ map (slot_shown all) slots.old.items
+        ++ map (λ s. Some s) (group_slots place (group_entry group.now))) }
 {
-    if group.suffix.is_some() {
-        slots.push(Slot {
-            group: place,
-            class: None,
-        })?;
-        return Ok(());
+    match &group.suffix {
+        Some(_) => {
+            slots.push(Slot {
+                group: place,
+                class: None,
+            })?;
+            Ok(())
+        }
+        None => {
+            for class in 0..group.needs.len() {
+                slots.push(Slot {
+                    group: place,
+                    class: Some(class),
+                })?;
+            }
+            Ok(())
+        }
     }
-    for class in 0..group.needs.len() {
-        slots.push(Slot {
-            group: place,
-            class: Some(class),
-        })?;
-    }
-    Ok(())
 }
 
 /// The slots of groups, in order.
@@ -186,7 +194,6 @@ impl Query {
     {
         let draft = read_draft(alloc, text, version)?;
         check(alloc, &draft)?;
-        let query = query_of(alloc, draft)?;
-        Ok(query)
+        Ok(query_of(alloc, draft)?)
     }
 }

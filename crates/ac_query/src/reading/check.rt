@@ -1,10 +1,10 @@
 //! What is checked once all pairs of a query are read.
 ghost use Rattle.std.specs.Prelude.{◌≡◌, ℕ, ◌+◌, ◌<◌, ◌^◌, ◌&&◌, if◌then◌else◌, None, Some, List, IfOk, IfErr, IfSome, OnOk, map, length, filter, nat_lt, sum_by, is_none};
-ghost use Rattle.std.specs.List.{list_any, flat_map};
+ghost use Rattle.std.specs.List.{list_any};
 ghost use Rattle.std.specs.Option.{option_map};
 ghost use Rattle.ac_base.specs.Names.{suffix_bytes};
-ghost use Rattle.ac_query.specs.Texts.{in_order_with, in_byte_order};
-ghost use Rattle.ac_query.specs.Faults.{first_fault, has_resources, group_condition, suffix_condition, is_of, unknown_suffix, group_without_resources, needs_policy, slot_count, entry_count, is_too_large, asked_conditions};
+ghost use Rattle.ac_query.specs.Texts.{in_order_with};
+ghost use Rattle.ac_query.specs.Faults.{first_fault, has_resources, listed_suffixes, group_condition, suffix_condition, is_of, unknown_suffix, group_without_resources, needs_policy, slot_count, entry_count, is_too_large, asked_conditions};
 ghost use Rattle.ac_query.specs.Shown.Faults.{fault_shown};
 ghost use Rattle.ac_query.specs.Shown.{suffixes_shown};
 ghost use Rattle.ac_query.specs.Shown.Draft.{group_drafted, suffixed_shown, plain_shown, draft_asked};
@@ -21,8 +21,8 @@ const SLOTS: usize = 64;
 /// The most pairs of a group and a class in a query.
 const ENTRIES: usize = 256;
 
-/// A suffix once more.
-fn copied(alloc: Global, suffix: &Suffix) -> Result<Suffix, NoMemory>
+/// Copies a suffix.
+fn copy_suffix(alloc: Global, suffix: &Suffix) -> Result<Suffix, NoMemory>
     ensures { IfOk result (λ copy. suffix_bytes copy ≡ suffix_bytes suffix.now) }
 {
     match Suffix::read(alloc, suffix.text().as_bytes())? {
@@ -31,7 +31,7 @@ fn copied(alloc: Global, suffix: &Suffix) -> Result<Suffix, NoMemory>
     }
 }
 
-/// Adds the suffixes of a list to those that are there.
+/// Adds the suffixes of a list to a set.
 fn add_suffixes(
     alloc: Global,
     listed: &mut BTreeSet<Suffix>,
@@ -41,22 +41,19 @@ fn add_suffixes(
         ≡ in_order_with (suffixes_shown listed.old) (suffixes_shown names.now)) }
 {
     for suffix in names {
-        let copy = copied(alloc, suffix)?;
+        let copy = copy_suffix(alloc, suffix)?;
         listed.insert(copy)?;
     }
     Ok(())
 }
 
-/// The suffixes that any list has.
-fn listed_suffixes(
-    alloc: Global,
-    subtrees: &[BTreeSet<Suffix>],
-) -> Result<BTreeSet<Suffix>, NoMemory>
+/// The suffixes that any `same_subtree` lists.
+fn listed_suffixes(alloc: Global, draft: &Draft) -> Result<BTreeSet<Suffix>, NoMemory>
     ensures { IfOk result (λ listed. suffixes_shown listed
-        ≡ in_byte_order (flat_map (λ names. names) (map suffixes_shown subtrees.now))) }
+        ≡ listed_suffixes (draft_asked draft.now)) }
 {
     let mut listed = BTreeSet::new(alloc);
-    for names in subtrees {
+    for names in &draft.subtrees {
         add_suffixes(alloc, &mut listed, names)?;
     }
     Ok(listed)
@@ -228,7 +225,7 @@ fn check_groups(alloc: Global, draft: &Draft, listed: &BTreeSet<Suffix>) -> Resu
     }
     match find_bare(&draft.suffixed, listed) {
         Some(suffix) => {
-            let suffix = copied(alloc, suffix)?;
+            let suffix = copy_suffix(alloc, suffix)?;
             Err(QueryFault::GroupWithoutResources(Some(suffix)))
         }
         None => Ok(()),
@@ -245,7 +242,7 @@ fn check_suffixes(alloc: Global, draft: &Draft, listed: &BTreeSet<Suffix>) -> Re
 {
     match find_unknown(&draft.suffixed, listed) {
         Some(suffix) => {
-            let suffix = copied(alloc, suffix)?;
+            let suffix = copy_suffix(alloc, suffix)?;
             Err(QueryFault::UnknownSuffix(suffix))
         }
         None => Ok(()),
@@ -261,7 +258,7 @@ pub(crate) fn check(alloc: Global, draft: &Draft) -> Result<(), QueryFault>
     if !has_resources(draft) {
         return Err(QueryFault::NoResources);
     }
-    let listed = listed_suffixes(alloc, draft.subtrees.as_slice())?;
+    let listed = listed_suffixes(alloc, draft)?;
     check_groups(alloc, draft, &listed)?;
     check_suffixes(alloc, draft, &listed)?;
     if lacks_policy(draft) {

@@ -4,7 +4,7 @@ ghost use Rattle.std.specs.Option.{option_map};
 ghost use Rattle.ac_base.specs.Names.{suffix_bytes};
 ghost use Rattle.ac_query.specs.Pairs.Parameters.{of_group};
 ghost use Rattle.ac_query.specs.Shown.Parameters.{parameter_shown};
-ghost use Rattle.ac_query.specs.Pairs.Values.{any_of_text, required_value, given_of, is_part_conflict, is_conflict};
+ghost use Rattle.ac_query.specs.Pairs.Values.{required_value, given_of, is_conflict};
 ghost use Rattle.ac_query.specs.Shown.Given.{part_shown, given_shown};
 
 use crate::group::{AggregateRule, AnyOf};
@@ -39,27 +39,18 @@ pub(crate) enum Given {
     AtMost(u32),
 }
 
-/// What stands behind `in:`, where the version has such lists.
-#[tactic(auto, unfolding(crate::specs::Pairs::Values::any_of_text))]
-fn any_of_text<'a>(version: Version, text: &'a str) -> Option<&'a str>
-    ensures { option_map (λ s. s.now) result ≡ any_of_text version text.now }
-{
-    if version.has_any_of() {
-        behind("in:", text)
-    } else {
-        None
-    }
-}
-
-/// What `required` says of a group.
-#[tactic(auto, unfolding(crate::specs::Pairs::Values::required_value))]
+/// What `required` says of a group: a list of which one trait is asked, where the version has such lists, or traits that are required or
+/// forbidden.
+#[tactic(auto, unfolding(crate::specs::Pairs::Values::required_value, crate::specs::Pairs::Values::any_of_text))]
 fn read_required(alloc: Global, version: Version, text: &str) -> Result<Option<Part>, NoMemory>
     ensures { IfOk result (λ part. option_map part_shown part ≡ required_value version text.now) }
 {
-    match any_of_text(version, text) {
-        Some(list) => Ok(read_any_of(alloc, list)?.map(Part::AnyOf)),
-        None => Ok(read_traits(alloc, text)?.map(Part::Traits)),
+    if version.has_any_of() {
+        if let Some(list) = behind("in:", text) {
+            return Ok(read_any_of(alloc, list)?.map(Part::AnyOf));
+        }
     }
+    Ok(read_traits(alloc, text)?.map(Part::Traits))
 }
 
 /// What a field of a group and its text give.
@@ -93,18 +84,6 @@ fn read_field_value(
     }
 }
 
-impl Part {
-    /// Whether it requires and forbids one trait.
-    fn is_conflict(&self) -> bool
-        ensures { result ≡ is_part_conflict (part_shown self.now) }
-    {
-        match self {
-            Part::Traits(traits) => traits.is_conflicting(),
-            Part::Needs(_) | Part::AnyOf(_) | Part::Aggregates(_) | Part::Tree(_) => false,
-        }
-    }
-}
-
 impl Given {
     /// What a parameter and its text give, where the text has the parameter's form.
     pub(crate) fn read(
@@ -133,9 +112,10 @@ impl Given {
         ensures { result ≡ is_conflict (given_shown self.now) }
     {
         match self {
-            Given::Group(_, part) => part.is_conflict(),
-            Given::RootTraits(traits) => traits.is_conflicting(),
-            Given::Policy(_) | Given::Subtree(_) | Given::AtMost(_) => false,
+            Given::Group(_, Part::Traits(traits)) | Given::RootTraits(traits) => {
+                traits.is_conflicting()
+            }
+            Given::Group(_, _) | Given::Policy(_) | Given::Subtree(_) | Given::AtMost(_) => false,
         }
     }
 }

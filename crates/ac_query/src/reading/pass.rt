@@ -1,11 +1,11 @@
 //! The pairs of a query, read one after another.
-ghost use Rattle.std.specs.Prelude.{◌≡◌, ◌<◌, ◌≤◌, [], None, Some, Err, IfOk, IfErr, IfSome, OnOk, length};
+ghost use Rattle.std.specs.Prelude.{◌≡◌, ◌<◌, None, Some, Err, IfOk, IfErr, IfSome, OnOk, length};
 ghost use Rattle.std.specs.BTreeSet.{insert_key};
 ghost use Rattle.std.specs.String.{string_bytes};
 ghost use Rattle.ac_base.specs.Texts.{text_cmp};
 ghost use Rattle.ac_query.specs.Pairs.{read_pair, pairs_of};
 ghost use Rattle.ac_query.specs.Laws.Gathered.{gathered};
-ghost use Rattle.ac_query.specs.Faults.{is_repeat, first_fault, pair_conditions, pairs_conditions, text_conditions};
+ghost use Rattle.ac_query.specs.Faults.{is_repeat, first_fault, pair_conditions, text_conditions};
 ghost use Rattle.ac_query.specs.Shown.Faults.{fault_shown};
 ghost use Rattle.ac_query.specs.Shown.Parameters.{parameter_shown};
 ghost use Rattle.ac_query.specs.Shown.{texts_shown};
@@ -22,7 +22,7 @@ use std::alloc::Global;
 use std::collections::BTreeSet;
 
 /// The most bytes of a query.
-const LIMIT: usize = 65_536;
+const MOST_BYTES: usize = 65_536;
 
 /// Whether the name is among earlier names, and may not be repeated. It is among them from now on.
 fn is_repeat(
@@ -39,10 +39,7 @@ fn is_repeat(
     ensures fault { IfErr result (λ e. fault_shown e ≡ None) }
 {
     let is_new = earlier.insert(name)?;
-    if parameter.may_repeat(version) {
-        return Ok(false);
-    }
-    Ok(!is_new)
+    Ok(!parameter.may_repeat(version) && !is_new)
 }
 
 /// What a pair gives, behind pairs of these names.
@@ -80,15 +77,17 @@ fn read_pair(
     Ok(given)
 }
 
-/// What the pairs of a query ask for, or their first fault.
-fn read_pairs(alloc: Global, text: &str, version: Version) -> Result<Draft, QueryFault>
-    requires { length text.now ≤ 65536 }
-    ensures ok { OnOk result (first_fault (pairs_conditions version 1 [] (pairs_of text.now))
-        ≡ None) }
+/// What a query asks for, or the first of the faults of its text and its pairs.
+pub(crate) fn read_draft(alloc: Global, text: &str, version: Version) -> Result<Draft, QueryFault>
+    ensures ok { OnOk result (first_fault (text_conditions version text.now) ≡ None) }
     ensures draft { IfOk result (λ draft. draft_shown draft ≡ gathered version (pairs_of text.now)) }
     ensures fault { IfErr result (λ e. IfSome (fault_shown e) (λ f.
-        first_fault (pairs_conditions version 1 [] (pairs_of text.now)) ≡ Some f)) }
+        first_fault (text_conditions version text.now) ≡ Some f)) }
+    ensures long { 65536 < length text.now → result ≡ Err QueryFault.QueryTooLong }
 {
+    if text.len() > MOST_BYTES {
+        return Err(QueryFault::QueryTooLong);
+    }
     let mut draft = Draft::new(alloc);
     let mut earlier = BTreeSet::new(alloc);
     let mut number = 0u32;
@@ -99,21 +98,4 @@ fn read_pairs(alloc: Global, text: &str, version: Version) -> Result<Draft, Quer
         draft.add(alloc, given)?;
     }
     Ok(draft)
-}
-
-/// What a query asks for, or the first of the faults of its text and its pairs.
-pub(crate) fn read_draft(alloc: Global, text: &str, version: Version) -> Result<Draft, QueryFault>
-    ensures ok { OnOk result (first_fault (text_conditions version text.now) ≡ None) }
-    ensures draft { IfOk result (λ draft. draft_shown draft ≡ gathered version (pairs_of text.now)) }
-    ensures fault { IfErr result (λ e. IfSome (fault_shown e) (λ f.
-        first_fault (text_conditions version text.now) ≡ Some f)) }
-    ensures long { 65536 < length text.now → result ≡ Err QueryFault.QueryTooLong }
-{
-    if text.len() > LIMIT {
-        return Err(QueryFault::QueryTooLong);
-    }
-    match read_pairs(alloc, text, version) {
-        Ok(draft) => Ok(draft),
-        Err(fault) => Err(fault),
-    }
 }

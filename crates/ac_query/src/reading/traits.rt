@@ -48,7 +48,7 @@ impl Item for MarkedTrait {
     }
 }
 
-/// Adds names to those that are there.
+/// Adds names to a set.
 fn add_names(names: &mut BTreeSet<TraitName>, more: BTreeSet<TraitName>) -> Result<(), NoMemory>
     ensures { OnOk result (names_shown names.new
         ≡ in_order_with (names_shown names.old) (names_shown more)) }
@@ -68,7 +68,6 @@ pub(crate) fn names_in_order(
     ensures rising { IfOk result (λ list.
         IsStrictlySortedBy text_cmp (map trait_bytes list.items)) }
 {
-    let _count = names.len();
     let mut list = Vec::new(alloc);
     for name in names {
         list.push(name)?;
@@ -77,7 +76,7 @@ pub(crate) fn names_in_order(
 }
 
 impl Traits {
-    /// No traits.
+    /// Neither required nor forbidden traits.
     pub(crate) fn new(alloc: Global) -> Traits
         ensures { traits_shown result ≡ no_traits }
     {
@@ -102,7 +101,7 @@ impl Traits {
         Ok(traits)
     }
 
-    /// Adds traits to those that are there.
+    /// Adds more traits.
     pub(crate) fn join(&mut self, more: Traits) -> Result<(), NoMemory>
         ensures { OnOk result (traits_shown self.new
             ≡ joined_traits (traits_shown self.old) (traits_shown more)) }

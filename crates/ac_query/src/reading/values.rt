@@ -3,7 +3,7 @@ ghost use Rattle.std.specs.Prelude.{◌≡◌, ℕ, List, [], IfOk, map};
 ghost use Rattle.std.specs.List.{fold};
 ghost use Rattle.std.specs.Option.{option_map};
 ghost use Rattle.std.specs.BTreeSet.{insert_key};
-ghost use Rattle.ac_query.specs.Pairs.Values.{amount_value, need_value, by_class, needs_value, traits_value, names_value, ids_value, aggregates_value, rule_value, subtree_value, policy_value};
+ghost use Rattle.ac_query.specs.Pairs.Values.{amount_value, need_value, by_class, needs_value, traits_value, names_value, aggregates_value, rule_value, subtree_value, policy_value};
 ghost use Rattle.ac_query.specs.Shown.{needs_shown, traits_shown, suffixes_shown};
 ghost use Rattle.ac_query.specs.Shown.Groups.{need_entry, rule_shown, any_of_shown};
 
@@ -69,7 +69,7 @@ fn by_class(
     Ok(Some(amounts))
 }
 
-/// `CLASS:n,..`, each class once.
+/// The amounts of a list: `CLASS:n,..`, each class once.
 #[tactic(auto, unfolding(crate::specs::Pairs::Values::needs_value))]
 pub(crate) fn read_needs(
     alloc: Global,
@@ -83,7 +83,7 @@ pub(crate) fn read_needs(
     }
 }
 
-/// `TRAIT` or `!TRAIT`, one or more.
+/// The traits of a list: `TRAIT` or `!TRAIT`, one or more.
 #[tactic(auto, unfolding(crate::specs::Pairs::Values::traits_value))]
 pub(crate) fn read_traits(alloc: Global, text: &str) -> Result<Option<Traits>, NoMemory>
     ensures { IfOk result (λ traits. option_map traits_shown traits ≡ traits_value text.now) }
@@ -119,21 +119,13 @@ pub(crate) fn read_any_of(alloc: Global, text: &str) -> Result<Option<AnyOf>, No
     }
 }
 
-/// Ids, one or more.
-#[tactic(auto, unfolding(crate::specs::Pairs::Values::ids_value))]
-pub(crate) fn read_ids(alloc: Global, text: &str) -> Result<Option<Vec<Id>>, NoMemory>
-    ensures { IfOk result (λ ids. option_map (λ v. v.items) ids ≡ ids_value text.now) }
-{
-    read_list(alloc, text)
-}
-
-/// `U` or `in:U,..`.
-#[tactic(auto, unfolding(crate::specs::Pairs::Values::aggregates_value))]
+/// The aggregates of a rule: `U` or `in:U,..`.
+#[tactic(auto, unfolding(crate::specs::Pairs::Values::aggregates_value, crate::specs::Pairs::Values::ids_value))]
 fn read_aggregates(alloc: Global, text: &str) -> Result<Option<Vec<Id>>, NoMemory>
     ensures { IfOk result (λ ids. option_map (λ v. v.items) ids ≡ aggregates_value text.now) }
 {
     if let Some(list) = behind("in:", text) {
-        return read_ids(alloc, list);
+        return read_list(alloc, list);
     }
     let Some(id) = Id::read(text.as_bytes()) else {
         return Ok(None);
@@ -143,7 +135,7 @@ fn read_aggregates(alloc: Global, text: &str) -> Result<Option<Vec<Id>>, NoMemor
     Ok(Some(ids))
 }
 
-/// `U`, `in:U,..`, `!U` or `!in:U,..`.
+/// An aggregate rule: `U`, `in:U,..`, `!U` or `!in:U,..`.
 #[tactic(auto, unfolding(crate::specs::Pairs::Values::rule_value))]
 pub(crate) fn read_rule(alloc: Global, text: &str) -> Result<Option<AggregateRule>, NoMemory>
     ensures { IfOk result (λ rule. option_map rule_shown rule ≡ rule_value text.now) }
@@ -158,7 +150,7 @@ pub(crate) fn read_rule(alloc: Global, text: &str) -> Result<Option<AggregateRul
     }
 }
 
-/// Suffixes, one or more.
+/// The suffixes of a list: `S,..`, one or more.
 #[tactic(auto, unfolding(crate::specs::Pairs::Values::subtree_value))]
 pub(crate) fn read_subtree(alloc: Global, text: &str) -> Result<Option<BTreeSet<Suffix>>, NoMemory>
     ensures { IfOk result (λ suffixes. option_map suffixes_shown suffixes
@@ -170,7 +162,7 @@ pub(crate) fn read_subtree(alloc: Global, text: &str) -> Result<Option<BTreeSet<
     }
 }
 
-/// `none` or `isolate`: whether it is `isolate`.
+/// Whether a policy is `isolate`; `none` is the other.
 #[tactic(auto, unfolding(crate::specs::Pairs::Values::policy_value))]
 pub(crate) fn read_policy(text: &str) -> Option<bool>
     ensures { result ≡ policy_value text.now }

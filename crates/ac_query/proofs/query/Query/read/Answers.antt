@@ -1,28 +1,29 @@
 use Rattle.std.proofs.Common.{◌≡◌, ◌∙◌, IfSome, Some}
+use Rattle.std.proofs.lemmas.Option.{IfSome_then}
 use Rattle.ac_query.specs.Pairs.{pairs_of}
 use Rattle.ac_query.specs.Faults.{query_fault}
 use Rattle.ac_query.specs.Shown.Faults.{fault_shown}
 use Rattle.ac_query.specs.Shown.Draft.{draft_shown}
 use Rattle.ac_query.proofs.Pairs.PairSteps.{err_is}
-use Rattle.ac_query.proofs.Wholes.{asked_is, text_tells, goes_on, whole_tells, asks_record}
+use Rattle.ac_query.proofs.Wholes.{asked_is, text_stops, goes_on, asks_record}
 use Rattle.ac_query.proofs.query.Query.read.Goals as goal
 
 pub returns-in_err-draft-clause-fault : goal.returns-in_err-draft-clause-fault
 returns-in_err-draft-clause-fault c =
     err_is _ (λ e. IfSome (fault_shown e) (λ f. query_fault c.args.version c.args.text.now ≡ Some f)) _ c.from_residual.ensures.1
-    (text_tells c.args.version c.args.text.now (fault_shown c.in_err-draft.field-0.0) c.in_err-draft.ensures.fault)
+    (IfSome_then (fault_shown c.in_err-draft.field-0.0) c.in_err-draft.ensures.fault (text_stops c.args.version c.args.text.now))
 
 pub returns-in_err-check-clause-fault : goal.returns-in_err-check-clause-fault
 returns-in_err-check-clause-fault c =
     err_is _ (λ e. IfSome (fault_shown e) (λ f. query_fault c.args.version c.args.text.now ≡ Some f)) _ c.from_residual-in_err-check.ensures.1
-    (whole_tells c.args.version c.args.text.now c.in_ok-draft.ensures.ok (draft_shown c.in_ok-draft.draft) c.in_ok-draft.ensures.draft
-    (fault_shown c.in_err-check.field-0.0) c.in_err-check.ensures.fault)
+    (IfSome_then (fault_shown c.in_err-check.field-0.0) c.in_err-check.ensures.fault
+    (λ f e. goes_on c.args.version c.args.text.now c.in_ok-draft.ensures.ok (draft_shown c.in_ok-draft.draft) c.in_ok-draft.ensures.draft ∙ e))
 
 pub returns-clause-ok : goal.returns-clause-ok
 returns-clause-ok c = goes_on c.args.version c.args.text.now c.in_ok-draft.ensures.ok (draft_shown c.in_ok-draft.draft) c.in_ok-draft.ensures.draft ∙ c.in_ok-check.ensures.ok
 
 pub returns-clause-record : goal.returns-clause-record
-returns-clause-record c = c.in_ok-query.ensures ∙ asked_is c.args.version (pairs_of c.args.text.now) (draft_shown c.in_ok-draft.draft) c.in_ok-draft.ensures.draft
+returns-clause-record c = c.in_ok-query_of.ensures ∙ asked_is c.args.version (pairs_of c.args.text.now) (draft_shown c.in_ok-draft.draft) c.in_ok-draft.ensures.draft
 
 pub returns-clause-asks : goal.returns-clause-asks
 returns-clause-asks c = asks_record c.args.version c.args.text.now c.in_ok-draft.ensures.ok _ (returns-clause-record c)

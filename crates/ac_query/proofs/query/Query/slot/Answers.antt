@@ -15,4 +15,4 @@ pub returns-clause-there : goal.returns-clause-there
 returns-clause-there c = slot_there (slots_of (asked_of c.args.self.now)) c.args.s _ c.requires (returns-clause-shown c)
 
 pub returns-clause-inside : goal.returns-clause-inside
-returns-clause-inside c = group_within (asked_of c.args.self.now).groups c.index.result.now (returns-clause-there c)
+returns-clause-inside c = group_within (asked_of c.args.self.now).groups c.index.result.now _ refl (returns-clause-there c)

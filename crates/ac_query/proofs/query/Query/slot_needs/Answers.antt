@@ -15,6 +15,6 @@ returns-in-Some-clause-rising c =
 pub returns-in-None-clause-needs : goal.returns-in-None-clause-needs
 returns-in-None-clause-needs c =
     ap (λ l. Some l) c.needs-needs.ensures.needs
-    ∙ needs_whole c.slot-slot.result.group c.slot-slot.result.class (group_entry c.index.result.now) _ _ c.in-None.is
+    ∙ needs_whole (asked_of c.args.self.now).groups c.slot-slot.result (group_entry c.index.result.now)
     (shown_read group_entry c.args.self.now.groups.items c.slot-slot.result.group c.index.result.now c.slot-slot.ensures.inside c.index.ensures)
-    c.slot-slot.ensures.shown (slot_there (slots_of (asked_of c.args.self.now)) c.args.s _ c.requires refl)
+    _ c.slot-slot.ensures.shown (slot_there (slots_of (asked_of c.args.self.now)) c.args.s _ c.requires refl) c.in-None.is

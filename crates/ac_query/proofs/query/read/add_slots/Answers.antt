@@ -1,6 +1,26 @@
-use Rattle.ac_query.proofs.Slots.{class_pushed}
+use Rattle.std.proofs.Common.{◌∙◌, append-nil, arith, ap, map, sym}
+use Rattle.std.specs.Option.{option_map}
+use Rattle.std.proofs.lemmas.List.{length-map}
+use Rattle.ac_base.specs.Names.{suffix_bytes}
+use Rattle.ac_query.specs.Shown.Groups.{need_entry, group_entry}
+use Rattle.ac_query.specs.Shown.Slots.{slot_shown}
+use Rattle.ac_query.proofs.Slots.{suffix_pushed, class_pushed, classes_all}
 use Rattle.ac_query.proofs.query.read.add_slots.Goals as goal
 
+pub returns-in_ok-push-in-Some : goal.returns-in_ok-push-in-Some
+returns-in_ok-push-in-Some c = λ all is. suffix_pushed all c.args.place (group_entry c.args.group.now) _ c.args.slots.now.items _ is (ap (option_map suffix_bytes) c.in-Some.is) c.in_ok-push-in-Some.ensures.items
+
+pub loop-class-init : goal.loop-class-init
+loop-class-init c = λ all is. sym (append-nil (map (slot_shown all) c.args.slots.now.items))
+
 pub loop-class-preserved : goal.loop-class-preserved
-loop-class-preserved c =
-    class_pushed c.args.slots.now.items c.loop-class.slots.items c.push-in-loop-class.new.self.items c.args.place c.loop-class.class c.in_ok-push-2.ensures.items c.loop-class.invariant
+loop-class-preserved c = λ all is.
+    class_pushed all c.args.place (map (slot_shown all) c.args.slots.now.items) (group_entry c.args.group.now) c.loop-class.slots.items _ c.loop-class.class is
+    (ap (option_map suffix_bytes) c.in-None.is) (omega (arith, length-map c.args.group.now.needs.items need_entry))
+    c.in_ok-push-in-None.ensures.items (c.loop-class.invariant all is)
+
+pub returns-after-loop-class : goal.returns-after-loop-class
+returns-after-loop-class c = λ all is.
+    c.loop-class.invariant all is
+    ∙ classes_all all c.args.place _ (group_entry c.args.group.now) c.loop-class.class (ap (option_map suffix_bytes) c.in-None.is)
+    (omega (arith, length-map c.args.group.now.needs.items need_entry))

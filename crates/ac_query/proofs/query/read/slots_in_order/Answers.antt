@@ -6,6 +6,6 @@ use Rattle.ac_query.proofs.query.read.slots_in_order.Goals as goal
 
 pub loop-place-preserved : goal.loop-place-preserved
 loop-place-preserved c =
-    slots_go_on (map group_entry c.args.groups.now) c.loop-place.slots.items c.add_slots.new.slots.items c.loop-place.place (group_entry c.index-groups-place.result) _
-    (shown_read group_entry c.args.groups.now c.loop-place.place c.index-groups-place.result (omega (arith, length-map c.args.groups.now group_entry)) c.index-groups-place.is)
-    c.in_ok-add_slots.ensures c.loop-place.invariant
+    let all = map group_entry c.args.groups.now in
+    let is = shown_read group_entry c.args.groups.now c.loop-place.place c.index-groups-place.result (omega (arith, length-map c.args.groups.now group_entry)) c.index-groups-place.is in
+    slots_go_on all c.loop-place.place (group_entry c.index-groups-place.result) _ _ _ is (c.in_ok-add_slots.ensures all is) c.loop-place.invariant

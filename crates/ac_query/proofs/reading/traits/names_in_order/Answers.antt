@@ -11,4 +11,4 @@ returns-clause-rising c =
     let end : c.loop-name.name-iterator ≡ [] = c.in-None.ensures.steps.0 in
     let same : map trait_bytes c.loop-name.list.items ≡ names_shown c.args.names =
     sym (append-nil (map trait_bytes c.loop-name.list.items)) ∙ rw end at c.loop-name.invariant in
-    subst (IsStrictlySortedBy text_cmp) (sym same) (rising_shown trait_bytes _ (λ a b. refl) c.args.names.keys c.len-count.ensures.ordered)
+    subst (IsStrictlySortedBy text_cmp) (sym same) (rising_shown trait_bytes _ (λ a b. refl) c.args.names.keys c.into_iter-name-iterator.ensures.into_iter_gives.4)
