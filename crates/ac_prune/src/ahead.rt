@@ -48,17 +48,15 @@ fn is_mixed(asks: &[Ask], later: &[Vec<Ask>]) -> bool {
     false
 }
 
-fn count_asks(asks: &[Vec<Ask>]) -> usize {
+// The greatest depth whose slots ask other amounts of some class than the slot before them; 0 where there is none, or where
+// the slots ask too many amounts.
+fn last_mixed(asks: &[Vec<Ask>]) -> usize {
     let mut count = 0usize;
     for list in asks {
         count = count.saturating_add(list.len());
     }
-    count
-}
-
-fn last_mixed(asks: &[Vec<Ask>]) -> usize {
     let mut last = 0;
-    if count_asks(asks) <= MOST_ASKS {
+    if count <= MOST_ASKS {
         for depth in 1..asks.len() {
             if is_mixed(&asks[depth - 1], &asks[depth..]) {
                 last = depth;

@@ -14,18 +14,8 @@ use ac_base::NoMemory;
 use ac_rules::slots::count_slots;
 use std::alloc::Global;
 
-// Whether a provider has room for what a slot alone asks.
-fn has_room_alone(ledger: &Ledger, s: usize, ix: u32) -> bool
-    requires slot { s < length (slots_of (asked_in ledger.now)) }
-    requires provider { ix < length (providers_in ledger.now) }
-    requires empty { Accounts ledger.now [] }
-    ensures { result
-        ≡ has_room_alone (providers_in ledger.now) (placed_at (asked_in ledger.now) s ix) }
-{
-    ledger.has_enough(s, ix)
-}
-
 // Whether a provider is one of those that a slot may have, by whether the empty list is open.
+#[tactic(auto, using(crate::proofs::Paths::LedgerLemmas::enough_alone))]
 fn is_choice(ledger: &Ledger, s: usize, ix: u32, opens: bool) -> bool
     requires slot { s < length (slots_of (asked_in ledger.now)) }
     requires provider { ix < length (providers_in ledger.now) }
@@ -34,7 +24,7 @@ fn is_choice(ledger: &Ledger, s: usize, ix: u32, opens: bool) -> bool
         (placed_at (asked_in ledger.now) s ix)
         && has_room_alone (providers_in ledger.now) (placed_at (asked_in ledger.now) s ix))) }
 {
-    opens && fits_slot(ledger.cloud, ledger.query, s, ix) && has_room_alone(ledger, s, ix)
+    opens && fits_slot(ledger.cloud, ledger.query, s, ix) && ledger.has_enough(s, ix)
 }
 
 // The providers that meet the rules of a slot alone and have room for it, in order; none where not even the empty list is
@@ -54,7 +44,7 @@ fn slot_choices(alloc: Global, ledger: &Ledger, s: usize, opens: bool) -> Result
     Ok(choices)
 }
 
-/// Those of all slots, by the ledger of an empty path.
+/// The providers that each slot may have, by the ledger of an empty path.
 pub fn all_choices(alloc: Global, ledger: &Ledger) -> Result<Vec<Vec<u32>>, NoMemory>
     requires empty { Accounts ledger.now [] }
     ensures { IfOk result (λ all. map (λ choices. choices.items) all.items

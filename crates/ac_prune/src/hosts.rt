@@ -40,29 +40,21 @@ pub(crate) enum ClassTest {
     Pieces,
 }
 
-// How many steps a test takes: it goes over all providers, and over each list of roots.
-fn count_steps(cloud: &Cloud) -> u64 {
-    let mut steps = u64::from(cloud.len());
-    for list in cloud.root_lists() {
-        steps = steps.saturating_add(list.len() as u64);
-    }
-    steps
-}
-
 impl Budget {
+    // A test goes over all providers, and over each list of roots.
     fn of_cloud(cloud: &Cloud) -> Budget {
-        Budget {
-            tests: MOST_STEPS / count_steps(cloud).max(1),
+        let mut steps = u64::from(cloud.len());
+        for list in cloud.root_lists() {
+            steps = steps.saturating_add(list.len() as u64);
         }
-    }
-
-    fn is_spent(&self) -> bool {
-        self.tests == 0
+        Budget {
+            tests: MOST_STEPS / steps.max(1),
+        }
     }
 
     /// Whether one more may be made, which counts.
     pub(crate) fn take(&mut self) -> bool {
-        let some = !self.is_spent();
+        let some = self.tests > 0;
         self.tests = self.tests.saturating_sub(1);
         some
     }
@@ -98,7 +90,7 @@ fn limit_slot(
     limit(alloc, ledger.cloud, may, &rooms, 1)
 }
 
-// Of all slots.
+// Drops the roots at which some slot has no choice available.
 fn limit_slots(
     alloc: Global,
     ledger: &Ledger,
@@ -132,7 +124,7 @@ fn limit_classes(
     ensures { IfOk result (λ _. MayHost ledger.now may.new) }
 {
     for class in &ledger.classes {
-        if !may.contains(&true) || budget.is_spent() {
+        if !may.contains(&true) || budget.tests == 0 {
             return Ok(());
         }
         Column::new(ledger, class).limit(alloc, test, budget, may)?;
@@ -140,7 +132,7 @@ fn limit_classes(
     Ok(())
 }
 
-// By all tests, as far as the budget goes.
+// Drops the roots that fail some test, as far as the budget goes.
 fn limit_all(
     alloc: Global,
     ledger: &Ledger,

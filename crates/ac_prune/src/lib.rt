@@ -23,4 +23,4 @@ pub use ledger::Ledger;
 pub use ledger::marks::taken_roots;
 pub use look_ahead::LookAhead;
 pub use lookout::Lookout;
-pub use open::{completes, fits_slot};
+pub use open::fits_slot;

@@ -7,7 +7,7 @@ ghost use Rattle.ac_query.specs.Asked.{slots_of};
 ghost use Rattle.ac_query.specs.Shown.Queries.{asked_of};
 ghost use Rattle.ac_rules.specs.Placed.{placed_at, assigned};
 ghost use Rattle.ac_rules.specs.Judge.{is_open};
-ghost use Rattle.ac_prune.specs.QuerySearch.{fits, completes};
+ghost use Rattle.ac_prune.specs.QuerySearch.{fits};
 
 use ac_query::Query;
 use ac_rules::{Assignment, Placed};
@@ -47,14 +47,4 @@ pub(crate) fn is_open(cloud: &Cloud, query: &Query, front: &[u32]) -> bool
         list: front,
     };
     front.has_room() && front.is_isolated() && front.has_anchor()
-}
-
-/// Whether a list meets what isn't asked of its fronts.
-pub fn completes(cloud: &Cloud, query: &Query, list: &[u32]) -> bool
-    requires slots { length list.now ≤ length (slots_of (asked_of query.now)) }
-    requires providers { All (λ p. p < length (providers_of cloud.now)) list.now }
-    ensures { result ≡ completes (providers_of cloud.now) (asked_of query.now) list.now }
-{
-    let list = Assignment { cloud, query, list };
-    list.is_collective() && list.has_tops()
 }

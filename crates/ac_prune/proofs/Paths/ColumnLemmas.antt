@@ -52,10 +52,6 @@ sizes_set [] c p x = refl
 sizes_set (xs ∷ columns) zero p x = ap (λ (n : ℕ). n ∷ map length columns) (length-set xs p x)
 sizes_set (xs ∷ columns) (suc c) p x = ap (λ (ns : List ℕ). length xs ∷ ns) (sizes_set columns c p x)
 
--- nothing is moved yet
-pub moves_none : (columns : List (List ℕ)) (p : ℕ) (asks : List (ℕ × ℕ)) → Moves columns p asks asks columns
-moves_none columns p asks = record { here = λ k. refl; others = λ r k h. refl; sizes = refl }
-
 -- one ask more is taken
 pub take_one : (old columns : List (List ℕ)) (p c a x : ℕ) (asks rest : List (ℕ × ℕ)) → c < length columns → p < length (slice_index_or columns c []) → x + a ≡ left_at columns p c
     → Moves old p asks ((c, a) ∷ rest) columns → Moves old p asks rest (set columns c (set (slice_index_or columns c []) p x))

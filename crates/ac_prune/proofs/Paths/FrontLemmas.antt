@@ -1,6 +1,5 @@
 -- Choices behind a front that lead to nothing.
-use Rattle.std.proofs.Common.{◌≡◌, ℕ, ◌<◌, true, false, List, [], ◌∷◌, inl, inr, Some, length, slice_index, slice_index_or, sym, subst, arith, append_assoc}
-use Rattle.std.proofs.lemmas.Bool.{cases_order}
+use Rattle.std.proofs.Common.{◌≡◌, ℕ, ◌<◌, true, false, List, [], ◌∷◌, Some, length, slice_index, slice_index_or, sym, subst, arith, append_assoc}
 use Rattle.std.proofs.lemmas.List.{length-map}
 use Rattle.std.proofs.lemmas.List.Elements.{recursion_from_All}
 use Rattle.ac_query.specs.Asked.{Slot, slots_of}
@@ -19,13 +18,6 @@ path_leads_nowhere f from to dead i above less v list =
     let p = slice_index f.choices.now i in
     let same = append_assoc f.path.now (p ∷ []) v in
     subst (λ (l : List ℕ). (search_at f).is_wanted l ≡ false) (sym same) (dead (p ∷ v) (subst (IsListBelow (search_at f).count (search_at f).width) same list))
-
--- those up to a place, and those from there on
-pub lead_on : (f : Front) (from at to : ℕ) → LeadNowhere f from at → LeadNowhere f at to → LeadNowhere f from to
-lead_on f from at to before behind i above less = elim (cases_order i at) [
-  | inl e ↦ behind i (omega (arith, e)) less
-  | inr o ↦ elim o [ inl l ↦ before i above l | inr g ↦ behind i (omega (arith, g)) less ]
-]
 
 -- its choices are those of the slot behind its path
 pub listed_at : (f : Front) → f.choices.now ≡ slice_index_or (choices_of (providers_in f.ledger.now) (asked_in f.ledger.now)) (length f.path.now) []

@@ -1,6 +1,10 @@
 //! Trying a provider behind the path of a walk, and taking it back.
 ghost use Rattle.std.specs.Prelude.{◌≡◌, ◌+◌, ◌<◌, ◌≤◌, ◌++◌, ◌∷◌, [], length, take, true, false, suc, MatchOption, IsTrue, ◌↔◌, slice_index, slice_set};
+ghost use Rattle.std.specs.List.{All};
 ghost use Rattle.ac_base.specs.Devices.{one_more};
+ghost use Rattle.ac_query.specs.Asked.{slots_of};
+ghost use Rattle.ac_query.specs.Shown.Queries.{asked_of};
+ghost use Rattle.ac_cloud.specs.Cloud.CloudWorld.{providers_of};
 ghost use Rattle.ac_prune.specs.Left.Accounts.{providers_in, asked_in};
 ghost use Rattle.ac_rules.specs.Judge.{is_open};
 ghost use Rattle.ac_prune.specs.Search.{IsDead, choices_at, next_at};
@@ -8,7 +12,9 @@ ghost use Rattle.ac_search.specs.Search.{IsStart, Enters, HasAt, least_at};
 ghost use Rattle.ac_prune.specs.QuerySearch.{completes};
 
 use super::{Step, Walk};
-use ac_prune::completes;
+use ac_query::Query;
+use ac_rules::Assignment;
+use ac_cloud::Cloud;
 
 impl<'a> Walk<'a> {
     ghost use Rattle.ac_search.specs.Shown.Walk.{search_in, IsSame};
@@ -190,6 +196,16 @@ impl<'a> Walk<'a> {
         self.take_back();
         Step::Went
     }
+}
+
+// Whether a list meets what isn't asked of its fronts.
+fn completes(cloud: &Cloud, query: &Query, list: &[u32]) -> bool
+    requires slots { length list.now ≤ length (slots_of (asked_of query.now)) }
+    requires providers { All (λ p. p < length (providers_of cloud.now)) list.now }
+    ensures { result ≡ completes (providers_of cloud.now) (asked_of query.now) list.now }
+{
+    let list = Assignment { cloud, query, list };
+    list.is_collective() && list.has_tops()
 }
 
 // A count and one more; it stays where it can't rise.
