@@ -1,5 +1,5 @@
 -- Assignments with one request are the same.
-use Rattle.std.proofs.Common.{◌≡◌, ℕ, zero, suc, ◌+◌, ◌<◌, List, [], ◌∷◌, ◌++◌, take, drop, map, length, length-append, refl, sym, ap, ◌∙◌, Bool, true, false, Option, Some, None, if◌then◌else◌, nat_cmp, Ordering, Less, Equal, Greater, arith}
+use Rattle.std.proofs.Common.{◌≡◌, ℕ, zero, suc, ◌+◌, ◌<◌, List, [], ◌∷◌, ◌++◌, take, drop, map, length, length-append, refl, sym, ap, ◌∙◌, Bool, true, false, Option, Some, None, nat_cmp, Ordering, Less, Equal, Greater, arith}
 use Rattle.std.specs.Prelude.{nat_eq}
 use Rattle.std.specs.List.{All, AllByRecursion, filter}
 use Rattle.std.specs.Ordering.{is_eq}
@@ -30,7 +30,7 @@ use Rattle.ac_report.proofs.Trees.Finding.{AreTold, hosts_agree, mappings_agree}
 use Rattle.ac_report.proofs.Trees.FindingSums.{here, taken_of, sums_agree}
 use Rattle.ac_report.proofs.Trees.Gathering.{bytes_eq_refl}
 use Rattle.ac_report.proofs.Trees.Listed.{provider_texts_rise}
-use Rattle.ac_report.proofs.SlotLemmas.{all_cons, all_hosts, all_rising, providers_are}
+use Rattle.ac_report.proofs.SlotLemmas.{all_hosts, all_rising, providers_are}
 
 -- ---- slots in two parts
 

@@ -1,10 +1,10 @@
 -- Lists that the hosts of their groups and their sums tell apart.
 use Rattle.std.proofs.Common.{◌≡◌, ℕ, ◌+◌, ◌<◌, ◌≤◌, List, [], ◌∷◌, map, length, refl, sym, ap, ◌∙◌, Bool, true, false, Option, Some, None, nat_cmp, if◌then◌else◌, arith}
 use Rattle.std.specs.Prelude.{nat_eq, bytes_eq}
-use Rattle.std.specs.List.{AllByRecursion, filter}
+use Rattle.std.specs.List.{AllByRecursion}
 use Rattle.std.proofs.lemmas.Bool.{eqb-true, eq-eqb, ne_eqb}
-use Rattle.ac_query.specs.Asked.{Group, slots_from, class_slot, suffix_slot}
-use Rattle.ac_rules.specs.Placed.{Placed, placed}
+use Rattle.ac_query.specs.Asked.{Group, slots_from, class_slot}
+use Rattle.ac_rules.specs.Placed.{placed}
 use Rattle.ac_rules.specs.Together.{amount_of, sum_on}
 use Rattle.ac_base.specs.Sorted.{rising}
 use Rattle.ac_query.specs.Laws.InOrder.{AreApart, AreSuffixed}

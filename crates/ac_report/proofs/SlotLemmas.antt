@@ -4,7 +4,8 @@ use Rattle.std.specs.Prelude.{nat_eq, slice_index_or}
 use Rattle.std.specs.BTreeSet.{insert_key}
 use Rattle.std.specs.Map.{keys_of}
 use Rattle.std.specs.List.{All, filter, list_any}
-use Rattle.std.proofs.lemmas.List.Sums.{sum_by-cons}
+use Rattle.std.proofs.lemmas.List.{map-append}
+use Rattle.std.proofs.lemmas.List.Sums.{fold-append, sum_by-cons}
 use Rattle.std.proofs.lemmas.Map.Views.{All-insert_key}
 use Rattle.ac_base.specs.Texts.{text_cmp}
 use Rattle.ac_query.specs.Asked.{Slot}
@@ -35,14 +36,10 @@ pub keys_more : (ss : List Slot) (t : List ℕ) (i ix : ℕ) (done : List (List 
     → fold (insert_key text_cmp) done (keys_of (needs_on (placed (drop i ss) (drop i t)) ix))
     ≡ fold (insert_key text_cmp) (fold (insert_key text_cmp) done (keys_of (needs_in ss t i ix))) (keys_of (needs_on (placed (drop (i + 1) ss) (drop (i + 1) t)) ix))
 keys_more ss t i ix done h k =
+    let later = needs_on (placed (drop (i + 1) ss) (drop (i + 1) t)) ix in
     ap (λ needs. fold (insert_key text_cmp) done (keys_of needs)) (needs_more ss t i ix h k)
-    ∙ by done (needs_in ss t i ix)
-  where
-    by : (done : List (List ℕ)) (here : List (List ℕ × ℕ))
-        → fold (insert_key text_cmp) done (keys_of (here ++ needs_on (placed (drop (i + 1) ss) (drop (i + 1) t)) ix))
-        ≡ fold (insert_key text_cmp) (fold (insert_key text_cmp) done (keys_of here)) (keys_of (needs_on (placed (drop (i + 1) ss) (drop (i + 1) t)) ix))
-    by done [] = refl
-    by done (need ∷ here) = by (insert_key text_cmp done need.0) here
+    ∙ ap (fold (insert_key text_cmp) done) (map-append (λ (need : List ℕ × ℕ). need.0) (needs_in ss t i ix) later)
+    ∙ fold-append (insert_key text_cmp) done (keys_of (needs_in ss t i ix)) (keys_of later)
 
 -- ---- sums
 

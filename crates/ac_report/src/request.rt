@@ -94,6 +94,7 @@ pub fn request_text(
 {
     let allocations = allocations_of(alloc, cloud, query, list)?;
     let mappings = mappings_of(alloc, cloud, query, list)?;
+    // Each text and each whole number can be written as JSON, so only memory can be wanting.
     match serde_json::to_string(
         alloc,
         &Request {

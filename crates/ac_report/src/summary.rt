@@ -109,6 +109,7 @@ pub fn summary_text(alloc: Global, cloud: &Cloud, ix: u32) -> Result<String, NoM
     requires { ix < length (providers_of cloud.now) }
     ensures { IfOk result (λ s. string_bytes s ≡ summary_text (providers_of cloud.now) ix) }
 {
+    // Each text and each whole number can be written as JSON, so only memory can be wanting.
     match serde_json::to_string(alloc, &Summary { cloud, ix }) {
         Ok(text) => Ok(text),
         Err(_) => Err(NoMemory),
@@ -122,7 +123,8 @@ struct NamedSummary<'a> {
 }
 
 impl<'a> Described for NamedSummary<'a> {
-    ghost writes = { λ s. SendsValue (named_summary (providers_of s.summary.cloud.now) s.summary.ix) };
+    ghost writes = { λ s. SendsValue
+        (named_summary (providers_of s.summary.cloud.now) s.summary.ix) };
 }
 
 impl<'a> Serialize for NamedSummary<'a> {
@@ -138,7 +140,8 @@ impl<'a> Serialize for NamedSummary<'a> {
 // A summary after its quoted id and a colon, in braces.
 pub(crate) fn summary_member(alloc: Global, cloud: &Cloud, ix: u32) -> Result<Vec<u8>, NoMemory>
     requires { ix < length (providers_of cloud.now) }
-    ensures { IfOk result (λ v. v.items ≡ 123 ∷ (summary_piece (providers_of cloud.now) ix ++ 125 ∷ [])) }
+    ensures { IfOk result (λ v.
+        v.items ≡ 123 ∷ (summary_piece (providers_of cloud.now) ix ++ 125 ∷ [])) }
 {
     let summary = Summary { cloud, ix };
     match serde_json::to_vec(alloc, &NamedSummary { summary }) {

@@ -19,7 +19,7 @@ use Rattle.ac_base.specs.Sorted.{rising}
 use Rattle.ac_query.specs.Laws.InOrder.{group_name, AreApart}
 use Rattle.ac_report.specs.Parts.{gathered_onto}
 use Rattle.ac_report.specs.Trees.{hosts, mapping, mappings_from, provider_text, texts}
-use Rattle.ac_report.proofs.Trees.Gathering.{Named, bytes_eq_refl}
+use Rattle.ac_report.proofs.Trees.Gathering.{Named}
 
 pub same_text : (k l : List ℕ) → text_cmp k l ≡ Equal → k ≡ l
 same_text k l e = (bytes_eq-Decides k l).0 (sym (is_eq-slice_cmp k l) ∙ ap is_eq e)

@@ -9,6 +9,7 @@ use crate::serving::sum_on;
 use serde::{Described, Serialize, Serializer};
 use std::collections::BTreeMap;
 
+// The classes that are needed of a provider, each with all that is needed of it.
 fn send_resources<S: Serializer>(allocation: &Allocation<'_>, out: &mut S) -> Result<(), S::Error>
     ensures { OnOk result (SendsValue (resources_tree allocation.now)
         (S.written out.old) (S.written out.new)) }
@@ -26,6 +27,7 @@ fn send_resources<S: Serializer>(allocation: &Allocation<'_>, out: &mut S) -> Re
     out.end_map()
 }
 
+// What is taken of a provider.
 #[tactic(auto, unfolding(crate::specs::Requests::allocation_tree))]
 fn send_allocation<S: Serializer>(allocation: &Allocation<'_>, out: &mut S) -> Result<(), S::Error>
     ensures { OnOk result (SendsValue (allocation_tree allocation.now)
@@ -37,6 +39,7 @@ fn send_allocation<S: Serializer>(allocation: &Allocation<'_>, out: &mut S) -> R
     out.end_map()
 }
 
+// What is taken of each provider, by its id.
 fn send_allocations<S: Serializer>(
     allocations: &[Allocation<'_>],
     out: &mut S,
@@ -52,6 +55,7 @@ fn send_allocations<S: Serializer>(
     out.end_map()
 }
 
+// The ids of the providers of a group.
 fn send_hosts<S: Serializer>(hosts: &Hosts<'_>, out: &mut S) -> Result<(), S::Error>
     ensures { OnOk result (SendsValue (hosts_tree hosts.now)
         (S.written out.old) (S.written out.new)) }
@@ -63,6 +67,7 @@ fn send_hosts<S: Serializer>(hosts: &Hosts<'_>, out: &mut S) -> Result<(), S::Er
     out.end_seq()
 }
 
+// The ids of the providers of each group, by its suffix.
 fn send_mappings<S: Serializer>(
     mappings: &BTreeMap<&str, Hosts<'_>>,
     out: &mut S,
