@@ -20,7 +20,11 @@ pub(super) fn entry<'a>(entries: &ArgMatches<'a>, name: &str) -> Option<&'a str>
 }
 
 // A copy of the entry of a name that has one.
-fn needed(alloc: Global, entries: &ArgMatches<'_>, name: &str) -> Result<String, AllocError>
+fn copy_needed_entry(
+    alloc: Global,
+    entries: &ArgMatches<'_>,
+    name: &str,
+) -> Result<String, AllocError>
     requires { HasEntry name.now (rows_of (found_of entries.now)) }
     ensures { IfOk result (λ text. first_of name.now (rows_of (found_of entries.now))
         ≡ Some (string_bytes text)) }
@@ -32,7 +36,7 @@ fn needed(alloc: Global, entries: &ArgMatches<'_>, name: &str) -> Result<String,
 }
 
 // A copy of the entry of a name, where it has one.
-pub(super) fn copied(
+pub(super) fn copy_entry(
     alloc: Global,
     entries: &ArgMatches<'_>,
     name: &str,
@@ -55,7 +59,7 @@ fn query(alloc: Global, command: Command, entries: &ArgMatches<'_>) -> Result<St
     match command {
         Command::Check => Ok(String::new(alloc)),
         Command::Candidates | Command::Tokens | Command::Verify | Command::Explain => {
-            needed(alloc, entries, "query")
+            copy_needed_entry(alloc, entries, "query")
         }
     }
 }
@@ -72,7 +76,7 @@ fn version_named(text: Option<&str>) -> Option<Version>
 }
 
 // What the user is told of a fault that isn't `clap`'s own, with the usage of the command.
-pub(super) fn refused(
+pub(super) fn refusal(
     alloc: Global,
     command: Command,
     kind: ErrorKind,
@@ -98,7 +102,7 @@ fn version(alloc: Global, command: Command, entries: &ArgMatches<'_>) -> Result<
             let message = format!(in alloc;
                 "invalid value '{text}' for '--microversion <VERSION>': it is 1.36 or 1.39"
             )?;
-            Err(refused(alloc, command, ErrorKind::InvalidValue, message.as_str())?)
+            Err(refusal(alloc, command, ErrorKind::InvalidValue, message.as_str())?)
         }
     }
 }
@@ -114,13 +118,13 @@ fn token(
 {
     match command {
         Command::Check | Command::Explain => Ok(None),
-        Command::Candidates | Command::Tokens => copied(alloc, entries, "after"),
-        Command::Verify => copied(alloc, entries, "token"),
+        Command::Candidates | Command::Tokens => copy_entry(alloc, entries, "after"),
+        Command::Verify => copy_entry(alloc, entries, "token"),
     }
 }
 
 // The command that was found, and its entries.
-fn chosen<'m, 'a>(matches: &'m ArgMatches<'a>) -> (Command, &'m ArgMatches<'a>)
+fn find_command<'m, 'a>(matches: &'m ArgMatches<'a>) -> (Command, &'m ArgMatches<'a>)
     requires { IsComplete (subcommand_rows_of matches.now) }
     ensures { subcommand_rows_of matches.now
         ≡ Some (name_of result.0, rows_of (found_of result.1.now)) }
@@ -168,7 +172,7 @@ pub(super) fn words_of(alloc: Global, matches: &ArgMatches<'_>) -> Result<Words,
     ensures ok { OnOk result (own_faults (subcommand_rows_of matches.now) ≡ []) }
     ensures fault { IfErr result (Tells (own_faults (subcommand_rows_of matches.now))) }
 {
-    let (command, entries) = chosen(matches);
+    let (command, entries) = find_command(matches);
     let version = version(alloc, command, entries)?;
     check_tables(alloc, command, entries)?;
     Ok(words_with(alloc, command, version, entries)?)

@@ -6,7 +6,7 @@ ghost use Rattle.ac_words.specs.Words.{Tells, all_tables, has_option, path_given
 ghost use Rattle.clap.specs.declared.error.kind.ErrorKind.TheVariants.{ArgumentConflict, MissingRequiredArgument};
 
 use super::WordFault;
-use super::entries::{copied, entry, refused};
+use super::entries::{copy_entry, entry, refusal};
 use ac_query::Command;
 use ac_tables::Table;
 use clap::ArgMatches;
@@ -75,7 +75,7 @@ fn options_beside_the_folder(
 {
     let beside = option_lines(alloc, entries, &ALL_TABLES, true)?;
     let message = format!(in alloc; "the argument '--tables <DIR>' cannot be used with:{beside}")?;
-    refused(
+    refusal(
         alloc,
         command,
         ErrorKind::ArgumentConflict,
@@ -96,7 +96,7 @@ fn missing_options(
     let message = format!(in alloc;
         "the following required arguments were not provided:{missing}"
     )?;
-    refused(
+    refusal(
         alloc,
         command,
         ErrorKind::MissingRequiredArgument,
@@ -135,7 +135,7 @@ pub(super) fn path(
     let name = table_name(table);
     match entry(entries, "tables") {
         Some(folder) => Ok(Some(format!(in alloc; "{folder}/{name}.csv")?)),
-        None => copied(alloc, entries, name),
+        None => copy_entry(alloc, entries, name),
     }
 }
 
