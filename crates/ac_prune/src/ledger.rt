@@ -20,8 +20,8 @@ pub mod rooms;
 use crate::ledger::marks::{has_full, hit, lone_slots, mark, taken_roots, unhit, unmark};
 use crate::ledger::rooms::{Ask, all_asks, all_classes, all_columns, give_back, has_each, take};
 use ac_base::{ClassName, NoMemory};
-use ac_query::Query;
 use ac_cloud::Cloud;
+use ac_query::Query;
 use std::alloc::Global;
 
 /// What a path takes of the rooms, and which providers and roots it meets.

@@ -9,9 +9,9 @@ ghost use Rattle.ac_rules.specs.Placed.{placed_at, assigned};
 ghost use Rattle.ac_rules.specs.Judge.{is_open};
 ghost use Rattle.ac_prune.specs.QuerySearch.{fits};
 
+use ac_cloud::Cloud;
 use ac_query::Query;
 use ac_rules::{Assignment, Placed};
-use ac_cloud::Cloud;
 
 /// Whether a provider meets the rules of a slot alone.
 #[tactic(auto, unfolding(crate::specs::QuerySearch::fits))]
@@ -26,10 +26,7 @@ pub fn fits_slot(cloud: &Cloud, query: &Query, s: usize, ix: u32) -> bool
         slot: s,
         provider: ix,
     };
-    placed.has_units()
-        && placed.has_slot_traits()
-        && placed.has_aggregates()
-        && placed.is_in_tree()
+    placed.has_units() && placed.has_slot_traits() && placed.has_aggregates() && placed.is_in_tree()
 }
 
 /// Whether a list, each of whose providers meets the rules of its slot alone, is open.

@@ -1,6 +1,8 @@
 //! Small clouds and large ones, and the first fault of tables.
 use ac_base::{ClassName, Id, MemFeed, TraitName, Turn};
-use ac_tables::{Cloud, Counts, FromTables, ReadFault, Sources, Table, TableFault, TableKind, drain};
+use ac_tables::{
+    Cloud, Counts, FromTables, ReadFault, Sources, Table, TableFault, TableKind, drain,
+};
 use std::alloc::{AllocError, Global};
 use std::test::Fail;
 

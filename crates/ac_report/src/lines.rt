@@ -12,9 +12,9 @@ ghost use Rattle.ac_report.specs.Pages.{IsAssignment, LosesSome, TakesWhole, beh
 
 use crate::fault::PageFault;
 use ac_base::{Id, NoMemory, Sink, push_all};
+use ac_cloud::Cloud;
 use ac_query::Query;
 use ac_rules::Source;
-use ac_cloud::Cloud;
 use std::alloc::Global;
 
 // Whether no further list is wanted.

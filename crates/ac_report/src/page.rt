@@ -17,9 +17,9 @@ use crate::lines::is_full;
 use crate::request::request_text;
 use crate::summary::{summary_member, without_braces};
 use ac_base::{Sink, WriteFailed, push_all};
+use ac_cloud::Cloud;
 use ac_query::Query;
 use ac_rules::Source;
-use ac_cloud::Cloud;
 use std::alloc::{AllocError, Global};
 
 // Pushes a text, after a comma where something stands before.

@@ -16,8 +16,8 @@ ghost use Rattle.ac_report.specs.Texts.{request_text};
 
 use crate::serving::{all_hosts, classes_on, hosts_of};
 use ac_base::NoMemory;
-use ac_query::{Group, Query};
 use ac_cloud::Cloud;
+use ac_query::{Group, Query};
 use parts::{Allocation, Hosts, Request};
 use std::alloc::{AllocError, Global};
 use std::collections::BTreeMap;

@@ -7,8 +7,8 @@ ghost use Rattle.ac_cloud.specs.Cloud.CloudWorld.{providers_of};
 ghost use Rattle.ac_query.specs.Asked.{slots_of};
 ghost use Rattle.ac_query.specs.Shown.Queries.{asked_of};
 
-use ac_query::Query;
 use ac_cloud::Cloud;
+use ac_query::Query;
 
 /// A slot of a query, and a provider of a cloud in it.
 #[derive(Clone, Copy)]

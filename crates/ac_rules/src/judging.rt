@@ -8,8 +8,8 @@ ghost use Rattle.ac_rules.specs.Judge.{judge, is_candidate};
 
 use crate::assignment::Assignment;
 use crate::verdict::{Rule, Verdict};
-use ac_query::Query;
 use ac_cloud::Cloud;
+use ac_query::Query;
 
 /// The verdict on one list of providers, a place for each slot: the first rule, in their order, that it breaks at any
 /// place. It takes no memory.

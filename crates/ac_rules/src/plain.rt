@@ -21,8 +21,8 @@ use crate::plain::lists::AllLists;
 use crate::slots::count_slots;
 use crate::source::Source;
 use ac_base::{Id, NoMemory};
-use ac_query::{Query, Token};
 use ac_cloud::Cloud;
+use ac_query::{Query, Token};
 use std::alloc::Global;
 
 /// Goes through all lists of providers in order, and gives those that are candidates.

@@ -14,12 +14,12 @@ ghost use Rattle.ac_prune.specs.QuerySearch.{has_room_alone};
 ghost use Rattle.ac_search.specs.Shown.Explained.{marked, served, served_roots, slot_counted, trees_counted};
 
 use ac_base::NoMemory;
+use ac_cloud::Cloud;
 use ac_prune::{fits_slot, limit, taken_roots};
 use ac_query::{Need, Query};
 use ac_rules::Placed;
 use ac_rules::rules::sums::room_at;
 use ac_rules::slots::{count_slots, needs_at};
-use ac_cloud::Cloud;
 use std::alloc::Global;
 
 /// How many providers meet what a slot asks. Each number counts those that meet all that stands before it, too.

@@ -7,8 +7,8 @@ ghost use Rattle.ac_query.specs.Tokens as tokens;
 ghost use Rattle.ac_search.specs.Between.{rank_of, least_after, least_of};
 
 use ac_base::{Id, NoMemory};
-use ac_query::Token;
 use ac_cloud::Cloud;
+use ac_query::Token;
 use std::alloc::Global;
 
 // The first place whose provider's id isn't below; past the end where there is none.

@@ -18,11 +18,11 @@ mod trying;
 
 use crate::least::least_of;
 use ac_base::{Id, NoMemory};
+use ac_cloud::Cloud;
 use ac_prune::{Ledger, Lookout, all_choices};
 use ac_query::{Query, Token};
 use ac_rules::slots::count_slots;
 use ac_rules::source::Source;
-use ac_cloud::Cloud;
 use std::alloc::Global;
 use trying::start_of;
 

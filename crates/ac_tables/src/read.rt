@@ -4,8 +4,6 @@ ghost use Rattle.ac_tables.specs.Tables.Checks.{Tells};
 ghost use Rattle.ac_tables.specs.Tables.{tables_fault, world_stated};
 ghost use Rattle.ac_tables.specs.SourceText.{text_or};
 
-use ac_cloud::cloud::build::Parts;
-use ac_cloud::{Cloud, Counts};
 use crate::fault::TableFault;
 use crate::tables::aggregates::read_aggregates;
 use crate::tables::entries::join;
@@ -13,6 +11,8 @@ use crate::tables::inventories::Inventories;
 use crate::tables::providers::{Providers, read_providers};
 use crate::tables::traits::read_traits;
 use crate::tables::usages::read_usages;
+use ac_cloud::cloud::build::Parts;
+use ac_cloud::{Cloud, Counts};
 use std::alloc::Global;
 
 /// The five tables, each as a `T`, of which three may not be there.

@@ -14,9 +14,9 @@ ghost use Rattle.ac_prune.specs.QuerySearch.{choices_of};
 
 use crate::ledger::Ledger;
 use ac_base::NoMemory;
+use ac_cloud::Cloud;
 use ac_query::Query;
 use ac_rules::slots::{count_slots, is_listed};
-use ac_cloud::Cloud;
 use std::alloc::Global;
 
 // Marks each provider of a list.

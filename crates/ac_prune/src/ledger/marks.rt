@@ -11,10 +11,10 @@ ghost use Rattle.ac_rules.specs.Together.{takes_root};
 ghost use Rattle.ac_prune.specs.Marks.{needs_own, times};
 
 use ac_base::NoMemory;
+use ac_cloud::Cloud;
 use ac_query::Query;
 use ac_rules::rules::anchor::takes_root;
 use ac_rules::slots::{count_slots, is_set_apart};
-use ac_cloud::Cloud;
 use std::alloc::Global;
 
 // Whether a slot needs a provider for itself among its like.

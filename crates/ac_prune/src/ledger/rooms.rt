@@ -11,10 +11,10 @@ ghost use Rattle.ac_rules.specs.Placed.{slot_at};
 ghost use Rattle.ac_prune.specs.Left.{place_of, IsKnown, ask_pair, numbered, wanted, has_each, left_at, rooms_of, AreSmall, Moves};
 
 use ac_base::{ClassName, NoMemory};
+use ac_cloud::Cloud;
 use ac_query::{Need, Query};
 use ac_rules::rules::sums::room_at;
 use ac_rules::slots::{count_slots, needs_at};
-use ac_cloud::Cloud;
 use std::alloc::Global;
 
 /// What a slot asks of a class, by the class's number.

@@ -6,8 +6,8 @@ ghost use Rattle.ac_query.specs.Shown.Queries.{asked_of};
 ghost use Rattle.ac_cloud.specs.Cloud.CloudWorld.{providers_of};
 
 use ac_base::Id;
-use ac_query::Query;
 use ac_cloud::Cloud;
+use ac_query::Query;
 use std::collections::{BTreeMap, BTreeSet};
 
 // What is taken of a provider: of each of these classes, all that the list needs of it.

@@ -9,8 +9,8 @@ ghost use Rattle.ac_rules.specs.Together.{takes_root, anchor};
 
 use crate::assignment::Assignment;
 use crate::rules::traits::{has_all, has_none};
-use ac_query::Query;
 use ac_cloud::Cloud;
+use ac_query::Query;
 
 /// Whether a provider is a root that has what the query asks of the root.
 #[tactic(auto, using(crate::proofs::EachSlot::AnchorLemmas::available_itself), unfolding(crate::specs::Together::takes_root))]

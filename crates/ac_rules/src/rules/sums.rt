@@ -12,8 +12,8 @@ ghost use Rattle.ac_rules.specs.Together.{amount_of, sum_on, holds, holds_sums, 
 use crate::assignment::{Assignment, Placed};
 use crate::slots::needs_at;
 use ac_base::ClassName;
-use ac_query::Need;
 use ac_cloud::Cloud;
+use ac_query::Need;
 
 // The most of a class that one assignment may take of a provider: `max_unit`, or what is left of the capacity.
 // `None` where it has none of the class, or more is used than there is.

@@ -12,8 +12,8 @@ ghost use Rattle.ac_query.specs.Shown.Groups.{any_of_shown, group_asked};
 ghost use Rattle.ac_rules.specs.Own.{has_all, has_none, has_any, has_one_of_each, has_required};
 
 use ac_base::TraitName;
-use ac_query::{AnyOf, Group};
 use ac_cloud::Cloud;
+use ac_query::{AnyOf, Group};
 
 /// Whether the provider has all of these traits.
 pub(crate) fn has_all(cloud: &Cloud, ix: u32, names: &[TraitName]) -> bool

@@ -12,9 +12,9 @@ ghost use Rattle.ac_search.specs.Search.{IsStart, Enters, HasAt, least_at};
 ghost use Rattle.ac_prune.specs.QuerySearch.{completes};
 
 use super::{Step, Walk};
+use ac_cloud::Cloud;
 use ac_query::Query;
 use ac_rules::Assignment;
-use ac_cloud::Cloud;
 
 impl<'a> Walk<'a> {
     ghost use Rattle.ac_search.specs.Shown.Walk.{search_in, IsSame};

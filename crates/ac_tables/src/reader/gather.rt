@@ -7,13 +7,13 @@ ghost use Rattle.ac_tables.specs.Drain.{most_bytes};
 ghost use Rattle.ac_tables.specs.Reader.TableRows.{is_past, IsReadUpTo, IsLeastRepeat, IsTable};
 ghost use Rattle.ac_tables.specs.Tables.Rows.{IsReading, rows_left, records_of};
 
-use ac_cloud::Expected;
 use crate::fault::{RecordFault, Table, TableFault, TableKind};
 use crate::reader::header::open_table;
 use crate::reader::record::{Record, Seen};
 use crate::reader::records::next_row;
 use crate::reader::row::{TableRow, first_repeat, put_in_order};
 use ac_base::Names;
+use ac_cloud::Expected;
 use csv::{ByteRecord, Reader};
 use std::alloc::Global;
 

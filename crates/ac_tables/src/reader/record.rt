@@ -7,9 +7,9 @@ ghost use Rattle.ac_tables.specs.Reader.TableRows.{IsKeyed};
 ghost use Rattle.ac_tables.specs.Tables.Checks.{Row, Check, first_failing, TellsKind};
 ghost use Rattle.ac_tables.specs.Tables.Columns.{bytes_of};
 
-use ac_cloud::Expected;
 use crate::fault::{RecordFault, Table};
 use ac_base::Names;
+use ac_cloud::Expected;
 use csv::ByteRecord;
 
 // What was seen of a table so far, to guess by.

@@ -5,9 +5,8 @@ ghost use Rattle.std.specs.List.Sorted.{IsNonDecreasingBy};
 ghost use Rattle.ac_tables.specs.Reader.TableRows.{AreStarts};
 ghost use Rattle.ac_cloud.specs.ListsOf.{lists_of};
 
-use ac_cloud::Ids;
-use ac_cloud::Lists;
 use crate::reader::row::TableRow;
+use ac_cloud::{Ids, Lists};
 use std::alloc::{AllocError, Global};
 
 // The first row from a place on that is of this provider or a later one.

@@ -13,10 +13,9 @@ ghost use Rattle.ac_tables.specs.Reader.EntryLists.{entry_of, with_used_lists};
 ghost use Rattle.ac_tables.specs.Reader.TableRows.{AreStarts};
 ghost use Rattle.ac_cloud.specs.ListsOf.{lists_of};
 
-use ac_cloud::Entry;
-use ac_cloud::Lists;
 use crate::reader::row::TableRow;
 use ac_base::{ClassName, Inventory};
+use ac_cloud::{Entry, Lists};
 use std::alloc::{AllocError, Global};
 
 // The usage of a class among those of a provider.

@@ -20,17 +20,16 @@ ghost use Rattle.ac_tables.specs.Tables.Rows.{records_of};
 ghost use Rattle.ac_tables.specs.Tables.{inventories_of};
 ghost use Rattle.ac_tables.specs.declared.fault.Table.TheVariants as table;
 
-use ac_cloud::Ids;
 use crate::fault::{RecordFault, Table, TableFault, TableKind};
 use crate::reader::fields::{CLASS, OWNER, read_class, read_owner};
 use crate::reader::gather::read_table;
 use crate::reader::header::column_at;
-use ac_cloud::Lists;
 use crate::reader::record::{Record, Seen};
 use crate::reader::records::text_at;
 use crate::reader::row::TableRow;
 use crate::reader::split::split;
 use ac_base::{ClassName, Inventory, Ratio, read_count};
+use ac_cloud::{Ids, Lists};
 use csv::ByteRecord;
 use std::alloc::{AllocError, Global};
 

@@ -7,11 +7,11 @@ ghost use Rattle.ac_tables.specs.Tables.ProviderTable.{ProviderRecord};
 ghost use Rattle.ac_tables.specs.declared.reader.row.TableRow.{TableRow as ListingRow};
 ghost use Rattle.ac_tables.specs.declared.tables.provider_record.Named.{Named as NamedShown};
 
-use ac_cloud::{Expected, Ids};
 use crate::fault::{Table, TableFault, TableKind};
 use crate::reader::row::{TableRow, sooner};
 use crate::tables::provider_record::Named;
 use ac_base::Id;
+use ac_cloud::{Expected, Ids};
 use std::alloc::{AllocError, Global};
 
 fn keys(alloc: Global, rows: &[TableRow<Id, Named>]) -> Result<Vec<Id>, AllocError>

@@ -12,8 +12,6 @@ ghost use Rattle.ac_tables.specs.Tables.Rows.{records_of};
 ghost use Rattle.ac_base.specs.Sorted.{rising};
 ghost use Rattle.ac_cloud.specs.Trees.{top};
 
-use ac_cloud::Ids;
-use ac_cloud::cloud::roots::find_tops;
 use crate::fault::{TableFault, TableKind};
 use crate::reader::gather::read_table;
 use crate::reader::row::TableRow;
@@ -22,6 +20,8 @@ use crate::tables::listing::{
 };
 use crate::tables::provider_record::{Named, ProviderTable};
 use ac_base::Id;
+use ac_cloud::Ids;
+use ac_cloud::cloud::roots::find_tops;
 use std::alloc::Global;
 
 // The rows of the providers of a text, before their parents are looked at.

@@ -14,17 +14,16 @@ ghost use Rattle.ac_tables.specs.Tables.Rows.{records_of};
 ghost use Rattle.ac_tables.specs.Tables.{names_of};
 ghost use Rattle.ac_tables.specs.declared.fault.Table.TheVariants as table;
 
-use ac_cloud::Ids;
 use crate::fault::{RecordFault, Table, TableFault, TableKind};
 use crate::reader::fields::{OWNER, read_owner};
 use crate::reader::gather::read_table;
 use crate::reader::header::column_at;
-use ac_cloud::Lists;
 use crate::reader::record::{Record, Seen};
 use crate::reader::records::text_at;
 use crate::reader::row::keep_first;
 use crate::reader::split::{keys_of, split};
 use ac_base::{Names, TraitName};
+use ac_cloud::{Ids, Lists};
 use csv::ByteRecord;
 use std::alloc::Global;
 

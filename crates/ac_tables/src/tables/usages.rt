@@ -20,13 +20,13 @@ use crate::fault::{RecordFault, Table, TableFault, TableKind};
 use crate::reader::fields::{CLASS, OWNER, read_class, read_owner};
 use crate::reader::gather::read_table;
 use crate::reader::header::column_at;
-use ac_cloud::Lists;
 use crate::reader::record::{Record, Seen};
 use crate::reader::records::text_at;
 use crate::reader::row::TableRow;
 use crate::reader::split::split;
 use crate::tables::inventories::Inventories;
 use ac_base::{ClassName, read_count};
+use ac_cloud::Lists;
 use csv::ByteRecord;
 use std::alloc::Global;
 
