@@ -12,7 +12,7 @@ use Rattle.std.proofs.Math.Nat.{pow-suc, one-le-pow, add-mul-mod_self_right, add
 use Rattle.std.specs.Option.{option_map}
 use Rattle.ac_base.specs.Texts.{is_digit, is_zero, with_digit, decimal, in_millionths}
 use Rattle.ac_base.specs.Laws.{SixDecimals}
-use Rattle.ac_base.proofs.Bools.{both}
+use Rattle.ac_base.proofs.Small.{both}
 
 regroup : (n d p r : ℕ) → (n * 10 + d) * p + r ≡ n * (p * 10) + ((0 * 10 + d) * p + r)
 regroup n d p r = omega arith

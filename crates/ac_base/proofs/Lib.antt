@@ -1,5 +1,3 @@
-pub mod Bools
-pub mod Options
 pub mod NameFacts
 pub mod Known
 pub mod ShownKeys

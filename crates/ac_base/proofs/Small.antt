@@ -1,10 +1,8 @@
 -- Small facts of numbers, of truth values, of options and of texts.
-use Rattle.std.proofs.Common.{◌≡◌, ◌≢◌, ◌+◌, ◌<◌, ◌≤◌, ℕ, Bool, true, false, Option, Some, None, refl, arith, rules, inl, inr, ◌⊎◌, ◌==◌, ◌||◌, min, not, is_some, subst}
+use Rattle.std.proofs.Common.{◌≡◌, ◌≢◌, ◌&&◌, List, sym, option_map, ◌+◌, ◌<◌, ◌≤◌, ℕ, Bool, true, false, Option, Some, None, refl, arith, rules, inl, inr, ◌⊎◌, ◌==◌, ◌||◌, min, not, is_some, subst}
 use Rattle.std.proofs.lemmas.Bool.{cases_lt}
 use Rattle.std.specs.Cmp.{both_ways}
-use Rattle.std.specs.Prelude.{List}
 use Rattle.std.specs.Str.{bytes_eq}
-use Rattle.std.proofs.Common.{sym}
 use Rattle.std.proofs.lemmas.Slice.Eq.{bytes_eq-Decides}
 
 pub clash : (b : Bool) → b ≡ false → b ≡ true → ⊥
@@ -67,3 +65,13 @@ none_is (Some x) e = absurd (cc)
 -- texts are equal both ways
 pub eq_turned : (a b : List ℕ) → bytes_eq a b ≡ bytes_eq b a
 eq_turned a b = both_ways (bytes_eq a b) (bytes_eq b a) (λ e. (bytes_eq-Decides b a).1 (sym ((bytes_eq-Decides a b).0 e))) (λ e. (bytes_eq-Decides a b).1 (sym ((bytes_eq-Decides b a).0 e)))
+
+-- two tests that both pass
+pub both : (a b : Bool) → (a && b) ≡ true → (a ≡ true) × (b ≡ true)
+both true b h = (refl, h)
+both false b h = absurd (cc)
+
+-- what is no `Some` maps to `None`
+pub none_unless : {X Y : Type 0} (f : X → Y) (o : Option X) → ((x : X) × (o ≡ Some x) → ⊥) → None ≡ option_map f o
+none_unless f None never = refl
+none_unless f (Some x) never = absurd (never (x, refl))

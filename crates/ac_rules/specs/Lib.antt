@@ -7,6 +7,5 @@ pub mod Together
 pub mod Room
 pub mod Judge
 pub mod Pages
-pub mod Odometer
 pub mod Laws
 pub mod Located

@@ -2,3 +2,4 @@
 pub mod Lists
 pub mod Plain
 pub mod Assignments
+pub mod Odometer

@@ -80,7 +80,8 @@ fn read_pair(
 /// What a query asks for, or the first of the faults of its text and its pairs.
 pub(crate) fn read_draft(alloc: Global, text: &str, version: Version) -> Result<Draft, QueryFault>
     ensures ok { OnOk result (first_fault (text_conditions version text.now) ≡ None) }
-    ensures draft { IfOk result (λ draft. draft_shown draft ≡ gathered version (pairs_of text.now)) }
+    ensures draft { IfOk result (λ draft.
+        draft_shown draft ≡ gathered version (pairs_of text.now)) }
     ensures fault { IfErr result (λ e. IfSome (fault_shown e) (λ f.
         first_fault (text_conditions version text.now) ≡ Some f)) }
     ensures long { 65536 < length text.now → result ≡ Err QueryFault.QueryTooLong }

@@ -5,7 +5,7 @@ use Rattle.std.proofs.lemmas.Bool.{cases_lt, lt-ltb, le-ltb, ne_eqb}
 use Rattle.std.proofs.lemmas.List.{length-replicate}
 use Rattle.std.proofs.lemmas.List.Elements.{All-from_recursion, recursion_from_All}
 use Rattle.ac_rules.specs.Lists.{all_lists}
-use Rattle.ac_rules.specs.Odometer.{successor, successor_by, headed, lists_after, ahead, start}
+use Rattle.ac_rules.specs.Shown.Odometer.{successor, successor_by, headed, lists_after, ahead, start}
 use Rattle.ac_rules.specs.declared.plain.odometer.Stage.TheVariants.{Given}
 use Rattle.ac_rules.proofs.PlacedLemmas.{range_more, range_end}
 

@@ -1,6 +1,6 @@
 -- What a walk through all lists still gives.
 use Rattle.std.specs.Prelude.{ℕ, List}
-use Rattle.ac_rules.specs.Odometer.{ahead}
+use Rattle.ac_rules.specs.Shown.Odometer.{ahead}
 use Rattle.ac_rules.specs.declared.plain.lists.AllLists.{AllLists}
 
 -- its own list

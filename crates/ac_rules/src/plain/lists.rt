@@ -3,7 +3,7 @@ ghost use Rattle.std.specs.Prelude.{◌≡◌, ◌<◌, false, length, [], ◌�
 ghost use Rattle.std.specs.Bool.{MatchBool, OnTrue};
 ghost use Rattle.std.specs.List.{All};
 ghost use Rattle.ac_rules.specs.Lists.{all_lists};
-ghost use Rattle.ac_rules.specs.Odometer.{has_ended};
+ghost use Rattle.ac_rules.specs.Shown.Odometer.{has_ended};
 
 use crate::plain::odometer::{Stage, count_up, start};
 use ac_base::NoMemory;

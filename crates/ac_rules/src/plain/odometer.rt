@@ -1,7 +1,7 @@
 //! Lists of numbers counted up, as an odometer counts.
 ghost use Rattle.std.specs.Prelude.{◌≡◌, Some, None, length, replicate};
 ghost use Rattle.std.specs.Bool.{MatchBool};
-ghost use Rattle.ac_rules.specs.Odometer.{start, successor};
+ghost use Rattle.ac_rules.specs.Shown.Odometer.{start, successor};
 
 /// Where a walk through all lists stands.
 #[derive(Clone, Copy, Debug, PartialEq, Eq)]

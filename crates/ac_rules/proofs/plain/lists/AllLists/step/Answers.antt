@@ -1,7 +1,7 @@
 use Rattle.std.proofs.Common.{◌≡◌, ℕ, List, length, Some, ap, arith}
 use Rattle.std.specs.Vec.{with_items}
 use Rattle.std.proofs.lemmas.List.{with_items_is}
-use Rattle.ac_rules.specs.Odometer.{successor, has_ended}
+use Rattle.ac_rules.specs.Shown.Odometer.{successor, has_ended}
 use Rattle.ac_rules.specs.declared.plain.lists.AllLists.{AllLists}
 use Rattle.ac_rules.proofs.Lists.OdometerLemmas.{given_next, next_below}
 use Rattle.ac_rules.proofs.plain.lists.AllLists.step.Goals as goal
