@@ -14,12 +14,12 @@ use Rattle.ac_search.specs.Search.Steps.{IsTried, Passes, StepGives, Goes, Gives
 use Rattle.ac_search.specs.declared.walk.Walk.{Walk}
 use Rattle.ac_search.specs.declared.walk.Step.{Step}
 use Rattle.ac_search.specs.declared.walk.Step.TheVariants.{Given, Went, Ended}
-use Rattle.ac_rules.proofs.Lists.OrderLemmas.{lex_trans}
+use Rattle.ac_rules.proofs.Lists.OrderLemmas.{lex_irrefl, lex_trans}
 use Rattle.ac_search.proofs.Search.FrontOrder.{lex_le_trans}
 use Rattle.ac_prune.proofs.Search.SoughtLemmas.{IsSearch, low_at}
 use Rattle.ac_search.proofs.Steps.MoveLemmas.{sound_next, forward_next}
 use Rattle.ac_search.proofs.Steps.TryLemmas.{left_dead}
-use Rattle.ac_search.proofs.Steps.StepLemmas.{laws_in, same_then, bounded_then, tried_on, rises_later}
+use Rattle.ac_search.proofs.Steps.StepLemmas.{laws_in, search_same, same_then, bounded_then, tried_on, rises_later}
 
 -- at place j of depth d it stands as it stood
 pub record StandsAt (m : Search) (x path places : List ℕ) (d j probes : ℕ) : Type 0 where
@@ -58,6 +58,9 @@ passes_over m laws x path places d seeking probes (suc n) j s is within dead =
     }
 
 -- ---- One pass after another, and a step after it
+
+pub passes_none : (w : Walk) → Passes w w
+passes_none w = record { same = record { cloud = refl; query = refl; after = refl; least = refl }; path = refl; depth = refl; on = omega arith; left = refl; up = lex_irrefl (front_in w); kept = omega arith }
 
 pub passes_then : (w u v : Walk) → Passes w u → Passes u v → Passes w v
 passes_then w u v a b = record {
@@ -100,6 +103,22 @@ pub step_passed : (r : Step) (w u v : Walk) → Passes w u → StepGives r u v �
 step_passed Given w u v a b = gives_passed w u v a b
 step_passed Went w u v a b = goes_passed w u v a b
 step_passed Ended w u v a b = ends_passed w u v a b
+
+-- ---- Where it went on to a place
+
+module _ (w v : Walk) (place : ℕ) (passes : Passes w v) (at : slice_index v.places.items v.depth ≡ place) where
+  -- the choice there is one of its slot
+  pub among_there : place < length (choices_at (search_in w) w.depth) → slice_index v.places.items v.depth < length (choices_at (search_in v) v.depth)
+  among_there inside =
+      let slot : choices_at (search_in v) v.depth ≡ choices_at (search_in w) w.depth = ap (λ (m : Search). choices_at m v.depth) (search_same w v passes.same) ∙ ap (choices_at (search_in w)) passes.depth in
+      omega (arith, at, ap length slot, inside)
+
+  -- and leads nowhere, where that was told of it before
+  pub dead_there : IsDead (search_in w) (take w.depth w.path.items ++ next_at (search_in w) w.depth place ∷ []) → IsDead (search_in v) (front_in v)
+  dead_there dead =
+      let front : front_in v ≡ take w.depth w.path.items ++ next_at (search_in v) w.depth place ∷ [] = rw (at, passes.path, passes.depth) refl in
+      subst (λ (q : List ℕ). IsDead (search_in v) q) (sym front)
+      (subst (λ (m : Search). IsDead m (take w.depth w.path.items ++ next_at m w.depth place ∷ [])) (sym (search_same w v passes.same)) dead)
 
 -- ---- A front of the tests
 

@@ -28,17 +28,26 @@ impl<'a> Walk<'a> {
         }
     }
 
-    // Looks at the next choice: whether there is one, and it can't follow.
-    fn next_is_dead(&self, bound: Option<u32>) -> bool
+    // The next place of the slot whose choice may lead on by the tests that don't look at choices one by one, and whether that choice is looked at
+    // and can't follow.
+    fn look(&self, bound: Option<u32>) -> (usize, bool)
         requires { IfSome bound (λ p. is_there (take self.now.depth self.now.path.items) p
             ≡ true) }
-        ensures among { result ≡ true → slice_index self.now.places.items self.now.depth
-            < length (choices_at (search_in self.now) self.now.depth) }
-        ensures dead { result ≡ true → IsDead (search_in self.now) (front_in self.now) }
+        ensures from { slice_index self.now.places.items self.now.depth ≤ result.0 }
+        ensures within { result.0 ≤ length (choices_at (search_in self.now) self.now.depth) }
+        ensures jumped { AllDead (search_in self.now) (take self.now.depth self.now.path.items)
+            self.now.depth (slice_index self.now.places.items self.now.depth) result.0 }
+        ensures among { result.1 ≡ true
+            → result.0 < length (choices_at (search_in self.now) self.now.depth) }
+        ensures dead { result.1 ≡ true
+            → IsDead (search_in self.now) (take self.now.depth self.now.path.items
+            ++ next_at (search_in self.now) self.now.depth result.0 ∷ []) }
     {
         let front = self.front(bound);
-        let place = self.places[self.depth];
-        place < front.choices.len() && !self.lookout.may_follow(&front, front.choices[place])
+        let place = self.lookout.next(&front, self.places[self.depth]);
+        let some = place < front.choices.len();
+        let dead = some && !self.lookout.may_follow(&front, front.choices[place]);
+        (place, dead)
     }
 
     // Goes on to a place of the slot, where nothing is lost up to there. No choice is looked at, so there is no try.
@@ -48,6 +57,7 @@ impl<'a> Walk<'a> {
         requires dead { AllDead (search_in self.old) (take self.old.depth self.old.path.items)
             self.old.depth (slice_index self.old.places.items self.old.depth) place }
         ensures passes { Passes self.old self.new }
+        ensures at { slice_index self.new.places.items self.new.depth ≡ place }
         ensures probes { self.new.probes ≡ self.old.probes }
     {
         if place > self.places[self.depth] {
@@ -56,17 +66,20 @@ impl<'a> Walk<'a> {
         }
     }
 
-    // Goes on to the next choice that may lead on by the tests that don't look at choices one by one.
-    fn go_beside(&mut self, bound: Option<u32>)
+    // Goes on to the next choice that may lead on by the tests that don't look at choices one by one: whether there is one, and it is looked at and
+    // can't follow.
+    fn go_beside(&mut self, bound: Option<u32>) -> bool
         requires { IfSome bound (λ p. is_there (take self.old.depth self.old.path.items) p
             ≡ true) }
         ensures passes { Passes self.old self.new }
         ensures probes { self.new.probes ≡ self.old.probes }
+        ensures among { result ≡ true → slice_index self.new.places.items self.new.depth
+            < length (choices_at (search_in self.new) self.new.depth) }
+        ensures dead { result ≡ true → IsDead (search_in self.new) (front_in self.new) }
     {
-        let place = self
-            .lookout
-            .next(&self.front(bound), self.places[self.depth]);
+        let (place, dead) = self.look(bound);
         self.go_on(place);
+        dead
     }
 
     // Passes over the next choice, which can't follow. It was looked at, so that is a try, and counted.
@@ -88,10 +101,11 @@ impl<'a> Walk<'a> {
         ensures { Passes self.old self.new }
     {
         let bound = bound_by(self.ledger.cloud, &self.path[..self.depth]);
-        self.go_beside(bound);
-        while self.next_is_dead(bound) {
+        'choices: loop {
+            if !self.go_beside(bound) {
+                return;
+            }
             self.pass_over();
-            self.go_beside(bound);
         }
     }
 }
