@@ -250,7 +250,7 @@ GROWTHS = [
 
 # The calls that take memory, each by itself: those of the libraries, and of the program.
 REFUSALS = [Case(f'each growth refused, in the tests of {name}', ['sh', '-c', f'exec python3 -B tests/refusals.py {name}'], SOME)
-            for name in ('ac_read_tests', 'ac_search_tests search::', 'ac_search_tests report::', 'ac_run_tests')]
+            for name in ('ac_read_tests', 'ac_search_tests', 'ac_report_tests', 'ac_run_tests')]
 
 KNOWN = Case('a fault is told though a growth behind it is refused', ['sh', '-c', 'exec python3 -B tests/known_faults.py "$0"', PROGRAM], SOME)
 

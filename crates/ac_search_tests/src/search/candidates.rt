@@ -1,6 +1,6 @@
 //! The candidates of queries in small clouds, by both sources, and verdicts on one list.
 use super::{gives, verdict_of};
-use crate::clouds::{NONE, ONE, PAIR, Rows};
+use ac_example_clouds::{NONE, ONE, PAIR, Rows};
 use ac_rules::{Rule, Verdict};
 use std::test::Fail;
 

@@ -1,5 +1,5 @@
 //! What an explanation counts in small clouds, with the hand count beside each number.
-use crate::clouds::{NONE, Rows, cloud_of, query_of};
+use ac_example_clouds::{NONE, Rows, cloud_of, query_of};
 use ac_rules::slots::count_slots;
 use ac_search::{SlotCounts, TreeCounts, slot_counts, tree_counts};
 use std::alloc::{AllocError, Global};

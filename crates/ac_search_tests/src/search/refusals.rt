@@ -1,6 +1,6 @@
 //! What takes memory, made with each of its growths refused in turn: all candidates, the counts of trees, or want of memory. What a source gives
 //! takes none, so it is given with all growths refused too.
-use crate::clouds::{PAIR, cloud_of, query_of};
+use ac_example_clouds::{PAIR, cloud_of, query_of};
 use ac_base::NoMemory;
 use ac_query::{Query, Token};
 use ac_rules::{Plain, Source};

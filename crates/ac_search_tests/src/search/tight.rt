@@ -1,7 +1,7 @@
 //! The walk beside the plain source, over clouds that are made to be tight: few units, much used, some of it shared, groups
 //! isolated and below one another.
 use super::gives;
-use crate::clouds::{NONE, Rows};
+use ac_example_clouds::{NONE, Rows};
 use std::alloc::{AllocError, Global};
 use std::test::Fail;
 

@@ -1,7 +1,7 @@
 //! How often a walk tries, counted by hand: once for each choice that it looks at, whether it passes over it or tests it.
 //! Choices of other trees and parts, and those behind a path that has too little left, aren't looked at.
 use super::{ends, token_of};
-use crate::clouds::{PAIR, Rows, cloud_of, expanded, query_of};
+use ac_example_clouds::{PAIR, Rows, cloud_of, expanded, query_of};
 use ac_rules::Source;
 use ac_search::Walk;
 use ac_tables::Cloud;

@@ -1,4 +1,6 @@
-//! Small clouds and queries, of which several modules make examples.
+//! Small clouds and queries, of which tests make examples.
+#![tactic(auto)]
+
 use ac_query::{Query, Version};
 use ac_tables::{Cloud, FromTables, Sources};
 use std::alloc::{AllocError, Global};
@@ -8,22 +10,22 @@ const FRONT: &str = "00000000-0000-0000-0000-0000000000";
 
 const LIMIT: usize = 67_108_864;
 
-// The rows of tables; `@01` is the UUID that ends with 01.
+/// The rows of tables; `@01` is the UUID that ends with 01.
 #[derive(Clone, Copy)]
-pub(crate) struct Rows<'a> {
-    // The columns of the providers.
-    pub(crate) columns: &'a str,
-    // A provider, its root and its parent.
-    pub(crate) providers: &'a str,
-    // A provider, a class, the total and what stands behind it.
-    pub(crate) inventories: &'a str,
-    pub(crate) usages: &'a str,
-    pub(crate) traits: &'a str,
-    pub(crate) aggregates: &'a str,
+pub struct Rows<'a> {
+    /// The columns of the providers.
+    pub columns: &'a str,
+    /// A provider, its root and its parent.
+    pub providers: &'a str,
+    /// A provider, a class, the total and what stands behind it.
+    pub inventories: &'a str,
+    pub usages: &'a str,
+    pub traits: &'a str,
+    pub aggregates: &'a str,
 }
 
-// A text with each `@` written out.
-pub(crate) fn expanded(alloc: Global, text: &str) -> Result<String, AllocError> {
+/// A text with each `@` written out.
+pub fn expanded(alloc: Global, text: &str) -> Result<String, AllocError> {
     text.replace(alloc, "@", FRONT)
 }
 
@@ -33,8 +35,8 @@ fn table(alloc: Global, header: &str, rows: &str) -> Result<String, AllocError> 
     format!(in alloc; "{header}\n{rows}")
 }
 
-// The cloud of rows, where they are accepted.
-pub(crate) fn cloud_of(alloc: Global, rows: Rows) -> Result<Option<Cloud>, AllocError> {
+/// The cloud of rows, where they are accepted.
+pub fn cloud_of(alloc: Global, rows: Rows) -> Result<Option<Cloud>, AllocError> {
     let providers = table(alloc, rows.columns, rows.providers)?;
     let inventories = table(
         alloc,
@@ -65,8 +67,8 @@ pub(crate) fn cloud_of(alloc: Global, rows: Rows) -> Result<Option<Cloud>, Alloc
     Ok(Cloud::read(alloc, &src).ok())
 }
 
-// A query as 1.39 reads it: what 1.36 accepts, both read alike.
-pub(crate) fn query_of(alloc: Global, text: &str) -> Result<Option<Query>, AllocError> {
+/// A query as 1.39 reads it: what 1.36 accepts, both read alike.
+pub fn query_of(alloc: Global, text: &str) -> Result<Option<Query>, AllocError> {
     let text = expanded(alloc, text)?;
     match Query::read(alloc, text.as_str(), Version::V139) {
         Ok(query) => Ok(Some(query)),
@@ -74,8 +76,8 @@ pub(crate) fn query_of(alloc: Global, text: &str) -> Result<Option<Query>, Alloc
     }
 }
 
-// Headers alone.
-pub(crate) const NONE: Rows<'static> = Rows {
+/// Headers alone.
+pub const NONE: Rows<'static> = Rows {
     columns: "uuid,root_provider_uuid,parent_provider_uuid",
     providers: "",
     inventories: "",
@@ -84,15 +86,15 @@ pub(crate) const NONE: Rows<'static> = Rows {
     aggregates: "",
 };
 
-// One provider with eight units of a class.
-pub(crate) const ONE: Rows<'static> = Rows {
+/// One provider with eight units of a class.
+pub const ONE: Rows<'static> = Rows {
     providers: "@01,@01,\n",
     inventories: "@01,VCPU,8,0,1,8,1,1.0\n",
     ..NONE
 };
 
-// A tree of two such providers.
-pub(crate) const PAIR: Rows<'static> = Rows {
+/// A tree of two such providers.
+pub const PAIR: Rows<'static> = Rows {
     providers: "@01,@01,\n@02,@01,@01\n",
     inventories: "@01,VCPU,8,0,1,8,1,1.0\n@02,VCPU,8,0,1,8,1,1.0\n",
     ..NONE
