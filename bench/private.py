@@ -1,7 +1,5 @@
 """The shape `private` of make_tables.py: an operator's cloud. Each of three zones has hosts with NUMA nodes, functions of network cards and GPUs, and
 Ceph for their disks. Columns, names and traits are such as the client would print. About three quarters of everything are used."""
-from __future__ import annotations
-
 import uuid
 from itertools import zip_longest
 from typing import NamedTuple
