@@ -1,19 +1,30 @@
 #!/usr/bin/env python3
 """make_tables.py FOLDER [--shape flat|chain|numa|disk|disks|sharing] [--providers N] [--classes K] [--traits T] [--aggregates A]
-               [--disks D] [--full] [--groups G] [--order sorted|shuffled|reversed] [--seed S] [--quoted]
+               [--disks D] [--full] [--groups G] [--order sorted|shuffled|reversed|made] [--seed S] [--quoted]
+make_tables.py FOLDER --shape private [--hosts N] [--traits T] [--kinds KIND..] [--order ..] [--seed S] [--quoted]
 
 Writes the five tables of a cloud of N providers into FOLDER. The same words make the same bytes. Shapes:
 flat: hosts without parents; chain: one tree, each provider the child of another; numa: hosts of nine providers, with two NUMA nodes and
 three network functions under each; disk: hosts, and one disk that all of them share; disks: N hosts, and D disks beside them that all of them share
 through one aggregate, with --full each used up; sharing: hosts that all share, in one aggregate together, and by turns in one of G others.
 Providers that have amounts have K classes, in numa the classes of their kind, and a usage of each; each provider has T traits and is in A
-aggregates. The order is that of the rows of all tables, by UUID; shuffled is each table by itself. With --quoted, texts stand in quotes, as
-the client prints them. 65536 flat providers with 3 classes, 8 traits and 2 aggregates are about 70 MB."""
+aggregates. The order is that of the rows of all tables, by UUID; shuffled is each table by itself, made is as the cloud grew, with all rows of a
+provider together. With --quoted, texts stand in quotes, as the client prints them. 65536 flat providers with 3 classes, 8 traits and 2 aggregates
+are about 70 MB.
+
+private: an operator's cloud of N hosts (300) in three zones, with names and the client's columns (private.py makes it). Each host has the first T of
+Nova's 53 traits. Kinds of hosts take turns: flat is one provider, numa has two NUMA nodes, nfv has functions of network cards under these, gpu has
+GPUs there; 10 hosts are 34 providers. 18000 hosts fit into the limits of ac_cli, 19000 with `--traits 40`, 65533 with `--kinds flat --traits 16`."""
 import argparse
 import csv
 import os
 import random
+import sys
 import uuid
+
+sys.dont_write_bytecode = True
+
+import private
 
 CLASSES = 'VCPU', 'MEMORY_MB', 'DISK_GB'
 HEADERS = {
@@ -108,6 +119,9 @@ def sharing(cloud, ids, classes):
         cloud.add(id, id, '', classes, (SHARES,), (common, groups[place % len(groups)]))
 
 
+SHAPES = {shape.__name__: shape for shape in (flat, chain, numa, disk, disks, sharing)}
+
+
 def write(path, header, rows, quoting):
     with open(path, 'w', newline='', encoding='ascii') as file:
         table = csv.writer(file, lineterminator='\n', quoting=quoting)
@@ -115,33 +129,46 @@ def write(path, header, rows, quoting):
         table.writerows(rows)
 
 
+def generic(chance, words):
+    """The rows of one of the six shapes above."""
+    cloud = Cloud(chance, words)
+    SHAPES[words.shape](cloud, new_ids(chance, words.providers), [class_name(k) for k in range(words.classes)])
+    return cloud.rows
+
+
 def main():
-    shapes = {shape.__name__: shape for shape in (flat, chain, numa, disk, disks, sharing)}
-    words = argparse.ArgumentParser(description=__doc__.split('\n\n')[1], formatter_class=argparse.RawDescriptionHelpFormatter)
+    words = argparse.ArgumentParser(description='\n\n'.join(__doc__.split('\n\n')[1:]), formatter_class=argparse.RawDescriptionHelpFormatter)
     words.add_argument('folder')
-    words.add_argument('--shape', choices=shapes, default='flat')
+    words.add_argument('--shape', choices=[*SHAPES, 'private'], default='flat')
     words.add_argument('--providers', type=int, default=65536)
+    words.add_argument('--hosts', type=int, default=300)
+    words.add_argument('--kinds', nargs='+', choices=sorted({*private.KINDS}), default=private.KINDS)
     words.add_argument('--classes', type=int, default=3)
-    words.add_argument('--traits', type=int, default=8)
+    words.add_argument('--traits', type=int)
     words.add_argument('--aggregates', type=int, default=2)
     words.add_argument('--disks', type=int, default=1)
     words.add_argument('--full', action='store_true')
     words.add_argument('--groups', type=int, default=2)
-    words.add_argument('--order', choices=('sorted', 'shuffled', 'reversed'), default='shuffled')
+    words.add_argument('--order', choices=('sorted', 'shuffled', 'reversed', 'made'), default='shuffled')
     words.add_argument('--seed', type=int, default=1)
     words.add_argument('--quoted', action='store_true')
     words = words.parse_args()
+    if words.traits is None:
+        words.traits = private.MOST_TRAITS if words.shape == 'private' else 8
 
     chance = random.Random(words.seed)
-    cloud = Cloud(chance, words)
-    shapes[words.shape](cloud, new_ids(chance, words.providers), [class_name(k) for k in range(words.classes)])
+    if words.shape == 'private':
+        headers, made = private.HEADERS, private.tables(chance, words.hosts, words.kinds, words.traits)
+    else:
+        headers, made = HEADERS, generic(chance, words)
     quoting = csv.QUOTE_NONNUMERIC if words.quoted else csv.QUOTE_MINIMAL
     os.makedirs(words.folder, exist_ok=True)
-    for name, rows in cloud.rows.items():
-        rows.sort(reverse=words.order == 'reversed')
+    for name, rows in made.items():
+        if words.order != 'made':
+            rows.sort(reverse=words.order == 'reversed')
         if words.order == 'shuffled':
             chance.shuffle(rows)
-        write(os.path.join(words.folder, name + '.csv'), HEADERS[name], rows, quoting)
+        write(os.path.join(words.folder, name + '.csv'), headers[name], rows, quoting)
 
 
 if __name__ == '__main__':

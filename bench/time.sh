@@ -4,7 +4,8 @@
 # same bytes and in the same run: the ported csv alone (bench/csv_alone.rattle), wc, Python's csv module, and a plain Rust program that only
 # splits and counts (bench/anchor, where rustc is there). Then `tokens` and `candidates`, whole and with a limit, from the start and after a
 # token, and `verify`. For the largest number also the rows in order and in reverse, one chain, and hosts that all share in two groups; and fewer
-# hosts, of which each shares in a group of its own too. With --deep, also searches with several slots, which a search that goes through all
+# hosts, of which each shares in a group of its own too. Then operators' clouds of 300, 1000 and 10000 hosts, with an ordinary flavor and with one that
+# asks for four functions of network cards. With --deep, also searches with several slots, which a search that goes through all
 # lists doesn't end. With --disks, only searches and explanations over hosts that share many disks through one aggregate, each with the processor
 # time that it is to take at the most. Where AC_CLI is set, it names the program; where BESIDE is set, it names another one that knows `tokens` by the
 # same command line, which is timed beside it.
@@ -123,13 +124,15 @@ best() {
         "$(wc -l <"$room/out")" "$(wc -c <"$room/out")"
 }
 
-# cloud PROVIDERS ORDER SHAPE [WORDS..]: makes the tables, with further words for that, names them, and times their reading
+# cloud PROVIDERS ORDER SHAPE [WORDS..]: makes the tables, with further words for that, names them, and times their reading. Of the shape `private`
+# the number is that of the hosts.
 cloud() {
     rm -f "$room"/*.csv
-    "$python" "$bench/make_tables.py" "$room" --providers "$1" --order "$2" --shape "${@:3}"
+    "$python" "$bench/make_tables.py" "$room" --providers "$1" --hosts "$1" --order "$2" --shape "${@:3}"
     files=("$room"/{providers,inventories,usages,traits,aggregates}.csv)
     tables=(--providers "${files[0]}" --inventories "${files[1]}" --usages "${files[2]}" --traits "${files[3]}" --aggregates "${files[4]}")
-    printf '%s, %d providers, rows %s: %d rows, %d bytes\n' "${*:3}" "$1" "$2" "$(cat "${files[@]}" | wc -l)" "$(cat "${files[@]}" | wc -c)"
+    printf '%s, %d providers, rows %s: %d rows, %d bytes\n' "${*:3}" $(($(wc -l <"${files[0]}") - 1)) "$2" "$(cat "${files[@]}" | wc -l)" \
+        "$(cat "${files[@]}" | wc -c)"
     best 'ac_cli check' "$program" check "${tables[@]}"
     [[ -z $ported ]] || best 'ported csv alone' "$ported" "${files[@]}"
 }
@@ -174,6 +177,16 @@ few='--classes 1 --traits 0 --aggregates 0'
 cloud "$providers" shuffled sharing $few
 for number in 2000 4000 8000; do
     cloud "$number" shuffled sharing $few --groups "$number"
+done
+flavor='resources=DISK_GB:80,MEMORY_MB:32768,VCPU:8&root_required=!COMPUTE_STATUS_DISABLED'
+functions='resources=DISK_GB:80&resources_CPU=PCPU:4,MEMORY_MB:8192&group_policy=isolate&root_required=!COMPUTE_STATUS_DISABLED'
+for network in 1:DATA 2:DATA 3:PUBLIC 4:STORAGE; do
+    functions+="&resources_NET${network%:*}=SRIOV_NET_VF:1&required_NET${network%:*}=CUSTOM_PHYSNET_${network#*:}"
+done
+for number in 300 1000 10000; do
+    cloud "$number" shuffled private
+    search "$flavor" whole
+    search "$functions" whole
 done
 [[ -n $deep ]] || exit 0
 cloud "$providers" shuffled numa

@@ -273,6 +273,14 @@ def shown(page):
         yield Case(f'{page}: {command}', ['sh', '-c', f'exec 2>&1; {called}'], says, status=status_of(says or ''))
 
 
+def remade(page):
+    """The tables beside a page are those that the command on it makes."""
+    folder = os.path.dirname(page)
+    words = re.search(rf'^    bench/make_tables\.py {folder} (.*)$', contents(os.path.join(ROOT, page)).decode(), re.M)[1]
+    called = f'room=$(mktemp -d) && python3 bench/make_tables.py "$room" {words} && diff -r -x README.md "$room" {folder}; status=$?; rm -r "$room"; exit $status'
+    return Case(f'{page}: bench/make_tables.py makes its tables', ['sh', '-c', called])
+
+
 def ruled(page):
     """The examples of a page: a table in the notation of notation.py, and below it lines with a query and what it gives, or how it is refused.
     Lines that begin with blanks are of something else."""
@@ -367,11 +375,11 @@ def main(*given):
     if len({case.out for case in rules if case.out.startswith('no: rule')}) < 9:
         print('FAILED to find an example of each rule in docs/RULES.md\n0 passed, 1 failed')
         return 1
-    pages = [case for page in ('README.md', 'examples/README.md', 'docs/RULES.md', 'docs/FORMATS.md', 'docs/EXPORT.md')
+    pages = [case for page in ('README.md', 'examples/README.md', 'examples/private/README.md', 'docs/RULES.md', 'docs/FORMATS.md', 'docs/EXPORT.md')
              for case in shown(page)]
     chance = [*drawn(150), *drawn_tables(200), *drawn_queries(200)]
-    cases = [PAGES, DRAWING, *HELP, *WORDS, *FILES, *FOLDERS, *DEVICES, *GROWTHS, KNOWN, *REFUSALS, *SMALL, *pages, *rules, *exports(), *database_exports(),
-             *chance, *LARGE, *hostile(PROGRAM), FEW_BYTES, *cuts()]
+    cases = [PAGES, DRAWING, *HELP, *WORDS, *FILES, *FOLDERS, *DEVICES, *GROWTHS, KNOWN, *REFUSALS, *SMALL, *pages, remade('examples/private/README.md'),
+             *rules, *exports(), *database_exports(), *chance, *LARGE, *hostile(PROGRAM), FEW_BYTES, *cuts()]
     cases = [case for case in cases if all(word in case.name for word in words)]
     failed = 0
     with ThreadPoolExecutor(max_workers=2) as pool:
