@@ -68,9 +68,6 @@ module _ (said : List ProviderRecord) (rows : List ListingRow) (t : IsTable nat_
   pub count : length (map (λ (r : ListingRow). r.key) rows) ≡ length said
   count = length_permutation (map key t.read) ids (IsPermutation-map key t.read rows t.same) ∙ ap length (sym said_ids) ∙ length-map said (λ (p : ProviderRecord). p.id)
 
-  pub said_sized : length rows ≡ length said
-  said_sized = sym (length-map rows key) ∙ count
-
   -- all ids are different
   pub distinct : AreDistinct said
   unfolding place_of

@@ -17,24 +17,3 @@ module _ (ids : List ℕ) (rising : IsRising ids) (place : ℕ) (inside : place 
   any_shown (r ∷ rows) all =
       ap₂ (λ a b. a || b) (ap₂ (λ a b. a && b) (sym (same_place ids rising r.place place (all zero r (omega arith)) inside)) (eq_turned (class_bytes r.key) class))
       (any_shown rows (λ k d h. all (suc k) d (omega arith)))
-
-module _ (ids : List ℕ) (records : List InventoryRecord) (header row : Row) (id : ℕ) (class : List ℕ) (none : first_failing (usage_field_checks header row) ≡ None)
-    (e : id ≡ id_in header provider_name row) (f : class ≡ text_in header class_name row) where
-  abbrev told : Type 0
-  told = first_failing (usage_field_checks header row ++ lone_checks ids records (id_in header provider_name row) (text_in header class_name row)) ≡ first_failing (lone_checks ids records id class)
-
-  fields_fine : told
-  fields_fine =
-      append_none (usage_field_checks header row) (lone_checks ids records (id_in header provider_name row) (text_in header class_name row)) none
-      ∙ ap₂ (λ i c. first_failing (lone_checks ids records i c)) (sym e) (sym f)
-
-  pub lone_unknown : is_one_of ids id ≡ false → first_failing (usage_field_checks header row ++ lone_checks ids records (id_in header provider_name row) (text_in header class_name row)) ≡ Some kind.UnknownProvider
-  lone_unknown absent = fields_fine ∙ rw absent refl
-
-  pub lone_nothing : is_one_of ids id ≡ true → list_any (is_inventory_of id class) records ≡ false
-      → first_failing (usage_field_checks header row ++ lone_checks ids records (id_in header provider_name row) (text_in header class_name row)) ≡ Some kind.NoInventory
-  lone_nothing there nothing = fields_fine ∙ rw (there, nothing) refl
-
-  pub lone_fine : is_one_of ids id ≡ true → list_any (is_inventory_of id class) records ≡ true
-      → first_failing (usage_field_checks header row ++ lone_checks ids records (id_in header provider_name row) (text_in header class_name row)) ≡ None
-  lone_fine there some = fields_fine ∙ rw (there, some) refl

@@ -69,13 +69,3 @@ pub all_gathered : {X G : Type 0} (P : G → Type 0) (show : X → G) (gather : 
 all_gathered P show gather lists ids e holds k d inside =
     let size : length ids ≡ length lists = sym (length-map ids gather) ∙ ap length (sym e) ∙ length-map lists show in
     subst P (sym (sym (get_or-map show lists k d (show d) inside) ∙ ap (λ l. get_or l k (show d)) e ∙ get_or-map gather ids k 0 (show d) (omega arith))) (holds (get_or ids k 0))
-
-pub nothing_left : {X : Type 0} (l : List X) → length l ≡ 0 → l ≡ []
-nothing_left [] h = refl
-nothing_left (x ∷ xs) h = absurd (omega arith)
-
--- the next of some items is one of them
-pub next_inside : {X : Type 0} (all done left rest : List X) (x : X) (P : X → Type 0) → all ≡ done ++ left → left ≡ x ∷ rest → All P all → P x
-next_inside {X} all done left rest x P e f holds =
-    let whole : all ≡ done ++ x ∷ rest = e ∙ ap (λ l. done ++ l) f in
-    subst P (get_or-append_seam done x rest x) (subst (λ (l : List X). P (get_or l (length done) x)) whole (holds (length done) x (omega (arith, ap length whole, length-append done (x ∷ rest)))))
