@@ -57,3 +57,6 @@ pub aggregate_text : (o : Option (Bor (List ℕ))) → records_of (text_or o (co
 unfolding csv_on_literals aggregate_columns provider_name uuid_name
 aggregate_text None = refl
 aggregate_text (Some t) = refl
+
+-- what shows, table by table, what the reading of all tells
+pub ruleset reading = (tells_providers, tells_inventories, tells_usages, tells_traits, tells_aggregates, none_at_all)

@@ -1,7 +1,6 @@
 //! Reading the table of providers: its ids, and its trees.
 ghost use Rattle.std.specs.Prelude.{◌≡◌, ◌≤◌, ◌<◌, None, ℕ, get_or, length, map, IfOk, IfErr};
 ghost use Rattle.std.specs.Option.{option_and_then};
-ghost use Rattle.std.specs.Ordering.{nat_cmp};
 ghost use Rattle.ac_tables.specs.Tables.Checks.{Tells};
 ghost use Rattle.ac_tables.specs.Drain.{most_bytes};
 ghost use Rattle.ac_tables.specs.Reader.Kin.{AreKin};
@@ -9,7 +8,7 @@ ghost use Rattle.ac_tables.specs.Reader.Listings.{IsListing};
 ghost use Rattle.ac_cloud.specs.Cloud.Places.{parent_in, rank};
 ghost use Rattle.ac_tables.specs.Tables.ProviderTable.{providers_said, provider_records_fault, said_parent, providers_fault};
 ghost use Rattle.ac_tables.specs.Tables.Rows.{records_of};
-ghost use Rattle.ac_base.specs.Sorted.{rising};
+ghost use Rattle.ac_tables.specs.Tables.{ids_of};
 ghost use Rattle.ac_cloud.specs.Trees.{top};
 
 use crate::fault::{TableFault, TableKind};
@@ -47,8 +46,7 @@ pub(crate) struct Providers {
 // The providers of a text, or the first fault of their table: each check of the trees passes over all before the next.
 pub(crate) fn read_providers(alloc: Global, text: &[u8]) -> Result<Providers, TableFault>
     requires { length text.now ≤ most_bytes }
-    ensures ids { IfOk result (λ v. v.ids.ids.items
-        ≡ rising nat_cmp (map (λ p. p.id) (providers_said (records_of text.now)))) }
+    ensures ids { IfOk result (λ v. v.ids.ids.items ≡ ids_of (records_of text.now)) }
     ensures parents { IfOk result (λ v. v.parents.items
         ≡ map (λ id. option_and_then (rank v.ids.ids.items)
         (said_parent (providers_said (records_of text.now)) id)) v.ids.ids.items) }
