@@ -41,3 +41,6 @@ module _ {X : Type 0} (items : List X) (starts : List ℕ) where
       ap (take (get_or starts (p + 1) 0 - get_or starts p 0)) (drop-map f (get_or starts p 0) items)
       ∙ take-map f (get_or starts (p + 1) 0 - get_or starts p 0) (drop (get_or starts p 0) items)) (range_with_len 0 (length starts - 1))
       ∙ sym (map-map (map f) (list_at items starts) (range_with_len 0 (length starts - 1)))
+
+-- what shows how many lists there are, which ones, and how many items
+pub ruleset of_lists = (lists_size, list_here, lists_sum)

@@ -131,6 +131,7 @@ impl Record for AggregateTable {
 }
 
 // The aggregates of each provider, rising, each once, or the first fault of the table.
+#[tactic(auto, unfolding(crate::specs::Tables::AggregateTable::aggregates_fault))]
 pub(crate) fn read_aggregates(
     alloc: Global,
     ids: &Ids,
@@ -145,11 +146,8 @@ pub(crate) fn read_aggregates(
     ensures err { IfErr result (λ e.
         Tells (aggregates_fault ids.now.ids.items (records_of text.now)) e) }
 {
-    let mut rows = match read_table::<AggregateTable>(alloc, ids, text) {
-        Ok(rows) => rows,
-        Err(fault) => return Err(fault),
-    };
+    let mut rows = read_table::<AggregateTable>(alloc, ids, text)?;
     keep_first(&mut rows);
-    let rows = split(alloc, ids.len(), rows)?;
-    Ok(keys_of(alloc, rows)?)
+    let lists = split(alloc, ids.len(), rows)?;
+    Ok(keys_of(alloc, lists)?)
 }

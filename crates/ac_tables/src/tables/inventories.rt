@@ -234,6 +234,7 @@ impl Inventories {
     }
 
     // The inventories of a text, or the first fault of the table, where these are all providers.
+    #[tactic(auto, unfolding(crate::specs::Tables::InventoryTable::inventories_fault))]
     pub(crate) fn read(alloc: Global, ids: Ids, text: &[u8]) -> Result<Inventories, TableFault>
         requires { length text.now ≤ most_bytes }
         ensures ids { IfOk result (λ new. new.ids.ids.items ≡ ids.ids.items) }
@@ -248,10 +249,7 @@ impl Inventories {
         ensures err { IfErr result (λ e.
             Tells (inventories_fault ids.ids.items (records_of text.now)) e) }
     {
-        let rows = match read_table::<InventoryTable>(alloc, &ids, text) {
-            Ok(rows) => rows,
-            Err(fault) => return Err(fault),
-        };
+        let rows = read_table::<InventoryTable>(alloc, &ids, text)?;
         Ok(Inventories::new(alloc, ids, rows)?)
     }
 }

@@ -137,6 +137,7 @@ impl Record for TraitTable {
 }
 
 // The traits of each provider in byte order, each once, or the first fault of the table.
+#[tactic(auto, unfolding(crate::specs::Tables::TraitTable::traits_fault))]
 pub(crate) fn read_traits(
     alloc: Global,
     ids: &Ids,
@@ -150,11 +151,8 @@ pub(crate) fn read_traits(
     ensures err { IfErr result (λ e.
         Tells (traits_fault ids.now.ids.items (records_of text.now)) e) }
 {
-    let mut rows = match read_table::<TraitTable>(alloc, ids, text) {
-        Ok(rows) => rows,
-        Err(fault) => return Err(fault),
-    };
+    let mut rows = read_table::<TraitTable>(alloc, ids, text)?;
     keep_first(&mut rows);
-    let rows = split(alloc, ids.len(), rows)?;
-    Ok(keys_of(alloc, rows)?)
+    let lists = split(alloc, ids.len(), rows)?;
+    Ok(keys_of(alloc, lists)?)
 }

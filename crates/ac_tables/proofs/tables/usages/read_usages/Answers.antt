@@ -19,10 +19,6 @@ returns-clause-value c =
     (λ r inside. same_place ids c.args.inventories.now.ids.rising r.place p inside h)
     (λ r. refl))
 
-pub split-requires-clause-sorted : goal.split-requires-clause-sorted
-split-requires-clause-sorted c =
-    places_rise (λ a b. text_cmp (class_bytes a) (class_bytes b)) (on_total class_bytes nat_list_cmp_total) c.in-Ok.rows.items c.in-Ok.ensures.rows.sorted
-
 pub returns-clause-count : goal.returns-clause-count
 returns-clause-count c =
     let table = c.in-Ok.ensures.rows in
@@ -31,9 +27,7 @@ returns-clause-count c =
 
 pub returns-in-Err-clause-err : goal.returns-in-Err-clause-err
 returns-in-Err-clause-err c = λ records same.
-    subst (λ (o : Option TableFault). Tells o c.in-Err.fault)
-    (same_fault c.args.inventories.now.ids.ids.items records (inventory_records_shown c.args.inventories.now.ids.ids.items c.args.inventories.now.rows.items.items) (records_of c.args.text.now) same)
-    c.in-Err.ensures.fault
+    rw (← same_fault c.args.inventories.now.ids.ids.items records (inventory_records_shown c.args.inventories.now.ids.ids.items c.args.inventories.now.rows.items.items) (records_of c.args.text.now) same) c.in-Err.ensures.fault
 
 pub returns-clause-ok : goal.returns-clause-ok
 returns-clause-ok c = λ records same.

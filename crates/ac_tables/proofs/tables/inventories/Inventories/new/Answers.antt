@@ -4,10 +4,6 @@ use Rattle.ac_tables.proofs.Sorted.RiseFacts.{inventories_rise}
 use Rattle.ac_tables.proofs.Gathered.RowPlaces.{places_rise}
 use Rattle.ac_tables.proofs.tables.inventories.Inventories.new.Goals as goal
 
-pub split-requires-clause-sorted : goal.split-requires-clause-sorted
-split-requires-clause-sorted c =
-    places_rise (λ a b. text_cmp (class_bytes a) (class_bytes b)) (on_total class_bytes nat_list_cmp_total) c.args.rows.items c.requires.1.sorted
-
 pub invariant_of-result-clause-inside : goal.invariant_of-result-clause-inside
 invariant_of-result-clause-inside c =
     subst (All (λ (r : TableRow ClassName InventoryNumbers). r.place < length c.args.ids.ids.items)) (sym c.in_ok-rows.ensures.rows) c.requires.1.inside
