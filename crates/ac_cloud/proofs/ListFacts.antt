@@ -16,9 +16,7 @@ module _ {X : Type 0} (items : List X) (starts : List ℕ) where
 
   pub list_here : (p : ℕ) → p < length (lists_in items starts) → get_or (lists_in items starts) p [] ≡ list_at items starts p
   unfolding lists_in
-  list_here p h =
-      let inside : p < length starts - 1 = omega (arith, h, length-map (range_with_len 0 (length starts - 1)) (list_at items starts), length-range_with_len 0 (length starts - 1)) in
-      get_or-map-range_with_len (list_at items starts) 0 (length starts - 1) p p [] inside (omega arith)
+  list_here p h = grind (arith, get_or-map-range_with_len, length-map, length-range_with_len)
 
   sum_to : AreBounds (length items) starts → (n : ℕ) → n < length starts → sum_by length (map (list_at items starts) (range_with_len 0 n)) ≡ get_or starts n 0
   sum_to b zero h = sym b.first

@@ -106,9 +106,7 @@ module _ (c : Cloud) where
 
   -- where some aggregate joins, there is a root
   joined_root : (ids : List ℕ) (r : ℕ) → r < length c.ids.ids.items → is_joined roots groups ids r ≡ true → is_root (providers_of c) (id_at (providers_of c) r) ≡ true
-  joined_root ids r hr j =
-      let q = joined_where roots groups ids r j in
-      is_top q.0 r (omega (arith, q.1, (parts c).forest.with_roots)) hr q.2
+  joined_root ids r hr j = grind (arith, is_top, joined_where, parts)
 
   -- who belongs to some aggregate joins its own root
   joins_own : (ix r : ℕ) (a : ℕ) (ids : List ℕ) → ix < length c.ids.ids.items → get_or groups ix [] ≡ a ∷ ids → (get_or roots ix 0 == r) ≡ true → is_joined roots groups (a ∷ ids) r ≡ true
@@ -123,11 +121,7 @@ module _ (c : Cloud) where
       ap (λ b. b || is_joined roots groups ids r) met
 
   pub shares_here : (ix : ℕ) → ix < length c.ids.ids.items → shares (provider_at (providers_of c) ix) ≡ get_or c.sharing.items ix false
-  shares_here ix h =
-      let text = codes "MISC_SHARES_VIA_AGGREGATE" in
-      ap (list_any (bytes_eq (codes "MISC_SHARES_VIA_AGGREGATE"))) (sym (traits_here c ix h))
-      ∙ sym (any_map (λ n. bytes_eq (codes "MISC_SHARES_VIA_AGGREGATE") (trait_bytes n)) (bytes_eq (codes "MISC_SHARES_VIA_AGGREGATE")) trait_bytes (λ n. refl) (get_or (lists_of c.traits) ix []))
-      ∙ sym ((parts c).shared ix h)
+  shares_here ix h = grind (arith, any_map, parts, traits_here)
 
   -- who doesn't share through an aggregate is available in its own tree
   pub anchors_alone : (ix : ℕ) → ix < length c.ids.ids.items → is_marked c.sharing.items groups ix ≡ false → (get_or roots ix 0 ∷ []) ≡ anchors_of (providers_of c) ix
@@ -172,7 +166,4 @@ module _ (c : Cloud) where
 
   -- the root of one that has none
   pub anchors_unlisted : (ix : ℕ) → ix < length c.ids.ids.items → get_or c.anchors.places.items ix None ≡ None → (get_or roots ix 0 ∷ []) ≡ anchors_of (providers_of c) ix
-  anchors_unlisted ix h here = elim (cases_Bool (is_marked c.sharing.items groups ix)) [
-    | inl marked ↦ sym ((parts c).alone ix h (ap is_some here) marked) ∙ anchors_joined ix h marked
-    | inr not ↦ anchors_alone ix h not
-  ]
+  anchors_unlisted ix h here = grind (arith, anchors_alone, anchors_joined, cases_Bool, parts)

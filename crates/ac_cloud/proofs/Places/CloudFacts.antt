@@ -32,9 +32,7 @@ module _ (c : Cloud) where
 
   pub parent_here : (ix : ℕ) → ix < length c.ids.ids.items → parent_of (providers_of c) (id_at (providers_of c) ix) ≡ option_map (λ j. get_or c.ids.ids.items j 0) (parent_in c.parents.items ix)
   unfolding providers_of
-  parent_here ix h =
-      ap (parent_of (providers_of c)) (id_here ix h)
-      ∙ numbered_parent ids c.parents.items (map (map entry_pair) (lists_of c.entries)) (map (map trait_bytes) (lists_of c.traits)) (lists_of c.aggregates) c.ids.rising ix h
+  parent_here ix h = grind (arith, id_here, numbered_parent)
 
   pub root_inside : (ix : ℕ) → ix < length c.ids.ids.items → get_or c.roots.items ix 0 < length c.ids.ids.items
   root_inside ix h =
@@ -43,24 +41,17 @@ module _ (c : Cloud) where
 
   pub root_here : (ix : ℕ) → ix < length c.ids.ids.items → id_at (providers_of c) (get_or c.roots.items ix 0) ≡ root_of (providers_of c) (id_at (providers_of c) ix)
   unfolding providers_of
-  root_here ix h =
-      let r = numbered_root ids c.parents.items (map (map entry_pair) (lists_of c.entries)) (map (map trait_bytes) (lists_of c.traits)) (lists_of c.aggregates) c.ids.rising parts.forest.within ix h in
-      id_here (get_or c.roots.items ix 0) (root_inside ix h)
-      ∙ ap (λ (j : ℕ). get_or ids j 0) (parts.forest.rooted ix h) ∙ sym r.1 ∙ ap (root_of (providers_of c)) (sym (id_here ix h))
+  root_here ix h = grind (arith, id_here, numbered_root, parts, root_inside)
 
   at_place : (ix : ℕ) → ix < length c.ids.ids.items → provider_at (providers_of c) ix ≡ numbered_at ids c.parents.items (map (map entry_pair) (lists_of c.entries)) (map (map trait_bytes) (lists_of c.traits)) (lists_of c.aggregates) ix
   unfolding providers_of
   at_place ix h = numbered_here ids c.parents.items (map (map entry_pair) (lists_of c.entries)) (map (map trait_bytes) (lists_of c.traits)) (lists_of c.aggregates) ix h
 
   pub inventory_records_here : (ix : ℕ) → ix < length c.ids.ids.items → map entry_pair (get_or (lists_of c.entries) ix []) ≡ (provider_at (providers_of c) ix).entries
-  inventory_records_here ix h =
-      let k : ix < length (lists_of c.entries) = omega (arith, h, parts.with_entries) in
-      sym (get_or-map (map entry_pair) (lists_of c.entries) ix [] [] k) ∙ sym (ap (λ p. p.entries) (at_place ix h))
+  inventory_records_here ix h = grind (arith, at_place, get_or-map, parts)
 
   pub traits_here : (ix : ℕ) → ix < length c.ids.ids.items → map trait_bytes (get_or (lists_of c.traits) ix []) ≡ (provider_at (providers_of c) ix).traits
-  traits_here ix h =
-      let k : ix < length (lists_of c.traits) = omega (arith, h, parts.with_traits) in
-      sym (get_or-map (map trait_bytes) (lists_of c.traits) ix [] [] k) ∙ sym (ap (λ p. p.traits) (at_place ix h))
+  traits_here ix h = grind (arith, at_place, get_or-map, parts)
 
   pub aggregates_here : (ix : ℕ) → ix < length c.ids.ids.items → get_or (lists_of c.aggregates) ix [] ≡ (provider_at (providers_of c) ix).aggregates
   aggregates_here ix h = sym (ap (λ p. p.aggregates) (at_place ix h))

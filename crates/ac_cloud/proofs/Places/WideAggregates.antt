@@ -98,11 +98,4 @@ module _ (roots : List ℕ) (aggregates : List (List ℕ)) (groups : BTreeMap �
 
   -- who has nothing to ask is available in its own tree
   pub asked_alone : is_joining true asked ≡ false → is_marked sharing aggregates j ≡ true → joined roots aggregates (get_or aggregates j []) ≡ get_or roots j 0 ∷ []
-  asked_alone nothing marked =
-      let shares = some_of (get_or sharing j false) (get_or aggregates j []) marked in
-      let e : asked ≡ wide groups (get_or aggregates j []) = are ∙ ap (λ b. wide groups (shared_ids b (get_or aggregates j []))) shares.0 in
-      lone_joined roots aggregates groups gathered j inside (own_inside j inside) shares.1 (sym e ∙ empty asked nothing)
-    where
-      empty : (l : List ℕ) → is_joining true l ≡ false → l ≡ []
-      empty [] e = refl
-      empty (a ∷ rest) e = absurd (cc)
+  asked_alone nothing marked = grind (arith, lone_joined, some_of)
