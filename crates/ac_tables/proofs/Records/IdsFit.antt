@@ -8,21 +8,15 @@ use Rattle.std.proofs.lemmas.List.Sums.{AllPass-from_list_all}
 use Rattle.uuid.specs.Text.{by_index, is_hex_digit, value_of, byte_of_digits, parsed_simple, digits_of, has_hyphens, parsed_hyphenated, parsed_braced, parsed_urn, parsed}
 use Rattle.uuid.proofs.TextLemmas.{by_index_at}
 
--- sixteen bytes are a number of 128 bits
-sum_fits : (b0 b1 b2 b3 b4 b5 b6 b7 b8 b9 b10 b11 b12 b13 b14 b15 : ℕ) → b0 < 256 → b1 < 256 → b2 < 256 → b3 < 256 → b4 < 256 → b5 < 256 → b6 < 256 → b7 < 256
-    → b8 < 256 → b9 < 256 → b10 < 256 → b11 < 256 → b12 < 256 → b13 < 256 → b14 < 256 → b15 < 256
-    → b0 * 256 ^ 15 + b1 * 256 ^ 14 + b2 * 256 ^ 13 + b3 * 256 ^ 12 + b4 * 256 ^ 11 + b5 * 256 ^ 10 + b6 * 256 ^ 9 + b7 * 256 ^ 8 + b8 * 256 ^ 7 + b9 * 256 ^ 6 + b10 * 256 ^ 5 + b11 * 256 ^ 4 + b12 * 256 ^ 3 + b13 * 256 ^ 2 + b14 * 256 ^ 1 + b15 < 2 ^ 128
-sum_fits b0 b1 b2 b3 b4 b5 b6 b7 b8 b9 b10 b11 b12 b13 b14 b15 h0 h1 h2 h3 h4 h5 h6 h7 h8 h9 h10 h11 h12 h13 h14 h15 = omega arith
-
 abbrev AreBytes : List ℕ → Type 0
 AreBytes bs = (i : ℕ) → i < 16 → slice_index bs i < 256
 
+-- sixteen bytes are a number of 128 bits
 bytes_fit : (bs : List ℕ) → AreBytes bs → from_be_bytes w128 bs < 2 ^ 128
-bytes_fit bs h =
-    sum_fits (slice_index bs 0) (slice_index bs 1) (slice_index bs 2) (slice_index bs 3) (slice_index bs 4) (slice_index bs 5) (slice_index bs 6) (slice_index bs 7)
-    (slice_index bs 8) (slice_index bs 9) (slice_index bs 10) (slice_index bs 11) (slice_index bs 12) (slice_index bs 13) (slice_index bs 14) (slice_index bs 15)
-    (h 0 (omega arith)) (h 1 (omega arith)) (h 2 (omega arith)) (h 3 (omega arith)) (h 4 (omega arith)) (h 5 (omega arith)) (h 6 (omega arith)) (h 7 (omega arith))
-    (h 8 (omega arith)) (h 9 (omega arith)) (h 10 (omega arith)) (h 11 (omega arith)) (h 12 (omega arith)) (h 13 (omega arith)) (h 14 (omega arith)) (h 15 (omega arith))
+bytes_fit bs h = omega (
+  arith, h 0 (omega arith), h 1 (omega arith), h 2 (omega arith), h 3 (omega arith), h 4 (omega arith), h 5 (omega arith), h 6 (omega arith), h 7 (omega arith),
+  h 8 (omega arith), h 9 (omega arith), h 10 (omega arith), h 11 (omega arith), h 12 (omega arith), h 13 (omega arith), h 14 (omega arith), h 15 (omega arith),
+)
 
 -- ---- the bytes of a text
 digit_small : (c : ℕ) → is_hex_digit c ≡ true → value_of c < 16

@@ -47,6 +47,7 @@ pub(crate) fn find_starts<K, X>(
 }
 
 // Rows in the order of their providers, as a list for each.
+#[tactic(auto, using(ac_cloud::proofs::ListFacts::of_lists))]
 pub(crate) fn split<K: Ord + Drop, X: Drop>(
     alloc: Global,
     count: usize,
@@ -55,6 +56,7 @@ pub(crate) fn split<K: Ord + Drop, X: Drop>(
     requires few { count ≤ 65536 }
     requires sorted { IsSortedBy (row_lt K.cmp) rows.items }
     requires inside { All (λ r. r.place < count) rows.items }
+    ensures length { IfOk result (λ lists. length (lists_of lists) ≡ count) }
     ensures rows { IfOk result (λ lists. lists.items.items ≡ rows.items) }
     ensures starts { IfOk result (λ lists. AreStarts count rows.items lists.starts.items) }
     ensures lists { IfOk result (λ lists. lists_of lists

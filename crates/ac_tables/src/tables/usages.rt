@@ -148,6 +148,8 @@ pub(crate) fn read_usages(
         ≡ map (amounts_of (usages_said (records_of text.now))) inventories.now.ids.ids.items) }
     ensures count { IfOk result (λ used. length used.items.items
         ≡ length (usages_said (records_of text.now))) }
+    ensures length { IfOk result (λ used.
+        length (lists_of used) ≡ length inventories.now.ids.ids.items) }
     ensures few { IfOk result (λ new. length new.items.items ≤ most_bytes) }
     ensures ok { IfOk result (λ _. (records : List InventoryRecord)
         → IsPermutation records (inventory_records_shown inventories.now.ids.ids.items

@@ -7,7 +7,6 @@ use Rattle.ac_tables.specs.Tables.{ids_of, world_stated}
 use Rattle.ac_cloud.specs.Cloud.Numbered.{numbered}
 use Rattle.ac_cloud.specs.Cloud.CloudWorld.{sizes_of}
 use Rattle.ac_tables.specs.Source.{tables_of}
-use Rattle.ac_tables.proofs.Sorted.RiseFacts.{said_here, amounts_rise, names_rise, aggregates_rise}
 use Rattle.ac_cloud.specs.Cloud.Forests.{IsForest}
 use Rattle.ac_cloud.proofs.ListFacts.{lists_size}
 use Rattle.ac_tables.proofs.Places.BuildFacts.{forest}
@@ -24,48 +23,9 @@ build-requires-clause-forest c =
     subst (λ (l : List ℕ). IsForest (length l) c.in_ok-providers.providers.parents.items c.in_ok-providers.providers.roots.items) (sym c.in_ok-inventories.ensures.ids)
     (forest c.in_ok-providers.providers.ids.ids.items said kin.known c.in_ok-providers.providers.parents.items c.in_ok-providers.ensures.parents c.in_ok-providers.providers.roots.items c.in_ok-providers.ensures.count c.in_ok-providers.ensures.roots kin.ends)
 
--- a list of usages for each provider
-used_size : (c : In_ok-usages) → length (lists_of c.in_ok-usages.usages) ≡ length c.in_ok-inventories.inventories.ids.ids.items
-used_size c =
-    sym (length-map (lists_of c.in_ok-usages.usages) (map class_pair)) ∙ ap length c.in_ok-usages.ensures.value
-    ∙ length-map c.in_ok-inventories.inventories.ids.ids.items _
-
-pub join-requires-clause-started : goal.join-requires-clause-started
-join-requires-clause-started c =
-    let own = c.in_ok-inventories.inventories in
-    subst (λ (n : ℕ). AreStarts n own.rows.items.items own.rows.starts.items) (sym (used_size (goal.at.join-requires-clause-started c).In_ok-usages)) own.started
-
-pub join-requires-clause-inside : goal.join-requires-clause-inside
-join-requires-clause-inside c =
-    let own = c.in_ok-inventories.inventories in
-    subst (λ (n : ℕ). All (λ r. r.place < n) own.rows.items.items) (sym (used_size (goal.at.join-requires-clause-inside c).In_ok-usages)) own.inside
-
-pub join-requires-clause-rising : goal.join-requires-clause-rising
-join-requires-clause-rising c =
-    amounts_rise _ c.in_ok-inventories.inventories.ids.ids.items (lists_of c.in_ok-usages.usages) c.in_ok-usages.ensures.value
-
-pub build-requires-clause-entries : goal.build-requires-clause-entries
-build-requires-clause-entries c =
-    let used = lists_of c.in_ok-usages.usages in
-    let rows = lists_of c.in_ok-inventories.inventories.rows in
-    let own = c.in_ok-inventories.inventories in
-    let all : length rows ≡ length own.ids.ids.items = omega (arith, lists_size own.rows.items.items own.rows.starts.items, own.started.sized) in
-    sym (length-map (lists_of c.in_ok-entries.entries) (map entry_pair)) ∙ ap length c.in_ok-entries.ensures
-    ∙ zip_size (map (map class_pair) used) (map (map class_pair) rows)
-    (length-map used (map class_pair) ∙ used_size (goal.at.build-requires-clause-entries c).In_ok-usages ∙ sym all ∙ sym (length-map rows (map class_pair)))
-    ∙ length-map rows (map class_pair) ∙ all
-
 pub build-requires-clause-classes_rise : goal.build-requires-clause-classes_rise
 build-requires-clause-classes_rise c =
-    entries_rise (IsStrictlySortedBy text_cmp) (lists_of c.in_ok-entries.entries) (map (map class_pair) (lists_of c.in_ok-usages.usages)) (lists_of c.in_ok-inventories.inventories.rows) c.in_ok-entries.ensures c.in_ok-inventories.inventories.rise
-
-pub build-requires-clause-names_rise : goal.build-requires-clause-names_rise
-build-requires-clause-names_rise c =
-    names_rise _ c.in_ok-inventories.inventories.ids.ids.items (lists_of c.in_ok-traits.traits) c.in_ok-traits.ensures.value
-
-pub build-requires-clause-aggregates_rise : goal.build-requires-clause-aggregates_rise
-build-requires-clause-aggregates_rise c =
-    aggregates_rise _ c.in_ok-inventories.inventories.ids.ids.items (lists_of c.in_ok-aggregates.aggregates) c.in_ok-aggregates.ensures.value
+    entries_rise (IsStrictlySortedBy text_cmp) (lists_of c.in_ok-entries.entries) (map (map class_pair) (lists_of c.in_ok-usages.usages)) (lists_of c.in_ok-inventories.inventories.rows) c.in_ok-entries.ensures.entries c.in_ok-inventories.inventories.rise
 
 pub returns-clause-world : goal.returns-clause-world
 unfolding ids_of world_stated
@@ -84,7 +44,7 @@ returns-clause-world c =
     let aggregates = c.in_ok-aggregates.ensures.value ∙ ap (λ (rows : List Row). map (aggregates_of (aggregates_said rows)) ids) aggregate_rows in
     let said = providers_said t.providers in
     let kin = subst (λ (l : List ℕ). AreKin l said) (sym same) c.in_ok-providers.ensures.kin in
-    let entries = c.in_ok-entries.ensures in
+    let entries = c.in_ok-entries.ensures.entries in
     let parents = subst (λ (l : List ℕ). c.in_ok-providers.providers.parents.items ≡ map (λ id. option_and_then (rank l) (said_parent said id)) l) (sym same) c.in_ok-providers.ensures.parents in
     let us = map (map class_pair) (lists_of c.in_ok-usages.usages) in
     let ss = map (map class_pair) (lists_of c.in_ok-inventories.inventories.rows) in
