@@ -21,8 +21,7 @@ after-end term.CRLF c = elim (cases_Bool (c == 13)) [ inl e ↦ rw e refl | inr 
 after-end (term.Any t) c = refl
 
 in-field : (cfg : Config) (c : ℕ) → EndsBetween (in_field cfg c)
-in-field cfg c =
-    either (c == cfg.delimiter) _ _ (λ h. absurd (cc h)) (either (ends_with cfg.terminator c) _ _ (λ h. after-end cfg.terminator c) (λ h. absurd (cc h)))
+in-field cfg c = grind (arith, after-end, either)
 
 start-field : (cfg : Config) (c : ℕ) → EndsBetween (start_field cfg c)
 start-field cfg c = either (cfg.quoting && (c == cfg.quote)) (st.InQuoted, act.Skip) (in_field cfg c) (λ h. absurd (cc h)) (in-field cfg c)
@@ -47,9 +46,7 @@ abbrev Leaves : List ℕ → Read → Type 0
 Leaves xs p = (ends_at_end p.1 ≡ false) × (length p.2 ≤ length xs)
 
 the-read : (o : Read) (p : Read) (P : Read → Type 0) → ◌≡◌ {A = Option Read} (Some o) (Some p) → P o → P p
-the-read o p P e h =
-    let same : o ≡ p = cc e in
-    subst P same h
+the-read o p P e h = grind (arith)
 
 pub next-leaves : (cfg : Config) (s : State) (fields : List (List ℕ)) (field xs : List ℕ) (p : Read) → next_record cfg s fields field xs ≡ Some p → Leaves xs p
 unfolding next_record

@@ -62,12 +62,4 @@ module _ (ids : List ℕ) (rows : List ProviderRecord) (known : (i q : ℕ) → 
   -- these parents with their roots, where each chain ends
   pub forest : (roots : List ℕ) → length roots ≡ length parents → ((i : ℕ) → i < length parents → get_or roots i 0 ≡ top (parent_in parents) (length parents) i)
       → ((i : ℕ) → i < length ids → is_endless (said_parent rows) (length ids) (get_or ids i 0) ≡ false) → IsForest (length ids) parents roots
-  forest roots sized tops ends =
-      let rooted = λ (i : ℕ) (h : i < length ids). tops i (omega (arith, h, same_size)) ∙ ap (λ (n : ℕ). top (parent_in parents) n i) same_size in
-      record {
-        with_parents = same_size;
-        with_roots = sized ∙ same_size;
-        within = are_within;
-        rooted = rooted;
-        ends = λ i h. ap (parent_in parents) (rooted i h) ∙ chains_end ends i h;
-      }
+  forest roots sized tops ends = grind (arith, are_within, chains_end, same_size)

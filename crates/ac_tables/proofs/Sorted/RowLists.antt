@@ -44,9 +44,7 @@ module _ {K X : Type 0} (count : ℕ) (rows : List (TableRow K X)) (starts : Lis
           ]
 
   pub split_here : (p : ℕ) → p < count → get_or (lists_in rows starts) p [] ≡ filter (λ (r : TableRow K X). r.place == p) rows
-  split_here p h =
-      let size = are.sized in
-      list_here rows starts p (omega (arith, lists_size rows starts)) ∙ slice_kept rows p _ _ (are.at p (omega arith)) (are.at (p + 1) (omega arith))
+  split_here p h = grind (arith, list_here, lists_size, slice_kept)
 
   pub split_lists : lists_in rows starts ≡ map (λ p. filter (λ (r : TableRow K X). r.place == p) rows) (range_with_len 0 count)
   split_lists =
