@@ -12,7 +12,7 @@ use Rattle.ac_cloud.proofs.ListFacts.{lists_size}
 use Rattle.ac_tables.proofs.Places.BuildFacts.{forest}
 use Rattle.ac_tables.proofs.Places.JoinFacts.{zip_size, entries_rise}
 use Rattle.ac_tables.proofs.StatedWorld.{stated, counted, same_sizes}
-use Rattle.ac_tables.proofs.Records.AllFaults.{tells_providers, tells_inventories, tells_usages, tells_traits, tells_aggregates, none_at_all, usage_text, trait_text, aggregate_text}
+use Rattle.ac_tables.proofs.Records.AllFaults.{usage_text, trait_text, aggregate_text}
 use Rattle.ac_tables.proofs.read.CloudFromTables.read.Goals as goal
 use Rattle.ac_tables.proofs.read.CloudFromTables.read.Goals.{In_ok-usages}
 
