@@ -51,10 +51,7 @@ position_shift x k (y ∷ xs) h =
 
 position_here : (x k : ℕ) (xs : List ℕ) (i : ℕ) → i < length xs → get_or xs i 0 ≡ x → ((j : ℕ) → j < i → get_or xs j 0 ≢ x) → position_from (λ p. p == x) k xs ≡ Some (k + i)
 position_here x k [] i h e before = absurd (omega (arith, h))
-position_here x k (y ∷ xs) zero h e before =
-    let first : (y == x) ≡ true = search (arith, rules) in
-    let none : k ≡ k + zero = omega arith in
-    rw first (ap (λ (n : ℕ). Some n) none)
+position_here x k (y ∷ xs) zero h e before = grind (arith)
 position_here x k (y ∷ xs) (suc i) h e before =
     let first : (y == x) ≡ false = differ y x (before zero (omega arith)) in
     let more : k + 1 + i ≡ k + suc i = omega arith in

@@ -10,8 +10,7 @@ use Rattle.ac_base.proofs.Small.{are_equal, equal, not_false}
 
 one_root : (rs : List ℕ) (x y : ℕ) → (length rs == 1) ≡ true → list_any (λ (r : ℕ). r == x) rs ≡ true → list_any (λ (r : ℕ). r == y) rs ≡ true → x ≡ y
 one_root [] x y e f g = absurd (cc)
-one_root (r ∷ []) x y e f g =
-    sym (are_equal r x (sym (or-false (r == x)) ∙ f)) ∙ are_equal r y (sym (or-false (r == y)) ∙ g)
+one_root (r ∷ []) x y e f g = grind (arith, are_equal, or-false)
 one_root (r ∷ s ∷ rs) x y e f g = absurd (let same = are_equal (length (r ∷ s ∷ rs)) 1 e in omega (arith, same))
 
 -- leaving out what fails a test anyway

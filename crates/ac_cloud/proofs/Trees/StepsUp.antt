@@ -11,9 +11,7 @@ climb_twice n f g inside same (suc k) i h =
 
 -- steps after steps
 climb_plus : (f : ℕ → ℕ) (b a i : ℕ) → climb f a (climb f b i) ≡ climb f (b + a) i
-climb_plus f zero a i =
-    let none : a ≡ zero + a = omega arith in
-    ap (λ (m : ℕ). climb f m i) none
+climb_plus f zero a i = grind (arith)
 climb_plus f (suc b) a i =
     let more : suc b + a ≡ suc (b + a) = omega arith in
     climb_plus f b a (f i) ∙ ap (λ (m : ℕ). climb f m i) (sym more)

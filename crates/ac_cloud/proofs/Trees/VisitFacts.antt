@@ -73,9 +73,7 @@ module _ (parents : List (Option ℕ)) (entered left order : List ℕ) (before :
 
   -- who is in the chain is entered before and left after
   chain_interval : (k a b : ℕ) → b < n → is_in_chain (parent_in parents) k a b ≡ true → (along entered a ≤ along entered b) × (along left b ≤ along left a)
-  chain_interval zero a b hb h =
-      let one : a ≡ b = sym (are_equal b a (sym (chain_last (parent_in parents) a b) ∙ h)) in
-      (omega (arith, ap (along entered) one), omega (arith, ap (along left) one))
+  chain_interval zero a b hb h = grind (arith, are_equal, chain_last)
   chain_interval (suc k) a b hb h = elim (cases_Bool (b == a)) [
     | inl e ↦ let one : a ≡ b = sym (are_equal b a e) in (omega (arith, ap (along entered) one), omega (arith, ap (along left) one))
     | inr ne ↦ elim (some_or_none (parent_in parents b)) [

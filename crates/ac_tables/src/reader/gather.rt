@@ -129,6 +129,7 @@ pub(crate) fn gather<T: Record>(
 }
 
 // The rows of a text in the order of providers and keys, or the first fault of the table.
+#[tactic(auto, unfolding(crate::specs::Tables::Checks::rows_fault), using(crate::proofs::Gathered::Header::fault_of_header, crate::proofs::Gathered::Header::records_left))]
 pub(crate) fn read_table<T: Record>(
     alloc: Global,
     beside: &T::Beside,
