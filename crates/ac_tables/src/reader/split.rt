@@ -76,6 +76,7 @@ fn take_keys<K: Drop>(alloc: Global, rows: Vec<TableRow<K, ()>>) -> Result<Vec<K
 }
 
 // The keys of rows.
+#[tactic(auto, using(ac_cloud::proofs::ListFacts::lists_map))]
 pub(crate) fn keys_of<K: Drop>(
     alloc: Global,
     rows: Lists<TableRow<K, ()>>,

@@ -66,7 +66,7 @@ fn make_entries(
 }
 
 // What each provider has of its classes, and how much of it is used.
-#[tactic(auto, using(ac_cloud::proofs::ListFacts::of_lists))]
+#[tactic(auto, using(crate::proofs::Places::JoinFacts::joined_lists, ac_cloud::proofs::ListFacts::of_lists))]
 pub(crate) fn join(
     alloc: Global,
     inventories: Lists<TableRow<ClassName, Inventory>>,

@@ -224,6 +224,7 @@ impl Inventories {
     }
 
     // Whether a provider has no inventory of a class.
+    #[tactic(auto, using(ac_cloud::proofs::ListFacts::of_lists))]
     pub(crate) fn lacks(&self, place: usize, class: &ClassName) -> bool
         requires { place < length self.now.ids.ids.items }
         ensures { result ≡ not (list_any

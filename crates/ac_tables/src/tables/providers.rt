@@ -24,7 +24,7 @@ use ac_cloud::cloud::roots::find_tops;
 use std::alloc::Global;
 
 // The rows of the providers of a text, before their parents are looked at.
-#[tactic(auto, unfolding(crate::specs::Tables::ProviderTable::provider_records_fault))]
+#[tactic(auto, unfolding(crate::specs::Tables::ProviderTable::provider_records_fault), using(crate::proofs::Records::ProviderIds::said_fit))]
 fn read_rows(alloc: Global, text: &[u8]) -> Result<Vec<TableRow<Id, Named>>, TableFault>
     requires { length text.now ≤ most_bytes }
     ensures rows { IfOk result (λ rows.

@@ -4,17 +4,6 @@ use Rattle.ac_cloud.proofs.ListFacts.{lists_size}
 use Rattle.ac_tables.proofs.Sorted.RowLists.{split_here}
 use Rattle.ac_tables.proofs.tables.inventories.Inventories.lacks.Goals as goal
 
-pub of-requires : goal.of-requires
-of-requires c =
-    let own = c.args.self.now in
-    omega (arith, lists_size own.rows.items.items own.rows.starts.items, own.started.sized)
-
-pub has_class-requires : goal.has_class-requires
-has_class-requires c =
-    let own = c.args.self.now in
-    subst (λ (rs : List (TableRow ClassName InventoryNumbers)). IsStrictlySortedBy text_cmp (map (λ (r : TableRow ClassName InventoryNumbers). class_bytes r.key) rs)) (sym c.of.ensures)
-    (own.rise c.args.place [] (omega (arith, lists_size own.rows.items.items own.rows.starts.items, own.started.sized, c.requires)))
-
 pub returns : goal.returns
 returns c =
     let own = c.args.self.now in
