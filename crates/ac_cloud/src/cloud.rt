@@ -88,6 +88,7 @@ impl Cloud {
     pub fn index_of(&self, id: Id) -> Option<u32>
         ensures { result ≡ place_of (providers_of self.now) id }
     {
+        // Called for what it ensures: a place fits a u32.
         let _count = self.ids.len();
         match self.ids.find(id) {
             Some(place) => Some(place as u32),

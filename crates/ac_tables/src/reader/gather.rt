@@ -149,9 +149,6 @@ pub(crate) fn read_table<T: Record>(
         (records_of text.now))) e) }
 {
     let mut header = ByteRecord::new(alloc);
-    let mut reader = match open_table(alloc, T::TABLE, T::names(), text, &mut header) {
-        Ok(reader) => reader,
-        Err(fault) => return Err(fault),
-    };
+    let mut reader = open_table(alloc, T::TABLE, T::names(), text, &mut header)?;
     gather::<T>(alloc, beside, &mut reader, &header)
 }

@@ -62,6 +62,7 @@ pub(crate) fn read_providers(alloc: Global, text: &[u8]) -> Result<Providers, Ta
         Err(fault) => return Err(fault),
     };
     let ids = find_ids(alloc, &rows)?;
+    // Called for what it ensures: there are no more providers than places fit a u32.
     let _count = ids.len();
     let parents = find_parents(alloc, &ids, &rows)?;
     let unknown = mark_unknown(alloc, &rows, &parents)?;
