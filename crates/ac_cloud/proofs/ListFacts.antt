@@ -1,5 +1,5 @@
 -- Lists that stand one after the other in one list.
-use Rattle.ac_cloud.proofs.Common.{◌≡◌, ◌∙◌, ◌+◌, ◌-◌, ◌<◌, ◌≤◌, ℕ, zero, suc, List, [], ◌∷◌, map, length, get_or, take, drop, refl, sym, ap, ap₂, arith, range_with_len, sum_by, length-map, length-take-le, get_or-map-range_with_len, length-range_with_len, map-map}
+use Rattle.ac_cloud.proofs.Common.{◌≡◌, ◌∙◌, ◌+◌, ◌-◌, ◌<◌, ℕ, zero, suc, List, [], ◌∷◌, map, length, get_or, take, drop, refl, sym, ap, ap₂, arith, range_with_len, sum_by, length-map, length-take-le, get_or-map-range_with_len, length-range_with_len, map-map}
 use Rattle.std.proofs.lemmas.List.FromFn.{sum_by-map-range_with_len_more}
 use Rattle.std.proofs.lemmas.List.{drop-map, take-map}
 use Rattle.std.proofs.Common.{add-one, length-drop}

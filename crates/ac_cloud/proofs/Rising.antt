@@ -1,5 +1,5 @@
 -- Rising lists of numbers.
-use Rattle.ac_cloud.proofs.Common.{◌≡◌, ◌≢◌, ◌<◌, ◌≤◌, ℕ, zero, suc, true, false, List, [], ◌∷◌, length, get_or, refl, subst, arith, rules, inl, inr, ◌⊎◌, ◌+◌, ◌∙◌, Some, None, sym, ap, Result, Ok, Err, IfSome, ◌==◌, result_ok, position_from, nat_cmp, IsBinarySearchResult, IsStrictlySortedBy, cases_lt, cases_Bool, cases_eq, IsRising, is_one_of, rank}
+use Rattle.ac_cloud.proofs.Common.{◌≡◌, ◌≢◌, ◌<◌, ◌≤◌, ℕ, zero, suc, true, false, List, [], ◌∷◌, length, get_or, refl, arith, rules, inl, inr, ◌+◌, ◌∙◌, Some, None, sym, ap, Result, Ok, Err, IfSome, ◌==◌, result_ok, position_from, nat_cmp, IsBinarySearchResult, IsStrictlySortedBy, cases_lt, cases_Bool, cases_eq, IsRising, is_one_of, rank}
 use Rattle.std.proofs.Common.{IfNone}
 use Rattle.std.proofs.lemmas.List.Sorted.{searched}
 use Rattle.std.proofs.lemmas.Map.Keys.{below_from_sorted}

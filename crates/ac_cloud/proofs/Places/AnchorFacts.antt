@@ -1,5 +1,5 @@
 -- The roots of the trees in which a provider is available.
-use Rattle.ac_cloud.proofs.Common.{◌≡◌, ◌∙◌, ◌<◌, ◌+◌, ℕ, zero, suc, Bool, true, false, List, [], ◌∷◌, length, get_or, None, Some, inl, inr, refl, sym, ap, ap₂, arith, ◌==◌, ◌&&◌, ◌||◌, codes, if◌then◌else◌, is_some, cases_Bool, list_of, bytes_eq, nat_cmp, list_any, filter, range_with_len, false≢true, list_any_at, get_or-range_with_len, length-range_with_len, parent_in, trait_bytes, lists_of, is_among, meets_at, meets, is_joined, joined, is_joining, is_marked, Provider, no_provider, provider_at, id_at, root_of, is_root, is_available_at, anchors_of, providers_of, Cloud, or-false}
+use Rattle.ac_cloud.proofs.Common.{◌≡◌, ◌∙◌, ◌<◌, ◌+◌, ℕ, zero, suc, Bool, true, false, List, [], ◌∷◌, length, get_or, None, Some, refl, sym, ap, ap₂, arith, ◌==◌, ◌&&◌, ◌||◌, if◌then◌else◌, is_some, cases_Bool, list_of, nat_cmp, list_any, filter, range_with_len, false≢true, list_any_at, get_or-range_with_len, length-range_with_len, parent_in, lists_of, is_among, meets_at, meets, is_joined, joined, is_joining, is_marked, Provider, no_provider, provider_at, id_at, root_of, is_root, is_available_at, anchors_of, providers_of, Cloud, or-false}
 use Rattle.std.specs.List.Sorted.{IsStrictlySortedBy}
 use Rattle.ac_cloud.specs.World.{shares, is_associated, have_common_aggregate}
 use Rattle.std.proofs.lemmas.Bool.{and_left, and_right, or_right}

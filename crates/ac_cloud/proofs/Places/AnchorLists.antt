@@ -1,5 +1,5 @@
 -- Lists of roots: rising, kept once, one for each provider.
-use Rattle.ac_cloud.proofs.Common.{◌≡◌, ◌∙◌, ◌<◌, ◌≤◌, ◌+◌, ℕ, Bool, true, List, [], ◌∷◌, ◌++◌, length, get_or, Option, Some, None, refl, sym, ap, subst, arith, ◌==◌, IfSome, is_some, unwrap_or, Vec, nat_cmp, list_any, filter, range_with_len, get_or_append_left, get_or-range_with_len, length-range_with_len, BTreeMap, ArePlaces, is_met, meets_at, meets, is_joined, joined, list_of, AreAsked, is_at, nat_cmp_total, exact_unsigned}
+use Rattle.ac_cloud.proofs.Common.{◌≡◌, ◌∙◌, ◌<◌, ◌≤◌, ◌+◌, ℕ, Bool, true, List, [], ◌∷◌, ◌++◌, length, get_or, Option, Some, None, refl, sym, ap, subst, arith, ◌==◌, IfSome, is_some, unwrap_or, Vec, nat_cmp, list_any, filter, range_with_len, get_or_append_left, get_or-range_with_len, length-range_with_len, BTreeMap, ArePlaces, is_met, meets, is_joined, joined, list_of, AreAsked, is_at, nat_cmp_total, exact_unsigned}
 use Rattle.ac_base.proofs.Small.{are_equal, one_more}
 use Rattle.ac_cloud.proofs.Places.KeptFacts.{kept_has, kept_rise}
 use Rattle.std.proofs.lemmas.Bool.{and_parts}

@@ -1,5 +1,5 @@
 -- Gathering roots one by one.
-use Rattle.ac_cloud.proofs.Common.{◌≡◌, ◌∙◌, ◌<◌, ◌+◌, ℕ, Bool, true, false, List, [], ◌∷◌, map, take, length, get_or, refl, sym, ap, ap₂, arith, ◌==◌, ◌||◌, ◌&&◌, if◌then◌else◌, list_any, range_with_len, nat_cmp, is_at, is_among, meets_at, meets, or-false}
+use Rattle.ac_cloud.proofs.Common.{◌≡◌, ◌∙◌, ◌<◌, ◌+◌, ℕ, Bool, true, false, List, [], ◌∷◌, map, take, length, get_or, refl, sym, ap, ap₂, arith, ◌==◌, ◌||◌, ◌&&◌, if◌then◌else◌, list_any, range_with_len, nat_cmp, is_at, is_among, meets, or-false}
 use Rattle.std.proofs.lemmas.List.Folds.{list_any-append, list_any_more}
 use Rattle.std.proofs.lemmas.List.FromFn.{map-range_with_len_more}
 use Rattle.ac_base.proofs.Sorted.SearchFacts.{any_map}

@@ -1,5 +1,5 @@
 -- The providers of a cloud, place by place.
-use Rattle.ac_cloud.proofs.Common.{◌≡◌, ◌<◌, ◌+◌, ◌∙◌, ℕ, zero, suc, List, [], ◌∷◌, map, length, get_or, Option, Some, refl, ap, arith, ◌==◌, if◌then◌else◌, option_map, option_and_then, None, IfSome, AreParents, range_with_len, position_from, get_or-map-range_with_len, length-map, TextMap, top, rank, parent_in, AreWithin, IsRising, UsedInventory, Provider, no_provider, provider_at, place_of, parent_of, root_of, numbered_at, length-range_with_len}
+use Rattle.ac_cloud.proofs.Common.{◌≡◌, ◌<◌, ◌+◌, ◌∙◌, ℕ, zero, suc, List, [], ◌∷◌, map, length, get_or, Option, Some, refl, ap, arith, ◌==◌, if◌then◌else◌, option_map, AreParents, range_with_len, position_from, get_or-map-range_with_len, length-map, TextMap, top, rank, parent_in, AreWithin, IsRising, UsedInventory, Provider, no_provider, provider_at, place_of, parent_of, root_of, numbered_at, length-range_with_len}
 use Rattle.ac_cloud.specs.World.{is_provider}
 use Rattle.ac_cloud.specs.Cloud.Numbered.{numbered}
 use Rattle.ac_cloud.proofs.Rising.{rank_at}

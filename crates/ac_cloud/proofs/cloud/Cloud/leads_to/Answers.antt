@@ -1,6 +1,6 @@
 use Rattle.ac_cloud.proofs.Common.{◌≡◌, ◌∙◌, ◌<◌, ◌+◌, ◌-◌, ℕ, suc, false, length, sym, ap, arith, rules, None, ◌==◌, get_or_read, is_in_chain, id_at, parent_of, providers_of}
 use Rattle.ac_cloud.proofs.Places.CloudFacts.{size, inside, parent_is, parts}
-use Rattle.ac_cloud.proofs.Trees.AncestorFacts.{chain_ends, chain_goes, chain_last, same_test, some_name, no_name, some_inside}
+use Rattle.ac_cloud.proofs.Trees.AncestorFacts.{chain_goes, same_test, some_name, some_inside}
 use Rattle.ac_cloud.proofs.cloud.Cloud.leads_to.Goals as goal
 
 pub loop-step-preserved : goal.loop-step-preserved

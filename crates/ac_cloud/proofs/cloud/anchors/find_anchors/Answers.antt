@@ -1,5 +1,5 @@
 use Rattle.ac_cloud.proofs.Common.{◌≡◌, ◌<◌, ◌∙◌, ℕ, List, length, sym, ap, arith, is_some, Vec, lists_of, list_of}
-use Rattle.ac_cloud.proofs.Places.WideAggregates.{asked_joined, asked_alone}
+use Rattle.ac_cloud.proofs.Places.WideAggregates.{asked_joined}
 use Rattle.ac_cloud.proofs.cloud.anchors.find_anchors.Goals as goal
 
 pub returns-clause-joined : goal.returns-clause-joined

@@ -1,5 +1,5 @@
-use Rattle.ac_cloud.proofs.Common.{◌≡◌, ◌<◌, ◌∙◌, ◌%◌, ℕ, length, get_or, ap, sym, subst, arith, climb, up, along, ArePlaces, parent_in}
-use Rattle.ac_cloud.proofs.Trees.StepsUp.{steps_inside, climb_list, twice_inside, after_inside, ahead_halved}
+use Rattle.ac_cloud.proofs.Common.{◌≡◌, ◌<◌, ◌∙◌, ◌%◌, ℕ, length, get_or, arith, climb, along}
+use Rattle.ac_cloud.proofs.Trees.StepsUp.{twice_inside, after_inside, ahead_halved}
 use Rattle.ac_cloud.proofs.cloud.roots.find_tops.Goals as goal
 
 pub loop-left-preserved : goal.loop-left-preserved

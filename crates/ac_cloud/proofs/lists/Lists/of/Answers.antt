@@ -1,5 +1,5 @@
-use Rattle.ac_cloud.proofs.Common.{◌∙◌, ◌+◌, ◌-◌, ℕ, arith, ap, ap₂, sym, length, take, drop, get_or_read}
-use Rattle.ac_cloud.proofs.ListFacts.{lists_size, list_here}
+use Rattle.ac_cloud.proofs.Common.{◌+◌, arith, ap, length, get_or_read}
+use Rattle.ac_cloud.proofs.ListFacts.{lists_size}
 use Rattle.ac_cloud.proofs.lists.Lists.of.Goals as goal
 
 pub cut-requires-clause-order : goal.cut-requires-clause-order
