@@ -58,7 +58,7 @@ pub struct Cloud {
     ghost whole: { BelongTogether ids.ids.items parents.items roots.items (lists_of entries) (lists_of traits) (lists_of aggregates) sharing.items anchors visits } by { BelongTogether-prop ids.ids.items parents.items roots.items (lists_of entries) (lists_of traits) (lists_of aggregates) sharing.items anchors visits },
 }
 
-#[tactic(auto, using(crate::proofs::Places::CloudFacts::here))]
+#[tactic(auto, using(crate::proofs::Places::CloudSets::here))]
 impl Cloud {
     ghost use Rattle.ac_cloud.specs.Cloud.CloudWorld.{providers_of, root_lists_of, world_of, sizes_of};
 
@@ -183,7 +183,7 @@ impl Cloud {
     }
 
     // Whether the parents of `b` lead to `a`.
-    #[tactic(auto, using(crate::proofs::Places::CloudFacts::here, crate::proofs::Trees::AncestorFacts::chains))]
+    #[tactic(auto, using(crate::proofs::Places::CloudSets::here, crate::proofs::Trees::AncestorFacts::chains))]
     fn leads_to(&self, a: u32, b: u32) -> bool
         requires a { a < length (providers_of self.now) }
         requires b { b < length (providers_of self.now) }

@@ -1,5 +1,5 @@
 -- The roots of the trees in which a provider is available.
-use Rattle.ac_cloud.proofs.Common.{◌≡◌, ◌∙◌, ◌<◌, ◌+◌, ℕ, zero, suc, Bool, true, false, List, [], ◌∷◌, length, get_or, None, Some, refl, sym, ap, ap₂, arith, ◌==◌, ◌&&◌, ◌||◌, if◌then◌else◌, is_some, cases_Bool, list_of, nat_cmp, list_any, filter, range_with_len, false≢true, list_any_at, get_or-range_with_len, length-range_with_len, parent_in, lists_of, is_among, meets_at, meets, is_joined, joined, is_joining, is_marked, Provider, no_provider, provider_at, id_at, root_of, is_root, is_available_at, anchors_of, providers_of, Cloud, or-false}
+use Rattle.ac_cloud.proofs.Common.{◌≡◌, ◌∙◌, ◌<◌, ◌+◌, ℕ, zero, suc, Bool, true, false, List, [], ◌∷◌, length, get_or, None, Some, inl, inr, refl, sym, ap, ap₂, arith, ◌==◌, ◌&&◌, ◌||◌, codes, if◌then◌else◌, is_some, cases_Bool, list_of, bytes_eq, nat_cmp, list_any, filter, range_with_len, false≢true, list_any_at, get_or-range_with_len, length-range_with_len, parent_in, trait_bytes, lists_of, is_among, meets_at, meets, is_joined, joined, is_joining, is_marked, Provider, no_provider, provider_at, id_at, root_of, is_root, is_available_at, anchors_of, providers_of, Cloud, or-false}
 use Rattle.std.specs.List.Sorted.{IsStrictlySortedBy}
 use Rattle.ac_cloud.specs.World.{shares, is_associated, have_common_aggregate}
 use Rattle.std.proofs.lemmas.Bool.{and_left, and_right, or_right}
@@ -106,7 +106,9 @@ module _ (c : Cloud) where
 
   -- where some aggregate joins, there is a root
   joined_root : (ids : List ℕ) (r : ℕ) → r < length c.ids.ids.items → is_joined roots groups ids r ≡ true → is_root (providers_of c) (id_at (providers_of c) r) ≡ true
-  joined_root ids r hr j = grind (arith, is_top, joined_where, parts)
+  joined_root ids r hr j =
+      let q = joined_where roots groups ids r j in
+      is_top q.0 r (omega (arith, q.1, (parts c).forest.with_roots)) hr q.2
 
   -- who belongs to some aggregate joins its own root
   joins_own : (ix r : ℕ) (a : ℕ) (ids : List ℕ) → ix < length c.ids.ids.items → get_or groups ix [] ≡ a ∷ ids → (get_or roots ix 0 == r) ≡ true → is_joined roots groups (a ∷ ids) r ≡ true
@@ -121,7 +123,11 @@ module _ (c : Cloud) where
       ap (λ b. b || is_joined roots groups ids r) met
 
   pub shares_here : (ix : ℕ) → ix < length c.ids.ids.items → shares (provider_at (providers_of c) ix) ≡ get_or c.sharing.items ix false
-  shares_here ix h = grind (arith, any_map, parts, traits_here)
+  shares_here ix h =
+      let text = codes "MISC_SHARES_VIA_AGGREGATE" in
+      ap (list_any (bytes_eq (codes "MISC_SHARES_VIA_AGGREGATE"))) (sym (traits_here c ix h))
+      ∙ sym (any_map (λ n. bytes_eq (codes "MISC_SHARES_VIA_AGGREGATE") (trait_bytes n)) (bytes_eq (codes "MISC_SHARES_VIA_AGGREGATE")) trait_bytes (λ n. refl) (get_or (lists_of c.traits) ix []))
+      ∙ sym ((parts c).shared ix h)
 
   -- who doesn't share through an aggregate is available in its own tree
   pub anchors_alone : (ix : ℕ) → ix < length c.ids.ids.items → is_marked c.sharing.items groups ix ≡ false → (get_or roots ix 0 ∷ []) ≡ anchors_of (providers_of c) ix
@@ -166,4 +172,7 @@ module _ (c : Cloud) where
 
   -- the root of one that has none
   pub anchors_unlisted : (ix : ℕ) → ix < length c.ids.ids.items → get_or c.anchors.places.items ix None ≡ None → (get_or roots ix 0 ∷ []) ≡ anchors_of (providers_of c) ix
-  anchors_unlisted ix h here = grind (arith, anchors_alone, anchors_joined, cases_Bool, parts)
+  anchors_unlisted ix h here = elim (cases_Bool (is_marked c.sharing.items groups ix)) [
+    | inl marked ↦ sym ((parts c).alone ix h (ap is_some here) marked) ∙ anchors_joined ix h marked
+    | inr not ↦ anchors_alone ix h not
+  ]

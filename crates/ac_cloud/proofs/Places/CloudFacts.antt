@@ -1,5 +1,5 @@
 -- A cloud's fields and the world that it stands for.
-use Rattle.ac_cloud.proofs.Common.{All, IsStrictlySortedBy, text_cmp, nat_cmp, entry_class, ◌≡◌, ◌<◌, ◌∙◌, ℕ, List, [], map, length, get_or, Option, Some, None, refl, sym, ap, subst, arith, IfSome, option_map, get_or-map, parent_in, rank, provider_at, id_at, place_of, parent_of, root_of, trait_bytes, entry_pair, lists_of, numbered_at, Cloud}
+use Rattle.ac_cloud.proofs.Common.{◌≡◌, ◌<◌, ◌∙◌, ℕ, List, [], map, length, get_or, Option, Some, None, refl, sym, ap, subst, arith, IfSome, option_map, get_or-map, parent_in, rank, provider_at, id_at, place_of, parent_of, root_of, trait_bytes, entry_pair, lists_of, numbered_at, Cloud}
 use Rattle.ac_cloud.specs.Cloud.CloudParts.{AreParts, BelongTogether}
 use Rattle.ac_cloud.specs.Cloud.CloudWorld.{providers_of}
 use Rattle.ac_cloud.proofs.Places.WorldFacts.{numbered_size, numbered_here, numbered_place, numbered_parent, numbered_root}
@@ -32,7 +32,9 @@ module _ (c : Cloud) where
 
   pub parent_here : (ix : ℕ) → ix < length c.ids.ids.items → parent_of (providers_of c) (id_at (providers_of c) ix) ≡ option_map (λ j. get_or c.ids.ids.items j 0) (parent_in c.parents.items ix)
   unfolding providers_of
-  parent_here ix h = grind (arith, id_here, numbered_parent)
+  parent_here ix h =
+      ap (parent_of (providers_of c)) (id_here ix h)
+      ∙ numbered_parent ids c.parents.items (map (map entry_pair) (lists_of c.entries)) (map (map trait_bytes) (lists_of c.traits)) (lists_of c.aggregates) c.ids.rising ix h
 
   pub root_inside : (ix : ℕ) → ix < length c.ids.ids.items → get_or c.roots.items ix 0 < length c.ids.ids.items
   root_inside ix h =
@@ -41,17 +43,24 @@ module _ (c : Cloud) where
 
   pub root_here : (ix : ℕ) → ix < length c.ids.ids.items → id_at (providers_of c) (get_or c.roots.items ix 0) ≡ root_of (providers_of c) (id_at (providers_of c) ix)
   unfolding providers_of
-  root_here ix h = grind (arith, id_here, numbered_root, parts, root_inside)
+  root_here ix h =
+      let r = numbered_root ids c.parents.items (map (map entry_pair) (lists_of c.entries)) (map (map trait_bytes) (lists_of c.traits)) (lists_of c.aggregates) c.ids.rising parts.forest.within ix h in
+      id_here (get_or c.roots.items ix 0) (root_inside ix h)
+      ∙ ap (λ (j : ℕ). get_or ids j 0) (parts.forest.rooted ix h) ∙ sym r.1 ∙ ap (root_of (providers_of c)) (sym (id_here ix h))
 
   at_place : (ix : ℕ) → ix < length c.ids.ids.items → provider_at (providers_of c) ix ≡ numbered_at ids c.parents.items (map (map entry_pair) (lists_of c.entries)) (map (map trait_bytes) (lists_of c.traits)) (lists_of c.aggregates) ix
   unfolding providers_of
   at_place ix h = numbered_here ids c.parents.items (map (map entry_pair) (lists_of c.entries)) (map (map trait_bytes) (lists_of c.traits)) (lists_of c.aggregates) ix h
 
   pub inventory_records_here : (ix : ℕ) → ix < length c.ids.ids.items → map entry_pair (get_or (lists_of c.entries) ix []) ≡ (provider_at (providers_of c) ix).entries
-  inventory_records_here ix h = grind (arith, at_place, get_or-map, parts)
+  inventory_records_here ix h =
+      let k : ix < length (lists_of c.entries) = omega (arith, h, parts.with_entries) in
+      sym (get_or-map (map entry_pair) (lists_of c.entries) ix [] [] k) ∙ sym (ap (λ p. p.entries) (at_place ix h))
 
   pub traits_here : (ix : ℕ) → ix < length c.ids.ids.items → map trait_bytes (get_or (lists_of c.traits) ix []) ≡ (provider_at (providers_of c) ix).traits
-  traits_here ix h = grind (arith, at_place, get_or-map, parts)
+  traits_here ix h =
+      let k : ix < length (lists_of c.traits) = omega (arith, h, parts.with_traits) in
+      sym (get_or-map (map trait_bytes) (lists_of c.traits) ix [] [] k) ∙ sym (ap (λ p. p.traits) (at_place ix h))
 
   pub aggregates_here : (ix : ℕ) → ix < length c.ids.ids.items → get_or (lists_of c.aggregates) ix [] ≡ (provider_at (providers_of c) ix).aggregates
   aggregates_here ix h = sym (ap (λ p. p.aggregates) (at_place ix h))
@@ -66,36 +75,3 @@ module _ (c : Cloud) where
   parent_is ix o h e =
       let same = names_same ix o h (sym e) in
       (same.0 ∙ ap (option_map (λ j. get_or c.ids.ids.items j 0)) e ∙ sym (parent_here ix h), same.1)
-
-  -- as many of each part as there are providers
-  pub parents_sized : length c.parents.items ≡ length c.ids.ids.items
-  parents_sized = parts.forest.with_parents
-
-  pub roots_sized : length c.roots.items ≡ length c.ids.ids.items
-  roots_sized = parts.forest.with_roots
-
-  pub entries_sized : length (lists_of c.entries) ≡ length c.ids.ids.items
-  entries_sized = parts.with_entries
-
-  pub traits_sized : length (lists_of c.traits) ≡ length c.ids.ids.items
-  traits_sized = parts.with_traits
-
-  pub aggregates_sized : length (lists_of c.aggregates) ≡ length c.ids.ids.items
-  aggregates_sized = parts.with_aggregates
-
-  pub sharing_sized : length c.sharing.items ≡ length c.ids.ids.items
-  sharing_sized = parts.with_sharing
-
-  pub anchors_sized : length c.anchors.places.items ≡ length c.ids.ids.items
-  anchors_sized = parts.with_anchors
-
-  pub classes_rise : All (λ es. IsStrictlySortedBy text_cmp (map entry_class es)) (lists_of c.entries)
-  classes_rise = parts.classes_rise
-
-  pub names_rise : All (λ names. IsStrictlySortedBy text_cmp (map trait_bytes names)) (lists_of c.traits)
-  names_rise = parts.names_rise
-
-  pub ids_rise : All (λ all. IsStrictlySortedBy nat_cmp all) (lists_of c.aggregates)
-  ids_rise = parts.aggregates_rise
-
-pub ruleset here = (size, id_here, place_here, parent_here, root_here, root_inside, inventory_records_here, traits_here, aggregates_here, parents_sized, roots_sized, entries_sized, traits_sized, aggregates_sized, sharing_sized, anchors_sized, classes_rise, names_rise, ids_rise)

@@ -1,5 +1,5 @@
 -- The rows of one provider, and what is said of it.
-use Rattle.ac_tables.proofs.Common.{◌≡◌, ◌∙◌, ◌<◌, ℕ, zero, suc, Bool, true, List, [], ◌∷◌, map, refl, sym, ap, ap₂, subst, arith, inl, inr, ◌==◌, Ordering, Less, nat_cmp, ordering_then, All, AllByRecursion, Contains, filter, cases_Bool, nat_cmp_total, get_or-map, length-map, All-weaker, recursion_from_All, IsStrictlySortedBy-filter, row_cmp, row_shown, TableRow}
+use Rattle.ac_tables.proofs.Common.{◌≡◌, ◌∙◌, ◌<◌, ℕ, zero, suc, Bool, true, List, [], ◌∷◌, map, refl, sym, ap, ap₂, subst, arith, inl, inr, ◌==◌, Ordering, Less, All, AllByRecursion, Contains, filter, cases_Bool, nat_cmp_total, All-weaker, recursion_from_All, IsStrictlySortedBy-filter, row_cmp, row_shown, TableRow}
 use Rattle.std.specs.List.Sorted.{IsStrictlySortedBy}
 use Rattle.std.proofs.lemmas.Cmp.{tied_itself}
 use Rattle.std.proofs.lemmas.List.Elements.{filter_passes}
@@ -9,9 +9,7 @@ use Rattle.ac_base.proofs.Sorted.SameItems.{map_has}
 module _ {X : Type 0} (p : X → Bool) where
   pub filter_has : (xs : List X) (x : X) → Contains xs x → p x ≡ true → Contains (filter p xs) x
   filter_has [] x c e = let i = c.1 in absurd (omega (arith, i))
-  filter_has (y ∷ xs) x (zero, inside, here) e =
-      let passes : p y ≡ true = ap p here ∙ e in
-      rw passes (zero, omega arith, here)
+  filter_has (y ∷ xs) x (zero, inside, here) e = grind (arith)
   filter_has (y ∷ xs) x (suc k, inside, here) e = elim (cases_Bool (p y)) [
     | inl passes ↦ rw passes (let c = filter_has xs x (k, omega arith, here) e in (suc c.0, (let i = c.1 in omega (arith, i)), c.2))
     | inr fails ↦ rw fails (filter_has xs x (k, omega arith, here) e)

@@ -1,5 +1,5 @@
 -- The rows of one provider, cut out of a sorted list.
-use Rattle.ac_tables.proofs.Common.{◌≡◌, ◌∙◌, ◌+◌, ◌-◌, ◌<◌, ◌≤◌, ◌++◌, ℕ, zero, suc, Bool, true, false, List, [], ◌∷◌, length, get_or, take, drop, refl, sym, ap, subst, arith, inl, inr, ◌==◌, filter, IsNonDecreasingBy, cases_lt, get_or_append_left, length-append, IsStart, TableRow}
+use Rattle.ac_tables.proofs.Common.{◌≡◌, ◌∙◌, ◌+◌, ◌-◌, ◌<◌, ◌≤◌, ◌++◌, ℕ, zero, suc, Bool, true, false, List, [], ◌∷◌, length, get_or, take, drop, refl, sym, ap, arith, inl, inr, ◌==◌, filter, IsNonDecreasingBy, cases_lt, get_or_append_left, length-append, IsStart, TableRow}
 use Rattle.std.proofs.lemmas.List.{get_or_push}
 use Rattle.ac_base.proofs.Small.{equal, differ}
 
@@ -21,9 +21,7 @@ module _ {X : Type 0} (p : X → Bool) where
   pub middle_kept : (xs : List X) (a b : ℕ) → a ≤ b → b ≤ length xs → ((k : ℕ) (d : X) → k < a → p (get_or xs k d) ≡ false)
       → ((k : ℕ) (d : X) → a ≤ k → k < b → p (get_or xs k d) ≡ true) → ((k : ℕ) (d : X) → b ≤ k → k < length xs → p (get_or xs k d) ≡ false)
       → take (b - a) (drop a xs) ≡ filter p xs
-  middle_kept xs zero b le inside low mid high =
-      let whole : b - zero ≡ b = omega arith in
-      ap (λ n. take n xs) whole ∙ front_kept xs b inside (λ k d h. mid k d (omega arith) h) high
+  middle_kept xs zero b le inside low mid high = grind (arith, front_kept)
   middle_kept [] (suc a) b le inside low mid high = absurd (omega (arith, le, inside))
   middle_kept (x ∷ xs) (suc a) zero le inside low mid high = absurd (omega (arith, le))
   middle_kept (x ∷ xs) (suc a) (suc b) le inside low mid high =

@@ -4,7 +4,7 @@ use Rattle.csv.specs.Machine.{next_record}
 use Rattle.std.proofs.Common.{IfOk, OnOk, ok_or}
 use Rattle.ac_base.specs.declared.name.NoMemory.{NoMemory}
 use Rattle.csv.specs.declared.error.Error.{Error}
-use Rattle.csv.specs.Reading.{is_bom, Ready, Reached, ReadRecord, default_config, records_from, source_of, strip_bom}
+use Rattle.csv.specs.Reading.{is_bom, Ready, Reached, ReadRecord, default_config, records_from, strip_bom}
 use Rattle.csv.specs.declared.reader.Reader.{Reader}
 use Rattle.csv.proofs.ReadFacts.{rows-end, rows-more}
 use Rattle.ac_tables.specs.Tables.Rows.{rows_from, Gives}

@@ -1,5 +1,5 @@
 -- The parents of providers by their places, and where their chains end.
-use Rattle.ac_tables.proofs.Common.{◌≡◌, ◌<◌, ◌+◌, ◌∙◌, ℕ, true, false, List, [], ◌∷◌, map, length, get_or, Option, Some, None, refl, sym, ap, arith, inl, inr, ◌==◌, IfSome, option_map, option_and_then, is_some, position_from, cases_Bool, get_or-map, length-map, top, is_endless, rank, parent_in, AreWithin, AreParents, ProviderRecord, said_parent, is_one_of}
+use Rattle.ac_tables.proofs.Common.{◌≡◌, ◌<◌, ◌+◌, ◌∙◌, ℕ, true, false, List, [], ◌∷◌, map, length, get_or, Option, Some, None, refl, sym, ap, arith, inl, inr, ◌==◌, option_map, option_and_then, is_some, position_from, cases_Bool, get_or-map, length-map, top, is_endless, rank, parent_in, AreWithin, ProviderRecord, said_parent, is_one_of}
 use Rattle.std.proofs.lemmas.Iterator.Adapters.{position_from-zero}
 use Rattle.std.proofs.lemmas.List.Quantifiers.{position-Some}
 use Rattle.ac_cloud.proofs.Trees.PlaceTrees.{steps}

@@ -1,13 +1,12 @@
 -- The faults of the tables, in their order.
-use Rattle.ac_tables.proofs.Common.{◌≡◌, rules, ℕ, List, Option, Some, None, refl, codes, Bor, option_map, Tells, records_of, inventories_said, Tables, records_or_header, TableFault}
+use Rattle.ac_tables.proofs.Common.{◌≡◌, ℕ, List, Option, Some, None, refl, codes, Bor, option_map, records_of, records_or_header}
 use Rattle.csv.proofs.OnLiterals.{csv_on_literals}
 use Rattle.ac_tables.specs.SourceText.{text_or}
-use Rattle.ac_tables.specs.Tables.ProviderTable.{providers_fault, uuid_name}
-use Rattle.ac_tables.specs.Tables.InventoryTable.{inventories_fault, provider_name, class_name}
-use Rattle.ac_tables.specs.Tables.UsageTable.{usages_fault, usage_columns, usage_name}
-use Rattle.ac_tables.specs.Tables.TraitTable.{traits_fault, trait_columns, name_name}
-use Rattle.ac_tables.specs.Tables.AggregateTable.{aggregates_fault, aggregate_columns}
-use Rattle.ac_tables.specs.Tables.{ids_of, tables_fault}
+use Rattle.ac_tables.specs.Tables.ProviderTable.{uuid_name}
+use Rattle.ac_tables.specs.Tables.InventoryTable.{provider_name, class_name}
+use Rattle.ac_tables.specs.Tables.UsageTable.{usage_columns, usage_name}
+use Rattle.ac_tables.specs.Tables.TraitTable.{trait_columns, name_name}
+use Rattle.ac_tables.specs.Tables.AggregateTable.{aggregate_columns}
 use Rattle.ac_tables.proofs.FirstFailing.{append_none}
 use Rattle.ac_tables.proofs.Records.ProviderFaults.{tells_first, tells_next}
 

@@ -1,11 +1,11 @@
 -- The id that a text spells is a number of 128 bits.
-use Rattle.ac_tables.proofs.Common.{◌≡◌, ◌<◌, ◌+◌, ◌*◌, ◌^◌, ◌==◌, ◌&&◌, ℕ, Bool, true, false, List, length, Option, Some, None, IfSome, if◌then◌else◌, refl, sym, subst, arith, take, drop, option_map, unwrap_or, nat_tests, id_value}
+use Rattle.ac_tables.proofs.Common.{◌≡◌, ◌<◌, ◌^◌, ◌==◌, ◌&&◌, ℕ, Bool, true, false, List, length, Option, Some, None, IfSome, if◌then◌else◌, arith, option_map, unwrap_or, nat_tests, id_value}
 use Rattle.std.proofs.Common.{slice_index}
 use Rattle.std.specs.List.{list_all}
 use Rattle.std.specs.Int.{from_be_bytes, w128}
 use Rattle.std.proofs.lemmas.Bool.{and_parts, eqb-true}
 use Rattle.std.proofs.lemmas.List.Sums.{AllPass-from_list_all}
-use Rattle.uuid.specs.Text.{by_index, is_hex_digit, value_of, byte_of_digits, parsed_simple, digits_of, has_hyphens, parsed_hyphenated, parsed_braced, parsed_urn, parsed}
+use Rattle.uuid.specs.Text.{is_hex_digit, value_of, byte_of_digits, parsed_simple, digits_of, has_hyphens, parsed_hyphenated, parsed}
 use Rattle.uuid.proofs.TextLemmas.{by_index_at}
 
 abbrev AreBytes : List ℕ → Type 0

@@ -1,5 +1,5 @@
 -- Whether a provider is there.
-use Rattle.ac_tables.proofs.Common.{◌≡◌, ◌∙◌, ◌<◌, ◌++◌, ℕ, false, List, length, get_or, Some, None, refl, sym, first_failing, is_one_of, Check, TableKind}
+use Rattle.ac_tables.proofs.Common.{◌≡◌, ◌<◌, ℕ, false, List, length, get_or, Some, None, refl, sym, first_failing, is_one_of}
 use Rattle.ac_tables.specs.Tables.InventoryTable.{known_checks}
 use Rattle.ac_tables.specs.declared.fault.TableKind.TheVariants as kind
 use Rattle.ac_tables.proofs.FirstFailing.{append_none, append_some, unless_err, unless_none, unless_value, tells_front, tells_back}

@@ -1,8 +1,7 @@
 -- The first record of a marked row, and the first fault of a pass over all records.
-use Rattle.ac_tables.proofs.Common.{◌≡◌, ◌∙◌, ◌+◌, ◌<◌, ◌≤◌, ℕ, zero, suc, Bool, true, false, List, [], ◌∷◌, length, get_or, min, Option, Some, None, refl, sym, ap, subst, arith, inl, inr, ◌⊎◌, option_map, cases_Bool, cases_lt, get_or-map, get_or_default, length-map, Contains-get_or, Contains-permutation, IsPermutation-sym, nat_cmp, first_failing, pass, IsFirst, ProviderRecord, no_record, provider_shown, row_shown, sooner, IsTable, Table, TableKind, TableRow, Named}
+use Rattle.ac_tables.proofs.Common.{◌≡◌, ◌∙◌, ◌+◌, ◌<◌, ℕ, zero, suc, Bool, true, false, List, [], ◌∷◌, length, get_or, Option, Some, None, refl, sym, ap, arith, inl, inr, option_map, cases_Bool, get_or-map, length-map, IsPermutation-sym, nat_cmp, first_failing, pass, IsFirst, ProviderRecord, no_record, provider_shown, row_shown, IsTable, Table, TableKind, TableRow, Named}
 use Rattle.ac_tables.specs.declared.fault.TableFault.TheVariants as fault
 use Rattle.ac_tables.proofs.Sorted.SortedTies.{moved}
-use Rattle.ac_base.proofs.Small.{clash, min_left, min_right, is_min_left, is_min_right}
 
 module _ {X : Type 0} (t : Table) (k : TableKind) (fails : X → Bool) (d : X) where
   pass_none : (n : ℕ) (xs : List X) → ((i : ℕ) → i < length xs → fails (get_or xs i d) ≡ false) → first_failing (pass t k fails n xs) ≡ None

@@ -1,5 +1,5 @@
 -- The keys of one provider's rows, of which equal ones are left out, are the set of all that is said of it.
-use Rattle.ac_tables.proofs.Common.{◌≡◌, ◌∙◌, ◌<◌, ℕ, Bool, true, List, map, refl, sym, ap, subst, ◌==◌, Ordering, Less, Equal, Greater, is_eq, nat_cmp, ordering_then, IsTotalOrder, Contains, dedup, filter, IsSortedBy, IsNonDecreasingBy, IsStrictlySortedBy, map-id, eq_by_cmp_equiv, IsPermutation-sym, Contains-permutation, All-permutation, exact_unsigned, rising, row_cmp, row_lt, row_ties, row_shown, IsTable, TableRow}
+use Rattle.ac_tables.proofs.Common.{◌≡◌, ◌∙◌, ◌<◌, ℕ, Bool, true, List, map, refl, sym, ap, subst, ◌==◌, Ordering, Less, Equal, Greater, is_eq, nat_cmp, ordering_then, IsTotalOrder, Contains, dedup, filter, IsSortedBy, IsStrictlySortedBy, map-id, eq_by_cmp_equiv, IsPermutation-sym, Contains-permutation, All-permutation, exact_unsigned, rising, row_cmp, row_lt, row_ties, row_shown, IsTable, TableRow}
 use Rattle.std.proofs.Common.{Any}
 use Rattle.std.proofs.lemmas.List.Kept.{IsStrictlySortedBy-dedup, Any-dedup, Contains-from_dedup}
 use Rattle.ac_tables.proofs.Gathered.RowOrder.{row_total}

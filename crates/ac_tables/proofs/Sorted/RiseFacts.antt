@@ -1,5 +1,5 @@
 -- What is gathered of each provider rises.
-use Rattle.ac_tables.proofs.Common.{◌≡◌, ◌∙◌, ℕ, List, [], ◌∷◌, map, get_or, refl, sym, ap, subst, nat_cmp, ◌==◌, All, filter, IsPermutation, IsStrictlySortedBy, nat_cmp_total, nat_list_cmp_total, class_bytes, trait_bytes, text_cmp, InventoryNumbers, ClassName, TraitName, TextMap, InventoryRecord, UsageRecord, TraitRecord, AggregateRecord, class_pair, inventory_records_shown, TableRow, Inventories, map-id}
+use Rattle.ac_tables.proofs.Common.{◌≡◌, ◌∙◌, ℕ, List, [], ◌∷◌, map, get_or, refl, ap, subst, nat_cmp, ◌==◌, All, filter, IsStrictlySortedBy, nat_cmp_total, nat_list_cmp_total, class_bytes, trait_bytes, text_cmp, InventoryNumbers, ClassName, TraitName, TextMap, InventoryRecord, UsageRecord, TraitRecord, AggregateRecord, class_pair, TableRow, map-id}
 use Rattle.ac_tables.specs.Tables.{inventories_of, amounts_of, names_of, aggregates_of}
 use Rattle.ac_base.proofs.Sorted.SortedSets.{rising_sorted}
 use Rattle.ac_base.proofs.Sorted.SameItems.{map_rises}

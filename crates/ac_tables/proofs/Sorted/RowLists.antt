@@ -1,5 +1,5 @@
 -- The rows of each provider, cut out of the sorted rows of a table.
-use Rattle.ac_tables.proofs.Common.{◌≡◌, ◌∙◌, ◌+◌, ◌-◌, ◌<◌, ◌≤◌, ℕ, zero, suc, List, [], ◌∷◌, ◌++◌, map, length, get_or, subst, take, drop, inl, inr, ◌⊎◌, rules, refl, sym, ap, ap₂, arith, ◌==◌, All, filter, range_with_len, sum_by, get_or-append_seam, length-append, length-map, get_or-map, length-take-le, get_or-map-range_with_len, IsStart, AreStarts, TableRow, length-range_with_len, map-map}
+use Rattle.ac_tables.proofs.Common.{◌≡◌, ◌∙◌, ◌+◌, ◌-◌, ◌<◌, ◌≤◌, ℕ, zero, suc, List, [], ◌∷◌, map, length, get_or, subst, inl, inr, ◌⊎◌, rules, refl, sym, ap, ap₂, arith, ◌==◌, All, filter, range_with_len, length-map, get_or-map, IsStart, AreStarts, TableRow, map-map}
 use Rattle.std.proofs.lemmas.List.FromFn.{fill_by_all}
 use Rattle.ac_cloud.specs.ListBounds.{AreBounds, lists_in}
 use Rattle.ac_cloud.proofs.ListFacts.{lists_size, list_here}

@@ -1,18 +1,12 @@
-use Rattle.ac_tables.proofs.Common.{arith, ◌<◌, All, AreStarts, entry_pair, IsStrictlySortedBy, text_cmp, TextMap, UsedInventory, ◌≡◌, ◌∙◌, ℕ, Option, None, List, map, length, refl, sym, ap, ap₂, subst, sum_by, length-map, trait_bytes, Row, Tells, records_of, providers_said, said_parent, inventories_said, usages_said, traits_said, aggregates_said, inventories_of, amounts_of, names_of, aggregates_of, gathered, option_and_then, rank, AreKin, class_pair, with_used_lists, lists_of, map-id, length_permutation}
-use Rattle.ac_tables.specs.Tables.InventoryTable.{inventories_fault}
-use Rattle.ac_tables.specs.Tables.UsageTable.{usages_fault}
-use Rattle.ac_tables.specs.Tables.TraitTable.{traits_fault}
-use Rattle.ac_tables.specs.Tables.AggregateTable.{aggregates_fault}
+use Rattle.ac_tables.proofs.Common.{IsStrictlySortedBy, text_cmp, TextMap, UsedInventory, ◌≡◌, ◌∙◌, ℕ, Option, List, map, length, refl, sym, ap, subst, sum_by, length-map, trait_bytes, Row, records_of, providers_said, said_parent, inventories_said, usages_said, traits_said, aggregates_said, inventories_of, amounts_of, names_of, aggregates_of, gathered, option_and_then, rank, AreKin, class_pair, with_used_lists, lists_of, map-id, length_permutation}
 use Rattle.ac_tables.specs.Tables.{ids_of, world_stated}
 use Rattle.ac_cloud.specs.Cloud.Numbered.{numbered}
 use Rattle.ac_cloud.specs.Cloud.CloudWorld.{sizes_of}
 use Rattle.ac_tables.specs.Source.{tables_of}
 use Rattle.ac_cloud.specs.Cloud.Forests.{IsForest}
-use Rattle.ac_cloud.proofs.ListFacts.{lists_size}
 use Rattle.ac_tables.proofs.Places.BuildFacts.{forest}
-use Rattle.ac_tables.proofs.Places.JoinFacts.{zip_size, entries_rise}
+use Rattle.ac_tables.proofs.Places.JoinFacts.{entries_rise}
 use Rattle.ac_tables.proofs.StatedWorld.{stated, counted, same_sizes}
-use Rattle.ac_tables.proofs.Records.AllFaults.{usage_text, trait_text, aggregate_text}
 use Rattle.ac_tables.proofs.read.CloudFromTables.read.Goals as goal
 use Rattle.ac_tables.proofs.read.CloudFromTables.read.Goals.{In_ok-usages}
 

@@ -1,7 +1,6 @@
-use Rattle.ac_tables.proofs.Common.{◌∙◌, ◌<◌, ℕ, false, List, map, length, get_or, refl, sym, subst, nat_cmp, All, dedup, IsNonDecreasingBy, nat_cmp_total, All-dedup, exact_unsigned, row_ties, TableRow, AggregateRecord, aggregates_said, records_of, same_place}
-use Rattle.ac_tables.specs.Tables.AggregateTable.{aggregates_fault}
+use Rattle.ac_tables.proofs.Common.{◌∙◌, ℕ, false, List, map, length, get_or, refl, sym, nat_cmp, dedup, nat_cmp_total, exact_unsigned, row_ties, AggregateRecord, aggregates_said, records_of, same_place}
 use Rattle.ac_tables.specs.Tables.{aggregates_of}
-use Rattle.ac_tables.proofs.Sorted.ProviderSets.{shown_set, once_sorted}
+use Rattle.ac_tables.proofs.Sorted.ProviderSets.{shown_set}
 use Rattle.ac_tables.proofs.Sorted.RowLists.{of_each}
 use Rattle.ac_tables.proofs.tables.aggregates.read_aggregates.Goals as goal
 

@@ -1,4 +1,4 @@
-use Rattle.ac_tables.proofs.Common.{◌≡◌, ◌∙◌, ◌+◌, ◌<◌, Option, ℕ, Bool, false, refl, sym, ap, subst, arith, length, get_or, get_or_default, TableRow, Named, IsLeastBelow}
+use Rattle.ac_tables.proofs.Common.{◌≡◌, ◌∙◌, ◌+◌, ◌<◌, Option, ℕ, false, refl, sym, ap, subst, arith, length, get_or, get_or_default, TableRow, Named, IsLeastBelow}
 use Rattle.ac_tables.proofs.Sorted.Least.{least_same, least_more}
 use Rattle.ac_tables.proofs.tables.listing.first_marked.Goals as goal
 use Rattle.ac_tables.proofs.tables.listing.first_marked.Goals.{then-marks-i, else-marks-i}

@@ -1,7 +1,6 @@
-use Rattle.ac_tables.proofs.Common.{◌∙◌, ◌<◌, ℕ, false, List, map, length, get_or, refl, sym, ap, subst, Ordering, on_total, All, dedup, IsNonDecreasingBy, nat_list_cmp_total, All-dedup, exact_bytes, trait_bytes, text_cmp, TraitName, row_ties, TableRow, TraitRecord, traits_said, records_of, same_place, map-map}
-use Rattle.ac_tables.specs.Tables.TraitTable.{traits_fault}
+use Rattle.ac_tables.proofs.Common.{◌∙◌, ℕ, false, List, map, length, get_or, refl, sym, ap, Ordering, on_total, dedup, nat_list_cmp_total, exact_bytes, trait_bytes, text_cmp, TraitName, row_ties, TraitRecord, traits_said, records_of, same_place, map-map}
 use Rattle.ac_tables.specs.Tables.{names_of}
-use Rattle.ac_tables.proofs.Sorted.ProviderSets.{shown_set, once_sorted}
+use Rattle.ac_tables.proofs.Sorted.ProviderSets.{shown_set}
 use Rattle.ac_tables.proofs.Sorted.RowLists.{of_each}
 use Rattle.ac_tables.proofs.tables.traits.read_traits.Goals as goal
 

@@ -1,6 +1,5 @@
-use Rattle.ac_tables.proofs.Common.{◌∙◌, ℕ, List, Option, map, length, get_or, refl, sym, ap, subst, on_total, nat_list_cmp_total, length-map, length_permutation, class_bytes, text_cmp, ClassName, Tells, row_shown, UsageRecord, usages_said, records_of, class_pair, inventory_records_shown, same_place, TableFault}
+use Rattle.ac_tables.proofs.Common.{◌∙◌, ℕ, List, map, length, get_or, refl, sym, ap, length-map, length_permutation, class_bytes, text_cmp, ClassName, row_shown, UsageRecord, usages_said, records_of, class_pair, inventory_records_shown, same_place}
 use Rattle.ac_tables.specs.Tables.{amounts_of}
-use Rattle.ac_tables.proofs.Gathered.RowPlaces.{places_rise}
 use Rattle.ac_tables.proofs.Sorted.ProviderMaps.{shown_map}
 use Rattle.ac_tables.proofs.Sorted.RowLists.{of_each}
 use Rattle.ac_tables.proofs.Records.UsageChecks.{same_fault}

@@ -1,6 +1,5 @@
-use Rattle.ac_tables.proofs.Common.{◌∙◌, List, [], map, ap, sym, subst, arith, ◌==◌, not, list_any, IsStrictlySortedBy, bytes_eq, class_bytes, text_cmp, InventoryNumbers, ClassName, TableRow}
+use Rattle.ac_tables.proofs.Common.{◌∙◌, ap, ◌==◌, not, list_any, bytes_eq, class_bytes, InventoryNumbers, ClassName, TableRow}
 use Rattle.ac_tables.proofs.Records.UsageKeys.{any_filter, any_shown}
-use Rattle.ac_cloud.proofs.ListFacts.{lists_size}
 use Rattle.ac_tables.proofs.Sorted.RowLists.{split_here}
 use Rattle.ac_tables.proofs.tables.inventories.Inventories.lacks.Goals as goal
 

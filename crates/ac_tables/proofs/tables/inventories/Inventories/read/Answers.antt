@@ -1,5 +1,4 @@
 use Rattle.ac_tables.proofs.Common.{List, sym, subst, InventoryRecord, inventories_said, records_of, inventory_shown, inventory_records_shown, IsPermutation, IsPermutation-map, InventoryNumbers, ClassName, row_shown, TableRow}
-use Rattle.ac_tables.specs.Tables.InventoryTable.{inventories_fault}
 use Rattle.ac_tables.proofs.Records.InventoryLists.{inventory_lists_here}
 use Rattle.ac_tables.proofs.tables.inventories.Inventories.read.Goals as goal
 
