@@ -1,5 +1,5 @@
 -- Lists that stand one after the other in one list.
-use Rattle.ac_cloud.proofs.Common.{◌≡◌, ◌∙◌, ◌+◌, ◌-◌, ◌<◌, ◌≤◌, ℕ, zero, suc, List, [], ◌∷◌, map, length, get_or, take, drop, refl, sym, ap, ap₂, arith, range_with_len, sum_by, length-map, length-take-le, get_or-map-range_with_len, length-range_with_len, map-map}
+use Rattle.ac_cloud.proofs.Common.{◌≡◌, ◌∙◌, ◌+◌, ◌-◌, ◌<◌, ℕ, zero, suc, List, [], ◌∷◌, map, length, get_or, take, drop, refl, sym, ap, ap₂, arith, range_with_len, sum_by, length-map, length-take-le, get_or-map-range_with_len, length-range_with_len, map-map}
 use Rattle.std.proofs.lemmas.List.FromFn.{sum_by-map-range_with_len_more}
 use Rattle.std.proofs.lemmas.List.{drop-map, take-map}
 use Rattle.std.proofs.Common.{add-one, length-drop}
@@ -16,9 +16,7 @@ module _ {X : Type 0} (items : List X) (starts : List ℕ) where
 
   pub list_here : (p : ℕ) → p < length (lists_in items starts) → get_or (lists_in items starts) p [] ≡ list_at items starts p
   unfolding lists_in
-  list_here p h =
-      let inside : p < length starts - 1 = omega (arith, h, length-map (range_with_len 0 (length starts - 1)) (list_at items starts), length-range_with_len 0 (length starts - 1)) in
-      get_or-map-range_with_len (list_at items starts) 0 (length starts - 1) p p [] inside (omega arith)
+  list_here p h = grind (arith, get_or-map-range_with_len, length-map, length-range_with_len)
 
   sum_to : AreBounds (length items) starts → (n : ℕ) → n < length starts → sum_by length (map (list_at items starts) (range_with_len 0 n)) ≡ get_or starts n 0
   sum_to b zero h = sym b.first
@@ -41,3 +39,6 @@ module _ {X : Type 0} (items : List X) (starts : List ℕ) where
       ap (take (get_or starts (p + 1) 0 - get_or starts p 0)) (drop-map f (get_or starts p 0) items)
       ∙ take-map f (get_or starts (p + 1) 0 - get_or starts p 0) (drop (get_or starts p 0) items)) (range_with_len 0 (length starts - 1))
       ∙ sym (map-map (map f) (list_at items starts) (range_with_len 0 (length starts - 1)))
+
+-- what shows how many lists there are, which ones, and how many items
+pub ruleset of_lists = (lists_size, list_here, lists_sum)

@@ -3,6 +3,7 @@ pub mod AnchorFacts
 pub mod AnchorLists
 pub mod AvailableFacts
 pub mod CloudFacts
+pub mod CloudSets
 pub mod GroupFacts
 pub mod KeptFacts
 pub mod WideAggregates

@@ -1,5 +1,5 @@
 -- Rising lists of numbers.
-use Rattle.ac_cloud.proofs.Common.{◌≡◌, ◌≢◌, ◌<◌, ◌≤◌, ℕ, zero, suc, true, false, List, [], ◌∷◌, length, get_or, refl, subst, arith, rules, inl, inr, ◌⊎◌, ◌+◌, ◌∙◌, Some, None, sym, ap, Result, Ok, Err, IfSome, ◌==◌, result_ok, position_from, nat_cmp, IsBinarySearchResult, IsStrictlySortedBy, cases_lt, cases_Bool, cases_eq, IsRising, is_one_of, rank}
+use Rattle.ac_cloud.proofs.Common.{◌≡◌, ◌≢◌, ◌<◌, ◌≤◌, ℕ, zero, suc, true, false, List, [], ◌∷◌, length, get_or, refl, arith, rules, inl, inr, ◌+◌, ◌∙◌, Some, None, sym, ap, Result, Ok, Err, IfSome, ◌==◌, result_ok, position_from, nat_cmp, IsBinarySearchResult, IsStrictlySortedBy, cases_lt, cases_Bool, cases_eq, IsRising, is_one_of, rank}
 use Rattle.std.proofs.Common.{IfNone}
 use Rattle.std.proofs.lemmas.List.Sorted.{searched}
 use Rattle.std.proofs.lemmas.Map.Keys.{below_from_sorted}
@@ -9,16 +9,10 @@ pub rising_from_sorted : (xs : List ℕ) → IsStrictlySortedBy nat_cmp xs → I
 rising_from_sorted xs h i j less inside = below_from_sorted xs i j 0 h less inside
 
 at_most : (xs : List ℕ) → IsRising xs → (i j : ℕ) → i ≤ j → j < length xs → get_or xs i 0 ≤ get_or xs j 0
-at_most xs h i j le inside = elim (cases_eq i j) [
-  | inl e ↦ subst (λ (k : ℕ). get_or xs i 0 ≤ get_or xs k 0) e (omega arith)
-  | inr ne ↦ let less : i < j = omega arith in omega (arith, h i j less inside)
-]
+at_most xs h i j le inside = grind (arith, cases_eq)
 
 pub rising_apart : (xs : List ℕ) → IsRising xs → (i j : ℕ) → i < length xs → j < length xs → i ≢ j → get_or xs i 0 ≢ get_or xs j 0
-rising_apart xs h i j hi hj ne e = elim (order i j ne) [ inl k ↦ omega (arith, h i j k hj, e) | inr k ↦ omega (arith, h j i k hi, e) ]
-  where
-    order : (i j : ℕ) → i ≢ j → (i < j) ⊎ (j < i)
-    order i j ne = search (arith, rules)
+rising_apart xs h i j hi hj ne e = grind (arith)
 
 -- what isn't at any place isn't there
 nowhere : (xs : List ℕ) (x : ℕ) → ((k : ℕ) → k < length xs → get_or xs k 0 ≢ x) → is_one_of xs x ≡ false
@@ -57,10 +51,7 @@ position_shift x k (y ∷ xs) h =
 
 position_here : (x k : ℕ) (xs : List ℕ) (i : ℕ) → i < length xs → get_or xs i 0 ≡ x → ((j : ℕ) → j < i → get_or xs j 0 ≢ x) → position_from (λ p. p == x) k xs ≡ Some (k + i)
 position_here x k [] i h e before = absurd (omega (arith, h))
-position_here x k (y ∷ xs) zero h e before =
-    let first : (y == x) ≡ true = search (arith, rules) in
-    let none : k ≡ k + zero = omega arith in
-    rw first (ap (λ (n : ℕ). Some n) none)
+position_here x k (y ∷ xs) zero h e before = grind (arith)
 position_here x k (y ∷ xs) (suc i) h e before =
     let first : (y == x) ≡ false = differ y x (before zero (omega arith)) in
     let more : k + 1 + i ≡ k + suc i = omega arith in
@@ -68,8 +59,7 @@ position_here x k (y ∷ xs) (suc i) h e before =
 
 -- the place of what is at a place
 pub rank_at : (xs : List ℕ) (x i : ℕ) → IsRising xs → i < length xs → get_or xs i 0 ≡ x → rank xs x ≡ Some i
-rank_at xs x i rising h e =
-    position_here x 0 xs i h e (λ (j : ℕ) (less : j < i) (same : get_or xs j 0 ≡ x). omega (arith, rising j i less h, e, same)) ∙ ap (λ (n : ℕ). Some n) (omega arith)
+rank_at xs x i rising h e = grind (arith, position_here)
 
 pub rank_none : (xs : List ℕ) (x : ℕ) → is_one_of xs x ≡ false → rank xs x ≡ None
 rank_none xs x absent = position_shift x 0 xs (λ (i : ℕ) (h : i < length xs) (e : get_or xs i 0 ≡ x). absurd (cc (one_of_place xs x i h e, absent)))

@@ -58,6 +58,7 @@ pub struct Cloud {
     ghost whole: { BelongTogether ids.ids.items parents.items roots.items (lists_of entries) (lists_of traits) (lists_of aggregates) sharing.items anchors visits } by { BelongTogether-prop ids.ids.items parents.items roots.items (lists_of entries) (lists_of traits) (lists_of aggregates) sharing.items anchors visits },
 }
 
+#[tactic(auto, using(crate::proofs::Places::CloudSets::here))]
 impl Cloud {
     ghost use Rattle.ac_cloud.specs.Cloud.CloudWorld.{providers_of, root_lists_of, world_of, sizes_of};
 
@@ -87,6 +88,7 @@ impl Cloud {
     pub fn index_of(&self, id: Id) -> Option<u32>
         ensures { result ≡ place_of (providers_of self.now) id }
     {
+        // Called for what it ensures: a place fits a u32.
         let _count = self.ids.len();
         match self.ids.find(id) {
             Some(place) => Some(place as u32),
@@ -181,6 +183,7 @@ impl Cloud {
     }
 
     // Whether the parents of `b` lead to `a`.
+    #[tactic(auto, using(crate::proofs::Places::CloudSets::here, crate::proofs::Trees::AncestorFacts::chains))]
     fn leads_to(&self, a: u32, b: u32) -> bool
         requires a { a < length (providers_of self.now) }
         requires b { b < length (providers_of self.now) }

@@ -21,6 +21,7 @@ fn cut<X>(items: &[X], from: usize, to: usize) -> &[X]
     &items[from..to]
 }
 
+#[tactic(auto, using(crate::proofs::ListFacts::of_lists))]
 impl<X> Lists<X> {
     ghost use Rattle.ac_cloud.specs.ListsOf.{lists_of};
 

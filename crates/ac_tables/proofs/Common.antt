@@ -13,7 +13,7 @@ pub use Rattle.ac_cloud.specs.Cloud.Places.{AreParents, AreWithin, parent_in, ra
 pub use Rattle.ac_cloud.specs.Cloud.RisingIds.{IsRising}
 pub use Rattle.ac_tables.specs.Reader.InventoryRows.{class_pair, inventory_records_shown, inventory_shown}
 pub use Rattle.ac_cloud.specs.ListBounds.{lists_in}
-pub use Rattle.ac_tables.specs.Reader.Listings.{IsFirst, IsFirstBelow}
+pub use Rattle.ac_tables.specs.Reader.Listings.{IsFirst}
 pub use Rattle.ac_cloud.specs.ListsOf.{lists_of}
 pub use Rattle.ac_tables.specs.Reader.ProviderLaws.{provider_shown}
 pub use Rattle.ac_base.proofs.Small.{eq_turned}

@@ -47,6 +47,3 @@ tells_front xs ys record_fault.NoMemory h = tt
 pub tells_back : (xs ys : List (Bool × TableKind)) (e : RecordFault) → first_failing xs ≡ None → TellsKind (first_failing ys) e → TellsKind (first_failing (xs ++ ys)) e
 tells_back xs ys (record_fault.Kind k) none h = append_none xs ys none ∙ h
 tells_back xs ys record_fault.NoMemory none h = tt
-
-pub none_both : (xs ys : List (Bool × TableKind)) → first_failing xs ≡ None → first_failing ys ≡ None → first_failing (xs ++ ys) ≡ None
-none_both xs ys none h = append_none xs ys none ∙ h

@@ -1,5 +1,5 @@
 -- The definitions computed on small texts.
-use Rattle.ac_tables.proofs.Common.{◌≡◌, ℕ, List, [], ◌++◌, Option, Some, None, refl, codes, records_of, records_or_header, TableFault}
+use Rattle.ac_tables.proofs.Common.{◌≡◌, ℕ, List, [], ◌∷◌, ◌++◌, map, Option, Some, None, refl, codes, records_of, records_or_header, TableFault}
 use Rattle.uuid.proofs.OnLiterals.{uuid_on_literals}
 use Rattle.csv.proofs.OnLiterals.{csv_on_literals}
 use Rattle.ac_base.specs.Texts.{number, count_value, in_millionths, ratio_value}
@@ -30,54 +30,24 @@ one_provider = codes "uuid,root_provider_uuid,parent_provider_uuid\n000000000000
 abbrev inventory_header : List ℕ
 inventory_header = codes "resource_provider,resource_class,total,reserved,min_unit,max_unit,step_size,allocation_ratio\n"
 
-no_header : fault_of one_provider [] ≡ Some (fault.At table.Inventories 1 kind.NoHeader)
-unfolding csv_on_literals uuid_on_literals tables_fault header_checks provider_columns uuid_name root_name parent_name provider_said place_of provider_field_checks place_checks provider_record_checks
-no_header = refl
+-- the texts of providers and of inventories, and the first fault of both
+abbrev cases : List (List ℕ × List ℕ × Option TableFault)
+cases =
+    (one_provider, [], Some (fault.At table.Inventories 1 kind.NoHeader))
+    ∷ (codes "uuid,root_provider_uuid", [], Some (fault.At table.Providers 1 kind.MissingColumn))
+    ∷ (codes "uuid,uuid,root_provider_uuid,parent_provider_uuid", [], Some (fault.At table.Providers 1 kind.DoubleColumn))
+    ∷ (codes "uuid,root_provider_uuid,parent_provider_uuid\n0,1", [], Some (fault.At table.Providers 2 kind.Width))
+    ∷ (codes "uuid,root_provider_uuid,parent_provider_uuid\nxyz,00000000000000000000000000000001,", [], Some (fault.At table.Providers 2 kind.BadUuid))
+    ∷ (one_provider ++ codes "\n00000000000000000000000000000001,00000000000000000000000000000001,", [], Some (fault.At table.Providers 3 kind.Duplicate))
+    ∷ (one_provider ++ codes "00000000000000000000000000000002", [], Some (fault.At table.Providers 2 kind.UnknownParent))
+    ∷ (one_provider ++ codes "00000000000000000000000000000001", [], Some (fault.At table.Providers 2 kind.ParentCycle))
+    ∷ (one_provider, inventory_header ++ codes "00000000000000000000000000000001,vcpu,8,0,1,8,1,1.0", Some (fault.At table.Inventories 2 kind.BadClass))
+    ∷ (one_provider, inventory_header ++ codes "00000000000000000000000000000001,VCPU,8,0,1,8,0,1.0", Some (fault.At table.Inventories 2 kind.ZeroStep))
+    ∷ (one_provider, inventory_header ++ codes "00000000000000000000000000000001,VCPU,8,9,1,8,1,1.0", Some (fault.At table.Inventories 2 kind.ReservedOverTotal))
+    ∷ (one_provider, inventory_header ++ codes "00000000000000000000000000000002,VCPU,8,0,1,8,1,1.0", Some (fault.At table.Inventories 2 kind.UnknownProvider))
+    ∷ (one_provider, inventory_header ++ codes "00000000000000000000000000000001,VCPU,8,0,1,8,1,1.500000", None)
+    ∷ []
 
-missing_column : fault_of (codes "uuid,root_provider_uuid") [] ≡ Some (fault.At table.Providers 1 kind.MissingColumn)
-unfolding csv_on_literals tables_fault header_checks provider_columns uuid_name root_name parent_name
-missing_column = refl
-
-double_column : fault_of (codes "uuid,uuid,root_provider_uuid,parent_provider_uuid") [] ≡ Some (fault.At table.Providers 1 kind.DoubleColumn)
-unfolding csv_on_literals tables_fault header_checks provider_columns uuid_name root_name parent_name
-double_column = refl
-
-width : fault_of (codes "uuid,root_provider_uuid,parent_provider_uuid\n0,1") [] ≡ Some (fault.At table.Providers 2 kind.Width)
-unfolding csv_on_literals uuid_on_literals tables_fault header_checks provider_columns uuid_name root_name parent_name provider_said place_of provider_field_checks place_checks provider_record_checks
-width = refl
-
-bad_uuid : fault_of (codes "uuid,root_provider_uuid,parent_provider_uuid\nxyz,00000000000000000000000000000001,") [] ≡ Some (fault.At table.Providers 2 kind.BadUuid)
-unfolding csv_on_literals uuid_on_literals tables_fault header_checks provider_columns uuid_name root_name parent_name provider_said place_of provider_field_checks place_checks provider_record_checks
-bad_uuid = refl
-
-duplicate : fault_of (one_provider ++ codes "\n00000000000000000000000000000001,00000000000000000000000000000001,") [] ≡ Some (fault.At table.Providers 3 kind.Duplicate)
-unfolding csv_on_literals uuid_on_literals tables_fault header_checks provider_columns uuid_name root_name parent_name provider_said place_of provider_field_checks place_checks provider_record_checks
-duplicate = refl
-
-unknown_parent : fault_of (one_provider ++ codes "00000000000000000000000000000002") [] ≡ Some (fault.At table.Providers 2 kind.UnknownParent)
-unfolding csv_on_literals uuid_on_literals tables_fault header_checks provider_columns uuid_name root_name parent_name provider_said place_of provider_field_checks place_checks provider_record_checks
-unknown_parent = refl
-
-own_parent : fault_of (one_provider ++ codes "00000000000000000000000000000001") [] ≡ Some (fault.At table.Providers 2 kind.ParentCycle)
-unfolding csv_on_literals uuid_on_literals tables_fault header_checks provider_columns uuid_name root_name parent_name provider_said place_of provider_field_checks place_checks provider_record_checks
-own_parent = refl
-
-bad_class : fault_of one_provider (inventory_header ++ codes "00000000000000000000000000000001,vcpu,8,0,1,8,1,1.0") ≡ Some (fault.At table.Inventories 2 kind.BadClass)
-unfolding csv_on_literals uuid_on_literals tables_fault header_checks provider_columns uuid_name root_name parent_name provider_said place_of provider_field_checks place_checks provider_record_checks provider_name class_name total_name reserved_name min_unit_name max_unit_name step_size_name ratio_name inventory_columns numbers_said inventory_said number_checks owner_checks class_checks inventory_field_checks once_checks inventory_record_checks ids_of number count_value in_millionths ratio_value
-bad_class = refl
-
-zero_step : fault_of one_provider (inventory_header ++ codes "00000000000000000000000000000001,VCPU,8,0,1,8,0,1.0") ≡ Some (fault.At table.Inventories 2 kind.ZeroStep)
-unfolding csv_on_literals uuid_on_literals tables_fault header_checks provider_columns uuid_name root_name parent_name provider_said place_of provider_field_checks place_checks provider_record_checks provider_name class_name total_name reserved_name min_unit_name max_unit_name step_size_name ratio_name inventory_columns numbers_said inventory_said number_checks owner_checks class_checks inventory_field_checks once_checks inventory_record_checks ids_of number count_value in_millionths ratio_value
-zero_step = refl
-
-reserved_over_total : fault_of one_provider (inventory_header ++ codes "00000000000000000000000000000001,VCPU,8,9,1,8,1,1.0") ≡ Some (fault.At table.Inventories 2 kind.ReservedOverTotal)
-unfolding csv_on_literals uuid_on_literals tables_fault header_checks provider_columns uuid_name root_name parent_name provider_said place_of provider_field_checks place_checks provider_record_checks provider_name class_name total_name reserved_name min_unit_name max_unit_name step_size_name ratio_name inventory_columns numbers_said inventory_said number_checks owner_checks class_checks inventory_field_checks once_checks inventory_record_checks ids_of number count_value in_millionths ratio_value
-reserved_over_total = refl
-
-unknown_provider : fault_of one_provider (inventory_header ++ codes "00000000000000000000000000000002,VCPU,8,0,1,8,1,1.0") ≡ Some (fault.At table.Inventories 2 kind.UnknownProvider)
-unfolding csv_on_literals uuid_on_literals tables_fault header_checks provider_columns uuid_name root_name parent_name provider_said place_of provider_field_checks place_checks provider_record_checks provider_name class_name total_name reserved_name min_unit_name max_unit_name step_size_name ratio_name inventory_columns numbers_said inventory_said number_checks owner_checks class_checks inventory_field_checks once_checks inventory_record_checks ids_of number count_value in_millionths ratio_value
-unknown_provider = refl
-
-accepted : fault_of one_provider (inventory_header ++ codes "00000000000000000000000000000001,VCPU,8,0,1,8,1,1.500000") ≡ None
+each_told : map (λ c. fault_of c.0 c.1) cases ≡ map (λ c. c.2) cases
 unfolding csv_on_literals uuid_on_literals tables_fault header_checks provider_columns uuid_name root_name parent_name provider_said place_of provider_field_checks place_checks provider_record_checks provider_name class_name total_name reserved_name min_unit_name max_unit_name step_size_name ratio_name inventory_columns numbers_said inventory_said number_checks owner_checks class_checks inventory_field_checks once_checks inventory_record_checks ids_of number count_value in_millionths ratio_value usage_name usage_columns name_name trait_columns aggregate_columns
-accepted = refl
+each_told = refl

@@ -1,8 +1,9 @@
 //! Reading the tables of a cloud.
-ghost use Rattle.std.specs.Prelude.{◌≡◌, None, IfOk, IfErr};
+ghost use Rattle.std.specs.Prelude.{◌≡◌, ◌≤◌, None, length, IfOk, IfErr};
 ghost use Rattle.ac_tables.specs.Tables.Checks.{Tells};
 ghost use Rattle.ac_tables.specs.Tables.{tables_fault, world_stated};
 ghost use Rattle.ac_tables.specs.SourceText.{text_or};
+ghost use Rattle.ac_tables.specs.Tables.Rows.{records_of};
 
 use crate::fault::TableFault;
 use crate::tables::aggregates::read_aggregates;
@@ -44,6 +45,39 @@ fn text_or<'a>(text: Option<&'a [u8]>, header: &'a [u8]) -> &'a [u8]
     }
 }
 
+// The texts of the tables that may not be there.
+impl<'a> FiveTables<&'a [u8]> {
+    ghost use Rattle.ac_tables.specs.Source.{tables_of, AreFew};
+    ghost use Rattle.ac_tables.specs.Drain.{most_bytes};
+
+    #[tactic(auto, using(crate::proofs::Records::AllFaults::usage_text))]
+    fn usages_text(&self) -> &'a [u8]
+        requires { AreFew self.now }
+        ensures few { length result.now ≤ most_bytes }
+        ensures records { records_of result.now ≡ (tables_of self.now).usages }
+    {
+        text_or(self.usages, USAGES_HEADER)
+    }
+
+    #[tactic(auto, using(crate::proofs::Records::AllFaults::trait_text))]
+    fn traits_text(&self) -> &'a [u8]
+        requires { AreFew self.now }
+        ensures few { length result.now ≤ most_bytes }
+        ensures records { records_of result.now ≡ (tables_of self.now).traits }
+    {
+        text_or(self.traits, TRAITS_HEADER)
+    }
+
+    #[tactic(auto, using(crate::proofs::Records::AllFaults::aggregate_text))]
+    fn aggregates_text(&self) -> &'a [u8]
+        requires { AreFew self.now }
+        ensures few { length result.now ≤ most_bytes }
+        ensures records { records_of result.now ≡ (tables_of self.now).aggregates }
+    {
+        text_or(self.aggregates, AGGREGATES_HEADER)
+    }
+}
+
 /// What is read from tables: `Cloud::read`.
 pub trait FromTables: Sized {
     ghost use Rattle.ac_tables.specs.Source.{AreFew};
@@ -61,39 +95,23 @@ impl FromTables for Cloud {
     ///
     /// The fault is the first in the order of the tables and their checks. Where a growth is refused, a fault that stands
     /// before it is told instead. The growths that are needed to find a fault of the trees stand before that fault.
+    #[tactic(auto, unfolding(crate::specs::Tables::tables_fault, crate::specs::Tables::ProviderTable::providers_fault, crate::specs::Tables::InventoryTable::inventories_fault, crate::specs::Tables::UsageTable::usages_fault, crate::specs::Tables::TraitTable::traits_fault, crate::specs::Tables::AggregateTable::aggregates_fault), using(crate::proofs::Records::AllFaults::reading, ac_cloud::proofs::ListFacts::of_lists, crate::proofs::Sorted::RiseFacts::rising_lists))]
     fn read(alloc: Global, src: &Sources) -> Result<Cloud, TableFault>
         requires { AreFew src.now }
         ensures world { IfOk result (λ cloud. world_of cloud ≡ world_stated (tables_of src.now)) }
         ensures ok { IfOk result (λ _. tables_fault (tables_of src.now) ≡ None) }
         ensures fault { IfErr result (λ e. Tells (tables_fault (tables_of src.now)) e) }
     {
+        let providers = read_providers(alloc, src.providers)?;
         let Providers {
             ids,
             parents,
             roots,
-        } = match read_providers(alloc, src.providers) {
-            Ok(providers) => providers,
-            Err(fault) => return Err(fault),
-        };
-        let inventories = match Inventories::read(alloc, ids, src.inventories) {
-            Ok(inventories) => inventories,
-            Err(fault) => return Err(fault),
-        };
-        let text = text_or(src.usages, USAGES_HEADER);
-        let usages = match read_usages(alloc, &inventories, text) {
-            Ok(usages) => usages,
-            Err(fault) => return Err(fault),
-        };
-        let text = text_or(src.traits, TRAITS_HEADER);
-        let traits = match read_traits(alloc, &inventories.ids, text) {
-            Ok(traits) => traits,
-            Err(fault) => return Err(fault),
-        };
-        let text = text_or(src.aggregates, AGGREGATES_HEADER);
-        let aggregates = match read_aggregates(alloc, &inventories.ids, text) {
-            Ok(aggregates) => aggregates,
-            Err(fault) => return Err(fault),
-        };
+        } = providers;
+        let inventories = Inventories::read(alloc, ids, src.inventories)?;
+        let usages = read_usages(alloc, &inventories, src.usages_text())?;
+        let traits = read_traits(alloc, &inventories.ids, src.traits_text())?;
+        let aggregates = read_aggregates(alloc, &inventories.ids, src.aggregates_text())?;
         let counts = Counts {
             providers: inventories.ids.len() as u32,
             inventories: inventories.rows.count() as u32,

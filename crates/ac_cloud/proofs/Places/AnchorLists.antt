@@ -1,5 +1,5 @@
 -- Lists of roots: rising, kept once, one for each provider.
-use Rattle.ac_cloud.proofs.Common.{◌≡◌, ◌∙◌, ◌<◌, ◌≤◌, ◌+◌, ℕ, Bool, true, List, [], ◌∷◌, ◌++◌, length, get_or, Option, Some, None, refl, sym, ap, subst, arith, ◌==◌, IfSome, is_some, unwrap_or, Vec, nat_cmp, list_any, filter, range_with_len, get_or_append_left, get_or-range_with_len, length-range_with_len, BTreeMap, ArePlaces, is_met, meets_at, meets, is_joined, joined, list_of, AreAsked, is_at, nat_cmp_total, exact_unsigned}
+use Rattle.ac_cloud.proofs.Common.{◌≡◌, ◌∙◌, ◌<◌, ◌≤◌, ◌+◌, ℕ, Bool, true, List, [], ◌∷◌, ◌++◌, length, get_or, Option, Some, None, refl, sym, ap, subst, arith, ◌==◌, IfSome, is_some, unwrap_or, Vec, nat_cmp, list_any, filter, range_with_len, get_or_append_left, get_or-range_with_len, length-range_with_len, BTreeMap, ArePlaces, is_met, meets, is_joined, joined, list_of, AreAsked, is_at, nat_cmp_total, exact_unsigned}
 use Rattle.ac_base.proofs.Small.{are_equal, one_more}
 use Rattle.ac_cloud.proofs.Places.KeptFacts.{kept_has, kept_rise}
 use Rattle.std.proofs.lemmas.Bool.{and_parts}
@@ -13,11 +13,7 @@ use Rattle.ac_base.proofs.Sorted.SearchFacts.{any_same, is_eq_nat}
 -- the provider at a place, where it has a list
 pub some_place : (places : List (Option ℕ)) (i : ℕ) (Q : ℕ → Type 0) → i < length places → Q i
     → IfSome (get_or places i None) (λ k. (j : ℕ) × (j < length places) × (get_or places j None ≡ Some k) × Q j)
-some_place places i Q h q = by_case (get_or places i None) refl
-  where
-    by_case : (o : Option ℕ) → get_or places i None ≡ o → IfSome o (λ k. (j : ℕ) × (j < length places) × (get_or places j None ≡ Some k) × Q j)
-    by_case None e = tt
-    by_case (Some k) e = (i, h, e, q)
+some_place places i Q h q = grind (arith)
 
 -- a rising list is the numbers that are in it
 pub rising_filter : (n : ℕ) (p : ℕ → Bool) (xs : List ℕ) → IsStrictlySortedBy nat_cmp xs → ((r : ℕ) → list_any (λ (x : ℕ). x == r) xs ≡ p r) → ((r : ℕ) → p r ≡ true → r < n) → xs ≡ filter p (range_with_len 0 n)
@@ -27,25 +23,16 @@ rising_filter n p xs sorted same below =
 
 -- an aggregate is met where some provider of it has the root
 pub joined_where : (roots : List ℕ) (aggregates : List (List ℕ)) (ids : List ℕ) (r : ℕ) → is_joined roots aggregates ids r ≡ true → (q : ℕ) × (q < length roots) × ((get_or roots q 0 == r) ≡ true)
-joined_where roots aggregates ids r h =
-    let (i, a, a_inside, a_here, met) = Any-from_list_any (λ (a : ℕ). meets roots aggregates (length roots) a r) ids h in
-    let (k, q, inside, here, at) = Any-from_list_any (meets_at roots aggregates a r) (range_with_len 0 (length roots)) met in
-    let small : k < length roots = omega (arith, inside, length-range_with_len 0 (length roots)) in
-    (q, omega (arith, small, here, get_or-range_with_len 0 (length roots) k q small), (and_parts _ _ at).0)
+joined_where roots aggregates ids r h = grind (arith, Any-from_list_any, and_parts, get_or-range_with_len, length-range_with_len)
 
 module _ (roots : List ℕ) (aggregates : List (List ℕ)) (inside : ArePlaces (length roots) roots) where
   joined_below : (ids : List ℕ) (r : ℕ) → is_joined roots aggregates ids r ≡ true → r < length roots
-  joined_below ids r h =
-      let q = joined_where roots aggregates ids r h in
-      omega (arith, inside q.0 q.1, are_equal (get_or roots q.0 0) r q.2)
+  joined_below ids r h = grind (arith, are_equal, joined_where)
 
   -- a rising list of what some aggregates met
   pub joined_list : (groups : BTreeMap ℕ (Vec ℕ)) (ids list : List ℕ) → ((a r : ℕ) → is_met groups a r ≡ meets roots aggregates (length roots) a r) → IsStrictlySortedBy nat_cmp list
       → ((r : ℕ) → list_any (λ (x : ℕ). x == r) list ≡ list_any (λ (a : ℕ). is_met groups a r) ids) → list ≡ joined roots aggregates ids
-  joined_list groups ids list gathered sorted same =
-      rising_filter (length roots) (is_joined roots aggregates ids) list sorted
-      (λ (r : ℕ). same r ∙ any_same (λ (a : ℕ). is_met groups a r) (λ (a : ℕ). meets roots aggregates (length roots) a r) (λ (a : ℕ). gathered a r) ids)
-      (λ (r : ℕ) (h : is_joined roots aggregates ids r ≡ true). joined_below ids r h)
+  joined_list groups ids list gathered sorted same = grind (arith, any_same, joined_below, rising_filter)
 
 -- one more provider
 pub joined_more : (roots : List ℕ) (aggregates asked : List (List ℕ)) (lists more : List (Vec ℕ)) (places : List (Option ℕ)) (o : Option ℕ) → AreAsked roots aggregates asked lists places
@@ -74,6 +61,4 @@ joined_none roots aggregates asked lists places before =
 -- whether it has one
 pub marked_more : (places : List (Option ℕ)) (o : Option ℕ) (f : ℕ → Bool) (n : ℕ) → length places ≡ n → ((j : ℕ) → j < n → is_some (get_or places j None) ≡ f j) → is_some o ≡ f n
     → (j : ℕ) → j < n + 1 → is_some (get_or (places ++ o ∷ []) j None) ≡ f j
-marked_more places o f n size before here =
-    one_more (λ j. is_some (get_or (places ++ o ∷ []) j None) ≡ f j) n (λ j less. ap is_some (get_or_append_left places (o ∷ []) None j (omega (arith, less, size))) ∙ before j less)
-    (ap is_some (get_or_push places o None n size) ∙ here)
+marked_more places o f n size before here = grind (arith, get_or_append_left, get_or_push, one_more)

@@ -1,5 +1,5 @@
 -- Gathering roots one by one.
-use Rattle.ac_cloud.proofs.Common.{◌≡◌, ◌∙◌, ◌<◌, ◌+◌, ℕ, Bool, true, false, List, [], ◌∷◌, map, take, length, get_or, refl, sym, ap, ap₂, arith, ◌==◌, ◌||◌, ◌&&◌, if◌then◌else◌, list_any, range_with_len, nat_cmp, is_at, is_among, meets_at, meets, or-false}
+use Rattle.ac_cloud.proofs.Common.{◌≡◌, ◌∙◌, ◌<◌, ◌+◌, ℕ, Bool, true, false, List, [], ◌∷◌, map, take, length, get_or, refl, sym, ap, ap₂, arith, ◌==◌, ◌||◌, ◌&&◌, if◌then◌else◌, list_any, range_with_len, nat_cmp, is_at, is_among, meets, or-false}
 use Rattle.std.proofs.lemmas.List.Folds.{list_any-append, list_any_more}
 use Rattle.std.proofs.lemmas.List.FromFn.{map-range_with_len_more}
 use Rattle.ac_base.proofs.Sorted.SearchFacts.{any_map}
@@ -14,8 +14,7 @@ any_range_more f n =
 -- the roots of the first providers and of one more
 pub meets_more : (roots : List ℕ) (aggregates : List (List ℕ)) (n a r : ℕ) (root : ℕ) (ids : List ℕ) (old new : Bool) → root ≡ get_or roots n 0 → ids ≡ get_or aggregates n []
     → new ≡ (old || ((root == r) && is_among a ids)) → old ≡ meets roots aggregates n a r → new ≡ meets roots aggregates (n + 1) a r
-meets_more roots aggregates n a r root ids old new is_root is_ids e h =
-    e ∙ ap₂ (λ b c. b || c) h (ap₂ (λ (x : ℕ) l. (x == r) && is_among a l) is_root is_ids) ∙ sym (any_range_more (meets_at roots aggregates a r) n)
+meets_more roots aggregates n a r root ids old new is_root is_ids e h = grind (arith, any_range_more)
 
 at_root : (root r : ℕ) → is_at (nat_cmp root) r ≡ (root == r)
 at_root root r = grind arith

@@ -10,8 +10,7 @@ use Rattle.ac_base.proofs.Small.{are_equal, equal, not_false}
 
 one_root : (rs : List ℕ) (x y : ℕ) → (length rs == 1) ≡ true → list_any (λ (r : ℕ). r == x) rs ≡ true → list_any (λ (r : ℕ). r == y) rs ≡ true → x ≡ y
 one_root [] x y e f g = absurd (cc)
-one_root (r ∷ []) x y e f g =
-    sym (are_equal r x (sym (or-false (r == x)) ∙ f)) ∙ are_equal r y (sym (or-false (r == y)) ∙ g)
+one_root (r ∷ []) x y e f g = grind (arith, are_equal, or-false)
 one_root (r ∷ s ∷ rs) x y e f g = absurd (let same = are_equal (length (r ∷ s ∷ rs)) 1 e in omega (arith, same))
 
 -- leaving out what fails a test anyway
@@ -98,11 +97,4 @@ module _ (roots : List ℕ) (aggregates : List (List ℕ)) (groups : BTreeMap �
 
   -- who has nothing to ask is available in its own tree
   pub asked_alone : is_joining true asked ≡ false → is_marked sharing aggregates j ≡ true → joined roots aggregates (get_or aggregates j []) ≡ get_or roots j 0 ∷ []
-  asked_alone nothing marked =
-      let shares = some_of (get_or sharing j false) (get_or aggregates j []) marked in
-      let e : asked ≡ wide groups (get_or aggregates j []) = are ∙ ap (λ b. wide groups (shared_ids b (get_or aggregates j []))) shares.0 in
-      lone_joined roots aggregates groups gathered j inside (own_inside j inside) shares.1 (sym e ∙ empty asked nothing)
-    where
-      empty : (l : List ℕ) → is_joining true l ≡ false → l ≡ []
-      empty [] e = refl
-      empty (a ∷ rest) e = absurd (cc)
+  asked_alone nothing marked = grind (arith, lone_joined, some_of)

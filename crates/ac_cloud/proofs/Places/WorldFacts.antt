@@ -1,5 +1,5 @@
 -- The providers of a cloud, place by place.
-use Rattle.ac_cloud.proofs.Common.{◌≡◌, ◌<◌, ◌+◌, ◌∙◌, ℕ, zero, suc, List, [], ◌∷◌, map, length, get_or, Option, Some, refl, ap, arith, ◌==◌, if◌then◌else◌, option_map, option_and_then, None, IfSome, AreParents, range_with_len, position_from, get_or-map-range_with_len, length-map, TextMap, top, rank, parent_in, AreWithin, IsRising, UsedInventory, Provider, no_provider, provider_at, place_of, parent_of, root_of, numbered_at, length-range_with_len}
+use Rattle.ac_cloud.proofs.Common.{◌≡◌, ◌<◌, ◌+◌, ◌∙◌, ℕ, zero, suc, List, [], ◌∷◌, map, length, get_or, Option, Some, refl, ap, arith, ◌==◌, if◌then◌else◌, option_map, AreParents, range_with_len, position_from, get_or-map-range_with_len, length-map, TextMap, top, rank, parent_in, AreWithin, IsRising, UsedInventory, Provider, no_provider, provider_at, place_of, parent_of, root_of, numbered_at, length-range_with_len}
 use Rattle.ac_cloud.specs.World.{is_provider}
 use Rattle.ac_cloud.specs.Cloud.Numbered.{numbered}
 use Rattle.ac_cloud.proofs.Rising.{rank_at}
@@ -36,9 +36,7 @@ module _ (ids : List ℕ) (parents : List (Option ℕ)) (entries : List (TextMap
   -- the parent of the provider at a place
   pub numbered_parent : IsRising ids → (ix : ℕ) → ix < length ids
       → parent_of (numbered ids parents entries traits aggregates) (get_or ids ix 0) ≡ option_map (λ j. get_or ids j 0) (parent_in parents ix)
-  numbered_parent rising ix h =
-      ap (option_and_then (λ (i : ℕ). (provider_at all i).parent)) (numbered_place (get_or ids ix 0) ∙ rank_at ids (get_or ids ix 0) ix rising h refl)
-      ∙ ap (λ (p : Provider). p.parent) (numbered_here ix h)
+  numbered_parent rising ix h = grind (arith, numbered_here, numbered_place, rank_at)
 
   -- the root of the provider at a place
   pub numbered_root : IsRising ids → AreWithin (length ids) parents → (ix : ℕ) → ix < length ids
@@ -49,8 +47,4 @@ module _ (ids : List ℕ) (parents : List (Option ℕ)) (entries : List (TextMap
 
 -- parents that are places of a list as long as theirs
 pub are_parents : (parents : List (Option ℕ)) (n : ℕ) → length parents ≡ n → AreWithin n parents → AreParents parents
-are_parents parents n size within i h = inside_at (get_or parents i None) (λ j e. let k = within i j (omega (arith, h, size)) e in omega (arith, k, size))
-  where
-    inside_at : (o : Option ℕ) → ((j : ℕ) → o ≡ Some j → j < length parents) → IfSome o (λ j. j < length parents)
-    inside_at None f = tt
-    inside_at (Some j) f = f j refl
+are_parents parents n size within i h = grind (arith)

@@ -1,7 +1,7 @@
 -- Walking up a chain of parents.
 use Rattle.ac_cloud.proofs.Common.{◌≡◌, ◌<◌, ◌∙◌, ℕ, zero, suc, true, false, length, get_or, Option, Some, None, refl, sym, ap, inl, inr, ◌==◌, IfSome, option_map, cases_eq, cases_Bool, is_in_chain, parent_in, id_at, parent_of, providers_of, Cloud, or-false}
 use Rattle.ac_cloud.proofs.Rising.{rising_apart}
-use Rattle.ac_cloud.proofs.Places.CloudFacts.{id_here, parent_here, parts}
+use Rattle.ac_cloud.proofs.Places.CloudFacts.{parent_is, id_here, parent_here, parts}
 use Rattle.ac_base.proofs.Small.{equal, differ}
 
 -- a provider is in its own chain
@@ -63,3 +63,6 @@ chain_places c (suc k) a b ha hb = elim (cases_Bool (b == a)) [
         parent_here c b hb ∙ ap (option_map (λ j. get_or c.ids.ids.items j 0)) e ∙ ap (λ (x : ℕ). Some x) (sym (id_here c q hq)) in
         chain_goes (parent_of (providers_of c)) k (id_at (providers_of c) a) (id_at (providers_of c) b) (id_at (providers_of c) q) (same_test c b a hb ha ∙ ne) up
         ∙ rest q hq ∙ sym (chain_goes (parent_in c.parents.items) k a b q ne e)
+
+-- what shows where a chain ends and goes on, by the places of a cloud
+pub ruleset chains = (chain_here, chain_ends, chain_goes, chain_last, same_test, parent_is, some_name, no_name, some_inside)

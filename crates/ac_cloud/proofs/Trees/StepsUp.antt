@@ -11,9 +11,7 @@ climb_twice n f g inside same (suc k) i h =
 
 -- steps after steps
 climb_plus : (f : ℕ → ℕ) (b a i : ℕ) → climb f a (climb f b i) ≡ climb f (b + a) i
-climb_plus f zero a i =
-    let none : a ≡ zero + a = omega arith in
-    ap (λ (m : ℕ). climb f m i) none
+climb_plus f zero a i = grind (arith)
 climb_plus f (suc b) a i =
     let more : suc b + a ≡ suc (b + a) = omega arith in
     climb_plus f b a (f i) ∙ ap (λ (m : ℕ). climb f m i) (sym more)
@@ -39,9 +37,7 @@ up_inside parents known i h = up_one_inside (length parents) i (get_or parents i
 -- the steps of a list are inside where they are those of parents
 pub steps_inside : (parents : List (Option ℕ)) (step : List ℕ) → AreParents parents → length step ≡ length parents
     → ((i : ℕ) → i < length parents → get_or step i 0 ≡ up (parent_in parents) i) → ArePlaces (length parents) step
-steps_inside parents step known count same i h =
-    let h2 : i < length parents = omega (arith, h, count) in
-    subst (λ (m : ℕ). m < length parents) (sym (same i h2)) (up_inside parents known i h2)
+steps_inside parents step known count same i h = grind (arith, up_inside)
 
 -- the steps of a list are those of parents
 pub climb_list : (parents : List (Option ℕ)) (step : List ℕ) → AreParents parents
@@ -52,18 +48,12 @@ climb_list parents step known same k i h = climb_same (length parents) (along st
 -- double steps inside
 pub twice_inside : (n : ℕ) (step twice : List ℕ) → ArePlaces n step → length step ≡ n → length twice ≡ n
     → ((i : ℕ) → i < n → get_or twice i 0 ≡ get_or step (get_or step i 0) 0) → ArePlaces n twice
-twice_inside n step twice inside count count2 same i h =
-    let h2 : i < n = omega (arith, h, count2) in
-    let one : get_or step i 0 < n = inside i (omega (arith, h2, count)) in
-    subst (λ (m : ℕ). m < n) (sym (same i h2)) (inside (get_or step i 0) (omega (arith, one, count)))
+twice_inside n step twice inside count count2 same i h = grind (arith)
 
 -- places after one more step, or none, are inside
 pub after_inside : (n b : ℕ) (step places after : List ℕ) → ArePlaces n step → length step ≡ n → ArePlaces n places → length after ≡ length places
     → ((i : ℕ) → i < length after → get_or after i 0 ≡ climb (along step) b (get_or places i 0)) → ArePlaces n after
-after_inside n b step places after inside count before same_length same i h =
-    let place : get_or places i 0 < n = before i (omega (arith, h, same_length)) in
-    subst (λ (m : ℕ). m < n) (sym (same i h))
-    (climb_inside n (along step) (λ (j : ℕ) (k : j < n). inside j (omega (arith, k, count))) b (get_or places i 0) place)
+after_inside n b step places after inside count before same_length same i h = grind (arith, climb_inside)
 
 -- an odd step taken and the rest halved lead to the same place
 pub ahead_halved : (n left : ℕ) (step twice : List ℕ) (place after : ℕ) → ArePlaces n step → length step ≡ n

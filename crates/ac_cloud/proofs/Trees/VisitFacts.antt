@@ -48,18 +48,7 @@ module _ (parents : List (Option ℕ)) (entered left order : List ℕ) (before :
   ]
 
   next_nests : (m : ℕ) → Climbs (suc m) → Nests m → Nests (suc m)
-  next_nests m climbs nests s a hs ha hm less later =
-      let g = climbs s a hs ha hm less later in
-      let up = (placed a ha).parent g.0 g.1.0 in
-      let hq : g.0 < n = within a g.0 ha g.1.0 in
-      elim (cases_order (along entered s) (along entered g.0)) [
-        | inl e ↦
-            let one : s ≡ g.0 = same_place s g.0 hs hq e in
-            let same : along left s ≡ along left g.0 = ap (along left) one in
-            omega (arith, same, up.1)
-        | inr (inl lt) ↦ omega (arith, nests s g.0 hs hq (omega (arith, up.0, hm)) lt (omega (arith, up.0, later)), up.1)
-        | inr (inr gt) ↦ absurd (omega (arith, gt, g.1.1))
-      ]
+  next_nests m climbs nests s a hs ha hm less later = grind (arith, cases_order, same_place)
 
   both : (m : ℕ) → Climbs m × Nests m
   both zero = (λ a b ha hb hm less later. absurd (omega (arith, hm)), λ s a hs ha hm less later. absurd (omega (arith, hm)))
@@ -84,9 +73,7 @@ module _ (parents : List (Option ℕ)) (entered left order : List ℕ) (before :
 
   -- who is in the chain is entered before and left after
   chain_interval : (k a b : ℕ) → b < n → is_in_chain (parent_in parents) k a b ≡ true → (along entered a ≤ along entered b) × (along left b ≤ along left a)
-  chain_interval zero a b hb h =
-      let one : a ≡ b = sym (are_equal b a (sym (chain_last (parent_in parents) a b) ∙ h)) in
-      (omega (arith, ap (along entered) one), omega (arith, ap (along left) one))
+  chain_interval zero a b hb h = grind (arith, are_equal, chain_last)
   chain_interval (suc k) a b hb h = elim (cases_Bool (b == a)) [
     | inl e ↦ let one : a ≡ b = sym (are_equal b a e) in (omega (arith, ap (along entered) one), omega (arith, ap (along left) one))
     | inr ne ↦ elim (some_or_none (parent_in parents b)) [
@@ -108,15 +95,4 @@ module _ (parents : List (Option ℕ)) (entered left order : List ℕ) (before :
   parts x y u v h = (search (arith, rules, (and_parts (nat_le x y) (nat_lt u v) h).0), search (arith, rules, (and_parts (nat_le x y) (nat_lt u v) h).1))
 
   pub visits_tell : length order ≡ length parents → AreVisits parents entered left
-  visits_tell size = λ (a b : ℕ) (ha : a < n) (hb : b < n). elim (cases_Bool (is_in_chain (parent_in parents) n a b)) [
-    | inl h ↦
-        let i = chain_interval n a b hb h in
-        let later : along entered b < along left a = omega (arith, (placed b hb).leaves, i.1) in
-        and_from (nat_le (along entered a) (along entered b)) (nat_lt (along entered b) (along left a)) (le_true _ _ i.0) (lt_true _ _ later) ∙ sym h
-    | inr h ↦ elim (cases_Bool (nat_le (along entered a) (along entered b) && nat_lt (along entered b) (along left a))) [
-      | inl t ↦
-          let i = parts (along entered a) (along entered b) (along entered b) (along left a) t in
-          absurd (false≢true (sym h ∙ interval_chain n a b ha hb (omega (arith, (placed b hb).inside, size)) i.0 i.1))
-      | inr f ↦ f ∙ sym h
-    ]
-  ]
+  visits_tell size = grind (arith, and_from, cases_Bool, chain_interval, false≢true, interval_chain, le_true, lt_true, parts)

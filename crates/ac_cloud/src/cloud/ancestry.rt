@@ -224,7 +224,7 @@ fn is_placed(parents: &[Option<u32>], draft: &Draft, place: usize) -> bool
     follows_sibling(parents, draft, place) && starts_well(parents, draft, place)
 }
 
-// Whether each visit does.
+// Whether the visit of each place agrees with those of its neighbours.
 fn are_placed(parents: &[Option<u32>], draft: &Draft) -> bool
     requires known { AreParents parents.now }
     requires sized { length draft.now.entered.items ≡ length parents.now }

@@ -170,6 +170,7 @@ fn no_lists(alloc: Global, count: usize) -> Result<Anchors, AllocError>
 }
 
 // The lists of all providers.
+#[tactic(auto, using(crate::proofs::Places::WideAggregates::asked_alone))]
 pub(crate) fn find_anchors(
     alloc: Global,
     roots: &[u32],

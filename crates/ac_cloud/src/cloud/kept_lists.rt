@@ -35,7 +35,7 @@ impl Kept {
         }
     }
 
-    // These and one more, and where it stands.
+    // The lists with one more, and where that one stands.
     fn with(self, mark: u64, list: Vec<u32>) -> Result<(Kept, u32), AllocError>
         requires { length self.lists.items < 65536 }
         ensures grown { IfOk result (λ new. length new.0.lists.items
@@ -52,7 +52,7 @@ impl Kept {
         Ok((kept, place))
     }
 
-    // These and one more, unless an equal one is found, and where it stands.
+    // The lists with one more unless an equal one is kept, and where it stands.
     pub(crate) fn keep(self, list: Vec<u32>) -> Result<(Kept, u32), AllocError>
         requires { length self.lists.items < 65536 }
         ensures grown { IfOk result (λ new. length new.0.lists.items

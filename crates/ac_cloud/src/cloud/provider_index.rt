@@ -235,6 +235,7 @@ impl Ids {
     }
 
     /// The place of a provider, which is guessed before it is searched for.
+    #[tactic(auto, using(crate::proofs::Rising::rank_at))]
     pub fn find_near(&self, expected: &mut Expected, id: Id) -> Option<usize>
         ensures inside { IfSome result (λ place. place < length self.now.ids.items) }
         ensures found { IfSome result (λ place. get_or self.now.ids.items place 0 ≡ id) }

@@ -64,6 +64,7 @@ fn identity(alloc: Global, count: usize) -> Result<Vec<u32>, AllocError>
 
 /// Where each place's chain of parents has led after as many steps as there are places, by steps that double: n log n,
 /// whatever the order of the places.
+#[tactic(auto, using(crate::proofs::Trees::StepsUp::steps_inside, crate::proofs::Trees::StepsUp::climb_list))]
 pub fn find_tops(alloc: Global, parents: &[Option<u32>]) -> Result<Vec<u32>, AllocError>
     requires few { length parents.now ≤ 65536 }
     requires known { AreParents parents.now }

@@ -51,15 +51,11 @@ module _ {V K X : Type 0} (t : Table) (says : Row → V) (checks : List V → Ro
 
   any_before : (i : ℕ) (d : TableRow K X) → i < length read
       → list_any (same (says (get_or all i []))) (map says (take i all)) ≡ list_any (λ (a : TableRow K X). same (row_shown shown (get_or read i d)) (row_shown shown a)) (take i read)
-  any_before i d h =
-      ap₂ (λ v vs. list_any (same v) vs) (says_at i d h) (front i (omega arith))
-      ∙ sym (any_map _ (same (row_shown shown (get_or read i d))) (row_shown shown) (λ a. refl) (take i read))
+  any_before i d h = grind (arith, any_map, front, says_at)
 
   same_at : (i j : ℕ) (d : TableRow K X) → i < j → j < length read
       → same (row_shown shown (get_or read j d)) (row_shown shown (get_or (take j read) i d)) ≡ (unique && row_ties cmp (get_or read i d) (get_or read j d))
-  same_at i j d less h =
-      ap (λ (a : TableRow K X). same (row_shown shown (get_or read j d)) (row_shown shown a)) (get_or-take j read i d less)
-      ∙ apart _ _ _ _ _ _ (r.so_far.inside i d (omega arith)) (r.so_far.inside j d h)
+  same_at i j d less h = grind (arith, get_or-take)
 
   -- none of the earlier rows has the key of this one
   abbrev IsNew : ℕ → Type 0
@@ -74,9 +70,7 @@ module _ {V K X : Type 0} (t : Table) (says : Row → V) (checks : List V → Ro
 
   -- how many records stand before one, and with it
   before_past : (i : ℕ) → i < length read → is_past most (length (map says (take i all)) + 1) ≡ is_past most (i + 1)
-  before_past i inside =
-      let here : i ≤ length all = omega (arith, inside, sized, ap length r.so_far.whole, length-append r.so_far.done r.left) in
-      ap (λ n. is_past most (n + 1)) (length-map (take i all) says ∙ length-take-le i all here)
+  before_past i inside = grind (arith, length-append, length-map, length-take-le, sized)
 
   fine_at : (i : ℕ) → i < length read → is_past most (i + 1) ≡ false → IsNew i → first_failing (checks_at t says checks all i) ≡ None
   fine_at i inside within new = keyed.fresh (map says (take i all)) (get_or all i []) (new_at i inside new) (before_past i inside ∙ within) ∙ alone_at i inside
@@ -100,13 +94,7 @@ module _ {V K X : Type 0} (t : Table) (says : Row → V) (checks : List V → Ro
 
   -- then no record of them has a fault
   fine_all : Fits → (unique ≡ true → IsLeastRepeat cmp rows None) → (i : ℕ) → i < length read → first_failing (checks_at t says checks all i) ≡ None
-  fine_all fits once i inside = fine_at i inside within (all_new once i inside)
-    where
-      within : is_past most (i + 1) ≡ false
-      within = elim (cases_lt (i + 1) (length read)) [
-        | inl less ↦ r.so_far.within (i + 1) less
-        | inr last ↦ (let same : length read ≡ i + 1 = omega (arith, last, inside) in ap (is_past most) (sym same) ∙ sym read_past ∙ fits)
-      ]
+  fine_all fits once i inside = grind (arith, all_new, cases_lt, fine_at, read_past)
 
   nothing_left : (u : Unit {0}) → ended ≡ Ok u → Fits → r.left ≡ []
   nothing_left u is fits = no_more alone (is_past most (length read)) r.left u (sym read_past ∙ fits) (subst (λ (o : Result (Unit {0}) RecordFault). Stops alone (is_past most (length read)) r.left o) is r.stopped)
@@ -182,6 +170,4 @@ module _ {V K X : Type 0} (t : Table) (says : Row → V) (checks : List V → Ro
 -- no more rows than records
 pub rows_read : {V K X : Type 0} (says : Row → V) (alone : Row → List Check) (shown : ℕ → K → X → V) (count : ℕ) (most : Option ℕ) (all : List Row) (read : List (TableRow K X)) (ended : Result (Unit {0}) RecordFault)
     → IsReadUpTo says alone shown count most all read ended → length read ≤ length all
-rows_read says alone shown count most all read ended r =
-    let done : length read ≡ length r.so_far.done = sym (length-map read (row_shown shown)) ∙ ap length r.so_far.said ∙ length-map r.so_far.done says in
-    omega (arith, done, ap length r.so_far.whole, length-append r.so_far.done r.left)
+rows_read says alone shown count most all read ended r = grind (arith, length-append, length-map)

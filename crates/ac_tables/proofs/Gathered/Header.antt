@@ -40,21 +40,6 @@ fine names header h d =
     sym (append_none (missing_checks names header) (double_checks names header) (none_fails (is_missing header) kind.MissingColumn names h)
     ∙ none_fails (is_double header) kind.DoubleColumn names d)
 
--- what `open_table` tells
-pub no_header : (t : Table) (names : List (List ℕ)) (rows : List Row) → rows ≡ [] → header_fault t names rows ≡ Some (fault.At t 1 kind.NoHeader)
-unfolding header_fault
-no_header t names rows e = rw e refl
-
-pub header_tells : (t : Table) (names : List (List ℕ)) (rows rest : List Row) (header : Row) (k : TableKind) → rows ≡ header ∷ rest → Some k ≡ first_failing (header_checks names header)
-    → header_fault t names rows ≡ Some (fault.At t 1 k)
-unfolding header_fault
-header_tells t names rows rest header k e h = rw e (ap (told t 1) (sym h))
-
-pub header_fine : (t : Table) (names : List (List ℕ)) (rows rest : List Row) (header : Row) → rows ≡ header ∷ rest → None ≡ first_failing (header_checks names header)
-    → header_fault t names rows ≡ None
-unfolding header_fault
-header_fine t names rows rest header e h = rw e (ap (told t 1) (sym h))
-
 no_kind : (o : Option TableKind) (t : Table) (n : ℕ) → told t n o ≡ None → o ≡ None
 no_kind None t n e = refl
 no_kind (Some k) t n e = absurd (cc)

@@ -1,5 +1,5 @@
 -- The rows of one provider, and what is said of it.
-use Rattle.ac_tables.proofs.Common.{◌≡◌, ◌∙◌, ◌<◌, ℕ, zero, suc, Bool, true, List, [], ◌∷◌, map, refl, sym, ap, ap₂, subst, arith, inl, inr, ◌==◌, Ordering, Less, nat_cmp, ordering_then, All, AllByRecursion, Contains, filter, cases_Bool, nat_cmp_total, get_or-map, length-map, All-weaker, recursion_from_All, IsStrictlySortedBy-filter, row_cmp, row_shown, TableRow}
+use Rattle.ac_tables.proofs.Common.{◌≡◌, ◌∙◌, ◌<◌, ℕ, zero, suc, Bool, true, List, [], ◌∷◌, map, refl, sym, ap, ap₂, subst, arith, inl, inr, ◌==◌, Ordering, Less, All, AllByRecursion, Contains, filter, cases_Bool, nat_cmp_total, All-weaker, recursion_from_All, IsStrictlySortedBy-filter, row_cmp, row_shown, TableRow}
 use Rattle.std.specs.List.Sorted.{IsStrictlySortedBy}
 use Rattle.std.proofs.lemmas.Cmp.{tied_itself}
 use Rattle.std.proofs.lemmas.List.Elements.{filter_passes}
@@ -9,9 +9,7 @@ use Rattle.ac_base.proofs.Sorted.SameItems.{map_has}
 module _ {X : Type 0} (p : X → Bool) where
   pub filter_has : (xs : List X) (x : X) → Contains xs x → p x ≡ true → Contains (filter p xs) x
   filter_has [] x c e = let i = c.1 in absurd (omega (arith, i))
-  filter_has (y ∷ xs) x (zero, inside, here) e =
-      let passes : p y ≡ true = ap p here ∙ e in
-      rw passes (zero, omega arith, here)
+  filter_has (y ∷ xs) x (zero, inside, here) e = grind (arith)
   filter_has (y ∷ xs) x (suc k, inside, here) e = elim (cases_Bool (p y)) [
     | inl passes ↦ rw passes (let c = filter_has xs x (k, omega arith, here) e in (suc c.0, (let i = c.1 in omega (arith, i)), c.2))
     | inr fails ↦ rw fails (filter_has xs x (k, omega arith, here) e)
@@ -44,8 +42,7 @@ own_moved p f xs ys moved y c =
 -- rows of one provider compare by their keys
 module _ {K X Y : Type 0} (cmp : K → K → Ordering) (order : Y → Y → Ordering) (bytes : K → Y) (same : (a b : K) → cmp a b ≡ order (bytes a) (bytes b)) (p : ℕ) where
   by_key : (a b : TableRow K X) → a.place ≡ p → b.place ≡ p → row_cmp cmp a b ≡ order (bytes a.key) (bytes b.key)
-  by_key a b e f =
-      ap₂ (λ m n. ordering_then (nat_cmp m n) (cmp a.key b.key)) e f ∙ ap (λ o. ordering_then o (cmp a.key b.key)) (tied_itself nat_cmp_total p) ∙ same a.key b.key
+  by_key a b e f = grind (arith, nat_cmp_total, tied_itself)
 
   all_below : (a : TableRow K X) (rs : List (TableRow K X)) → a.place ≡ p → AllByRecursion (λ r. r.place ≡ p) rs → AllByRecursion (λ r. row_cmp cmp a r ≡ Less) rs
       → AllByRecursion (λ y. order (bytes a.key) y ≡ Less) (map (λ r. bytes r.key) rs)
@@ -58,10 +55,7 @@ module _ {K X Y : Type 0} (cmp : K → K → Ordering) (order : Y → Y → Orde
   keys_sorted (r ∷ rs) here sorted = (all_below r rs here.0 here.1 sorted.0, keys_sorted rs here.1 sorted.1)
 
   pub own_keys_sorted : (rs : List (TableRow K X)) → IsStrictlySortedBy (row_cmp cmp) rs → IsStrictlySortedBy order (map (λ r. bytes r.key) (filter (λ r. r.place == p) rs))
-  own_keys_sorted rs sorted = keys_sorted (filter (λ r. r.place == p) rs) (here rs) (IsStrictlySortedBy-filter (row_cmp cmp) (λ r. r.place == p) rs sorted)
-    where
-      here : (rs : List (TableRow K X)) → AllByRecursion (λ r. r.place ≡ p) (filter (λ r. r.place == p) rs)
-      here rs = recursion_from_All (λ r. r.place ≡ p) _ (All-weaker _ _ (λ r e. are_equal r.place p e) _ (filter_passes (λ r. r.place == p) rs))
+  own_keys_sorted rs sorted = grind (arith, All-weaker, IsStrictlySortedBy-filter, are_equal, filter_passes, keys_sorted, recursion_from_All)
 
 module _ {V K X Y : Type 0} (shown : ℕ → K → X → V) (count : ℕ) (provider : V → ℕ) (part : V → Y) (show : TableRow K X → Y) (p id : ℕ)
     (whose : (r : TableRow K X) → r.place < count → (provider (row_shown shown r) == id) ≡ (r.place == p))

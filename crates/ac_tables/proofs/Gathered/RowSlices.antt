@@ -1,5 +1,5 @@
 -- The rows of one provider, cut out of a sorted list.
-use Rattle.ac_tables.proofs.Common.{◌≡◌, ◌∙◌, ◌+◌, ◌-◌, ◌<◌, ◌≤◌, ◌++◌, ℕ, zero, suc, Bool, true, false, List, [], ◌∷◌, length, get_or, take, drop, refl, sym, ap, subst, arith, inl, inr, ◌==◌, filter, IsNonDecreasingBy, cases_lt, get_or_append_left, length-append, IsStart, TableRow}
+use Rattle.ac_tables.proofs.Common.{◌≡◌, ◌∙◌, ◌+◌, ◌-◌, ◌<◌, ◌≤◌, ◌++◌, ℕ, zero, suc, Bool, true, false, List, [], ◌∷◌, length, get_or, take, drop, refl, sym, ap, arith, inl, inr, ◌==◌, filter, IsNonDecreasingBy, cases_lt, get_or_append_left, length-append, IsStart, TableRow}
 use Rattle.std.proofs.lemmas.List.{get_or_push}
 use Rattle.ac_base.proofs.Small.{equal, differ}
 
@@ -21,9 +21,7 @@ module _ {X : Type 0} (p : X → Bool) where
   pub middle_kept : (xs : List X) (a b : ℕ) → a ≤ b → b ≤ length xs → ((k : ℕ) (d : X) → k < a → p (get_or xs k d) ≡ false)
       → ((k : ℕ) (d : X) → a ≤ k → k < b → p (get_or xs k d) ≡ true) → ((k : ℕ) (d : X) → b ≤ k → k < length xs → p (get_or xs k d) ≡ false)
       → take (b - a) (drop a xs) ≡ filter p xs
-  middle_kept xs zero b le inside low mid high =
-      let whole : b - zero ≡ b = omega arith in
-      ap (λ n. take n xs) whole ∙ front_kept xs b inside (λ k d h. mid k d (omega arith) h) high
+  middle_kept xs zero b le inside low mid high = grind (arith, front_kept)
   middle_kept [] (suc a) b le inside low mid high = absurd (omega (arith, le, inside))
   middle_kept (x ∷ xs) (suc a) zero le inside low mid high = absurd (omega (arith, le))
   middle_kept (x ∷ xs) (suc a) (suc b) le inside low mid high =
@@ -38,11 +36,7 @@ module _ {K X : Type 0} (rows : List (TableRow K X)) where
       → ((k : ℕ) (d : TableRow K X) → k < from → (get_or rows k d).place < place)
       → ((k : ℕ) (d : TableRow K X) → from ≤ k → k < at → (get_or rows k d).place < place)
       → ((d : TableRow K X) → at < length rows → place ≤ (get_or rows at d).place) → IsStart rows place at
-  start_here place from at sorted inside before passed next = record {
-    inside = inside;
-    below = λ k d h. elim (cases_lt k from) [ inl less ↦ before k d less | inr more ↦ passed k d more h ];
-    above = λ k d h i. let here = next d (omega arith) in let up = sorted at k d h i in omega (arith, here, up);
-  }
+  start_here place from at sorted inside before passed next = grind (arith, cases_lt)
 
   pub start_order : (p a b : ℕ) → IsStart rows p a → IsStart rows (p + 1) b → (a ≤ b) × (b ≤ length rows)
   start_order p a b s t = (elim (cases_lt b a) [ inl less ↦ absurd (no b a s t less) | inr le ↦ le ], t.inside)
@@ -64,10 +58,4 @@ module _ {K X : Type 0} (rows : List (TableRow K X)) where
 
   pub starts_more : (starts new : List ℕ) (x : ℕ) → ((p : ℕ) → p < length starts → IsStart rows p (get_or starts p 0)) → IsStart rows (length starts) x → new ≡ starts ++ x ∷ []
       → (p : ℕ) → p < length new → IsStart rows p (get_or new p 0)
-  starts_more starts new x h here e p below = subst (λ (l : List ℕ). IsStart rows p (get_or l p 0)) (sym e) (elim (cases_lt p (length starts)) [
-    | inl less ↦ subst (λ (n : ℕ). IsStart rows p n) (sym (get_or_append_left starts (x ∷ []) 0 p less)) (h p less)
-    | inr more ↦
-        let size : length new ≡ length starts + 1 = ap length e ∙ length-append starts (x ∷ []) in
-        let last : length starts ≡ p = omega (arith, size) in
-        subst (λ (n : ℕ). IsStart rows p n) (sym (get_or_push starts x 0 p last)) (subst (λ (q : ℕ). IsStart rows q x) last here)
-  ])
+  starts_more starts new x h here e p below = grind (arith, cases_lt, get_or_append_left, get_or_push, length-append)

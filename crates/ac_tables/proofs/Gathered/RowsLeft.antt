@@ -4,7 +4,7 @@ use Rattle.csv.specs.Machine.{next_record}
 use Rattle.std.proofs.Common.{IfOk, OnOk, ok_or}
 use Rattle.ac_base.specs.declared.name.NoMemory.{NoMemory}
 use Rattle.csv.specs.declared.error.Error.{Error}
-use Rattle.csv.specs.Reading.{is_bom, Ready, Reached, ReadRecord, default_config, records_from, source_of, strip_bom}
+use Rattle.csv.specs.Reading.{is_bom, Ready, Reached, ReadRecord, default_config, records_from, strip_bom}
 use Rattle.csv.specs.declared.reader.Reader.{Reader}
 use Rattle.csv.proofs.ReadFacts.{rows-end, rows-more}
 use Rattle.ac_tables.specs.Tables.Rows.{rows_from, Gives}
@@ -34,19 +34,12 @@ enough (suc n) (suc m) s xs b h k = elim (next-cases (next_record default_config
 -- a next record is the first of those that are left
 pub rows_more : (s : State) (xs : List ℕ) (p : Read) → ends_at_end s ≡ false → next_record default_config s [] [] xs ≡ Some p → rows_from s (Some xs) ≡ p.0 ∷ rows_from p.1 (Some p.2)
 unfolding rows_from records_from
-rows_more s xs p b e =
-    let less : length p.2 < length xs = next-takes default_config s xs p b e in
-    let stays : ends_at_end p.1 ≡ false = (next-leaves default_config s [] [] xs p e).0 in
-    let one : length xs + 1 ≡ suc (length xs) = omega arith in
-    let rest = enough (length xs) (length p.2 + 1) p.1 p.2 stays less (omega arith) in
-    rw (one, e, rest) refl
+rows_more s xs p b e = grind (arith, enough, next-leaves, next-takes)
 
 -- where there is no next record, none is left
 pub rows_none : (s : State) (xs : List ℕ) → next_record default_config s [] [] xs ≡ None → rows_from s (Some xs) ≡ []
 unfolding rows_from records_from
-rows_none s xs e =
-    let one : length xs + 1 ≡ suc (length xs) = omega arith in
-    rw (one, e) refl
+rows_none s xs e = grind (arith)
 
 -- at the start all records are left
 pub rows_start : (bytes : List ℕ) → rows_from st.StartRecord (Some (strip_bom bytes)) ≡ records_of bytes
@@ -70,16 +63,10 @@ same_rest : (f g : List (List ℕ)) (s t : State) (x z : List ℕ) (o : Option (
 same_rest f g s t x z o e1 e2 e3 e4 = rw (e1, e2, e3, e4) refl
 
 gives_row : (a b : Reader (Bor (List ℕ))) (f : List (List ℕ)) → IsReading a → Step a b true f → rows_left a ≡ f ∷ rows_left b
-gives_row a b f reading step =
-    let y = reading.source.0 in
-    let m = rows-more (λ (s : Bor (List ℕ)). Some s.now) a b f default_config a.state y y [] reading.config reading.source.1 (reached_none a.state y) step in
-    let (p, e, same, state, rest) = reached_one a b f y m.0 m.2 in
-    ap (rows_from a.state) reading.source.1 ∙ rows_more a.state y p reading.between e ∙ same_rest f p.0 p.1 b.state p.2 m.0 (source_of (λ s. Some s.now) b) same state rest m.1
+gives_row a b f reading step = grind (arith, reached_none, reached_one, rows-more, rows_more, same_rest)
 
 gives_none : (a b : Reader (Bor (List ℕ))) (f : List (List ℕ)) → IsReading a → Step a b false f → rows_left a ≡ []
-gives_none a b f reading step =
-    let y = reading.source.0 in
-    ap (rows_from a.state) reading.source.1 ∙ (rows_none a.state y (rows-end (λ (s : Bor (List ℕ)). Some s.now) a b f default_config y reading.config reading.source.1 step))
+gives_none a b f reading step = grind (arith, rows-end, rows_none)
 
 still_reading : (a b : Reader (Bor (List ℕ))) (f : List (List ℕ)) → IsReading a → Step a b true f → b.first ≡ true → IsReading b
 still_reading a b f reading step first =

@@ -1,5 +1,5 @@
 -- The records of a text, one read after the other: what a read takes, and what it leaves.
-use Rattle.ac_tables.proofs.Common.{◌≡◌, ◌<◌, ◌≤◌, ◌==◌, ℕ, Bool, true, false, List, [], ◌∷◌, length, Option, Some, refl, subst, arith, inl, inr, if◌then◌else◌, ◌&&◌, cases_Bool, Read, ends_at_end, State}
+use Rattle.ac_tables.proofs.Common.{◌≡◌, ◌<◌, ◌≤◌, ◌==◌, ℕ, Bool, true, false, List, [], ◌∷◌, length, Option, Some, refl, arith, inl, inr, if◌then◌else◌, ◌&&◌, cases_Bool, Read, ends_at_end, State}
 use Rattle.csv.specs.Machine.{after_end, ends_with, field_after, fields_after, in_field, is_byte, is_end, next_record, start_field, start_record, step}
 use Rattle.csv.specs.declared.parser.Config.{Config}
 use Rattle.csv.specs.declared.parser.Terminator.{Terminator}
@@ -21,8 +21,7 @@ after-end term.CRLF c = elim (cases_Bool (c == 13)) [ inl e ↦ rw e refl | inr 
 after-end (term.Any t) c = refl
 
 in-field : (cfg : Config) (c : ℕ) → EndsBetween (in_field cfg c)
-in-field cfg c =
-    either (c == cfg.delimiter) _ _ (λ h. absurd (cc h)) (either (ends_with cfg.terminator c) _ _ (λ h. after-end cfg.terminator c) (λ h. absurd (cc h)))
+in-field cfg c = grind (arith, after-end, either)
 
 start-field : (cfg : Config) (c : ℕ) → EndsBetween (start_field cfg c)
 start-field cfg c = either (cfg.quoting && (c == cfg.quote)) (st.InQuoted, act.Skip) (in_field cfg c) (λ h. absurd (cc h)) (in-field cfg c)
@@ -34,9 +33,7 @@ pub step-end : (cfg : Config) (s : State) (c : ℕ) → EndsBetween (step cfg s 
 step-end cfg st.StartRecord c = start-record cfg c
 step-end cfg st.StartField c = start-field cfg c
 step-end cfg st.InField c = in-field cfg c
-step-end cfg st.InQuoted c =
-    either (cfg.quoting && (c == cfg.quote)) (st.AfterQuote, act.Skip) (if cfg.quoting && is_byte cfg.escape c then (st.InEscape, act.Skip) else (st.InQuoted, act.Copy))
-    (λ h. absurd (cc h)) (either (cfg.quoting && is_byte cfg.escape c) (st.InEscape, act.Skip) (st.InQuoted, act.Copy) (λ h. absurd (cc h)) (λ h. absurd (cc h)))
+step-end cfg st.InQuoted c = grind (arith, either)
 step-end cfg st.InEscape c = λ h. absurd (cc h)
 step-end cfg st.AfterQuote c = either (cfg.quoting && cfg.double_quote && (c == cfg.quote)) (st.InQuoted, act.Copy) (in_field cfg c) (λ h. absurd (cc h)) (in-field cfg c)
 step-end cfg st.InComment c = either (c == 10) (st.StartRecord, act.Skip) (st.InComment, act.Skip) (λ h. absurd (cc h)) (λ h. absurd (cc h))
@@ -47,16 +44,11 @@ abbrev Leaves : List ℕ → Read → Type 0
 Leaves xs p = (ends_at_end p.1 ≡ false) × (length p.2 ≤ length xs)
 
 the-read : (o : Read) (p : Read) (P : Read → Type 0) → ◌≡◌ {A = Option Read} (Some o) (Some p) → P o → P p
-the-read o p P e h =
-    let same : o ≡ p = cc e in
-    subst P same h
+the-read o p P e h = grind (arith)
 
 pub next-leaves : (cfg : Config) (s : State) (fields : List (List ℕ)) (field xs : List ℕ) (p : Read) → next_record cfg s fields field xs ≡ Some p → Leaves xs p
 unfolding next_record
-next-leaves cfg s fields field [] p e = elim (cases_Bool (ends_at_end s)) [
-  | inl t ↦ the-read _ p (Leaves []) (rw t at e) (refl, omega arith)
-  | inr t ↦ absurd (cc (rw t at e))
-]
+next-leaves cfg s fields field [] p e = grind (arith, cases_Bool, the-read)
 next-leaves cfg s fields field (c ∷ rest) p e = elim (cases_Bool (is_end (step cfg s c).1)) [
   | inl t ↦ the-read _ p (Leaves (c ∷ rest)) (rw t at e) (step-end cfg s c t, omega arith)
   | inr t ↦ let (state, less) = next-leaves cfg (step cfg s c).0 (fields_after (step cfg s c).1 fields field) (field_after (step cfg s c).1 c field) rest p (rw t at e) in (state, omega arith)

@@ -1,5 +1,5 @@
 -- The parents of providers by their places, and where their chains end.
-use Rattle.ac_tables.proofs.Common.{◌≡◌, ◌<◌, ◌+◌, ◌∙◌, ℕ, true, false, List, [], ◌∷◌, map, length, get_or, Option, Some, None, refl, sym, ap, arith, inl, inr, ◌==◌, IfSome, option_map, option_and_then, is_some, position_from, cases_Bool, get_or-map, length-map, top, is_endless, rank, parent_in, AreWithin, AreParents, ProviderRecord, said_parent, is_one_of}
+use Rattle.ac_tables.proofs.Common.{◌≡◌, ◌<◌, ◌+◌, ◌∙◌, ℕ, true, false, List, [], ◌∷◌, map, length, get_or, Option, Some, None, refl, sym, ap, arith, inl, inr, ◌==◌, option_map, option_and_then, is_some, position_from, cases_Bool, get_or-map, length-map, top, is_endless, rank, parent_in, AreWithin, ProviderRecord, said_parent, is_one_of}
 use Rattle.std.proofs.lemmas.Iterator.Adapters.{position_from-zero}
 use Rattle.std.proofs.lemmas.List.Quantifiers.{position-Some}
 use Rattle.ac_cloud.proofs.Trees.PlaceTrees.{steps}
@@ -62,12 +62,4 @@ module _ (ids : List ℕ) (rows : List ProviderRecord) (known : (i q : ℕ) → 
   -- these parents with their roots, where each chain ends
   pub forest : (roots : List ℕ) → length roots ≡ length parents → ((i : ℕ) → i < length parents → get_or roots i 0 ≡ top (parent_in parents) (length parents) i)
       → ((i : ℕ) → i < length ids → is_endless (said_parent rows) (length ids) (get_or ids i 0) ≡ false) → IsForest (length ids) parents roots
-  forest roots sized tops ends =
-      let rooted = λ (i : ℕ) (h : i < length ids). tops i (omega (arith, h, same_size)) ∙ ap (λ (n : ℕ). top (parent_in parents) n i) same_size in
-      record {
-        with_parents = same_size;
-        with_roots = sized ∙ same_size;
-        within = are_within;
-        rooted = rooted;
-        ends = λ i h. ap (parent_in parents) (rooted i h) ∙ chains_end ends i h;
-      }
+  forest roots sized tops ends = grind (arith, are_within, chains_end, same_size)

@@ -1,46 +1,14 @@
 -- The faults of the tables, in their order.
-use Rattle.ac_tables.proofs.Common.{◌≡◌, rules, ℕ, List, Option, Some, None, refl, codes, Bor, option_map, Tells, records_of, inventories_said, Tables, records_or_header, TableFault}
+use Rattle.ac_tables.proofs.Common.{◌≡◌, ℕ, List, Option, Some, None, refl, codes, Bor, option_map, records_of, records_or_header}
 use Rattle.csv.proofs.OnLiterals.{csv_on_literals}
 use Rattle.ac_tables.specs.SourceText.{text_or}
-use Rattle.ac_tables.specs.Tables.ProviderTable.{providers_fault, uuid_name}
-use Rattle.ac_tables.specs.Tables.InventoryTable.{inventories_fault, provider_name, class_name}
-use Rattle.ac_tables.specs.Tables.UsageTable.{usages_fault, usage_columns, usage_name}
-use Rattle.ac_tables.specs.Tables.TraitTable.{traits_fault, trait_columns, name_name}
-use Rattle.ac_tables.specs.Tables.AggregateTable.{aggregates_fault, aggregate_columns}
-use Rattle.ac_tables.specs.Tables.{ids_of, tables_fault}
+use Rattle.ac_tables.specs.Tables.ProviderTable.{uuid_name}
+use Rattle.ac_tables.specs.Tables.InventoryTable.{provider_name, class_name}
+use Rattle.ac_tables.specs.Tables.UsageTable.{usage_columns, usage_name}
+use Rattle.ac_tables.specs.Tables.TraitTable.{trait_columns, name_name}
+use Rattle.ac_tables.specs.Tables.AggregateTable.{aggregate_columns}
 use Rattle.ac_tables.proofs.FirstFailing.{append_none}
 use Rattle.ac_tables.proofs.Records.ProviderFaults.{tells_first, tells_next}
-
-module _ (t : Tables) where
-  pub tells_providers : (e : TableFault) → Tells (providers_fault t.providers) e → Tells (tables_fault t) e
-  unfolding tables_fault providers_fault
-  tells_providers e h = search (rules, tells_first, tells_next)
-
-  pub tells_inventories : (e : TableFault) → providers_fault t.providers ≡ None → Tells (inventories_fault (ids_of t.providers) t.inventories) e → Tells (tables_fault t) e
-  unfolding tables_fault providers_fault inventories_fault
-  tells_inventories e p h = search (rules, tells_first, tells_next)
-
-  pub tells_usages : (e : TableFault) → providers_fault t.providers ≡ None → inventories_fault (ids_of t.providers) t.inventories ≡ None
-      → Tells (usages_fault (ids_of t.providers) (inventories_said t.inventories) t.usages) e → Tells (tables_fault t) e
-  unfolding tables_fault providers_fault inventories_fault usages_fault
-  tells_usages e p i h = search (rules, tells_first, tells_next, append_none)
-
-  pub tells_traits : (e : TableFault) → providers_fault t.providers ≡ None → inventories_fault (ids_of t.providers) t.inventories ≡ None
-      → usages_fault (ids_of t.providers) (inventories_said t.inventories) t.usages ≡ None → Tells (traits_fault (ids_of t.providers) t.traits) e → Tells (tables_fault t) e
-  unfolding tables_fault providers_fault inventories_fault usages_fault traits_fault
-  tells_traits e p i u h = search (rules, tells_first, tells_next, append_none)
-
-  pub tells_aggregates : (e : TableFault) → providers_fault t.providers ≡ None → inventories_fault (ids_of t.providers) t.inventories ≡ None
-      → usages_fault (ids_of t.providers) (inventories_said t.inventories) t.usages ≡ None → traits_fault (ids_of t.providers) t.traits ≡ None
-      → Tells (aggregates_fault (ids_of t.providers) t.aggregates) e → Tells (tables_fault t) e
-  unfolding tables_fault providers_fault inventories_fault usages_fault traits_fault aggregates_fault
-  tells_aggregates e p i u m h = search (rules, tells_first, tells_next, append_none)
-
-  pub none_at_all : providers_fault t.providers ≡ None → inventories_fault (ids_of t.providers) t.inventories ≡ None
-      → usages_fault (ids_of t.providers) (inventories_said t.inventories) t.usages ≡ None → traits_fault (ids_of t.providers) t.traits ≡ None
-      → aggregates_fault (ids_of t.providers) t.aggregates ≡ None → tables_fault t ≡ None
-  unfolding tables_fault providers_fault inventories_fault usages_fault traits_fault aggregates_fault
-  none_at_all p i u m a = search (rules, append_none)
 
 -- an absent table is its header alone
 pub usage_text : (o : Option (Bor (List ℕ))) → records_of (text_or o (codes "resource_provider,resource_class,usage")) ≡ records_or_header usage_columns (option_map (λ t. t.now) o)
@@ -57,3 +25,6 @@ pub aggregate_text : (o : Option (Bor (List ℕ))) → records_of (text_or o (co
 unfolding csv_on_literals aggregate_columns provider_name uuid_name
 aggregate_text None = refl
 aggregate_text (Some t) = refl
+
+-- what shows, table by table, what the reading of all tells
+pub ruleset reading = (tells_first, tells_next, append_none)

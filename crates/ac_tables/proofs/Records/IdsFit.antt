@@ -1,62 +1,39 @@
 -- The id that a text spells is a number of 128 bits.
-use Rattle.ac_tables.proofs.Common.{◌≡◌, ◌<◌, ◌+◌, ◌*◌, ◌^◌, ◌==◌, ◌&&◌, ℕ, Bool, true, false, List, length, Option, Some, None, IfSome, if◌then◌else◌, refl, sym, subst, arith, take, drop, option_map, unwrap_or, nat_tests, id_value}
+use Rattle.ac_tables.proofs.Common.{◌≡◌, ◌<◌, ◌^◌, ◌==◌, ◌&&◌, ℕ, Bool, true, false, List, length, Option, Some, None, IfSome, if◌then◌else◌, arith, option_map, unwrap_or, nat_tests, id_value}
 use Rattle.std.proofs.Common.{slice_index}
 use Rattle.std.specs.List.{list_all}
 use Rattle.std.specs.Int.{from_be_bytes, w128}
 use Rattle.std.proofs.lemmas.Bool.{and_parts, eqb-true}
 use Rattle.std.proofs.lemmas.List.Sums.{AllPass-from_list_all}
-use Rattle.uuid.specs.Text.{by_index, is_hex_digit, value_of, byte_of_digits, parsed_simple, digits_of, has_hyphens, parsed_hyphenated, parsed_braced, parsed_urn, parsed}
+use Rattle.uuid.specs.Text.{is_hex_digit, value_of, byte_of_digits, parsed_simple, digits_of, has_hyphens, parsed_hyphenated, parsed}
 use Rattle.uuid.proofs.TextLemmas.{by_index_at}
-
--- sixteen bytes are a number of 128 bits
-sum_fits : (b0 b1 b2 b3 b4 b5 b6 b7 b8 b9 b10 b11 b12 b13 b14 b15 : ℕ) → b0 < 256 → b1 < 256 → b2 < 256 → b3 < 256 → b4 < 256 → b5 < 256 → b6 < 256 → b7 < 256
-    → b8 < 256 → b9 < 256 → b10 < 256 → b11 < 256 → b12 < 256 → b13 < 256 → b14 < 256 → b15 < 256
-    → b0 * 256 ^ 15 + b1 * 256 ^ 14 + b2 * 256 ^ 13 + b3 * 256 ^ 12 + b4 * 256 ^ 11 + b5 * 256 ^ 10 + b6 * 256 ^ 9 + b7 * 256 ^ 8 + b8 * 256 ^ 7 + b9 * 256 ^ 6 + b10 * 256 ^ 5 + b11 * 256 ^ 4 + b12 * 256 ^ 3 + b13 * 256 ^ 2 + b14 * 256 ^ 1 + b15 < 2 ^ 128
-sum_fits b0 b1 b2 b3 b4 b5 b6 b7 b8 b9 b10 b11 b12 b13 b14 b15 h0 h1 h2 h3 h4 h5 h6 h7 h8 h9 h10 h11 h12 h13 h14 h15 = omega arith
 
 abbrev AreBytes : List ℕ → Type 0
 AreBytes bs = (i : ℕ) → i < 16 → slice_index bs i < 256
 
+-- sixteen bytes are a number of 128 bits
 bytes_fit : (bs : List ℕ) → AreBytes bs → from_be_bytes w128 bs < 2 ^ 128
-bytes_fit bs h =
-    sum_fits (slice_index bs 0) (slice_index bs 1) (slice_index bs 2) (slice_index bs 3) (slice_index bs 4) (slice_index bs 5) (slice_index bs 6) (slice_index bs 7)
-    (slice_index bs 8) (slice_index bs 9) (slice_index bs 10) (slice_index bs 11) (slice_index bs 12) (slice_index bs 13) (slice_index bs 14) (slice_index bs 15)
-    (h 0 (omega arith)) (h 1 (omega arith)) (h 2 (omega arith)) (h 3 (omega arith)) (h 4 (omega arith)) (h 5 (omega arith)) (h 6 (omega arith)) (h 7 (omega arith))
-    (h 8 (omega arith)) (h 9 (omega arith)) (h 10 (omega arith)) (h 11 (omega arith)) (h 12 (omega arith)) (h 13 (omega arith)) (h 14 (omega arith)) (h 15 (omega arith))
+bytes_fit bs h = grind (arith)
 
 -- ---- the bytes of a text
 digit_small : (c : ℕ) → is_hex_digit c ≡ true → value_of c < 16
 digit_small c h = grind (arith, nat_tests)
 
 byte_small : (hex : List ℕ) → length hex ≡ 32 → list_all is_hex_digit hex ≡ true → (j : ℕ) → j < 16 → byte_of_digits hex j < 256
-byte_small hex long all j h =
-    let digits = AllPass-from_list_all is_hex_digit hex all in
-    let high = digit_small (slice_index hex (2 * j)) (digits (2 * j) 0 (omega (arith, long, h))) in
-    let low = digit_small (slice_index hex (2 * j + 1)) (digits (2 * j + 1) 0 (omega (arith, long, h))) in
-    omega (arith, high, low)
+byte_small hex long all j h = grind (arith, AllPass-from_list_all, digit_small)
 
 either_some : (b : Bool) (x y : Option (List ℕ)) → IfSome x AreBytes → IfSome y AreBytes → IfSome (if b then x else y) AreBytes
 either_some true x y h k = h
 either_some false x y h k = k
 
 simple_bytes : (hex : List ℕ) → IfSome (parsed_simple hex) AreBytes
-simple_bytes hex = by_test ((length hex == 32) && list_all is_hex_digit hex) refl
-  where
-    by_test : (b : Bool) → ((length hex == 32) && list_all is_hex_digit hex) ≡ b → IfSome (if b then Some (by_index 16 (byte_of_digits hex)) else None) AreBytes
-    by_test true is =
-        let long : length hex ≡ 32 = eqb-true (length hex) 32 ((and_parts _ _ is).0) in
-        λ i h. subst (λ v. v < 256) (sym (by_index_at 16 (byte_of_digits hex) i 0 h)) (byte_small hex long ((and_parts (length hex == 32) _ is).1) i h)
-    by_test false is = tt
+simple_bytes hex = grind (arith, and_parts, by_index_at, byte_small, eqb-true)
 
 hyphenated_bytes : (s : List ℕ) → IfSome (parsed_hyphenated s) AreBytes
 hyphenated_bytes s = either_some ((length s == 36) && has_hyphens s) (parsed_simple (digits_of s)) None (simple_bytes (digits_of s)) tt
 
 bytes_of : (s : List ℕ) → IfSome (parsed s) AreBytes
-bytes_of s =
-    either_some (length s == 32) (parsed_simple s) _ (simple_bytes s)
-    (either_some (length s == 36) (parsed_hyphenated s) _ (hyphenated_bytes s)
-    (either_some (length s == 38) (parsed_braced s) _ (either_some _ (parsed_hyphenated (take 36 (drop 1 s))) None (hyphenated_bytes (take 36 (drop 1 s))) tt)
-    (either_some (length s == 45) (parsed_urn s) None (either_some _ (parsed_hyphenated (drop 9 s)) None (hyphenated_bytes (drop 9 s)) tt) tt)))
+bytes_of s = grind (arith, either_some, hyphenated_bytes, simple_bytes)
 
 -- the id of a text, and 0 where it spells none
 pub id_fits : (s : List ℕ) → unwrap_or (id_value s) 0 < 2 ^ 128

@@ -1,8 +1,8 @@
 -- Whether a provider is there.
-use Rattle.ac_tables.proofs.Common.{◌≡◌, ◌∙◌, ◌<◌, ◌++◌, ℕ, false, List, length, get_or, Some, None, refl, sym, first_failing, is_one_of, Check, TableKind}
+use Rattle.ac_tables.proofs.Common.{◌≡◌, ◌<◌, ℕ, false, List, length, get_or, Some, None, refl, sym, first_failing, is_one_of}
 use Rattle.ac_tables.specs.Tables.InventoryTable.{known_checks}
 use Rattle.ac_tables.specs.declared.fault.TableKind.TheVariants as kind
-use Rattle.ac_tables.proofs.FirstFailing.{append_none}
+use Rattle.ac_tables.proofs.FirstFailing.{append_none, append_some, unless_err, unless_none, unless_value, tells_front, tells_back}
 use Rattle.ac_cloud.proofs.Rising.{one_of_place}
 
 pub unknown : (ids : List ℕ) (id said : ℕ) → id ≡ said → is_one_of ids id ≡ false → first_failing (known_checks ids said) ≡ Some kind.UnknownProvider
@@ -13,6 +13,5 @@ pub known : (ids : List ℕ) (said place : ℕ) → place < length ids → get_o
 unfolding known_checks
 known ids said place inside found = rw (one_of_place ids said place inside found) refl
 
--- a check that fails after others that don't
-pub later : (xs ys : List Check) (k : TableKind) → first_failing xs ≡ None → first_failing ys ≡ Some k → first_failing (xs ++ ys) ≡ Some k
-later xs ys k none h = append_none xs ys none ∙ h
+-- what shows, check by check, what a record's reading tells
+pub ruleset reading = (append_none, append_some, unless_err, unless_none, unless_value, tells_front, tells_back, known, unknown)

@@ -1,48 +1,7 @@
 -- The first record of a marked row, and the first fault of a pass over all records.
-use Rattle.ac_tables.proofs.Common.{◌≡◌, ◌∙◌, ◌+◌, ◌<◌, ◌≤◌, ℕ, zero, suc, Bool, true, false, List, [], ◌∷◌, length, get_or, min, Option, Some, None, refl, sym, ap, subst, arith, inl, inr, ◌⊎◌, option_map, cases_Bool, cases_lt, get_or-map, get_or_default, length-map, Contains-get_or, Contains-permutation, IsPermutation-sym, nat_cmp, first_failing, pass, IsFirstBelow, IsFirst, ProviderRecord, no_record, provider_shown, row_shown, sooner, IsTable, Table, TableKind, TableRow, Named}
+use Rattle.ac_tables.proofs.Common.{◌≡◌, ◌∙◌, ◌+◌, ◌<◌, ℕ, zero, suc, Bool, true, false, List, [], ◌∷◌, length, get_or, Option, Some, None, refl, sym, ap, arith, inl, inr, option_map, cases_Bool, get_or-map, length-map, IsPermutation-sym, nat_cmp, first_failing, pass, IsFirst, ProviderRecord, no_record, provider_shown, row_shown, IsTable, Table, TableKind, TableRow, Named}
 use Rattle.ac_tables.specs.declared.fault.TableFault.TheVariants as fault
-use Rattle.ac_base.proofs.Small.{clash, min_left, min_right, is_min_left, is_min_right}
-
--- below a place, or at it
-last_or : (i k : ℕ) → k < i + 1 → (k < i) ⊎ (k ≡ i)
-last_or i k h = elim (cases_lt k i) [ inl less ↦ inl less | inr more ↦ inr (omega arith) ]
-
-module _ (rows : List (TableRow ℕ Named)) (marks : List Bool) (i : ℕ) where
-  pub unmarked : (first : Option ℕ) → get_or marks i false ≡ false → IsFirstBelow rows marks i first → IsFirstBelow rows marks (i + 1) first
-  unmarked None here h = λ k below. elim (last_or i k below) [
-    | inl less ↦ h k less
-    | inr same ↦ subst (λ (j : ℕ). get_or marks j false ≡ false) (sym same) here
-  ]
-  unmarked (Some n) here h = (
-    (λ k d below is. elim (last_or i k below) [
-      | inl less ↦ h.0 k d less is
-      | inr same ↦ absurd (clash (get_or marks k false) (subst (λ (j : ℕ). get_or marks j false ≡ false) (sym same) here) is)
-    ]),
-    (h.1.0, omega (arith, h.1.1), h.1.2, h.1.3),
-  )
-
-  pub marked : (n : ℕ) (first : Option ℕ) → get_or marks i false ≡ true → ((d : TableRow ℕ Named) → (get_or rows i d).number ≡ n) → IsFirstBelow rows marks i first
-      → IsFirstBelow rows marks (i + 1) (sooner first n)
-  marked n None here at h = (
-    (λ k d below is. elim (last_or i k below) [
-      | inl less ↦ absurd (clash (get_or marks k false) (h k less) is)
-      | inr same ↦ subst (λ (j : ℕ). n ≤ (get_or rows j d).number) (sym same) (same_low n _ (at d))
-    ]),
-    (i, omega arith, here, at),
-  )
-    where
-      same_low : (a b : ℕ) → b ≡ a → a ≤ b
-      same_low a b e = omega arith
-  marked n (Some m) here at h = (
-    (λ k d below is. elim (last_or i k below) [
-      | inl less ↦ min_left m n _ (h.0 k d less is)
-      | inr same ↦ subst (λ (j : ℕ). min m n ≤ (get_or rows j d).number) (sym same) (min_right m n _ (at d))
-    ]),
-    (elim (cases_lt m n) [
-      | inl less ↦ (h.1.0, omega (arith, h.1.1), h.1.2, λ d. is_min_left m n _ less (h.1.3 d))
-      | inr more ↦ (i, omega arith, here, λ d. is_min_right m n _ more (at d))
-    ]),
-  )
+use Rattle.ac_tables.proofs.Sorted.SortedTies.{moved}
 
 module _ {X : Type 0} (t : Table) (k : TableKind) (fails : X → Bool) (d : X) where
   pass_none : (n : ℕ) (xs : List X) → ((i : ℕ) → i < length xs → fails (get_or xs i d) ≡ false) → first_failing (pass t k fails n xs) ≡ None
@@ -67,14 +26,10 @@ module _ (said : List ProviderRecord) (rows : List (TableRow ℕ Named)) (t : Is
 
   -- where a record's row stands, and a row's record
   pub row_of : (i : ℕ) (d : TableRow ℕ Named) → i < length t.read → (k : ℕ) × (k < length rows) × (get_or rows k d ≡ get_or t.read i d)
-  row_of i d h =
-      let c = Contains-permutation t.read rows (get_or t.read i d) t.same (Contains-get_or t.read i d h) in
-      (c.0, c.1, get_or_default rows c.0 d (get_or t.read i d) c.1 ∙ c.2)
+  row_of i d h = moved t.read rows t.same i d h
 
   pub record_of : (k : ℕ) (d : TableRow ℕ Named) → k < length rows → (i : ℕ) × (i < length t.read) × (get_or t.read i d ≡ get_or rows k d)
-  record_of k d h =
-      let c = Contains-permutation rows t.read (get_or rows k d) (IsPermutation-sym t.read rows t.same) (Contains-get_or rows k d h) in
-      (c.0, c.1, get_or_default t.read c.0 d (get_or rows k d) c.1 ∙ c.2)
+  record_of k d h = moved rows t.read (IsPermutation-sym t.read rows t.same) k d h
 
   -- the first fault of a pass is that of the first marked record
   pub passed : (tab : Table) (kind : TableKind) (fails : ProviderRecord → Bool) (marks : List Bool) (d : TableRow ℕ Named)
@@ -84,13 +39,13 @@ module _ (said : List ProviderRecord) (rows : List (TableRow ℕ Named)) (t : Is
       pass_none tab kind fails no_record 2 said (λ i h.
       let inside : i < length t.read = omega (arith, h, size) in
       let r = row_of i d inside in
-      ap fails (said_at i d no_record inside ∙ ap (row_shown provider_shown) (sym r.2)) ∙ sym (same r.0 r.1) ∙ none r.0 r.1)
+      ap fails (said_at i d no_record inside ∙ ap (row_shown provider_shown) (sym r.2)) ∙ sym (same r.0 r.1) ∙ none r.0 d r.1)
   passed tab kind fails marks d same (Some n) least =
       let k = least.1.0 in
       let r = record_of least.1.0 d least.1.1 in
-      let number : n ≡ r.0 + 2 = sym (least.1.3 d) ∙ ap (λ (x : TableRow ℕ Named). x.number) (sym r.2) ∙ t.numbered r.0 d r.1 in
+      let number : n ≡ r.0 + 2 = sym (least.1.2 d).1 ∙ ap (λ (x : TableRow ℕ Named). x.number) (sym r.2) ∙ t.numbered r.0 d r.1 in
       let here : fails (get_or said r.0 no_record) ≡ true =
-      ap fails (said_at r.0 d no_record r.1 ∙ ap (row_shown provider_shown) r.2) ∙ sym (same least.1.0 least.1.1) ∙ least.1.2 in
+      ap fails (said_at r.0 d no_record r.1 ∙ ap (row_shown provider_shown) r.2) ∙ sym (same least.1.0 least.1.1) ∙ (least.1.2 d).0 in
       let before : (i : ℕ) → i < r.0 → fails (get_or said i no_record) ≡ false = λ i less.
       (let first_in = r.1 in
       let inside : i < length t.read = omega (arith, less, first_in) in

@@ -1,5 +1,5 @@
 -- The rows of the table of providers say what its records say: their ids, who is whose parent, and what is wrong with a provider.
-use Rattle.ac_tables.proofs.Common.{◌≡◌, ◌∙◌, ◌+◌, ◌<◌, ℕ, zero, suc, Bool, true, false, List, [], ◌∷◌, map, length, get_or, Option, Some, None, refl, sym, ap, ap₂, subst, arith, rules, inl, inr, ◌==◌, ◌&&◌, not, nat_cmp, eq_by_cmp, is_some, is_none, unwrap_or, option_map, option_and_then, position_from, IsPermutation, IsStrictlySortedBy, cases_Bool, get_or-map, length-map, All-weaker, recursion_from_All, Contains-permutation, IsPermutation-sym, IsPermutation-map, length_permutation, IsDistinct-from_sorted, eq_by_cmp_equiv, exact_unsigned, is_one_of, rank, parent_in, AreParents, provider_shown, ProviderRecord, is_known, no_record, record_at, said_parent, has_unknown_parent, has_endless_chain, has_wrong_root, rising, row_shown, IsTable, top, TableRow, Named, map-map}
+use Rattle.ac_tables.proofs.Common.{◌≡◌, ◌∙◌, ◌+◌, ◌<◌, ℕ, zero, suc, Bool, true, false, List, [], ◌∷◌, map, length, get_or, Option, Some, None, refl, sym, ap, ap₂, subst, arith, rules, ◌==◌, ◌&&◌, not, nat_cmp, eq_by_cmp, is_some, is_none, unwrap_or, option_map, option_and_then, position_from, IsPermutation, IsStrictlySortedBy, cases_Bool, get_or-map, length-map, All-weaker, recursion_from_All, Contains-permutation, IsPermutation-sym, IsPermutation-map, length_permutation, IsDistinct-from_sorted, eq_by_cmp_equiv, exact_unsigned, is_one_of, rank, parent_in, AreParents, provider_shown, ProviderRecord, is_known, no_record, record_at, said_parent, has_unknown_parent, has_endless_chain, has_wrong_root, rising, row_shown, IsTable, top, TableRow, Named, map-map}
 use Rattle.std.specs.Cmp.{nat_cmp_total, unsigned_tied}
 use Rattle.std.specs.List.{IsDistinct}
 use Rattle.std.proofs.lemmas.Map.Keys.{IsDistinct-IsPermutation, apart_from_distinct}
@@ -68,9 +68,6 @@ module _ (said : List ProviderRecord) (rows : List ListingRow) (t : IsTable nat_
   pub count : length (map (λ (r : ListingRow). r.key) rows) ≡ length said
   count = length_permutation (map key t.read) ids (IsPermutation-map key t.read rows t.same) ∙ ap length (sym said_ids) ∙ length-map said (λ (p : ProviderRecord). p.id)
 
-  pub said_sized : length rows ≡ length said
-  said_sized = sym (length-map rows key) ∙ count
-
   -- all ids are different
   pub distinct : AreDistinct said
   unfolding place_of
@@ -114,10 +111,7 @@ module _ (said : List ProviderRecord) (rows : List ListingRow) (t : IsTable nat_
     there q = ap (λ l. is_one_of l q) ids_are ∙ member_rising q (map (λ (p : ProviderRecord). p.id) said) ∙ sym (place_member said q)
 
     no_rank : (q : ℕ) → is_none (rank ids q) ≡ not (is_some (place_of said q))
-    no_rank q = elim (cases_Bool (is_one_of ids q)) [
-      | inl found ↦ let r = has_rank ids q found in let is : is_some (place_of said q) ≡ true = sym (there q) ∙ found in ap is_none r.1 ∙ ap not (sym is)
-      | inr lost ↦ let is : is_some (place_of said q) ≡ false = sym (there q) ∙ lost in ap is_none (rank_none ids q lost) ∙ ap not (sym is)
-    ]
+    no_rank q = grind (arith, cases_Bool, has_rank, rank_none, there)
 
     by_parent : (o p : Option ℕ) → p ≡ option_and_then (rank ids) o → (is_some o && is_none p) ≡ (is_some o && not (is_known said (unwrap_or o 0)))
     by_parent None p e = refl
@@ -161,8 +155,7 @@ module _ (said : List ProviderRecord) (rows : List ListingRow) (t : IsTable nat_
           ap₂ (λ (n q : ℕ). top (said_parent said) n q) (sym count) (sym (key_at i h)) ∙ s.1 ∙ ap (λ (n : ℕ). get_or ids (top (parent_in parents) n i) 0) (sym as_many)
 
       pub endless_same : (i : ℕ) → i < length rows → is_some (get_or parents (top (parent_in parents) (length parents) i) None) ≡ has_endless_chain said (row_shown provider_shown (get_or rows i no_row))
-      endless_same i h =
-          sym (ap (λ (q : ℕ). is_some (said_parent said q)) (top_at i h) ∙ ap is_some (agree ids said known_here parents parents_are (top_of i) (top_inside i h)) ∙ some_map (λ (j : ℕ). get_or ids j 0) (get_or parents (top_of i) None))
+      endless_same i h = grind (arith, agree, known_here, parents_are, some_map, top_at, top_inside)
 
       pub wrong_same : (i : ℕ) → i < length rows → not (get_or (map (λ (r : ListingRow). r.key) rows) (top (parent_in parents) (length parents) i) 0 == (get_or rows i no_row).value.root) ≡ has_wrong_root said (row_shown provider_shown (get_or rows i no_row))
       wrong_same i h = ap (λ (q : ℕ). not (q == (get_or rows i no_row).value.root)) (sym (top_at i h))

@@ -1,14 +1,9 @@
 -- The checks of a usage's key.
-use Rattle.ac_tables.proofs.Common.{◌≡◌, ◌∙◌, ◌<◌, ◌++◌, ℕ, zero, suc, Bool, true, false, List, [], ◌∷◌, length, get_or, Some, None, refl, sym, ap, ap₂, arith, inl, inr, ◌==◌, ◌&&◌, ◌||◌, All, filter, list_any, bytes_eq, cases_Bool, class_bytes, InventoryNumbers, ClassName, Row, first_failing, id_in, text_in, IsRising, InventoryRecord, provider_name, class_name, is_inventory_of, is_one_of, usage_field_checks, inventory_records_shown, same_place, eq_turned, lone_checks, TableRow}
-use Rattle.ac_tables.specs.declared.fault.TableKind.TheVariants as kind
-use Rattle.ac_tables.proofs.FirstFailing.{append_none}
+use Rattle.ac_tables.proofs.Common.{◌≡◌, ◌<◌, ℕ, zero, suc, Bool, List, [], ◌∷◌, length, get_or, refl, sym, ap₂, arith, ◌==◌, ◌&&◌, ◌||◌, All, filter, list_any, bytes_eq, cases_Bool, class_bytes, InventoryNumbers, ClassName, IsRising, is_inventory_of, inventory_records_shown, same_place, eq_turned, TableRow}
 
 pub any_filter : {X : Type 0} (p q : X → Bool) (xs : List X) → list_any q (filter p xs) ≡ list_any (λ x. p x && q x) xs
 any_filter p q [] = refl
-any_filter p q (x ∷ xs) = elim (cases_Bool (p x)) [
-  | inl passes ↦ rw passes (ap (λ b. q x || b) (any_filter p q xs))
-  | inr fails ↦ rw fails (any_filter p q xs)
-]
+any_filter p q (x ∷ xs) = grind (arith, cases_Bool, any_filter p q xs)
 
 module _ (ids : List ℕ) (rising : IsRising ids) (place : ℕ) (inside : place < length ids) (class : List ℕ) where
   pub any_shown : (rows : List (TableRow ClassName InventoryNumbers)) → All (λ r. r.place < length ids) rows
@@ -17,24 +12,3 @@ module _ (ids : List ℕ) (rising : IsRising ids) (place : ℕ) (inside : place 
   any_shown (r ∷ rows) all =
       ap₂ (λ a b. a || b) (ap₂ (λ a b. a && b) (sym (same_place ids rising r.place place (all zero r (omega arith)) inside)) (eq_turned (class_bytes r.key) class))
       (any_shown rows (λ k d h. all (suc k) d (omega arith)))
-
-module _ (ids : List ℕ) (records : List InventoryRecord) (header row : Row) (id : ℕ) (class : List ℕ) (none : first_failing (usage_field_checks header row) ≡ None)
-    (e : id ≡ id_in header provider_name row) (f : class ≡ text_in header class_name row) where
-  abbrev told : Type 0
-  told = first_failing (usage_field_checks header row ++ lone_checks ids records (id_in header provider_name row) (text_in header class_name row)) ≡ first_failing (lone_checks ids records id class)
-
-  fields_fine : told
-  fields_fine =
-      append_none (usage_field_checks header row) (lone_checks ids records (id_in header provider_name row) (text_in header class_name row)) none
-      ∙ ap₂ (λ i c. first_failing (lone_checks ids records i c)) (sym e) (sym f)
-
-  pub lone_unknown : is_one_of ids id ≡ false → first_failing (usage_field_checks header row ++ lone_checks ids records (id_in header provider_name row) (text_in header class_name row)) ≡ Some kind.UnknownProvider
-  lone_unknown absent = fields_fine ∙ rw absent refl
-
-  pub lone_nothing : is_one_of ids id ≡ true → list_any (is_inventory_of id class) records ≡ false
-      → first_failing (usage_field_checks header row ++ lone_checks ids records (id_in header provider_name row) (text_in header class_name row)) ≡ Some kind.NoInventory
-  lone_nothing there nothing = fields_fine ∙ rw (there, nothing) refl
-
-  pub lone_fine : is_one_of ids id ≡ true → list_any (is_inventory_of id class) records ≡ true
-      → first_failing (usage_field_checks header row ++ lone_checks ids records (id_in header provider_name row) (text_in header class_name row)) ≡ None
-  lone_fine there some = fields_fine ∙ rw (there, some) refl

@@ -1,5 +1,5 @@
 -- What is gathered in order: it rises, and is just what it was gathered of.
-use Rattle.ac_tables.proofs.Common.{◌≡◌, ◌∙◌, ℕ, List, reverse, sym, list_any, bytes_eq, is_at, nat_cmp_total, nat_list_cmp_total, is_eq-slice_cmp, text_cmp, map_of, rising}
+use Rattle.ac_tables.proofs.Common.{◌∙◌, ℕ, List, reverse, sym, bytes_eq, is_at, nat_cmp_total, nat_list_cmp_total, is_eq-slice_cmp, text_cmp, map_of}
 use Rattle.ac_tables.specs.Laws.{IsMapOf, OrderHolds}
 use Rattle.ac_base.proofs.Sorted.SameItems.{last_given, map_rises, member_rising, name_rising}
 use Rattle.ac_base.proofs.Sorted.SearchFacts.{lookup_same}

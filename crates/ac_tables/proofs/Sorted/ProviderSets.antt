@@ -1,11 +1,10 @@
 -- The keys of one provider's rows, of which equal ones are left out, are the set of all that is said of it.
-use Rattle.ac_tables.proofs.Common.{◌≡◌, ◌∙◌, ◌<◌, ℕ, Bool, true, List, map, refl, sym, ap, subst, ◌==◌, Ordering, Less, Equal, Greater, is_eq, nat_cmp, ordering_then, IsTotalOrder, Contains, dedup, filter, IsSortedBy, IsNonDecreasingBy, IsStrictlySortedBy, map-id, eq_by_cmp_equiv, IsPermutation-sym, Contains-permutation, All-permutation, exact_unsigned, rising, row_cmp, row_lt, row_ties, row_shown, IsTable, TableRow}
+use Rattle.ac_tables.proofs.Common.{◌≡◌, ◌∙◌, ◌<◌, ℕ, Bool, true, List, map, refl, sym, ap, subst, ◌==◌, Ordering, Less, Equal, Greater, is_eq, nat_cmp, ordering_then, IsTotalOrder, Contains, dedup, filter, IsSortedBy, IsStrictlySortedBy, map-id, eq_by_cmp_equiv, IsPermutation-sym, Contains-permutation, All-permutation, exact_unsigned, rising, row_cmp, row_lt, row_ties, row_shown, IsTable, TableRow}
 use Rattle.std.proofs.Common.{Any}
 use Rattle.std.proofs.lemmas.List.Kept.{IsStrictlySortedBy-dedup, Any-dedup, Contains-from_dedup}
 use Rattle.ac_tables.proofs.Gathered.RowOrder.{row_total}
 use Rattle.ac_base.proofs.Sorted.SameItems.{is_rising, map_has}
 use Rattle.ac_tables.proofs.Gathered.ProviderRows.{filter_has, has_filter, has_map, own_moved, own_keys_sorted, of_provider}
-use Rattle.ac_tables.proofs.Gathered.RowPlaces.{places_rise}
 use Rattle.ac_base.proofs.Sorted.SearchFacts.{in_order}
 
 both_equal : (a b : Ordering) → is_eq (ordering_then a b) ≡ true → (a ≡ Equal) × (b ≡ Equal)
@@ -15,11 +14,11 @@ both_equal Equal Equal e = (refl, refl)
 both_equal Equal Greater e = absurd (cc)
 both_equal Greater b e = absurd (cc)
 
--- what is left stands in the order of its places
-pub once_sorted : {K X : Type 0} (cmp : K → K → Ordering) → IsTotalOrder cmp → (rows : List (TableRow K X)) → IsSortedBy (row_lt cmp) rows → IsNonDecreasingBy (λ (r : TableRow K X). r.place) (dedup (row_ties cmp) rows)
+-- what is left stands in order
+pub once_sorted : {K X : Type 0} (cmp : K → K → Ordering) → IsTotalOrder cmp → (rows : List (TableRow K X)) → IsSortedBy (row_lt cmp) rows → IsSortedBy (row_lt cmp) (dedup (row_ties cmp) rows)
 once_sorted {K} {X} cmp total rows sorted =
     let strict = IsStrictlySortedBy-dedup (row_total {X = X} total) {E = row_ties cmp} (λ a b. refl) rows sorted in
-    places_rise cmp total (dedup (row_ties cmp) rows) (in_order (λ (r : TableRow K X). r) (row_total {X = X} total) (dedup (row_ties cmp) rows) (rw (map-id (dedup (row_ties cmp) rows)) strict))
+    in_order (λ (r : TableRow K X). r) (row_total {X = X} total) (dedup (row_ties cmp) rows) (rw (map-id (dedup (row_ties cmp) rows)) strict)
 
 module _ {V K X Y : Type 0} (cmp : K → K → Ordering) (total : IsTotalOrder cmp) (order : Y → Y → Ordering) (order_total : IsTotalOrder order) (exact : (x y : Y) → order x y ≡ Equal → x ≡ y)
     (bytes : K → Y) (same : (a b : K) → cmp a b ≡ order (bytes a) (bytes b))

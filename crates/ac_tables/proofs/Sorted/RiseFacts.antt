@@ -1,13 +1,9 @@
 -- What is gathered of each provider rises.
-use Rattle.ac_tables.proofs.Common.{◌≡◌, ◌∙◌, ℕ, List, [], ◌∷◌, map, get_or, refl, sym, ap, subst, nat_cmp, ◌==◌, All, filter, IsPermutation, IsStrictlySortedBy, nat_cmp_total, nat_list_cmp_total, class_bytes, trait_bytes, text_cmp, InventoryNumbers, ClassName, TraitName, TextMap, InventoryRecord, UsageRecord, TraitRecord, AggregateRecord, class_pair, inventory_records_shown, TableRow, Inventories, map-id}
+use Rattle.ac_tables.proofs.Common.{◌≡◌, ◌∙◌, ℕ, List, [], ◌∷◌, map, get_or, refl, ap, subst, nat_cmp, ◌==◌, All, filter, IsStrictlySortedBy, nat_cmp_total, nat_list_cmp_total, class_bytes, trait_bytes, text_cmp, InventoryNumbers, ClassName, TraitName, TextMap, InventoryRecord, UsageRecord, TraitRecord, AggregateRecord, class_pair, TableRow, map-id}
 use Rattle.ac_tables.specs.Tables.{inventories_of, amounts_of, names_of, aggregates_of}
 use Rattle.ac_base.proofs.Sorted.SortedSets.{rising_sorted}
 use Rattle.ac_base.proofs.Sorted.SameItems.{map_rises}
 use Rattle.ac_tables.proofs.Sorted.RowLists.{all_gathered}
-
--- what the rows of the inventories show, beside ids that are equal
-pub said_here : (own : Inventories) (ids : List ℕ) (said : List InventoryRecord) → own.ids.ids.items ≡ ids → IsPermutation said (inventory_records_shown ids own.rows.items.items) → IsPermutation said (inventory_records_shown own.ids.ids.items own.rows.items.items)
-said_here own ids said e h = subst (λ (l : List ℕ). IsPermutation said (inventory_records_shown l own.rows.items.items)) (sym e) h
 
 first_of_pairs : {X : Type 0} (rs : List (TableRow ClassName X)) → map (λ (e : List ℕ × X). e.0) (map class_pair rs) ≡ map (λ (r : TableRow ClassName X). class_bytes r.key) rs
 first_of_pairs [] = refl
@@ -37,3 +33,6 @@ pub aggregates_rise : (said : List AggregateRecord) (ids : List ℕ) (lists : Li
 unfolding aggregates_of
 aggregates_rise said ids lists e =
     all_gathered (IsStrictlySortedBy nat_cmp) (λ (l : List ℕ). l) (aggregates_of said) lists ids (map-id lists ∙ e) (λ id. rising_sorted nat_cmp_total (map (λ (m : AggregateRecord). m.aggregate) (filter (λ (m : AggregateRecord). m.provider == id) said)))
+
+-- what shows that what is gathered of each provider rises
+pub ruleset rising_lists = (inventories_rise, amounts_rise, names_rise, aggregates_rise)

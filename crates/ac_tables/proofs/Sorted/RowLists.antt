@@ -1,5 +1,5 @@
 -- The rows of each provider, cut out of the sorted rows of a table.
-use Rattle.ac_tables.proofs.Common.{◌≡◌, ◌∙◌, ◌+◌, ◌-◌, ◌<◌, ◌≤◌, ℕ, zero, suc, List, [], ◌∷◌, ◌++◌, map, length, get_or, subst, take, drop, inl, inr, ◌⊎◌, rules, refl, sym, ap, ap₂, arith, ◌==◌, All, filter, range_with_len, sum_by, get_or-append_seam, length-append, length-map, get_or-map, length-take-le, get_or-map-range_with_len, IsStart, AreStarts, TableRow, length-range_with_len, map-map}
+use Rattle.ac_tables.proofs.Common.{◌≡◌, ◌∙◌, ◌+◌, ◌-◌, ◌<◌, ◌≤◌, ℕ, zero, suc, List, [], ◌∷◌, map, length, get_or, subst, inl, inr, ◌⊎◌, rules, refl, sym, ap, ap₂, arith, ◌==◌, All, filter, range_with_len, length-map, get_or-map, IsStart, AreStarts, TableRow, map-map}
 use Rattle.std.proofs.lemmas.List.FromFn.{fill_by_all}
 use Rattle.ac_cloud.specs.ListBounds.{AreBounds, lists_in}
 use Rattle.ac_cloud.proofs.ListFacts.{lists_size, list_here}
@@ -44,9 +44,7 @@ module _ {K X : Type 0} (count : ℕ) (rows : List (TableRow K X)) (starts : Lis
           ]
 
   pub split_here : (p : ℕ) → p < count → get_or (lists_in rows starts) p [] ≡ filter (λ (r : TableRow K X). r.place == p) rows
-  split_here p h =
-      let size = are.sized in
-      list_here rows starts p (omega (arith, lists_size rows starts)) ∙ slice_kept rows p _ _ (are.at p (omega arith)) (are.at (p + 1) (omega arith))
+  split_here p h = grind (arith, list_here, lists_size, slice_kept)
 
   pub split_lists : lists_in rows starts ≡ map (λ p. filter (λ (r : TableRow K X). r.place == p) rows) (range_with_len 0 count)
   split_lists =
@@ -69,13 +67,3 @@ pub all_gathered : {X G : Type 0} (P : G → Type 0) (show : X → G) (gather : 
 all_gathered P show gather lists ids e holds k d inside =
     let size : length ids ≡ length lists = sym (length-map ids gather) ∙ ap length (sym e) ∙ length-map lists show in
     subst P (sym (sym (get_or-map show lists k d (show d) inside) ∙ ap (λ l. get_or l k (show d)) e ∙ get_or-map gather ids k 0 (show d) (omega arith))) (holds (get_or ids k 0))
-
-pub nothing_left : {X : Type 0} (l : List X) → length l ≡ 0 → l ≡ []
-nothing_left [] h = refl
-nothing_left (x ∷ xs) h = absurd (omega arith)
-
--- the next of some items is one of them
-pub next_inside : {X : Type 0} (all done left rest : List X) (x : X) (P : X → Type 0) → all ≡ done ++ left → left ≡ x ∷ rest → All P all → P x
-next_inside {X} all done left rest x P e f holds =
-    let whole : all ≡ done ++ x ∷ rest = e ∙ ap (λ l. done ++ l) f in
-    subst P (get_or-append_seam done x rest x) (subst (λ (l : List X). P (get_or l (length done) x)) whole (holds (length done) x (omega (arith, ap length whole, length-append done (x ∷ rest)))))

@@ -12,7 +12,7 @@ with_head [] P some h = absurd (omega (arith, some))
 with_head (x ∷ xs) P some h = h x
 
 -- where an item stands in a list with the same items
-moved : {X : Type 0} (xs ys : List X) → IsPermutation xs ys → (i : ℕ) (d : X) → i < length xs → (k : ℕ) × (k < length ys) × (get_or ys k d ≡ get_or xs i d)
+pub moved : {X : Type 0} (xs ys : List X) → IsPermutation xs ys → (i : ℕ) (d : X) → i < length xs → (k : ℕ) × (k < length ys) × (get_or ys k d ≡ get_or xs i d)
 moved xs ys same i d inside =
     let c = Contains-permutation xs ys (get_or xs i d) same (Contains-get_or xs i d inside) in
     (c.0, c.1, get_or_default ys c.0 d (get_or xs i d) c.1 ∙ c.2)
@@ -58,14 +58,15 @@ module _ {X : Type 0} (R : X → X → Ordering) (number : X → ℕ) (xs ys : L
   repeated d =
       let (k, inside, each) = least.1 in
       let (tied, is_n) = each d in
+      let next : k + 1 < length ys = omega (arith, inside) in
       let back = IsPermutation-sym xs ys s.same in
       let (a, a_in, a_is) = moved ys xs back k d (omega arith) in
-      let (b, b_in, b_is) = moved ys xs back (k + 1) d inside in
+      let (b, b_in, b_is) = moved ys xs back (k + 1) d next in
       let a_number = sym (s.numbered a d a_in) ∙ ap number a_is in
       let b_number = sym (s.numbered b d b_in) ∙ ap number b_is in
       let same_number = λ (x y : X). number x == number y in
       let distinct = IsDistinct-IsPermutation same_number (λ x y. turned (number x) (number y)) xs ys s.same (IsDistinct-from_apart same_number xs
       (λ i j e less h. differ _ _ (λ one. omega (arith, one, s.numbered i e (omega arith), s.numbered j e h, less)))) in
-      let apart : number (get_or ys k d) ≢ number (get_or ys (k + 1) d) = λ e. clash _ (apart_from_distinct same_number ys k (k + 1) d distinct (omega arith) inside) (equal _ _ e) in
-      let up : number (get_or ys k d) ≤ number (get_or ys (k + 1) d) = s.ties k d inside tied in
+      let apart : number (get_or ys k d) ≢ number (get_or ys (k + 1) d) = λ e. clash _ (apart_from_distinct same_number ys k (k + 1) d distinct (omega arith) next) (equal _ _ e) in
+      let up : number (get_or ys k d) ≤ number (get_or ys (k + 1) d) = s.ties k d next tied in
       (a, b, omega (arith, up, apart, a_number, b_number), b_in, omega (arith, is_n, b_number), ap₂ (λ x y. is_eq (R x y)) a_is b_is ∙ tied)

@@ -1,10 +1,10 @@
 -- The rows of the table of providers in the order of their ids.
-use Rattle.std.specs.Prelude.{◌≡◌, ◌<◌, ◌≤◌, ◌^◌, ℕ, Bool, true, false, List, length, get_or, Option, Some, None}
+use Rattle.std.specs.Prelude.{◌<◌, ◌≤◌, ◌^◌, ℕ, Bool, true, false, List, length, get_or, Option}
 use Rattle.std.specs.List.{All}
 use Rattle.std.specs.Ordering.{nat_cmp}
 use Rattle.ac_tables.specs.Tables.ProviderTable.{ProviderRecord}
 use Rattle.ac_tables.specs.Reader.ProviderLaws.{provider_shown}
-use Rattle.ac_tables.specs.Reader.TableRows.{IsTable}
+use Rattle.ac_tables.specs.Reader.TableRows.{IsLeastBelow, IsTable}
 use Rattle.ac_tables.specs.declared.reader.row.TableRow.{TableRow}
 use Rattle.ac_tables.specs.declared.tables.provider_record.Named.{Named}
 
@@ -14,13 +14,6 @@ pub record IsListing (said : List ProviderRecord) (rows : List (TableRow ℕ Nam
   pub fit : All (λ p. p.id < 2 ^ 128) said
   pub few : length rows ≤ 65536
 
--- the least record of a marked row, of the rows below a place
-abbrev pub IsFirstBelow : List (TableRow ℕ Named) → List Bool → ℕ → Option ℕ → Type 0
-IsFirstBelow rows marks high None = (k : ℕ) → k < high → get_or marks k false ≡ false
-IsFirstBelow rows marks high (Some n) =
-    ((k : ℕ) (d : TableRow ℕ Named) → k < high → get_or marks k false ≡ true → n ≤ (get_or rows k d).number)
-    × ((k : ℕ) × (k < high) × (get_or marks k false ≡ true) × ((d : TableRow ℕ Named) → (get_or rows k d).number ≡ n))
-
--- of all rows
+-- the least record of a marked row
 abbrev pub IsFirst : List (TableRow ℕ Named) → List Bool → Option ℕ → Type 0
-IsFirst rows marks first = IsFirstBelow rows marks (length rows) first
+IsFirst rows marks first = IsLeastBelow (λ k (d : TableRow ℕ Named). get_or marks k false) (λ k d. (get_or rows k d).number) (length rows) first

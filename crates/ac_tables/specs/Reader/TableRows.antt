@@ -1,5 +1,5 @@
 -- A table as one flat list of rows.
-use Rattle.std.specs.Prelude.{◌≡◌, ⊤, ℕ, ◌+◌, ◌<◌, ◌≤◌, Bool, true, false, nat_lt, List, [], ◌∷◌, ◌++◌, map, length, min, get_or, slice_index_or, Option, Some, None, Result, Ok, Err}
+use Rattle.std.specs.Prelude.{◌≡◌, ⊤, ℕ, ◌+◌, ◌-◌, ◌<◌, ◌≤◌, Bool, true, false, nat_lt, List, [], ◌∷◌, ◌++◌, map, length, min, get_or, slice_index_or, Option, Some, None, Result, Ok, Err}
 use Rattle.std.specs.List.{All, list_any}
 use Rattle.std.specs.Ordering.{nat_cmp, ordering_then, is_lt, is_eq}
 use Rattle.std.specs.declared.cmp.Ordering.{Ordering}
@@ -27,15 +27,16 @@ abbrev pub AreTiesRising : {X : Type 0} → (X → X → Bool) → (X → ℕ) �
 AreTiesRising {X} same number xs = (k : ℕ) (d : X) → k + 1 < length xs → same (slice_index_or xs k d) (slice_index_or xs (k + 1) d) ≡ true
     → number (slice_index_or xs k d) ≤ number (slice_index_or xs (k + 1) d)
 
--- the least number of an item that ties with the one before it, of the items below a place
-abbrev pub IsLeastBelow : {X : Type 0} → (X → X → Bool) → (X → ℕ) → List X → ℕ → Option ℕ → Type 0
-IsLeastBelow {X} same number xs high None = (k : ℕ) (d : X) → k + 1 < high → same (slice_index_or xs k d) (slice_index_or xs (k + 1) d) ≡ false
-IsLeastBelow {X} same number xs high (Some n) =
-    ((k : ℕ) (d : X) → k + 1 < high → same (slice_index_or xs k d) (slice_index_or xs (k + 1) d) ≡ true → n ≤ number (slice_index_or xs (k + 1) d))
-    × ((k : ℕ) × (k + 1 < high) × ((d : X) → (same (slice_index_or xs k d) (slice_index_or xs (k + 1) d) ≡ true) × (number (slice_index_or xs (k + 1) d) ≡ n)))
+-- the least number of the marked places below a bound; what holds of a place is read of a list, whatever its default
+abbrev pub IsLeastBelow : {X : Type 0} → (ℕ → X → Bool) → (ℕ → X → ℕ) → ℕ → Option ℕ → Type 0
+IsLeastBelow {X} marked number high None = (k : ℕ) (d : X) → k < high → marked k d ≡ false
+IsLeastBelow {X} marked number high (Some n) =
+    ((k : ℕ) (d : X) → k < high → marked k d ≡ true → n ≤ number k d) × ((k : ℕ) × (k < high) × ((d : X) → (marked k d ≡ true) × (number k d ≡ n)))
 
+-- the least number of an item that ties with the one before it
 abbrev pub IsLeast : {X : Type 0} → (X → X → Bool) → (X → ℕ) → List X → Option ℕ → Type 0
-IsLeast same number xs first = IsLeastBelow same number xs (length xs) first
+IsLeast same number xs first =
+    IsLeastBelow (λ k d. same (slice_index_or xs k d) (slice_index_or xs (k + 1) d)) (λ k d. number (slice_index_or xs (k + 1) d)) (length xs - 1) first
 
 -- the sooner of two records
 abbrev pub sooner : Option ℕ → ℕ → Option ℕ

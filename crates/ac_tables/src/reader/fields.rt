@@ -24,18 +24,21 @@ pub(crate) fn read_owner(
     header: &ByteRecord,
     place: usize,
     row: &ByteRecord,
-) -> Result<Id, TableKind>
+) -> Result<Id, RecordFault>
     requires { place ≡ place_in (fields_of header.now) provider_name }
-    ensures { result
-        ≡ unless (first_failing (owner_checks (fields_of header.now) (fields_of row.now)))
-        (id_in (fields_of header.now) provider_name (fields_of row.now)) }
+    ensures ok { IfOk result (λ _.
+        first_failing (owner_checks (fields_of header.now) (fields_of row.now)) ≡ None) }
+    ensures id { IfOk result (λ id. id
+        ≡ id_in (fields_of header.now) provider_name (fields_of row.now)) }
+    ensures fault { IfErr result (λ e.
+        TellsKind (first_failing (owner_checks (fields_of header.now) (fields_of row.now))) e) }
 {
     if row.len() != header.len() {
-        return Err(TableKind::Width);
+        return Err(RecordFault::Kind(TableKind::Width));
     }
     match names.id(text_at(row, place)) {
         Some(id) => Ok(id),
-        None => Err(TableKind::BadUuid),
+        None => Err(RecordFault::Kind(TableKind::BadUuid)),
     }
 }
 

@@ -129,6 +129,7 @@ pub(crate) fn gather<T: Record>(
 }
 
 // The rows of a text in the order of providers and keys, or the first fault of the table.
+#[tactic(auto, unfolding(crate::specs::Tables::Checks::rows_fault), using(crate::proofs::Gathered::Header::fault_of_header, crate::proofs::Gathered::Header::records_left))]
 pub(crate) fn read_table<T: Record>(
     alloc: Global,
     beside: &T::Beside,
@@ -148,9 +149,6 @@ pub(crate) fn read_table<T: Record>(
         (records_of text.now))) e) }
 {
     let mut header = ByteRecord::new(alloc);
-    let mut reader = match open_table(alloc, T::TABLE, T::names(), text, &mut header) {
-        Ok(reader) => reader,
-        Err(fault) => return Err(fault),
-    };
+    let mut reader = open_table(alloc, T::TABLE, T::names(), text, &mut header)?;
     gather::<T>(alloc, beside, &mut reader, &header)
 }

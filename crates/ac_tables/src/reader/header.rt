@@ -81,6 +81,7 @@ fn fault_of_header(table: Table, kind: TableKind) -> TableFault
 }
 
 // A reader of the records after the header, which goes into `header`.
+#[tactic(auto, unfolding(crate::specs::Tables::Columns::header_fault), using(crate::proofs::Gathered::RowsLeft::rest_few))]
 pub(crate) fn open_table<'a>(
     alloc: Global,
     table: Table,

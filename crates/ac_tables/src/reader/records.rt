@@ -8,6 +8,7 @@ use csv::{ByteRecord, Reader, ReaderBuilder};
 use std::alloc::Global;
 
 // A reader of the records of a text.
+#[tactic(auto, using(crate::proofs::Gathered::RowsLeft::rows_start))]
 pub(crate) fn open_rows<'a>(alloc: Global, text: &'a [u8]) -> Reader<&'a [u8]>
     ensures reading { IsReading result }
     ensures left { rows_left result ≡ records_of text.now }
@@ -19,6 +20,7 @@ pub(crate) fn open_rows<'a>(alloc: Global, text: &'a [u8]) -> Reader<&'a [u8]>
 }
 
 // The next record into `row`, and whether there was one. Over bytes in memory nothing but a refused growth fails.
+#[tactic(auto, using(crate::proofs::Gathered::RowsLeft::gives_clause))]
 pub(crate) fn next_row(reader: &mut Reader<&[u8]>, row: &mut ByteRecord) -> Result<bool, NoMemory>
     requires { IsReading reader.old }
     ensures gives { IfOk result (λ found.
@@ -29,6 +31,7 @@ pub(crate) fn next_row(reader: &mut Reader<&[u8]>, row: &mut ByteRecord) -> Resu
 }
 
 // A field, or the empty text where there is none.
+#[tactic(auto, using(crate::proofs::Gathered::FieldTexts::text_some, crate::proofs::Gathered::FieldTexts::text_none))]
 pub(crate) fn text_at(row: &ByteRecord, place: usize) -> &[u8]
     ensures { result.now ≡ get_or (fields_of row.now) place [] }
 {

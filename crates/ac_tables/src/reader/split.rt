@@ -1,8 +1,8 @@
 //! Rows in order, made into a list for each provider.
 ghost use Rattle.std.specs.Prelude.{◌≡◌, ◌≤◌, ◌<◌, ◌+◌, ◌==◌, ℕ, slice_index_or, map, ◌-◌, length, IfOk};
 ghost use Rattle.std.specs.List.{filter, All, range_with_len};
-ghost use Rattle.std.specs.List.Sorted.{IsNonDecreasingBy};
-ghost use Rattle.ac_tables.specs.Reader.TableRows.{AreStarts};
+ghost use Rattle.std.specs.List.Sorted.{IsNonDecreasingBy, IsSortedBy};
+ghost use Rattle.ac_tables.specs.Reader.TableRows.{AreStarts, row_lt};
 ghost use Rattle.ac_cloud.specs.ListsOf.{lists_of};
 
 use crate::reader::row::TableRow;
@@ -47,14 +47,16 @@ pub(crate) fn find_starts<K, X>(
 }
 
 // Rows in the order of their providers, as a list for each.
-pub(crate) fn split<K: Drop, X: Drop>(
+#[tactic(auto, using(ac_cloud::proofs::ListFacts::of_lists))]
+pub(crate) fn split<K: Ord + Drop, X: Drop>(
     alloc: Global,
     count: usize,
     rows: Vec<TableRow<K, X>>,
 ) -> Result<Lists<TableRow<K, X>>, AllocError>
     requires few { count ≤ 65536 }
-    requires sorted { IsNonDecreasingBy (λ (r : TableRow K X). r.place) rows.items }
+    requires sorted { IsSortedBy (row_lt K.cmp) rows.items }
     requires inside { All (λ r. r.place < count) rows.items }
+    ensures length { IfOk result (λ lists. length (lists_of lists) ≡ count) }
     ensures rows { IfOk result (λ lists. lists.items.items ≡ rows.items) }
     ensures starts { IfOk result (λ lists. AreStarts count rows.items lists.starts.items) }
     ensures lists { IfOk result (λ lists. lists_of lists
@@ -74,6 +76,7 @@ fn take_keys<K: Drop>(alloc: Global, rows: Vec<TableRow<K, ()>>) -> Result<Vec<K
 }
 
 // The keys of rows.
+#[tactic(auto, using(ac_cloud::proofs::ListFacts::lists_map))]
 pub(crate) fn keys_of<K: Drop>(
     alloc: Global,
     rows: Lists<TableRow<K, ()>>,

@@ -1,8 +1,11 @@
 //! The table of aggregates: what a record of it says, and the aggregates of all providers.
-ghost use Rattle.std.specs.Prelude.{◌≡◌, false, [], length, get_or, ◌≤◌, None, map, IfOk, IfErr};
-ghost use Rattle.ac_tables.specs.Tables.Checks.{Tells};
+ghost use Rattle.std.specs.Prelude.{◌≡◌, false, [], ◌∷◌, length, get_or, ◌≤◌, None, map, IfOk, IfErr};
+ghost use Rattle.csv.specs.Records.{fields_of};
+ghost use Rattle.ac_tables.specs.Tables.Checks.{first_failing, TellsKind, Tells};
+ghost use Rattle.ac_tables.specs.Tables.Columns.{id_in, bad_id};
+ghost use Rattle.ac_tables.specs.Tables.ProviderTable.{uuid_name};
 ghost use Rattle.ac_tables.specs.Tables.AggregateTable.{aggregate_said, AggregateRecord, aggregate_columns, aggregate_record_checks, aggregates_said, aggregates_fault};
-ghost use Rattle.ac_tables.specs.Reader.ColumnPlaces.{aggregate_places};
+ghost use Rattle.ac_tables.specs.Reader.ColumnPlaces.{place_in, aggregate_places};
 ghost use Rattle.ac_tables.specs.Tables.InventoryTable.{provider_name};
 ghost use Rattle.ac_tables.specs.Reader.RecordLaws.{aggregates_keyed, aggregates_apart};
 ghost use Rattle.ac_tables.specs.Drain.{most_bytes};
@@ -33,6 +36,22 @@ const AGGREGATE_COLUMNS: [&[u8]; 2] = [OWNER, UUID];
 pub(crate) struct AggregateColumns {
     provider: usize,
     aggregate: usize,
+}
+
+// The aggregate of a record.
+fn read_aggregate(header: &ByteRecord, place: usize, row: &ByteRecord) -> Result<Id, RecordFault>
+    requires { place ≡ place_in (fields_of header.now) uuid_name }
+    ensures ok { IfOk result (λ _.
+        first_failing (bad_id (fields_of header.now) uuid_name (fields_of row.now) ∷ []) ≡ None) }
+    ensures id { IfOk result (λ id. id
+        ≡ id_in (fields_of header.now) uuid_name (fields_of row.now)) }
+    ensures fault { IfErr result (λ e. TellsKind
+        (first_failing (bad_id (fields_of header.now) uuid_name (fields_of row.now) ∷ [])) e) }
+{
+    match Id::read(text_at(row, place)) {
+        Some(id) => Ok(id),
+        None => Err(RecordFault::Kind(TableKind::BadUuid)),
+    }
 }
 
 // The table of aggregates.
@@ -90,7 +109,7 @@ impl Record for AggregateTable {
         }
     }
 
-    #[tactic(auto, unfolding(crate::specs::Reader::ColumnPlaces::aggregate_places))]
+    #[tactic(auto, unfolding(crate::specs::Reader::ColumnPlaces::aggregate_places, crate::specs::Tables::AggregateTable::aggregate_record_checks, crate::specs::Tables::AggregateTable::aggregate_field_checks, crate::specs::Tables::AggregateTable::aggregate_said), using(crate::proofs::Records::KnownFacts::reading))]
     fn read(
         seen: &mut Seen,
         ids: &Ids,
@@ -98,13 +117,8 @@ impl Record for AggregateTable {
         columns: AggregateColumns,
         row: &ByteRecord,
     ) -> Result<(u32, Id, ()), RecordFault> {
-        let provider = match read_owner(&mut seen.names, header, columns.provider, row) {
-            Ok(provider) => provider,
-            Err(kind) => return Err(RecordFault::Kind(kind)),
-        };
-        let Some(aggregate) = Id::read(text_at(row, columns.aggregate)) else {
-            return Err(RecordFault::Kind(TableKind::BadUuid));
-        };
+        let provider = read_owner(&mut seen.names, header, columns.provider, row)?;
+        let aggregate = read_aggregate(header, columns.aggregate, row)?;
         match ids.find_near(&mut seen.expected, provider) {
             Some(place) => Ok((place as u32, aggregate, ())),
             None => Err(RecordFault::Kind(TableKind::UnknownProvider)),
@@ -117,6 +131,7 @@ impl Record for AggregateTable {
 }
 
 // The aggregates of each provider, rising, each once, or the first fault of the table.
+#[tactic(auto, unfolding(crate::specs::Tables::AggregateTable::aggregates_fault))]
 pub(crate) fn read_aggregates(
     alloc: Global,
     ids: &Ids,
@@ -131,11 +146,8 @@ pub(crate) fn read_aggregates(
     ensures err { IfErr result (λ e.
         Tells (aggregates_fault ids.now.ids.items (records_of text.now)) e) }
 {
-    let mut rows = match read_table::<AggregateTable>(alloc, ids, text) {
-        Ok(rows) => rows,
-        Err(fault) => return Err(fault),
-    };
+    let mut rows = read_table::<AggregateTable>(alloc, ids, text)?;
     keep_first(&mut rows);
-    let rows = split(alloc, ids.len(), rows)?;
-    Ok(keys_of(alloc, rows)?)
+    let lists = split(alloc, ids.len(), rows)?;
+    Ok(keys_of(alloc, lists)?)
 }

@@ -66,6 +66,7 @@ fn make_entries(
 }
 
 // What each provider has of its classes, and how much of it is used.
+#[tactic(auto, using(crate::proofs::Places::JoinFacts::joined_lists, ac_cloud::proofs::ListFacts::of_lists))]
 pub(crate) fn join(
     alloc: Global,
     inventories: Lists<TableRow<ClassName, Inventory>>,
@@ -76,7 +77,9 @@ pub(crate) fn join(
     requires inside { All (λ r. r.place < length (lists_of usages.now)) inventories.items.items }
     requires rising { All (λ rs. IsStrictlySortedBy text_cmp (map (λ r. class_bytes r.key) rs))
         (lists_of usages.now) }
-    ensures { IfOk result (λ entries. map (map entry_pair) (lists_of entries)
+    ensures length { IfOk result (λ entries.
+        length (lists_of entries) ≡ length (lists_of inventories)) }
+    ensures entries { IfOk result (λ entries. map (map entry_pair) (lists_of entries)
         ≡ with_used_lists (map (map class_pair) (lists_of usages.now))
         (map (map class_pair) (lists_of inventories))) }
 {

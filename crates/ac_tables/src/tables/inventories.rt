@@ -165,7 +165,7 @@ impl Record for InventoryTable {
         }
     }
 
-    #[tactic(auto, unfolding(crate::specs::Reader::ColumnPlaces::inventory_places))]
+    #[tactic(auto, unfolding(crate::specs::Reader::ColumnPlaces::inventory_places, crate::specs::Tables::InventoryTable::inventory_field_checks, crate::specs::Tables::InventoryTable::inventory_said), using(crate::proofs::Records::KnownFacts::reading))]
     fn read(
         seen: &mut Seen,
         ids: &Ids,
@@ -173,18 +173,9 @@ impl Record for InventoryTable {
         columns: InventoryColumns,
         row: &ByteRecord,
     ) -> Result<(u32, ClassName, Inventory), RecordFault> {
-        let provider = match read_owner(&mut seen.names, header, columns.provider, row) {
-            Ok(provider) => provider,
-            Err(kind) => return Err(RecordFault::Kind(kind)),
-        };
-        let class = match read_class(&mut seen.names, header, columns.class, row) {
-            Ok(class) => class,
-            Err(fault) => return Err(fault),
-        };
-        let inventory = match read_inventory(header, columns, row) {
-            Ok(inventory) => inventory,
-            Err(kind) => return Err(RecordFault::Kind(kind)),
-        };
+        let provider = read_owner(&mut seen.names, header, columns.provider, row)?;
+        let class = read_class(&mut seen.names, header, columns.class, row)?;
+        let inventory = read_inventory(header, columns, row)?;
         match ids.find_near(&mut seen.expected, provider) {
             Some(place) => Ok((place as u32, class, inventory)),
             None => Err(RecordFault::Kind(TableKind::UnknownProvider)),
@@ -233,16 +224,18 @@ impl Inventories {
     }
 
     // Whether a provider has no inventory of a class.
+    #[tactic(auto, using(ac_cloud::proofs::ListFacts::of_lists))]
     pub(crate) fn lacks(&self, place: usize, class: &ClassName) -> bool
         requires { place < length self.now.ids.ids.items }
-        ensures { result
-            ≡ not (list_any (λ r. (r.place == place)
-            && bytes_eq (class_bytes r.key) (class_bytes class.now)) self.now.rows.items.items) }
+        ensures { result ≡ not (list_any
+            (is_inventory_of (get_or self.now.ids.ids.items place 0) (class_bytes class.now))
+            (inventory_records_shown self.now.ids.ids.items self.now.rows.items.items)) }
     {
         !has_class(self.rows.of(place), class)
     }
 
     // The inventories of a text, or the first fault of the table, where these are all providers.
+    #[tactic(auto, unfolding(crate::specs::Tables::InventoryTable::inventories_fault))]
     pub(crate) fn read(alloc: Global, ids: Ids, text: &[u8]) -> Result<Inventories, TableFault>
         requires { length text.now ≤ most_bytes }
         ensures ids { IfOk result (λ new. new.ids.ids.items ≡ ids.ids.items) }
@@ -257,10 +250,7 @@ impl Inventories {
         ensures err { IfErr result (λ e.
             Tells (inventories_fault ids.ids.items (records_of text.now)) e) }
     {
-        let rows = match read_table::<InventoryTable>(alloc, &ids, text) {
-            Ok(rows) => rows,
-            Err(fault) => return Err(fault),
-        };
+        let rows = read_table::<InventoryTable>(alloc, &ids, text)?;
         Ok(Inventories::new(alloc, ids, rows)?)
     }
 }

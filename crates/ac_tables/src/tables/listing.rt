@@ -39,6 +39,7 @@ pub(crate) fn find_ids(alloc: Global, rows: &[TableRow<Id, Named>]) -> Result<Id
 fn find_parent(ids: &Ids, expected: &mut Expected, parent: Option<Id>) -> Option<u32>
     ensures { result ≡ option_and_then (rank ids.now.ids.items) parent }
 {
+    // Called for what it ensures: a place fits a u32.
     let _count = ids.len();
     let place = ids.find_near(expected, parent?)?;
     Some(place as u32)

@@ -1,7 +1,6 @@
 //! Reading the table of providers: its ids, and its trees.
 ghost use Rattle.std.specs.Prelude.{◌≡◌, ◌≤◌, ◌<◌, None, ℕ, get_or, length, map, IfOk, IfErr};
 ghost use Rattle.std.specs.Option.{option_and_then};
-ghost use Rattle.std.specs.Ordering.{nat_cmp};
 ghost use Rattle.ac_tables.specs.Tables.Checks.{Tells};
 ghost use Rattle.ac_tables.specs.Drain.{most_bytes};
 ghost use Rattle.ac_tables.specs.Reader.Kin.{AreKin};
@@ -9,7 +8,7 @@ ghost use Rattle.ac_tables.specs.Reader.Listings.{IsListing};
 ghost use Rattle.ac_cloud.specs.Cloud.Places.{parent_in, rank};
 ghost use Rattle.ac_tables.specs.Tables.ProviderTable.{providers_said, provider_records_fault, said_parent, providers_fault};
 ghost use Rattle.ac_tables.specs.Tables.Rows.{records_of};
-ghost use Rattle.ac_base.specs.Sorted.{rising};
+ghost use Rattle.ac_tables.specs.Tables.{ids_of};
 ghost use Rattle.ac_cloud.specs.Trees.{top};
 
 use crate::fault::{TableFault, TableKind};
@@ -25,7 +24,7 @@ use ac_cloud::cloud::roots::find_tops;
 use std::alloc::Global;
 
 // The rows of the providers of a text, before their parents are looked at.
-#[tactic(auto, unfolding(crate::specs::Tables::ProviderTable::provider_records_fault))]
+#[tactic(auto, unfolding(crate::specs::Tables::ProviderTable::provider_records_fault), using(crate::proofs::Records::ProviderIds::said_fit))]
 fn read_rows(alloc: Global, text: &[u8]) -> Result<Vec<TableRow<Id, Named>>, TableFault>
     requires { length text.now ≤ most_bytes }
     ensures rows { IfOk result (λ rows.
@@ -47,8 +46,7 @@ pub(crate) struct Providers {
 // The providers of a text, or the first fault of their table: each check of the trees passes over all before the next.
 pub(crate) fn read_providers(alloc: Global, text: &[u8]) -> Result<Providers, TableFault>
     requires { length text.now ≤ most_bytes }
-    ensures ids { IfOk result (λ v. v.ids.ids.items
-        ≡ rising nat_cmp (map (λ p. p.id) (providers_said (records_of text.now)))) }
+    ensures ids { IfOk result (λ v. v.ids.ids.items ≡ ids_of (records_of text.now)) }
     ensures parents { IfOk result (λ v. v.parents.items
         ≡ map (λ id. option_and_then (rank v.ids.ids.items)
         (said_parent (providers_said (records_of text.now)) id)) v.ids.ids.items) }
@@ -64,6 +62,7 @@ pub(crate) fn read_providers(alloc: Global, text: &[u8]) -> Result<Providers, Ta
         Err(fault) => return Err(fault),
     };
     let ids = find_ids(alloc, &rows)?;
+    // Called for what it ensures: there are no more providers than places fit a u32.
     let _count = ids.len();
     let parents = find_parents(alloc, &ids, &rows)?;
     let unknown = mark_unknown(alloc, &rows, &parents)?;

@@ -115,7 +115,7 @@ impl Record for TraitTable {
         }
     }
 
-    #[tactic(auto, unfolding(crate::specs::Reader::ColumnPlaces::trait_places))]
+    #[tactic(auto, unfolding(crate::specs::Reader::ColumnPlaces::trait_places, crate::specs::Tables::TraitTable::trait_record_checks, crate::specs::Tables::TraitTable::trait_field_checks, crate::specs::Tables::TraitTable::trait_said), using(crate::proofs::Records::KnownFacts::reading))]
     fn read(
         seen: &mut Seen,
         ids: &Ids,
@@ -123,14 +123,8 @@ impl Record for TraitTable {
         columns: TraitColumns,
         row: &ByteRecord,
     ) -> Result<(u32, TraitName, ()), RecordFault> {
-        let provider = match read_owner(&mut seen.names, header, columns.provider, row) {
-            Ok(provider) => provider,
-            Err(kind) => return Err(RecordFault::Kind(kind)),
-        };
-        let name = match read_name(&mut seen.names, header, columns.name, row) {
-            Ok(name) => name,
-            Err(fault) => return Err(fault),
-        };
+        let provider = read_owner(&mut seen.names, header, columns.provider, row)?;
+        let name = read_name(&mut seen.names, header, columns.name, row)?;
         match ids.find_near(&mut seen.expected, provider) {
             Some(place) => Ok((place as u32, name, ())),
             None => Err(RecordFault::Kind(TableKind::UnknownProvider)),
@@ -143,6 +137,7 @@ impl Record for TraitTable {
 }
 
 // The traits of each provider in byte order, each once, or the first fault of the table.
+#[tactic(auto, unfolding(crate::specs::Tables::TraitTable::traits_fault))]
 pub(crate) fn read_traits(
     alloc: Global,
     ids: &Ids,
@@ -156,11 +151,8 @@ pub(crate) fn read_traits(
     ensures err { IfErr result (λ e.
         Tells (traits_fault ids.now.ids.items (records_of text.now)) e) }
 {
-    let mut rows = match read_table::<TraitTable>(alloc, ids, text) {
-        Ok(rows) => rows,
-        Err(fault) => return Err(fault),
-    };
+    let mut rows = read_table::<TraitTable>(alloc, ids, text)?;
     keep_first(&mut rows);
-    let rows = split(alloc, ids.len(), rows)?;
-    Ok(keys_of(alloc, rows)?)
+    let lists = split(alloc, ids.len(), rows)?;
+    Ok(keys_of(alloc, lists)?)
 }

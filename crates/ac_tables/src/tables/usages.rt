@@ -112,7 +112,7 @@ impl Record for UsageTable {
         }
     }
 
-    #[tactic(auto, unfolding(crate::specs::Reader::ColumnPlaces::usage_places))]
+    #[tactic(auto, unfolding(crate::specs::Reader::ColumnPlaces::usage_places, crate::specs::Tables::UsageTable::usage_field_checks, crate::specs::Tables::UsageTable::usage_said), using(crate::proofs::Records::KnownFacts::reading, ac_cloud::proofs::Rising::one_of_place))]
     fn read(
         seen: &mut Seen,
         inventories: &Inventories,
@@ -120,19 +120,9 @@ impl Record for UsageTable {
         columns: UsageColumns,
         row: &ByteRecord,
     ) -> Result<(u32, ClassName, u32), RecordFault> {
-        let provider = match read_owner(&mut seen.names, header, columns.provider, row) {
-            Ok(provider) => provider,
-            Err(kind) => return Err(RecordFault::Kind(kind)),
-        };
-        let class = match read_class(&mut seen.names, header, columns.class, row) {
-            Ok(class) => class,
-            Err(fault) => return Err(fault),
-        };
-        let amount = match read_amount(header, columns.amount, row) {
-            Ok(amount) => amount,
-            Err(kind) => return Err(RecordFault::Kind(kind)),
-        };
-        let _count = inventories.ids.len();
+        let provider = read_owner(&mut seen.names, header, columns.provider, row)?;
+        let class = read_class(&mut seen.names, header, columns.class, row)?;
+        let amount = read_amount(header, columns.amount, row)?;
         let Some(place) = inventories.ids.find_near(&mut seen.expected, provider) else {
             return Err(RecordFault::Kind(TableKind::UnknownProvider));
         };
@@ -158,6 +148,8 @@ pub(crate) fn read_usages(
         ≡ map (amounts_of (usages_said (records_of text.now))) inventories.now.ids.ids.items) }
     ensures count { IfOk result (λ used. length used.items.items
         ≡ length (usages_said (records_of text.now))) }
+    ensures length { IfOk result (λ used.
+        length (lists_of used) ≡ length inventories.now.ids.ids.items) }
     ensures few { IfOk result (λ new. length new.items.items ≤ most_bytes) }
     ensures ok { IfOk result (λ _. (records : List InventoryRecord)
         → IsPermutation records (inventory_records_shown inventories.now.ids.ids.items

@@ -3,17 +3,11 @@ use Rattle.ac_cloud.proofs.Places.CloudFacts.{inside, parts}
 use Rattle.ac_cloud.proofs.Places.AnchorFacts.{anchors_listed, anchors_unlisted}
 use Rattle.ac_cloud.proofs.cloud.Cloud.anchors.Goals as goal
 
-pub index-requires : goal.index-requires
-index-requires c = omega (arith, inside c.args.self.now c.args.ix c.requires, c.args.self.now.anchors.places.ok.0, (parts c.args.self.now).with_anchors)
-
 pub index-requires-in-Some : goal.index-requires-in-Some
 index-requires-in-Some c =
     let cloud = c.args.self.now in
     let list = anchors_listed cloud c.args.ix c.in-Some.place (inside cloud c.args.ix c.requires) (sym (get_or_read cloud.anchors.places.items _ _ (omega (arith, inside cloud c.args.ix c.requires, (parts cloud).with_anchors)) c.index.ensures None) ∙ c.in-Some.is) in
     omega (arith, list.0, cloud.anchors.lists.ok.0)
-
-pub slice_bounds-result-end : goal.slice_bounds-result-end
-slice_bounds-result-end c = omega (arith, inside c.args.self.now c.args.ix c.requires, (parts c.args.self.now).forest.with_roots, ap length c.deref.ensures.value)
 
 pub returns-in-Some : goal.returns-in-Some
 returns-in-Some c =

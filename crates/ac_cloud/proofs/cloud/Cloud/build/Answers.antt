@@ -1,4 +1,4 @@
-use Rattle.ac_cloud.proofs.Common.{◌≡◌, ◌<◌, ◌∙◌, ℕ, Bool, false, List, [], get_or, length, sym, ap, subst, arith, AreParents, ArePlaces, length-map, get_or-map, shares_by, lists_of}
+use Rattle.ac_cloud.proofs.Common.{◌<◌, ◌∙◌, ℕ, Bool, false, List, [], get_or, length, sym, ap, subst, arith, AreParents, ArePlaces, length-map, get_or-map, shares_by, lists_of}
 use Rattle.ac_cloud.specs.Cloud.CloudParts.{BelongTogether}
 use Rattle.ac_cloud.proofs.Places.WorldFacts.{numbered_root, are_parents}
 use Rattle.ac_cloud.proofs.cloud.Cloud.build.Goals as goal

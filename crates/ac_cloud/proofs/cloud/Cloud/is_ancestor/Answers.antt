@@ -3,23 +3,16 @@ use Rattle.ac_cloud.proofs.Places.CloudFacts.{size, inside, parts}
 use Rattle.ac_cloud.proofs.Trees.AncestorFacts.{chain_places}
 use Rattle.ac_cloud.proofs.cloud.Cloud.is_ancestor.Goals as goal
 
-pub enclose-requires-clause-entered : goal.enclose-requires-clause-entered
-enclose-requires-clause-entered c =
+pub enclose-requires : goal.enclose-requires
+enclose-requires c =
     let cloud = c.args.self.now in
     let visited = rw c.in-Some.is at (parts cloud).visited in
-    omega (arith, inside cloud c.args.a c.requires.a, (parts cloud).forest.with_parents, visited.0)
-
-pub enclose-requires-clause-left : goal.enclose-requires-clause-left
-enclose-requires-clause-left c =
-    let cloud = c.args.self.now in
-    let visited = rw c.in-Some.is at (parts cloud).visited in
-    omega (arith, inside cloud c.args.a c.requires.a, (parts cloud).forest.with_parents, visited.1)
-
-pub enclose-requires-clause-b : goal.enclose-requires-clause-b
-enclose-requires-clause-b c =
-    let cloud = c.args.self.now in
-    let visited = rw c.in-Some.is at (parts cloud).visited in
-    omega (arith, inside cloud c.args.b c.requires.b, (parts cloud).forest.with_parents, visited.0)
+    let sized = (parts cloud).forest.with_parents in
+    record {
+      entered = omega (arith, inside cloud c.args.a c.requires.a, sized, visited.0);
+      left = omega (arith, inside cloud c.args.a c.requires.a, sized, visited.1);
+      b = omega (arith, inside cloud c.args.b c.requires.b, sized, visited.0);
+    }
 
 pub returns-in-Some : goal.returns-in-Some
 returns-in-Some c =

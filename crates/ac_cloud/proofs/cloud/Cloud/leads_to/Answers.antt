@@ -1,21 +1,7 @@
 use Rattle.ac_cloud.proofs.Common.{◌≡◌, ◌∙◌, ◌<◌, ◌+◌, ◌-◌, ℕ, suc, false, length, sym, ap, arith, rules, None, ◌==◌, get_or_read, is_in_chain, id_at, parent_of, providers_of}
 use Rattle.ac_cloud.proofs.Places.CloudFacts.{size, inside, parent_is, parts}
-use Rattle.ac_cloud.proofs.Trees.AncestorFacts.{chain_ends, chain_goes, chain_last, same_test, some_name, no_name, some_inside}
+use Rattle.ac_cloud.proofs.Trees.AncestorFacts.{chain_goes, same_test, some_name, some_inside}
 use Rattle.ac_cloud.proofs.cloud.Cloud.leads_to.Goals as goal
-
-pub index-requires : goal.index-requires
-index-requires c = omega (arith, inside c.args.self.now c.loop-step.at c.loop-step.invariant.0, c.args.self.now.parents.ok.0, (parts c.args.self.now).forest.with_parents)
-
-pub returns-in-None : goal.returns-in-None
-returns-in-None c =
-    let all = providers_of c.args.self.now in
-    let h = inside c.args.self.now c.loop-step.at c.loop-step.invariant.0 in
-    let k : c.loop-step.at < length c.args.self.now.parents.items = omega (arith, h, (parts c.args.self.now).forest.with_parents) in
-    let p = parent_is c.args.self.now c.loop-step.at c.index.result.now h (get_or_read c.args.self.now.parents.items _ _ k c.index.ensures None) in
-    let apart : (c.loop-step.at == c.args.a) ≡ false = search (arith, rules, c.if-at-a.false) in
-    sym (chain_ends (parent_of all) (length all - c.loop-step._step) (id_at all c.args.a) (id_at all c.loop-step.at)
-    (same_test c.args.self.now c.loop-step.at c.args.a h (inside c.args.self.now c.args.a c.requires.a) ∙ apart)
-    (no_name (id_at all) c.index.result.now _ c.in-None.is p.0)) ∙ c.loop-step.invariant.1
 
 pub loop-step-preserved : goal.loop-step-preserved
 loop-step-preserved c =
@@ -31,11 +17,3 @@ loop-step-preserved c =
           (some_name (id_at all) c.index.result.now c.in-Some.parent _ c.in-Some.is p.0))
           ∙ ap (λ (n : ℕ). is_in_chain (parent_of all) n (id_at all c.args.a) (id_at all c.loop-step.at)) (sym left) ∙ c.loop-step.invariant.1,
     )
-
-pub returns : goal.returns
-returns c =
-    let all = providers_of c.args.self.now in
-    let none : length all - c.loop-step._step ≡ 0 = omega (arith, c.loop-step-test.false, c.len-step-end.ensures.value, size c.args.self.now) in
-    sym (same_test c.args.self.now c.loop-step.at c.args.a (inside c.args.self.now c.loop-step.at c.loop-step.invariant.0) (inside c.args.self.now c.args.a c.requires.a))
-    ∙ sym (chain_last (parent_of all) (id_at all c.args.a) (id_at all c.loop-step.at))
-    ∙ ap (λ (n : ℕ). is_in_chain (parent_of all) n (id_at all c.args.a) (id_at all c.loop-step.at)) (sym none) ∙ c.loop-step.invariant.1

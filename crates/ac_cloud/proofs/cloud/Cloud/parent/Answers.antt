@@ -2,9 +2,6 @@ use Rattle.ac_cloud.proofs.Common.{◌<◌, length, None, arith, get_or_read}
 use Rattle.ac_cloud.proofs.Places.CloudFacts.{inside, parent_is, parts}
 use Rattle.ac_cloud.proofs.cloud.Cloud.parent.Goals as goal
 
-pub index-requires : goal.index-requires
-index-requires c = omega (arith, inside c.args.self.now c.args.ix c.requires, c.args.self.now.parents.ok.0, (parts c.args.self.now).forest.with_parents)
-
 pub returns-clause-id : goal.returns-clause-id
 returns-clause-id c =
     let h = inside c.args.self.now c.args.ix c.requires in

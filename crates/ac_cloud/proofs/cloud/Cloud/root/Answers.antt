@@ -2,9 +2,6 @@ use Rattle.ac_cloud.proofs.Common.{◌<◌, ◌∙◌, ℕ, length, sym, ap, ari
 use Rattle.ac_cloud.proofs.Places.CloudFacts.{inside, outside, root_inside, root_here, parts}
 use Rattle.ac_cloud.proofs.cloud.Cloud.root.Goals as goal
 
-pub index-requires : goal.index-requires
-index-requires c = omega (arith, inside c.args.self.now c.args.ix c.requires, c.args.self.now.roots.ok.0, (parts c.args.self.now).forest.with_roots)
-
 pub returns-clause-id : goal.returns-clause-id
 returns-clause-id c =
     let h = inside c.args.self.now c.args.ix c.requires in

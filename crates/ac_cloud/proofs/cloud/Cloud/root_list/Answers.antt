@@ -5,9 +5,6 @@ use Rattle.ac_cloud.proofs.Places.CloudFacts.{inside, parts}
 use Rattle.ac_cloud.proofs.Places.AnchorFacts.{anchors_listed, anchors_unlisted}
 use Rattle.ac_cloud.proofs.cloud.Cloud.root_list.Goals as goal
 
-pub index-requires : goal.index-requires
-index-requires c = omega (arith, inside c.args.self.now c.args.ix c.requires, c.args.self.now.anchors.places.ok.0, (parts c.args.self.now).with_anchors)
-
 listed : (cloud : Cloud) (ix : ℕ) (place : Option ℕ) → ix < length cloud.ids.ids.items → get_or cloud.anchors.places.items ix None ≡ place
     → MatchOption place (length (anchors_of (providers_of cloud) ix) ≡ 1)
     (λ k. (k < length (root_lists_of cloud)) × (get_or (root_lists_of cloud) k [] ≡ anchors_of (providers_of cloud) ix))

@@ -3,9 +3,6 @@ use Rattle.ac_cloud.proofs.Places.CloudFacts.{inside, parts}
 use Rattle.ac_cloud.proofs.Places.AnchorFacts.{shares_here}
 use Rattle.ac_cloud.proofs.cloud.Cloud.shares.Goals as goal
 
-pub index-requires : goal.index-requires
-index-requires c = omega (arith, inside c.args.self.now c.args.ix c.requires, c.args.self.now.sharing.ok.0, (parts c.args.self.now).with_sharing)
-
 pub returns : goal.returns
 returns c =
     let cloud = c.args.self.now in

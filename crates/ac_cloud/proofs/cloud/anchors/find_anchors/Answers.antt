@@ -1,5 +1,5 @@
 use Rattle.ac_cloud.proofs.Common.{◌≡◌, ◌<◌, ◌∙◌, ℕ, List, length, sym, ap, arith, is_some, Vec, lists_of, list_of}
-use Rattle.ac_cloud.proofs.Places.WideAggregates.{asked_joined, asked_alone}
+use Rattle.ac_cloud.proofs.Places.WideAggregates.{asked_joined}
 use Rattle.ac_cloud.proofs.cloud.anchors.find_anchors.Goals as goal
 
 pub returns-clause-joined : goal.returns-clause-joined
@@ -15,9 +15,3 @@ returns-clause-joined c = λ (j k : ℕ) below is.
       list.1 ∙ asked_joined roots aggregates c.in_ok-groups.groups.map c.in_ok-groups.ensures c.requires.inside c.args.sharing.now j inside (list_of c.deref.result.now j)
           (same ∙ c.in_ok-asked.ensures.each j (omega (arith, inside, c.requires.sharing))) (sym some),
     )
-
-pub returns-clause-alone : goal.returns-clause-alone
-returns-clause-alone c = λ (j : ℕ) inside is marked.
-    let same : list_of c.deref.result.now j ≡ list_of c.in_ok-asked.asked.items j = ap (λ (l : List (Vec ℕ)). list_of l j) c.deref.ensures.value in
-    asked_alone c.args.roots.now (lists_of c.args.aggregates.now) c.in_ok-groups.groups.map c.in_ok-groups.ensures c.requires.inside c.args.sharing.now j inside (list_of c.deref.result.now j)
-    (same ∙ c.in_ok-asked.ensures.each j (omega (arith, inside, c.requires.sharing))) (sym (c.in_ok-anchors.ensures.marked j inside) ∙ is) marked

@@ -1,24 +1,6 @@
-use Rattle.ac_cloud.proofs.Common.{◌≡◌, ◌<◌, ◌∙◌, ◌%◌, ℕ, length, get_or, ap, sym, subst, arith, climb, up, along, ArePlaces, parent_in}
-use Rattle.ac_cloud.proofs.Trees.StepsUp.{steps_inside, climb_list, twice_inside, after_inside, ahead_halved}
+use Rattle.ac_cloud.proofs.Common.{◌≡◌, ◌<◌, ◌∙◌, ◌%◌, ℕ, length, get_or, arith, climb, along}
+use Rattle.ac_cloud.proofs.Trees.StepsUp.{twice_inside, after_inside, ahead_halved}
 use Rattle.ac_cloud.proofs.cloud.roots.find_tops.Goals as goal
-
-pub loop-left-init : goal.loop-left-init
-loop-left-init c =
-    let parents = c.args.parents.now in
-    let step = c.in_ok-step.step.items in
-    let places = c.in_ok-places.places.items in
-    let count : length step ≡ length parents = c.in_ok-step.ensures.length in
-    let count2 : length places ≡ length parents = c.in_ok-places.ensures.length in
-    let same : (i : ℕ) → i < length parents → get_or step i 0 ≡ up (parent_in parents) i = c.in_ok-step.ensures.steps in
-    let here : (i : ℕ) → i < length parents → get_or places i 0 ≡ i = c.in_ok-places.ensures.places in
-    let inside2 : ArePlaces (length parents) places = λ (i : ℕ) (h : i < length places). let h2 : i < length parents = omega (arith, h, count2) in subst (λ (m : ℕ). m < length parents) (sym (here i h2)) h2 in
-    record {
-      step_count = count;
-      count = count2;
-      step_inside = steps_inside parents step c.requires.known count same;
-      inside = inside2;
-      ahead = λ (i : ℕ) (h : i < length parents). ap (climb (along step) (length parents)) (here i h) ∙ climb_list parents step c.requires.known same (length parents) i h;
-    }
 
 pub loop-left-preserved : goal.loop-left-preserved
 loop-left-preserved c =

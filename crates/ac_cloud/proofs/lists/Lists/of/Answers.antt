@@ -1,15 +1,6 @@
-use Rattle.ac_cloud.proofs.Common.{◌∙◌, ◌+◌, ◌-◌, ℕ, arith, ap, ap₂, sym, length, take, drop, get_or_read}
-use Rattle.ac_cloud.proofs.ListFacts.{lists_size, list_here}
+use Rattle.ac_cloud.proofs.Common.{◌+◌, arith, ap, length, get_or_read}
+use Rattle.ac_cloud.proofs.ListFacts.{lists_size}
 use Rattle.ac_cloud.proofs.lists.Lists.of.Goals as goal
-
-pub index-requires : goal.index-requires
-index-requires g c = omega (arith, lists_size c.args.self.now.items.items c.args.self.now.starts.items)
-
-pub overflow_add-place : goal.overflow_add-place
-overflow_add-place g c = omega (arith, lists_size c.args.self.now.items.items c.args.self.now.starts.items, c.args.self.now.starts.ok.0)
-
-pub index-requires-2 : goal.index-requires-2
-index-requires-2 g c = omega (arith, lists_size c.args.self.now.items.items c.args.self.now.starts.items)
 
 pub cut-requires-clause-order : goal.cut-requires-clause-order
 cut-requires-clause-order g c =
@@ -25,13 +16,3 @@ cut-requires-clause-inside g c =
     let high = get_or_read starts (c.args.place + 1) c.index-2.result.now (omega (arith, lists_size c.args.self.now.items.items starts)) c.index-2.ensures 0 in
     let up = c.args.self.now.bounds.inside (c.args.place + 1) (omega (arith, lists_size c.args.self.now.items.items starts)) in
     omega (arith, high, up, ap length c.deref.ensures.value)
-
-pub returns : goal.returns
-returns g c =
-    let starts = c.args.self.now.starts.items in
-    let low = get_or_read starts c.args.place c.index.result.now (omega (arith, lists_size c.args.self.now.items.items starts)) c.index.ensures 0 in
-    let high = get_or_read starts (c.args.place + 1) c.index-2.result.now (omega (arith, lists_size c.args.self.now.items.items starts)) c.index-2.ensures 0 in
-    c.cut.ensures
-    ∙ ap (λ l. take (c.index-2.result.now - c.index.result.now) (drop c.index.result.now l)) c.deref.ensures.value
-    ∙ ap₂ (λ (a b : ℕ). take (b - a) (drop a c.args.self.now.items.items)) low high
-    ∙ sym (list_here c.args.self.now.items.items starts c.args.place c.requires)

@@ -1,9 +1,6 @@
 use Rattle.ac_tables.proofs.Common.{fields_of}
-use Rattle.ac_tables.proofs.Gathered.RowsLeft.{gives_clause, goes_on_clause}
+use Rattle.ac_tables.proofs.Gathered.RowsLeft.{goes_on_clause}
 use Rattle.ac_tables.proofs.reader.records.next_row.Goals as goal
-
-pub returns-clause-gives : goal.returns-clause-gives
-returns-clause-gives c = rw c.ok_or.ensures.value (rw c.ok.ensures.value (gives_clause c.args.reader.now c.read_byte_record.new.self (fields_of c.read_byte_record.new.row) c.read_byte_record.result _ c.requires c.read_byte_record.ensures.reads))
 
 pub returns-clause-goes_on : goal.returns-clause-goes_on
 returns-clause-goes_on c = rw c.ok_or.ensures.value (rw c.ok.ensures.value (goes_on_clause c.args.reader.now c.read_byte_record.new.self (fields_of c.read_byte_record.new.row) c.read_byte_record.result _ c.requires c.read_byte_record.ensures.reads c.read_byte_record.ensures.ready))

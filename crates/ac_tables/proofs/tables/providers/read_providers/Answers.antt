@@ -2,6 +2,7 @@ use Rattle.ac_tables.proofs.Common.{◌≡◌, ◌∙◌, ◌<◌, ℕ, Option, 
 use Rattle.ac_tables.specs.declared.fault.Table.TheVariants as table
 use Rattle.ac_tables.specs.declared.fault.TableKind.TheVariants as kind
 use Rattle.ac_tables.specs.declared.fault.TableFault.TheVariants as fault
+use Rattle.ac_tables.specs.Tables.{ids_of}
 use Rattle.ac_tables.proofs.Records.ProviderRecords.{ids_are}
 use Rattle.ac_tables.proofs.Records.ProviderFaults.{tells_table, tells_trees, none_whole, tells_unknown, tells_cycle, tells_root, none_trees}
 use Rattle.ac_tables.proofs.Records.TreeChecks.{tells_this, same_parents, unknown_told, parents_placed, as_ids, roots_inside, endless_told, wrong_told, kin_here}
@@ -96,6 +97,7 @@ returns-in-Err-check_marks-3-clause-fault c =
     (tells_root _ c.in-Err-check_marks-3.fault (known at.In_default) (endless_is at.In_ok-endless (known at.In_default) None (rw (c.deref-10.ensures.value, c.deref-11.ensures.value) at c.in_default-check_marks.ensures.ok)) (tells_this _ c.in-Err-check_marks-3.fault _ found.1 told))
 
 pub returns-clause-ids : goal.returns-clause-ids
+unfolding ids_of
 returns-clause-ids c = own (goal.at.returns-clause-ids c).In_ok-unknown ∙ ids_are (providers_said (records_of c.args.text.now)) c.in-Ok.rows.items c.in-Ok.ensures.rows.table
 
 pub returns-clause-parents : goal.returns-clause-parents

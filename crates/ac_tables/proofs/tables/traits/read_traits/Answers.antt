@@ -1,7 +1,6 @@
-use Rattle.ac_tables.proofs.Common.{◌∙◌, ◌<◌, ℕ, false, List, map, length, get_or, refl, sym, ap, subst, Ordering, on_total, All, dedup, IsNonDecreasingBy, nat_list_cmp_total, All-dedup, exact_bytes, trait_bytes, text_cmp, TraitName, row_ties, TableRow, TraitRecord, traits_said, records_of, same_place, map-map}
-use Rattle.ac_tables.specs.Tables.TraitTable.{traits_fault}
+use Rattle.ac_tables.proofs.Common.{◌∙◌, ℕ, false, List, map, length, get_or, refl, sym, ap, Ordering, on_total, dedup, nat_list_cmp_total, exact_bytes, trait_bytes, text_cmp, TraitName, row_ties, TraitRecord, traits_said, records_of, same_place, map-map}
 use Rattle.ac_tables.specs.Tables.{names_of}
-use Rattle.ac_tables.proofs.Sorted.ProviderSets.{shown_set, once_sorted}
+use Rattle.ac_tables.proofs.Sorted.ProviderSets.{shown_set}
 use Rattle.ac_tables.proofs.Sorted.RowLists.{of_each}
 use Rattle.ac_tables.proofs.tables.traits.read_traits.Goals as goal
 
@@ -11,34 +10,16 @@ trait_cmp a b = text_cmp (trait_bytes a) (trait_bytes b)
 abbrev trait_shown : List ℕ → ℕ → TraitName → Unit {0} → TraitRecord
 trait_shown ids place key value = record { provider = get_or ids place 0; name = trait_bytes key }
 
-pub split-requires-clause-sorted : goal.split-requires-clause-sorted
-split-requires-clause-sorted c =
-    subst (IsNonDecreasingBy (λ (r : TableRow TraitName (Unit {0})). r.place)) (sym c.keep_first.ensures.value) (once_sorted trait_cmp (on_total trait_bytes nat_list_cmp_total) c.in-Ok.rows.items c.in-Ok.ensures.rows.sorted)
-
-pub split-requires-clause-inside : goal.split-requires-clause-inside
-split-requires-clause-inside c =
-    let ids = c.args.ids.now.ids.items in
-    subst (λ (n : ℕ). All (λ (r : TableRow TraitName (Unit {0})). r.place < n) c.keep_first.new.rows.items) (sym c.len.ensures.value)
-    (subst (All (λ (r : TableRow TraitName (Unit {0})). r.place < length ids)) (sym c.keep_first.ensures.value) (All-dedup (row_ties trait_cmp) (λ r. r.place < length ids) c.in-Ok.rows.items c.in-Ok.ensures.rows.inside))
-
 pub returns-clause-value : goal.returns-clause-value
 unfolding names_of
 returns-clause-value c =
     let ids = c.args.ids.now.ids.items in
     let said = traits_said (records_of c.args.text.now) in
     ap (map (map trait_bytes)) c.in_ok-keys_of.ensures.lists ∙ map-map (map trait_bytes) (map (λ r. r.key)) _
-    ∙ of_each (dedup (row_ties trait_cmp) c.in-Ok.rows.items) (λ l. map trait_bytes (map (λ r. r.key) l)) (names_of said) ids _
-    (rw (sym c.keep_first.ensures.value, sym c.len.ensures.value) c.in_ok-rows.ensures.lists) (λ p h.
+    ∙ of_each (dedup (row_ties trait_cmp) c.in_ok-rows.rows.items) (λ l. map trait_bytes (map (λ r. r.key) l)) (names_of said) ids _
+    (rw (sym c.keep_first.ensures.value, sym c.len.ensures.value) c.in_ok-lists.ensures.lists) (λ p h.
     map-map trait_bytes (λ r. r.key) _
     ∙ shown_set trait_cmp (on_total trait_bytes nat_list_cmp_total) text_cmp nat_list_cmp_total exact_bytes trait_bytes (λ a b. refl)
-    (trait_shown ids) (length ids) false said c.in-Ok.rows.items c.in-Ok.ensures.rows (λ (v : TraitRecord). v.provider) (λ (v : TraitRecord). v.name) p (get_or ids p 0)
+    (trait_shown ids) (length ids) false said c.in_ok-rows.rows.items c.in_ok-rows.ensures.rows (λ (v : TraitRecord). v.provider) (λ (v : TraitRecord). v.name) p (get_or ids p 0)
     (λ r inside. same_place ids c.args.ids.now.rising r.place p inside h)
     (λ r. refl))
-
-pub returns-in-Err-clause-err : goal.returns-in-Err-clause-err
-unfolding traits_fault
-returns-in-Err-clause-err c = c.in-Err.ensures.fault
-
-pub returns-clause-ok : goal.returns-clause-ok
-unfolding traits_fault
-returns-clause-ok c = c.in-Ok.ensures.ok

@@ -1,6 +1,5 @@
-use Rattle.ac_tables.proofs.Common.{◌∙◌, ℕ, List, Option, map, length, get_or, refl, sym, ap, subst, on_total, nat_list_cmp_total, length-map, length_permutation, class_bytes, text_cmp, ClassName, Tells, row_shown, UsageRecord, usages_said, records_of, class_pair, inventory_records_shown, same_place, TableFault}
+use Rattle.ac_tables.proofs.Common.{◌∙◌, ℕ, List, map, length, get_or, refl, sym, ap, length-map, length_permutation, class_bytes, text_cmp, ClassName, row_shown, UsageRecord, usages_said, records_of, class_pair, inventory_records_shown, same_place}
 use Rattle.ac_tables.specs.Tables.{amounts_of}
-use Rattle.ac_tables.proofs.Gathered.RowPlaces.{places_rise}
 use Rattle.ac_tables.proofs.Sorted.ProviderMaps.{shown_map}
 use Rattle.ac_tables.proofs.Sorted.RowLists.{of_each}
 use Rattle.ac_tables.proofs.Records.UsageChecks.{same_fault}
@@ -19,10 +18,6 @@ returns-clause-value c =
     (λ r inside. same_place ids c.args.inventories.now.ids.rising r.place p inside h)
     (λ r. refl))
 
-pub split-requires-clause-sorted : goal.split-requires-clause-sorted
-split-requires-clause-sorted c =
-    places_rise (λ a b. text_cmp (class_bytes a) (class_bytes b)) (on_total class_bytes nat_list_cmp_total) c.in-Ok.rows.items c.in-Ok.ensures.rows.sorted
-
 pub returns-clause-count : goal.returns-clause-count
 returns-clause-count c =
     let table = c.in-Ok.ensures.rows in
@@ -31,9 +26,7 @@ returns-clause-count c =
 
 pub returns-in-Err-clause-err : goal.returns-in-Err-clause-err
 returns-in-Err-clause-err c = λ records same.
-    subst (λ (o : Option TableFault). Tells o c.in-Err.fault)
-    (same_fault c.args.inventories.now.ids.ids.items records (inventory_records_shown c.args.inventories.now.ids.ids.items c.args.inventories.now.rows.items.items) (records_of c.args.text.now) same)
-    c.in-Err.ensures.fault
+    rw (← same_fault c.args.inventories.now.ids.ids.items records (inventory_records_shown c.args.inventories.now.ids.ids.items c.args.inventories.now.rows.items.items) (records_of c.args.text.now) same) c.in-Err.ensures.fault
 
 pub returns-clause-ok : goal.returns-clause-ok
 returns-clause-ok c = λ records same.

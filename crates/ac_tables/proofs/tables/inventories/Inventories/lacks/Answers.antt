@@ -1,19 +1,7 @@
-use Rattle.ac_tables.proofs.Common.{◌∙◌, List, [], map, ap, sym, subst, arith, ◌==◌, not, list_any, IsStrictlySortedBy, bytes_eq, class_bytes, text_cmp, InventoryNumbers, ClassName, TableRow}
-use Rattle.ac_tables.proofs.Records.UsageKeys.{any_filter}
-use Rattle.ac_cloud.proofs.ListFacts.{lists_size}
+use Rattle.ac_tables.proofs.Common.{◌∙◌, ap, ◌==◌, not, list_any, bytes_eq, class_bytes, InventoryNumbers, ClassName, TableRow}
+use Rattle.ac_tables.proofs.Records.UsageKeys.{any_filter, any_shown}
 use Rattle.ac_tables.proofs.Sorted.RowLists.{split_here}
 use Rattle.ac_tables.proofs.tables.inventories.Inventories.lacks.Goals as goal
-
-pub of-requires : goal.of-requires
-of-requires c =
-    let own = c.args.self.now in
-    omega (arith, lists_size own.rows.items.items own.rows.starts.items, own.started.sized)
-
-pub has_class-requires : goal.has_class-requires
-has_class-requires c =
-    let own = c.args.self.now in
-    subst (λ (rs : List (TableRow ClassName InventoryNumbers)). IsStrictlySortedBy text_cmp (map (λ (r : TableRow ClassName InventoryNumbers). class_bytes r.key) rs)) (sym c.of.ensures)
-    (own.rise c.args.place [] (omega (arith, lists_size own.rows.items.items own.rows.starts.items, own.started.sized, c.requires)))
 
 pub returns : goal.returns
 returns c =
@@ -21,4 +9,5 @@ returns c =
     let here = λ (r : TableRow ClassName InventoryNumbers). r.place == c.args.place in
     let like = λ (r : TableRow ClassName InventoryNumbers). bytes_eq (class_bytes r.key) (class_bytes c.args.class.now) in
     ap not (c.has_class.ensures ∙ ap (list_any like) (c.of.ensures ∙ split_here _ own.rows.items.items own.rows.starts.items own.started c.args.place c.requires)
-    ∙ any_filter here like own.rows.items.items)
+    ∙ any_filter here like own.rows.items.items
+    ∙ any_shown own.ids.ids.items own.ids.rising c.args.place c.requires (class_bytes c.args.class.now) own.rows.items.items own.inside)

@@ -1,12 +1,7 @@
-use Rattle.ac_tables.proofs.Common.{◌∙◌, ◌<◌, ◌==◌, map, length, ap, sym, subst, All, filter, range_with_len, nat_list_cmp_total, on_total, class_bytes, InventoryNumbers, text_cmp, ClassName, TableRow}
+use Rattle.ac_tables.proofs.Common.{◌∙◌, ◌<◌, ◌==◌, map, length, ap, sym, subst, All, filter, range_with_len, InventoryNumbers, ClassName, TableRow}
 use Rattle.ac_tables.proofs.Records.InventoryLists.{inventory_lists_here}
 use Rattle.ac_tables.proofs.Sorted.RiseFacts.{inventories_rise}
-use Rattle.ac_tables.proofs.Gathered.RowPlaces.{places_rise}
 use Rattle.ac_tables.proofs.tables.inventories.Inventories.new.Goals as goal
-
-pub split-requires-clause-sorted : goal.split-requires-clause-sorted
-split-requires-clause-sorted c =
-    places_rise (λ a b. text_cmp (class_bytes a) (class_bytes b)) (on_total class_bytes nat_list_cmp_total) c.args.rows.items c.requires.1.sorted
 
 pub invariant_of-result-clause-inside : goal.invariant_of-result-clause-inside
 invariant_of-result-clause-inside c =

@@ -1,25 +1,16 @@
 use Rattle.ac_tables.proofs.Common.{List, sym, subst, InventoryRecord, inventories_said, records_of, inventory_shown, inventory_records_shown, IsPermutation, IsPermutation-map, InventoryNumbers, ClassName, row_shown, TableRow}
-use Rattle.ac_tables.specs.Tables.InventoryTable.{inventories_fault}
 use Rattle.ac_tables.proofs.Records.InventoryLists.{inventory_lists_here}
 use Rattle.ac_tables.proofs.tables.inventories.Inventories.read.Goals as goal
 
 pub returns-clause-value : goal.returns-clause-value
 returns-clause-value c =
-    inventory_lists_here c.args.ids.ids.items c.args.ids.rising (inventories_said (records_of c.args.text.now)) c.in-Ok.rows.items c.in-Ok.ensures.rows _ c.in_ok-new.ensures.lists
-
-pub returns-in-Err-clause-err : goal.returns-in-Err-clause-err
-unfolding inventories_fault
-returns-in-Err-clause-err c = c.in-Err.ensures.fault
-
-pub returns-clause-ok : goal.returns-clause-ok
-unfolding inventories_fault
-returns-clause-ok c = c.in-Ok.ensures.ok
+    inventory_lists_here c.args.ids.ids.items c.args.ids.rising (inventories_said (records_of c.args.text.now)) c.in_ok-rows.rows.items c.in_ok-rows.ensures.rows _ c.in_ok-new.ensures.lists
 
 pub returns-clause-said : goal.returns-clause-said
 returns-clause-said c =
     let ids = c.args.ids.ids.items in
     let said = inventories_said (records_of c.args.text.now) in
-    let table = c.in-Ok.ensures.rows in
+    let table = c.in_ok-rows.ensures.rows in
     subst (λ (l : List InventoryRecord). IsPermutation l (inventory_records_shown ids c.in_ok-new.field-0.rows.items.items)) table.shows
     (subst (λ (l : List (TableRow ClassName InventoryNumbers)). IsPermutation (inventory_records_shown ids table.read) (inventory_records_shown ids l)) (sym c.in_ok-new.ensures.rows)
-    (IsPermutation-map (row_shown (inventory_shown ids)) table.read c.in-Ok.rows.items table.same))
+    (IsPermutation-map (row_shown (inventory_shown ids)) table.read c.in_ok-rows.rows.items table.same))
