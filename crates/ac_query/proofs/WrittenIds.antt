@@ -55,7 +55,7 @@ small [] k d l = absurd (omega arith)
 small (m ∷ ms) zero d l = omega arith
 small (m ∷ ms) (suc k) d l = small ms k d (omega arith)
 
-id_reads : (n : ℕ) → n < 2 ^ 128 → id_value (id_text n) ≡ Some n
+pub id_reads : (n : ℕ) → n < 2 ^ 128 → id_value (id_text n) ≡ Some n
 id_reads n fits =
     ap (option_map (from_be_bytes w128)) (sym (parses_hyphenated lower (to_be_bytes w128 n) (inl refl) refl (small (n / 1329227995784915872903807060280344576 ∷ n / 5192296858534827628530496329220096 ∷ n / 20282409603651670423947251286016 ∷ n / 79228162514264337593543950336 ∷ n / 309485009821345068724781056 ∷ n / 1208925819614629174706176 ∷ n / 4722366482869645213696 ∷ n / 18446744073709551616 ∷ n / 72057594037927936 ∷ n / 281474976710656 ∷ n / 1099511627776 ∷ n / 4294967296 ∷ n / 16777216 ∷ n / 65536 ∷ n / 256 ∷ n ∷ []))))
     ∙ ap (λ m. Some m) (from_be_bytes-to_be_bytes_16 n fits)

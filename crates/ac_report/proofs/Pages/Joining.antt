@@ -8,10 +8,13 @@ use Rattle.serde_json.specs.Written.{compact_text, items_text, members_text, com
 use Rattle.serde_json.proofs.OnLiterals.{serde_json_on_literals}
 use Rattle.ac_cloud.specs.Laws.{AreProviders}
 use Rattle.ac_cloud.specs.World.{Provider, id_at, root_of}
+use Rattle.ac_cloud.specs.declared.cloud.Cloud.{Cloud}
+use Rattle.ac_cloud.specs.Cloud.CloudWorld.{providers_of}
+use Rattle.ac_cloud.proofs.InOrder.{cloud_in_order}
 use Rattle.ac_query.specs.Asked.{Asked}
 use Rattle.ac_report.specs.Trees.{gathered, provider_text, request, summary}
 use Rattle.ac_report.specs.Texts.{request_text, summary_text, summarized, body_tree, body, with_commas, summary_piece, head_text, middle_text, tail_text, pieces, joined, meets_root}
-use Rattle.ac_report.specs.Marks.{requests_text, summaries_text}
+use Rattle.ac_report.specs.Marks.{requests, summaries}
 use Rattle.ac_report.proofs.Trees.Gathering.{Named}
 use Rattle.ac_report.specs.Parts.{listed}
 use Rattle.ac_report.proofs.Trees.Listed.{kept_listed, range_below, range_rises}
@@ -19,7 +22,7 @@ use Rattle.ac_report.proofs.Trees.Listed.{kept_listed, range_below, range_rises}
 -- ---- the parts of the pieces
 
 abbrev pub page_text : List Provider → Asked → List (List ℕ) → List ℕ
-page_text all asked lists = head_text ++ (requests_text all asked false lists ++ (middle_text ++ (summaries_text all false (summarized all lists) ++ tail_text)))
+page_text all asked lists = head_text ++ (joined (requests all asked false lists) ++ (middle_text ++ (joined (summaries all false (summarized all lists)) ++ tail_text)))
 
 -- the items of an array
 items_joined : {X : Type 0} (g : X → Data) (later : Bool) (xs : List X) → items_text later (items_of (map g xs)) ≡ joined (with_commas later (map (λ x. compact_text (g x)) xs)) ++ 93 ∷ []
@@ -83,8 +86,8 @@ body_is all are asked lists =
     let places = summarized all lists in
     let ordered =
     kept_listed all are (summary all) (λ ix. list_any (meets_root all (root_of all (id_at all ix))) lists) _ (range_rises 0 (length all)) (range_below (length all)) in
-    let requests = requests_text all asked false lists in
-    let summaries = summaries_text all false places in
+    let requests = joined (requests all asked false lists) in
+    let summaries = joined (summaries all false places) in
     let items : items_text false (items_of (map (request all asked) lists)) ≡ requests ++ 93 ∷ [] = items_joined (request all asked) false lists in
     let members : members_text false (gathered (map named places)) ≡ summaries ++ 125 ∷ [] =
     ap (members_text false) ordered ∙ members_joined named false places in
@@ -95,3 +98,7 @@ body_is all are asked lists =
     ∙ ap (λ l. l ++ (requests ++ ((93 ∷ 44 ∷ (summaries_name ++ 58 ∷ 123 ∷ [])) ++ (summaries ++ 125 ∷ 125 ∷ 10 ∷ [])))) head_is
     ∙ ap (λ l. head_text ++ (requests ++ (l ++ (summaries ++ 125 ∷ 125 ∷ 10 ∷ [])))) middle_is
     ∙ ap (λ l. head_text ++ (requests ++ (middle_text ++ (summaries ++ l)))) tail_is
+
+-- the body that is written of a cloud
+pub is_body : (cloud : Cloud) (asked : Asked) (lists : List (List ℕ)) → joined (pieces (providers_of cloud) asked lists) ≡ body (providers_of cloud) asked lists
+is_body cloud asked lists = pieces_joined (providers_of cloud) asked lists ∙ sym (body_is (providers_of cloud) (cloud_in_order cloud) asked lists)
