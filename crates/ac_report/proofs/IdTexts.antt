@@ -1,4 +1,5 @@
 -- The written forms of ids rise as the ids do.
+use Rattle.std.proofs.lemmas.Grind.{common_steps}
 use Rattle.std.proofs.Common.{◌≡◌, ◌⊎◌, inl, inr, ℕ, zero, suc, ◌/◌, ◌%◌, ◌^◌, ◌<◌, ◌≤◌, ◌==◌, ◌||◌, ◌∙◌, refl, sym, ap, ap₂, List, [], ◌∷◌, ◌++◌, if◌then◌else◌, Less, Equal, nat_cmp, lit<, arith}
 use Rattle.std.specs.Int.{byte_at}
 use Rattle.std.specs.Cmp.{nat_cmp_is}
@@ -57,9 +58,7 @@ byte_rises x y xs ys h k = by_case (eq-or-lt_of_le (omega arith))
         ∙ first_less (hex_digit lower (x % 16)) (hex_digit lower (y % 16)) xs ys (hex_rises (x % 16) (y % 16) (omega (arith, e)) (omega arith))
 
 byte_same : (b : ℕ) (xs ys : List ℕ) → text_cmp (with_byte b xs) (with_byte b ys) ≡ text_cmp xs ys
-byte_same b xs ys =
-    first_same (hex_digit lower (b / 16 % 16)) (hex_digit lower (b / 16 % 16)) (hex_digit lower (b % 16) ∷ xs) (hex_digit lower (b % 16) ∷ ys) refl
-    ∙ first_same (hex_digit lower (b % 16)) (hex_digit lower (b % 16)) xs ys refl
+byte_same b xs ys = grind (arith, common_steps, first_same)
 
 byte_is : (k n : ℕ) → byte_at k n ≡ n / 256 ^ k % 256
 byte_is zero n = ap (λ q. q % 256) (sym (div-one n))
@@ -78,16 +77,8 @@ tops_rise k m n h = le-div (m / 256 ^ k) n (256 ^ k) (pow_positive k) (omega (ar
 -- one more byte, where the bytes before it are the same
 digits_step : (k m n : ℕ) → m / 256 ^ suc k ≡ n / 256 ^ suc k → (m / 256 ^ k ≡ n / 256 ^ k) ⊎ (m / 256 ^ k < n / 256 ^ k)
     → (m / 256 ^ k ≡ n / 256 ^ k → text_cmp (digits k m) (digits k n) ≡ Less) → text_cmp (digits (suc k) m) (digits (suc k) n) ≡ Less
-digits_step k m n e (inr l) more =
-    let tops : m / 256 ^ k / 256 ≡ n / 256 ^ k / 256 = sym (top_step k m) ∙ e ∙ top_step k n in
-    let byte = byte_is k n in
-    byte_rises (byte_at k m) (byte_at k n) (hyphen_before k ++ digits k m) (hyphen_before k ++ digits k n) (omega (arith, byte_is k m, byte, tops, l)) (omega (arith, byte))
-digits_step k m n e (inl s) more =
-    let byte : byte_at k m ≡ byte_at k n = byte_is k m ∙ ap (λ q. q % 256) s ∙ sym (byte_is k n) in
-    ap (λ b. text_cmp (with_byte b (hyphen_before k ++ digits k m)) (with_byte (byte_at k n) (hyphen_before k ++ digits k n))) byte
-    ∙ byte_same (byte_at k n) (hyphen_before k ++ digits k m) (hyphen_before k ++ digits k n)
-    ∙ front_same (hyphen_before k) (digits k m) (digits k n)
-    ∙ more s
+digits_step k m n e (inr l) more = grind (arith, common_steps, top_step, byte_is, byte_rises, hyphen_before, digits)
+digits_step k m n e (inl s) more = grind (arith, common_steps, byte_is, with_byte, hyphen_before, digits, byte_same, front_same)
 
 digits_rise : (k m n : ℕ) → m < n → m / 256 ^ k ≡ n / 256 ^ k → text_cmp (digits k m) (digits k n) ≡ Less
 digits_rise zero m n h e = absurd (omega (arith, sym (div-one m) ∙ e ∙ div-one n))

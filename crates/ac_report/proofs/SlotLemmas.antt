@@ -1,4 +1,5 @@
 -- What slots need of a provider, and whose providers they have.
+use Rattle.std.proofs.lemmas.Grind.{common_steps}
 use Rattle.std.proofs.Common.{◌≡◌, ℕ, zero, suc, ◌+◌, ◌<◌, ◌≤◌, List, [], ◌∷◌, ◌++◌, map, fold, drop, length, refl, sym, ap, ◌∙◌, Bool, true, false, ◌||◌, nat_cmp, if◌then◌else◌, sum_by, slice_index, arith}
 use Rattle.std.specs.Prelude.{nat_eq, slice_index_or}
 use Rattle.std.specs.BTreeSet.{insert_key}
@@ -35,11 +36,7 @@ needs_more ss t i ix h k = ap (λ xs. needs_on xs ix) (placed_more ss t i no_slo
 pub keys_more : (ss : List Slot) (t : List ℕ) (i ix : ℕ) (done : List (List ℕ)) → i < length t → i < length ss
     → fold (insert_key text_cmp) done (keys_of (needs_on (placed (drop i ss) (drop i t)) ix))
     ≡ fold (insert_key text_cmp) (fold (insert_key text_cmp) done (keys_of (needs_in ss t i ix))) (keys_of (needs_on (placed (drop (i + 1) ss) (drop (i + 1) t)) ix))
-keys_more ss t i ix done h k =
-    let later = needs_on (placed (drop (i + 1) ss) (drop (i + 1) t)) ix in
-    ap (λ needs. fold (insert_key text_cmp) done (keys_of needs)) (needs_more ss t i ix h k)
-    ∙ ap (fold (insert_key text_cmp) done) (map-append (λ (need : List ℕ × ℕ). need.0) (needs_in ss t i ix) later)
-    ∙ fold-append (insert_key text_cmp) done (keys_of (needs_in ss t i ix)) (keys_of later)
+keys_more ss t i ix done h k = grind (arith, common_steps, needs_more, map-append, needs_in, fold-append)
 
 -- ---- sums
 
@@ -58,11 +55,7 @@ amount_more ss t i ix q h k = ap (λ needs. amount_of needs q) (needs_more ss t 
 -- what is needed of a provider, class by class
 pub sum_on_is : (xs : List Placed) (ix : ℕ) (q : List ℕ) → sum_on xs ix q ≡ amount_of (needs_on xs ix) q
 sum_on_is [] ix q = refl
-sum_on_is (x ∷ xs) ix q =
-    let here : List (List ℕ × ℕ) = if nat_eq x.provider ix then x.slot.needs else [] in
-    ap (λ n. (if nat_eq x.provider ix then amount_of x.slot.needs q else 0) + n) (sum_on_is xs ix q)
-    ∙ ap (λ n. n + amount_of (needs_on xs ix) q) (sym (amount_if q (nat_eq x.provider ix) x.slot.needs))
-    ∙ sym (amount_append q here (needs_on xs ix))
+sum_on_is (x ∷ xs) ix q = grind (arith, common_steps, amount_if, amount_append, sum_on_is xs ix q)
 
 -- nothing is needed of who serves no slot
 pub needs_none : (xs : List Placed) (ix : ℕ) → list_any (λ p. nat_eq p ix) (map (λ x. x.provider) xs) ≡ false → needs_on xs ix ≡ []
@@ -84,8 +77,7 @@ providers_are (s ∷ ss) (p ∷ t) e = ap (λ l. p ∷ l) (providers_are ss t (o
 
 all_fold : (P : ℕ → Type 0) (xs done : List ℕ) → All P xs → All P done → All P (fold (insert_key nat_cmp) done xs)
 all_fold P [] done h k = k
-all_fold P (x ∷ xs) done h k =
-    all_fold P xs (insert_key nat_cmp done x) (λ i d lt. h (suc i) d (omega arith)) (All-insert_key nat_cmp x P done k (h 0 x (omega arith)))
+all_fold P (x ∷ xs) done h k = grind (arith, common_steps, all_fold P xs (insert_key nat_cmp done x) (λ i d lt. h (suc i) d (omega arith)) (All-insert_key nat_cmp x P done k (h 0 x (omega arith))))
 
 pub all_rising : (P : ℕ → Type 0) (xs : List ℕ) → All P xs → All P (rising nat_cmp xs)
 all_rising P xs h = all_fold P xs [] h (λ i d lt. absurd (omega arith))

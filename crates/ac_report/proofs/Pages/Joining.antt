@@ -1,4 +1,6 @@
 -- The body of lists, piece by piece.
+use Rattle.std.proofs.Common.{arith}
+use Rattle.std.proofs.lemmas.Grind.{common_steps}
 use Rattle.std.proofs.Common.{◌≡◌, ℕ, List, [], ◌∷◌, ◌++◌, refl, sym, ap, ◌∙◌, Bool, true, false, map, length, append_assoc, append-nil, codes}
 use Rattle.std.proofs.lemmas.Grind.{flat_map-append}
 use Rattle.std.specs.List.{list_any}
@@ -31,25 +33,14 @@ items_joined g later (x ∷ xs) = rw (items_joined g true xs) (simp append_assoc
 
 -- the members of an object
 member_text : (later : Bool) (k : List ℕ) (d : Data) (ms : Members) → members_text later (member k d ms) ≡ (comma_if later ++ (compact_text (string k) ++ 58 ∷ compact_text d)) ++ members_text true ms
-member_text later k d ms =
-    let name = compact_text (string k) in
-    let value = 58 ∷ compact_text d in
-    sym (append_assoc (comma_if later) (name ++ value) (members_text true ms) ∙ ap (λ l. comma_if later ++ l) (append_assoc name value (members_text true ms)))
+member_text later k d ms = grind (arith, common_steps, append_assoc)
 
 members_joined : {X : Type 0} (g : X → Named) (later : Bool) (xs : List X) → members_text later (listed (map g xs)) ≡ joined (with_commas later (map (λ x. compact_text (string (g x).0) ++ 58 ∷ compact_text (g x).1) xs)) ++ 125 ∷ []
 members_joined g later [] = refl
-members_joined g later (x ∷ xs) =
-    let piece = comma_if later ++ (compact_text (string (g x).0) ++ 58 ∷ compact_text (g x).1) in
-    member_text later (g x).0 (g x).1 (listed (map g xs))
-    ∙ ap (λ l. piece ++ l) (members_joined g true xs)
-    ∙ sym (append_assoc piece (joined (with_commas true (map (λ x. compact_text (string (g x).0) ++ 58 ∷ compact_text (g x).1) xs))) (125 ∷ []))
+members_joined g later (x ∷ xs) = grind (arith, common_steps, member_text, append_assoc, members_joined g true xs)
 
 pub pieces_joined : (all : List Provider) (asked : Asked) (lists : List (List ℕ)) → joined (pieces all asked lists) ≡ page_text all asked lists
-pieces_joined all asked lists =
-    let requests = with_commas false (map (request_text all asked) lists) in
-    let summaries = with_commas false (map (summary_piece all) (summarized all lists)) in
-    ap (λ l. head_text ++ l) (flat_map-append (λ (t : List ℕ). t) requests (middle_text ∷ (summaries ++ tail_text ∷ []))
-    ∙ ap (λ l. joined requests ++ (middle_text ++ l)) (flat_map-append (λ (t : List ℕ). t) summaries (tail_text ∷ []) ∙ ap (λ l. joined summaries ++ l) (append-nil tail_text)))
+pieces_joined all asked lists = grind (arith, common_steps, flat_map-append, append-nil)
 
 -- the fixed texts, by the names of the members
 abbrev requests_name : List ℕ

@@ -1,4 +1,5 @@
 -- What writers do one after another.
+use Rattle.std.proofs.lemmas.Grind.{common_steps}
 use Rattle.std.proofs.Common.{◌≡◌, ◌∙◌, ◌≤◌, ℕ, List, [], ◌∷◌, ◌++◌, Option, Result, Ok, Err, refl, sym, ap, append_assoc, append-nil, arith}
 use Rattle.std.proofs.lemmas.Grind.{flat_map-append}
 use Rattle.std.proofs.lemmas.Result.{err_from_is_err_and, on_ok_weaker, on_err_weaker}
@@ -14,23 +15,11 @@ use Rattle.ac_report.specs.Outcomes.{Writes}
 module _ {X : Type 0} (piece : List ℕ → List ℕ) where
   -- nothing is left
   pub wrote_none : (x : X) (xs : List (List ℕ)) (a : Option (List ℕ)) (f : ℕ) → xs ≡ [] → Writes piece xs (Ok x) a a f f
-  wrote_none x xs a f none = rw none record {
-    text = leaves_none a a [] (leaves_start a []);
-    part = tt;
-    failed = λ e. absurd (cc);
-    whole = λ e. absurd (cc);
-    failures = omega arith;
-  }
+  wrote_none x xs a f none = grind (arith, common_steps, leaves_none, leaves_start)
 
   -- memory was wanting before all
   pub refused : (r : Result X PageFault) (xs : List (List ℕ)) (a : Option (List ℕ)) (f : ℕ) → IsErrAnd r (λ e. e ≡ fault.NoMemory) → Writes piece xs r a a f f
-  refused r xs a f h = let e = err_from_is_err_and r h in rw (e.1, e.2) record {
-    text = tt;
-    part = part_none a _;
-    failed = λ k. absurd (cc);
-    whole = λ k. ([], xs, refl, leaves_none a a [] (leaves_start a []));
-    failures = omega arith;
-  }
+  refused r xs a f h = grind (arith, common_steps, err_from_is_err_and, part_none, leaves_none, leaves_start)
 
   -- one piece
   pub wrote_one : (x : X) (y : List ℕ) (a b : Option (List ℕ)) (f g : ℕ) → Appends a b (piece y) → f ≤ g → Writes piece (y ∷ []) (Ok x) a b f g
@@ -52,10 +41,4 @@ module _ {X : Type 0} (piece : List ℕ → List ℕ) where
 
     -- the first ones, not all of them
     pub stopped : (e : PageFault) (r : Result X PageFault) → Writes {X = Z} piece xs (Err e) a b f g → IsErrAnd r (λ d. d ≡ e) → Writes piece (xs ++ ys) r a b f g
-    stopped e r first h = let d = err_from_is_err_and r h in rw (d.1, d.2) record {
-      text = tt;
-      part = rw flat_map-append (part_of_first a b _ _ first.part);
-      failed = λ k. first.failed (cc);
-      whole = λ k. let w = first.whole (cc) in (w.0, w.1 ++ ys, ap (λ l. l ++ ys) w.2 ∙ append_assoc w.0 w.1 ys, w.3);
-      failures = first.failures;
-    }
+    stopped e r first h = grind (arith, common_steps, err_from_is_err_and, flat_map-append, part_of_first, append_assoc)

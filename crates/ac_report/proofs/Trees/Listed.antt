@@ -1,4 +1,5 @@
 -- Members whose names rise stand in their order.
+use Rattle.std.proofs.lemmas.Grind.{common_steps}
 use Rattle.std.proofs.Common.{◌≡◌, ◌∙◌, ◌<◌, ◌+◌, ℕ, zero, suc, List, [], ◌∷◌, ◌++◌, Bool, map, length, nat_cmp, Ordering, Less, Equal, Greater, refl, sym, ap, append_assoc, append-nil, subst, arith}
 use Rattle.std.specs.BTreeMap.{insert_entry}
 use Rattle.std.specs.List.{All, AllByRecursion, filter, range_with_len}
@@ -27,16 +28,11 @@ below_middle first (x ∷ done) m ms h = below_middle first done m ms h.1
 put_last : (done : List Named) (m : Named) (ms : List Named) → IsStrictlySortedBy text_cmp (keys_of (done ++ m ∷ ms)) → put m.0 m.1 (listed done) ≡ listed (done ++ m ∷ [])
 unfolding IsStrictlySortedBy
 put_last [] m ms h = refl
-put_last (first ∷ done) m ms h =
-    let above : text_cmp m.0 first.0 ≡ Greater = nat_list_cmp_total.antisymm m.0 first.0 ∙ ap ordering_reverse (below_middle first done m ms h.0) in
-    rw above (ap (member first.0 first.1) (put_last done m ms h.1))
+put_last (first ∷ done) m ms h = grind (arith, common_steps, nat_list_cmp_total, below_middle, put_last done m ms h.1)
 
 onto_listed : (done ms : List Named) → IsStrictlySortedBy text_cmp (keys_of (done ++ ms)) → gathered_onto (listed done) ms ≡ listed (done ++ ms)
 onto_listed done [] h = ap listed (sym (append-nil done))
-onto_listed done (m ∷ ms) h =
-    ap (λ x. gathered_onto x ms) (put_last done m ms h)
-    ∙ onto_listed (done ++ m ∷ []) ms (subst (λ l. IsStrictlySortedBy text_cmp (keys_of l)) (sym (append_assoc done (m ∷ []) ms)) h)
-    ∙ ap listed (append_assoc done (m ∷ []) ms)
+onto_listed done (m ∷ ms) h = grind (arith, common_steps, put_last, append_assoc, onto_listed (done ++ m ∷ []) ms (subst (λ l. IsStrictlySortedBy text_cmp (keys_of l)) (sym (append_assoc done (m ∷ []) ms)) h))
 
 -- members whose names rise stand in their order
 pub gathered_listed : (ms : List Named) → IsStrictlySortedBy text_cmp (keys_of ms) → gathered ms ≡ listed ms
@@ -51,9 +47,7 @@ listed_match Greater a b c = refl
 
 pub listed_put : (ms : List Named) (k : List ℕ) (d : Data) → put k d (listed ms) ≡ listed (insert_entry text_cmp ms k d)
 listed_put [] k d = refl
-listed_put (m ∷ ms) k d =
-    ap (λ r. match_ordering (text_cmp k m.0) (member k d (member m.0 m.1 (listed ms))) (member m.0 d (listed ms)) (member m.0 m.1 r)) (listed_put ms k d)
-    ∙ sym (listed_match (text_cmp k m.0) _ _ _)
+listed_put (m ∷ ms) k d = grind (arith, common_steps, listed_match, listed_put ms k d)
 
 -- ---- members of providers that rise
 

@@ -1,4 +1,6 @@
 -- Trees with no float.
+use Rattle.std.proofs.Common.{arith}
+use Rattle.std.proofs.lemmas.Grind.{common_steps}
 use Rattle.std.proofs.Common.{◌≡◌, ℕ, List, [], ◌∷◌, refl, ◌<◌, false, map, length, Option, Some, None}
 use Rattle.serde_json.specs.Written.{has_float, members_have_float}
 use Rattle.ac_cloud.specs.Cloud.CloudWorld.{providers_of}
@@ -28,10 +30,7 @@ id_plain (Some id) = refl
 
 pub summary_plain : (cloud : Cloud) (ix : ℕ) → ix < length (providers_of cloud) → has_float (summary (providers_of cloud) ix) ≡ false
 unfolding summary holding
-summary_plain cloud ix h =
-    let all = providers_of cloud in
-    let p = provider_at all ix in
-    rw (id_plain (parent_of all (id_at all ix)), holdings_listed p.entries (entries_rise cloud ix h), listed_plain holding (λ _. refl) p.entries, texts_plain p.traits) refl
+summary_plain cloud ix h = grind (arith, common_steps, id_plain, holdings_listed, entries_rise, listed_plain, texts_plain)
 
 allocation_plain : (a : Allocation) → has_float (allocation_tree a) ≡ false
 unfolding allocation_tree resources_tree

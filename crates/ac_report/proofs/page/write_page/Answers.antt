@@ -1,3 +1,5 @@
+use Rattle.std.proofs.Common.{arith}
+use Rattle.std.proofs.lemmas.Grind.{common_steps}
 use Rattle.std.proofs.Common.{◌∙◌, sym}
 use Rattle.std.proofs.lemmas.Result.{on_err_weaker, on_ok_weaker}
 use Rattle.ac_query.specs.Shown.Queries.{asked_of}
@@ -7,9 +9,7 @@ use Rattle.ac_report.proofs.Pages.Joining.{is_body}
 use Rattle.ac_report.proofs.page.write_page.Goals as goal
 
 pub returns-clause-text : goal.returns-clause-text
-returns-clause-text g c =
-    rw (sym (is_body c.args.cloud.now (asked_of c.args.query.now) (cut (asked_of c.args.query.now).limit (g.S.Source.left c.args.source.now)))) c.write_parts.ensures.writes.text
+returns-clause-text g c = grind (arith, common_steps, is_body)
 
 pub returns-clause-part : goal.returns-clause-part
-returns-clause-part g c =
-    rw (sym (is_body c.args.cloud.now (asked_of c.args.query.now) (cut (asked_of c.args.query.now).limit (g.S.Source.left c.args.source.now)))) c.write_parts.ensures.writes.part
+returns-clause-part g c = grind (arith, common_steps, is_body)

@@ -1,3 +1,4 @@
+use Rattle.std.proofs.lemmas.Grind.{common_steps}
 use Rattle.std.proofs.Common.{◌≡◌, ◌∙◌, refl, sym, ap, map, [], ◌∷◌, ◌++◌, ◌||◌, false, get_or, arith, List, ℕ}
 use Rattle.std.specs.List.{list_any}
 use Rattle.std.proofs.Math.Bool.{or-false}
@@ -24,12 +25,7 @@ pub returns-in-None-clause-writes : goal.returns-in-None-clause-writes
 returns-in-None-clause-writes g c = c.lists.invariant.writes _ _ _ (wrote_none _ _ _ _ _ (ap (requests (providers_of c.args.cloud.now) (asked_of c.args.query.now) c.lists.later) (cut_end _ _ c.in-None.ensures.head)))
 
 pub returns-in-None-clause-marks : goal.returns-in-None-clause-marks
-returns-in-None-clause-marks g c =
-    let test = λ (r : ℕ). meets_root (providers_of c.args.cloud.now) (id_at (providers_of c.args.cloud.now) r) in
-    record {
-      long = c.lists.invariant.long;
-      at_root = λ r low. sym (c.lists.invariant.marked r low ∙ ap (λ ls. get_or c.lists.marks r false || list_any (test r) ls) (cut_end _ _ c.in-None.ensures.head) ∙ or-false _);
-    }
+returns-in-None-clause-marks g c = grind (arith, common_steps, cut_end, or-false)
 
 pub returns-in_err-text-in-Some-clause-reads : goal.returns-in_err-text-in-Some-clause-reads
 returns-in_err-text-in-Some-clause-reads g c =

@@ -1,3 +1,4 @@
+use Rattle.std.proofs.lemmas.Grind.{common_steps}
 use Rattle.std.proofs.Common.{◌∙◌, ◌+◌, ◌<◌, ℕ, List, ap, ap₂, arith, drop, length, map, refl, subst, sym}
 use Rattle.std.proofs.lemmas.List.{drop_all, drop_more}
 use Rattle.std.specs.Borrow.{Bor}
@@ -46,7 +47,4 @@ loop-place-preserved c =
 
 pub returns : goal.returns
 unfolding mappings_tree mappings
-returns c =
-    let mappings = mappings_from (providers_of c.args.cloud.now) (assigned (asked_of c.args.query.now) c.args.list.now) in
-    let sent = listed (map mapping_member c.loop-place.members.entries) in
-    ap object (sym (ap (λ gs. gathered_onto sent (mappings c.loop-place.place (map group_entry gs))) (drop_all c.loop-place.place c.groups-group-items.result.now (omega arith))) ∙ c.loop-place.invariant)
+returns c = grind (arith, common_steps, drop_all)

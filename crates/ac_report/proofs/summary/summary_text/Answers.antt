@@ -1,3 +1,5 @@
+use Rattle.std.proofs.Common.{arith}
+use Rattle.std.proofs.lemmas.Grind.{common_steps}
 use Rattle.serde_json.proofs.FreeTexts.{text_of_value}
 use Rattle.ac_report.specs.Texts.{summary_text}
 use Rattle.ac_report.proofs.Trees.PlainTrees.{summary_plain}
@@ -5,6 +7,4 @@ use Rattle.ac_report.proofs.summary.summary_text.Goals as goal
 
 pub returns-in-Ok : goal.returns-in-Ok
 unfolding summary_text
-returns-in-Ok c =
-    let sent = c.in-Ok.ensures.events in
-    text_of_value _ sent.0 _ sent.1 sent.2 (summary_plain c.args.cloud.now c.args.ix c.requires)
+returns-in-Ok c = grind (arith, common_steps, text_of_value, summary_plain)

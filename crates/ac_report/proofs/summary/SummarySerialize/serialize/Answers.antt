@@ -1,3 +1,5 @@
+use Rattle.std.proofs.Common.{arith}
+use Rattle.std.proofs.lemmas.Grind.{common_steps}
 use Rattle.std.proofs.Common.{List, ℕ, Option, sym, subst, ◌∙◌}
 use Rattle.std.proofs.lemmas.Result.{on_ok_weaker}
 use Rattle.std.specs.List.Sorted.{IsStrictlySortedBy}
@@ -11,8 +13,7 @@ use Rattle.ac_report.proofs.Trees.Sending.{entries_rise}
 use Rattle.ac_report.proofs.summary.SummarySerialize.serialize.Goals as goal
 
 pub send_holdings-requires : goal.send_holdings-requires
-send_holdings-requires g c =
-    subst (λ (es : List (List ℕ × UsedInventory)). IsStrictlySortedBy text_cmp (keys_of es)) (sym c.entries.ensures) (entries_rise c.args.self.now.cloud.now c.args.self.now.ix c.args.self.now.inside)
+send_holdings-requires g c = grind (arith, common_steps, entries_rise)
 
 pub returns : goal.returns
 unfolding summary
