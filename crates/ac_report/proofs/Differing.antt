@@ -1,4 +1,5 @@
 -- Lists that the hosts of their groups and their sums tell apart.
+use Rattle.std.proofs.lemmas.Grind.{common_steps}
 use Rattle.std.proofs.Common.{◌≡◌, ℕ, ◌+◌, ◌<◌, ◌≤◌, List, [], ◌∷◌, ◌++◌, map, drop, length, refl, sym, ap, ap₂, ◌∙◌, Bool, true, false, Option, Some, None, nat_cmp, if◌then◌else◌, arith}
 use Rattle.std.specs.Prelude.{nat_eq, bytes_eq}
 use Rattle.std.specs.List.{AllByRecursion}
@@ -62,8 +63,7 @@ module _ (g : Group) (ss : List Slot) where
   sum_absent (need ∷ needs) (p ∷ t) ix c h = rw (eq_turned need.0 c, h.0, sum_absent needs t ix c h.1) (none (nat_eq p ix))
     where
       none : (b : Bool) → (if b then 0 + 0 else 0) + sum_on (placed ss (drop (length needs) t)) ix c ≡ sum_on (placed ss (drop (length needs) t)) ix c
-      none true = omega arith
-      none false = omega arith
+      none b = grind (arith, common_steps)
 
   -- the head's share of its own class
   head_sum : (need : List ℕ × ℕ) (needs : List (List ℕ × ℕ)) (p : ℕ) (t : List ℕ) (ix : ℕ) → AllByRecursion (λ s. bytes_eq need.0 s ≡ false) (map (λ need. need.0) needs)
@@ -71,8 +71,7 @@ module _ (g : Group) (ss : List Slot) where
   head_sum need needs p t ix h = rw (bytes_eq_refl need.0, sum_absent needs t ix need.0 h) (by (nat_eq p ix))
     where
       by : (b : Bool) → (if b then (need.1 + 0) else 0) + sum_on (placed ss (drop (length needs) t)) ix need.0 ≡ (if b then need.1 else 0) + sum_on (placed ss (drop (length needs) t)) ix need.0
-      by true = omega arith
-      by false = omega arith
+      by b = grind (arith, common_steps)
 
   -- sums tell their providers
   pub classes_agree : (needs : List (List ℕ × ℕ)) (t u : List ℕ) → AllByRecursion (λ need. 0 < need.1) needs → AreApart (map (λ need. need.0) needs) → length needs ≤ length t → length needs ≤ length u
@@ -92,5 +91,4 @@ module _ (g : Group) (ss : List Slot) where
       same_rest a b c d e f = omega (arith, e, f)
 
       by : {a b c : ℕ} (test : Bool) → nat_eq q p ≡ test → need.1 ≡ a → a + b ≡ (if test then need.1 else 0) + c → b ≡ c → q ≡ p
-      by true is here mine same = eqb-true q p is
-      by false is here mine same = absurd (omega (arith, pos.0, here, mine, same))
+      by test is here mine same = grind (arith, common_steps, eqb-true)

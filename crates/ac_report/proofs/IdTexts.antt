@@ -51,18 +51,13 @@ byte_rises : (x y : ℕ) (xs ys : List ℕ) → x < y → y < 256 → text_cmp (
 byte_rises x y xs ys h k = by_case (eq-or-lt_of_le (omega arith))
   where
     by_case : (x / 16 % 16 ≡ y / 16 % 16) ⊎ (x / 16 % 16 < y / 16 % 16) → text_cmp (with_byte x xs) (with_byte y ys) ≡ Less
-    by_case (inr l) =
-        first_less (hex_digit lower (x / 16 % 16)) (hex_digit lower (y / 16 % 16)) (hex_digit lower (x % 16) ∷ xs) (hex_digit lower (y % 16) ∷ ys) (hex_rises (x / 16 % 16) (y / 16 % 16) l (omega arith))
-    by_case (inl e) =
-        first_same (hex_digit lower (x / 16 % 16)) (hex_digit lower (y / 16 % 16)) (hex_digit lower (x % 16) ∷ xs) (hex_digit lower (y % 16) ∷ ys) (ap (hex_digit lower) e)
-        ∙ first_less (hex_digit lower (x % 16)) (hex_digit lower (y % 16)) xs ys (hex_rises (x % 16) (y % 16) (omega (arith, e)) (omega arith))
+    by_case h = grind (arith, common_steps, first_less, hex_rises, first_same)
 
 byte_same : (b : ℕ) (xs ys : List ℕ) → text_cmp (with_byte b xs) (with_byte b ys) ≡ text_cmp xs ys
 byte_same b xs ys = grind (arith, common_steps, first_same)
 
 byte_is : (k n : ℕ) → byte_at k n ≡ n / 256 ^ k % 256
-byte_is zero n = ap (λ q. q % 256) (sym (div-one n))
-byte_is (suc k) n = refl
+byte_is k n = grind (arith, common_steps, div-one)
 
 top_step : (k n : ℕ) → n / 256 ^ suc k ≡ n / 256 ^ k / 256
 top_step k n = ap (λ q. n / q) (pow-suc 256 k) ∙ sym (div-div-eq-div-mul n (256 ^ k) 256)
@@ -77,8 +72,7 @@ tops_rise k m n h = le-div (m / 256 ^ k) n (256 ^ k) (pow_positive k) (omega (ar
 -- one more byte, where the bytes before it are the same
 digits_step : (k m n : ℕ) → m / 256 ^ suc k ≡ n / 256 ^ suc k → (m / 256 ^ k ≡ n / 256 ^ k) ⊎ (m / 256 ^ k < n / 256 ^ k)
     → (m / 256 ^ k ≡ n / 256 ^ k → text_cmp (digits k m) (digits k n) ≡ Less) → text_cmp (digits (suc k) m) (digits (suc k) n) ≡ Less
-digits_step k m n e (inr l) more = grind (arith, common_steps, top_step, byte_is, byte_rises, hyphen_before, digits)
-digits_step k m n e (inl s) more = grind (arith, common_steps, byte_is, with_byte, hyphen_before, digits, byte_same, front_same)
+digits_step k m n e h more = grind (arith, common_steps, top_step, byte_is, byte_rises, hyphen_before, digits, with_byte, byte_same, front_same)
 
 digits_rise : (k m n : ℕ) → m < n → m / 256 ^ k ≡ n / 256 ^ k → text_cmp (digits k m) (digits k n) ≡ Less
 digits_rise zero m n h e = absurd (omega (arith, sym (div-one m) ∙ e ∙ div-one n))

@@ -45,8 +45,7 @@ amount_append q [] ys = omega arith
 amount_append q (x ∷ xs) ys = let e = amount_append q xs ys in omega (arith, e)
 
 amount_if : (q : List ℕ) (b : Bool) (needs : List (List ℕ × ℕ)) → amount_of (if b then needs else []) q ≡ (if b then amount_of needs q else 0)
-amount_if q true needs = refl
-amount_if q false needs = refl
+amount_if q b needs = grind (arith, common_steps)
 
 pub amount_more : (ss : List Slot) (t : List ℕ) (i ix : ℕ) (q : List ℕ) → i < length t → i < length ss
     → amount_of (needs_on (placed (drop i ss) (drop i t)) ix) q ≡ amount_of (needs_in ss t i ix) q + amount_of (needs_on (placed (drop (i + 1) ss) (drop (i + 1) t)) ix) q
@@ -64,8 +63,7 @@ needs_none (x ∷ xs) ix h = by (nat_eq x.provider ix) (needs_none xs ix) h
   where
     by : (b : Bool) → (list_any (λ p. nat_eq p ix) (map (λ x. x.provider) xs) ≡ false → needs_on xs ix ≡ []) → b || list_any (λ p. nat_eq p ix) (map (λ x. x.provider) xs) ≡ false
         → (if b then x.slot.needs else []) ++ needs_on xs ix ≡ []
-    by true more h = absurd (cc)
-    by false more h = more h
+    by b more h = grind (arith, common_steps)
 
 -- ---- whose providers these are
 
@@ -83,8 +81,7 @@ pub all_rising : (P : ℕ → Type 0) (xs : List ℕ) → All P xs → All P (ri
 all_rising P xs h = all_fold P xs [] h (λ i d lt. absurd (omega arith))
 
 pub all_cons : (P : ℕ → Type 0) (x : ℕ) (xs : List ℕ) → P x → All P xs → All P (x ∷ xs)
-all_cons P x xs h k zero d lt = h
-all_cons P x xs h k (suc i) d lt = k i d (omega arith)
+all_cons P x xs h k h5 d lt = grind (arith, common_steps)
 
 -- the providers of a group are those of the list
 pub all_hosts : (P : ℕ → Type 0) (ss : List Slot) (t : List ℕ) (g : ℕ) → All P t → All P (hosts (placed ss t) g)

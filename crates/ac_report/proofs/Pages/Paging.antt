@@ -1,4 +1,5 @@
 -- A page, list by list.
+use Rattle.std.proofs.lemmas.Grind.{common_steps}
 use Rattle.std.proofs.Common.{◌≡◌, ◌∙◌, ◌≤◌, ◌+◌, ◌-◌, ℕ, zero, suc, min, List, [], ◌∷◌, ◌++◌, take, drop, length, Option, Some, None, Result, Ok, Err, refl, sym, ap, subst, append-nil, take-append-drop, arith}
 use Rattle.std.specs.List.{All}
 use Rattle.std.specs.Result.{IsErrAnd}
@@ -14,8 +15,7 @@ Lists = List (List ℕ)
 
 -- what holds of all lists holds of the first, and of those behind it
 pub all_head : (P : List ℕ → Type 0) (ls : Lists) (x : List ℕ) → Some x ≡ head_of ls → All P ls → P x
-all_head P [] x e h = absurd (cc)
-all_head P (y ∷ ls) x e h = let s : y ≡ x = cc in subst P s (h 0 y (omega arith))
+all_head P ls x e h = grind (arith, common_steps)
 
 pub all_tail : (P : List ℕ → Type 0) (ls : Lists) → All P ls → All P (tail_of ls)
 all_tail P [] h = h
@@ -69,8 +69,7 @@ module _ (limit : Option ℕ) (from : ℕ) (old mid : Lists) (x : List ℕ) (is 
   read_last Q h = let e = err_from_is_err_and r h in rw e.1 record { left = tt; count = tt; gone = (x ∷ [], is.first ∙ ap (λ ls. x ∷ ls) (sym tail), is.within 0 (none limit)) }
     where
       none : (limit : Option ℕ) → IsWithin 0 (one_less limit)
-      none None = tt
-      none (Some n) = omega arith
+      none limit = grind (arith, common_steps)
 
 -- no list is left, or none is wanted
 module _ (limit : Option ℕ) (old : Lists) where
@@ -78,10 +77,7 @@ module _ (limit : Option ℕ) (old : Lists) where
   cut_end end = of limit old end
     where
       of : (limit : Option ℕ) (old : Lists) → None ≡ head_of old → cut limit old ≡ []
-      of limit (y ∷ ls) end = absurd (cc)
-      of None [] end = refl
-      of (Some zero) [] end = refl
-      of (Some (suc n)) [] end = refl
+      of limit old end = grind (arith, common_steps)
 
   pub cut_over : limit ≡ Some 0 → cut limit old ≡ []
   cut_over over = rw over refl
@@ -90,10 +86,7 @@ module _ (limit : Option ℕ) (old : Lists) where
   read_end from new end tail small = record { left = rw tail (of limit old end); count = let l = ap length (cut_end end) in omega (arith, l, small); gone = tt }
     where
       of : (limit : Option ℕ) (old : Lists) → None ≡ head_of old → tail_of old ≡ behind limit old
-      of limit (y ∷ ls) end = absurd (cc)
-      of None [] end = refl
-      of (Some zero) [] end = refl
-      of (Some (suc n)) [] end = refl
+      of limit old end = grind (arith, common_steps)
 
   pub read_over : (from : ℕ) → limit ≡ Some 0 → from ≤ 4294967295 → Reads limit from (Ok from) old old
   read_over from over small = rw over record { left = refl; count = omega (arith, small); gone = tt }

@@ -1,4 +1,5 @@
 -- Members by their names, and what a request says of its hosts.
+use Rattle.std.proofs.lemmas.Grind.{common_steps}
 use Rattle.std.proofs.Common.{◌≡◌, ◌⊎◌, inl, inr, ℕ, suc, ◌+◌, ◌<◌, ◌≤◌, List, [], ◌∷◌, map, length, refl, sym, ap, ap₂, ◌∙◌, Bool, true, false, ◌||◌, Option, Some, None, if◌then◌else◌, Equal, nat_cmp, arith}
 use Rattle.std.specs.Prelude.{bytes_eq}
 use Rattle.std.specs.List.{All, AllByRecursion, list_any}
@@ -29,8 +30,7 @@ find_put : (q k : List ℕ) (d : Data) (ms : Members) → get_member q (put k d 
 find_put q k d ms = by (bytes_eq q k) refl
   where
     by : (b : Bool) → bytes_eq q k ≡ b → get_member q (put k d ms) ≡ (if b then Some d else get_member q ms)
-    by true e = ap (λ n. get_member n (put k d ms)) ((bytes_eq-Decides q k).0 e) ∙ get_member-put k d ms
-    by false e = get_member-put_other q k d ms (λ same. let is : bytes_eq q k ≡ true = (bytes_eq-Decides q k).1 same in absurd cc)
+    by b e = grind (arith, common_steps, bytes_eq-Decides, get_member-put, get_member-put_other)
 
 -- what stands at a name that has one value
 pub found : (q : List ℕ) (d : Data) (ms : List Named) (done : Members) → AllByRecursion (λ m. bytes_eq q m.0 ≡ true → m.1 ≡ d) ms
@@ -42,9 +42,7 @@ found q d (m ∷ ms) done h =
     ∙ by (bytes_eq q m.0) (list_any (λ m. bytes_eq q m.0) ms) (get_member q done) h.0
   where
     by : (b any : Bool) (rest : Option Data) → (b ≡ true → m.1 ≡ d) → (if any then Some d else (if b then Some m.1 else rest)) ≡ (if b || any then Some d else rest)
-    by true true rest h = refl
-    by true false rest h = ap Some (h refl)
-    by false any rest h = refl
+    by b any rest h = grind (arith, common_steps)
 
 -- ---- hosts of groups
 

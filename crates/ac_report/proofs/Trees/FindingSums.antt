@@ -49,8 +49,7 @@ module _ (xs : List Placed) (ix : ℕ) (c : List ℕ) where
   allocation_says = ap number_in (found c _ _ no_members (same (needs_on xs ix))) ∙ by (list_any (λ m. bytes_eq c m.0) (map (sum xs ix) (needs_on xs ix))) refl
     where
       by : (b : Bool) → list_any (λ m. bytes_eq c m.0) (map (sum xs ix) (needs_on xs ix)) ≡ b → number_in (if b then Some (number (unsigned (sum_on xs ix c))) else None) ≡ sum_on xs ix c
-      by true e = refl
-      by false e = sym (sum_on_is xs ix c ∙ absent (needs_on xs ix) e)
+      by b e = grind (arith, common_steps, sum_on_is, absent)
 
 -- ---- what is taken of providers
 
@@ -86,12 +85,10 @@ module _ (all : List Provider) (told : AreTold all) (xs : List Placed) (ix : ℕ
       sum_on_is xs ix c ∙ ap (λ needs. amount_of needs c) (by (list_any (λ p. nat_eq p ix) t) refl listed)
     where
       of : (needs : List (List ℕ × ℕ)) → is_empty needs ≡ true → needs ≡ []
-      of [] e = refl
-      of (need ∷ needs) e = absurd (cc)
+      of needs e = grind (arith, common_steps)
 
       by : (b : Bool) → list_any (λ p. nat_eq p ix) t ≡ b → (gives xs ix && b) ≡ false → needs_on xs ix ≡ []
-      by true s listed = of (needs_on xs ix) (grind (arith, common_steps))
-      by false s listed = needs_none xs ix (ap (list_any (λ p. nat_eq p ix)) e ∙ s)
+      by b s listed = grind (arith, common_steps, of, needs_none)
 
 -- equal requests are of equal sums
 request_says : (all : List Provider) → AreTold all → (asked : Asked) (list : List ℕ) → IsAssignment all asked list → (ix : ℕ) (c : List ℕ) → ix < length all
@@ -106,8 +103,7 @@ request_says all told asked list at ix c h =
   where
     by : (b : Bool) → any_taken all told (assigned asked list) ix h (filter (λ ix. gives (assigned asked list) ix) (rising nat_cmp list)) ≡ b
         → sum_in c (if b then Some (allocation (assigned asked list) ix) else None) ≡ sum_on (assigned asked list) ix c
-    by true e = allocation_says (assigned asked list) ix c
-    by false e = sym (nothing all told (assigned asked list) ix h list c (providers_are (slots_of asked) list at.long) e)
+    by b e = grind (arith, common_steps, allocation_says, nothing, providers_are)
 
 pub sums_agree : (all : List Provider) → AreTold all → (asked : Asked) (t u : List ℕ) → IsAssignment all asked t → IsAssignment all asked u → request all asked t ≡ request all asked u
     → (ix : ℕ) (c : List ℕ) → ix < length all → sum_on (assigned asked t) ix c ≡ sum_on (assigned asked u) ix c

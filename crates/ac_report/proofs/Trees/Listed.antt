@@ -41,9 +41,7 @@ gathered_listed ms h = onto_listed [] ms h
 -- ---- one member more
 
 listed_match : (o : Ordering) (a b c : List Named) → listed (match_ordering o a b c) ≡ match_ordering o (listed a) (listed b) (listed c)
-listed_match Less a b c = refl
-listed_match Equal a b c = refl
-listed_match Greater a b c = refl
+listed_match o a b c = grind (arith, common_steps)
 
 pub listed_put : (ms : List Named) (k : List ℕ) (d : Data) → put k d (listed ms) ≡ listed (insert_entry text_cmp ms k d)
 listed_put [] k d = refl

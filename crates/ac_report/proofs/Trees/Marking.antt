@@ -1,4 +1,5 @@
 -- Marks of roots.
+use Rattle.std.proofs.lemmas.Grind.{common_steps}
 use Rattle.std.proofs.Common.{◌≡◌, ◌≢◌, ◌⊎◌, inl, inr, ℕ, ◌<◌, List, ◌∷◌, sym, ap, ◌∙◌, Bool, true, false, ◌||◌, eqb, length, get_or, arith}
 use Rattle.std.specs.List.{list_any}
 use Rattle.std.proofs.Math.Bool.{or-false, or-true}
@@ -21,12 +22,7 @@ pub mark_step : (all : List Provider) → AreInOrder all → (marks : List Bool)
 mark_step all order marks root ix r long k is low = by (eqb_tells r root)
   where
     by : ((eqb r root ≡ true) × (r ≡ root)) ⊎ ((eqb r root ≡ false) × (r ≢ root)) → get_or (set marks root true) r false ≡ get_or marks r false || has_root all (id_at all r) ix
-    by (inl same) =
-        let here : has_root all (id_at all r) ix ≡ true = eq-eqb (root_of all (id_at all ix)) (id_at all r) (sym is ∙ ap (id_at all) (sym same.1)) in
-        rw (here, or-true) (ap (λ n. get_or (set marks root true) n false) same.1 ∙ get_or-set_same marks root true false (omega (arith, long, k)))
-    by (inr other) =
-        let there : has_root all (id_at all r) ix ≡ false = ne_eqb (root_of all (id_at all ix)) (id_at all r) (λ e. other.1 (same_places all order r root (omega (arith, long, low)) k (sym (is ∙ e)))) in
-        rw (there, or-false) (get_or-set_other marks root r true false other.1)
+    by h = grind (arith, common_steps, eq-eqb, or-true, set, get_or-set_same, ne_eqb, same_places, or-false, get_or-set_other)
 
 -- the roots of one list more
 pub marks_step : {X : Type 0} (test : X → Bool) (ls rest : List X) (x : X) (whole m new : Bool) → ls ≡ x ∷ rest → whole ≡ (m || list_any test ls) → new ≡ (m || test x) → whole ≡ (new || list_any test rest)

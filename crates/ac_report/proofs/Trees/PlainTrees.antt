@@ -25,8 +25,7 @@ listed_plain f plain (x ∷ xs) = rw (plain x) (listed_plain f plain xs)
 
 id_plain : (id : Option ℕ) → has_float (id_or_null id) ≡ false
 unfolding id_or_null
-id_plain None = refl
-id_plain (Some id) = refl
+id_plain id = grind (arith, common_steps)
 
 pub summary_plain : (cloud : Cloud) (ix : ℕ) → ix < length (providers_of cloud) → has_float (summary (providers_of cloud) ix) ≡ false
 unfolding summary holding

@@ -1,4 +1,5 @@
 -- The trees of requests, as they are sent.
+use Rattle.std.proofs.lemmas.Grind.{common_steps}
 use Rattle.std.proofs.Common.{◌≡◌, ◌∙◌, ◌<◌, ◌+◌, ℕ, List, [], ◌∷◌, ◌++◌, Bool, true, false, not, codes, drop, fold, slice_index, length, map, nat_cmp, ap, ap₂, arith, refl, sym, Ordering, Less, Equal, Greater}
 use Rattle.std.specs.Borrow.{Bor}
 use Rattle.std.specs.BTreeSet.{insert_key}
@@ -42,9 +43,7 @@ module _ (f : List ℕ → Data) where
       by : (o : Ordering) → text_cmp k x ≡ o → put k (f k) (listed (map named ks)) ≡ listed (map named (insert_key text_cmp ks k))
           → match_ordering o (member k (f k) (listed (map named (x ∷ ks)))) (member x (f k) (listed (map named ks))) (member x (f x) (put k (f k) (listed (map named ks))))
           ≡ listed (map named (match_ordering o (k ∷ x ∷ ks) (x ∷ ks) (x ∷ insert_key text_cmp ks k)))
-      by Less e more = refl
-      by Equal e more = ap (λ q. member x (f q) (listed (map named ks))) (same_text k x e)
-      by Greater e more = ap (member x (f x)) more
+      by o e more = grind (arith, common_steps, named, same_text)
 
   onto_named : (needs : List (List ℕ × ℕ)) (ks : List (List ℕ)) → gathered_onto (listed (map named ks)) (map (λ need. named need.0) needs) ≡ listed (map named (fold (insert_key text_cmp) ks (keys_of needs)))
   onto_named [] ks = refl
@@ -85,8 +84,7 @@ module _ (xs : List Placed) (ix : ℕ) where
   gives_by keys e = ap not (sym (none_needed (needs_on xs ix)) ∙ sym (ap is_empty e) ∙ shown keys)
     where
       shown : (keys : List (Bor (List ℕ))) → is_empty (map (λ k. k.now) keys) ≡ is_empty keys
-      shown [] = refl
-      shown (k ∷ keys) = refl
+      shown keys = grind (arith, common_steps)
 
 pub allocation_is : (all : List Provider) (a : Allocation) → a.id ≡ id_at all a.provider
     → map (λ k. k.now) a.classes.keys ≡ rising text_cmp (keys_of (needs_on (assigned (asked_of a.query.now) a.list.now) a.provider))
@@ -106,12 +104,10 @@ member_pushed [] a m rest e = ap (λ x. x ∷ rest) e
 member_pushed (x ∷ sent) a m rest e = ap (λ ms. allocation_member x ∷ ms) (member_pushed sent a m rest e)
 
 pub empty_by : {X : Type 0} (xs : List X) → length xs ≡ 0 → is_empty xs ≡ true
-empty_by [] h = refl
-empty_by (x ∷ xs) h = absurd (omega (arith, h))
+empty_by xs h = grind (arith, common_steps)
 
 pub some_by : {X : Type 0} (xs : List X) → (length xs ≡ 0 → ⊥) → is_empty xs ≡ false
-some_by [] h = absurd (h refl)
-some_by (x ∷ xs) h = refl
+some_by xs h = grind (arith, common_steps)
 
 -- of some numbers those that pass a test, from a place on
 pub kept_more : (t : ℕ → Bool) (xs : List ℕ) (i : ℕ) → i < length xs → t (slice_index xs i) ≡ true → filter t (drop i xs) ≡ slice_index xs i ∷ filter t (drop (i + 1) xs)
