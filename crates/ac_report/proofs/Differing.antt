@@ -60,18 +60,12 @@ module _ (g : Group) (ss : List Slot) where
   sum_absent : (needs : List (List ℕ × ℕ)) (t : List ℕ) (ix : ℕ) (c : List ℕ) → AllByRecursion (λ s. bytes_eq c s ≡ false) (map (λ need. need.0) needs) → sum_on (with_classes needs t) ix c ≡ sum_on (placed ss (drop (length needs) t)) ix c
   sum_absent [] t ix c h = refl
   sum_absent (need ∷ needs) [] ix c h = rw placed_none refl
-  sum_absent (need ∷ needs) (p ∷ t) ix c h = rw (eq_turned need.0 c, h.0, sum_absent needs t ix c h.1) (none (nat_eq p ix))
-    where
-      none : (b : Bool) → (if b then 0 + 0 else 0) + sum_on (placed ss (drop (length needs) t)) ix c ≡ sum_on (placed ss (drop (length needs) t)) ix c
-      none b = grind (arith, common_steps)
+  sum_absent (need ∷ needs) (p ∷ t) ix c h = grind (arith, common_steps, eq_turned, sum_absent needs t ix c h.1)
 
   -- the head's share of its own class
   head_sum : (need : List ℕ × ℕ) (needs : List (List ℕ × ℕ)) (p : ℕ) (t : List ℕ) (ix : ℕ) → AllByRecursion (λ s. bytes_eq need.0 s ≡ false) (map (λ need. need.0) needs)
       → sum_on (with_classes (need ∷ needs) (p ∷ t)) ix need.0 ≡ (if nat_eq p ix then need.1 else 0) + sum_on (placed ss (drop (length needs) t)) ix need.0
-  head_sum need needs p t ix h = rw (bytes_eq_refl need.0, sum_absent needs t ix need.0 h) (by (nat_eq p ix))
-    where
-      by : (b : Bool) → (if b then (need.1 + 0) else 0) + sum_on (placed ss (drop (length needs) t)) ix need.0 ≡ (if b then need.1 else 0) + sum_on (placed ss (drop (length needs) t)) ix need.0
-      by b = grind (arith, common_steps)
+  head_sum need needs p t ix h = grind (arith, common_steps, bytes_eq_refl, sum_absent)
 
   -- sums tell their providers
   pub classes_agree : (needs : List (List ℕ × ℕ)) (t u : List ℕ) → AllByRecursion (λ need. 0 < need.1) needs → AreApart (map (λ need. need.0) needs) → length needs ≤ length t → length needs ≤ length u

@@ -48,10 +48,7 @@ hex_rises x y h k = grind (arith, nat_tests)
 
 -- the digits of a smaller byte are smaller
 byte_rises : (x y : ℕ) (xs ys : List ℕ) → x < y → y < 256 → text_cmp (with_byte x xs) (with_byte y ys) ≡ Less
-byte_rises x y xs ys h k = by_case (eq-or-lt_of_le (omega arith))
-  where
-    by_case : (x / 16 % 16 ≡ y / 16 % 16) ⊎ (x / 16 % 16 < y / 16 % 16) → text_cmp (with_byte x xs) (with_byte y ys) ≡ Less
-    by_case h = grind (arith, common_steps, first_less, hex_rises, first_same)
+byte_rises x y xs ys h k = grind (arith, common_steps, eq-or-lt_of_le, with_byte, first_less, hex_rises, first_same)
 
 byte_same : (b : ℕ) (xs ys : List ℕ) → text_cmp (with_byte b xs) (with_byte b ys) ≡ text_cmp xs ys
 byte_same b xs ys = grind (arith, common_steps, first_same)

@@ -7,6 +7,7 @@ use Rattle.std.specs.Map.{keys_of}
 use Rattle.std.specs.List.{All, filter, list_any}
 use Rattle.std.proofs.lemmas.List.{map-append}
 use Rattle.std.proofs.lemmas.List.Sums.{fold-append, sum_by-cons}
+use Rattle.std.proofs.lemmas.List.Elements.{All-cons}
 use Rattle.std.proofs.lemmas.Map.Views.{All-insert_key}
 use Rattle.ac_base.specs.Texts.{text_cmp}
 use Rattle.ac_query.specs.Asked.{Slot}
@@ -15,12 +16,6 @@ use Rattle.ac_rules.specs.Together.{amount_of, sum_on}
 use Rattle.ac_rules.proofs.PlacedLemmas.{placed_more}
 use Rattle.ac_base.specs.Sorted.{rising}
 use Rattle.ac_report.specs.Trees.{hosts, needs_on}
-
--- a slot needs no more than all slots
-pub few_at : (ss : List Slot) (s : ℕ) → s < length ss → length (slice_index_or ss s no_slot).needs ≤ sum_by (λ s. length s.needs) ss
-few_at [] s h = absurd (omega arith)
-few_at (x ∷ ss) zero h = omega (arith, sum_by-cons (λ (s : Slot). length s.needs) x ss)
-few_at (x ∷ ss) (suc s) h = omega (arith, few_at ss s (omega arith), sum_by-cons (λ (s : Slot). length s.needs) x ss)
 
 -- ---- one slot more of those that are left
 
@@ -59,11 +54,7 @@ sum_on_is (x ∷ xs) ix q = grind (arith, common_steps, amount_if, amount_append
 -- nothing is needed of who serves no slot
 pub needs_none : (xs : List Placed) (ix : ℕ) → list_any (λ p. nat_eq p ix) (map (λ x. x.provider) xs) ≡ false → needs_on xs ix ≡ []
 needs_none [] ix h = refl
-needs_none (x ∷ xs) ix h = by (nat_eq x.provider ix) (needs_none xs ix) h
-  where
-    by : (b : Bool) → (list_any (λ p. nat_eq p ix) (map (λ x. x.provider) xs) ≡ false → needs_on xs ix ≡ []) → b || list_any (λ p. nat_eq p ix) (map (λ x. x.provider) xs) ≡ false
-        → (if b then x.slot.needs else []) ++ needs_on xs ix ≡ []
-    by b more h = grind (arith, common_steps)
+needs_none (x ∷ xs) ix h = grind (arith, common_steps, needs_none xs ix)
 
 -- ---- whose providers these are
 
@@ -80,9 +71,6 @@ all_fold P (x ∷ xs) done h k = grind (arith, common_steps, all_fold P xs (inse
 pub all_rising : (P : ℕ → Type 0) (xs : List ℕ) → All P xs → All P (rising nat_cmp xs)
 all_rising P xs h = all_fold P xs [] h (λ i d lt. absurd (omega arith))
 
-pub all_cons : (P : ℕ → Type 0) (x : ℕ) (xs : List ℕ) → P x → All P xs → All P (x ∷ xs)
-all_cons P x xs h k h5 d lt = grind (arith, common_steps)
-
 -- the providers of a group are those of the list
 pub all_hosts : (P : ℕ → Type 0) (ss : List Slot) (t : List ℕ) (g : ℕ) → All P t → All P (hosts (placed ss t) g)
 all_hosts P [] t g h = λ i d lt. absurd (omega arith)
@@ -91,5 +79,5 @@ all_hosts P (s ∷ ss) (p ∷ t) g h = by (nat_eq s.place g) (h 0 p (omega arith
   where
     by : (b : Bool) → P p → All P (hosts (placed ss t) g)
         → All P (map (λ x. x.provider) (if b then record { slot = s; provider = p } ∷ filter (λ x. nat_eq x.slot.place g) (placed ss t) else filter (λ x. nat_eq x.slot.place g) (placed ss t)))
-    by true here more = all_cons P p (hosts (placed ss t) g) here more
+    by true here more = All-cons P p (hosts (placed ss t) g) here more
     by false here more = more

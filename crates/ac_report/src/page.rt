@@ -190,7 +190,7 @@ fn write_parts<S: Source, W: Sink>(
 /// and answers how many lists these are, at most 4294967295.
 ///
 /// The next list is taken only once the request of the one before is pushed whole.
-#[tactic(auto, using(ac_base::proofs::Leaving::part_none))]
+#[tactic(auto, using(ac_base::proofs::Leaving::part_none, crate::proofs::Pages::Joining::is_body))]
 pub fn write_page<S: Source, W: Sink>(
     alloc: Global,
     cloud: &Cloud,

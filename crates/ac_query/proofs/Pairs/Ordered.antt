@@ -1,5 +1,6 @@
 -- What pairs ask for is in order.
-use Rattle.std.proofs.Common.{◌≡◌, ◌<◌, ℕ, suc, false, List, [], ◌∷◌, ◌++◌, map, length, Option, Some, None, IfSome, refl, sym, ap, subst, arith}
+use Rattle.std.proofs.lemmas.Grind.{common_steps}
+use Rattle.std.proofs.Common.{rules, ◌≡◌, ◌<◌, ℕ, suc, false, List, [], ◌∷◌, ◌++◌, map, length, Option, Some, None, IfSome, refl, sym, ap, subst, arith}
 use Rattle.std.specs.List.{All, AllByRecursion, fold, cons_option}
 use Rattle.std.specs.List.Sorted.{IsStrictlySortedBy}
 use Rattle.std.specs.Map.{lookup, keys_of, values_of}
@@ -36,8 +37,7 @@ sound_parts version (p ∷ ps) = of (read_pair version p) (sound_pair version p)
   where
     of : (o : Option Given) → IfSome o (λ v. IfSome (group_part v) IsSound) → AllByRecursion IsSound (group_parts (given version ps))
         → AllByRecursion IsSound (group_parts (cons_option o (given version ps)))
-    of None h later = later
-    of (Some v) h later = one_more IsSound (group_part v) _ h later
+    of o h later = grind (arith, common_steps, one_more)
 
 -- ---- the groups that are gathered
 abbrev HasNeeds : Group → Type 0
@@ -50,12 +50,10 @@ record AreOrdered (plain : Option Group) (suffixed : List (List ℕ × Group)) :
   groups : All HasNeeds (values_of suffixed)
 
 served : (needs : List (List ℕ × ℕ)) (o : Option (List (List ℕ × ℕ))) → AreNeeds needs → IfSome o AreNeeds → AreNeeds (with_some later needs o)
-served needs None h k = h
-served needs (Some more) h k = k
+served needs o h k = grind (arith, common_steps)
 
 grown_served : (o : Option Group) (p : Part) → IfSome o HasNeeds → IfSome (needs_in p) AreNeeds → HasNeeds (grown o p)
-grown_served None p h k = served [] (needs_in p) (record { positive = tt; once = tt }) k
-grown_served (Some g) p h k = served g.needs (needs_in p) h k
+grown_served o p h k = grind (arith, common_steps, served)
 
 all_ordered : (plain : Option Group) (suffixed : List (List ℕ × Group)) (es : List (Option (List ℕ) × Part)) → AreOrdered plain suffixed → AllByRecursion IsSound es
     → AreOrdered (fold add_plain plain es) (fold add_suffixed suffixed es)
@@ -90,8 +88,7 @@ names_are [] = refl
 names_are (e ∷ es) = ap (λ l. e.0 ∷ l) (names_are es)
 
 long_differs : (s : List ℕ) → 0 < length s → bytes_eq [] s ≡ false
-long_differs [] h = absurd (omega (arith, h))
-long_differs (c ∷ s) h = refl
+long_differs s h = grind (arith, common_steps)
 
 all_differ : (ss : List (List ℕ)) → All (λ s. 0 < length s) ss → AllByRecursion (λ s. bytes_eq [] s ≡ false) ss
 all_differ [] all = tt
@@ -115,6 +112,4 @@ in_order d h = record { first = first_plain d.plain d.suffixed; names = names_ap
 
 pub query_in_order : QueryInOrder
 unfolding asked_by
-query_in_order version pairs =
-    subst (λ d. IsInOrder (as_asked d)) (sym (gathered_is (given version pairs)))
-    (in_order _ (all_ordered None [] (group_parts (given version pairs)) none_ordered (sound_parts version pairs)))
+query_in_order version pairs = search (rules, arith, gathered_is, in_order, all_ordered, none_ordered, sound_parts)

@@ -1,7 +1,7 @@
 -- The body of lists, piece by piece.
 use Rattle.std.proofs.Common.{arith}
 use Rattle.std.proofs.lemmas.Grind.{common_steps}
-use Rattle.std.proofs.Common.{◌≡◌, ℕ, List, [], ◌∷◌, ◌++◌, refl, sym, ap, ◌∙◌, Bool, true, false, map, length, append_assoc, append-nil, codes}
+use Rattle.std.proofs.Common.{◌≡◌, ℕ, List, [], ◌∷◌, ◌++◌, refl, sym, ap, ap₂, ◌∙◌, Bool, true, false, map, length, append_assoc, append-nil, codes}
 use Rattle.std.proofs.lemmas.Grind.{flat_map-append}
 use Rattle.std.specs.List.{list_any}
 use Rattle.serde_json.specs.Data.{Data, Items, array, object, string, Members, no_members, member}
@@ -16,7 +16,7 @@ use Rattle.ac_cloud.proofs.InOrder.{cloud_in_order}
 use Rattle.ac_query.specs.Asked.{Asked}
 use Rattle.ac_report.specs.Trees.{gathered, provider_text, request, summary}
 use Rattle.ac_report.specs.Texts.{request_text, summary_text, summarized, body_tree, body, with_commas, summary_piece, head_text, middle_text, tail_text, pieces, joined, meets_root}
-use Rattle.ac_report.specs.Marks.{requests, summaries}
+use Rattle.ac_report.specs.Marks.{is_summarized, requests, summaries}
 use Rattle.ac_report.proofs.Trees.Gathering.{Named}
 use Rattle.ac_report.specs.Parts.{listed}
 use Rattle.ac_report.proofs.Trees.Listed.{kept_listed, range_below, range_rises}
@@ -49,18 +49,6 @@ requests_name = compact_text (string (codes "allocation_requests"))
 abbrev summaries_name : List ℕ
 summaries_name = compact_text (string (codes "provider_summaries"))
 
-head_is : 123 ∷ (requests_name ++ 58 ∷ 91 ∷ []) ≡ head_text
-unfolding head_text serde_json_on_literals
-head_is = refl
-
-middle_is : 93 ∷ 44 ∷ (summaries_name ++ 58 ∷ 123 ∷ []) ≡ middle_text
-unfolding middle_text serde_json_on_literals
-middle_is = refl
-
-tail_is : 125 ∷ 125 ∷ 10 ∷ [] ≡ tail_text
-unfolding tail_text
-tail_is = refl
-
 shape : (q1 q2 r s : List ℕ) → (123 ∷ (q1 ++ 58 ∷ 91 ∷ ((r ++ 93 ∷ []) ++ 44 ∷ (q2 ++ 58 ∷ 123 ∷ ((s ++ 125 ∷ []) ++ 125 ∷ []))))) ++ 10 ∷ []
     ≡ (123 ∷ (q1 ++ 58 ∷ 91 ∷ [])) ++ (r ++ ((93 ∷ 44 ∷ (q2 ++ 58 ∷ 123 ∷ [])) ++ (s ++ 125 ∷ 125 ∷ 10 ∷ [])))
 shape q1 q2 r s = simp append_assoc
@@ -71,24 +59,15 @@ two_members : (requests : Items) (summaries : Members) →
 two_members requests summaries = refl
 
 pub body_is : (all : List Provider) → AreProviders all → (asked : Asked) (lists : List (List ℕ)) → body all asked lists ≡ page_text all asked lists
-unfolding body body_tree request_text summary_piece summary_text
+unfolding body body_tree request_text summary_piece summary_text head_text middle_text tail_text serde_json_on_literals
 body_is all are asked lists =
     let named : ℕ → Named = λ ix. (provider_text all ix, summary all ix) in
     let places = summarized all lists in
-    let ordered =
-    kept_listed all are (summary all) (λ ix. list_any (meets_root all (root_of all (id_at all ix))) lists) _ (range_rises 0 (length all)) (range_below (length all)) in
-    let requests = joined (requests all asked false lists) in
-    let summaries = joined (summaries all false places) in
-    let items : items_text false (items_of (map (request all asked) lists)) ≡ requests ++ 93 ∷ [] = items_joined (request all asked) false lists in
-    let members : members_text false (gathered (map named places)) ≡ summaries ++ 125 ∷ [] =
-    ap (members_text false) ordered ∙ members_joined named false places in
+    let ordered = kept_listed all are (summary all) (is_summarized all lists) _ (range_rises 0 (length all)) (range_below (length all)) in
     ap (λ l. l ++ 10 ∷ []) (two_members (items_of (map (request all asked) lists)) (gathered (map named places))
-    ∙ ap (λ l. 123 ∷ (requests_name ++ 58 ∷ 91 ∷ (l ++ 44 ∷ (summaries_name ++ 58 ∷ 123 ∷ (members_text false (gathered (map named places)) ++ 125 ∷ []))))) items
-    ∙ ap (λ l. 123 ∷ (requests_name ++ 58 ∷ 91 ∷ ((requests ++ 93 ∷ []) ++ 44 ∷ (summaries_name ++ 58 ∷ 123 ∷ (l ++ 125 ∷ []))))) members)
-    ∙ shape requests_name summaries_name requests summaries
-    ∙ ap (λ l. l ++ (requests ++ ((93 ∷ 44 ∷ (summaries_name ++ 58 ∷ 123 ∷ [])) ++ (summaries ++ 125 ∷ 125 ∷ 10 ∷ [])))) head_is
-    ∙ ap (λ l. head_text ++ (requests ++ (l ++ (summaries ++ 125 ∷ 125 ∷ 10 ∷ [])))) middle_is
-    ∙ ap (λ l. head_text ++ (requests ++ (middle_text ++ (summaries ++ l)))) tail_is
+    ∙ ap₂ (λ i m. 123 ∷ (requests_name ++ 58 ∷ 91 ∷ (i ++ 44 ∷ (summaries_name ++ 58 ∷ 123 ∷ (m ++ 125 ∷ [])))))
+    (items_joined (request all asked) false lists) (ap (members_text false) ordered ∙ members_joined named false places))
+    ∙ shape requests_name summaries_name (joined (requests all asked false lists)) (joined (summaries all false places))
 
 -- the body that is written of a cloud
 pub is_body : (cloud : Cloud) (asked : Asked) (lists : List (List ℕ)) → joined (pieces (providers_of cloud) asked lists) ≡ body (providers_of cloud) asked lists

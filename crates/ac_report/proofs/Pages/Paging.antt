@@ -74,10 +74,7 @@ module _ (limit : Option ℕ) (from : ℕ) (old mid : Lists) (x : List ℕ) (is 
 -- no list is left, or none is wanted
 module _ (limit : Option ℕ) (old : Lists) where
   pub cut_end : None ≡ head_of old → cut limit old ≡ []
-  cut_end end = of limit old end
-    where
-      of : (limit : Option ℕ) (old : Lists) → None ≡ head_of old → cut limit old ≡ []
-      of limit old end = grind (arith, common_steps)
+  cut_end end = grind (arith, common_steps)
 
   pub cut_over : limit ≡ Some 0 → cut limit old ≡ []
   cut_over over = rw over refl

@@ -27,22 +27,13 @@ same_text k l e = (bytes_eq-Decides k l).0 (sym (is_eq-slice_cmp k l) ∙ ap is_
 
 -- one member more
 find_put : (q k : List ℕ) (d : Data) (ms : Members) → get_member q (put k d ms) ≡ (if bytes_eq q k then Some d else get_member q ms)
-find_put q k d ms = by (bytes_eq q k) refl
-  where
-    by : (b : Bool) → bytes_eq q k ≡ b → get_member q (put k d ms) ≡ (if b then Some d else get_member q ms)
-    by b e = grind (arith, common_steps, bytes_eq-Decides, get_member-put, get_member-put_other)
+find_put q k d ms = grind (arith, common_steps, bytes_eq-Decides, get_member-put, get_member-put_other)
 
 -- what stands at a name that has one value
 pub found : (q : List ℕ) (d : Data) (ms : List Named) (done : Members) → AllByRecursion (λ m. bytes_eq q m.0 ≡ true → m.1 ≡ d) ms
     → get_member q (gathered_onto done ms) ≡ (if list_any (λ m. bytes_eq q m.0) ms then Some d else get_member q done)
 found q d [] done h = refl
-found q d (m ∷ ms) done h =
-    found q d ms (put m.0 m.1 done) h.1
-    ∙ ap (λ r. if list_any (λ m. bytes_eq q m.0) ms then Some d else r) (find_put q m.0 m.1 done)
-    ∙ by (bytes_eq q m.0) (list_any (λ m. bytes_eq q m.0) ms) (get_member q done) h.0
-  where
-    by : (b any : Bool) (rest : Option Data) → (b ≡ true → m.1 ≡ d) → (if any then Some d else (if b then Some m.1 else rest)) ≡ (if b || any then Some d else rest)
-    by b any rest h = grind (arith, common_steps)
+found q d (m ∷ ms) done h = grind (arith, common_steps, find_put, found q d ms (put m.0 m.1 done) h.1)
 
 -- ---- hosts of groups
 

@@ -19,10 +19,7 @@ same_places all order p q k l s = grind (arith, s, order p q, order q p)
 -- a root is marked
 pub mark_step : (all : List Provider) → AreInOrder all → (marks : List Bool) (root ix r : ℕ) → length marks ≡ length all → root < length all → id_at all root ≡ root_of all (id_at all ix) → r < length marks
     → get_or (set marks root true) r false ≡ get_or marks r false || has_root all (id_at all r) ix
-mark_step all order marks root ix r long k is low = by (eqb_tells r root)
-  where
-    by : ((eqb r root ≡ true) × (r ≡ root)) ⊎ ((eqb r root ≡ false) × (r ≢ root)) → get_or (set marks root true) r false ≡ get_or marks r false || has_root all (id_at all r) ix
-    by h = grind (arith, common_steps, eq-eqb, or-true, set, get_or-set_same, ne_eqb, same_places, or-false, get_or-set_other)
+mark_step all order marks root ix r long k is low = grind (arith, common_steps, eqb_tells, set, eq-eqb, or-true, get_or-set_same, ne_eqb, same_places, or-false, get_or-set_other)
 
 -- the roots of one list more
 pub marks_step : {X : Type 0} (test : X → Bool) (ls rest : List X) (x : X) (whole m new : Bool) → ls ≡ x ∷ rest → whole ≡ (m || list_any test ls) → new ≡ (m || test x) → whole ≡ (new || list_any test rest)
