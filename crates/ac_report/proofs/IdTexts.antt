@@ -27,17 +27,11 @@ are_digits : (n : ℕ) → id_text n ≡ digits 16 n
 unfolding by_index
 are_digits n = refl
 
-less : (m n : ℕ) → m < n → nat_cmp m n ≡ Less
-less m n h = sym (nat_cmp_is m n Less h)
-
-same : (n : ℕ) → nat_cmp n n ≡ Equal
-same n = sym (nat_cmp_is n n Equal refl)
-
 first_less : (x y : ℕ) (xs ys : List ℕ) → x < y → text_cmp (x ∷ xs) (y ∷ ys) ≡ Less
-first_less x y xs ys h = ap (λ o. ordering_then o (text_cmp xs ys)) (less x y h)
+first_less x y xs ys h = ap (λ o. ordering_then o (text_cmp xs ys)) (sym (nat_cmp_is x y Less h))
 
 first_same : (x y : ℕ) (xs ys : List ℕ) → x ≡ y → text_cmp (x ∷ xs) (y ∷ ys) ≡ text_cmp xs ys
-first_same x y xs ys e = ap (λ z. ordering_then (nat_cmp x z) (text_cmp xs ys)) (sym e) ∙ ap (λ o. ordering_then o (text_cmp xs ys)) (same x)
+first_same x y xs ys e = ap (λ z. ordering_then (nat_cmp x z) (text_cmp xs ys)) (sym e) ∙ ap (λ o. ordering_then o (text_cmp xs ys)) (sym (nat_cmp_is x x Equal refl))
 
 front_same : (front xs ys : List ℕ) → text_cmp (front ++ xs) (front ++ ys) ≡ text_cmp xs ys
 front_same [] xs ys = refl

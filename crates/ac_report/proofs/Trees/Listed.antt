@@ -10,6 +10,7 @@ use Rattle.std.specs.Ordering.{match_ordering, ordering_reverse}
 use Rattle.std.proofs.lemmas.Cmp.{nat_list_cmp_total, ranked}
 use Rattle.std.proofs.lemmas.List.Elements.{All-filter, recursion_from_All}
 use Rattle.std.proofs.lemmas.List.FromFn.{get_or-range_with_len, length-range_with_len}
+use Rattle.std.proofs.lemmas.Map.Keys.{sorted_from_strictly_increasing}
 use Rattle.std.proofs.lemmas.List.Kept.{IsStrictlySortedBy-filter}
 use Rattle.serde_json.specs.Data.{Data, member, put}
 use Rattle.ac_base.specs.Texts.{text_cmp}
@@ -49,17 +50,13 @@ listed_put (m ∷ ms) k d = grind (arith, common_steps, listed_match, listed_put
 
 -- ---- members of providers that rise
 
--- providers that stand in order have texts in order
-pub provider_texts_rise : (all : List Provider) → AreProviders all → (p q : ℕ) → p < q → q < length all → text_cmp (provider_text all p) (provider_text all q) ≡ Less
-provider_texts_rise all are p q h k = texts_rise (id_at all p) (id_at all q) (are.order p q h k) (are.fit q k)
-
 module _ (all : List Provider) (are : AreProviders all) (g : ℕ → Data) where
   abbrev there : ℕ → Named
   there ix = (provider_text all ix, g ix)
 
   texts_above : (p : ℕ) (ps : List ℕ) → AllByRecursion (λ q. nat_cmp p q ≡ Less) ps → AllByRecursion (λ q. q < length all) ps → AllByRecursion (λ k. text_cmp (provider_text all p) k ≡ Less) (keys_of (map there ps))
   texts_above p [] h b = tt
-  texts_above p (q ∷ ps) h b = (provider_texts_rise all are p q (ranked p q Less (sym h.0)) b.0, texts_above p ps h.1 b.1)
+  texts_above p (q ∷ ps) h b = (texts_rise (id_at all p) (id_at all q) (are.order p q (ranked p q Less (sym h.0)) b.0) (are.fit q b.0), texts_above p ps h.1 b.1)
 
   names_rise : (ps : List ℕ) → IsStrictlySortedBy nat_cmp ps → AllByRecursion (λ q. q < length all) ps → IsStrictlySortedBy text_cmp (keys_of (map there ps))
   unfolding IsStrictlySortedBy
@@ -71,14 +68,10 @@ module _ (all : List Provider) (are : AreProviders all) (g : ℕ → Data) where
   kept_listed t ps h b =
       gathered_listed (map there (filter t ps)) (names_rise (filter t ps) (IsStrictlySortedBy-filter nat_cmp t ps h) (recursion_from_All (λ q. q < length all) (filter t ps) (All-filter t (λ q. q < length all) ps b)))
 
-range_above : (p first n : ℕ) → p < first → AllByRecursion (λ q. nat_cmp p q ≡ Less) (range_with_len first n)
-range_above p first zero h = tt
-range_above p first (suc n) h = (sym (nat_cmp_is p first Less h), range_above p (first + 1) n (omega arith))
-
 pub range_rises : (first n : ℕ) → IsStrictlySortedBy nat_cmp (range_with_len first n)
-unfolding IsStrictlySortedBy
-range_rises first zero = tt
-range_rises first (suc n) = (range_above first (first + 1) n (omega arith), range_rises (first + 1) n)
+range_rises first n = sorted_from_strictly_increasing (range_with_len first n) (λ k h.
+    let l = length-range_with_len first n in
+    omega (arith, get_or-range_with_len first n k 0 (omega (arith, h, l)), get_or-range_with_len first n (k + 1) 0 (omega (arith, h, l))))
 
 pub range_below : (n : ℕ) → All (λ q. q < n) (range_with_len 0 n)
 range_below n i d h = rw (get_or-range_with_len 0 n i d (omega (arith, h, length-range_with_len 0 n))) (omega (arith, h, length-range_with_len 0 n))
