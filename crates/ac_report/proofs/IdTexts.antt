@@ -1,6 +1,6 @@
 -- The written forms of ids rise as the ids do.
 use Rattle.std.proofs.lemmas.Grind.{common_steps}
-use Rattle.std.proofs.Common.{◌≡◌, ◌⊎◌, inl, inr, ℕ, zero, suc, ◌/◌, ◌%◌, ◌^◌, ◌<◌, ◌≤◌, ◌==◌, ◌||◌, ◌∙◌, refl, sym, ap, ap₂, List, [], ◌∷◌, ◌++◌, if◌then◌else◌, Less, Equal, nat_cmp, lit<, arith}
+use Rattle.std.proofs.Common.{◌≡◌, ◌⊎◌, ℕ, zero, suc, ◌/◌, ◌%◌, ◌^◌, ◌<◌, ◌≤◌, ◌==◌, ◌||◌, ◌∙◌, refl, sym, ap, ap₂, List, [], ◌∷◌, ◌++◌, if◌then◌else◌, Less, Equal, nat_cmp, lit<, arith}
 use Rattle.std.specs.Int.{byte_at}
 use Rattle.std.specs.Cmp.{nat_cmp_is}
 use Rattle.std.specs.Ordering.{ordering_then}

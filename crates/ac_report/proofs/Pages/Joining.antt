@@ -3,19 +3,18 @@ use Rattle.std.proofs.Common.{arith}
 use Rattle.std.proofs.lemmas.Grind.{common_steps}
 use Rattle.std.proofs.Common.{◌≡◌, ℕ, List, [], ◌∷◌, ◌++◌, refl, sym, ap, ap₂, ◌∙◌, Bool, true, false, map, length, append_assoc, append-nil, codes}
 use Rattle.std.proofs.lemmas.Grind.{flat_map-append}
-use Rattle.std.specs.List.{list_any}
 use Rattle.serde_json.specs.Data.{Data, Items, array, object, string, Members, no_members, member}
 use Rattle.serde_json.specs.View.{items_of}
 use Rattle.serde_json.specs.Written.{compact_text, items_text, members_text, comma_if}
 use Rattle.serde_json.proofs.OnLiterals.{serde_json_on_literals}
 use Rattle.ac_cloud.specs.Laws.{AreProviders}
-use Rattle.ac_cloud.specs.World.{Provider, id_at, root_of}
+use Rattle.ac_cloud.specs.World.{Provider}
 use Rattle.ac_cloud.specs.declared.cloud.Cloud.{Cloud}
 use Rattle.ac_cloud.specs.Cloud.CloudWorld.{providers_of}
 use Rattle.ac_cloud.proofs.InOrder.{cloud_in_order}
 use Rattle.ac_query.specs.Asked.{Asked}
 use Rattle.ac_report.specs.Trees.{gathered, provider_text, request, summary}
-use Rattle.ac_report.specs.Texts.{request_text, summary_text, summarized, body_tree, body, with_commas, summary_piece, head_text, middle_text, tail_text, pieces, joined, meets_root}
+use Rattle.ac_report.specs.Texts.{request_text, summary_text, summarized, body_tree, body, with_commas, summary_piece, head_text, middle_text, tail_text, pieces, joined}
 use Rattle.ac_report.specs.Marks.{is_summarized, requests, summaries}
 use Rattle.ac_report.proofs.Trees.Gathering.{Named}
 use Rattle.ac_report.specs.Parts.{listed}

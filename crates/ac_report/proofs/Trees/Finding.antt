@@ -1,6 +1,6 @@
 -- Members by their names, and what a request says of its hosts.
 use Rattle.std.proofs.lemmas.Grind.{common_steps}
-use Rattle.std.proofs.Common.{◌≡◌, ◌⊎◌, inl, inr, ℕ, suc, ◌+◌, ◌<◌, ◌≤◌, List, [], ◌∷◌, map, length, refl, sym, ap, ap₂, ◌∙◌, Bool, true, false, ◌||◌, Option, Some, None, if◌then◌else◌, Equal, nat_cmp, arith}
+use Rattle.std.proofs.Common.{◌≡◌, ◌⊎◌, inl, inr, ℕ, ◌+◌, ◌<◌, ◌≤◌, List, [], ◌∷◌, map, length, refl, sym, ap, ap₂, ◌∙◌, true, false, Option, Some, None, if◌then◌else◌, Equal, nat_cmp, arith}
 use Rattle.std.specs.Prelude.{bytes_eq}
 use Rattle.std.specs.List.{All, AllByRecursion, list_any}
 use Rattle.std.proofs.Math.Nat.{eq-or-lt_of_le}
@@ -18,7 +18,7 @@ use Rattle.ac_query.specs.Laws.InOrder.{group_name, AreApart}
 use Rattle.ac_rules.specs.Placed.{Placed, assigned}
 use Rattle.ac_cloud.specs.World.{Provider}
 use Rattle.ac_report.specs.Parts.{gathered_onto}
-use Rattle.ac_report.specs.Trees.{gathered, hosts, mapping, mappings, mappings_from, provider_text, request, texts}
+use Rattle.ac_report.specs.Trees.{hosts, mapping, mappings, mappings_from, provider_text, request, texts}
 use Rattle.ac_report.proofs.SlotLemmas.{all_hosts, all_rising}
 use Rattle.ac_report.proofs.Trees.Gathering.{Named, bytes_eq_refl}
 
@@ -56,9 +56,12 @@ named all place (g ∷ gs) apart k low below = by (eq-or-lt_of_le low) (λ l. na
     by : (place ≡ k) ⊎ (place < k)
         → (place < k → (name : List ℕ) × ((xs : List Placed) (done : Members) → get_member name (gathered_onto done (mappings_from all xs (place + 1) gs)) ≡ Some (hosts_tree all xs k)))
         → (name : List ℕ) × ((xs : List Placed) (done : Members) → get_member name (gathered_onto done (mappings_from all xs place (g ∷ gs))) ≡ Some (hosts_tree all xs k))
-    by (inl s) later = (group_name g, λ xs done.
-        found (group_name g) (hosts_tree all xs place) (mappings_from all xs place (g ∷ gs)) done (λ _. refl, others (group_name g) _ all xs (place + 1) gs apart.0)
-        ∙ rw (bytes_eq_refl (group_name g)) (ap (λ p. Some (hosts_tree all xs p)) s))
+    by (inl s) later = (
+      group_name g,
+      λ xs done.
+          found (group_name g) (hosts_tree all xs place) (mappings_from all xs place (g ∷ gs)) done (λ _. refl, others (group_name g) _ all xs (place + 1) gs apart.0)
+          ∙ rw (bytes_eq_refl (group_name g)) (ap (λ p. Some (hosts_tree all xs p)) s),
+    )
     by (inr l) later = let more = later l in (more.0, λ xs done. more.1 xs (put (mapping all xs place g).0 (mapping all xs place g).1 done))
 
 -- what a request says of the group of a name

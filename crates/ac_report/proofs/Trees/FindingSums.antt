@@ -1,7 +1,7 @@
 -- What is taken of providers, back to the sums of classes.
-use Rattle.std.proofs.Common.{◌≡◌, ℕ, ◌+◌, ◌<◌, List, [], ◌∷◌, map, length, refl, sym, ap, ◌∙◌, Bool, true, false, ◌||◌, ◌&&◌, eqb, Option, Some, None, if◌then◌else◌, nat_cmp, arith}
+use Rattle.std.proofs.Common.{◌≡◌, ℕ, ◌<◌, List, [], ◌∷◌, map, length, refl, sym, ap, ◌∙◌, Bool, true, false, ◌||◌, ◌&&◌, Option, Some, None, if◌then◌else◌, nat_cmp, arith}
 use Rattle.std.specs.Prelude.{bytes_eq, nat_eq}
-use Rattle.std.specs.List.{All, AllByRecursion, filter, list_any}
+use Rattle.std.specs.List.{AllByRecursion, filter, list_any}
 use Rattle.std.proofs.lemmas.Bool.{eqb-true, or_parts}
 use Rattle.std.proofs.lemmas.Grind.{common_steps}
 use Rattle.std.proofs.lemmas.List.Elements.{All-filter, recursion_from_All}
@@ -12,7 +12,7 @@ use Rattle.serde_json.specs.Find.{get_member}
 use Rattle.ac_base.specs.Sorted.{rising}
 use Rattle.ac_base.proofs.Small.{eq_turned}
 use Rattle.ac_base.proofs.Sorted.SameItems.{member_rising}
-use Rattle.ac_query.specs.Asked.{Asked, slots_of}
+use Rattle.ac_query.specs.Asked.{Asked}
 use Rattle.ac_rules.specs.Placed.{Placed, assigned}
 use Rattle.ac_rules.specs.Together.{amount_of, sum_on, is_empty}
 use Rattle.ac_cloud.specs.World.{Provider}

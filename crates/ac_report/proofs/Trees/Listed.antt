@@ -1,18 +1,17 @@
 -- Members whose names rise stand in their order.
 use Rattle.std.proofs.lemmas.Grind.{common_steps}
-use Rattle.std.proofs.Common.{◌≡◌, ◌∙◌, ◌<◌, ◌+◌, ℕ, zero, suc, List, [], ◌∷◌, ◌++◌, Bool, map, length, nat_cmp, Ordering, Less, Equal, Greater, refl, sym, ap, append_assoc, append-nil, subst, arith}
+use Rattle.std.proofs.Common.{◌≡◌, ◌<◌, ◌+◌, ℕ, List, [], ◌∷◌, ◌++◌, Bool, map, length, nat_cmp, Ordering, Less, refl, sym, ap, append_assoc, append-nil, subst, arith}
 use Rattle.std.specs.BTreeMap.{insert_entry}
 use Rattle.std.specs.List.{All, AllByRecursion, filter, range_with_len}
 use Rattle.std.specs.List.Sorted.{IsStrictlySortedBy}
 use Rattle.std.specs.Map.{keys_of}
-use Rattle.std.specs.Cmp.{nat_cmp_is}
-use Rattle.std.specs.Ordering.{match_ordering, ordering_reverse}
+use Rattle.std.specs.Ordering.{match_ordering}
 use Rattle.std.proofs.lemmas.Cmp.{nat_list_cmp_total, ranked}
 use Rattle.std.proofs.lemmas.List.Elements.{All-filter, recursion_from_All}
 use Rattle.std.proofs.lemmas.List.FromFn.{get_or-range_with_len, length-range_with_len}
 use Rattle.std.proofs.lemmas.Map.Keys.{sorted_from_strictly_increasing}
 use Rattle.std.proofs.lemmas.List.Kept.{IsStrictlySortedBy-filter}
-use Rattle.serde_json.specs.Data.{Data, member, put}
+use Rattle.serde_json.specs.Data.{Data, put}
 use Rattle.ac_base.specs.Texts.{text_cmp}
 use Rattle.ac_cloud.specs.Laws.{AreProviders}
 use Rattle.ac_cloud.specs.World.{Provider, id_at}

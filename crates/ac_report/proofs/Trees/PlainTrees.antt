@@ -1,10 +1,9 @@
 -- Trees with no float.
 use Rattle.std.proofs.Common.{arith}
 use Rattle.std.proofs.lemmas.Grind.{common_steps}
-use Rattle.std.proofs.Common.{◌≡◌, ℕ, List, [], ◌∷◌, refl, ◌<◌, false, map, length, Option, Some, None}
+use Rattle.std.proofs.Common.{◌≡◌, ℕ, List, [], ◌∷◌, refl, ◌<◌, false, map, length, Option}
 use Rattle.serde_json.specs.Written.{has_float, members_have_float}
 use Rattle.ac_cloud.specs.Cloud.CloudWorld.{providers_of}
-use Rattle.ac_cloud.specs.World.{id_at, parent_of, provider_at}
 use Rattle.ac_cloud.specs.declared.cloud.Cloud.{Cloud}
 use Rattle.ac_report.specs.declared.request.parts.Allocation.{Allocation}
 use Rattle.ac_report.specs.declared.request.parts.Request.{Request}

@@ -1,11 +1,10 @@
 -- The trees of requests, as they are sent.
 use Rattle.std.proofs.lemmas.Grind.{common_steps}
-use Rattle.std.proofs.Common.{◌≡◌, ◌∙◌, ◌<◌, ◌+◌, ℕ, List, [], ◌∷◌, ◌++◌, Bool, true, false, not, codes, drop, fold, slice_index, length, map, nat_cmp, ap, ap₂, arith, refl, sym, Ordering, Less, Equal, Greater}
+use Rattle.std.proofs.Common.{◌≡◌, ◌∙◌, ◌<◌, ◌+◌, ℕ, List, [], ◌∷◌, ◌++◌, Bool, true, false, not, codes, drop, fold, slice_index, length, map, nat_cmp, ap, ap₂, arith, refl, sym}
 use Rattle.std.specs.Borrow.{Bor}
 use Rattle.std.specs.BTreeSet.{insert_key}
 use Rattle.std.specs.List.{All, filter}
 use Rattle.std.specs.Map.{keys_of}
-use Rattle.std.specs.Ordering.{match_ordering}
 use Rattle.std.proofs.lemmas.Cmp.{nat_cmp_total}
 use Rattle.std.proofs.lemmas.List.{drop_more, map-append}
 use Rattle.std.proofs.lemmas.Simd.{map-map}
@@ -19,7 +18,7 @@ use Rattle.ac_cloud.specs.Laws.{AreProviders}
 use Rattle.ac_base.specs.Sorted.{rising}
 use Rattle.ac_cloud.specs.World.{Provider, id_at}
 use Rattle.ac_report.specs.Parts.{gathered_onto, listed}
-use Rattle.ac_report.specs.Requests.{allocation_member, allocation_tree, class_sum, resources_tree, sum_member}
+use Rattle.ac_report.specs.Requests.{allocation_member, allocation_tree, class_sum, resources_tree}
 use Rattle.ac_report.specs.declared.request.parts.Allocation.{Allocation}
 use Rattle.ac_report.specs.Trees.{allocation, gathered, gives, needs_on, provider_text, sum}
 use Rattle.ac_report.proofs.SlotLemmas.{all_rising}

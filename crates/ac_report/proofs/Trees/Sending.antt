@@ -10,10 +10,9 @@ use Rattle.serde_json.specs.View.{items_of}
 use Rattle.ac_base.specs.Texts.{text_cmp}
 use Rattle.ac_cloud.proofs.Places.CloudFacts.{inside, inventory_records_here, parts}
 use Rattle.ac_cloud.specs.Cloud.CloudWorld.{providers_of}
-use Rattle.ac_cloud.specs.Cloud.Entries.{entry_class, entry_pair}
+use Rattle.ac_cloud.specs.Cloud.Entries.{entry_pair}
 use Rattle.ac_cloud.specs.World.{UsedInventory, provider_at}
 use Rattle.ac_cloud.specs.declared.cloud.Cloud.{Cloud}
-use Rattle.ac_cloud.specs.declared.cloud.entry.Entry.{Entry}
 use Rattle.ac_report.specs.Parts.{listed}
 use Rattle.ac_report.specs.Trees.{holding, holdings}
 use Rattle.ac_report.proofs.Trees.Gathering.{Named}

@@ -1,7 +1,7 @@
 use Rattle.std.proofs.lemmas.Grind.{common_steps}
 use Rattle.std.proofs.Common.{◌≡◌, ◌∙◌, ◌++◌, ap, sym, get_or, append_assoc, arith}
 use Rattle.std.proofs.lemmas.List.{get_or-map, length-map, take_all}
-use Rattle.ac_query.specs.Tokens.{ids_text, part_text}
+use Rattle.ac_query.specs.Tokens.{part_text}
 use Rattle.ac_query.proofs.WrittenIds.{next_part}
 use Rattle.ac_rules.specs.Pages.{ids_of}
 use Rattle.ac_cloud.specs.Cloud.CloudWorld.{providers_of}

@@ -1,4 +1,4 @@
-use Rattle.std.proofs.Common.{◌≡◌, [], ◌∷◌, false, refl}
+use Rattle.std.proofs.Common.{[], ◌∷◌, false, refl}
 use Rattle.ac_query.specs.Shown.Queries.{asked_of}
 use Rattle.ac_rules.specs.Pages.{cut}
 use Rattle.ac_cloud.specs.Cloud.CloudWorld.{providers_of}

@@ -1,6 +1,5 @@
 use Rattle.std.proofs.lemmas.Grind.{common_steps}
-use Rattle.std.proofs.Common.{◌≡◌, ◌∙◌, refl, sym, ap, map, [], ◌∷◌, ◌++◌, ◌||◌, false, get_or, arith, List, ℕ}
-use Rattle.std.specs.List.{list_any}
+use Rattle.std.proofs.Common.{◌≡◌, ◌∙◌, refl, ap, [], ◌∷◌, ◌++◌, false, get_or, arith}
 use Rattle.std.proofs.Math.Bool.{or-false}
 use Rattle.serde_json.specs.Written.{comma_if}
 use Rattle.ac_query.specs.Shown.Queries.{asked_of}
@@ -9,7 +8,7 @@ use Rattle.ac_cloud.specs.Cloud.CloudWorld.{providers_of}
 use Rattle.ac_cloud.specs.World.{id_at}
 use Rattle.ac_report.specs.Marks.{requests}
 use Rattle.ac_report.specs.Pages.{IsAssignment}
-use Rattle.ac_report.specs.Texts.{meets_root, request_text, with_commas}
+use Rattle.ac_report.specs.Texts.{meets_root, request_text}
 use Rattle.ac_report.proofs.Pages.Paging.{all_head, all_tail, cut_end, cut_over, is_next, read_end, read_last, read_on, read_over}
 use Rattle.ac_report.proofs.Pages.Writing.{refused, stopped, wrote_none, wrote_on}
 use Rattle.ac_report.proofs.Trees.Marking.{marks_step}

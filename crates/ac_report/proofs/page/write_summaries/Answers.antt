@@ -1,4 +1,4 @@
-use Rattle.std.proofs.Common.{◌≡◌, ◌∙◌, ◌++◌, [], ◌∷◌, ap, length, sym, refl, arith}
+use Rattle.std.proofs.Common.{◌∙◌, ◌++◌, [], ◌∷◌, ap, length, sym, arith}
 use Rattle.std.specs.List.{filter}
 use Rattle.serde_json.specs.Written.{comma_if}
 use Rattle.ac_cloud.specs.Cloud.CloudWorld.{providers_of}

@@ -3,7 +3,7 @@ use Rattle.std.proofs.Common.{◌∙◌, ◌+◌, ◌<◌, ℕ, List, ap, ap₂,
 use Rattle.std.proofs.lemmas.List.{drop_all, drop_more}
 use Rattle.std.specs.Borrow.{Bor}
 use Rattle.std.specs.List.{All}
-use Rattle.serde_json.specs.Data.{object, put}
+use Rattle.serde_json.specs.Data.{put}
 use Rattle.ac_base.proofs.ShownKeys.{insert_shown}
 use Rattle.ac_base.specs.Texts.{text_cmp}
 use Rattle.ac_query.specs.Asked.{slots_of}

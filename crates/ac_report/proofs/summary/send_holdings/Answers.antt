@@ -1,9 +1,6 @@
 use Rattle.std.proofs.Common.{arith}
 use Rattle.std.proofs.lemmas.Grind.{common_steps}
-use Rattle.std.proofs.Common.{map, sym, ◌∙◌}
 use Rattle.std.proofs.lemmas.List.{length-map}
-use Rattle.ac_cloud.specs.Cloud.Entries.{entry_pair}
-use Rattle.ac_report.specs.Trees.{holding}
 use Rattle.ac_report.proofs.Trees.Sending.{begin_members, holdings_listed}
 use Rattle.ac_report.proofs.summary.send_holdings.Goals as goal
 

@@ -1,10 +1,7 @@
 use Rattle.std.proofs.Common.{arith}
 use Rattle.std.proofs.lemmas.Grind.{common_steps}
-use Rattle.std.proofs.Common.{List, subst}
 use Rattle.std.proofs.lemmas.Result.{on_ok_weaker}
-use Rattle.serde_json.specs.Events.{SendsValue}
-use Rattle.ac_report.specs.declared.request.parts.Allocation.{Allocation}
-use Rattle.ac_report.specs.Requests.{allocations_tree, request_tree}
+use Rattle.ac_report.specs.Requests.{request_tree}
 use Rattle.ac_report.proofs.request.sending.RequestSerialize.serialize.Goals as goal
 
 pub returns : goal.returns
