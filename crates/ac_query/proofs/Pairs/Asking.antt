@@ -7,6 +7,7 @@ use Rattle.std.specs.List.Sorted.{IsStrictlySortedBy}
 use Rattle.std.specs.Map.{keys_of}
 use Rattle.std.proofs.lemmas.Cmp.{nat_list_cmp_total, eq_by_cmp_equiv}
 use Rattle.std.proofs.lemmas.List.{map-append}
+use Rattle.std.proofs.lemmas.Simd.{map-map}
 use Rattle.std.proofs.lemmas.Map.Entries.{lookup_from_place}
 use Rattle.std.proofs.lemmas.Map.Keys.{IsDistinct-from_sorted}
 use Rattle.ac_base.specs.Texts.{text_cmp}
@@ -50,8 +51,7 @@ plain_named : (ps : List Part) → map (λ e. e.0) (plain_groups (grown_all None
 plain_named ps = grind (arith, common_steps, grown_there)
 
 suffixes_named : (es : List (List ℕ × Group)) → map (λ e. e.0) (map of_suffix es) ≡ map (λ s. Some s) (keys_of es)
-suffixes_named [] = refl
-suffixes_named (e ∷ es) = ap (λ l. Some e.0 ∷ l) (suffixes_named es)
+suffixes_named es = map-map (λ e. e.0) of_suffix es ∙ sym (map-map (λ s. Some s) (λ e. e.0) es)
 
 module _ (version : Version) (pairs : List (List ℕ × List ℕ)) (fine : first_fault (pairs_conditions version 1 [] pairs) ≡ None) where
   abbrev all : List Given

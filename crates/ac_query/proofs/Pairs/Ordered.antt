@@ -1,6 +1,6 @@
 -- What pairs ask for is in order.
 use Rattle.std.proofs.lemmas.Grind.{common_steps}
-use Rattle.std.proofs.Common.{rules, ◌≡◌, ◌<◌, ℕ, suc, false, List, [], ◌∷◌, ◌++◌, map, length, Option, Some, None, IfSome, refl, sym, ap, subst, arith}
+use Rattle.std.proofs.Common.{rules, ◌≡◌, ◌<◌, ℕ, suc, false, List, [], ◌∷◌, ◌++◌, map, length, Option, Some, None, IfSome, refl, sym, subst, arith}
 use Rattle.std.specs.List.{All, AllByRecursion, fold, cons_option}
 use Rattle.std.specs.List.Sorted.{IsStrictlySortedBy}
 use Rattle.std.specs.Map.{lookup, keys_of, values_of}
@@ -8,6 +8,7 @@ use Rattle.std.specs.BTreeMap.{is_at}
 use Rattle.std.specs.Str.{bytes_eq}
 use Rattle.std.proofs.lemmas.Cmp.{nat_list_cmp_total}
 use Rattle.std.proofs.lemmas.Map.Views.{All-keys-insert_entry, All-values-insert_entry, IfSome-lookup_from_All}
+use Rattle.std.proofs.lemmas.Simd.{map-map}
 use Rattle.std.proofs.lemmas.Option.{IfSome_then}
 use Rattle.ac_base.specs.Texts.{text_cmp}
 use Rattle.ac_base.proofs.Sorted.SortedSets.{empty_sorted}
@@ -83,10 +84,6 @@ first_plain None [] = tt
 first_plain None (e ∷ es) = suffixed es
 first_plain (Some g) es = suffixed es
 
-names_are : (es : List (List ℕ × Group)) → map group_name (map of_suffix es) ≡ keys_of es
-names_are [] = refl
-names_are (e ∷ es) = ap (λ l. e.0 ∷ l) (names_are es)
-
 long_differs : (s : List ℕ) → 0 < length s → bytes_eq [] s ≡ false
 long_differs s h = grind (arith, common_steps)
 
@@ -96,8 +93,8 @@ all_differ (s ∷ ss) all = (long_differs s (all 0 [] (omega arith)), all_differ
 
 names_apart : (o : Option Group) (es : List (List ℕ × Group)) → All (λ s. 0 < length s) (keys_of es) → IsStrictlySortedBy text_cmp (keys_of es)
     → AreApart (map group_name (plain_groups o ++ map of_suffix es))
-names_apart None es long sorted = subst AreApart (sym (names_are es)) (apart_from_sorted (keys_of es) sorted)
-names_apart (Some g) es long sorted = subst (λ l. AreApart ([] ∷ l)) (sym (names_are es)) (all_differ (keys_of es) long, apart_from_sorted (keys_of es) sorted)
+names_apart None es long sorted = subst AreApart (sym (map-map group_name of_suffix es)) (apart_from_sorted (keys_of es) sorted)
+names_apart (Some g) es long sorted = subst (λ l. AreApart ([] ∷ l)) (sym (map-map group_name of_suffix es)) (all_differ (keys_of es) long, apart_from_sorted (keys_of es) sorted)
 
 needs_served : (es : List (List ℕ × Group)) → All HasNeeds (values_of es) → AllByRecursion (λ g. AreNeeds g.1.needs) (map of_suffix es)
 needs_served [] all = tt
