@@ -1,16 +1,16 @@
 -- Slots, and the groups and classes that they name.
-use Rattle.std.proofs.Common.{◌≡◌, false, ℕ, ◌+◌, ◌<◌, ◌≤◌, suc, zero, add-one, arith, List, [], ◌∷◌, ◌++◌, length, map, take, drop, get_or, Option, Some, None, IfSome, IsSome, refl, sym, ap, ap₂, ◌∙◌, subst, append_assoc, drop-cons}
+use Rattle.std.proofs.lemmas.Grind.{common_steps}
+use Rattle.std.proofs.Common.{◌≡◌, ◌⊎◌, inl, inr, false, ℕ, ◌+◌, ◌<◌, ◌≤◌, add-one, arith, List, [], ◌∷◌, ◌++◌, length, map, take, drop, get_or, Option, Some, None, IfSome, IsSome, refl, sym, ap, ap₂, ◌∙◌, subst, append_assoc, drop-cons}
 use Rattle.std.specs.List.{slice_get}
 use Rattle.std.specs.Option.{option_map, option_and_then}
 use Rattle.std.proofs.lemmas.List.{map-append, length-map, take_more, take_all}
-use Rattle.std.proofs.lemmas.Option.{slice_get-get_or, slice_get-map, slice_get_read, slice_get_within, get_or_from_slice_get}
+use Rattle.std.proofs.lemmas.Option.{slice_get_cases, slice_get-get_or, slice_get-map, slice_get_read, slice_get_within, get_or_from_slice_get}
 use Rattle.ac_query.specs.declared.slot.Slot as rust
 use Rattle.ac_query.specs.Asked.{Group, Slot, class_slot, group_slots, slots_from, lists_suffix, lists_slot}
 use Rattle.ac_query.specs.Shown.Slots.{slot_group, slot_in, slot_shown}
 
 some-some : {X : Type 0} (o : Option X) (x : Option X) → Some x ≡ option_map (λ s. Some s) o → x ≡ o
-some-some None x h = absurd (cc)
-some-some (Some y) x h = cc
+some-some o x h = grind (arith, common_steps)
 
 -- a slot that is made of an entry, where a whole group's slot has all its needs
 record IsMadeOf (i : ℕ) (c : Option ℕ) (e : Option (List ℕ) × Group) (s : Slot) : Type 0 where
@@ -32,12 +32,7 @@ made_of i (Some j) (Some t, g) = tt
 module _ (gs : List (Option (List ℕ) × Group)) where
   -- a slot that shows as one
   is_of : (x : rust.Slot) (s : Slot) → slot_shown gs x ≡ Some s → (e : Option (List ℕ) × Group) × (slice_get gs x.group ≡ Some e) × IsMadeOf x.group x.class e s
-  is_of x s shown = of (slice_get gs x.group) refl shown
-    where
-      of : (o : Option (Option (List ℕ) × Group)) → slice_get gs x.group ≡ o → option_and_then (slot_in x.group x.class) o ≡ Some s
-          → (e : Option (List ℕ) × Group) × (slice_get gs x.group ≡ Some e) × IsMadeOf x.group x.class e s
-      of None is h = absurd (cc)
-      of (Some e) is h = (e, is, subst (λ o. IfSome o (IsMadeOf x.group x.class e)) h (made_of x.group x.class e))
+  is_of x s shown = grind (arith, common_steps, made_of)
 
   pub slot_at : (slots : List rust.Slot) (ss : List Slot) → map (slot_shown gs) slots ≡ map (λ s. Some s) ss → (i : ℕ) (x : rust.Slot) → slice_get slots i ≡ Some x
       → slot_shown gs x ≡ slice_get ss i
@@ -72,22 +67,19 @@ module _ (gs : List (Option (List ℕ) × Group)) (x : rust.Slot) (e : Option (L
   listed_is (Some s) shown there list names at = ap (λ d. lists_suffix names d.0) (of_entry s shown).entry ∙ ap (λ l. lists_slot l (Some s)) (sym at)
 
   pub none_listed : (o : Option Slot) → slot_shown gs x ≡ o → IsSome o → (list : Option (List (List ℕ))) → e.0 ≡ None → false ≡ lists_slot list o
-  none_listed o shown there None plain = refl
-  none_listed o shown there (Some names) plain = ap (lists_suffix names) (sym plain) ∙ listed_is o shown there (Some names) names refl
+  none_listed o shown there list plain = grind (arith, common_steps, there, listed_is)
 
   -- what the slot of a whole group needs
   pub needs_whole : (o : Option Slot) → slot_shown gs x ≡ o → IsSome o → x.class ≡ None → Some e.1.needs ≡ option_map (λ s. s.needs) o
-  needs_whole None shown there whole = absurd (cc)
-  needs_whole (Some s) shown there whole = ap (λ l. Some l) ((of_entry s shown).whole whole)
+  needs_whole o shown there whole = grind (arith, common_steps, there, whole, of_entry)
 
 -- a slot that is there
 pub slot_there : (ss : List Slot) (s : ℕ) (o : Option Slot) → s < length ss → o ≡ slice_get ss s → IsSome o
-slot_there ss s o l is = subst IsSome (sym is) (there ss s l)
+slot_there ss s o l is = subst IsSome (sym is) (there (slice_get_cases ss s).1)
   where
-    there : (ss : List Slot) (s : ℕ) → s < length ss → IsSome (slice_get ss s)
-    there [] s l = absurd (omega arith)
-    there (x ∷ xs) zero l = refl
-    there (x ∷ xs) (suc s) l = there xs s (omega arith)
+    there : ((x : Slot) × (s < length ss) × (slice_get ss s ≡ Some x) × (get_or ss s x ≡ x)) ⊎ ((length ss ≤ s) × (slice_get ss s ≡ None)) → IsSome (slice_get ss s)
+    there (inl h) = rw h.2 refl
+    there (inr h) = absurd (omega (arith, h.0, l))
 
 -- a read of a list of elements that are shown
 pub shown_read : {X Y : Type 0} (f : X → Y) (xs : List X) (i : ℕ) (x : X) → i < length (map f xs) → x ≡ get_or xs i x → slice_get (map f xs) i ≡ Some (f x)
@@ -97,14 +89,11 @@ shown_read f xs i x l is = slice_get-map f xs i ∙ ap (option_map f) (slice_get
 module _ (gs : List (Option (List ℕ) × Group)) (i : ℕ) where
   pub suffix_pushed : (e : Option (List ℕ) × Group) (s : List ℕ) (have new : List rust.Slot) → slice_get gs i ≡ Some e → e.0 ≡ Some s → new ≡ have ++ record { group = i; class = None } ∷ []
       → map (slot_shown gs) new ≡ map (slot_shown gs) have ++ map (λ s. Some s) (group_slots i e)
-  suffix_pushed (None, g) s have new is named added = absurd (cc)
-  suffix_pushed (Some t, g) s have new is named added =
-      ap (map (slot_shown gs)) added ∙ map-append (slot_shown gs) have _ ∙ ap (λ o. map (slot_shown gs) have ++ option_and_then (slot_in i None) o ∷ []) is
+  suffix_pushed e s have new is named added = grind (arith, common_steps, map-append)
 
   class_shown : (e : Option (List ℕ) × Group) → slice_get gs i ≡ Some e → e.0 ≡ None → (n : ℕ) (need : List ℕ × ℕ) → slice_get e.1.needs n ≡ Some need
       → slot_shown gs (record { group = i; class = Some n }) ≡ Some (class_slot i e.1 need)
-  class_shown (None, g) is plain n need at = rw (is, at) refl
-  class_shown (Some t, g) is plain n need at = absurd (cc)
+  class_shown e is plain n need at = grind (arith, common_steps)
 
   -- some slots, and those of the first classes of a group
   abbrev pub with_classes : List (Option Slot) → Option (List ℕ) × Group → ℕ → List (Option Slot)
@@ -124,8 +113,7 @@ module _ (gs : List (Option (List ℕ) × Group)) (i : ℕ) where
       ∙ map-append (λ s. Some s) (map (class_slot i e.1) (take n e.1.needs)) (class_slot i e.1 need ∷ [])))
 
   pub classes_all : (base : List (Option Slot)) (e : Option (List ℕ) × Group) (n : ℕ) → e.0 ≡ None → length e.1.needs ≤ n → with_classes base e n ≡ base ++ map (λ s. Some s) (group_slots i e)
-  classes_all base (None, g) n plain end = ap (λ l. base ++ map (λ s. Some s) (map (class_slot i g) l)) (take_all n g.needs end)
-  classes_all base (Some t, g) n plain end = absurd (cc)
+  classes_all base e n plain end = grind (arith, common_steps, take_all)
 
   -- a turn of the loop over the groups
   pub slots_go_on : (e : Option (List ℕ) × Group) (have more whole : List (Option Slot)) → slice_get gs i ≡ Some e → more ≡ have ++ map (λ s. Some s) (group_slots i e)

@@ -24,12 +24,14 @@ pub fn token_reads()
 {}
 
 /// The place of a slot is that of its group.
+#[tactic(auto, using(crate::proofs::SlotPlaces::slots_name_groups))]
 pub fn slots_name_groups()
     ensures { SlotsNameGroups }
 {}
 
 /// What pairs ask for is in order: only the first group may have no suffix, suffixes are different and none is empty, each amount is at
 /// least 1, and no class of a group stands twice. So it is of each query that is accepted.
+#[tactic(auto, using(crate::proofs::Pairs::Ordered::query_in_order))]
 pub fn query_in_order()
     ensures { QueryInOrder }
 {}

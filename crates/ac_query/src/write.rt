@@ -30,6 +30,7 @@ pub(crate) fn push_part(text: &mut String, place: usize, id: Id) -> Result<(), N
 }
 
 /// The text of a token: UUIDs in written form, joined by commas.
+#[tactic(auto, using(crate::proofs::WrittenIds::next_part))]
 pub fn write_ids(alloc: Global, ids: &[Id]) -> Result<String, NoMemory>
     ensures { IfOk result (λ text. string_bytes text ≡ ids_text ids.now) }
 {

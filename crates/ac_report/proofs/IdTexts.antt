@@ -1,5 +1,6 @@
 -- The written forms of ids rise as the ids do.
-use Rattle.std.proofs.Common.{◌≡◌, ◌⊎◌, inl, inr, ℕ, zero, suc, ◌/◌, ◌%◌, ◌^◌, ◌<◌, ◌≤◌, ◌==◌, ◌||◌, ◌∙◌, refl, sym, ap, ap₂, List, [], ◌∷◌, ◌++◌, if◌then◌else◌, Less, Equal, nat_cmp, lit<, arith}
+use Rattle.std.proofs.lemmas.Grind.{common_steps}
+use Rattle.std.proofs.Common.{◌≡◌, ◌⊎◌, ℕ, zero, suc, ◌/◌, ◌%◌, ◌^◌, ◌<◌, ◌≤◌, ◌==◌, ◌||◌, ◌∙◌, refl, sym, ap, ap₂, List, [], ◌∷◌, ◌++◌, if◌then◌else◌, Less, Equal, nat_cmp, lit<, arith}
 use Rattle.std.specs.Int.{byte_at}
 use Rattle.std.specs.Cmp.{nat_cmp_is}
 use Rattle.std.specs.Ordering.{ordering_then}
@@ -26,17 +27,11 @@ are_digits : (n : ℕ) → id_text n ≡ digits 16 n
 unfolding by_index
 are_digits n = refl
 
-less : (m n : ℕ) → m < n → nat_cmp m n ≡ Less
-less m n h = sym (nat_cmp_is m n Less h)
-
-same : (n : ℕ) → nat_cmp n n ≡ Equal
-same n = sym (nat_cmp_is n n Equal refl)
-
 first_less : (x y : ℕ) (xs ys : List ℕ) → x < y → text_cmp (x ∷ xs) (y ∷ ys) ≡ Less
-first_less x y xs ys h = ap (λ o. ordering_then o (text_cmp xs ys)) (less x y h)
+first_less x y xs ys h = ap (λ o. ordering_then o (text_cmp xs ys)) (sym (nat_cmp_is x y Less h))
 
 first_same : (x y : ℕ) (xs ys : List ℕ) → x ≡ y → text_cmp (x ∷ xs) (y ∷ ys) ≡ text_cmp xs ys
-first_same x y xs ys e = ap (λ z. ordering_then (nat_cmp x z) (text_cmp xs ys)) (sym e) ∙ ap (λ o. ordering_then o (text_cmp xs ys)) (same x)
+first_same x y xs ys e = ap (λ z. ordering_then (nat_cmp x z) (text_cmp xs ys)) (sym e) ∙ ap (λ o. ordering_then o (text_cmp xs ys)) (sym (nat_cmp_is x x Equal refl))
 
 front_same : (front xs ys : List ℕ) → text_cmp (front ++ xs) (front ++ ys) ≡ text_cmp xs ys
 front_same [] xs ys = refl
@@ -47,23 +42,13 @@ hex_rises x y h k = grind (arith, nat_tests)
 
 -- the digits of a smaller byte are smaller
 byte_rises : (x y : ℕ) (xs ys : List ℕ) → x < y → y < 256 → text_cmp (with_byte x xs) (with_byte y ys) ≡ Less
-byte_rises x y xs ys h k = by_case (eq-or-lt_of_le (omega arith))
-  where
-    by_case : (x / 16 % 16 ≡ y / 16 % 16) ⊎ (x / 16 % 16 < y / 16 % 16) → text_cmp (with_byte x xs) (with_byte y ys) ≡ Less
-    by_case (inr l) =
-        first_less (hex_digit lower (x / 16 % 16)) (hex_digit lower (y / 16 % 16)) (hex_digit lower (x % 16) ∷ xs) (hex_digit lower (y % 16) ∷ ys) (hex_rises (x / 16 % 16) (y / 16 % 16) l (omega arith))
-    by_case (inl e) =
-        first_same (hex_digit lower (x / 16 % 16)) (hex_digit lower (y / 16 % 16)) (hex_digit lower (x % 16) ∷ xs) (hex_digit lower (y % 16) ∷ ys) (ap (hex_digit lower) e)
-        ∙ first_less (hex_digit lower (x % 16)) (hex_digit lower (y % 16)) xs ys (hex_rises (x % 16) (y % 16) (omega (arith, e)) (omega arith))
+byte_rises x y xs ys h k = grind (arith, common_steps, eq-or-lt_of_le, with_byte, first_less, hex_rises, first_same)
 
 byte_same : (b : ℕ) (xs ys : List ℕ) → text_cmp (with_byte b xs) (with_byte b ys) ≡ text_cmp xs ys
-byte_same b xs ys =
-    first_same (hex_digit lower (b / 16 % 16)) (hex_digit lower (b / 16 % 16)) (hex_digit lower (b % 16) ∷ xs) (hex_digit lower (b % 16) ∷ ys) refl
-    ∙ first_same (hex_digit lower (b % 16)) (hex_digit lower (b % 16)) xs ys refl
+byte_same b xs ys = grind (arith, common_steps, first_same)
 
 byte_is : (k n : ℕ) → byte_at k n ≡ n / 256 ^ k % 256
-byte_is zero n = ap (λ q. q % 256) (sym (div-one n))
-byte_is (suc k) n = refl
+byte_is k n = grind (arith, common_steps, div-one)
 
 top_step : (k n : ℕ) → n / 256 ^ suc k ≡ n / 256 ^ k / 256
 top_step k n = ap (λ q. n / q) (pow-suc 256 k) ∙ sym (div-div-eq-div-mul n (256 ^ k) 256)
@@ -78,16 +63,7 @@ tops_rise k m n h = le-div (m / 256 ^ k) n (256 ^ k) (pow_positive k) (omega (ar
 -- one more byte, where the bytes before it are the same
 digits_step : (k m n : ℕ) → m / 256 ^ suc k ≡ n / 256 ^ suc k → (m / 256 ^ k ≡ n / 256 ^ k) ⊎ (m / 256 ^ k < n / 256 ^ k)
     → (m / 256 ^ k ≡ n / 256 ^ k → text_cmp (digits k m) (digits k n) ≡ Less) → text_cmp (digits (suc k) m) (digits (suc k) n) ≡ Less
-digits_step k m n e (inr l) more =
-    let tops : m / 256 ^ k / 256 ≡ n / 256 ^ k / 256 = sym (top_step k m) ∙ e ∙ top_step k n in
-    let byte = byte_is k n in
-    byte_rises (byte_at k m) (byte_at k n) (hyphen_before k ++ digits k m) (hyphen_before k ++ digits k n) (omega (arith, byte_is k m, byte, tops, l)) (omega (arith, byte))
-digits_step k m n e (inl s) more =
-    let byte : byte_at k m ≡ byte_at k n = byte_is k m ∙ ap (λ q. q % 256) s ∙ sym (byte_is k n) in
-    ap (λ b. text_cmp (with_byte b (hyphen_before k ++ digits k m)) (with_byte (byte_at k n) (hyphen_before k ++ digits k n))) byte
-    ∙ byte_same (byte_at k n) (hyphen_before k ++ digits k m) (hyphen_before k ++ digits k n)
-    ∙ front_same (hyphen_before k) (digits k m) (digits k n)
-    ∙ more s
+digits_step k m n e h more = grind (arith, common_steps, top_step, byte_is, byte_rises, hyphen_before, digits, with_byte, byte_same, front_same)
 
 digits_rise : (k m n : ℕ) → m < n → m / 256 ^ k ≡ n / 256 ^ k → text_cmp (digits k m) (digits k n) ≡ Less
 digits_rise zero m n h e = absurd (omega (arith, sym (div-one m) ∙ e ∙ div-one n))

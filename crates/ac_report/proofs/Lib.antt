@@ -1,6 +1,5 @@
 pub mod Pages
 pub mod Trees
-pub mod Outcomes
 pub mod IdTexts
 pub mod SlotLemmas
 pub mod Differing

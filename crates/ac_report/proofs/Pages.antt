@@ -1,6 +1,4 @@
--- Pages, piece by piece and list by list.
+-- Pages: what is written of them, piece by piece, and what is read.
 pub mod Joining
 pub mod Paging
-pub mod Wholes
-pub mod Bodies
-pub mod Summing
+pub mod Writing

@@ -1,11 +1,13 @@
 -- What slots need of a provider, and whose providers they have.
-use Rattle.std.proofs.Common.{◌≡◌, ℕ, zero, suc, ◌+◌, ◌<◌, ◌≤◌, List, [], ◌∷◌, ◌++◌, map, fold, drop, length, refl, sym, ap, ◌∙◌, Bool, true, false, ◌||◌, nat_cmp, if◌then◌else◌, sum_by, slice_index, arith}
+use Rattle.std.proofs.lemmas.Grind.{common_steps}
+use Rattle.std.proofs.Common.{◌≡◌, ℕ, suc, ◌+◌, ◌<◌, List, [], ◌∷◌, ◌++◌, map, fold, drop, length, refl, ap, ◌∙◌, Bool, true, false, nat_cmp, if◌then◌else◌, slice_index, arith}
 use Rattle.std.specs.Prelude.{nat_eq, slice_index_or}
 use Rattle.std.specs.BTreeSet.{insert_key}
 use Rattle.std.specs.Map.{keys_of}
 use Rattle.std.specs.List.{All, filter, list_any}
 use Rattle.std.proofs.lemmas.List.{map-append}
-use Rattle.std.proofs.lemmas.List.Sums.{fold-append, sum_by-cons}
+use Rattle.std.proofs.lemmas.List.Sums.{fold-append}
+use Rattle.std.proofs.lemmas.List.Elements.{All-cons}
 use Rattle.std.proofs.lemmas.Map.Views.{All-insert_key}
 use Rattle.ac_base.specs.Texts.{text_cmp}
 use Rattle.ac_query.specs.Asked.{Slot}
@@ -14,12 +16,6 @@ use Rattle.ac_rules.specs.Together.{amount_of, sum_on}
 use Rattle.ac_rules.proofs.PlacedLemmas.{placed_more}
 use Rattle.ac_base.specs.Sorted.{rising}
 use Rattle.ac_report.specs.Trees.{hosts, needs_on}
-
--- a slot needs no more than all slots
-pub few_at : (ss : List Slot) (s : ℕ) → s < length ss → length (slice_index_or ss s no_slot).needs ≤ sum_by (λ s. length s.needs) ss
-few_at [] s h = absurd (omega arith)
-few_at (x ∷ ss) zero h = omega (arith, sum_by-cons (λ (s : Slot). length s.needs) x ss)
-few_at (x ∷ ss) (suc s) h = omega (arith, few_at ss s (omega arith), sum_by-cons (λ (s : Slot). length s.needs) x ss)
 
 -- ---- one slot more of those that are left
 
@@ -35,11 +31,7 @@ needs_more ss t i ix h k = ap (λ xs. needs_on xs ix) (placed_more ss t i no_slo
 pub keys_more : (ss : List Slot) (t : List ℕ) (i ix : ℕ) (done : List (List ℕ)) → i < length t → i < length ss
     → fold (insert_key text_cmp) done (keys_of (needs_on (placed (drop i ss) (drop i t)) ix))
     ≡ fold (insert_key text_cmp) (fold (insert_key text_cmp) done (keys_of (needs_in ss t i ix))) (keys_of (needs_on (placed (drop (i + 1) ss) (drop (i + 1) t)) ix))
-keys_more ss t i ix done h k =
-    let later = needs_on (placed (drop (i + 1) ss) (drop (i + 1) t)) ix in
-    ap (λ needs. fold (insert_key text_cmp) done (keys_of needs)) (needs_more ss t i ix h k)
-    ∙ ap (fold (insert_key text_cmp) done) (map-append (λ (need : List ℕ × ℕ). need.0) (needs_in ss t i ix) later)
-    ∙ fold-append (insert_key text_cmp) done (keys_of (needs_in ss t i ix)) (keys_of later)
+keys_more ss t i ix done h k = grind (arith, common_steps, needs_more, map-append, needs_in, fold-append)
 
 -- ---- sums
 
@@ -48,8 +40,7 @@ amount_append q [] ys = omega arith
 amount_append q (x ∷ xs) ys = let e = amount_append q xs ys in omega (arith, e)
 
 amount_if : (q : List ℕ) (b : Bool) (needs : List (List ℕ × ℕ)) → amount_of (if b then needs else []) q ≡ (if b then amount_of needs q else 0)
-amount_if q true needs = refl
-amount_if q false needs = refl
+amount_if q b needs = grind (arith, common_steps)
 
 pub amount_more : (ss : List Slot) (t : List ℕ) (i ix : ℕ) (q : List ℕ) → i < length t → i < length ss
     → amount_of (needs_on (placed (drop i ss) (drop i t)) ix) q ≡ amount_of (needs_in ss t i ix) q + amount_of (needs_on (placed (drop (i + 1) ss) (drop (i + 1) t)) ix) q
@@ -58,21 +49,12 @@ amount_more ss t i ix q h k = ap (λ needs. amount_of needs q) (needs_more ss t 
 -- what is needed of a provider, class by class
 pub sum_on_is : (xs : List Placed) (ix : ℕ) (q : List ℕ) → sum_on xs ix q ≡ amount_of (needs_on xs ix) q
 sum_on_is [] ix q = refl
-sum_on_is (x ∷ xs) ix q =
-    let here : List (List ℕ × ℕ) = if nat_eq x.provider ix then x.slot.needs else [] in
-    ap (λ n. (if nat_eq x.provider ix then amount_of x.slot.needs q else 0) + n) (sum_on_is xs ix q)
-    ∙ ap (λ n. n + amount_of (needs_on xs ix) q) (sym (amount_if q (nat_eq x.provider ix) x.slot.needs))
-    ∙ sym (amount_append q here (needs_on xs ix))
+sum_on_is (x ∷ xs) ix q = grind (arith, common_steps, amount_if, amount_append, sum_on_is xs ix q)
 
 -- nothing is needed of who serves no slot
 pub needs_none : (xs : List Placed) (ix : ℕ) → list_any (λ p. nat_eq p ix) (map (λ x. x.provider) xs) ≡ false → needs_on xs ix ≡ []
 needs_none [] ix h = refl
-needs_none (x ∷ xs) ix h = by (nat_eq x.provider ix) (needs_none xs ix) h
-  where
-    by : (b : Bool) → (list_any (λ p. nat_eq p ix) (map (λ x. x.provider) xs) ≡ false → needs_on xs ix ≡ []) → b || list_any (λ p. nat_eq p ix) (map (λ x. x.provider) xs) ≡ false
-        → (if b then x.slot.needs else []) ++ needs_on xs ix ≡ []
-    by true more h = absurd (cc)
-    by false more h = more h
+needs_none (x ∷ xs) ix h = grind (arith, common_steps, needs_none xs ix)
 
 -- ---- whose providers these are
 
@@ -84,15 +66,10 @@ providers_are (s ∷ ss) (p ∷ t) e = ap (λ l. p ∷ l) (providers_are ss t (o
 
 all_fold : (P : ℕ → Type 0) (xs done : List ℕ) → All P xs → All P done → All P (fold (insert_key nat_cmp) done xs)
 all_fold P [] done h k = k
-all_fold P (x ∷ xs) done h k =
-    all_fold P xs (insert_key nat_cmp done x) (λ i d lt. h (suc i) d (omega arith)) (All-insert_key nat_cmp x P done k (h 0 x (omega arith)))
+all_fold P (x ∷ xs) done h k = grind (arith, common_steps, all_fold P xs (insert_key nat_cmp done x) (λ i d lt. h (suc i) d (omega arith)) (All-insert_key nat_cmp x P done k (h 0 x (omega arith))))
 
 pub all_rising : (P : ℕ → Type 0) (xs : List ℕ) → All P xs → All P (rising nat_cmp xs)
 all_rising P xs h = all_fold P xs [] h (λ i d lt. absurd (omega arith))
-
-pub all_cons : (P : ℕ → Type 0) (x : ℕ) (xs : List ℕ) → P x → All P xs → All P (x ∷ xs)
-all_cons P x xs h k zero d lt = h
-all_cons P x xs h k (suc i) d lt = k i d (omega arith)
 
 -- the providers of a group are those of the list
 pub all_hosts : (P : ℕ → Type 0) (ss : List Slot) (t : List ℕ) (g : ℕ) → All P t → All P (hosts (placed ss t) g)
@@ -102,5 +79,5 @@ all_hosts P (s ∷ ss) (p ∷ t) g h = by (nat_eq s.place g) (h 0 p (omega arith
   where
     by : (b : Bool) → P p → All P (hosts (placed ss t) g)
         → All P (map (λ x. x.provider) (if b then record { slot = s; provider = p } ∷ filter (λ x. nat_eq x.slot.place g) (placed ss t) else filter (λ x. nat_eq x.slot.place g) (placed ss t)))
-    by true here more = all_cons P p (hosts (placed ss t) g) here more
+    by true here more = All-cons P p (hosts (placed ss t) g) here more
     by false here more = more

@@ -5,3 +5,4 @@ pub mod Laws
 pub mod Parts
 pub mod Marks
 pub mod Requests
+pub mod Outcomes

@@ -3,15 +3,19 @@ use Rattle.std.specs.Prelude.{◌≡◌, ◌<◌, ◌==◌, ℕ, Bool, false, Li
 use Rattle.std.specs.List.{list_any}
 use Rattle.ac_cloud.specs.World.{Provider, id_at, root_of}
 use Rattle.ac_query.specs.Asked.{Asked}
-use Rattle.ac_report.specs.Texts.{request_text, summary_piece, with_commas, joined, meets_root}
+use Rattle.ac_report.specs.Texts.{request_text, summary_piece, with_commas, meets_root}
 
 -- the requests of lists, the first after a comma where something stands before
-abbrev pub requests_text : List Provider → Asked → Bool → List (List ℕ) → List ℕ
-requests_text all asked later lists = joined (with_commas later (map (request_text all asked) lists))
+abbrev pub requests : List Provider → Asked → Bool → List (List ℕ) → List (List ℕ)
+requests all asked later lists = with_commas later (map (request_text all asked) lists)
 
 -- the same of summaries
-abbrev pub summaries_text : List Provider → Bool → List ℕ → List ℕ
-summaries_text all later places = joined (with_commas later (map (summary_piece all) places))
+abbrev pub summaries : List Provider → Bool → List ℕ → List (List ℕ)
+summaries all later places = with_commas later (map (summary_piece all) places)
+
+-- whether some lists have a provider of the root of the provider at a place
+abbrev pub is_summarized : List Provider → List (List ℕ) → ℕ → Bool
+is_summarized all lists ix = list_any (meets_root all (root_of all (id_at all ix))) lists
 
 -- the provider at a place has this root
 abbrev pub has_root : List Provider → ℕ → ℕ → Bool

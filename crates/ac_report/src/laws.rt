@@ -15,11 +15,13 @@ pub fn body_pieces()
 /// Two different assignments have different requests, so each candidate that is printed is printed once. What it asks of the providers
 /// and of the query holds of all that tables state and texts ask for, by the laws `ac_tables::laws::providers_in_order` and
 /// `ac_query::laws::query_in_order`.
+#[tactic(auto, using(crate::proofs::Assigning::requests_differ))]
 pub fn requests_differ()
     ensures { RequestsDiffer }
 {}
 
 /// The same of the providers that any tables state and of what any pairs ask for, so of each cloud and each query that is accepted.
+#[tactic(auto, using(crate::proofs::Assigning::stated_requests_differ))]
 pub fn stated_requests_differ()
     ensures { StatedRequestsDiffer }
 {}

@@ -1,5 +1,5 @@
 //! A page as lines: the token of each candidate.
-ghost use Rattle.std.specs.Prelude.{◌≡◌, ◌≤◌, ◌<◌, ◌++◌, ◌↔◌, OnOk, OnErr, IfOk, Err, IsTrue, Some, length, min};
+ghost use Rattle.std.specs.Prelude.{◌≡◌, ◌≤◌, ◌<◌, ◌++◌, ◌∷◌, ◌↔◌, ℕ, List, [], OnOk, OnErr, IfOk, Err, IsTrue, Some, length, min};
 ghost use Rattle.std.specs.List.{All};
 ghost use Rattle.std.specs.Io.KnownBytes.{Appends};
 ghost use Rattle.ac_base.specs.Devices.{Rises, TakesPart};
@@ -8,6 +8,7 @@ ghost use Rattle.ac_query.specs.Tokens.{ids_text, part_text};
 ghost use Rattle.ac_rules.specs.Pages.{cut, ids_of};
 ghost use Rattle.ac_cloud.specs.Cloud.CloudWorld.{providers_of};
 ghost use Rattle.ac_report.specs.Texts.{line, lines};
+ghost use Rattle.ac_report.specs.Outcomes.{Reads, Writes, one_less};
 ghost use Rattle.ac_report.specs.Pages.{IsAssignment, LosesSome, TakesWhole, behind};
 
 use crate::fault::PageFault;
@@ -17,11 +18,31 @@ use ac_query::Query;
 use ac_rules::Source;
 use std::alloc::Global;
 
-// Whether no further list is wanted.
-pub(crate) fn is_full(limit: Option<u32>, count: u32) -> bool
-    ensures { IsTrue result ↔ (limit ≡ Some count) }
+// Whether no further list is wanted, of so many that are.
+pub(crate) fn is_over(wanted: Option<u32>) -> bool
+    ensures { IsTrue result ↔ (wanted ≡ Some 0) }
 {
-    limit == Some(count)
+    wanted == Some(0)
+}
+
+// How many lists are wanted behind the next one.
+pub(crate) fn one_less(wanted: Option<u32>) -> Option<u32>
+    ensures { result ≡ one_less wanted }
+{
+    match wanted {
+        Some(count) => Some(count.saturating_sub(1)),
+        None => None,
+    }
+}
+
+// Pushes a piece.
+pub(crate) fn push_piece<W: Sink>(out: &mut W, text: &[u8]) -> Result<(), PageFault>
+    ensures { (piece : List ℕ → List ℕ) (x : List ℕ) → piece x ≡ text.now
+        → Writes piece (x ∷ []) result (W.taken out.old) (W.taken out.new)
+        (W.failures out.old) (W.failures out.new) }
+{
+    push_all(out, text)?;
+    Ok(())
 }
 
 // Adds the id at a place of a token: every one but the first stands behind a comma.
@@ -58,6 +79,37 @@ fn put_line(text: &mut Vec<u8>, cloud: &Cloud, list: &[u32]) -> Result<(), NoMem
     Ok(())
 }
 
+// Writes a line for each list that is wanted of those that are left, and answers how many.
+fn write_lines<S: Source, W: Sink>(
+    alloc: Global,
+    cloud: &Cloud,
+    query: &Query,
+    source: &mut S,
+    out: &mut W,
+) -> Result<u32, PageFault>
+    requires { All (IsAssignment (providers_of cloud.now) (asked_of query.now))
+        (S.left source.old) }
+    ensures reads { Reads (asked_of query.now).limit 0 result (S.left source.old)
+        (S.left source.new) }
+    ensures writes { Writes (line (providers_of cloud.now))
+        (cut (asked_of query.now).limit (S.left source.old)) result (W.taken out.old)
+        (W.taken out.new) (W.failures out.old) (W.failures out.new) }
+{
+    let mut wanted = query.limit();
+    let mut text = Vec::new(alloc);
+    let mut count: u32 = 0;
+    'lists: while !is_over(wanted) {
+        match source.next() {
+            None => return Ok(count),
+            Some(list) => put_line(&mut text, cloud, list)?,
+        }
+        push_piece(out, &text)?;
+        wanted = one_less(wanted);
+        count = count.saturating_add(1);
+    }
+    Ok(count)
+}
+
 /// Writes a line for each list that is left, at most as many as the query's limit, and answers how many, at most 4294967295.
 ///
 /// The next list is taken only once the line of the one before is pushed whole.
@@ -87,16 +139,5 @@ pub fn write_tokens<S: Source, W: Sink>(
         (cut (asked_of query.now).limit (S.left source.old)) (W.taken out.old) (W.taken out.new) }
     ensures failures { W.failures out.old ≤ W.failures out.new }
 {
-    let limit = query.limit();
-    let mut text = Vec::new(alloc);
-    let mut count: u32 = 0;
-    'lists: while !is_full(limit, count) {
-        let Some(list) = source.next() else {
-            return Ok(count);
-        };
-        put_line(&mut text, cloud, list)?;
-        push_all(out, &text)?;
-        count = count.saturating_add(1);
-    }
-    Ok(count)
+    write_lines(alloc, cloud, query, source, out)
 }

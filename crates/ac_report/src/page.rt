@@ -1,5 +1,5 @@
 //! A page as a body of JSON: allocation requests, and the summaries of their trees.
-ghost use Rattle.std.specs.Prelude.{◌≡◌, ◌≤◌, ◌<◌, ◌++◌, ◌||◌, ℕ, List, [], false, IfOk, OnOk, OnErr, Err, length, map, min, slice_index_or};
+ghost use Rattle.std.specs.Prelude.{◌≡◌, ◌≤◌, ◌<◌, ◌++◌, ◌∷◌, ◌||◌, ℕ, List, [], false, IfOk, OnOk, OnErr, Err, length, min, slice_index_or};
 ghost use Rattle.std.specs.List.{All};
 ghost use Rattle.std.specs.Io.KnownBytes.{Appends};
 ghost use Rattle.serde_json.specs.Written.{comma_if};
@@ -8,15 +8,16 @@ ghost use Rattle.ac_cloud.specs.Cloud.CloudWorld.{providers_of};
 ghost use Rattle.ac_cloud.specs.World.{id_at};
 ghost use Rattle.ac_query.specs.Shown.Queries.{asked_of};
 ghost use Rattle.ac_rules.specs.Pages.{cut};
-ghost use Rattle.ac_report.specs.Marks.{IsMarked, has_root, requests_text, summaries_text};
+ghost use Rattle.ac_report.specs.Marks.{IsMarked, has_root, is_summarized, requests, summaries};
+ghost use Rattle.ac_report.specs.Outcomes.{Reads, Writes};
 ghost use Rattle.ac_report.specs.Pages.{IsAssignment, LosesSome, TakesWhole, behind};
-ghost use Rattle.ac_report.specs.Texts.{body, head_text, meets_root, middle_text, pieces, request_text, summarized, summary_piece, tail_text, with_commas};
+ghost use Rattle.ac_report.specs.Texts.{body, meets_root, pieces, summarized, summary_piece};
 
 use crate::fault::PageFault;
-use crate::lines::is_full;
+use crate::lines::{is_over, one_less, push_piece};
 use crate::request::request_text;
 use crate::summary::{summary_member, without_braces};
-use ac_base::{Sink, WriteFailed, push_all};
+use ac_base::{Sink, push_all};
 use ac_cloud::Cloud;
 use ac_query::Query;
 use ac_rules::Source;
@@ -24,19 +25,17 @@ use std::alloc::{AllocError, Global};
 
 // Pushes a text, after a comma where something stands before.
 #[tactic(auto, using(ac_base::proofs::Leaving::appends_both, ac_base::proofs::Leaving::part_of_first, ac_base::proofs::Leaving::part_of_second))]
-fn push_listed<W: Sink>(out: &mut W, later: bool, text: &[u8]) -> Result<(), WriteFailed>
-    ensures ok { OnOk result (Appends (W.taken out.old) (W.taken out.new)
-        (comma_if later ++ text.now)) }
-    ensures part { OnErr result (TakesPart (W.taken out.old) (W.taken out.new)
-        (comma_if later ++ text.now)) }
-    ensures rises { OnErr result (Rises (W.failures out.old) (W.failures out.new)) }
-    ensures failures { W.failures out.old ≤ W.failures out.new }
+fn push_listed<W: Sink>(out: &mut W, later: bool, text: &[u8]) -> Result<(), PageFault>
+    ensures { Writes (λ text. text) ((comma_if later ++ text.now) ∷ []) result (W.taken out.old)
+        (W.taken out.new) (W.failures out.old) (W.failures out.new) }
 {
     if !later {
-        return push_all(out, text);
+        push_all(out, text)?;
+        return Ok(());
     }
     push_all(out, b",")?;
-    push_all(out, text)
+    push_all(out, text)?;
+    Ok(())
 }
 
 // Marks at no root.
@@ -84,32 +83,18 @@ fn write_requests<S: Source, W: Sink>(
     requires lists { All (IsAssignment (providers_of cloud.now) (asked_of query.now))
         (S.left source.old) }
     requires marks { IsMarked (providers_of cloud.now) [] marks.old }
-    ensures text { OnOk result (Appends (W.taken out.old) (W.taken out.new)
-        (requests_text (providers_of cloud.now) (asked_of query.now) false
-        (cut (asked_of query.now).limit (S.left source.old)))) }
-    ensures left { OnOk result (S.left source.new
-        ≡ behind (asked_of query.now).limit (S.left source.old)) }
-    ensures count { IfOk result (λ n.
-        n ≡ min (length (cut (asked_of query.now).limit (S.left source.old))) 4294967295) }
+    ensures reads { Reads (asked_of query.now).limit 0 result (S.left source.old)
+        (S.left source.new) }
+    ensures writes { Writes (λ text. text) (requests (providers_of cloud.now) (asked_of query.now)
+        false (cut (asked_of query.now).limit (S.left source.old))) result (W.taken out.old)
+        (W.taken out.new) (W.failures out.old) (W.failures out.new) }
     ensures marks { OnOk result (IsMarked (providers_of cloud.now)
         (cut (asked_of query.now).limit (S.left source.old)) marks.new) }
-    ensures part { OnErr result (TakesPart (W.taken out.old) (W.taken out.new)
-        (requests_text (providers_of cloud.now) (asked_of query.now) false
-        (cut (asked_of query.now).limit (S.left source.old)))) }
-    ensures gone { OnErr result (LosesSome (asked_of query.now).limit (S.left source.old)
-        (S.left source.new)) }
-    ensures failed { result ≡ Err PageFault.WriteFailed
-        → Rises (W.failures out.old) (W.failures out.new) }
-    ensures whole { result ≡ Err PageFault.NoMemory
-        → TakesWhole (λ text. text)
-        (with_commas false (map (request_text (providers_of cloud.now) (asked_of query.now))
-        (cut (asked_of query.now).limit (S.left source.old)))) (W.taken out.old) (W.taken out.new) }
-    ensures failures { W.failures out.old ≤ W.failures out.new }
 {
-    let limit = query.limit();
+    let mut wanted = query.limit();
     let mut count: u32 = 0;
     let mut later = false;
-    'lists: while !is_full(limit, count) {
+    'lists: while !is_over(wanted) {
         let text = match source.next() {
             None => return Ok(count),
             Some(list) => {
@@ -119,6 +104,7 @@ fn write_requests<S: Source, W: Sink>(
         };
         push_listed(out, later, text.as_bytes())?;
         later = true;
+        wanted = one_less(wanted);
         count = count.saturating_add(1);
     }
     Ok(count)
@@ -133,18 +119,21 @@ fn write_summary<W: Sink>(
     out: &mut W,
 ) -> Result<(), PageFault>
     requires { ix < length (providers_of cloud.now) }
-    ensures ok { OnOk result (Appends (W.taken out.old) (W.taken out.new)
-        (comma_if later ++ summary_piece (providers_of cloud.now) ix)) }
-    ensures part { OnErr result (TakesPart (W.taken out.old) (W.taken out.new)
-        (comma_if later ++ summary_piece (providers_of cloud.now) ix)) }
-    ensures failed { result ≡ Err PageFault.WriteFailed
-        → Rises (W.failures out.old) (W.failures out.new) }
-    ensures whole { result ≡ Err PageFault.NoMemory → out.new ≡ out.old }
-    ensures failures { W.failures out.old ≤ W.failures out.new }
+    ensures { Writes (λ text. text) ((comma_if later ++ summary_piece (providers_of cloud.now) ix)
+        ∷ []) result (W.taken out.old) (W.taken out.new) (W.failures out.old) (W.failures out.new) }
 {
     let member = summary_member(alloc, cloud, ix)?;
-    push_listed(out, later, without_braces(&member))?;
-    Ok(())
+    push_listed(out, later, without_braces(&member))
+}
+
+// Whether the root of a provider is marked.
+fn is_marked(cloud: &Cloud, marks: &[bool], ix: u32) -> bool
+    requires marks { length marks.now ≡ length (providers_of cloud.now) }
+    requires provider { ix < length (providers_of cloud.now) }
+    ensures { (lists : List (List ℕ)) → IsMarked (providers_of cloud.now) lists marks.now
+        → result ≡ is_summarized (providers_of cloud.now) lists ix }
+{
+    marks[cloud.root(ix) as usize]
 }
 
 // Writes the summaries of the providers whose root is marked.
@@ -155,64 +144,20 @@ fn write_summaries<W: Sink>(
     out: &mut W,
 ) -> Result<(), PageFault>
     requires { length marks.now ≡ length (providers_of cloud.now) }
-    ensures ok { OnOk result ((lists : List (List ℕ))
-        → IsMarked (providers_of cloud.now) lists marks.now
-        → Appends (W.taken out.old) (W.taken out.new)
-        (summaries_text (providers_of cloud.now) false
-        (summarized (providers_of cloud.now) lists))) }
-    ensures part { OnErr result ((lists : List (List ℕ))
-        → IsMarked (providers_of cloud.now) lists marks.now
-        → TakesPart (W.taken out.old) (W.taken out.new)
-        (summaries_text (providers_of cloud.now) false
-        (summarized (providers_of cloud.now) lists))) }
-    ensures failed { result ≡ Err PageFault.WriteFailed
-        → Rises (W.failures out.old) (W.failures out.new) }
-    ensures whole { result ≡ Err PageFault.NoMemory → (lists : List (List ℕ))
-        → IsMarked (providers_of cloud.now) lists marks.now
-        → TakesWhole (λ text. text)
-        (with_commas false (map (summary_piece (providers_of cloud.now))
-        (summarized (providers_of cloud.now) lists))) (W.taken out.old) (W.taken out.new) }
-    ensures failures { W.failures out.old ≤ W.failures out.new }
+    ensures { (lists : List (List ℕ)) → IsMarked (providers_of cloud.now) lists marks.now
+        → Writes (λ text. text) (summaries (providers_of cloud.now) false
+        (summarized (providers_of cloud.now) lists)) result (W.taken out.old) (W.taken out.new)
+        (W.failures out.old) (W.failures out.new) }
 {
     let mut later = false;
     for ix in 0..cloud.len() {
-        if !marks[cloud.root(ix) as usize] {
+        if !is_marked(cloud, marks, ix) {
             continue;
         }
         write_summary(alloc, cloud, ix, later, out)?;
         later = true;
     }
     Ok(())
-}
-
-#[tactic(auto, unfolding(crate::specs::Texts::head_text))]
-fn push_head<W: Sink>(out: &mut W) -> Result<(), WriteFailed>
-    ensures ok { OnOk result (Appends (W.taken out.old) (W.taken out.new) head_text) }
-    ensures part { OnErr result (TakesPart (W.taken out.old) (W.taken out.new) head_text) }
-    ensures rises { OnErr result (Rises (W.failures out.old) (W.failures out.new)) }
-    ensures failures { W.failures out.old ≤ W.failures out.new }
-{
-    push_all(out, b"{\"allocation_requests\":[")
-}
-
-#[tactic(auto, unfolding(crate::specs::Texts::middle_text))]
-fn push_middle<W: Sink>(out: &mut W) -> Result<(), WriteFailed>
-    ensures ok { OnOk result (Appends (W.taken out.old) (W.taken out.new) middle_text) }
-    ensures part { OnErr result (TakesPart (W.taken out.old) (W.taken out.new) middle_text) }
-    ensures rises { OnErr result (Rises (W.failures out.old) (W.failures out.new)) }
-    ensures failures { W.failures out.old ≤ W.failures out.new }
-{
-    push_all(out, b"],\"provider_summaries\":{")
-}
-
-#[tactic(auto, unfolding(crate::specs::Texts::tail_text))]
-fn push_tail<W: Sink>(out: &mut W) -> Result<(), WriteFailed>
-    ensures ok { OnOk result (Appends (W.taken out.old) (W.taken out.new) tail_text) }
-    ensures part { OnErr result (TakesPart (W.taken out.old) (W.taken out.new) tail_text) }
-    ensures rises { OnErr result (Rises (W.failures out.old) (W.failures out.new)) }
-    ensures failures { W.failures out.old ≤ W.failures out.new }
-{
-    push_all(out, b"}}\n")
 }
 
 // Writes the body, with marks at no root.
@@ -227,30 +172,17 @@ fn write_parts<S: Source, W: Sink>(
     requires lists { All (IsAssignment (providers_of cloud.now) (asked_of query.now))
         (S.left source.old) }
     requires marks { IsMarked (providers_of cloud.now) [] marks.old }
-    ensures text { OnOk result (Appends (W.taken out.old) (W.taken out.new)
-        (body (providers_of cloud.now) (asked_of query.now)
-        (cut (asked_of query.now).limit (S.left source.old)))) }
-    ensures left { OnOk result (S.left source.new
-        ≡ behind (asked_of query.now).limit (S.left source.old)) }
-    ensures count { IfOk result (λ n.
-        n ≡ min (length (cut (asked_of query.now).limit (S.left source.old))) 4294967295) }
-    ensures part { OnErr result (TakesPart (W.taken out.old) (W.taken out.new)
-        (body (providers_of cloud.now) (asked_of query.now)
-        (cut (asked_of query.now).limit (S.left source.old)))) }
-    ensures gone { OnErr result (LosesSome (asked_of query.now).limit (S.left source.old)
-        (S.left source.new)) }
-    ensures failed { result ≡ Err PageFault.WriteFailed
-        → Rises (W.failures out.old) (W.failures out.new) }
-    ensures whole { result ≡ Err PageFault.NoMemory
-        → TakesWhole (λ text. text) (pieces (providers_of cloud.now) (asked_of query.now)
-        (cut (asked_of query.now).limit (S.left source.old))) (W.taken out.old) (W.taken out.new) }
-    ensures failures { W.failures out.old ≤ W.failures out.new }
+    ensures reads { Reads (asked_of query.now).limit 0 result (S.left source.old)
+        (S.left source.new) }
+    ensures writes { Writes (λ text. text) (pieces (providers_of cloud.now) (asked_of query.now)
+        (cut (asked_of query.now).limit (S.left source.old))) result (W.taken out.old)
+        (W.taken out.new) (W.failures out.old) (W.failures out.new) }
 {
-    push_head(out)?;
+    push_piece(out, b"{\"allocation_requests\":[")?;
     let count = write_requests(alloc, cloud, query, source, out, marks)?;
-    push_middle(out)?;
+    push_piece(out, b"],\"provider_summaries\":{")?;
     write_summaries(alloc, cloud, marks, out)?;
-    push_tail(out)?;
+    push_piece(out, b"}}\n")?;
     Ok(count)
 }
 
@@ -258,7 +190,7 @@ fn write_parts<S: Source, W: Sink>(
 /// and answers how many lists these are, at most 4294967295.
 ///
 /// The next list is taken only once the request of the one before is pushed whole.
-#[tactic(auto, using(ac_base::proofs::Leaving::part_none))]
+#[tactic(auto, using(ac_base::proofs::Leaving::part_none, crate::proofs::Pages::Joining::is_body))]
 pub fn write_page<S: Source, W: Sink>(
     alloc: Global,
     cloud: &Cloud,

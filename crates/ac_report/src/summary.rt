@@ -105,6 +105,7 @@ impl<'a> Serialize for Summary<'a> {
 }
 
 /// The summary of a provider as compact JSON: its parent, how much of each class it has and how much of that is used, its root and its traits.
+#[tactic(auto, using(crate::proofs::Trees::PlainTrees::summary_plain, serde_json::proofs::FreeTexts::text_of_value), unfolding(crate::specs::Texts::summary_text))]
 pub fn summary_text(alloc: Global, cloud: &Cloud, ix: u32) -> Result<String, NoMemory>
     requires { ix < length (providers_of cloud.now) }
     ensures { IfOk result (λ s. string_bytes s ≡ summary_text (providers_of cloud.now) ix) }

@@ -1,10 +1,13 @@
 -- Where no pair has a fault, exactly one record is what the pairs ask for.
+use Rattle.std.proofs.Common.{arith}
+use Rattle.std.proofs.lemmas.Grind.{common_steps}
 use Rattle.std.proofs.Common.{◌≡◌, ℕ, suc, List, [], ◌∷◌, ◌++◌, map, Option, Some, None, refl, sym, ap, ap₂, ◌∙◌, subst}
 use Rattle.std.specs.List.{fold, filter_map, slice_get, AllByRecursion}
 use Rattle.std.specs.List.Sorted.{IsStrictlySortedBy}
 use Rattle.std.specs.Map.{keys_of}
 use Rattle.std.proofs.lemmas.Cmp.{nat_list_cmp_total, eq_by_cmp_equiv}
 use Rattle.std.proofs.lemmas.List.{map-append}
+use Rattle.std.proofs.lemmas.Simd.{map-map}
 use Rattle.std.proofs.lemmas.Map.Entries.{lookup_from_place}
 use Rattle.std.proofs.lemmas.Map.Keys.{IsDistinct-from_sorted}
 use Rattle.ac_base.specs.Texts.{text_cmp}
@@ -14,7 +17,7 @@ use Rattle.ac_query.specs.declared.version.Version.{Version}
 use Rattle.ac_query.specs.Pairs.Values.{Part, Given}
 use Rattle.ac_query.specs.Pairs.{given}
 use Rattle.ac_query.specs.Asked.{Group, Asked}
-use Rattle.ac_query.specs.Asks.{IsTold, needs_in, tree_in, AsksOfGroup, group_parts, parts_of, unsuffixed, root_required_in, root_forbidden_in, policy_in, subtree_in, limit_in, Asks}
+use Rattle.ac_query.specs.Asks.{IsTold, AsksOfGroup, group_parts, parts_of, unsuffixed, root_required_in, root_forbidden_in, policy_in, subtree_in, limit_in, Asks}
 use Rattle.ac_query.specs.Laws.Gathered.{empty_group, with_part, add_plain, add_suffixed, plain_groups, of_suffix, as_asked, gathered, asked_by}
 use Rattle.ac_query.specs.Faults.{first_fault, pairs_conditions}
 use Rattle.ac_query.specs.Laws.{AsksOnce, OrderHolds}
@@ -45,12 +48,10 @@ grown_is [] g h = absurd (cc)
 grown_is (p ∷ ps) g h = let e : Some g ≡ Some (fold with_part (with_part empty_group p) ps) = h ∙ grown_there (with_part empty_group p) ps in cc
 
 plain_named : (ps : List Part) → map (λ e. e.0) (plain_groups (grown_all None ps)) ≡ unsuffixed ps
-plain_named [] = refl
-plain_named (p ∷ ps) = ap (λ o. map (λ e. e.0) (plain_groups o)) (grown_there (with_part empty_group p) ps)
+plain_named ps = grind (arith, common_steps, grown_there)
 
 suffixes_named : (es : List (List ℕ × Group)) → map (λ e. e.0) (map of_suffix es) ≡ map (λ s. Some s) (keys_of es)
-suffixes_named [] = refl
-suffixes_named (e ∷ es) = ap (λ l. Some e.0 ∷ l) (suffixes_named es)
+suffixes_named es = map-map (λ e. e.0) of_suffix es ∙ sym (map-map (λ s. Some s) (λ e. e.0) es)
 
 module _ (version : Version) (pairs : List (List ℕ × List ℕ)) (fine : first_fault (pairs_conditions version 1 [] pairs) ≡ None) where
   abbrev all : List Given
@@ -64,8 +65,7 @@ module _ (version : Version) (pairs : List (List ℕ × List ℕ)) (fine : first
       subst (AsksOfGroup (parts_of s all)) (sym (grown_is (parts_of s all) g is)) (group_asks (parts_of s all) (needs_once version pairs fine s) (tree_once version pairs fine s))
 
   plain_fits : (o : Option Group) → o ≡ grown_all None (parts_of None all) → AllByRecursion (λ e. AsksOfGroup (parts_of e.0 all) e.1) (plain_groups o)
-  plain_fits None is = tt
-  plain_fits (Some g) is = (group_fits None g is, tt)
+  plain_fits o is = grind (arith, common_steps, group_fits)
 
   sorted : IsStrictlySortedBy text_cmp (keys_of (fold add_suffixed [] es))
   sorted = subst (IsStrictlySortedBy text_cmp) (sym (suffixes_all [] es)) (rising_sorted nat_list_cmp_total (filter_map (λ e. e.0) es))
@@ -95,18 +95,10 @@ module _ (version : Version) (pairs : List (List ℕ × List ℕ)) (fine : first
 
 -- ---- no other record
 told_same : {A : Type 0} (n a b : A) (xs : List A) → IsTold n a xs → IsTold n b xs → a ≡ b
-told_same n a b [] h k = h ∙ sym k
-told_same n a b (x ∷ []) h k = h ∙ sym k
-told_same n a b (x ∷ y ∷ xs) h k = absurd h
+told_same n a b xs h k = grind (arith, common_steps)
 
 group_same : (ps : List Part) (g h : Group) → AsksOfGroup ps g → AsksOfGroup ps h → g ≡ h
-group_same ps g h a b =
-    ap (λ v. record g { needs = v }) (told_same [] g.needs h.needs (filter_map needs_in ps) a.needs b.needs)
-    ∙ ap (λ v. record g { needs = h.needs; required = v }) (a.required ∙ sym b.required)
-    ∙ ap (λ v. record h { forbidden = v; any_of = g.any_of; member_of = g.member_of; in_tree = g.in_tree }) (a.forbidden ∙ sym b.forbidden)
-    ∙ ap (λ v. record h { any_of = v; member_of = g.member_of; in_tree = g.in_tree }) (a.any_of ∙ sym b.any_of)
-    ∙ ap (λ v. record h { member_of = v; in_tree = g.in_tree }) (a.member_of ∙ sym b.member_of)
-    ∙ ap (λ v. record h { in_tree = v }) (told_same None g.in_tree h.in_tree (filter_map tree_in ps) a.in_tree b.in_tree)
+group_same ps g h a b = grind (arith, common_steps, told_same)
 
 groups_same : (gs : List Given) (es fs : List (Option (List ℕ) × Group)) → map (λ e. e.0) es ≡ map (λ e. e.0) fs
     → AllByRecursion (λ e. AsksOfGroup (parts_of e.0 gs) e.1) es → AllByRecursion (λ e. AsksOfGroup (parts_of e.0 gs) e.1) fs → es ≡ fs

@@ -1,5 +1,7 @@
 -- Earlier names as a set: the conditions of pairs ask only whether a name is among them.
-use Rattle.std.proofs.Common.{◌≡◌, ℕ, ◌+◌, Bool, true, false, ◌||◌, List, [], ◌∷◌, ◌++◌, Option, Some, None, refl, sym, ap, ap₂, ◌∙◌}
+use Rattle.std.proofs.Common.{arith}
+use Rattle.std.proofs.lemmas.Grind.{common_steps}
+use Rattle.std.proofs.Common.{◌≡◌, ℕ, ◌+◌, Bool, false, ◌||◌, List, [], ◌∷◌, ◌++◌, Option, Some, None, refl, sym, ap, ap₂, ◌∙◌}
 use Rattle.std.specs.BTreeSet.{insert_key}
 use Rattle.std.specs.Cmp.Lexicographic.{texts_ties}
 use Rattle.std.specs.Str.{bytes_eq}
@@ -26,10 +28,7 @@ has_text-insert names name x =
     ∙ sym (has_text-push names name x)
   where
     turned : (a b : Bool) → a || b ≡ b || (a || false)
-    turned true true = refl
-    turned true false = refl
-    turned false true = refl
-    turned false false = refl
+    turned a b = grind (arith, common_steps)
 
 -- names of which the same are there
 conditions_same : (version : Version) (n : ℕ) (a b : List (List ℕ)) (ps : List (List ℕ × List ℕ)) → ((x : List ℕ) → has_text a x ≡ has_text b x) → pairs_conditions version n a ps ≡ pairs_conditions version n b ps

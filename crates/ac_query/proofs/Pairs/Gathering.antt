@@ -1,5 +1,7 @@
 -- What is gathered pair by pair is what the pairs give together.
-use Rattle.std.proofs.Common.{◌≡◌, ℕ, Bool, true, false, List, [], ◌∷◌, ◌++◌, Option, Some, None, refl, sym, ap, ap₂, ◌∙◌, subst, append-nil, append_assoc, if◌then◌else◌}
+use Rattle.std.proofs.Common.{arith}
+use Rattle.std.proofs.lemmas.Grind.{common_steps}
+use Rattle.std.proofs.Common.{◌≡◌, arith, ℕ, Bool, true, false, List, [], ◌∷◌, ◌++◌, Option, Some, None, refl, sym, ap, ap₂, ◌∙◌, subst, append-nil, append_assoc, if◌then◌else◌}
 use Rattle.std.specs.List.{fold, filter_map, flat_map, cons_option}
 use Rattle.std.specs.Map.{lookup, keys_of}
 use Rattle.std.specs.BTreeMap.{is_at}
@@ -15,18 +17,14 @@ use Rattle.ac_query.specs.Pairs.Values.{Part, Given}
 use Rattle.ac_query.specs.Asked.{Group}
 use Rattle.ac_query.specs.Asks.{IsTold, needs_in, required_in, forbidden_in, any_of_in, rule_in, tree_in, AsksOfGroup, group_part, group_parts, part_for, root_required_in, root_forbidden_in, policy_in, subtree_in, limit_in}
 use Rattle.ac_query.specs.Laws.Gathered.{Gathered, empty_group, nothing, with_some, later, with_last, with_part, grown, with_suffixed, add_plain, add_suffixed, with_given}
-use Rattle.ac_query.proofs.Pairs.Once.{IsShort, none, one}
+use Rattle.ac_query.proofs.Pairs.Once.{IsShort}
 use Rattle.ac_query.proofs.Values.Inserts.{keys_with}
 
 -- ---- a field to which each item adds what is read of it
 module _ {A X Y : Type 0} (add : A → Y → A) where
   pub fold_some : (f : X → Option Y) (a : A) (xs : List X) → fold (λ b x. with_some add b (f x)) a xs ≡ fold add a (filter_map f xs)
   fold_some f a [] = refl
-  fold_some f a (x ∷ xs) = fold_some f (with_some add a (f x)) xs ∙ first (f x)
-    where
-      first : (o : Option Y) → fold add (with_some add a o) (filter_map f xs) ≡ fold add a (cons_option o (filter_map f xs))
-      first None = refl
-      first (Some y) = refl
+  fold_some f a (x ∷ xs) = grind (arith, common_steps, fold_some f (with_some add a (f x)) xs)
 
   pub fold_lists : (f : X → List Y) (a : A) (xs : List X) → fold (λ b x. fold add b (f x)) a xs ≡ fold add a (flat_map f xs)
   fold_lists f a [] = refl
@@ -41,9 +39,7 @@ pub told_once : {A X : Type 0} (f : X → Option A) (a : A) (xs : List X) → Is
 told_once {A = A} f a xs short = subst (λ b. IsTold a b (filter_map f xs)) (sym (fold_some later f a xs)) (of (filter_map f xs) short)
   where
     of : (ys : List A) → IsShort ys → IsTold a (fold later a ys) ys
-    of [] none = refl
-    of (y ∷ []) (one z) = refl
-    of (y ∷ (z ∷ ys)) two = elim two [ ]
+    of ys short = grind (arith, common_steps)
 
 pub all_read : {X : Type 0} (f : X → List (List ℕ)) (texts : List (List ℕ)) (xs : List X) → fold (λ b x. in_order_with b (f x)) texts xs ≡ in_order_with texts (flat_map f xs)
 all_read f texts xs = fold_lists (insert_key text_cmp) f texts xs

@@ -1,5 +1,6 @@
 -- What pairs ask for is in order.
-use Rattle.std.proofs.Common.{◌≡◌, ◌<◌, ℕ, suc, false, List, [], ◌∷◌, ◌++◌, map, length, Option, Some, None, IfSome, refl, sym, ap, subst, arith}
+use Rattle.std.proofs.lemmas.Grind.{common_steps}
+use Rattle.std.proofs.Common.{rules, ◌≡◌, ◌<◌, ℕ, suc, false, List, [], ◌∷◌, ◌++◌, map, length, Option, Some, None, IfSome, refl, sym, subst, arith}
 use Rattle.std.specs.List.{All, AllByRecursion, fold, cons_option}
 use Rattle.std.specs.List.Sorted.{IsStrictlySortedBy}
 use Rattle.std.specs.Map.{lookup, keys_of, values_of}
@@ -7,6 +8,7 @@ use Rattle.std.specs.BTreeMap.{is_at}
 use Rattle.std.specs.Str.{bytes_eq}
 use Rattle.std.proofs.lemmas.Cmp.{nat_list_cmp_total}
 use Rattle.std.proofs.lemmas.Map.Views.{All-keys-insert_entry, All-values-insert_entry, IfSome-lookup_from_All}
+use Rattle.std.proofs.lemmas.Simd.{map-map}
 use Rattle.std.proofs.lemmas.Option.{IfSome_then}
 use Rattle.ac_base.specs.Texts.{text_cmp}
 use Rattle.ac_base.proofs.Sorted.SortedSets.{empty_sorted}
@@ -36,8 +38,7 @@ sound_parts version (p ∷ ps) = of (read_pair version p) (sound_pair version p)
   where
     of : (o : Option Given) → IfSome o (λ v. IfSome (group_part v) IsSound) → AllByRecursion IsSound (group_parts (given version ps))
         → AllByRecursion IsSound (group_parts (cons_option o (given version ps)))
-    of None h later = later
-    of (Some v) h later = one_more IsSound (group_part v) _ h later
+    of o h later = grind (arith, common_steps, one_more)
 
 -- ---- the groups that are gathered
 abbrev HasNeeds : Group → Type 0
@@ -50,12 +51,10 @@ record AreOrdered (plain : Option Group) (suffixed : List (List ℕ × Group)) :
   groups : All HasNeeds (values_of suffixed)
 
 served : (needs : List (List ℕ × ℕ)) (o : Option (List (List ℕ × ℕ))) → AreNeeds needs → IfSome o AreNeeds → AreNeeds (with_some later needs o)
-served needs None h k = h
-served needs (Some more) h k = k
+served needs o h k = grind (arith, common_steps)
 
 grown_served : (o : Option Group) (p : Part) → IfSome o HasNeeds → IfSome (needs_in p) AreNeeds → HasNeeds (grown o p)
-grown_served None p h k = served [] (needs_in p) (record { positive = tt; once = tt }) k
-grown_served (Some g) p h k = served g.needs (needs_in p) h k
+grown_served o p h k = grind (arith, common_steps, served)
 
 all_ordered : (plain : Option Group) (suffixed : List (List ℕ × Group)) (es : List (Option (List ℕ) × Part)) → AreOrdered plain suffixed → AllByRecursion IsSound es
     → AreOrdered (fold add_plain plain es) (fold add_suffixed suffixed es)
@@ -85,13 +84,8 @@ first_plain None [] = tt
 first_plain None (e ∷ es) = suffixed es
 first_plain (Some g) es = suffixed es
 
-names_are : (es : List (List ℕ × Group)) → map group_name (map of_suffix es) ≡ keys_of es
-names_are [] = refl
-names_are (e ∷ es) = ap (λ l. e.0 ∷ l) (names_are es)
-
 long_differs : (s : List ℕ) → 0 < length s → bytes_eq [] s ≡ false
-long_differs [] h = absurd (omega (arith, h))
-long_differs (c ∷ s) h = refl
+long_differs s h = grind (arith, common_steps)
 
 all_differ : (ss : List (List ℕ)) → All (λ s. 0 < length s) ss → AllByRecursion (λ s. bytes_eq [] s ≡ false) ss
 all_differ [] all = tt
@@ -99,8 +93,8 @@ all_differ (s ∷ ss) all = (long_differs s (all 0 [] (omega arith)), all_differ
 
 names_apart : (o : Option Group) (es : List (List ℕ × Group)) → All (λ s. 0 < length s) (keys_of es) → IsStrictlySortedBy text_cmp (keys_of es)
     → AreApart (map group_name (plain_groups o ++ map of_suffix es))
-names_apart None es long sorted = subst AreApart (sym (names_are es)) (apart_from_sorted (keys_of es) sorted)
-names_apart (Some g) es long sorted = subst (λ l. AreApart ([] ∷ l)) (sym (names_are es)) (all_differ (keys_of es) long, apart_from_sorted (keys_of es) sorted)
+names_apart None es long sorted = subst AreApart (sym (map-map group_name of_suffix es)) (apart_from_sorted (keys_of es) sorted)
+names_apart (Some g) es long sorted = subst (λ l. AreApart ([] ∷ l)) (sym (map-map group_name of_suffix es)) (all_differ (keys_of es) long, apart_from_sorted (keys_of es) sorted)
 
 needs_served : (es : List (List ℕ × Group)) → All HasNeeds (values_of es) → AllByRecursion (λ g. AreNeeds g.1.needs) (map of_suffix es)
 needs_served [] all = tt
@@ -115,6 +109,4 @@ in_order d h = record { first = first_plain d.plain d.suffixed; names = names_ap
 
 pub query_in_order : QueryInOrder
 unfolding asked_by
-query_in_order version pairs =
-    subst (λ d. IsInOrder (as_asked d)) (sym (gathered_is (given version pairs)))
-    (in_order _ (all_ordered None [] (group_parts (given version pairs)) none_ordered (sound_parts version pairs)))
+query_in_order version pairs = search (rules, arith, gathered_is, in_order, all_ordered, none_ordered, sound_parts)

@@ -1,5 +1,6 @@
 -- What the conditions of a pair come to.
-use Rattle.std.proofs.Common.{◌≡◌, ℕ, Bool, true, false, List, [], ◌∷◌, ◌++◌, Option, Some, None, Result, Ok, Err, IfErr, nat_lt, ◌<◌, ◌≤◌, arith, length, refl, sym, ap, subst, ◌∙◌, if◌then◌else◌}
+use Rattle.std.proofs.lemmas.Grind.{common_steps}
+use Rattle.std.proofs.Common.{◌≡◌, ℕ, Bool, true, false, List, [], ◌∷◌, ◌++◌, Option, Some, None, Result, IfErr, nat_lt, ◌<◌, ◌≤◌, arith, length, refl, ap, ◌∙◌, if◌then◌else◌}
 use Rattle.std.proofs.lemmas.Bool.Decides.{nat_tests}
 use Rattle.std.specs.Option.{option_or}
 use Rattle.std.specs.Result.{IsErrAnd}
@@ -26,8 +27,7 @@ module _ (version : Version) (n : ℕ) (earlier : List (List ℕ)) (p : List ℕ
 
 -- an error that a `?` handed on as it was
 pub err_is : {T E : Type 0} (r : Result T E) (P : E → Type 0) (x : E) → IsErrAnd r (λ e. e ≡ x) → P x → IfErr r P
-err_is (Ok v) P x is told = tt
-err_is (Err e) P x is told = subst P (sym is) told
+err_is r P x is told = grind (arith, common_steps)
 
 -- the first fault of two lists of conditions
 pub first_fault-both : (a b : List (Bool × Fault)) → first_fault (a ++ b) ≡ option_or (first_fault a) (first_fault b)
@@ -37,11 +37,7 @@ first_fault-both ((false, f) ∷ a) b = first_fault-both a b
 
 -- no fault of two lists is none of each
 pub neither : (a b : List (Bool × Fault)) → first_fault (a ++ b) ≡ None → (first_fault a ≡ None) × (first_fault b ≡ None)
-neither a b h = of (first_fault a) (first_fault b) (sym (first_fault-both a b) ∙ h)
-  where
-    of : (x y : Option Fault) → option_or x y ≡ None → (x ≡ None) × (y ≡ None)
-    of None y h = (refl, h)
-    of (Some f) y h = absurd (cc)
+neither a b h = grind (arith, common_steps, first_fault-both)
 
 pub first_fault-append : (a b : List (Bool × Fault)) → first_fault a ≡ None → first_fault (a ++ b) ≡ first_fault b
 first_fault-append a b none = first_fault-both a b ∙ ap (λ o. option_or o (first_fault b)) none
@@ -51,8 +47,7 @@ first_fault-found a b f found = first_fault-both a b ∙ ap (λ o. option_or o (
 
 -- the condition that is first doesn't hold
 pub holds_not : (b : Bool) (f : Fault) (rest : Option Fault) → (if b then Some f else rest) ≡ None → (b ≡ false) × (rest ≡ None)
-holds_not true f rest h = absurd (cc)
-holds_not false f rest h = (refl, h)
+holds_not b f rest h = grind (arith, common_steps)
 
 pub is_too_long : (version : Version) (query : List ℕ) → 65536 < length query → first_fault (text_conditions version query) ≡ Some too_long
 is_too_long version query long = let h : nat_lt 65536 (length query) ≡ true = grind (arith, nat_tests) in rw h refl

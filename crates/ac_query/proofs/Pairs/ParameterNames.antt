@@ -1,4 +1,5 @@
 -- A parameter has one name, and the suffix in it, if any, has a character.
+use Rattle.std.proofs.lemmas.Grind.{common_steps}
 use Rattle.std.proofs.Common.{◌≡◌, ℕ, ◌<◌, ◌==◌, Bool, true, false, nat_eq, List, [], ◌∷◌, ◌++◌, length, drop, codes, Option, Some, None, IfSome, refl, sym, ap, ◌∙◌, take, take-append-drop, arith, if◌then◌else◌}
 use Rattle.std.specs.Bool.{⊤}
 use Rattle.std.specs.Option.{option_map, option_and_then}
@@ -8,7 +9,7 @@ use Rattle.std.specs.Cmp.Lexicographic.{same_text}
 use Rattle.std.proofs.lemmas.Bool.{eqb-true}
 use Rattle.std.proofs.lemmas.List.{nil_from_length}
 use Rattle.std.proofs.lemmas.Option.{IfSome_then}
-use Rattle.ac_base.specs.Texts.{is_suffix, suffix_value}
+use Rattle.ac_base.specs.Texts.{suffix_value}
 use Rattle.ac_query.specs.declared.reading.parameter.Field.{Field}
 use Rattle.ac_query.specs.declared.reading.parameter.Field.TheVariants as field
 use Rattle.ac_query.specs.Texts.{behind}
@@ -61,19 +62,14 @@ front_is front text = by_test (starts_with nat_eq text front) refl
 
 suffix_is : (text : List ℕ) → IfSome (suffix_value text) (λ s. (text ≡ s) × (0 < length s))
 suffix_is [] = tt
-suffix_is (c ∷ cs) = by_test (is_suffix (c ∷ cs))
-  where
-    by_test : (b : Bool) → IfSome (if b then Some (c ∷ cs) else None) (λ s. (c ∷ cs ≡ s) × (0 < length s))
-    by_test true = (refl, omega arith)
-    by_test false = tt
+suffix_is (c ∷ cs) = grind (arith, common_steps)
 
 group_is : (end : List ℕ) → IfSome (group_of end) (λ g. (end ≡ end_of g) × IsLong g)
 unfolding group_of
 group_is end = by_length (length end == 0) refl
   where
     by_length : (b : Bool) → (length end == 0) ≡ b → IfSome (if b then Some None else option_map (λ s. Some s) (suffix_value end)) (λ g. (end ≡ end_of g) × IsLong g)
-    by_length true is = (nil_from_length end (eqb-true (length end) 0 is), tt)
-    by_length false is = map_some _ _ (λ s. Some s) (suffix_value end) (suffix_is end) (λ s h. h)
+    by_length b is = grind (arith, common_steps, is, nil_from_length, eqb-true, map_some, suffix_is)
 
 field_named : (f : Field) (name : List ℕ) → IfSome (field_of (word_of f) f name) (Names name)
 unfolding field_of
@@ -93,16 +89,11 @@ word_named name p rest long other = by_test (bytes_eq name (name_of p)) refl
 
 plain_named : (name : List ℕ) → IfSome (plain_parameter name) (Names name)
 unfolding plain_parameter
-plain_named name =
-    word_named name root_required _ tt (word_named name group_policy _ tt (word_named name same_subtree _ tt (word_named name limit None tt tt)))
+plain_named name = grind (arith, common_steps, word_named)
 
 grouped_named : (name : List ℕ) → IfSome (group_parameter name) (Names name)
 unfolding group_parameter
-grouped_named name =
-    else_some (Names name) _ _ (field_named field.Resources name)
-    (else_some (Names name) _ _ (field_named field.Required name)
-    (else_some (Names name) _ _ (field_named field.MemberOf name)
-    (field_named field.InTree name)))
+grouped_named name = grind (arith, common_steps, else_some, field_named)
 
 pub named : (name : List ℕ) → IfSome (parameter name) (Names name)
 unfolding parameter

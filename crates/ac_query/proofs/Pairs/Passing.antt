@@ -1,5 +1,7 @@
 -- One turn of the pass over the pairs.
-use Rattle.std.proofs.Common.{◌≡◌, ℕ, ◌+◌, List, ◌∷◌, map, Option, Some, None, refl, sym, ap, ap₂, ◌∙◌, IfSome}
+use Rattle.std.proofs.Common.{arith}
+use Rattle.std.proofs.lemmas.Grind.{common_steps}
+use Rattle.std.proofs.Common.{◌≡◌, ℕ, ◌+◌, List, ◌∷◌, map, Option, Some, None, sym, ap, ap₂, ◌∙◌, IfSome}
 use Rattle.std.specs.List.{fold}
 use Rattle.std.specs.BTreeSet.{insert_key}
 use Rattle.ac_base.specs.Texts.{text_cmp}
@@ -20,11 +22,7 @@ module _ (version : Version) (left rest : List (List ℕ × List ℕ)) (name val
   module _ (n : ℕ) (earlier : List (List ℕ)) (whole : Option Fault) (holds : first_fault (pairs_conditions version n earlier (map pair_text left)) ≡ whole) where
     pub pass_goes_on : (more : List (List ℕ)) → first_fault (pair_conditions version n earlier p) ≡ None → more ≡ insert_key text_cmp earlier p.0
         → first_fault (pairs_conditions version (n + 1) more (map pair_text rest)) ≡ whole
-    pass_goes_on more fine added =
-        ap (λ e. first_fault (pairs_conditions version (n + 1) e (map pair_text rest))) added
-        ∙ ap first_fault (earlier_set version (n + 1) earlier p.0 (map pair_text rest))
-        ∙ sym (first_fault-append (pair_conditions version n earlier p) _ fine)
-        ∙ sym (ap (λ l. first_fault (pairs_conditions version n earlier l)) opened) ∙ holds
+    pass_goes_on more fine added = grind (arith, common_steps, earlier_set, first_fault-append, opened)
 
     pub pass_stops : (o : Option Fault) → IfSome o (λ f. first_fault (pair_conditions version n earlier p) ≡ Some f) → IfSome o (λ f. whole ≡ Some f)
     pass_stops None told = tt
@@ -33,10 +31,4 @@ module _ (version : Version) (left rest : List (List ℕ × List ℕ)) (name val
 
   pub adds_on : (have more whole : Gathered) (g : Given) → fold with_given have (given version (map pair_text left)) ≡ whole → read_pair version p ≡ Some g → more ≡ with_given have g
       → fold with_given more (given version (map pair_text rest)) ≡ whole
-  adds_on have more whole g holds is added =
-      ap (λ m. fold with_given m (given version (map pair_text rest))) added
-      ∙ sym (ap (fold with_given have) (ap (given version) opened ∙ taken is))
-      ∙ holds
-    where
-      taken : read_pair version p ≡ Some g → given version (p ∷ map pair_text rest) ≡ g ∷ given version (map pair_text rest)
-      taken is = rw is refl
+  adds_on have more whole g holds is added = grind (arith, common_steps, opened)

@@ -1,8 +1,8 @@
 -- A value that is set where its key is there, and one that is inserted.
-use Rattle.std.proofs.Common.{◌≡◌, ℕ, subst, List, [], ◌∷◌, Some, None, refl, sym, ap, ◌∙◌}
+use Rattle.std.proofs.Common.{arith}
+use Rattle.std.proofs.lemmas.Grind.{common_steps}
+use Rattle.std.proofs.Common.{◌≡◌, ℕ, subst, List, [], ◌∷◌, Some, sym}
 use Rattle.std.specs.declared.cmp.Ordering.{Ordering}
-use Rattle.std.specs.declared.cmp.Ordering.TheVariants.{Less, Equal, Greater}
-use Rattle.std.specs.Ordering.{is_eq}
 use Rattle.std.specs.Cmp.{IsTotalOrder}
 use Rattle.std.specs.List.Sorted.{IsStrictlySortedBy}
 use Rattle.std.specs.Map.{lookup, set_value, keys_of}
@@ -21,18 +21,11 @@ module _ {K X : Type 0} {R : K → K → Ordering} (o : IsTotalOrder R) (k : K) 
   at_head : (e : K × X) (es : List (K × X)) (c : Ordering) → R k e.0 ≡ c → IsStrictlySortedBy R (keys_of (e ∷ es)) → lookup (is_at (R k)) (e ∷ es) ≡ Some v
       → (lookup (is_at (R k)) es ≡ Some v → set_value (is_at (R k)) es w ≡ insert_entry R es k w)
       → set_value (is_at (R k)) (e ∷ es) w ≡ insert_entry R (e ∷ es) k w
-  at_head e es Equal is sorted there later = rw is refl
-  at_head e es Less is sorted there later =
-      let none : lookup (is_at (R k)) (e ∷ es) ≡ None = lookup-none (is_at (R k)) (e ∷ es) (none_below_head o k e es sorted is) in
-      absurd (cc)
-  at_head e es Greater is sorted there later =
-      let tail : lookup (is_at (R k)) es ≡ Some v = sym (lookup_tail (is_at (R k)) e es (ap is_eq is)) ∙ there in
-      rw is (ap (λ l. e ∷ l) (later tail))
+  at_head e es c is sorted there later = grind (arith, common_steps, lookup-none, none_below_head, lookup_tail)
 
   pub set_value-insert : (es : List (K × X)) → IsStrictlySortedBy R (keys_of es) → lookup (is_at (R k)) es ≡ Some v → set_value (is_at (R k)) es w ≡ insert_entry R es k w
   set_value-insert [] sorted there = absurd (cc)
-  set_value-insert (e ∷ es) sorted there =
-      at_head e es (R k e.0) refl sorted there (set_value-insert es (sorted_tail R e.0 (keys_of es) sorted))
+  set_value-insert (e ∷ es) sorted there = grind (arith, common_steps, at_head, sorted_tail, set_value-insert es (sorted_tail R e.0 (keys_of es) sorted))
 
 -- entries by texts, with one more
 module _ {X : Type 0} (es : List (List ℕ × X)) (k : List ℕ) (v : X) where

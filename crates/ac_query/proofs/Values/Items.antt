@@ -1,4 +1,6 @@
 -- The values of a list, item by item.
+use Rattle.std.proofs.Common.{arith}
+use Rattle.std.proofs.lemmas.Grind.{common_steps}
 use Rattle.std.proofs.Common.{◌≡◌, List, [], ◌∷◌, ◌++◌, Option, Some, None, refl, sym, ap, ◌∙◌, append_assoc, append-nil}
 use Rattle.std.specs.Option.{option_map}
 use Rattle.ac_query.specs.Pairs.Values.{values_of}
@@ -10,11 +12,7 @@ module _ {T X : Type 0} (value : T → Option X) where
 
   module _ (have : List X) (left rest : List T) (t : T) (whole : Option (List X)) (turn : left ≡ t ∷ rest) (holds : values_behind have left ≡ whole) where
     pub has_value : (more : List X) (x : X) → value t ≡ Some x → more ≡ have ++ x ∷ [] → values_behind more rest ≡ whole
-    has_value more x is added = rw added (of (values_of value rest) ∙ sym (ap (values_behind have) turn ∙ (rw is refl)) ∙ holds)
-      where
-        of : (o : Option (List X)) → option_map (λ vs. (have ++ x ∷ []) ++ vs) o ≡ option_map (λ vs. have ++ vs) (option_map (λ vs. x ∷ vs) o)
-        of None = refl
-        of (Some vs) = ap (λ l. Some l) (append_assoc have (x ∷ []) vs)
+    has_value more x is added = grind (arith, common_steps, values_behind, append_assoc)
 
     pub has_none : value t ≡ None → None ≡ whole
     has_none is = sym (ap (values_behind have) turn ∙ (rw is refl)) ∙ holds

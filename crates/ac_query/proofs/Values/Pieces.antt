@@ -1,5 +1,5 @@
 -- A `for` over the items of a text.
-use Rattle.std.proofs.Common.{◌≡◌, ◌≢◌, ℕ, ◌<◌, ◌==◌, Bool, true, false, List, [], ◌∷◌, ◌++◌, take, drop, get_or, Option, Some, None, Bor, refl, sym, ap, ◌∙◌, subst, arith, if◌then◌else◌, take-append-drop}
+use Rattle.std.proofs.Common.{◌≡◌, ◌≢◌, ℕ, ◌<◌, ◌==◌, Bool, true, false, List, [], ◌∷◌, ◌++◌, take, drop, get_or, Option, Some, None, Bor, refl, sym, ap, ◌∙◌, arith, if◌then◌else◌, take-append-drop}
 use Rattle.std.specs.Option.{MatchOption}
 use Rattle.std.specs.List.{All}
 use Rattle.std.specs.Str.{NoCharPasses}
@@ -25,8 +25,7 @@ no_comma w h = λ k d l. let other : get_or w k 0 ≢ 44 = NoCharPasses-char 44 
 cut_items : (w x rest : List ℕ) (live : Bool) (o : Option (ℕ × ℕ)) → FindsChar 44 w o
     → MatchOption o ((x ≡ w) × (live ≡ false)) (λ q. 0 < q.1 → (x ≡ take q.0 w) × (live ≡ true) × (rest ≡ drop q.1 w))
     → items_of w ≡ x ∷ (if live then items_of rest else [])
-cut_items w x rest live None finds whole =
-    slice_split_none is_comma w (no_comma w finds) ∙ ap (λ z. z ∷ []) (sym whole.0) ∙ ap (λ b. x ∷ (if b then items_of rest else [])) (sym whole.1)
+cut_items w x rest live None finds whole = grind (arith, common_steps, slice_split_none, no_comma)
 cut_items w x rest live (Some q) finds cut =
     let parts = cut (omega (arith, finds.1.ends)) in
     let around : w ≡ take q.0 w ++ 44 ∷ drop q.1 w = sym (take-append-drop q.0 w) ∙ ap (λ z. take q.0 w ++ z) (drop_at_char 44 w q.0 q.1 finds.1 (omega arith)) in
@@ -38,7 +37,4 @@ cut_items w x rest live (Some q) finds cut =
 
 -- a turn takes the first item that is left
 pub next_part : (s t : Split ℕ) (x : Bor (List ℕ)) → split_pattern s ≡ 44 → Steps s (Some x) t → parts_left s ≡ x.now ∷ parts_left t
-next_part s t x comma step =
-    let cut = step.1.1.1 in
-    ap (λ b. if b then items_of (split_text s) else []) (sym step.0)
-    ∙ cut_items (split_text s) x.now (split_text t) (split_has_more t) cut.0 (subst (λ d. FindsChar d (split_text s) cut.0) comma cut.1) cut.2
+next_part s t x comma step = grind (arith, common_steps, cut_items)

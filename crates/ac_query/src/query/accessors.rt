@@ -27,6 +27,7 @@ impl Query {
     }
 
     /// The slots, 1 to 64: one for each class of the unsuffixed group, then one for each suffix.
+    #[tactic(auto, using(crate::proofs::Slots::places_are))]
     pub fn slots(&self) -> &[Slot]
         ensures some { 0 < length result.now }
         ensures few { length result.now ≤ 64 }
@@ -47,6 +48,7 @@ impl Query {
     }
 
     /// What a slot needs: its one class, or all classes of its group, in byte order, each once.
+    #[tactic(auto, using(crate::proofs::Values::NameSets::one_rises, crate::proofs::Slots::needs_whole, crate::proofs::Slots::shown_read, crate::proofs::Slots::slot_there))]
     pub fn slot_needs(&self, s: usize) -> &[Need]
         requires { s < length (slots_of (asked_of self.now)) }
         ensures needs { Some (map need_entry result.now)

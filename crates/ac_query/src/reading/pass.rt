@@ -43,6 +43,7 @@ fn is_repeat(
 }
 
 /// What a pair gives, behind pairs of these names.
+#[tactic(auto, using(crate::proofs::Pairs::PairSteps::at_repeat, crate::proofs::Pairs::PairSteps::at_bad_value, crate::proofs::Pairs::PairSteps::at_conflict, crate::proofs::Pairs::PairSteps::at_fine))]
 fn read_pair(
     alloc: Global,
     version: Version,

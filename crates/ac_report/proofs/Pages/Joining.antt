@@ -1,17 +1,21 @@
 -- The body of lists, piece by piece.
-use Rattle.std.proofs.Common.{◌≡◌, ℕ, List, [], ◌∷◌, ◌++◌, refl, sym, ap, ◌∙◌, Bool, true, false, map, length, append_assoc, append-nil, codes}
+use Rattle.std.proofs.Common.{arith}
+use Rattle.std.proofs.lemmas.Grind.{common_steps}
+use Rattle.std.proofs.Common.{◌≡◌, ℕ, List, [], ◌∷◌, ◌++◌, refl, sym, ap, ap₂, ◌∙◌, Bool, true, false, map, length, append_assoc, append-nil, codes}
 use Rattle.std.proofs.lemmas.Grind.{flat_map-append}
-use Rattle.std.specs.List.{list_any}
 use Rattle.serde_json.specs.Data.{Data, Items, array, object, string, Members, no_members, member}
 use Rattle.serde_json.specs.View.{items_of}
 use Rattle.serde_json.specs.Written.{compact_text, items_text, members_text, comma_if}
 use Rattle.serde_json.proofs.OnLiterals.{serde_json_on_literals}
 use Rattle.ac_cloud.specs.Laws.{AreProviders}
-use Rattle.ac_cloud.specs.World.{Provider, id_at, root_of}
+use Rattle.ac_cloud.specs.World.{Provider}
+use Rattle.ac_cloud.specs.declared.cloud.Cloud.{Cloud}
+use Rattle.ac_cloud.specs.Cloud.CloudWorld.{providers_of}
+use Rattle.ac_cloud.proofs.InOrder.{cloud_in_order}
 use Rattle.ac_query.specs.Asked.{Asked}
 use Rattle.ac_report.specs.Trees.{gathered, provider_text, request, summary}
-use Rattle.ac_report.specs.Texts.{request_text, summary_text, summarized, body_tree, body, with_commas, summary_piece, head_text, middle_text, tail_text, pieces, joined, meets_root}
-use Rattle.ac_report.specs.Marks.{requests_text, summaries_text}
+use Rattle.ac_report.specs.Texts.{request_text, summary_text, summarized, body_tree, body, with_commas, summary_piece, head_text, middle_text, tail_text, pieces, joined}
+use Rattle.ac_report.specs.Marks.{is_summarized, requests, summaries}
 use Rattle.ac_report.proofs.Trees.Gathering.{Named}
 use Rattle.ac_report.specs.Parts.{listed}
 use Rattle.ac_report.proofs.Trees.Listed.{kept_listed, range_below, range_rises}
@@ -19,7 +23,7 @@ use Rattle.ac_report.proofs.Trees.Listed.{kept_listed, range_below, range_rises}
 -- ---- the parts of the pieces
 
 abbrev pub page_text : List Provider → Asked → List (List ℕ) → List ℕ
-page_text all asked lists = head_text ++ (requests_text all asked false lists ++ (middle_text ++ (summaries_text all false (summarized all lists) ++ tail_text)))
+page_text all asked lists = head_text ++ (joined (requests all asked false lists) ++ (middle_text ++ (joined (summaries all false (summarized all lists)) ++ tail_text)))
 
 -- the items of an array
 items_joined : {X : Type 0} (g : X → Data) (later : Bool) (xs : List X) → items_text later (items_of (map g xs)) ≡ joined (with_commas later (map (λ x. compact_text (g x)) xs)) ++ 93 ∷ []
@@ -28,25 +32,14 @@ items_joined g later (x ∷ xs) = rw (items_joined g true xs) (simp append_assoc
 
 -- the members of an object
 member_text : (later : Bool) (k : List ℕ) (d : Data) (ms : Members) → members_text later (member k d ms) ≡ (comma_if later ++ (compact_text (string k) ++ 58 ∷ compact_text d)) ++ members_text true ms
-member_text later k d ms =
-    let name = compact_text (string k) in
-    let value = 58 ∷ compact_text d in
-    sym (append_assoc (comma_if later) (name ++ value) (members_text true ms) ∙ ap (λ l. comma_if later ++ l) (append_assoc name value (members_text true ms)))
+member_text later k d ms = grind (arith, common_steps, append_assoc)
 
 members_joined : {X : Type 0} (g : X → Named) (later : Bool) (xs : List X) → members_text later (listed (map g xs)) ≡ joined (with_commas later (map (λ x. compact_text (string (g x).0) ++ 58 ∷ compact_text (g x).1) xs)) ++ 125 ∷ []
 members_joined g later [] = refl
-members_joined g later (x ∷ xs) =
-    let piece = comma_if later ++ (compact_text (string (g x).0) ++ 58 ∷ compact_text (g x).1) in
-    member_text later (g x).0 (g x).1 (listed (map g xs))
-    ∙ ap (λ l. piece ++ l) (members_joined g true xs)
-    ∙ sym (append_assoc piece (joined (with_commas true (map (λ x. compact_text (string (g x).0) ++ 58 ∷ compact_text (g x).1) xs))) (125 ∷ []))
+members_joined g later (x ∷ xs) = grind (arith, common_steps, member_text, append_assoc, members_joined g true xs)
 
 pub pieces_joined : (all : List Provider) (asked : Asked) (lists : List (List ℕ)) → joined (pieces all asked lists) ≡ page_text all asked lists
-pieces_joined all asked lists =
-    let requests = with_commas false (map (request_text all asked) lists) in
-    let summaries = with_commas false (map (summary_piece all) (summarized all lists)) in
-    ap (λ l. head_text ++ l) (flat_map-append (λ (t : List ℕ). t) requests (middle_text ∷ (summaries ++ tail_text ∷ []))
-    ∙ ap (λ l. joined requests ++ (middle_text ++ l)) (flat_map-append (λ (t : List ℕ). t) summaries (tail_text ∷ []) ∙ ap (λ l. joined summaries ++ l) (append-nil tail_text)))
+pieces_joined all asked lists = grind (arith, common_steps, flat_map-append, append-nil)
 
 -- the fixed texts, by the names of the members
 abbrev requests_name : List ℕ
@@ -54,18 +47,6 @@ requests_name = compact_text (string (codes "allocation_requests"))
 
 abbrev summaries_name : List ℕ
 summaries_name = compact_text (string (codes "provider_summaries"))
-
-head_is : 123 ∷ (requests_name ++ 58 ∷ 91 ∷ []) ≡ head_text
-unfolding head_text serde_json_on_literals
-head_is = refl
-
-middle_is : 93 ∷ 44 ∷ (summaries_name ++ 58 ∷ 123 ∷ []) ≡ middle_text
-unfolding middle_text serde_json_on_literals
-middle_is = refl
-
-tail_is : 125 ∷ 125 ∷ 10 ∷ [] ≡ tail_text
-unfolding tail_text
-tail_is = refl
 
 shape : (q1 q2 r s : List ℕ) → (123 ∷ (q1 ++ 58 ∷ 91 ∷ ((r ++ 93 ∷ []) ++ 44 ∷ (q2 ++ 58 ∷ 123 ∷ ((s ++ 125 ∷ []) ++ 125 ∷ []))))) ++ 10 ∷ []
     ≡ (123 ∷ (q1 ++ 58 ∷ 91 ∷ [])) ++ (r ++ ((93 ∷ 44 ∷ (q2 ++ 58 ∷ 123 ∷ [])) ++ (s ++ 125 ∷ 125 ∷ 10 ∷ [])))
@@ -77,21 +58,16 @@ two_members : (requests : Items) (summaries : Members) →
 two_members requests summaries = refl
 
 pub body_is : (all : List Provider) → AreProviders all → (asked : Asked) (lists : List (List ℕ)) → body all asked lists ≡ page_text all asked lists
-unfolding body body_tree request_text summary_piece summary_text
+unfolding body body_tree request_text summary_piece summary_text head_text middle_text tail_text serde_json_on_literals
 body_is all are asked lists =
     let named : ℕ → Named = λ ix. (provider_text all ix, summary all ix) in
     let places = summarized all lists in
-    let ordered =
-    kept_listed all are (summary all) (λ ix. list_any (meets_root all (root_of all (id_at all ix))) lists) _ (range_rises 0 (length all)) (range_below (length all)) in
-    let requests = requests_text all asked false lists in
-    let summaries = summaries_text all false places in
-    let items : items_text false (items_of (map (request all asked) lists)) ≡ requests ++ 93 ∷ [] = items_joined (request all asked) false lists in
-    let members : members_text false (gathered (map named places)) ≡ summaries ++ 125 ∷ [] =
-    ap (members_text false) ordered ∙ members_joined named false places in
+    let ordered = kept_listed all are (summary all) (is_summarized all lists) _ (range_rises 0 (length all)) (range_below (length all)) in
     ap (λ l. l ++ 10 ∷ []) (two_members (items_of (map (request all asked) lists)) (gathered (map named places))
-    ∙ ap (λ l. 123 ∷ (requests_name ++ 58 ∷ 91 ∷ (l ++ 44 ∷ (summaries_name ++ 58 ∷ 123 ∷ (members_text false (gathered (map named places)) ++ 125 ∷ []))))) items
-    ∙ ap (λ l. 123 ∷ (requests_name ++ 58 ∷ 91 ∷ ((requests ++ 93 ∷ []) ++ 44 ∷ (summaries_name ++ 58 ∷ 123 ∷ (l ++ 125 ∷ []))))) members)
-    ∙ shape requests_name summaries_name requests summaries
-    ∙ ap (λ l. l ++ (requests ++ ((93 ∷ 44 ∷ (summaries_name ++ 58 ∷ 123 ∷ [])) ++ (summaries ++ 125 ∷ 125 ∷ 10 ∷ [])))) head_is
-    ∙ ap (λ l. head_text ++ (requests ++ (l ++ (summaries ++ 125 ∷ 125 ∷ 10 ∷ [])))) middle_is
-    ∙ ap (λ l. head_text ++ (requests ++ (middle_text ++ (summaries ++ l)))) tail_is
+    ∙ ap₂ (λ i m. 123 ∷ (requests_name ++ 58 ∷ 91 ∷ (i ++ 44 ∷ (summaries_name ++ 58 ∷ 123 ∷ (m ++ 125 ∷ [])))))
+    (items_joined (request all asked) false lists) (ap (members_text false) ordered ∙ members_joined named false places))
+    ∙ shape requests_name summaries_name (joined (requests all asked false lists)) (joined (summaries all false places))
+
+-- the body that is written of a cloud
+pub is_body : (cloud : Cloud) (asked : Asked) (lists : List (List ℕ)) → joined (pieces (providers_of cloud) asked lists) ≡ body (providers_of cloud) asked lists
+is_body cloud asked lists = pieces_joined (providers_of cloud) asked lists ∙ sym (body_is (providers_of cloud) (cloud_in_order cloud) asked lists)

@@ -1,16 +1,17 @@
 -- Members whose names rise stand in their order.
-use Rattle.std.proofs.Common.{◌≡◌, ◌∙◌, ◌<◌, ◌+◌, ℕ, zero, suc, List, [], ◌∷◌, ◌++◌, Bool, map, length, nat_cmp, Ordering, Less, Equal, Greater, refl, sym, ap, append_assoc, append-nil, subst, arith}
+use Rattle.std.proofs.lemmas.Grind.{common_steps}
+use Rattle.std.proofs.Common.{◌≡◌, ◌<◌, ◌+◌, ℕ, List, [], ◌∷◌, ◌++◌, Bool, map, length, nat_cmp, Ordering, Less, refl, sym, ap, append_assoc, append-nil, subst, arith}
 use Rattle.std.specs.BTreeMap.{insert_entry}
 use Rattle.std.specs.List.{All, AllByRecursion, filter, range_with_len}
 use Rattle.std.specs.List.Sorted.{IsStrictlySortedBy}
 use Rattle.std.specs.Map.{keys_of}
-use Rattle.std.specs.Cmp.{nat_cmp_is}
-use Rattle.std.specs.Ordering.{match_ordering, ordering_reverse}
+use Rattle.std.specs.Ordering.{match_ordering}
 use Rattle.std.proofs.lemmas.Cmp.{nat_list_cmp_total, ranked}
 use Rattle.std.proofs.lemmas.List.Elements.{All-filter, recursion_from_All}
 use Rattle.std.proofs.lemmas.List.FromFn.{get_or-range_with_len, length-range_with_len}
+use Rattle.std.proofs.lemmas.Map.Keys.{sorted_from_strictly_increasing}
 use Rattle.std.proofs.lemmas.List.Kept.{IsStrictlySortedBy-filter}
-use Rattle.serde_json.specs.Data.{Data, member, put}
+use Rattle.serde_json.specs.Data.{Data, put}
 use Rattle.ac_base.specs.Texts.{text_cmp}
 use Rattle.ac_cloud.specs.Laws.{AreProviders}
 use Rattle.ac_cloud.specs.World.{Provider, id_at}
@@ -27,16 +28,11 @@ below_middle first (x ∷ done) m ms h = below_middle first done m ms h.1
 put_last : (done : List Named) (m : Named) (ms : List Named) → IsStrictlySortedBy text_cmp (keys_of (done ++ m ∷ ms)) → put m.0 m.1 (listed done) ≡ listed (done ++ m ∷ [])
 unfolding IsStrictlySortedBy
 put_last [] m ms h = refl
-put_last (first ∷ done) m ms h =
-    let above : text_cmp m.0 first.0 ≡ Greater = nat_list_cmp_total.antisymm m.0 first.0 ∙ ap ordering_reverse (below_middle first done m ms h.0) in
-    rw above (ap (member first.0 first.1) (put_last done m ms h.1))
+put_last (first ∷ done) m ms h = grind (arith, common_steps, nat_list_cmp_total, below_middle, put_last done m ms h.1)
 
 onto_listed : (done ms : List Named) → IsStrictlySortedBy text_cmp (keys_of (done ++ ms)) → gathered_onto (listed done) ms ≡ listed (done ++ ms)
 onto_listed done [] h = ap listed (sym (append-nil done))
-onto_listed done (m ∷ ms) h =
-    ap (λ x. gathered_onto x ms) (put_last done m ms h)
-    ∙ onto_listed (done ++ m ∷ []) ms (subst (λ l. IsStrictlySortedBy text_cmp (keys_of l)) (sym (append_assoc done (m ∷ []) ms)) h)
-    ∙ ap listed (append_assoc done (m ∷ []) ms)
+onto_listed done (m ∷ ms) h = grind (arith, common_steps, put_last, append_assoc, onto_listed (done ++ m ∷ []) ms (subst (λ l. IsStrictlySortedBy text_cmp (keys_of l)) (sym (append_assoc done (m ∷ []) ms)) h))
 
 -- members whose names rise stand in their order
 pub gathered_listed : (ms : List Named) → IsStrictlySortedBy text_cmp (keys_of ms) → gathered ms ≡ listed ms
@@ -45,21 +41,13 @@ gathered_listed ms h = onto_listed [] ms h
 -- ---- one member more
 
 listed_match : (o : Ordering) (a b c : List Named) → listed (match_ordering o a b c) ≡ match_ordering o (listed a) (listed b) (listed c)
-listed_match Less a b c = refl
-listed_match Equal a b c = refl
-listed_match Greater a b c = refl
+listed_match o a b c = grind (arith, common_steps)
 
 pub listed_put : (ms : List Named) (k : List ℕ) (d : Data) → put k d (listed ms) ≡ listed (insert_entry text_cmp ms k d)
 listed_put [] k d = refl
-listed_put (m ∷ ms) k d =
-    ap (λ r. match_ordering (text_cmp k m.0) (member k d (member m.0 m.1 (listed ms))) (member m.0 d (listed ms)) (member m.0 m.1 r)) (listed_put ms k d)
-    ∙ sym (listed_match (text_cmp k m.0) _ _ _)
+listed_put (m ∷ ms) k d = grind (arith, common_steps, listed_match, listed_put ms k d)
 
 -- ---- members of providers that rise
-
--- providers that stand in order have texts in order
-pub provider_texts_rise : (all : List Provider) → AreProviders all → (p q : ℕ) → p < q → q < length all → text_cmp (provider_text all p) (provider_text all q) ≡ Less
-provider_texts_rise all are p q h k = texts_rise (id_at all p) (id_at all q) (are.order p q h k) (are.fit q k)
 
 module _ (all : List Provider) (are : AreProviders all) (g : ℕ → Data) where
   abbrev there : ℕ → Named
@@ -67,7 +55,7 @@ module _ (all : List Provider) (are : AreProviders all) (g : ℕ → Data) where
 
   texts_above : (p : ℕ) (ps : List ℕ) → AllByRecursion (λ q. nat_cmp p q ≡ Less) ps → AllByRecursion (λ q. q < length all) ps → AllByRecursion (λ k. text_cmp (provider_text all p) k ≡ Less) (keys_of (map there ps))
   texts_above p [] h b = tt
-  texts_above p (q ∷ ps) h b = (provider_texts_rise all are p q (ranked p q Less (sym h.0)) b.0, texts_above p ps h.1 b.1)
+  texts_above p (q ∷ ps) h b = (texts_rise (id_at all p) (id_at all q) (are.order p q (ranked p q Less (sym h.0)) b.0) (are.fit q b.0), texts_above p ps h.1 b.1)
 
   names_rise : (ps : List ℕ) → IsStrictlySortedBy nat_cmp ps → AllByRecursion (λ q. q < length all) ps → IsStrictlySortedBy text_cmp (keys_of (map there ps))
   unfolding IsStrictlySortedBy
@@ -79,14 +67,10 @@ module _ (all : List Provider) (are : AreProviders all) (g : ℕ → Data) where
   kept_listed t ps h b =
       gathered_listed (map there (filter t ps)) (names_rise (filter t ps) (IsStrictlySortedBy-filter nat_cmp t ps h) (recursion_from_All (λ q. q < length all) (filter t ps) (All-filter t (λ q. q < length all) ps b)))
 
-range_above : (p first n : ℕ) → p < first → AllByRecursion (λ q. nat_cmp p q ≡ Less) (range_with_len first n)
-range_above p first zero h = tt
-range_above p first (suc n) h = (sym (nat_cmp_is p first Less h), range_above p (first + 1) n (omega arith))
-
 pub range_rises : (first n : ℕ) → IsStrictlySortedBy nat_cmp (range_with_len first n)
-unfolding IsStrictlySortedBy
-range_rises first zero = tt
-range_rises first (suc n) = (range_above first (first + 1) n (omega arith), range_rises (first + 1) n)
+range_rises first n = sorted_from_strictly_increasing (range_with_len first n) (λ k h.
+    let l = length-range_with_len first n in
+    omega (arith, get_or-range_with_len first n k 0 (omega (arith, h, l)), get_or-range_with_len first n (k + 1) 0 (omega (arith, h, l))))
 
 pub range_below : (n : ℕ) → All (λ q. q < n) (range_with_len 0 n)
 range_below n i d h = rw (get_or-range_with_len 0 n i d (omega (arith, h, length-range_with_len 0 n))) (omega (arith, h, length-range_with_len 0 n))

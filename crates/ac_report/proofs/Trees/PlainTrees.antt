@@ -1,8 +1,9 @@
 -- Trees with no float.
-use Rattle.std.proofs.Common.{◌≡◌, ℕ, List, [], ◌∷◌, refl, ◌<◌, false, map, length, Option, Some, None}
+use Rattle.std.proofs.Common.{arith}
+use Rattle.std.proofs.lemmas.Grind.{common_steps}
+use Rattle.std.proofs.Common.{◌≡◌, ℕ, List, [], ◌∷◌, refl, ◌<◌, false, map, length, Option}
 use Rattle.serde_json.specs.Written.{has_float, members_have_float}
 use Rattle.ac_cloud.specs.Cloud.CloudWorld.{providers_of}
-use Rattle.ac_cloud.specs.World.{id_at, parent_of, provider_at}
 use Rattle.ac_cloud.specs.declared.cloud.Cloud.{Cloud}
 use Rattle.ac_report.specs.declared.request.parts.Allocation.{Allocation}
 use Rattle.ac_report.specs.declared.request.parts.Request.{Request}
@@ -23,15 +24,11 @@ listed_plain f plain (x ∷ xs) = rw (plain x) (listed_plain f plain xs)
 
 id_plain : (id : Option ℕ) → has_float (id_or_null id) ≡ false
 unfolding id_or_null
-id_plain None = refl
-id_plain (Some id) = refl
+id_plain id = grind (arith, common_steps)
 
 pub summary_plain : (cloud : Cloud) (ix : ℕ) → ix < length (providers_of cloud) → has_float (summary (providers_of cloud) ix) ≡ false
 unfolding summary holding
-summary_plain cloud ix h =
-    let all = providers_of cloud in
-    let p = provider_at all ix in
-    rw (id_plain (parent_of all (id_at all ix)), holdings_listed p.entries (entries_rise cloud ix h), listed_plain holding (λ _. refl) p.entries, texts_plain p.traits) refl
+summary_plain cloud ix h = grind (arith, common_steps, id_plain, holdings_listed, entries_rise, listed_plain, texts_plain)
 
 allocation_plain : (a : Allocation) → has_float (allocation_tree a) ≡ false
 unfolding allocation_tree resources_tree

@@ -1,12 +1,13 @@
 -- The trees of requests, as they are sent.
-use Rattle.std.proofs.Common.{◌≡◌, ◌∙◌, ◌<◌, ◌+◌, ℕ, List, [], ◌∷◌, ◌++◌, Bool, true, false, not, codes, drop, fold, slice_index, length, map, nat_cmp, ap, ap₂, arith, refl, sym, Ordering, Less, Equal, Greater}
+use Rattle.std.proofs.lemmas.Grind.{common_steps}
+use Rattle.std.proofs.Common.{◌≡◌, ◌∙◌, ◌<◌, ◌+◌, ℕ, List, [], ◌∷◌, ◌++◌, Bool, true, false, not, codes, drop, fold, slice_index, length, map, nat_cmp, ap, ap₂, arith, refl, sym}
 use Rattle.std.specs.Borrow.{Bor}
 use Rattle.std.specs.BTreeSet.{insert_key}
 use Rattle.std.specs.List.{All, filter}
 use Rattle.std.specs.Map.{keys_of}
-use Rattle.std.specs.Ordering.{match_ordering}
 use Rattle.std.proofs.lemmas.Cmp.{nat_cmp_total}
-use Rattle.std.proofs.lemmas.List.{drop_more}
+use Rattle.std.proofs.lemmas.List.{drop_more, map-append}
+use Rattle.std.proofs.lemmas.Simd.{map-map}
 use Rattle.serde_json.specs.Data.{Data, object, number, unsigned, no_members, member, put}
 use Rattle.ac_base.specs.Texts.{id_text, text_cmp}
 use Rattle.ac_query.specs.Shown.Queries.{asked_of}
@@ -17,7 +18,7 @@ use Rattle.ac_cloud.specs.Laws.{AreProviders}
 use Rattle.ac_base.specs.Sorted.{rising}
 use Rattle.ac_cloud.specs.World.{Provider, id_at}
 use Rattle.ac_report.specs.Parts.{gathered_onto, listed}
-use Rattle.ac_report.specs.Requests.{allocation_member, allocation_tree, class_sum, resources_tree, sum_member}
+use Rattle.ac_report.specs.Requests.{allocation_member, allocation_tree, class_sum, resources_tree}
 use Rattle.ac_report.specs.declared.request.parts.Allocation.{Allocation}
 use Rattle.ac_report.specs.Trees.{allocation, gathered, gives, needs_on, provider_text, sum}
 use Rattle.ac_report.proofs.SlotLemmas.{all_rising}
@@ -37,14 +38,7 @@ module _ (f : List ℕ → Data) where
 
   put_named : (ks : List (List ℕ)) (k : List ℕ) → put k (f k) (listed (map named ks)) ≡ listed (map named (insert_key text_cmp ks k))
   put_named [] k = refl
-  put_named (x ∷ ks) k = by (text_cmp k x) refl (put_named ks k)
-    where
-      by : (o : Ordering) → text_cmp k x ≡ o → put k (f k) (listed (map named ks)) ≡ listed (map named (insert_key text_cmp ks k))
-          → match_ordering o (member k (f k) (listed (map named (x ∷ ks)))) (member x (f k) (listed (map named ks))) (member x (f x) (put k (f k) (listed (map named ks))))
-          ≡ listed (map named (match_ordering o (k ∷ x ∷ ks) (x ∷ ks) (x ∷ insert_key text_cmp ks k)))
-      by Less e more = refl
-      by Equal e more = ap (λ q. member x (f q) (listed (map named ks))) (same_text k x e)
-      by Greater e more = ap (member x (f x)) more
+  put_named (x ∷ ks) k = grind (arith, common_steps, named, same_text, put_named ks k)
 
   onto_named : (needs : List (List ℕ × ℕ)) (ks : List (List ℕ)) → gathered_onto (listed (map named ks)) (map (λ need. named need.0) needs) ≡ listed (map named (fold (insert_key text_cmp) ks (keys_of needs)))
   onto_named [] ks = refl
@@ -56,12 +50,7 @@ sums_listed xs ix = onto_named (λ class. number (unsigned (sum_on xs ix class))
 
 some_inserted : (ks : List (List ℕ)) (k : List ℕ) → is_empty (insert_key text_cmp ks k) ≡ false
 some_inserted [] k = refl
-some_inserted (x ∷ ks) k = by (text_cmp k x)
-  where
-    by : (o : Ordering) → is_empty (match_ordering o (k ∷ x ∷ ks) (x ∷ ks) (x ∷ insert_key text_cmp ks k)) ≡ false
-    by Less = refl
-    by Equal = refl
-    by Greater = refl
+some_inserted (x ∷ ks) k = grind (arith, common_steps)
 
 some_kept : (ks more : List (List ℕ)) → is_empty ks ≡ false → is_empty (fold (insert_key text_cmp) ks more) ≡ false
 some_kept ks [] h = h
@@ -82,11 +71,7 @@ allocations_listed all are xs list h =
 module _ (xs : List Placed) (ix : ℕ) where
   -- a provider gives something where classes of it are needed
   pub gives_by : (keys : List (Bor (List ℕ))) → map (λ k. k.now) keys ≡ rising text_cmp (keys_of (needs_on xs ix)) → gives xs ix ≡ not (is_empty keys)
-  gives_by keys e = ap not (sym (none_needed (needs_on xs ix)) ∙ sym (ap is_empty e) ∙ shown keys)
-    where
-      shown : (keys : List (Bor (List ℕ))) → is_empty (map (λ k. k.now) keys) ≡ is_empty keys
-      shown [] = refl
-      shown (k ∷ keys) = refl
+  gives_by keys e = grind (arith, common_steps, none_needed)
 
 pub allocation_is : (all : List Provider) (a : Allocation) → a.id ≡ id_at all a.provider
     → map (λ k. k.now) a.classes.keys ≡ rising text_cmp (keys_of (needs_on (assigned (asked_of a.query.now) a.list.now) a.provider))
@@ -95,23 +80,16 @@ unfolding allocation allocation_tree resources_tree
 allocation_is all a e h =
     let xs = assigned (asked_of a.query.now) a.list.now in
     ap₂ (λ id ms. (id_text id, object (member (codes "resources") (object ms) no_members))) e
-    (ap listed (shown a.classes.keys ∙ ap (map (class_sum xs a.provider)) h) ∙ sym (sums_listed xs a.provider))
-  where
-    shown : (keys : List (Bor (List ℕ))) → map (sum_member a) keys ≡ map (class_sum (assigned (asked_of a.query.now) a.list.now) a.provider) (map (λ k. k.now) keys)
-    shown [] = refl
-    shown (k ∷ keys) = ap (λ ms. sum_member a k ∷ ms) (shown keys)
+    (ap listed (sym (map-map (class_sum xs a.provider) (λ k. k.now) a.classes.keys) ∙ ap (map (class_sum xs a.provider)) h) ∙ sym (sums_listed xs a.provider))
 
 pub member_pushed : (sent : List Allocation) (a : Allocation) (m : Named) (rest : List Named) → allocation_member a ≡ m → map allocation_member (sent ++ a ∷ []) ++ rest ≡ map allocation_member sent ++ m ∷ rest
-member_pushed [] a m rest e = ap (λ x. x ∷ rest) e
-member_pushed (x ∷ sent) a m rest e = ap (λ ms. allocation_member x ∷ ms) (member_pushed sent a m rest e)
+member_pushed sent a m rest e = grind (arith, common_steps, map-append)
 
 pub empty_by : {X : Type 0} (xs : List X) → length xs ≡ 0 → is_empty xs ≡ true
-empty_by [] h = refl
-empty_by (x ∷ xs) h = absurd (omega (arith, h))
+empty_by xs h = grind (arith, common_steps)
 
 pub some_by : {X : Type 0} (xs : List X) → (length xs ≡ 0 → ⊥) → is_empty xs ≡ false
-some_by [] h = absurd (h refl)
-some_by (x ∷ xs) h = refl
+some_by xs h = grind (arith, common_steps)
 
 -- of some numbers those that pass a test, from a place on
 pub kept_more : (t : ℕ → Bool) (xs : List ℕ) (i : ℕ) → i < length xs → t (slice_index xs i) ≡ true → filter t (drop i xs) ≡ slice_index xs i ∷ filter t (drop (i + 1) xs)

@@ -1,6 +1,7 @@
+use Rattle.std.proofs.lemmas.Grind.{common_steps}
 use Rattle.std.proofs.Common.{◌≡◌, ◌∙◌, ◌++◌, ap, sym, get_or, append_assoc, arith}
 use Rattle.std.proofs.lemmas.List.{get_or-map, length-map, take_all}
-use Rattle.ac_query.specs.Tokens.{ids_text, part_text}
+use Rattle.ac_query.specs.Tokens.{part_text}
 use Rattle.ac_query.proofs.WrittenIds.{next_part}
 use Rattle.ac_rules.specs.Pages.{ids_of}
 use Rattle.ac_cloud.specs.Cloud.CloudWorld.{providers_of}
@@ -20,6 +21,4 @@ loop-place-preserved c =
     ∙ ap (λ l. c.args.text.now.items ++ l) (sym (next_part (ids_of all list) place id (omega (arith, length-map list (id_at all))) there))
 
 pub returns : goal.returns
-returns c =
-    let ids = ids_of (providers_of c.args.cloud.now) c.args.list.now in
-    c.loop-place.invariant ∙ ap (λ l. c.args.text.now.items ++ ids_text l) (take_all c.loop-place.place ids (omega (arith, length-map c.args.list.now (id_at (providers_of c.args.cloud.now)))))
+returns c = grind (arith, common_steps, take_all, length-map)

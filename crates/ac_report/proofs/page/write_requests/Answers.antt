@@ -1,74 +1,74 @@
-use Rattle.std.proofs.Common.{◌≡◌, ◌∙◌, ap, map, sym, subst, arith, Some, false, get_or, List, ℕ, ◌++◌}
-use Rattle.std.specs.List.{list_any}
-use Rattle.std.specs.Io.KnownBytes.{Appends}
+use Rattle.std.proofs.lemmas.Grind.{common_steps}
+use Rattle.std.proofs.Common.{◌≡◌, ◌∙◌, refl, ap, [], ◌∷◌, ◌++◌, false, get_or, arith}
+use Rattle.std.proofs.Math.Bool.{or-false}
 use Rattle.serde_json.specs.Written.{comma_if}
 use Rattle.ac_query.specs.Shown.Queries.{asked_of}
 use Rattle.ac_rules.specs.Lists.{tail_of}
-use Rattle.ac_rules.specs.Pages.{cut}
 use Rattle.ac_cloud.specs.Cloud.CloudWorld.{providers_of}
 use Rattle.ac_cloud.specs.World.{id_at}
-use Rattle.ac_base.specs.Devices.{TakesPart}
+use Rattle.ac_report.specs.Marks.{requests}
 use Rattle.ac_report.specs.Pages.{IsAssignment}
-use Rattle.ac_report.specs.Texts.{request_text, meets_root, with_commas}
-use Rattle.ac_report.proofs.Pages.Wholes.{done_whole, one_done, one_part}
-use Rattle.ac_report.proofs.Outcomes.{on_err}
+use Rattle.ac_report.specs.Texts.{meets_root, request_text}
+use Rattle.ac_report.proofs.Pages.Paging.{all_head, all_tail, cut_end, cut_over, is_next, read_end, read_last, read_on, read_over}
+use Rattle.ac_report.proofs.Pages.Writing.{refused, stopped, wrote_none, wrote_on}
 use Rattle.ac_report.proofs.Trees.Marking.{marks_step}
-use Rattle.ac_report.proofs.Pages.Paging.{all_head, cut_next, loses_next, paged_next}
 use Rattle.ac_report.proofs.page.write_requests.Goals as goal
 
 pub request_text-requires : goal.request_text-requires
-request_text-requires g c =
-    all_head (IsAssignment (providers_of c.args.cloud.now) (asked_of c.args.query.now)) (g.S.Source.left c.lists.source) c.in-Some.list.now (sym c.in-Some.ensures.head) c.lists.invariant.paged.assigned
+request_text-requires g c = all_head (IsAssignment (providers_of c.args.cloud.now) (asked_of c.args.query.now)) (g.S.Source.left c.lists.source) c.in-Some.list.now c.in-Some.ensures.head c.lists.invariant.assigned
 
-pub mark_roots-requires-clause-providers : goal.mark_roots-requires-clause-providers
-mark_roots-requires-clause-providers g c =
-    let assigned = all_head (IsAssignment (providers_of c.args.cloud.now) (asked_of c.args.query.now)) (g.S.Source.left c.lists.source) c.in-Some.list.now (sym c.in-Some.ensures.head) c.lists.invariant.paged.assigned in
-    assigned.below
+pub returns-in-None-clause-reads : goal.returns-in-None-clause-reads
+returns-in-None-clause-reads g c = c.lists.invariant.reads _ _ (read_end _ _ _ _ c.in-None.ensures.head c.next.follows.holds-at-none.0 c.lists.invariant.small)
 
-pub returns-in_err-text-in-Some-clause-gone : goal.returns-in_err-text-in-Some-clause-gone
-returns-in_err-text-in-Some-clause-gone g c =
-    on_err c.from_residual.result _ (loses_next _ (asked_of c.args.query.now).limit c.lists.count _ _ c.in-Some.list.now
-    (λ e. let full = c.is_full.ensures.1 (c.limit-limit.ensures ∙ e) in cc) c.in-Some.ensures.head c.lists.invariant.paged _ c.next.follows.holds-at-none.0)
+pub returns-in-None-clause-writes : goal.returns-in-None-clause-writes
+returns-in-None-clause-writes g c = c.lists.invariant.writes _ _ _ (wrote_none _ _ _ _ _ (ap (requests (providers_of c.args.cloud.now) (asked_of c.args.query.now) c.lists.later) (cut_end _ _ c.in-None.ensures.head)))
 
-pub returns-in_err-push_listed-clause-gone : goal.returns-in_err-push_listed-clause-gone
-returns-in_err-push_listed-clause-gone g c =
-    on_err c.from_residual-in_err-push_listed.result _ (loses_next _ (asked_of c.args.query.now).limit c.lists.count _ _ c.in-Some.list.now
-    (λ e. let full = c.is_full.ensures.1 (c.limit-limit.ensures ∙ e) in cc) c.in-Some.ensures.head c.lists.invariant.paged _ c.next.follows.holds-at-none.0)
+pub returns-in-None-clause-marks : goal.returns-in-None-clause-marks
+returns-in-None-clause-marks g c = grind (arith, common_steps, cut_end, or-false)
 
-pub returns-in_err-push_listed-clause-part : goal.returns-in_err-push_listed-clause-part
-returns-in_err-push_listed-clause-part g c =
-    let all = providers_of c.args.cloud.now in
-    let asked = asked_of c.args.query.now in
+pub returns-in_err-text-in-Some-clause-reads : goal.returns-in_err-text-in-Some-clause-reads
+returns-in_err-text-in-Some-clause-reads g c =
+    let next = is_next c.lists.wanted (g.S.Source.left c.lists.source) c.in-Some.list.now (λ e. let over = c.is_over.ensures.1 e in cc) c.in-Some.ensures.head in
+    c.lists.invariant.reads _ _ (read_last _ _ _ _ _ next c.next.follows.holds-at-none.0 _ _ c.from_residual.ensures.1)
+
+pub returns-in_err-text-in-Some-clause-writes : goal.returns-in_err-text-in-Some-clause-writes
+returns-in_err-text-in-Some-clause-writes g c = c.lists.invariant.writes _ _ _ (refused _ _ _ _ _ c.from_residual.ensures.1)
+
+pub returns-in_err-push_listed-clause-reads : goal.returns-in_err-push_listed-clause-reads
+returns-in_err-push_listed-clause-reads g c =
+    let next = is_next c.lists.wanted (g.S.Source.left c.lists.source) c.in-Some.list.now (λ e. let over = c.is_over.ensures.1 e in cc) c.in-Some.ensures.head in
+    c.lists.invariant.reads _ _ (read_last _ _ _ _ _ next c.next.follows.holds-at-none.0 _ _ c.from_residual-in_err-push_listed.ensures.1)
+
+pub returns-in_err-push_listed-clause-writes : goal.returns-in_err-push_listed-clause-writes
+returns-in_err-push_listed-clause-writes g c =
     let x = c.in-Some.list.now in
-    let more : asked.limit ≡ Some c.lists.count → ⊥ = λ e. let full = c.is_full.ensures.1 (c.limit-limit.ensures ∙ e) in cc in
-    let told = c.as_bytes.ensures.value ∙ c.in_ok-text-in-Some.ensures in
-    let P : List ℕ → Type 0 = λ text. TakesPart (g.W.Sink.taken c.lists.out) (g.W.Sink.taken c.push_listed.new.out) (comma_if c.lists.later ++ text) in
-    on_err c.from_residual-in_err-push_listed.result _
-    (one_part (λ text. text) _ _ _ _ (comma_if c.lists.later ++ request_text all asked x) _ _
-    (ap (λ l. with_commas c.lists.later (map (request_text all asked) l)) (cut_next _ asked.limit c.lists.count _ _ x more c.in-Some.ensures.head c.lists.invariant.paged)) c.lists.invariant.whole (subst P told c.in_err-push_listed.ensures.part))
+    let next = is_next c.lists.wanted (g.S.Source.left c.lists.source) x (λ e. let over = c.is_over.ensures.1 e in cc) c.in-Some.ensures.head in
+    let text = request_text (providers_of c.args.cloud.now) (asked_of c.args.query.now) x in
+    let told : c.as_bytes.result.now ≡ text = c.as_bytes.ensures.value ∙ c.in_ok-text-in-Some.ensures in
+    c.lists.invariant.writes _ _ _ (rw next.cut_next (stopped (λ t. t) ((comma_if c.lists.later ++ text) ∷ []) _ _ _ _ _ _ _ (rw told at c.in_err-push_listed.ensures) c.from_residual-in_err-push_listed.ensures.1))
 
 pub lists-preserved : goal.lists-preserved
 lists-preserved g c =
     let all = providers_of c.args.cloud.now in
-    let asked = asked_of c.args.query.now in
     let left = g.S.Source.left in
     let x = c.in-Some.list.now in
-    let more : asked.limit ≡ Some c.lists.count → ⊥ = λ e. let full = c.is_full.ensures.1 (c.limit-limit.ensures ∙ e) in cc in
-    let next = cut_next _ asked.limit c.lists.count (left c.args.source.now) _ x more c.in-Some.ensures.head c.lists.invariant.paged in
-    let told = c.as_bytes.ensures.value ∙ c.in_ok-text-in-Some.ensures in
-    let P : List ℕ → Type 0 = λ text. Appends (g.W.Sink.taken c.lists.out) (g.W.Sink.taken c.push_listed.new.out) (comma_if c.lists.later ++ text) in
-    let taken = subst P told c.in_ok-push_listed.ensures.ok in
+    let next = is_next c.lists.wanted (left c.lists.source) x (λ e. let over = c.is_over.ensures.1 e in cc) c.in-Some.ensures.head in
     let tail : left c.next.follows.lender-at-none ≡ tail_of (left c.lists.source) = c.next.follows.holds-at-none.0 in
-    rw (tail, c.saturating_add-count.ensures)
+    let text = request_text all (asked_of c.args.query.now) x in
+    let told : c.as_bytes.result.now ≡ text = c.as_bytes.ensures.value ∙ c.in_ok-text-in-Some.ensures in
+    rw (tail, c.saturating_add-count.ensures, c.one_less-wanted.ensures)
     (record {
-      paged = paged_next _ asked.limit c.lists.count _ _ x more c.in-Some.ensures.head c.lists.invariant.paged;
-      marks_long = c.mark_roots.ensures.long ∙ c.lists.invariant.marks_long;
-      marked = λ r below. marks_step all _ _ x (id_at all r) (list_any (meets_root all (id_at all r)) (cut asked.limit (left c.args.source.now))) (get_or c.lists.marks r false) (get_or c.mark_roots.new.marks r false) next
-          (c.lists.invariant.marked r below) (c.mark_roots.ensures.marked r (omega (arith, below, c.lists.invariant.marks_long)));
-      whole = one_done (λ text. text) _ _ _ _ (comma_if c.lists.later ++ request_text all asked x) _ _
-          (ap (λ l. with_commas c.lists.later (map (request_text all asked) l)) next) c.lists.invariant.whole taken;
-      failures = omega (arith, c.lists.invariant.failures, c.in_ok-push_listed.ensures.failures);
+      assigned = all_tail (IsAssignment all (asked_of c.args.query.now)) _ c.lists.invariant.assigned;
+      long = c.mark_roots.ensures.long ∙ c.lists.invariant.long;
+      marked = λ r low. marks_step (meets_root all (id_at all r)) _ _ x _ (get_or c.lists.marks r false) _ next.cut_next (c.lists.invariant.marked r low) (c.mark_roots.ensures.marked r (omega (arith, low, c.lists.invariant.long)));
+      small = omega arith;
+      reads = λ r new h. c.lists.invariant.reads r new (read_on _ _ _ _ x next refl r new h);
+      writes = λ r new after h. c.lists.invariant.writes r new after
+          (rw next.cut_next (wrote_on (λ t. t) ((comma_if c.lists.later ++ text) ∷ []) _ _ _ _ _ _ r new after (rw told at c.in_ok-push_listed.ensures) h));
     })
 
-pub returns-in_err-text-in-Some-clause-whole : goal.returns-in_err-text-in-Some-clause-whole
-returns-in_err-text-in-Some-clause-whole g c = λ told. done_whole (λ text. text) _ _ _ _ c.lists.invariant.whole
+pub returns-clause-reads : goal.returns-clause-reads
+returns-clause-reads g c = c.lists.invariant.reads _ _ (read_over _ _ _ (c.is_over.ensures.0 c.lists-test.false) c.lists.invariant.small)
+
+pub returns-clause-writes : goal.returns-clause-writes
+returns-clause-writes g c = c.lists.invariant.writes _ _ _ (wrote_none _ _ _ _ _ (ap (requests (providers_of c.args.cloud.now) (asked_of c.args.query.now) c.lists.later) (cut_over _ _ (c.is_over.ensures.0 c.lists-test.false))))

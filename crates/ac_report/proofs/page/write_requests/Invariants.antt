@@ -1,28 +1,33 @@
-use Rattle.std.proofs.Common.{◌≡◌, ◌<◌, ◌≤◌, ◌||◌, length, map, ℕ, false, get_or}
-use Rattle.std.specs.List.{list_any}
+use Rattle.std.proofs.Common.{◌≡◌, ◌<◌, ◌≤◌, ◌||◌, ℕ, List, Option, Result, false, get_or, length}
+use Rattle.std.specs.List.{All, list_any}
 use Rattle.ac_query.specs.Shown.Queries.{asked_of}
 use Rattle.ac_rules.specs.Pages.{cut}
 use Rattle.ac_cloud.specs.Cloud.CloudWorld.{providers_of}
 use Rattle.ac_cloud.specs.World.{id_at}
+use Rattle.ac_report.specs.declared.fault.PageFault.{PageFault}
+use Rattle.ac_report.specs.Marks.{requests}
+use Rattle.ac_report.specs.Outcomes.{Reads, Writes}
 use Rattle.ac_report.specs.Pages.{IsAssignment}
-use Rattle.ac_report.specs.Texts.{meets_root, request_text, with_commas}
-use Rattle.ac_report.proofs.Pages.Wholes.{IsDone}
-use Rattle.ac_report.proofs.Pages.Paging.{IsPaged, after}
+use Rattle.ac_report.specs.Texts.{meets_root}
 use Rattle.ac_report.proofs.page.write_requests.Given as goal
 
--- what is left to write, of what was there to write
+-- what ends it well from here does all
 abbrev pub invariant-lists : goal.invariant-lists
 invariant-lists g l =
     let left = g.S.Source.left in
+    let taken = g.W.Sink.taken in
+    let failures = g.W.Sink.failures in
     let all = providers_of l.cloud in
     let asked = asked_of l.query in
-    let wanted = after asked.limit l.count in
     record {
-      paged : IsPaged (IsAssignment all asked) asked.limit l.count (left l.fn.source) (left l.source);
-      marks_long : length l.marks ≡ length all;
-      marked : (r : ℕ) → r < length all → list_any (meets_root all (id_at all r)) (cut asked.limit (left l.fn.source)) ≡ (get_or l.marks r false || list_any (meets_root all (id_at all r)) (cut wanted (left l.source)));
-      whole : IsDone (λ text. text) (with_commas false (map (request_text all asked) (cut asked.limit (left l.fn.source)))) (g.W.Sink.taken l.fn.out) (g.W.Sink.taken l.out) (with_commas l.later (map (request_text all asked) (cut wanted (left l.source))));
-      failures : g.W.Sink.failures l.fn.out ≤ g.W.Sink.failures l.out;
+      assigned : All (IsAssignment all asked) (left l.source);
+      long : length l.marks ≡ length all;
+      marked : (r : ℕ) → r < length all
+          → list_any (meets_root all (id_at all r)) (cut asked.limit (left l.fn.source)) ≡ (get_or l.marks r false || list_any (meets_root all (id_at all r)) (cut l.wanted (left l.source)));
+      small : l.count ≤ 4294967295;
+      reads : (r : Result ℕ PageFault) (new : List (List ℕ)) → Reads l.wanted l.count r (left l.source) new → Reads asked.limit 0 r (left l.fn.source) new;
+      writes : (r : Result ℕ PageFault) (new : Option (List ℕ)) (after : ℕ) → Writes (λ text. text) (requests all asked l.later (cut l.wanted (left l.source))) r (taken l.out) new (failures l.out) after
+          → Writes (λ text. text) (requests all asked false (cut asked.limit (left l.fn.source))) r (taken l.fn.out) new (failures l.fn.out) after;
     }
 
 abbrev pub decreases-lists : goal.decreases-lists

@@ -1,8 +1,9 @@
+use Rattle.std.proofs.lemmas.Grind.{common_steps}
 use Rattle.std.proofs.Common.{◌∙◌, ◌+◌, ◌<◌, ℕ, List, ap, ap₂, arith, drop, length, map, refl, subst, sym}
 use Rattle.std.proofs.lemmas.List.{drop_all, drop_more}
 use Rattle.std.specs.Borrow.{Bor}
 use Rattle.std.specs.List.{All}
-use Rattle.serde_json.specs.Data.{object, put}
+use Rattle.serde_json.specs.Data.{put}
 use Rattle.ac_base.proofs.ShownKeys.{insert_shown}
 use Rattle.ac_base.specs.Texts.{text_cmp}
 use Rattle.ac_query.specs.Asked.{slots_of}
@@ -46,7 +47,4 @@ loop-place-preserved c =
 
 pub returns : goal.returns
 unfolding mappings_tree mappings
-returns c =
-    let mappings = mappings_from (providers_of c.args.cloud.now) (assigned (asked_of c.args.query.now) c.args.list.now) in
-    let sent = listed (map mapping_member c.loop-place.members.entries) in
-    ap object (sym (ap (λ gs. gathered_onto sent (mappings c.loop-place.place (map group_entry gs))) (drop_all c.loop-place.place c.groups-group-items.result.now (omega arith))) ∙ c.loop-place.invariant)
+returns c = grind (arith, common_steps, drop_all)

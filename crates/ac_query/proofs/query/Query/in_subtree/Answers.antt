@@ -1,3 +1,5 @@
+use Rattle.std.proofs.Common.{arith}
+use Rattle.std.proofs.lemmas.Grind.{common_steps}
 use Rattle.std.proofs.Common.{◌∙◌, ap, sym, refl}
 use Rattle.std.specs.Option.{option_map}
 use Rattle.ac_base.specs.Names.{suffix_bytes}
@@ -20,8 +22,4 @@ returns-in-Some c =
     _ _ (shown_read suffixes_shown c.args.self.now.subtrees.items c.args.k c.index-in-Some.result.now c.requires.list c.index-in-Some.ensures)
 
 pub returns-in-None : goal.returns-in-None
-returns-in-None c =
-    none_listed (asked_of c.args.self.now).groups c.slot-slot.result (group_entry c.index.result.now)
-    (shown_read group_entry c.args.self.now.groups.items c.slot-slot.result.group c.index.result.now c.slot-slot.ensures.inside c.index.ensures)
-    _ c.slot-slot.ensures.shown (slot_there (slots_of (asked_of c.args.self.now)) c.args.s _ c.requires.slot refl)
-    _ (ap (option_map suffix_bytes) c.in-None.is)
+returns-in-None c = grind (arith, common_steps, none_listed, shown_read, slot_there)

@@ -1,23 +1,17 @@
-use Rattle.std.proofs.Common.{◌≡◌, ◌∙◌, IfSome, Some}
-use Rattle.std.proofs.lemmas.Option.{IfSome_then}
+use Rattle.std.proofs.Common.{arith, rules}
+use Rattle.std.proofs.lemmas.Grind.{common_steps}
+use Rattle.std.proofs.Common.{◌∙◌}
 use Rattle.ac_query.specs.Pairs.{pairs_of}
-use Rattle.ac_query.specs.Faults.{query_fault}
-use Rattle.ac_query.specs.Shown.Faults.{fault_shown}
 use Rattle.ac_query.specs.Shown.Draft.{draft_shown}
 use Rattle.ac_query.proofs.Pairs.PairSteps.{err_is}
 use Rattle.ac_query.proofs.Wholes.{asked_is, text_stops, goes_on, asks_record}
 use Rattle.ac_query.proofs.query.Query.read.Goals as goal
 
 pub returns-in_err-draft-clause-fault : goal.returns-in_err-draft-clause-fault
-returns-in_err-draft-clause-fault c =
-    err_is _ (λ e. IfSome (fault_shown e) (λ f. query_fault c.args.version c.args.text.now ≡ Some f)) _ c.from_residual.ensures.1
-    (IfSome_then (fault_shown c.in_err-draft.field-0.0) c.in_err-draft.ensures.fault (text_stops c.args.version c.args.text.now))
+returns-in_err-draft-clause-fault c = grind (arith, common_steps, err_is, text_stops)
 
 pub returns-in_err-check-clause-fault : goal.returns-in_err-check-clause-fault
-returns-in_err-check-clause-fault c =
-    err_is _ (λ e. IfSome (fault_shown e) (λ f. query_fault c.args.version c.args.text.now ≡ Some f)) _ c.from_residual-in_err-check.ensures.1
-    (IfSome_then (fault_shown c.in_err-check.field-0.0) c.in_err-check.ensures.fault
-    (λ f e. goes_on c.args.version c.args.text.now c.in_ok-draft.ensures.ok (draft_shown c.in_ok-draft.draft) c.in_ok-draft.ensures.draft ∙ e))
+returns-in_err-check-clause-fault c = search (rules, arith, err_is, goes_on)
 
 pub returns-clause-ok : goal.returns-clause-ok
 returns-clause-ok c = goes_on c.args.version c.args.text.now c.in_ok-draft.ensures.ok (draft_shown c.in_ok-draft.draft) c.in_ok-draft.ensures.draft ∙ c.in_ok-check.ensures.ok

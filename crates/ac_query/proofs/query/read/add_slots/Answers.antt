@@ -1,4 +1,5 @@
-use Rattle.std.proofs.Common.{◌∙◌, append-nil, arith, ap, map, sym}
+use Rattle.std.proofs.lemmas.Grind.{common_steps}
+use Rattle.std.proofs.Common.{append-nil, arith, ap, map, sym}
 use Rattle.std.specs.Option.{option_map}
 use Rattle.std.proofs.lemmas.List.{length-map}
 use Rattle.ac_base.specs.Names.{suffix_bytes}
@@ -20,7 +21,4 @@ loop-class-preserved c = λ all is.
     c.in_ok-push-in-None.ensures.items (c.loop-class.invariant all is)
 
 pub returns-after-loop-class : goal.returns-after-loop-class
-returns-after-loop-class c = λ all is.
-    c.loop-class.invariant all is
-    ∙ classes_all all c.args.place _ (group_entry c.args.group.now) c.loop-class.class (ap (option_map suffix_bytes) c.in-None.is)
-    (omega (arith, length-map c.args.group.now.needs.items need_entry))
+returns-after-loop-class c = grind (arith, common_steps, classes_all, length-map)

@@ -1,12 +1,9 @@
-use Rattle.std.proofs.Common.{◌≡◌, ◌∙◌, ◌+◌, [], ap, arith, map, length, IfSome, Some}
-use Rattle.std.specs.List.{fold}
+use Rattle.std.proofs.lemmas.Grind.{common_steps}
+use Rattle.std.proofs.Common.{◌≡◌, ◌∙◌, ◌+◌, ap, arith, length, IfSome, Some}
 use Rattle.ac_query.specs.Shown.Draft.{draft_shown}
 use Rattle.std.specs.String.{string_bytes}
-use Rattle.form_urlencoded.specs.Form.{raw_pairs}
 use Rattle.form_urlencoded.specs.Parse.{owned_pairs_left}
-use Rattle.ac_query.specs.Pairs.{given, pair_text}
-use Rattle.ac_query.specs.Laws.Gathered.{with_given, nothing}
-use Rattle.ac_query.specs.Faults.{first_fault, pairs_conditions, text_conditions}
+use Rattle.ac_query.specs.Faults.{first_fault, text_conditions}
 use Rattle.ac_query.specs.Shown.Faults.{fault_shown}
 use Rattle.ac_query.specs.Shown.{texts_shown}
 use Rattle.ac_query.specs.Shown.Given.{given_shown}
@@ -19,18 +16,7 @@ pub returns-then-text-gt-MOST_BYTES-clause-fault : goal.returns-then-text-gt-MOS
 returns-then-text-gt-MOST_BYTES-clause-fault c = is_too_long c.args.version c.args.text.now c.if-text-gt-MOST_BYTES.true
 
 pub loop-pair-init : goal.loop-pair-init
-loop-pair-init c =
-    let left : owned_pairs_left c.into_iter-pair-iterator.result ≡ raw_pairs c.args.text.now = cc in
-    record {
-      fits = omega (arith, ap length left, raw_pairs-fits c.args.text.now, c.if-text-gt-MOST_BYTES.false);
-      faults =
-          ap (λ ks. first_fault (pairs_conditions c.args.version 1 (map string_bytes ks) (map pair_text (owned_pairs_left c.into_iter-pair-iterator.result)))) c.new-earlier.ensures.empty
-          ∙ ap (λ l. first_fault (pairs_conditions c.args.version 1 [] (map pair_text l))) left
-          ∙ pairs_decide c.args.version c.args.text.now c.if-text-gt-MOST_BYTES.false;
-      asked =
-          ap (λ d. fold with_given d (given c.args.version (map pair_text (owned_pairs_left c.into_iter-pair-iterator.result)))) c.new-draft.ensures
-          ∙ ap (λ l. fold with_given nothing (given c.args.version (map pair_text l))) left;
-    }
+loop-pair-init c = grind (arith, common_steps, raw_pairs-fits, pairs_decide)
 
 pub loop-pair-preserved : goal.loop-pair-preserved
 loop-pair-preserved c =

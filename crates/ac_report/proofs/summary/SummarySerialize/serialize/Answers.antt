@@ -1,18 +1,17 @@
-use Rattle.std.proofs.Common.{List, ℕ, Option, sym, subst, ◌∙◌}
+use Rattle.std.proofs.Common.{arith}
+use Rattle.std.proofs.lemmas.Grind.{common_steps}
+use Rattle.std.proofs.Common.{List, ℕ, Option, subst, ◌∙◌}
 use Rattle.std.proofs.lemmas.Result.{on_ok_weaker}
-use Rattle.std.specs.List.Sorted.{IsStrictlySortedBy}
-use Rattle.std.specs.Map.{keys_of}
 use Rattle.serde.specs.Event.{Logs, text}
 use Rattle.serde_json.specs.Events.{SendsValue}
-use Rattle.ac_base.specs.Texts.{id_text, text_cmp}
+use Rattle.ac_base.specs.Texts.{id_text}
 use Rattle.ac_cloud.specs.World.{UsedInventory}
 use Rattle.ac_report.specs.Trees.{holdings, id_or_null, summary, texts}
 use Rattle.ac_report.proofs.Trees.Sending.{entries_rise}
 use Rattle.ac_report.proofs.summary.SummarySerialize.serialize.Goals as goal
 
 pub send_holdings-requires : goal.send_holdings-requires
-send_holdings-requires g c =
-    subst (λ (es : List (List ℕ × UsedInventory)). IsStrictlySortedBy text_cmp (keys_of es)) (sym c.entries.ensures) (entries_rise c.args.self.now.cloud.now c.args.self.now.ix c.args.self.now.inside)
+send_holdings-requires g c = grind (arith, common_steps, entries_rise)
 
 pub returns : goal.returns
 unfolding summary
