@@ -1,6 +1,6 @@
 -- Counts of providers and of roots: one more place, and what the marks of roots say.
 use Rattle.std.proofs.Common.{inl, inr, ◌≡◌, ◌∙◌, ◌<◌, ◌≤◌, ℕ, ◌+◌, Bool, true, false, ◌&&◌, List, [], ◌∷◌, length, map, nat_le, slice_index, slice_index_or, refl, sym, ap, ap₂, arith}
-use Rattle.std.specs.Prelude.{cond, if◌then◌else◌, take}
+use Rattle.std.specs.Prelude.{if◌then◌else◌, take}
 use Rattle.std.specs.List.{filter, list_all, list_any, range_with_len, AllByRecursion as Each}
 use Rattle.std.proofs.Math.Bool.{and-true, and_assoc}
 use Rattle.std.proofs.lemmas.Bool.{cases_Bool, and_parts, and_from, false≢true, false_from_ne_true}
@@ -31,24 +31,19 @@ use Rattle.ac_prune.proofs.Search.OpenLemmas.{amounts_among, choice_more, filter
 use Rattle.ac_prune.proofs.Roots.RootLemmas.{any_within, hosts_low, served_fits}
 
 -- one more place
-pub counted : (test : ℕ → Bool) (n count : ℕ) (b : Bool) → count ≡ count_below n test → test n ≡ b → cond b (count + 1) count ≡ count_below (n + 1) test
-counted test n count true was here =
-    let more = length-append (filter test (range_with_len 0 n)) (n ∷ []) in
-    rw (choice_more test n, here) (omega (arith, was, more))
-counted test n count false was here =
-    let more = length-append (filter test (range_with_len 0 n)) [] in
-    rw (choice_more test n, here) (omega (arith, was, more))
+pub count_more : (test : ℕ → Bool) (n : ℕ) → count_below (n + 1) test ≡ count_below n test + (if test n then 1 else 0)
+count_more test n = elim (cases_Bool (test n)) [
+  | inl e ↦ rw (choice_more test n, e) (length-append (filter test (range_with_len 0 n)) (n ∷ []))
+  | inr e ↦ rw (choice_more test n, e) (length-append (filter test (range_with_len 0 n)) [])
+]
 
 -- no more than places
 pub count_few : (test : ℕ → Bool) (n : ℕ) → count_below n test ≤ n
 count_few test n = let few = filter_few test (range_with_len 0 n) in let size = length-range_with_len 0 n in omega (arith, few, size)
 
 -- a test after others
-pub both : (a b c d : Bool) → a ≡ c → b ≡ d → (a && b) ≡ (c && d)
+both : (a b c d : Bool) → a ≡ c → b ≡ d → (a && b) ≡ (c && d)
 both a b c d h k = rw (h, k) refl
-
-pub not_both : (a b : Bool) → a ≡ false → (a && b) ≡ false
-not_both a b h = rw h refl
 
 -- ---- Marks of roots
 

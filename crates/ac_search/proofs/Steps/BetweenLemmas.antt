@@ -1,11 +1,12 @@
 -- What a walk has met lies between its token and what it gave.
-use Rattle.std.proofs.Common.{◌≡◌, ℕ, ◌+◌, ◌<◌, ◌≤◌, true, false, not, List, [], ◌∷◌, ◌++◌, length, take, Option, None, Some, refl, sym, ◌∙◌, arith}
+use Rattle.std.proofs.Common.{◌≡◌, ℕ, Bool, ◌+◌, ◌*◌, ◌<◌, ◌≤◌, suc, true, false, not, List, [], ◌∷◌, ◌++◌, length, take, Option, None, Some, refl, sym, ◌∙◌, arith}
 use Rattle.std.specs.List.{filter}
 use Rattle.std.proofs.lemmas.Bool.{and_parts, and_from, not_from_false, not-true, false_from_ne_true, false≢true}
 use Rattle.std.proofs.lemmas.List.{take-append-le}
+use Rattle.std.proofs.Math.Nat.{mul-le-mul_left}
 use Rattle.ac_rules.specs.Order.{lex_lt}
-use Rattle.ac_prune.specs.Search.{Search}
-use Rattle.ac_search.specs.Search.{all_shorter, is_up_to, is_between, between, is_met, met}
+use Rattle.ac_prune.specs.Search.{Search, next_at}
+use Rattle.ac_search.specs.Search.{all_shorter, next_front, is_up_to, is_between, between, is_met, met, IsSound}
 use Rattle.ac_rules.proofs.Elements.{each_weaker, count_less}
 use Rattle.ac_search.proofs.Search.FrontOrder.{lex_low_more, lex_high_more, lex_cut}
 use Rattle.ac_search.proofs.Search.ShorterLemmas.{each_all_shorter, length-below}
@@ -48,3 +49,11 @@ met_given m laws x q p b size = rw (length-between m laws) (count_less (λ w. is
     let there : take (length w) (q ++ p ∷ []) ≡ take (length w) q = take-append-le (length w) q (p ∷ []) (omega arith) in
     and_from _ _ one.0 (and_from _ _ two.0 (not_from_false _ (rw there (rw here at cut)))))
     (each_all_shorter m.count m.width)))
+
+-- the tries are bounded, at the end and where the whole path with p at its end is given
+module _ {m : Search} (laws : IsSearch m) {x q used : List ℕ} {d j : ℕ} {seeking : Bool} {probes : ℕ} (s : IsSound m x q used d j seeking probes) where
+  pub counted_end : probes ≤ m.count * length (between m x None)
+  counted_end = let cost = mul-le-mul_left m.count (met_all m laws x (next_front m q d j)) in let was = s.paid in omega arith
+
+  pub counted_given : (p : ℕ) → suc d ≡ m.width → probes ≤ m.count * length (between m x (Some (q ++ p ∷ [])))
+  counted_given p last = let cost = mul-le-mul_left m.count (met_given m laws x q p (next_at m d j) (omega (arith, s.long))) in let was = s.paid in omega arith

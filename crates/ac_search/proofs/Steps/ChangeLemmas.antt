@@ -49,8 +49,8 @@ one_more_most n = elim (cases_Bool (nat_lt n last_count)) [ inl e ↦ rw e (omeg
 pub one_more_some : (n : ℕ) → 0 < one_more n
 one_more_some n = elim (cases_Bool (nat_lt n last_count)) [ inl e ↦ rw e (omega arith) | inr e ↦ grind (arith, nat_tests) ]
 
-pub one_more_rises : (n : ℕ) → Rises n (one_more n)
-one_more_rises n = λ l. elim (cases_Bool (nat_lt n last_count)) [ inl e ↦ rw e (omega arith) | inr e ↦ grind (arith, nat_tests) ]
+pub one_more_rises : (a n : ℕ) → a ≤ n → Rises a (one_more n)
+one_more_rises a n h = λ l. elim (cases_Bool (nat_lt n last_count)) [ inl e ↦ rw e (omega arith) | inr e ↦ grind (arith, nat_tests) ]
 
 -- it pays for one more slot
 pub one_more_pays : (a b n : ℕ) → b ≤ a + 1 → min a last_count ≤ n → min b last_count ≤ one_more n
