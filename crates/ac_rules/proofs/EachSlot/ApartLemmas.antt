@@ -1,7 +1,8 @@
 -- Isolate, tested slot after slot, says it of every two.
-use Rattle.std.proofs.Common.{inl, inr, ◌≡◌, ◌≢◌, ℕ, ◌<◌, zero, suc, Bool, true, List, [], ◌∷◌, length, slice_index_or, refl, arith}
+use Rattle.std.proofs.Common.{◌≡◌, ◌≢◌, ℕ, ◌<◌, zero, suc, Bool, true, List, [], ◌∷◌, length, slice_index_or, refl, arith}
 use Rattle.std.specs.List.{list_all}
-use Rattle.std.proofs.lemmas.Bool.{cases_Bool, and_parts, and_from, eq-eqb, ne_eqb, false≢true}
+use Rattle.std.proofs.lemmas.Bool.Decides.{nat_tests}
+use Rattle.std.proofs.lemmas.Bool.{and_parts, and_from, eq-eqb, false≢true}
 use Rattle.std.proofs.lemmas.List.Elements.{All-get_or, All-from_get_or}
 use Rattle.std.proofs.lemmas.List.Sums.{AllPass-from_list_all, list_all-from_AllPass}
 use Rattle.ac_rules.specs.Placed.{Placed}
@@ -20,13 +21,7 @@ differ x y h s t e = let same = eq-eqb x.provider y.provider e in false≢true (
 
 apart_of : (x y : Placed) → (is_set_apart x.slot ≡ true → is_set_apart y.slot ≡ true → x.provider ≢ y.provider) → are_apart x y ≡ true
 unfolding are_apart
-apart_of x y h = elim (cases_Bool (is_set_apart x.slot)) [
-  | inl s ↦ elim (cases_Bool (is_set_apart y.slot)) [
-    | inl t ↦ rw (s, t, ne_eqb x.provider y.provider (h s t)) refl
-    | inr t ↦ rw (s, t) refl
-  ]
-  | inr s ↦ rw s refl
-]
+apart_of x y h = grind (arith, nat_tests, h)
 
 apart_sound : (xs : List Placed) → all_apart xs ≡ true → StandApart xs
 apart_sound [] h i j d l k = absurd (omega arith)

@@ -9,7 +9,7 @@ use Rattle.ac_rules.specs.Order.{lex_lt}
 use Rattle.ac_rules.specs.Lists.{IsListBelow, IsRising}
 use Rattle.ac_rules.specs.Pages.{candidates, ids_of, is_after, rest, cut}
 use Rattle.ac_rules.specs.Laws.{AreInOrder, PagesJoin, both_limits, IsLeastAfter, RestBegins}
-use Rattle.ac_rules.proofs.Elements.{Among, filter_twice, filter_agree, filter_all, each_weaker, each_all, each_among, each_map}
+use Rattle.ac_rules.proofs.Elements.{Among, filter_twice, filter_agree, filter_all, each_weaker, each_all, each_both, each_among, each_map}
 use Rattle.ac_rules.proofs.Lists.OrderLemmas.{lex_irrefl, lex_asym, lex_trans, lex_map}
 use Rattle.ac_rules.proofs.Lists.RestLemmas.{IsChosen, IsLeft, each_candidate, each_rest, among_rest, rising_candidates, rising_rest}
 
@@ -86,13 +86,11 @@ pages_join all order asked x n m before z e =
 rising_ids : (all : List Provider) → AreInOrder all → (k : ℕ) (ls : List (List ℕ)) → Each (IsListBelow (length all) k) ls → IsRising ls → IsRising (map (λ t. ids_of all t) ls)
 rising_ids all order k [] each h = tt
 rising_ids all order k (t ∷ ls) each h = (
-  each_map (λ i. lex_lt (ids_of all t) i ≡ true) (λ u. ids_of all u) ls (up ls each.1 h.0),
+  each_map (λ i. lex_lt (ids_of all t) i ≡ true) (λ u. ids_of all u) ls
+      (each_weaker _ (λ u. lex_lt (ids_of all t) (ids_of all u) ≡ true) ls (λ u b. same_order all order k t u each.0 b.0 ∙ b.1)
+      (each_both (IsListBelow (length all) k) (λ u. lex_lt t u ≡ true) ls each.1 h.0)),
   rising_ids all order k ls each.1 h.1,
 )
-  where
-    up : (us : List (List ℕ)) → Each (IsListBelow (length all) k) us → Each (λ u. lex_lt t u ≡ true) us → Each (λ u. lex_lt (ids_of all t) (ids_of all u) ≡ true) us
-    up [] b l = tt
-    up (u ∷ us) b l = (same_order all order k t u each.0 b.0 ∙ l.0, up us b.1 l.1)
 
 pub rest_begins : (all : List Provider) → AreInOrder all → (asked : Asked) → RestBegins all asked
 rest_begins all order asked = record {

@@ -4,7 +4,7 @@ use Rattle.std.proofs.Math.Seq.{take-suc}
 use Rattle.std.specs.Prelude.{min, IfSome}
 use Rattle.std.proofs.Math.Nat.{min-le_left}
 use Rattle.std.specs.List.{filter, slice_index, AllByRecursion as Each}
-use Rattle.std.proofs.lemmas.Bool.{cases_lt, eq-eqb, ne_eqb, not_from_false, not_from_true, not-true, false_from_ne_true, false≢true}
+use Rattle.std.proofs.lemmas.Bool.{cases_lt, eq-eqb, ne_eqb, not_from_false, not_from_true}
 use Rattle.std.proofs.lemmas.List.{get_or_past}
 use Rattle.std.specs.Option.{option_map}
 use Rattle.ac_base.specs.Devices.{last_count, one_more, Rises}
@@ -56,7 +56,7 @@ fronts_fall w c up =
     let nodes = all_shorter (suc m.count) (suc m.width) in
     let size : length (front_in w) < suc m.width = omega (arith, length-append (path_in w) (next_at m w.depth (place_in w) ∷ []), w.sound.long, w.sound.within) in
     let more : length (filter (λ t. from c t) nodes) + 1 ≤ length (filter (λ t. from (front_in w) t) nodes) = count_more (λ t. from c t) (λ t. from (front_in w) t) nodes (front_in w)
-    (each_all (λ u. from c u ≡ true → from (front_in w) u ≡ true) nodes (λ u e. not_from_false _ (false_from_ne_true _ (λ b. false≢true (sym (not-true _ e) ∙ lex_trans u (front_in w) c b up)))))
+    (each_all (λ u. from c u ≡ true → from (front_in w) u ≡ true) nodes (λ u e. grind (arith, lex_trans u (front_in w) c)))
     (among_all_shorter (suc m.count) (suc m.width) (front_in w) size (front_low w))
     (not_from_true _ up) (not_from_false _ (lex_irrefl (front_in w))) in
     omega arith

@@ -1,7 +1,7 @@
 -- The moves of a walk: each keeps what is sound.
 use Rattle.std.proofs.Common.{◌≡◌, ℕ, ◌+◌, ◌-◌, ◌<◌, ◌≤◌, zero, suc, Bool, true, false, List, [], ◌∷◌, ◌++◌, inl, inr, length, take, get_or, refl, sym, ◌∙◌, subst, arith, length-append}
 use Rattle.std.specs.List.{AllByRecursion as Each}
-use Rattle.std.proofs.lemmas.Bool.{cases_Bool, cases_lt, and_parts, and_from, false≢true}
+use Rattle.std.proofs.lemmas.Bool.{cases_Bool, cases_lt, false≢true}
 use Rattle.std.proofs.lemmas.List.{get_or_push}
 use Rattle.std.proofs.Math.ListN.{get_or-append}
 use Rattle.std.proofs.Math.Nat.{mul-le-mul_left}
@@ -18,10 +18,7 @@ use Rattle.ac_prune.proofs.Search.SoughtLemmas.{IsSearch}
 -- ---- What a walk has met
 
 met_later : (m : Search) (x c d : List ℕ) → lex_lt c d ≡ true → (w : List ℕ) → is_met m x c w ≡ true → is_met m x d w ≡ true
-met_later m x c d h w e =
-    let one = and_parts (m.is_open w) _ e in
-    let two = and_parts _ (lex_lt w c) one.1 in
-    and_from _ _ one.0 (and_from _ _ two.0 (lex_trans w c d two.1 h))
+met_later m x c d h w e = grind (arith, lex_trans w c d)
 
 -- a walk that goes up has met at least as much
 met_up : (m : Search) (x c d : List ℕ) → lex_lt c d ≡ true → met m x c ≤ met m x d
