@@ -1,5 +1,5 @@
 -- A token, as the least list of places: the first places whose ids come after it.
-use Rattle.std.proofs.Common.{◌≡◌, ℕ, ◌<◌, ◌≤◌, ◌==◌, ◌&&◌, zero, suc, false, not, List, [], ◌∷◌, inl, inr, length, take, refl, sym, ap, ◌∙◌, nat_lt, arith}
+use Rattle.std.proofs.Common.{◌≡◌, ℕ, ◌+◌, ◌-◌, ◌<◌, ◌≤◌, ◌==◌, ◌&&◌, zero, suc, true, false, not, List, [], ◌∷◌, inl, inr, length, take, refl, sym, ap, ◌∙◌, nat_lt, arith}
 use Rattle.std.specs.List.{AllByRecursion as Each}
 use Rattle.std.proofs.lemmas.Bool.{cases_order}
 use Rattle.std.proofs.lemmas.Bool.Decides.{nat_tests}
@@ -78,6 +78,27 @@ before_least all order (suc (suc k)) (v ∷ x) (r ∷ q) b low =
     let c = compares all order v r low.0 in
     let more = before_least all order (suc k) x q (omega arith) low.1 in
     grind (arith, nat_tests, cut_nil q (length q), c.before, c.same, more)
+
+pub known_low : (all : List Provider) (id : ℕ) → is_known all id ≡ true → rank_of all id < length all
+known_low all id h = grind (arith, nat_tests)
+
+-- the least list of some ids, by whether a provider has the first
+pub least_none : (all : List Provider) (ids : List ℕ) → least_after all 0 ids ≡ []
+least_none all [] = refl
+least_none all (id ∷ ids) = refl
+
+pub least_unknown : (all : List Provider) (k id : ℕ) (ids : List ℕ) → 0 < k → is_known all id ≡ false → least_after all k (id ∷ ids) ≡ rank_of all id ∷ []
+least_unknown all zero id ids some e = absurd (omega (arith, some))
+least_unknown all (suc zero) id ids some e = rw e refl
+least_unknown all (suc (suc k)) id ids some e = rw e refl
+
+pub least_last : (all : List Provider) (k id : ℕ) (ids : List ℕ) → k ≡ 1 → is_known all id ≡ true → least_after all k (id ∷ ids) ≡ (rank_of all id + 1) ∷ []
+least_last all k id ids one e = rw one (rw e refl)
+
+pub least_known : (all : List Provider) (k id : ℕ) (ids : List ℕ) → 1 < k → is_known all id ≡ true → least_after all k (id ∷ ids) ≡ rank_of all id ∷ least_after all (k - 1) ids
+least_known all zero id ids some e = absurd (omega (arith, some))
+least_known all (suc zero) id ids some e = absurd (omega (arith, some))
+least_known all (suc (suc k)) id ids some e = let next : suc (suc k) - 1 ≡ suc k = omega arith in rw (next, e) refl
 
 -- it is no longer than there are slots
 pub least_length : (all : List Provider) (k : ℕ) (x : List ℕ) → length (least_after all k x) ≤ k
