@@ -27,11 +27,8 @@ apart_sound : (xs : List Placed) → all_apart xs ≡ true → StandApart xs
 apart_sound [] h i j d l k = absurd (omega arith)
 apart_sound (x ∷ xs) h i zero d l k = absurd (omega arith)
 apart_sound (x ∷ xs) h zero (suc j) d l k =
-    let both = and_parts (list_all (λ y. are_apart x y) xs) (all_apart xs) h in
-    differ x (slice_index_or xs j d) (all_at (λ y. are_apart x y) d xs j both.0 (omega arith))
-apart_sound (x ∷ xs) h (suc i) (suc j) d l k =
-    let both = and_parts (list_all (λ y. are_apart x y) xs) (all_apart xs) h in
-    apart_sound xs both.1 i j d (omega arith) (omega arith)
+    differ x (slice_index_or xs j d) (all_at (λ y. are_apart x y) d xs j (and_parts (list_all (λ y. are_apart x y) xs) (all_apart xs) h).0 (omega arith))
+apart_sound (x ∷ xs) h (suc i) (suc j) d l k = apart_sound xs (and_parts (list_all (λ y. are_apart x y) xs) (all_apart xs) h).1 i j d (omega arith) (omega arith)
 
 apart_whole : (xs : List Placed) → StandApart xs → all_apart xs ≡ true
 apart_whole [] h = refl

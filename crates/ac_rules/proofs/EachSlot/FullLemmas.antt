@@ -46,13 +46,8 @@ slot_from all xs x full some less = needs_from all xs x.provider full x.slot.nee
 slots_from : (all : List Provider) (xs : List Placed) → IsFull all xs → (ys : List Placed) → AskAmounts ys → ((p : ℕ) (c : List ℕ) → sum_on ys p c ≤ sum_on xs p c)
     → list_all (λ x. holds_sums all xs x) ys ≡ true
 slots_from all xs full [] some less = refl
-slots_from all xs full (y ∷ ys) some less =
-    and_from (holds_sums all xs y) (list_all (λ x. holds_sums all xs x) ys)
-    (slot_from all xs y full some.0 (λ c.
-    let whole = less y.provider c in
-    let same = eq-eqb y.provider y.provider refl in
-    let more = rw same at whole in
-    omega arith))
+slots_from all xs full (y ∷ ys) some less = and_from _ _
+    (slot_from all xs y full some.0 (λ c. let whole = less y.provider c in let same = eq-eqb y.provider y.provider refl in let more = rw same at whole in omega arith))
     (slots_from all xs full ys some.1 (λ p c. let whole = less p c in omega arith))
 
 pub sums_say_full : SumsSayFull
