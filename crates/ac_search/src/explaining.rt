@@ -28,11 +28,11 @@ use std::alloc::Global;
 pub struct SlotCounts {
     /// Units: they have inventories whose units admit the slot's amounts.
     pub units: u32,
-    /// SlotTraits.
+    /// SlotTraits: they have no forbidden trait of the slot's group, and in a suffixed group what it requires.
     pub traits: u32,
-    /// Aggregates.
+    /// Aggregates: they are in the aggregates that the slot's group asks for, and in none that it forbids.
     pub aggregates: u32,
-    /// Tree.
+    /// Tree: they are in the tree that the slot's group names.
     pub tree: u32,
     /// They have room for what the slot alone asks.
     pub room: u32,

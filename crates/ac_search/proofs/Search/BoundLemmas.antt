@@ -40,10 +40,7 @@ one_between m x c d up here only = head_from (sought m x) c (rising_sought m x) 
     ∙ ap (λ (ts : List (List ℕ)). c ∷ ts) (filter_agree (λ t. lex_lt c t) (from d) (sought m x) (each_weaker (IsSought m x) (λ t. lex_lt c t ≡ from d t) (sought m x) same (each_sought m x)))
   where
     same : (t : List ℕ) → IsSought m x t → lex_lt c t ≡ from d t
-    same t h = elim (cases_Bool (lex_lt t d)) [
-      | inl e ↦ rw e (false_from_ne_true _ (λ b. false≢true (sym (lex_irrefl c) ∙ subst (λ (u : List ℕ). lex_lt c u ≡ true) (only t h (lex_asym c t b) e) b)))
-      | inr e ↦ rw e (lex_lt_le c d t up e)
-    ]
+    same t h = grind (arith, only t h, lex_irrefl c, lex_asym c t, lex_lt_le c d t)
 
 -- ---- Choices of a slot
 
