@@ -1,5 +1,5 @@
 //! Trying a provider behind the path of a walk, and taking it back.
-ghost use Rattle.std.specs.Prelude.{◌≡◌, ◌<◌, ◌≤◌, length, true, suc, MatchOption, IsTrue, ◌↔◌, slice_index, slice_set};
+ghost use Rattle.std.specs.Prelude.{◌≡◌, ◌<◌, ◌≤◌, length, true, suc, MatchOption, IsTrue, ◌↔◌, slice_set};
 ghost use Rattle.std.specs.List.{All};
 ghost use Rattle.ac_base.specs.Devices.{one_more};
 ghost use Rattle.ac_query.specs.Asked.{slots_of};
