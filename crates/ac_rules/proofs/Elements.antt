@@ -80,10 +80,7 @@ filter_agree f g (x ∷ xs) h = rw (h.0, filter_agree f g xs h.1)
 -- the weaker of two tests does nothing
 pub filter_twice : {X : Type 0} (f g : X → Bool) (xs : List X) → Each (λ x. f x ≡ true → g x ≡ true) xs → filter f (filter g xs) ≡ filter f xs
 filter_twice f g [] h = refl
-filter_twice f g (x ∷ xs) h = elim (cases_Bool (f x)) [
-  | inl e ↦ rw (h.0 e, e, filter_twice f g xs h.1)
-  | inr e ↦ elim (cases_Bool (g x)) [ inl s ↦ rw (s, e, filter_twice f g xs h.1) | inr s ↦ rw (s, e, filter_twice f g xs h.1) ]
-]
+filter_twice f g (x ∷ xs) h = grind (arith, h.0, filter_twice f g xs h.1)
 
 -- a test that all pass keeps all, and one that none passes keeps none
 pub filter_all : {X : Type 0} (f : X → Bool) (xs : List X) → Each (λ x. f x ≡ true) xs → filter f xs ≡ xs
@@ -97,10 +94,7 @@ filter_none f (x ∷ xs) h = rw (h.0, filter_none f xs h.1)
 -- how many pass
 pub count_less : {X : Type 0} (f g : X → Bool) (xs : List X) → Each (λ x. f x ≡ true → g x ≡ true) xs → length (filter f xs) ≤ length (filter g xs)
 count_less f g [] h = omega arith
-count_less f g (x ∷ xs) h = elim (cases_Bool (f x)) [
-  | inl e ↦ rw (e, h.0 e) (let more = count_less f g xs h.1 in omega arith)
-  | inr e ↦ elim (cases_Bool (g x)) [ inl s ↦ rw (e, s) (let more = count_less f g xs h.1 in omega arith) | inr s ↦ rw (e, s) (count_less f g xs h.1) ]
-]
+count_less f g (x ∷ xs) h = grind (arith, h.0, count_less f g xs h.1)
 
 -- one more where some element passes the second test alone
 pub count_more : {X : Type 0} (f g : X → Bool) (xs : List X) (z : X) → Each (λ x. f x ≡ true → g x ≡ true) xs → Among xs z → f z ≡ false → g z ≡ true
@@ -108,11 +102,5 @@ pub count_more : {X : Type 0} (f g : X → Bool) (xs : List X) (z : X) → Each 
 count_more f g [] z h m fails passes = absurd m
 count_more f g (x ∷ xs) z h m fails passes = elim m [
   | inl e ↦ rw (ap f e ∙ fails, ap g e ∙ passes) (let less = count_less f g xs h.1 in omega arith)
-  | inr m ↦ elim (cases_Bool (f x)) [
-    | inl e ↦ rw (e, h.0 e) (let more = count_more f g xs z h.1 m fails passes in omega arith)
-    | inr e ↦ elim (cases_Bool (g x)) [
-      | inl s ↦ rw (e, s) (let more = count_more f g xs z h.1 m fails passes in omega arith)
-      | inr s ↦ rw (e, s) (count_more f g xs z h.1 m fails passes)
-    ]
-  ]
+  | inr m ↦ grind (arith, h.0, count_more f g xs z h.1 m fails passes)
 ]

@@ -44,12 +44,10 @@ tree_at all x id place r q tree there root other =
 -- the first provider of an id is where no earlier one has it
 first_at : (all : List Provider) (id i r : ℕ) → r < length all → id_at all r ≡ id → ((j : ℕ) → j < r → id_at all j ≢ id) → position_from (is_provider id) i all ≡ Some (i + r)
 first_at [] id i r h e apart = absurd (omega arith)
-first_at (q ∷ all) id i zero h e apart = let same = eq-eqb q.id id e in let none : i ≡ i + 0 = omega arith in rw same (ap Some none)
+first_at (q ∷ all) id i zero h e apart = grind (arith, eq-eqb q.id id e)
 first_at (q ∷ all) id i (suc r) h e apart =
     let other = ne_eqb q.id id (apart 0 (omega arith)) in
-    let more = first_at all id (i + 1) r (omega arith) e (λ j l. apart (suc j) (omega arith)) in
-    let next : i + 1 + r ≡ i + suc r = omega arith in
-    rw other (more ∙ ap Some next)
+    grind (arith, first_at all id (i + 1) r (omega arith) e (λ j l. apart (suc j) (omega arith)))
 
 -- where the ids rise, a provider is found at its own place
 pub place_in_order : (all : List Provider) → AreInOrder all → (id r : ℕ) → r < length all → id_at all r ≡ id → place_of all id ≡ Some r

@@ -32,9 +32,9 @@ between m x y = below (λ q. is_between m x y q) m.count m.width []
 
 -- ---- Where a walk stands
 
--- the front that is tried next
-abbrev pub next_front : Search → List ℕ → List ℕ → ℕ → List ℕ
-next_front m path places d = take d path ++ next_at m d (slice_index places d) ∷ []
+-- the front that is tried next, behind q by the choice at place j of depth d
+abbrev pub next_front : Search → List ℕ → ℕ → ℕ → List ℕ
+next_front m q d j = q ++ next_at m d j ∷ []
 
 -- the lists from c on
 abbrev pub from : List ℕ → List ℕ → Bool
@@ -52,10 +52,10 @@ unfoldable pub met : Search → List ℕ → List ℕ → ℕ
 met m x c = length (filter (λ q. is_met m x c q) (all_shorter m.count m.width))
 
 -- the choices behind the places that are in use
-abbrev pub behind : List (List ℕ) → List ℕ → ℕ
-behind [] places = 0
-behind (choices ∷ more) [] = 0
-behind (choices ∷ more) (j ∷ places) = (length choices - suc j) + behind more places
+abbrev pub behind : List ℕ → List (List ℕ) → ℕ
+behind [] slots = 0
+behind (j ∷ places) [] = 0
+behind (j ∷ places) (choices ∷ more) = (length choices - suc j) + behind places more
 
 -- the least number at depth d while the path is a front of x
 abbrev pub least_at : List ℕ → ℕ → ℕ
@@ -71,28 +71,30 @@ pub record IsStart (xs : List ℕ) (v j : ℕ) : Type 0 where
   pub before : (i : ℕ) → i < j → slice_index xs i < v
   pub here : j < length xs → v ≤ slice_index xs j
 
--- place j at depth d, behind q, tries nothing before x and leaves out no wanted list from x on
+-- place j at depth d, behind q, tries nothing before x and leaves out no wanted list from x on; x is sought while q is a front of it
 pub record Enters (m : Search) (x q : List ℕ) (d j : ℕ) (seeking : Bool) : Type 0 where
-  pub reached : j < length (choices_at m d) → lex_lt (q ++ next_at m d j ∷ []) (take (suc d) x) ≡ false
-  pub passed : seeking ≡ false → lex_lt x (q ++ next_at m d j ∷ []) ≡ true
+  pub place : j ≤ length (choices_at m d)
+  pub reached : j < length (choices_at m d) → lex_lt (next_front m q d j) (take (suc d) x) ≡ false
+  pub seeks : seeking ≡ true → q ≡ take d x
+  pub passed : seeking ≡ false → lex_lt x (next_front m q d j) ≡ true
   pub least : AllByRecursion (λ t. (r : ℕ) (s : List ℕ) → t ≡ q ++ r ∷ s → next_at m d j ≤ r) (sought m x)
 
--- What a walk from x on keeps true, that has a path of depth d and a place at each depth, and seeks x while its path is a front of x.
-pub record IsSound (m : Search) (x path places : List ℕ) (d : ℕ) (seeking : Bool) (probes : ℕ) : Type 0 where
-  pub path_len : length path ≡ m.width
-  pub places_len : length places ≡ m.width
+-- What a walk from x on keeps true: q is its path of depth d, by the choices at the places `used`, and it goes on by place j. It seeks x while q is a front of x.
+pub record IsSound (m : Search) (x q used : List ℕ) (d j : ℕ) (seeking : Bool) (probes : ℕ) : Type 0 where
+  pub long : length q ≡ d
+  pub used_long : length used ≡ d
   pub least_len : length x ≤ m.width
   pub within : d < m.width
   -- nothing is on the path before the first try
   pub begun : probes ≡ 0 → d ≡ 0
-  -- each depth above d has its number among its choices
-  pub placed : (i : ℕ) → i < d → (slice_index places i < length (choices_at m i)) × (next_at m i (slice_index places i) ≡ slice_index path i)
-  pub place : slice_index places d ≤ length (choices_at m d)
+  -- each number of the path is among the choices of its slot
+  pub placed : (i : ℕ) → i < d → (slice_index used i < length (choices_at m i)) × (next_at m i (slice_index used i) ≡ slice_index q i)
+  pub place : j ≤ length (choices_at m d)
   -- the path is open; of the empty one it is not asked
-  pub opens : 0 < d → m.is_open (take d path) ≡ true
+  pub opens : 0 < d → m.is_open q ≡ true
   -- nothing before x is tried
-  pub reached : slice_index places d < length (choices_at m d) → lex_lt (next_front m path places d) (take (suc d) x) ≡ false
-  pub seeks : seeking ≡ true → take d path ≡ take d x
-  pub passed : seeking ≡ false → lex_lt x (next_front m path places d) ≡ true
+  pub reached : j < length (choices_at m d) → lex_lt (next_front m q d j) (take (suc d) x) ≡ false
+  pub seeks : seeking ≡ true → q ≡ take d x
+  pub passed : seeking ≡ false → lex_lt x (next_front m q d j) ≡ true
   -- each choice that was looked at, or may still be behind a place in use, is one of `count` at an open list that was met
-  pub paid : probes + (behind m.choices (take d places) + (length (choices_at m d) - slice_index places d)) ≤ m.count * met m x (next_front m path places d)
+  pub paid : probes + (behind used m.choices + (length (choices_at m d) - j)) ≤ m.count * met m x (next_front m q d j)

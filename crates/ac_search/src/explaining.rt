@@ -1,7 +1,7 @@
 //! How far a query comes: of each slot how many providers meet its rules, one after another, and how many roots have one
 //! for each slot.
 
-ghost use Rattle.std.specs.Prelude.{◌≡◌, ◌<◌, ◌^◌, IfOk, [], length};
+ghost use Rattle.std.specs.Prelude.{◌≡◌, ◌<◌, ◌^◌, IfOk, [], length, nat_lt};
 ghost use Rattle.ac_cloud.specs.World.{id_at, is_root, provider_at};
 ghost use Rattle.ac_cloud.specs.Cloud.CloudWorld.{providers_of};
 ghost use Rattle.ac_query.specs.Asked.{slots_of};
@@ -9,8 +9,9 @@ ghost use Rattle.ac_query.specs.Shown.Groups.{need_entry};
 ghost use Rattle.ac_query.specs.Shown.Queries.{asked_of};
 ghost use Rattle.ac_rules.specs.Placed.{placed_at, slot_at};
 ghost use Rattle.ac_rules.specs.Together.{holds};
-ghost use Rattle.ac_search.specs.Explained.{count_of, meets_room, slot_counts, tree_counts};
+ghost use Rattle.ac_search.specs.Explained.{count_of, meets_units, meets_traits, meets_aggregates, meets_tree, meets_room, slot_counts, tree_counts};
 ghost use Rattle.ac_prune.specs.QuerySearch.{has_room_alone};
+ghost use Rattle.ac_rules.specs.Shown.Assignments.{placed_of};
 ghost use Rattle.ac_search.specs.Shown.Explained.{marked, served, served_roots, slot_counted, trees_counted};
 
 use ac_base::NoMemory;
@@ -27,11 +28,11 @@ use std::alloc::Global;
 pub struct SlotCounts {
     /// Units: they have inventories whose units admit the slot's amounts.
     pub units: u32,
-    /// SlotTraits.
+    /// SlotTraits: they have no forbidden trait of the slot's group, and in a suffixed group what it requires.
     pub traits: u32,
-    /// Aggregates.
+    /// Aggregates: they are in the aggregates that the slot's group asks for, and in none that it forbids.
     pub aggregates: u32,
-    /// Tree.
+    /// Tree: they are in the tree that the slot's group names.
     pub tree: u32,
     /// They have room for what the slot alone asks.
     pub room: u32,
@@ -76,7 +77,39 @@ fn has_room_alone(cloud: &Cloud, query: &Query, s: usize, ix: u32) -> bool
     true
 }
 
+// How many of the rules of its slot a provider meets, one after another: the four of its own, and room for what the slot alone asks.
+fn count_met(placed: &Placed) -> u32
+    ensures units { nat_lt 0 result
+        ≡ meets_units (providers_of placed.now.cloud.now) (placed_of placed.now) }
+    ensures traits { nat_lt 1 result
+        ≡ meets_traits (providers_of placed.now.cloud.now) (placed_of placed.now) }
+    ensures aggregates { nat_lt 2 result
+        ≡ meets_aggregates (providers_of placed.now.cloud.now) (placed_of placed.now) }
+    ensures tree { nat_lt 3 result
+        ≡ meets_tree (providers_of placed.now.cloud.now) (placed_of placed.now) }
+    ensures room { nat_lt 4 result
+        ≡ meets_room (providers_of placed.now.cloud.now) (placed_of placed.now) }
+{
+    if !placed.has_units() {
+        return 0;
+    }
+    if !placed.has_slot_traits() {
+        return 1;
+    }
+    if !placed.has_aggregates() {
+        return 2;
+    }
+    if !placed.is_in_tree() {
+        return 3;
+    }
+    if !has_room_alone(placed.cloud, placed.query, placed.slot, placed.provider) {
+        return 4;
+    }
+    5
+}
+
 /// How many providers meet what a slot asks. It takes no memory.
+#[tactic(auto, using(crate::proofs::ExplainedLemmas::count_more, crate::proofs::ExplainedLemmas::count_few))]
 pub fn slot_counts(cloud: &Cloud, query: &Query, s: usize) -> SlotCounts
     requires { s < length (slots_of (asked_of query.now)) }
     ensures { slot_counted result
@@ -94,26 +127,12 @@ pub fn slot_counts(cloud: &Cloud, query: &Query, s: usize) -> SlotCounts
             slot: s,
             provider: ix,
         };
-        if !placed.has_units() {
-            continue;
-        }
-        units += 1;
-        if !placed.has_slot_traits() {
-            continue;
-        }
-        traits += 1;
-        if !placed.has_aggregates() {
-            continue;
-        }
-        aggregates += 1;
-        if !placed.is_in_tree() {
-            continue;
-        }
-        tree += 1;
-        if !has_room_alone(cloud, query, s, ix) {
-            continue;
-        }
-        room += 1;
+        let met = count_met(&placed);
+        units += u32::from(met > 0);
+        traits += u32::from(met > 1);
+        aggregates += u32::from(met > 2);
+        tree += u32::from(met > 3);
+        room += u32::from(met > 4);
     }
     SlotCounts {
         units,
@@ -134,7 +153,7 @@ fn serves(cloud: &Cloud, query: &Query, s: usize, ix: u32) -> bool
     fits_slot(cloud, query, s, ix) && has_room_alone(cloud, query, s, ix)
 }
 
-// 1 for each provider that does, and else 0.
+// 1 for each provider that meets all that a slot asks, and else 0.
 fn serving(alloc: Global, cloud: &Cloud, query: &Query, s: usize) -> Result<Vec<u64>, NoMemory>
     requires { s < length (slots_of (asked_of query.now)) }
     ensures { IfOk result (λ serving.
@@ -167,15 +186,14 @@ fn limit_slots(
 }
 
 // How many roots there are.
+#[tactic(auto, using(crate::proofs::ExplainedLemmas::count_more, crate::proofs::ExplainedLemmas::count_few, ac_rules::proofs::EachSlot::AnchorLemmas::available_itself))]
 fn count_roots(cloud: &Cloud) -> u32
     ensures { result ≡ count_of (providers_of cloud.now)
         (λ r. is_root (providers_of cloud.now) (id_at (providers_of cloud.now) r)) }
 {
     let mut count = 0;
     for ix in 0..cloud.len() {
-        if cloud.available(ix, ix) {
-            count += 1;
-        }
+        count += u32::from(cloud.available(ix, ix));
     }
     count
 }

@@ -1,5 +1,5 @@
 //! The walk: candidates found slot by slot, leaving a path as soon as it can hold none.
-ghost use Rattle.std.specs.Prelude.{◌≡◌, ◌<◌, length, map, take, true, false, None, IfOk};
+ghost use Rattle.std.specs.Prelude.{◌≡◌, ◌<◌, length, map, take, slice_index, true, false, None, IfOk};
 ghost use Rattle.std.specs.Bool.{MatchBool};
 ghost use Rattle.std.specs.Option.{option_map};
 ghost use Rattle.ac_cloud.specs.Cloud.CloudWorld.{providers_of};
@@ -59,7 +59,9 @@ pub struct Walk<'a> {
     ghost resumed: { least.items ≡ least_of (providers_in ledger) (length (slots_of (asked_in ledger))) (option_map (λ ids. ids.items) after) },
     ghost listed: { map (λ v. v.items) choices.items ≡ choices_of (providers_in ledger) (asked_in ledger) },
     ghost looking: { AreTests (providers_in ledger) (asked_in ledger) lookout } by { AreTests-prop (providers_in ledger) (asked_in ledger) lookout },
-    ghost sound: { IsSound (search_of (providers_in ledger) (asked_in ledger)) least.items path.items places.items depth seeking probes },
+    ghost path_len: { length path.items ≡ length (slots_of (asked_in ledger)) },
+    ghost places_len: { length places.items ≡ length (slots_of (asked_in ledger)) },
+    ghost sound: { IsSound (search_of (providers_in ledger) (asked_in ledger)) least.items (take depth path.items) (take depth places.items) depth (slice_index places.items depth) seeking probes },
     ghost accounted: { Accounts ledger (take depth path.items) },
 }
 
@@ -115,10 +117,10 @@ impl<'a> Walk<'a> {
         self.probes
     }
 
+    // Tries the next choice of its slot, or leaves the slot where it has none.
     fn step(&mut self) -> Step
         ensures { StepGives result self.old self.new }
     {
-        self.pass();
         match self.choice() {
             Some(provider) => self.probe(provider),
             None => self.leave(),
@@ -130,6 +132,7 @@ impl<'a> Walk<'a> {
         ensures { MatchBool result (Advances self.old self.new) (Finishes self.old self.new) }
     {
         'steps: loop {
+            self.pass();
             match self.step() {
                 Step::Given => return true,
                 Step::Ended => return false,

@@ -1,7 +1,8 @@
 -- Roots, and the anchors of one provider of a list.
-use Rattle.std.proofs.Common.{◌≡◌, ◌&&◌, ℕ, ◌+◌, ◌<◌, ◌≤◌, zero, suc, Bool, true, false, List, [], ◌∷◌, length, inl, inr, Option, None, Some, refl, sym, ap, ◌∙◌, arith, slice_get}
+use Rattle.std.proofs.Common.{◌≡◌, ◌&&◌, ℕ, ◌+◌, ◌<◌, ◌≤◌, zero, suc, Bool, true, List, [], ◌∷◌, length, inl, inr, Option, None, Some, refl, sym, ap, ◌∙◌, arith, slice_get}
 use Rattle.std.specs.List.{list_all, list_any, filter, range_with_len, All, AllByRecursion as Each}
 use Rattle.std.specs.Option.{is_some, is_none}
+use Rattle.std.proofs.Math.Bool.{and-true}
 use Rattle.std.proofs.lemmas.Bool.{cases_Bool, and_parts, eq-eqb, false≢true}
 use Rattle.std.proofs.lemmas.List.Elements.{All-from_recursion}
 use Rattle.ac_base.proofs.Sorted.SearchFacts.{any_same}
@@ -35,15 +36,13 @@ available_itself all r = elim (cases_Bool (is_root all (id_at all r))) [
 -- a test of those that pass another
 pub any_filter : (f g : ℕ → Bool) (zs : List ℕ) → list_any f (filter g zs) ≡ list_any (λ z. g z && f z) zs
 any_filter f g [] = refl
-any_filter f g (z ∷ zs) = elim (cases_Bool (g z)) [ inl e ↦ rw (e, any_filter f g zs) refl | inr e ↦ rw (e, any_filter f g zs) refl ]
+any_filter f g (z ∷ zs) = grind (arith, any_filter f g zs)
 
 pub any_agree : (f g : ℕ → Bool) → ((z : ℕ) → f z ≡ g z) → (zs : List ℕ) → list_any f zs ≡ list_any g zs
 any_agree f g same zs = any_same f g same zs
 
 once : (g t h : Bool) → g && (t && (g && h)) ≡ t && (g && h)
-once false false h = refl
-once false true h = refl
-once true t h = refl
+once g t h = grind arith
 
 -- each provider of the list is available there
 pub hosts_list : (all : List Provider) (ss : List Slot) (t : List ℕ) (r : ℕ) → length t ≤ length ss
@@ -71,12 +70,8 @@ anchor_none all asked ss (p ∷ t) h = absurd (let other : None ≡ Some p = h i
 anchor_none all asked ss [] h =
     let t : List ℕ = [] in
     let short : length t ≤ length ss = omega arith in
-    let none : (r : ℕ) → takes_root all asked r ≡ anchors_list all asked t r = λ r. and_true (takes_root all asked r) in
+    let none : (r : ℕ) → takes_root all asked r ≡ anchors_list all asked t r = λ r. sym (and-true (takes_root all asked r)) in
     any_agree (λ r. takes_root all asked r) (λ r. anchors_list all asked t r) none (range_with_len 0 (length all)) ∙ sym (anchor_list all asked ss t short)
-  where
-    and_true : (b : Bool) → b ≡ b && true
-    and_true true = refl
-    and_true false = refl
 
 -- the anchors of the first provider are enough to look at
 pub anchor_first : (all : List Provider) (asked : Asked) (ss : List Slot) (t : List ℕ) (p : ℕ) → Some p ≡ slice_get t 0 → length t ≤ length ss

@@ -1,7 +1,8 @@
 -- Isolate, tested slot after slot, says it of every two.
-use Rattle.std.proofs.Common.{inl, inr, ◌≡◌, ◌≢◌, ℕ, ◌<◌, zero, suc, Bool, true, List, [], ◌∷◌, length, slice_index_or, refl, arith}
+use Rattle.std.proofs.Common.{◌≡◌, ◌≢◌, ℕ, ◌<◌, zero, suc, Bool, true, List, [], ◌∷◌, length, slice_index_or, refl, arith}
 use Rattle.std.specs.List.{list_all}
-use Rattle.std.proofs.lemmas.Bool.{cases_Bool, and_parts, and_from, eq-eqb, ne_eqb, false≢true}
+use Rattle.std.proofs.lemmas.Bool.Decides.{nat_tests}
+use Rattle.std.proofs.lemmas.Bool.{and_parts, and_from, eq-eqb, false≢true}
 use Rattle.std.proofs.lemmas.List.Elements.{All-get_or, All-from_get_or}
 use Rattle.std.proofs.lemmas.List.Sums.{AllPass-from_list_all, list_all-from_AllPass}
 use Rattle.ac_rules.specs.Placed.{Placed}
@@ -20,23 +21,14 @@ differ x y h s t e = let same = eq-eqb x.provider y.provider e in false≢true (
 
 apart_of : (x y : Placed) → (is_set_apart x.slot ≡ true → is_set_apart y.slot ≡ true → x.provider ≢ y.provider) → are_apart x y ≡ true
 unfolding are_apart
-apart_of x y h = elim (cases_Bool (is_set_apart x.slot)) [
-  | inl s ↦ elim (cases_Bool (is_set_apart y.slot)) [
-    | inl t ↦ rw (s, t, ne_eqb x.provider y.provider (h s t)) refl
-    | inr t ↦ rw (s, t) refl
-  ]
-  | inr s ↦ rw s refl
-]
+apart_of x y h = grind (arith, nat_tests, h)
 
 apart_sound : (xs : List Placed) → all_apart xs ≡ true → StandApart xs
 apart_sound [] h i j d l k = absurd (omega arith)
 apart_sound (x ∷ xs) h i zero d l k = absurd (omega arith)
 apart_sound (x ∷ xs) h zero (suc j) d l k =
-    let both = and_parts (list_all (λ y. are_apart x y) xs) (all_apart xs) h in
-    differ x (slice_index_or xs j d) (all_at (λ y. are_apart x y) d xs j both.0 (omega arith))
-apart_sound (x ∷ xs) h (suc i) (suc j) d l k =
-    let both = and_parts (list_all (λ y. are_apart x y) xs) (all_apart xs) h in
-    apart_sound xs both.1 i j d (omega arith) (omega arith)
+    differ x (slice_index_or xs j d) (all_at (λ y. are_apart x y) d xs j (and_parts (list_all (λ y. are_apart x y) xs) (all_apart xs) h).0 (omega arith))
+apart_sound (x ∷ xs) h (suc i) (suc j) d l k = apart_sound xs (and_parts (list_all (λ y. are_apart x y) xs) (all_apart xs) h).1 i j d (omega arith) (omega arith)
 
 apart_whole : (xs : List Placed) → StandApart xs → all_apart xs ≡ true
 apart_whole [] h = refl

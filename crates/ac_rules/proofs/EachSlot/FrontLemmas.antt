@@ -1,17 +1,17 @@
 -- The front of a candidate is open.
-use Rattle.std.proofs.Common.{inl, inr, ◌≡◌, ℕ, ◌≤◌, Bool, true, ◌&&◌, List, [], ◌∷◌, ◌++◌, length, drop, refl, sym, ◌∙◌, subst, arith, Option, None, Some}
+use Rattle.std.proofs.Common.{◌≡◌, ℕ, ◌≤◌, Bool, true, List, [], ◌∷◌, ◌++◌, length, drop, refl, sym, ◌∙◌, subst, arith, Option, None, Some}
 use Rattle.std.specs.List.{list_all, list_any, range_with_len}
-use Rattle.std.proofs.lemmas.Bool.{cases_Bool, and_parts, and_from}
+use Rattle.std.proofs.lemmas.Bool.{and_parts}
 use Rattle.std.proofs.lemmas.Bool.Decides.{nat_tests}
 use Rattle.std.proofs.lemmas.List.Folds.{list_all-append}
 use Rattle.std.proofs.lemmas.List.Elements.{All-weaker}
 use Rattle.std.proofs.lemmas.List.Sums.{AllPass-from_list_all, list_all-from_AllPass}
 use Rattle.ac_base.specs.Quantities.{InventoryNumbers}
-use Rattle.ac_query.specs.Asked.{Asked, slots_of, is_isolated}
+use Rattle.ac_query.specs.Asked.{Asked, slots_of}
 use Rattle.ac_cloud.specs.World.{Provider, provider_at, used_of, is_available_at}
 use Rattle.ac_rules.specs.Placed.{Placed, placed, assigned}
 use Rattle.ac_rules.specs.Own.{inventory_of, units_fit, traits_fit, aggregates_fit, tree_fits}
-use Rattle.ac_rules.specs.Together.{sum_on, has_room, holds_sums, sums, are_apart, all_apart, isolate, takes_root, hosts_all, anchor}
+use Rattle.ac_rules.specs.Together.{sum_on, has_room, holds_sums, sums, are_apart, all_apart, isolate, hosts_all, anchor}
 use Rattle.ac_rules.specs.Judge.{tests, all_hold, is_candidate, is_open_at, is_open}
 use Rattle.ac_rules.specs.Laws.{PrefixOpen}
 use Rattle.ac_rules.proofs.PlacedLemmas.{placed_append}
@@ -27,10 +27,7 @@ all_weaker f g weaker xs h =
 
 pub any_weaker : {X : Type 0} (f g : X → Bool) → ((x : X) → f x ≡ true → g x ≡ true) → (xs : List X) → list_any f xs ≡ true → list_any g xs ≡ true
 any_weaker f g weaker [] h = h
-any_weaker f g weaker (x ∷ xs) h = elim (cases_Bool (f x)) [
-  | inl e ↦ rw (weaker x e) refl
-  | inr e ↦ let more = any_weaker f g weaker xs (rw e at h) in elim (cases_Bool (g x)) [ inl t ↦ rw t refl | inr t ↦ rw t more ]
-]
+any_weaker f g weaker (x ∷ xs) h = grind (arith, weaker x, any_weaker f g weaker xs)
 
 -- less is asked of a front
 pub sum_front : (xs ys : List Placed) (p : ℕ) (c : List ℕ) → sum_on xs p c ≤ sum_on (xs ++ ys) p c
@@ -55,16 +52,11 @@ sums_front all xs ys h = all_weaker _ _ (holds_front all xs ys) xs (all_front (�
 
 apart_front : (xs ys : List Placed) → all_apart (xs ++ ys) ≡ true → all_apart xs ≡ true
 apart_front [] ys h = refl
-apart_front (x ∷ xs) ys h =
-    let both = and_parts (list_all (λ y. are_apart x y) (xs ++ ys)) (all_apart (xs ++ ys)) h in
-    and_from (list_all (λ y. are_apart x y) xs) (all_apart xs) (all_front (λ y. are_apart x y) xs ys both.0) (apart_front xs ys both.1)
+apart_front (x ∷ xs) ys h = grind (arith, all_front (λ y. are_apart x y) xs ys, apart_front xs ys)
 
 isolate_front : (asked : Asked) (xs ys : List Placed) → isolate asked (xs ++ ys) ≡ true → isolate asked xs ≡ true
 unfolding isolate
-isolate_front asked xs ys h = elim (cases_Bool (is_isolated asked)) [
-  | inl e ↦ rw e (apart_front xs ys (rw e at h))
-  | inr e ↦ rw e refl
-]
+isolate_front asked xs ys h = grind (arith, apart_front xs ys)
 
 pub hosts_front : (all : List Provider) (xs ys : List Placed) (r : ℕ) → hosts_all all (xs ++ ys) r ≡ true → hosts_all all xs r ≡ true
 unfolding hosts_all
@@ -72,12 +64,7 @@ hosts_front all xs ys r h = all_front (λ x. is_available_at all x.provider r) x
 
 anchor_front : (all : List Provider) (asked : Asked) (xs ys : List Placed) → anchor all asked (xs ++ ys) ≡ true → anchor all asked xs ≡ true
 unfolding anchor
-anchor_front all asked xs ys h = any_weaker _ _ one (range_with_len 0 (length all)) h
-  where
-    one : (r : ℕ) → takes_root all asked r && hosts_all all (xs ++ ys) r ≡ true → takes_root all asked r && hosts_all all xs r ≡ true
-    one r k =
-        let both = and_parts (takes_root all asked r) (hosts_all all (xs ++ ys) r) k in
-        and_from (takes_root all asked r) (hosts_all all xs r) both.0 (hosts_front all xs ys r both.1)
+anchor_front all asked xs ys h = any_weaker _ _ (λ r k. grind (arith, hosts_front all xs ys r)) (range_with_len 0 (length all)) h
 
 -- the parts of being open
 pub record Opens (all : List Provider) (asked : Asked) (xs : List Placed) : Type 0 where

@@ -1,8 +1,9 @@
 -- Sums, tested slot by slot, says it of every provider and class.
-use Rattle.std.proofs.Common.{inl, inr, ◌≡◌, ℕ, ◌<◌, ◌≤◌, Bool, true, List, [], ◌∷◌, refl, subst, arith}
+use Rattle.std.proofs.Common.{inl, inr, ◌≡◌, ℕ, ◌<◌, ◌≤◌, Bool, true, List, [], ◌∷◌, refl, arith}
 use Rattle.std.specs.List.{list_all, AllByRecursion}
 use Rattle.std.specs.Str.{bytes_eq}
-use Rattle.std.proofs.lemmas.Bool.{cases_Bool, cases_eq, cases_lt, and_parts, and_from, eq-eqb, ne_eqb}
+use Rattle.std.proofs.lemmas.Bool.Decides.{nat_tests}
+use Rattle.std.proofs.lemmas.Bool.{cases_Bool, and_from, eq-eqb}
 use Rattle.std.proofs.lemmas.Slice.Eq.{bytes_eq-Decides}
 use Rattle.ac_cloud.specs.World.{Provider, provider_at}
 use Rattle.ac_rules.specs.Placed.{Placed}
@@ -12,12 +13,10 @@ use Rattle.ac_rules.specs.Laws.{AskAmounts, IsFull, SumsSayFull}
 -- a test of each class that needs name holds of a class of which they ask
 at_class : (f : List ℕ → Bool) (needs : List (List ℕ × ℕ)) (c : List ℕ) → list_all (λ need. f need.0) needs ≡ true → 0 < amount_of needs c → f c ≡ true
 at_class f [] c h k = absurd (omega arith)
-at_class f (need ∷ needs) c h k =
-    let both = and_parts (f need.0) (list_all (λ need. f need.0) needs) h in
-    elim (cases_Bool (bytes_eq need.0 c)) [
-      | inl e ↦ subst (λ (b : List ℕ). f b ≡ true) ((bytes_eq-Decides need.0 c).0 e) both.0
-      | inr e ↦ let less : 0 < amount_of needs c = let more = rw e at k in omega arith in at_class f needs c both.1 less
-    ]
+at_class f (need ∷ needs) c h k = elim (cases_Bool (bytes_eq need.0 c)) [
+  | inl e ↦ let same = (bytes_eq-Decides need.0 c).0 e in grind arith
+  | inr e ↦ grind (arith, at_class f needs c)
+]
 
 -- a slot's own classes
 slot_full : (all : List Provider) (xs : List Placed) (x : Placed) (c : List ℕ) → holds_sums all xs x ≡ true → 0 < amount_of x.slot.needs c
@@ -28,17 +27,7 @@ slot_full all xs x c h k = at_class (λ c. holds (provider_at all x.provider) c 
 pub full_from : (all : List Provider) (xs ys : List Placed) → list_all (λ x. holds_sums all xs x) ys ≡ true → (p : ℕ) (c : List ℕ) → 0 < sum_on ys p c
     → holds (provider_at all p) c (sum_on xs p c) ≡ true
 full_from all xs [] h p c k = absurd (omega arith)
-full_from all xs (y ∷ ys) h p c k =
-    let both = and_parts (holds_sums all xs y) (list_all (λ x. holds_sums all xs x) ys) h in
-    elim (cases_lt 0 (sum_on ys p c)) [
-      | inl l ↦ full_from all xs ys both.1 p c l
-      | inr g ↦ elim (cases_eq y.provider p) [
-        | inl e ↦
-            let more = rw (eq-eqb y.provider p e) at k in
-            subst (λ (q : ℕ). holds (provider_at all q) c (sum_on xs q c) ≡ true) e (slot_full all xs y c both.0 (omega arith))
-        | inr e ↦ let none = rw (ne_eqb y.provider p e) at k in absurd (omega arith)
-      ]
-    ]
+full_from all xs (y ∷ ys) h p c k = grind (arith, nat_tests, slot_full all xs y c, full_from all xs ys, p)
 
 needs_from : (all : List Provider) (xs : List Placed) (p : ℕ) → IsFull all xs → (needs : List (List ℕ × ℕ)) → AllByRecursion (λ need. 0 < need.1) needs
     → ((c : List ℕ) → amount_of needs c ≤ sum_on xs p c) → list_all (λ need. holds (provider_at all p) need.0 (sum_on xs p need.0)) needs ≡ true
@@ -46,11 +35,8 @@ needs_from all xs p full [] some less = refl
 needs_from all xs p full (need ∷ needs) some less =
     let here = less need.0 in
     let same = (bytes_eq-Decides need.0 need.0).1 refl in
-    let more = rw same at here in
     let one = some.0 in
-    and_from (holds (provider_at all p) need.0 (sum_on xs p need.0)) (list_all (λ n. holds (provider_at all p) n.0 (sum_on xs p n.0)) needs)
-    (full p need.0 (omega arith))
-    (needs_from all xs p full needs some.1 (λ c. let whole = less c in omega arith))
+    grind (arith, full p need.0, needs_from all xs p full needs some.1 (λ c. let whole = less c in omega arith))
 
 slot_from : (all : List Provider) (xs : List Placed) (x : Placed) → IsFull all xs → AllByRecursion (λ need. 0 < need.1) x.slot.needs
     → ((c : List ℕ) → amount_of x.slot.needs c ≤ sum_on xs x.provider c) → holds_sums all xs x ≡ true
@@ -60,13 +46,8 @@ slot_from all xs x full some less = needs_from all xs x.provider full x.slot.nee
 slots_from : (all : List Provider) (xs : List Placed) → IsFull all xs → (ys : List Placed) → AskAmounts ys → ((p : ℕ) (c : List ℕ) → sum_on ys p c ≤ sum_on xs p c)
     → list_all (λ x. holds_sums all xs x) ys ≡ true
 slots_from all xs full [] some less = refl
-slots_from all xs full (y ∷ ys) some less =
-    and_from (holds_sums all xs y) (list_all (λ x. holds_sums all xs x) ys)
-    (slot_from all xs y full some.0 (λ c.
-    let whole = less y.provider c in
-    let same = eq-eqb y.provider y.provider refl in
-    let more = rw same at whole in
-    omega arith))
+slots_from all xs full (y ∷ ys) some less = and_from _ _
+    (slot_from all xs y full some.0 (λ c. let whole = less y.provider c in let same = eq-eqb y.provider y.provider refl in let more = rw same at whole in omega arith))
     (slots_from all xs full ys some.1 (λ p c. let whole = less p c in omega arith))
 
 pub sums_say_full : SumsSayFull

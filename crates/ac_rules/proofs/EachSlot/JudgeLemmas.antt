@@ -1,6 +1,6 @@
 -- No rule is broken exactly at the candidates.
-use Rattle.std.proofs.Common.{inl, inr, ◌≡◌, ℕ, true, List, [], ◌∷◌, refl, false, sym, ◌∙◌}
-use Rattle.std.proofs.lemmas.Bool.{cases_Bool, and_parts, false_from_ne_true}
+use Rattle.std.proofs.Common.{◌≡◌, ℕ, true, List, [], ◌∷◌, refl, false, sym, ◌∙◌, arith}
+use Rattle.std.proofs.lemmas.Bool.{false_from_ne_true}
 use Rattle.ac_query.specs.Asked.{Asked}
 use Rattle.ac_cloud.specs.World.{Provider}
 use Rattle.ac_rules.specs.Placed.{assigned}
@@ -14,14 +14,11 @@ broken rule h = cc
 
 none_broken : (ts : List Test) → first_broken ts ≡ Candidate → all_hold ts ≡ true
 none_broken [] h = refl
-none_broken (t ∷ ts) h = elim (cases_Bool t.holds) [
-  | inl e ↦ rw e (none_broken ts (rw e at h))
-  | inr e ↦ absurd (broken t.rule (rw e at h))
-]
+none_broken (t ∷ ts) h = grind (arith, none_broken ts, broken t.rule)
 
 none_breaks : (ts : List Test) → all_hold ts ≡ true → first_broken ts ≡ Candidate
 none_breaks [] h = refl
-none_breaks (t ∷ ts) h = let both = and_parts t.holds (all_hold ts) h in rw both.0 (none_breaks ts both.1)
+none_breaks (t ∷ ts) h = grind (arith, none_breaks ts)
 
 pub judged_candidate : (all : List Provider) (asked : Asked) (list : List ℕ) → judge all asked list ≡ Candidate → is_candidate all asked list ≡ true
 unfolding judge is_candidate

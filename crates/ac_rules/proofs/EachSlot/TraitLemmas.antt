@@ -1,5 +1,5 @@
 -- Traits looked up from either side.
-use Rattle.std.proofs.Common.{◌≡◌, ◌∙◌, ◌&&◌, ◌||◌, ℕ, Bool, true, false, not, List, [], ◌∷◌, refl, ap}
+use Rattle.std.proofs.Common.{◌≡◌, ◌∙◌, ℕ, Bool, true, not, List, [], ◌∷◌, refl, arith}
 use Rattle.std.specs.List.{list_any, list_all}
 use Rattle.std.specs.Str.{bytes_eq}
 use Rattle.std.proofs.lemmas.Cmp.{nat_list_eq_equiv}
@@ -15,8 +15,4 @@ either_way ts ns =
 -- all fail a test where none passes it
 pub all_fail : {X : Type 0} (f : X → Bool) (xs : List X) → list_all (λ x. not (f x)) xs ≡ not (list_any f xs)
 all_fail f [] = refl
-all_fail f (x ∷ xs) = ap (λ b. not (f x) && b) (all_fail f xs) ∙ neither (f x) (list_any f xs)
-  where
-    neither : (a b : Bool) → (not a && not b) ≡ not (a || b)
-    neither true b = refl
-    neither false b = refl
+all_fail f (x ∷ xs) = grind (arith, all_fail f xs)

@@ -12,11 +12,6 @@ use Rattle.ac_rules.proofs.Elements.{Among, each_append, each_map, each_weaker, 
 abbrev pub under : List (List ℕ) → List ℕ → List (List ℕ)
 under ls ps = flat_map (λ first. map (λ t. first ∷ t) ls) ps
 
--- begins with a number from a on
-abbrev Begins : ℕ → List ℕ → Type 0
-Begins a [] = ⊥
-Begins a (r ∷ s) = a ≤ r
-
 pub rising_append : (xs ys : List (List ℕ)) → IsRising xs → IsRising ys → Each (λ x. Each (λ y. lex_lt x y ≡ true) ys) xs → IsRising (xs ++ ys)
 rising_append [] ys h k b = k
 rising_append (x ∷ xs) ys h k b = (each_append (λ y. lex_lt x y ≡ true) xs ys h.0 b.0, rising_append xs ys h.1 k b.1)
@@ -36,15 +31,10 @@ rising_filter test (x ∷ xs) h = elim (cases_Bool (test x)) [
   | inr e ↦ rw e (rising_filter test xs h.1)
 ]
 
-begins_all : (ls : List (List ℕ)) (a m : ℕ) → Each (Begins a) (under ls (range_with_len a m))
-begins_all ls a zero = tt
-begins_all ls a (suc m) = each_append (Begins a) (map (λ t. a ∷ t) ls) (under ls (range_with_len (a + 1) m))
-    (each_map (Begins a) (λ t. a ∷ t) ls (each_all (λ t. a ≤ a) ls (λ _. omega arith)))
-    (each_weaker (Begins (a + 1)) (Begins a) (under ls (range_with_len (a + 1) m)) weaken (begins_all ls (a + 1) m))
-  where
-    weaken : (x : List ℕ) → Begins (a + 1) x → Begins a x
-    weaken [] b = b
-    weaken (r ∷ s) b = omega arith
+pub each_under : (P : List ℕ → Type 0) (ls : List (List ℕ)) (a m : ℕ) → ((p : ℕ) → a ≤ p → p < a + m → Each (λ t. P (p ∷ t)) ls) → Each P (under ls (range_with_len a m))
+each_under P ls a zero f = tt
+each_under P ls a (suc m) f = each_append P (map (λ t. a ∷ t) ls) (under ls (range_with_len (a + 1) m))
+    (each_map P (λ t. a ∷ t) ls (f a (omega arith) (omega arith))) (each_under P ls (a + 1) m (λ p low high. f p (omega arith) (omega arith)))
 
 rising_under : (ls : List (List ℕ)) → IsRising ls → (a m : ℕ) → IsRising (under ls (range_with_len a m))
 rising_under ls h a zero = tt
@@ -53,11 +43,7 @@ rising_under ls h a (suc m) =
     rising_append (map (λ t. a ∷ t) ls) more (rising_map a ls h) (rising_under ls h (a + 1) m)
     (each_map (λ x. Each (λ y. lex_lt x y ≡ true) more) (λ t. a ∷ t) ls
     (each_all (λ t. Each (λ y. lex_lt (a ∷ t) y ≡ true) more) ls
-    (λ t. each_weaker (Begins (a + 1)) (λ y. lex_lt (a ∷ t) y ≡ true) more (above t) (begins_all ls (a + 1) m))))
-  where
-    above : (t y : List ℕ) → Begins (a + 1) y → lex_lt (a ∷ t) y ≡ true
-    above t [] b = absurd b
-    above t (r ∷ s) b = grind (arith, nat_tests)
+    (λ t. each_under (λ y. lex_lt (a ∷ t) y ≡ true) ls (a + 1) m (λ p low high. each_all (λ u. lex_lt (a ∷ t) (p ∷ u) ≡ true) ls (λ u. grind (arith, nat_tests))))))
 
 -- they rise
 pub rising_all_lists : (n k : ℕ) → IsRising (all_lists n k)
@@ -79,16 +65,9 @@ among_all_lists n (suc k) (p ∷ t) h =
     (among_map (λ t. p ∷ t) (all_lists n k) t
     (among_all_lists n k t (record { long = omega arith; below = All-tail (λ p. p < n) p t h.below })))
 
-pub each_under : (P : List ℕ → Type 0) (ls : List (List ℕ)) (a m n : ℕ) → a + m ≤ n → ((p : ℕ) → p < n → Each (λ t. P (p ∷ t)) ls)
-    → Each P (under ls (range_with_len a m))
-each_under P ls a zero n h f = tt
-each_under P ls a (suc m) n h f = each_append P (map (λ t. a ∷ t) ls) (under ls (range_with_len (a + 1) m))
-    (each_map P (λ t. a ∷ t) ls (f a (omega arith)))
-    (each_under P ls (a + 1) m n (omega arith) f)
-
 -- and nothing else
 pub each_all_lists : (n k : ℕ) → Each (IsListBelow n k) (all_lists n k)
 each_all_lists n zero = (record { long = refl; below = All-nil (λ p. p < n) }, tt)
-each_all_lists n (suc k) = each_under (IsListBelow n (suc k)) (all_lists n k) 0 n n (omega arith)
-    (λ p b. each_weaker (IsListBelow n k) (λ t. IsListBelow n (suc k) (p ∷ t)) (all_lists n k)
-    (λ t h. record { long = ap suc h.long; below = All-cons (λ p. p < n) p t b h.below }) (each_all_lists n k))
+each_all_lists n (suc k) = each_under (IsListBelow n (suc k)) (all_lists n k) 0 n
+    (λ p low b. each_weaker (IsListBelow n k) (λ t. IsListBelow n (suc k) (p ∷ t)) (all_lists n k)
+    (λ t h. record { long = ap suc h.long; below = All-cons (λ p. p < n) p t (omega arith) h.below }) (each_all_lists n k))

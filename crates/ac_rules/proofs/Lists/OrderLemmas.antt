@@ -1,7 +1,7 @@
 -- The order of lists is strict and total.
-use Rattle.std.proofs.Common.{◌≡◌, ℕ, ◌<◌, true, false, List, [], ◌∷◌, map, refl, sym, ap, ◌∙◌, arith, inl, inr}
+use Rattle.std.proofs.Common.{◌≡◌, ℕ, ◌<◌, true, false, List, [], ◌∷◌, map, refl, sym, ◌∙◌, arith}
 use Rattle.std.specs.List.{AllByRecursion as Each}
-use Rattle.std.proofs.lemmas.Bool.{cases_order, false_from_ne_true, false≢true}
+use Rattle.std.proofs.lemmas.Bool.{false_from_ne_true, false≢true}
 use Rattle.std.proofs.lemmas.Bool.Decides.{nat_tests}
 use Rattle.ac_rules.specs.Order.{lex_lt}
 
@@ -38,13 +38,7 @@ lex_map f n rises [] [] h k = refl
 lex_map f n rises [] (y ∷ ys) h k = refl
 lex_map f n rises (x ∷ xs) [] h k = refl
 lex_map f n rises (x ∷ xs) (y ∷ ys) h k =
-    let more = lex_map f n rises xs ys h.1 k.1 in
     let below : x < n = h.0 in
     let below' : y < n = k.0 in
-    elim (cases_order x y) [
-      | inl e ↦ let same : f x ≡ f y = ap f e in grind (arith, nat_tests)
-      | inr o ↦ elim o [
-        | inl l ↦ let less = rises x y l below' in grind (arith, nat_tests)
-        | inr g ↦ let less = rises y x g below in grind (arith, nat_tests)
-      ]
-    ]
+    let more = lex_map f n rises xs ys h.1 k.1 in
+    grind (arith, nat_tests, rises x y, rises y x, more)

@@ -9,7 +9,7 @@ use Rattle.ac_rules.specs.Order.{lex_lt}
 use Rattle.ac_rules.specs.Lists.{IsListBelow, IsRising}
 use Rattle.ac_rules.specs.Pages.{candidates, ids_of, is_after, rest, cut}
 use Rattle.ac_rules.specs.Laws.{AreInOrder, PagesJoin, both_limits, IsLeastAfter, RestBegins}
-use Rattle.ac_rules.proofs.Elements.{Among, filter_twice, filter_agree, filter_all, each_weaker, each_all, each_among, each_map}
+use Rattle.ac_rules.proofs.Elements.{Among, among_right, filter_twice, filter_agree, filter_all, each_weaker, each_all, each_both, each_among, each_map}
 use Rattle.ac_rules.proofs.Lists.OrderLemmas.{lex_irrefl, lex_asym, lex_trans, lex_map}
 use Rattle.ac_rules.proofs.Lists.RestLemmas.{IsChosen, IsLeft, each_candidate, each_rest, among_rest, rising_candidates, rising_rest}
 
@@ -19,10 +19,6 @@ pub same_order : (all : List Provider) → AreInOrder all → (k : ℕ) (t u : L
 same_order all order k t u h j = lex_map (λ ix. id_at all ix) (length all) order t u
     (recursion_from_All (λ p. p < length all) t h.below) (recursion_from_All (λ p. p < length all) u j.below)
 
-last_in : (before : List (List ℕ)) (z : List ℕ) (ms : List (List ℕ)) → Among (before ++ z ∷ ms) z
-last_in [] z ms = inl refl
-last_in (a ∷ before) z ms = inr (last_in before z ms)
-
 -- what is after z in a rising list is what stands behind it
 after_place : (ls before : List (List ℕ)) (z : List ℕ) (ms : List (List ℕ)) → IsRising ls → ls ≡ before ++ z ∷ ms → filter (λ t. lex_lt z t) ls ≡ ms
 after_place ls before z ms h e = ap (filter (λ t. lex_lt z t)) e ∙ go before (subst IsRising e h)
@@ -30,7 +26,7 @@ after_place ls before z ms h e = ap (filter (λ t. lex_lt z t)) e ∙ go before 
     go : (front : List (List ℕ)) → IsRising (front ++ z ∷ ms) → filter (λ t. lex_lt z t) (front ++ z ∷ ms) ≡ ms
     go [] r = rw (lex_irrefl z) (filter_all (λ t. lex_lt z t) ms r.0)
     go (x ∷ front) r =
-        let up = each_among (λ y. lex_lt x y ≡ true) (front ++ z ∷ ms) z r.0 (last_in front z ms) in
+        let up = each_among (λ y. lex_lt x y ≡ true) (front ++ z ∷ ms) z r.0 (among_right front (z ∷ ms) z (inl refl)) in
         rw (lex_asym x z up) (go front r.1)
 
 -- what a cut leaves
@@ -61,7 +57,7 @@ unfolding rest
 rest_after all order asked x z before ms e =
     let ls = rest all asked x in
     let k = length (slots_of asked) in
-    let here : IsLeft all asked x z = each_among (IsLeft all asked x) ls z (each_rest all asked x) (subst (λ (l : List (List ℕ)). Among l z) (sym e) (last_in before z ms)) in
+    let here : IsLeft all asked x z = each_among (IsLeft all asked x) ls z (each_rest all asked x) (subst (λ (l : List (List ℕ)). Among l z) (sym e) (among_right before (z ∷ ms) z (inl refl))) in
     let test = λ (t : List ℕ). is_after all (Some (ids_of all z)) t in
     let later : (y : Option (List ℕ)) → is_after all y z ≡ true → (t : List ℕ) → lex_lt (ids_of all z) (ids_of all t) ≡ true → is_after all y t ≡ true =
     after_later all z in
@@ -86,13 +82,11 @@ pages_join all order asked x n m before z e =
 rising_ids : (all : List Provider) → AreInOrder all → (k : ℕ) (ls : List (List ℕ)) → Each (IsListBelow (length all) k) ls → IsRising ls → IsRising (map (λ t. ids_of all t) ls)
 rising_ids all order k [] each h = tt
 rising_ids all order k (t ∷ ls) each h = (
-  each_map (λ i. lex_lt (ids_of all t) i ≡ true) (λ u. ids_of all u) ls (up ls each.1 h.0),
+  each_map (λ i. lex_lt (ids_of all t) i ≡ true) (λ u. ids_of all u) ls
+      (each_weaker _ (λ u. lex_lt (ids_of all t) (ids_of all u) ≡ true) ls (λ u b. same_order all order k t u each.0 b.0 ∙ b.1)
+      (each_both (IsListBelow (length all) k) (λ u. lex_lt t u ≡ true) ls each.1 h.0)),
   rising_ids all order k ls each.1 h.1,
 )
-  where
-    up : (us : List (List ℕ)) → Each (IsListBelow (length all) k) us → Each (λ u. lex_lt t u ≡ true) us → Each (λ u. lex_lt (ids_of all t) (ids_of all u) ≡ true) us
-    up [] b l = tt
-    up (u ∷ us) b l = (same_order all order k t u each.0 b.0 ∙ l.0, up us b.1 l.1)
 
 pub rest_begins : (all : List Provider) → AreInOrder all → (asked : Asked) → RestBegins all asked
 rest_begins all order asked = record {

@@ -1,7 +1,7 @@
 -- A token, as the least list of places: the first places whose ids come after it.
-use Rattle.std.proofs.Common.{◌≡◌, ℕ, ◌<◌, ◌≤◌, ◌==◌, zero, suc, true, false, not, List, [], ◌∷◌, ◌⊎◌, inl, inr, length, take, refl, sym, ap, ◌∙◌, nat_lt, arith}
+use Rattle.std.proofs.Common.{◌≡◌, ℕ, ◌+◌, ◌-◌, ◌<◌, ◌≤◌, ◌==◌, ◌&&◌, zero, suc, true, false, not, List, [], ◌∷◌, inl, inr, length, take, refl, sym, ap, ◌∙◌, nat_lt, arith}
 use Rattle.std.specs.List.{AllByRecursion as Each}
-use Rattle.std.proofs.lemmas.Bool.{cases_lt, cases_eq, cases_order, cases_Bool, lt-ltb, le-ltb, eq-eqb, ne_eqb}
+use Rattle.std.proofs.lemmas.Bool.{cases_order}
 use Rattle.std.proofs.lemmas.Bool.Decides.{nat_tests}
 use Rattle.ac_cloud.specs.World.{Provider, id_at}
 use Rattle.ac_rules.specs.Order.{lex_lt}
@@ -22,74 +22,37 @@ use Rattle.std.proofs.Common.{Option, Some, None}
 -- each provider before the rank has an id below
 pub rank_above : (all : List Provider) (id p : ℕ) → p < rank_of all id → id_at all p < id
 rank_above [] id p h = absurd (omega arith)
-rank_above (q ∷ all) id zero h = elim (cases_Bool (nat_lt q.id id)) [ inl e ↦ grind (arith, nat_tests) | inr e ↦ absurd (let less = rw e at h in omega arith) ]
-rank_above (q ∷ all) id (suc p) h = elim (cases_Bool (nat_lt q.id id)) [
-  | inl e ↦ rank_above all id p (let less = rw e at h in omega arith)
-  | inr e ↦ absurd (let less = rw e at h in omega arith)
-]
+rank_above (q ∷ all) id zero h = grind (arith, nat_tests)
+rank_above (q ∷ all) id (suc p) h = grind (arith, nat_tests, rank_above all id p)
 
 -- and the one there has none
 pub rank_here : (all : List Provider) (id : ℕ) → rank_of all id < length all → id ≤ id_at all (rank_of all id)
 rank_here [] id h = absurd (omega arith)
-rank_here (q ∷ all) id h = elim (cases_Bool (nat_lt q.id id)) [
-  | inl e ↦ rw e (rank_here all id (let less = rw e at h in omega arith))
-  | inr e ↦ rw e (grind (arith, nat_tests))
-]
+rank_here (q ∷ all) id h = grind (arith, nat_tests, rank_here all id)
 
--- one place against a name that some place has
-pub record Known (all : List Provider) (v r : ℕ) : Type 0 where
-  pub is : is_known all v ≡ true
-  pub after : nat_lt v (id_at all r) ≡ nat_lt (rank_of all v) r
-  pub same : (v == id_at all r) ≡ (r == rank_of all v)
-  pub before : nat_lt (id_at all r) v ≡ nat_lt r (rank_of all v)
-  pub same' : (id_at all r == v) ≡ (r == rank_of all v)
+-- a place against an id
+record Compares (all : List Provider) (v r : ℕ) : Type 0 where
+  before : nat_lt (id_at all r) v ≡ nat_lt r (rank_of all v)
+  same : (v == id_at all r) ≡ is_known all v && (r == rank_of all v)
 
--- and against one that none has
-pub record Unknown (all : List Provider) (v r : ℕ) : Type 0 where
-  pub is : is_known all v ≡ false
-  pub after : nat_lt v (id_at all r) ≡ not (nat_lt r (rank_of all v))
-  pub same : (v == id_at all r) ≡ false
-  pub before : nat_lt (id_at all r) v ≡ nat_lt r (rank_of all v)
-  pub same' : (id_at all r == v) ≡ false
-
-known : (all : List Provider) → AreInOrder all → (v r : ℕ) → r < length all → rank_of all v < length all → id_at all (rank_of all v) ≡ v → Known all v r
-known all order v r low l e =
-    let is : is_known all v ≡ true = rw (lt-ltb (rank_of all v) (length all) l, eq-eqb (id_at all (rank_of all v)) v e) refl in
-    elim (cases_order r (rank_of all v)) [
-      | inl w ↦ let same : id_at all r ≡ v = ap (λ i. id_at all i) w ∙ e in record { is = is; after = grind (arith, nat_tests); same = grind (arith, nat_tests); before = grind (arith, nat_tests); same' = grind (arith, nat_tests) }
-      | inr o ↦ elim o [
-        | inl w ↦ let less = rank_above all v r w in record { is = is; after = grind (arith, nat_tests); same = grind (arith, nat_tests); before = grind (arith, nat_tests); same' = grind (arith, nat_tests) }
-        | inr w ↦ let more = order (rank_of all v) r w low in record { is = is; after = grind (arith, nat_tests); same = grind (arith, nat_tests); before = grind (arith, nat_tests); same' = grind (arith, nat_tests) }
-      ]
-    ]
-
-unknown : (all : List Provider) → AreInOrder all → (v r : ℕ) → r < length all → is_known all v ≡ false → (rank_of all v < length all → id_at all (rank_of all v) ≡ v → ⊥) → Unknown all v r
-unknown all order v r low is f = elim (cases_lt r (rank_of all v)) [
-  | inl w ↦ let less = rank_above all v r w in record { is = is; after = grind (arith, nat_tests); same = grind (arith, nat_tests); before = grind (arith, nat_tests); same' = grind (arith, nat_tests) }
-  | inr w ↦ let more = above w in record { is = is; after = grind (arith, nat_tests); same = grind (arith, nat_tests); before = grind (arith, nat_tests); same' = grind (arith, nat_tests) }
-]
-  where
-    above : rank_of all v ≤ r → v < id_at all r
-    above w = let here = rank_here all v (omega arith) in elim (cases_eq (rank_of all v) r) [
-      | inl e ↦ let other : id_at all (rank_of all v) ≡ v → ⊥ = f (omega arith) in let same : id_at all (rank_of all v) ≡ id_at all r = ap (λ i. id_at all i) e in omega arith
-      | inr g ↦ let more = order (rank_of all v) r (omega arith) low in omega arith
-    ]
-
-item : (all : List Provider) → AreInOrder all → (v r : ℕ) → r < length all → Known all v r ⊎ Unknown all v r
-item all order v r low = elim (cases_lt (rank_of all v) (length all)) [
-  | inr g ↦ inr (unknown all order v r low (rw (le-ltb (rank_of all v) (length all) g) refl) (λ l _. omega arith))
-  | inl l ↦ elim (cases_eq (id_at all (rank_of all v)) v) [
-    | inl e ↦ inl (known all order v r low l e)
-    | inr f ↦ inr (unknown all order v r low (rw (lt-ltb (rank_of all v) (length all) l, ne_eqb (id_at all (rank_of all v)) v f) refl) (λ _. f))
+compares : (all : List Provider) → AreInOrder all → (v r : ℕ) → r < length all → Compares all v r
+compares all order v r low = elim (cases_order r (rank_of all v)) [
+  | inl e ↦
+      let here = rank_here all v (omega arith) in
+      let is : id_at all r ≡ id_at all (rank_of all v) = ap (id_at all) e in
+      record { before = grind (arith, nat_tests); same = grind (arith, nat_tests) }
+  | inr o ↦ elim o [
+    | inl w ↦ let less = rank_above all v r w in record { before = grind (arith, nat_tests); same = grind (arith, nat_tests) }
+    | inr w ↦
+        let here = rank_here all v (omega arith) in
+        let more = order (rank_of all v) r w low in
+        record { before = grind (arith, nat_tests); same = grind (arith, nat_tests) }
   ]
 ]
 
-take_nil : (i : ℕ) → take {A = ℕ} i [] ≡ []
-take_nil zero = refl
-take_nil (suc i) = refl
-
 pub cut_nil : (q : List ℕ) (i : ℕ) → lex_lt q (take i []) ≡ false
-cut_nil q i = rw (take_nil i) (lex_nil q)
+cut_nil q zero = lex_nil q
+cut_nil q (suc i) = lex_nil q
 
 -- a list of a provider for each slot comes after these ids exactly where it isn't before their least list
 pub after_least : (all : List Provider) → AreInOrder all → (k : ℕ) (x t : List ℕ) → length t ≡ k → 0 < k → Each (λ p. p < length all) t
@@ -97,19 +60,12 @@ pub after_least : (all : List Provider) → AreInOrder all → (k : ℕ) (x t : 
 after_least all order k x [] b some low = absurd (omega arith)
 after_least all order k [] (r ∷ t) b some low = refl
 after_least all order zero (v ∷ x) (r ∷ t) b some low = absurd (omega arith)
-after_least all order (suc zero) (v ∷ []) (r ∷ []) b some low = elim (item all order v r low.0) [
-  | inl c ↦ rw c.is (let p = c.after in let q = c.same in grind (arith, nat_tests))
-  | inr c ↦ rw c.is (let p = c.after in let q = c.same in grind (arith, nat_tests))
-]
-after_least all order (suc zero) (v ∷ w ∷ x) (r ∷ []) b some low = elim (item all order v r low.0) [
-  | inl c ↦ rw c.is (let p = c.after in let q = c.same in grind (arith, nat_tests))
-  | inr c ↦ rw c.is (let p = c.after in let q = c.same in grind (arith, nat_tests))
-]
 after_least all order (suc zero) (v ∷ x) (r ∷ s ∷ t) b some low = absurd (omega arith)
-after_least all order (suc (suc k)) (v ∷ x) (r ∷ t) b some low = elim (item all order v r low.0) [
-  | inl c ↦ let more = after_least all order (suc k) x t (omega arith) (omega arith) low.1 in rw c.is (let p = c.after in let q = c.same in grind (arith, nat_tests))
-  | inr c ↦ let none = lex_nil t in rw c.is (let p = c.after in let q = c.same in grind (arith, nat_tests))
-]
+after_least all order (suc zero) (v ∷ x) (r ∷ []) b some low = let c = compares all order v r low.0 in grind (arith, nat_tests, lex_nil x, c.before, c.same)
+after_least all order (suc (suc k)) (v ∷ x) (r ∷ t) b some low =
+    let c = compares all order v r low.0 in
+    let more = after_least all order (suc k) x t (omega arith) (omega arith) low.1 in
+    grind (arith, nat_tests, lex_nil t, c.before, c.same, more)
 
 -- a shorter list is before ids cut to its length exactly where it is before their least list so cut
 pub before_least : (all : List Provider) → AreInOrder all → (k : ℕ) (x q : List ℕ) → length q < k → Each (λ p. p < length all) q
@@ -118,20 +74,38 @@ before_least all order zero x q b low = absurd (omega arith)
 before_least all order (suc k) [] q b low = cut_nil (ids_of all q) (length q) ∙ sym (cut_nil q (length q))
 before_least all order (suc k) (v ∷ x) [] b low = refl
 before_least all order (suc zero) (v ∷ x) (r ∷ q) b low = absurd (omega arith)
-before_least all order (suc (suc k)) (v ∷ x) (r ∷ q) b low = elim (item all order v r low.0) [
-  | inl c ↦ let more = before_least all order (suc k) x q (omega arith) low.1 in rw c.is (let p = c.before in let s = c.same' in grind (arith, nat_tests))
-  | inr c ↦ rw c.is (let p = c.before in let s = c.same' in let none = cut_nil q (length q) in grind (arith, nat_tests))
-]
+before_least all order (suc (suc k)) (v ∷ x) (r ∷ q) b low =
+    let c = compares all order v r low.0 in
+    let more = before_least all order (suc k) x q (omega arith) low.1 in
+    grind (arith, nat_tests, cut_nil q (length q), c.before, c.same, more)
+
+pub known_low : (all : List Provider) (id : ℕ) → is_known all id ≡ true → rank_of all id < length all
+known_low all id h = grind (arith, nat_tests)
+
+-- the least list of some ids, by whether a provider has the first
+pub least_none : (all : List Provider) (ids : List ℕ) → least_after all 0 ids ≡ []
+least_none all [] = refl
+least_none all (id ∷ ids) = refl
+
+pub least_unknown : (all : List Provider) (k id : ℕ) (ids : List ℕ) → 0 < k → is_known all id ≡ false → least_after all k (id ∷ ids) ≡ rank_of all id ∷ []
+least_unknown all zero id ids some e = absurd (omega (arith, some))
+least_unknown all (suc zero) id ids some e = rw e refl
+least_unknown all (suc (suc k)) id ids some e = rw e refl
+
+pub least_last : (all : List Provider) (k id : ℕ) (ids : List ℕ) → k ≡ 1 → is_known all id ≡ true → least_after all k (id ∷ ids) ≡ (rank_of all id + 1) ∷ []
+least_last all k id ids one e = rw one (rw e refl)
+
+pub least_known : (all : List Provider) (k id : ℕ) (ids : List ℕ) → 1 < k → is_known all id ≡ true → least_after all k (id ∷ ids) ≡ rank_of all id ∷ least_after all (k - 1) ids
+least_known all zero id ids some e = absurd (omega (arith, some))
+least_known all (suc zero) id ids some e = absurd (omega (arith, some))
+least_known all (suc (suc k)) id ids some e = let next : suc (suc k) - 1 ≡ suc k = omega arith in rw (next, e) refl
 
 -- it is no longer than there are slots
 pub least_length : (all : List Provider) (k : ℕ) (x : List ℕ) → length (least_after all k x) ≤ k
 least_length all k [] = omega arith
 least_length all zero (v ∷ x) = omega arith
 least_length all (suc zero) (v ∷ x) = omega arith
-least_length all (suc (suc k)) (v ∷ x) = elim (cases_Bool (is_known all v)) [
-  | inl e ↦ rw e (let more = least_length all (suc k) x in omega arith)
-  | inr e ↦ rw e (omega arith)
-]
+least_length all (suc (suc k)) (v ∷ x) = grind (arith, least_length all (suc k) x)
 
 pub least_len : (all : List Provider) (k : ℕ) (x : Option (List ℕ)) → length (least_of all k x) ≤ k
 least_len all k None = omega arith

@@ -1,7 +1,7 @@
 -- How the slots that a path has changed grow with the count of tries.
 use Rattle.std.proofs.Common.{◌≡◌, ℕ, ◌+◌, ◌<◌, ◌≤◌, zero, suc, List, [], ◌∷◌, ◌++◌, take, Option, Some, None, inl, inr, refl, arith, nat_lt, length-append}
 use Rattle.std.specs.Prelude.{min}
-use Rattle.std.proofs.lemmas.Bool.{cases_Bool, cases_lt}
+use Rattle.std.proofs.lemmas.Bool.{cases_Bool}
 use Rattle.std.proofs.lemmas.Bool.Decides.{nat_tests}
 use Rattle.std.proofs.Math.Nat.{min-le_left, min-le_right}
 use Rattle.ac_base.specs.Devices.{last_count, one_more, Rises}
@@ -49,19 +49,13 @@ one_more_most n = elim (cases_Bool (nat_lt n last_count)) [ inl e ↦ rw e (omeg
 pub one_more_some : (n : ℕ) → 0 < one_more n
 one_more_some n = elim (cases_Bool (nat_lt n last_count)) [ inl e ↦ rw e (omega arith) | inr e ↦ grind (arith, nat_tests) ]
 
-pub one_more_rises : (n : ℕ) → Rises n (one_more n)
-one_more_rises n = λ l. elim (cases_Bool (nat_lt n last_count)) [ inl e ↦ rw e (omega arith) | inr e ↦ grind (arith, nat_tests) ]
+pub one_more_rises : (a n : ℕ) → a ≤ n → Rises a (one_more n)
+one_more_rises a n h = λ l. elim (cases_Bool (nat_lt n last_count)) [ inl e ↦ rw e (omega arith) | inr e ↦ grind (arith, nat_tests) ]
 
 -- it pays for one more slot
 pub one_more_pays : (a b n : ℕ) → b ≤ a + 1 → min a last_count ≤ n → min b last_count ≤ one_more n
-one_more_pays a b n h k = elim (cases_lt n last_count) [
-  | inl l ↦ let one = min-le_left b last_count in grind (arith, nat_tests)
-  | inr g ↦ let all = min-le_right b last_count in let kept = one_more_kept n in omega arith
-]
+one_more_pays a b n h k = grind (arith, nat_tests, min-le_left b last_count, min-le_right b last_count)
 
 -- and for fewer
 pub fewer_paid : (a b n : ℕ) → b ≤ a → min a last_count ≤ n → min b last_count ≤ n
-fewer_paid a b n h k = elim (cases_lt a last_count) [
-  | inl l ↦ let one = min-le_left b last_count in grind (arith)
-  | inr g ↦ let all = min-le_right b last_count in grind (arith)
-]
+fewer_paid a b n h k = grind (arith, min-le_left b last_count, min-le_right b last_count)

@@ -1,30 +1,32 @@
 -- A walk ends: each step raises the front that it tries next, and there are finitely many fronts.
-use Rattle.std.proofs.Common.{◌≡◌, ℕ, ◌+◌, ◌*◌, ◌<◌, ◌≤◌, suc, true, List, [], ◌∷◌, length, take, Option, None, Some, IsSome, inl, inr, refl, sym, ap, ◌∙◌, subst, arith, length-append, length-take-le}
+use Rattle.std.proofs.Common.{◌≡◌, ℕ, ◌+◌, ◌*◌, ◌<◌, ◌≤◌, suc, true, List, [], ◌∷◌, ◌++◌, length, Option, None, Some, IsSome, inl, inr, refl, sym, ap, ◌∙◌, subst, arith, length-append, take_all}
+use Rattle.std.proofs.Math.Seq.{take-suc}
 use Rattle.std.specs.Prelude.{min, IfSome}
 use Rattle.std.proofs.Math.Nat.{min-le_left}
 use Rattle.std.specs.List.{filter, slice_index, AllByRecursion as Each}
-use Rattle.std.proofs.lemmas.Bool.{cases_lt, eq-eqb, ne_eqb, not_from_false, not_from_true, not-true, false_from_ne_true, false≢true}
+use Rattle.std.proofs.lemmas.Bool.{cases_lt, eq-eqb, ne_eqb, not_from_false, not_from_true}
 use Rattle.std.proofs.lemmas.List.{get_or_past}
 use Rattle.std.specs.Option.{option_map}
-use Rattle.ac_base.specs.Devices.{last_count, Rises}
+use Rattle.ac_base.specs.Devices.{last_count, one_more, Rises}
 use Rattle.ac_query.specs.Shown.Queries.{asked_of}
 use Rattle.ac_cloud.specs.Cloud.CloudWorld.{providers_of}
 use Rattle.ac_cloud.proofs.InOrder.{cloud_in_order}
 use Rattle.ac_rules.specs.Order.{lex_lt}
 use Rattle.ac_prune.specs.Search.{Search, choices_at, next_at}
 use Rattle.ac_search.specs.Search.{all_shorter, from, between}
-use Rattle.ac_search.specs.Between.{open_between}
-use Rattle.ac_search.specs.Shown.Walk.{cloud_in, query_in, token_in, given_in, changed, search_in, front_in, left_of, IsSame, Tries}
-use Rattle.ac_search.specs.Search.Steps.{IsTried, Goes, Gives, Ends, IsBounded, Advances, Finishes}
+use Rattle.ac_search.specs.Shown.Walk.{cloud_in, query_in, token_in, given_in, changed, search_in, place_in, path_in, front_in, left_of, IsSame, Tries}
+use Rattle.ac_search.specs.Search.Steps.{IsTried, Goes, Passes, Gives, Ends, Advances, Finishes}
 use Rattle.ac_search.specs.declared.walk.Walk.{Walk}
 use Rattle.ac_rules.proofs.Elements.{each_append, each_weaker, each_all, count_more}
 use Rattle.ac_rules.proofs.Lists.OrderLemmas.{lex_irrefl, lex_trans}
 use Rattle.ac_search.proofs.Search.ShorterLemmas.{among_all_shorter}
 use Rattle.ac_search.proofs.Search.IdsLemmas.{between_by_ids}
 use Rattle.ac_prune.proofs.Search.SoughtLemmas.{low_at}
-use Rattle.ac_search.proofs.Steps.ChangeLemmas.{differing_front}
-use Rattle.ac_search.proofs.Steps.MoveLemmas.{path_low}
-use Rattle.ac_search.proofs.Steps.StepLemmas.{laws_in, search_same, same_then, bounded_then, rises_later}
+use Rattle.ac_search.proofs.Search.FrontOrder.{lex_le_trans}
+use Rattle.ac_search.proofs.Search.BoundLemmas.{path_low}
+use Rattle.ac_search.proofs.Steps.BetweenLemmas.{counted_end, counted_given}
+use Rattle.ac_search.proofs.Steps.ChangeLemmas.{changed_more, differing_front, one_more_kept, one_more_rises, one_more_some, one_more_pays}
+use Rattle.ac_search.proofs.Steps.StepLemmas.{laws_in, search_same, itself, same_then, tried_on}
 
 -- how many fronts from c on there are
 unfoldable pub fronts_from : Search → List ℕ → ℕ
@@ -37,14 +39,14 @@ front_low : (w : Walk) → Each (λ p. p < suc (search_in w).count) (front_in w)
 front_low w =
     let m = search_in w in
     let n = m.count in
-    let j = slice_index w.places.items w.depth in
+    let j = place_in w in
     let last : next_at m w.depth j < suc n = elim (cases_lt j (length (choices_at m w.depth))) [
       | inl l ↦ let low = low_at m (laws_in w) w.depth j w.sound.within l in omega arith
       | inr g ↦ rw (get_or_past (choices_at m w.depth) j n g) (omega arith)
     ] in
-    each_append (λ p. p < suc n) (take w.depth w.path.items) (next_at m w.depth j ∷ [])
-    (each_weaker (λ p. p < n) (λ p. p < suc n) (take w.depth w.path.items) (λ p l. omega arith)
-    (path_low m (laws_in w) w.least.items w.path.items w.places.items w.depth w.seeking w.probes w.sound))
+    each_append (λ p. p < suc n) (path_in w) (next_at m w.depth j ∷ [])
+    (each_weaker (λ p. p < n) (λ p. p < suc n) (path_in w) (λ p l. omega arith)
+    (path_low (laws_in w) w.sound))
     (last, tt)
 
 fronts_fall : (w : Walk) (c : List ℕ) → lex_lt (front_in w) c ≡ true → fronts_from (search_in w) c < remaining w
@@ -52,17 +54,16 @@ unfolding fronts_from
 fronts_fall w c up =
     let m = search_in w in
     let nodes = all_shorter (suc m.count) (suc m.width) in
-    let size : length (front_in w) < suc m.width =
-    omega (arith, length-append (take w.depth w.path.items) (next_at m w.depth (slice_index w.places.items w.depth) ∷ []), length-take-le w.depth w.path.items (omega (arith, w.sound.path_len, w.sound.within)), w.sound.within) in
+    let size : length (front_in w) < suc m.width = omega (arith, length-append (path_in w) (next_at m w.depth (place_in w) ∷ []), w.sound.long, w.sound.within) in
     let more : length (filter (λ t. from c t) nodes) + 1 ≤ length (filter (λ t. from (front_in w) t) nodes) = count_more (λ t. from c t) (λ t. from (front_in w) t) nodes (front_in w)
-    (each_all (λ u. from c u ≡ true → from (front_in w) u ≡ true) nodes (λ u e. not_from_false _ (false_from_ne_true _ (λ b. false≢true (sym (not-true _ e) ∙ lex_trans u (front_in w) c b up)))))
+    (each_all (λ u. from c u ≡ true → from (front_in w) u ≡ true) nodes (λ u e. grind (arith, lex_trans u (front_in w) c)))
     (among_all_shorter (suc m.count) (suc m.width) (front_in w) size (front_low w))
     (not_from_true _ up) (not_from_false _ (lex_irrefl (front_in w))) in
     omega arith
 
--- each step leaves fewer
-pub remaining_falls : (w v : Walk) → Goes w v → remaining v < remaining w
-remaining_falls w v g = subst (λ (m : Search). fronts_from m (front_in v) < remaining w) (sym (search_same w v g.same)) (fronts_fall w (front_in v) g.up)
+-- each step leaves fewer, whatever it passed over before
+pub remaining_falls : (w u v : Walk) → Passes w u → Goes u v → remaining v < remaining w
+remaining_falls w u v p g = subst (λ (m : Search). fronts_from m (front_in v) < remaining w) (sym (search_same u v g.same ∙ search_same w u p.same)) (fronts_fall w (front_in v) (lex_le_trans (front_in w) (front_in u) (front_in v) p.up g.up))
 
 -- what several steps keep
 pub record Comes (old new : Walk) : Type 0 where
@@ -71,61 +72,62 @@ pub record Comes (old new : Walk) : Type 0 where
   pub kept : old.probes ≤ new.probes
   pub tried : IsTried (given_in old) old.probes new
 
-given_new : (w : Walk) → w.probes ≡ 0 → given_in w ≡ None
-given_new w e = rw (eq-eqb w.probes 0 e) refl
-
 -- where it has tried, the list in its path is the one that it gave last
 given_last : (w : Walk) → 0 < w.probes → given_in w ≡ Some w.path.items
 given_last w some = rw (ne_eqb w.probes 0 (λ e. omega (arith, some, e))) refl
 
 pub comes_new : (w : Walk) → Comes w w
 comes_new w = record {
-  same = record { cloud = refl; query = refl; after = refl; least = refl };
+  same = itself w;
   left = refl;
   kept = omega arith;
   tried = elim (cases_lt 0 w.probes) [
     | inl l ↦ rw (given_last w l, differing_front w.path.items w.depth) (omega (arith, min-le_left (w.probes + 0) last_count))
-    | inr g ↦ let none : w.probes ≡ 0 = omega arith in rw (given_new w none, w.sound.begun none) (omega (arith, min-le_left (w.probes + 0) last_count))
+    | inr g ↦ let none : w.probes ≡ 0 = omega arith in rw (eq-eqb w.probes 0 none, w.sound.begun none) (omega (arith, min-le_left (w.probes + 0) last_count))
   ];
 }
+
+pub comes_past : (w u v : Walk) → Comes w u → Passes u v → Comes w v
+comes_past w u v a b = record { same = same_then w u v a.same b.same; left = b.left ∙ a.left; kept = omega (arith, a.kept, b.kept); tried = tried_on u v b.path b.kept (given_in w) w.probes a.tried }
 
 pub comes_on : (w u v : Walk) → Comes w u → Goes u v → Comes w v
 comes_on w u v a b = record { same = same_then w u v a.same b.same; left = b.left ∙ a.left; kept = omega (arith, a.kept, b.kept); tried = b.tried (given_in w) w.probes a.tried }
 
 -- its tries, told by the ids of its token
-tries_told : (w v : Walk) (y : Option (List ℕ)) → IsBounded w y v → w.probes ≤ v.probes → (IsSome y → Rises w.probes v.probes) → IfSome y (λ l. given_in v ≡ Some l)
-    → IfSome y (λ l. min (w.probes + changed (given_in w) l) last_count ≤ v.probes) → Tries w y v
-tries_told w v y bounds kept rises last tried =
-    let least : between (search_in w) w.least.items y ≡ open_between (cloud_in w) (query_in w) (token_in w) y =
-    ap (λ (x : List ℕ). between (search_in w) x y) w.resumed ∙ between_by_ids (cloud_in w) (cloud_in_order w.ledger.cloud.now).order (query_in w) (token_in w) y in
+tries_told : (w v : Walk) (y : Option (List ℕ)) → IsSame w v → v.probes ≤ (search_in v).count * length (between (search_in v) v.least.items y) → w.probes ≤ v.probes → (IsSome y → Rises w.probes v.probes)
+    → IfSome y (λ l. given_in v ≡ Some l) → IfSome y (λ l. min (w.probes + changed (given_in w) l) last_count ≤ v.probes) → Tries w y v
+tries_told w v y same bounded kept rises last tried =
+    let told = ap (λ (x : List ℕ). between (search_in v) x y) v.resumed ∙ between_by_ids (cloud_in v) (cloud_in_order v.ledger.cloud.now).order (query_in v) (token_in v) y in
     record {
-      cloud = ap (λ c. providers_of c.now) bounds.same.cloud;
-      query = ap (λ q. asked_of q.now) bounds.same.query;
-      token = ap (λ ids. option_map (λ v. v.items) ids) bounds.same.after;
-      bounded = subst (λ (ls : List (List ℕ)). v.probes ≤ length (cloud_in w) * length ls) least bounds.bounded;
+      cloud = ap (λ c. providers_of c.now) same.cloud;
+      query = ap (λ q. asked_of q.now) same.query;
+      token = ap (λ ids. option_map (λ v. v.items) ids) same.after;
+      bounded = rw (same.cloud, same.query, same.after) at (subst (λ (ls : List (List ℕ)). v.probes ≤ length (cloud_in v) * length ls) told bounded);
       kept = kept;
       rises = rises;
       last = last;
       tried = tried;
     }
 
-ends_then : (w u v : Walk) → Comes w u → Ends u v → Ends w v
-ends_then w u v a b = record { nothing = sym a.left ∙ b.nothing; none = b.none; bounds = bounded_then w u v None a.same b.bounds; kept = omega (arith, a.kept, b.kept) }
-
 -- what one step gives after those before it
 pub advances : (w u v : Walk) → Comes w u → Gives u v → Advances w v
 advances w u v a b =
-    let rises = rises_later w.probes u.probes v.probes a.kept b.kept b.rises in
-    let some : 0 < v.probes = elim (cases_lt u.probes last_count) [
-      | inl l ↦ let rise : u.probes < v.probes = b.rises l in omega arith
-      | inr g ↦ let kept = b.kept in omega arith
-    ] in
+    let p = slice_index v.path.items v.depth in
+    let whole : path_in v ++ p ∷ [] ≡ v.path.items = sym (take-suc v.path.items v.depth 0 (omega (arith, v.path_len, v.sound.within))) ∙ take_all (suc v.depth) v.path.items (omega (arith, v.path_len, b.last)) in
+    let more = one_more_kept u.probes in
+    let rises : Rises w.probes v.probes = subst (Rises w.probes) (sym b.skips.counted) (one_more_rises w.probes u.probes a.kept) in
+    let some : 0 < v.probes = let more = one_more_some u.probes in omega (arith, b.skips.counted) in
+    let paid : min (w.probes + changed (given_in w) (path_in v ++ p ∷ [])) last_count ≤ one_more u.probes =
+    one_more_pays (w.probes + changed (given_in w) (path_in v)) _ u.probes (omega (arith, changed_more (given_in w) (path_in v) p)) (rw b.skips.path a.tried) in
     record {
       head = sym a.left ∙ b.head;
-      tries = tries_told w v (Some v.path.items) (bounded_then w u v (Some v.path.items) a.same b.bounds) (omega (arith, a.kept, b.kept)) (λ _. rises) (given_last v some) (b.tried (given_in w) w.probes a.tried);
+      tries = tries_told w v (Some v.path.items) (same_then w u v a.same b.skips.same) (rw whole at (counted_given (laws_in v) v.sound p b.last)) (omega (arith, a.kept, b.skips.counted)) (λ _. rises) (given_last v some)
+          (rw (b.skips.counted, ← whole) paid);
     }
 
 pub finishes : (w u v : Walk) → Comes w u → Ends u v → Finishes w v
-finishes w u v a b =
-    let e = ends_then w u v a b in
-    record { nothing = e.nothing; none = e.none; tries = tries_told w v None e.bounds e.kept (λ some. absurd (cc)) tt tt }
+finishes w u v a b = subst (Finishes w) (sym b.stays) (record {
+  nothing = sym a.left ∙ b.nothing;
+  none = b.nothing;
+  tries = tries_told w u None a.same (counted_end (laws_in u) u.sound) a.kept (λ some. absurd (cc)) tt tt;
+})

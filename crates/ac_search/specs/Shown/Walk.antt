@@ -1,12 +1,12 @@
 -- What a walk searches, where it stands, and what it has left.
-use Rattle.std.specs.Prelude.{◌≡◌, ℕ, ◌+◌, ◌*◌, ◌≤◌, ◌==◌, min, if◌then◌else◌, List, [], ◌∷◌, length, take, Option, Some, None, IsSome, IfSome}
+use Rattle.std.specs.Prelude.{◌≡◌, ℕ, ◌+◌, ◌*◌, ◌≤◌, ◌==◌, min, if◌then◌else◌, List, [], ◌∷◌, length, take, slice_index, Option, Some, None, IsSome, IfSome}
 use Rattle.std.specs.Option.{option_map}
 use Rattle.ac_base.specs.Devices.{last_count, Rises}
 use Rattle.ac_query.specs.Asked.{Asked}
 use Rattle.ac_query.specs.Shown.Queries.{asked_of}
 use Rattle.ac_cloud.specs.Cloud.CloudWorld.{providers_of}
 use Rattle.ac_cloud.specs.World.{Provider}
-use Rattle.ac_prune.specs.Search.{Search}
+use Rattle.ac_prune.specs.Search.{Search, choices_at}
 use Rattle.ac_search.specs.Search.{next_front, left_from}
 use Rattle.ac_prune.specs.QuerySearch.{search_of}
 use Rattle.ac_search.specs.Between.{open_between}
@@ -73,9 +73,16 @@ search_in w = search_of (cloud_in w) (query_in w)
 abbrev pub path_in : Walk → List ℕ
 path_in w = take w.depth w.path.items
 
+-- the place of the next choice, and all choices of its slot
+abbrev pub place_in : Walk → ℕ
+place_in w = slice_index w.places.items w.depth
+
+abbrev pub slot_in : Walk → List ℕ
+slot_in w = choices_at (search_in w) w.depth
+
 -- the front that it tries next
 abbrev pub front_in : Walk → List ℕ
-front_in w = next_front (search_in w) w.path.items w.places.items w.depth
+front_in w = next_front (search_in w) (path_in w) w.depth (place_in w)
 
 -- the candidates that it will still give
 abbrev pub left_of : Walk → List (List ℕ)

@@ -1,5 +1,5 @@
 //! Trying a provider behind the path of a walk, and taking it back.
-ghost use Rattle.std.specs.Prelude.{◌≡◌, ◌+◌, ◌<◌, ◌≤◌, ◌++◌, ◌∷◌, [], length, take, true, false, suc, MatchOption, IsTrue, ◌↔◌, slice_index, slice_set};
+ghost use Rattle.std.specs.Prelude.{◌≡◌, ◌<◌, ◌≤◌, length, true, suc, MatchOption, IsTrue, ◌↔◌, slice_set};
 ghost use Rattle.std.specs.List.{All};
 ghost use Rattle.ac_base.specs.Devices.{one_more};
 ghost use Rattle.ac_query.specs.Asked.{slots_of};
@@ -7,7 +7,6 @@ ghost use Rattle.ac_query.specs.Shown.Queries.{asked_of};
 ghost use Rattle.ac_cloud.specs.Cloud.CloudWorld.{providers_of};
 ghost use Rattle.ac_prune.specs.Left.Accounts.{providers_in, asked_in};
 ghost use Rattle.ac_rules.specs.Judge.{is_open};
-ghost use Rattle.ac_prune.specs.Search.{IsDead, choices_at, next_at};
 ghost use Rattle.ac_search.specs.Search.{IsStart, Enters, HasAt, least_at};
 ghost use Rattle.ac_prune.specs.QuerySearch.{completes};
 
@@ -17,17 +16,13 @@ use ac_query::Query;
 use ac_rules::Assignment;
 
 impl<'a> Walk<'a> {
-    ghost use Rattle.ac_search.specs.Shown.Walk.{search_in, IsSame};
-    ghost use Rattle.ac_search.specs.Search.Steps.{StepGives, Goes};
+    ghost use Rattle.ac_search.specs.Shown.Walk.{search_in, place_in, slot_in, path_in, front_in, IsSame};
+    ghost use Rattle.ac_search.specs.Search.Steps.{IsNext, Goes, Skips, StepGives};
 
     // The next provider to try, where the slot has one more.
     pub(super) fn choice(&self) -> Option<u32>
-        ensures { MatchOption result (length (choices_at (search_in self.now) self.now.depth)
-            ≤ slice_index self.now.places.items self.now.depth)
-            (λ p. (slice_index self.now.places.items self.now.depth
-            < length (choices_at (search_in self.now) self.now.depth))
-            × (p ≡ next_at (search_in self.now) self.now.depth
-            (slice_index self.now.places.items self.now.depth))) }
+        ensures { MatchOption result (length (slot_in self.now) ≤ place_in self.now)
+            (IsNext self.now) }
     {
         let choices = &self.choices[self.depth];
         let place = self.places[self.depth];
@@ -41,74 +36,43 @@ impl<'a> Walk<'a> {
     // Writes the provider that is tried behind the path.
     fn put(&mut self, provider: u32)
         ensures same { IsSame self.old self.new }
-        ensures path { self.new.path.items ≡ slice_set self.old.path.items self.old.depth provider }
-        ensures places { self.new.places.items ≡ self.old.places.items }
+        ensures whole { self.new.path.items
+            ≡ slice_set self.old.path.items self.old.depth provider }
+        ensures path { path_in self.new ≡ path_in self.old }
         ensures depth { self.new.depth ≡ self.old.depth }
+        ensures place { place_in self.new ≡ place_in self.old }
         ensures probes { self.new.probes ≡ self.old.probes }
     {
         self.path[self.depth] = provider;
     }
 
-    // Whether the path is open with the provider that is put behind it; where it says no, no candidate goes on from there.
-    fn stays_open(&self) -> bool
-        requires among { slice_index self.now.places.items self.now.depth
-            < length (choices_at (search_in self.now) self.now.depth) }
-        requires put { slice_index self.now.path.items self.now.depth
-            ≡ next_at (search_in self.now) self.now.depth
-            (slice_index self.now.places.items self.now.depth) }
-        ensures opens { result ≡ true → is_open (providers_in self.now.ledger)
-            (asked_in self.now.ledger) (take (suc self.now.depth) self.now.path.items) ≡ true }
-        ensures dead { result ≡ false → IsDead (search_in self.now)
-            (take (suc self.now.depth) self.now.path.items) }
+    // Whether the path is open with the next choice behind it.
+    fn stays_open(&self, provider: u32) -> bool
+        requires { IsNext self.now provider }
+        ensures { result ≡ is_open (providers_in self.now.ledger) (asked_in self.now.ledger)
+            (front_in self.now) }
     {
-        self.ledger
-            .admits(&self.path[..self.depth], self.path[self.depth])
-    }
-
-    // Whether the whole path meets what isn't asked of its fronts.
-    fn is_complete(&self) -> bool
-        requires among { slice_index self.now.places.items self.now.depth
-            < length (choices_at (search_in self.now) self.now.depth) }
-        requires put { slice_index self.now.path.items self.now.depth
-            ≡ next_at (search_in self.now) self.now.depth
-            (slice_index self.now.places.items self.now.depth) }
-        requires last { suc self.now.depth ≡ (search_in self.now).width }
-        ensures { result ≡ completes (providers_in self.now.ledger)
-            (asked_in self.now.ledger) self.now.path.items }
-    {
-        completes(self.ledger.cloud, self.ledger.query, self.path.as_slice())
+        self.ledger.admits(&self.path[..self.depth], provider)
     }
 
     // Goes on to the next choice of the slot, after so many tries.
     pub(super) fn skip(&mut self, tries: u64)
-        requires among { slice_index self.old.places.items self.old.depth
-            < length (choices_at (search_in self.old) self.old.depth) }
+        requires among { place_in self.old < length (slot_in self.old) }
         requires counted { tries ≡ one_more self.old.probes }
-        ensures same { IsSame self.old self.new }
+        ensures skips { Skips self.old self.new }
         ensures path { self.new.path.items ≡ self.old.path.items }
-        ensures depth { self.new.depth ≡ self.old.depth }
-        ensures places { self.new.places.items ≡ slice_set self.old.places.items self.old.depth
-            (slice_index self.old.places.items self.old.depth + 1) }
-        ensures probes { self.new.probes ≡ tries }
     {
         self.probes = tries;
         self.places[self.depth] += 1;
         self.seeking = false;
     }
 
-    // Where the next slot begins behind a provider, and whether the path is a front of the least list there.
+    // Where the next slot begins behind the next choice, and whether the path is a front of the least list there.
     fn entry(&self, provider: u32) -> (usize, bool)
-        requires among { slice_index self.now.places.items self.now.depth
-            < length (choices_at (search_in self.now) self.now.depth) }
-        requires next { provider ≡ next_at (search_in self.now) self.now.depth
-            (slice_index self.now.places.items self.now.depth) }
+        requires next { IsNext self.now provider }
         requires short { suc self.now.depth < (search_in self.now).width }
-        ensures within { result.0 ≤ length (choices_at (search_in self.now) (suc self.now.depth)) }
-        ensures enters { Enters (search_in self.now) self.now.least.items
-            (take self.now.depth self.now.path.items ++ provider ∷ [])
+        ensures { Enters (search_in self.now) self.now.least.items (front_in self.now)
             (suc self.now.depth) result.0 result.1 }
-        ensures seeks { result.1 ≡ true → take self.now.depth self.now.path.items ++ provider ∷ []
-            ≡ take (suc self.now.depth) self.now.least.items }
     {
         if self.seeking {
             if has_at(&self.least, self.depth, provider) {
@@ -120,24 +84,20 @@ impl<'a> Walk<'a> {
         (0, false)
     }
 
-    // Goes down behind the provider that is put, after so many tries.
-    fn place(&mut self, tries: u64)
-        requires among { slice_index self.old.places.items self.old.depth
-            < length (choices_at (search_in self.old) self.old.depth) }
-        requires put { slice_index self.old.path.items self.old.depth
-            ≡ next_at (search_in self.old) self.old.depth
-            (slice_index self.old.places.items self.old.depth) }
+    // Goes down behind the next choice, after so many tries.
+    fn place(&mut self, provider: u32, tries: u64)
+        requires next { IsNext self.old provider }
         requires opens { is_open (providers_in self.old.ledger) (asked_in self.old.ledger)
-            (take (suc self.old.depth) self.old.path.items) ≡ true }
+            (front_in self.old) ≡ true }
         requires short { suc self.old.depth < (search_in self.old).width }
         requires counted { tries ≡ one_more self.old.probes }
         ensures goes { Goes self.old self.new }
         ensures probes { self.new.probes ≡ tries }
     {
         let depth = self.depth;
-        let provider = self.path[depth];
         let (start, seeking) = self.entry(provider);
         self.ledger.take(&self.path[..depth], provider);
+        self.path[depth] = provider;
         self.places[depth + 1] = start;
         self.depth = depth + 1;
         self.seeking = seeking;
@@ -147,8 +107,7 @@ impl<'a> Walk<'a> {
     // Takes the last provider of the path back, and goes on to the next choice there.
     fn take_back(&mut self)
         requires deep { 0 < self.old.depth }
-        requires end { length (choices_at (search_in self.old) self.old.depth)
-            ≤ slice_index self.old.places.items self.old.depth }
+        requires end { length (slot_in self.old) ≤ place_in self.old }
         ensures goes { Goes self.old self.new }
         ensures probes { self.new.probes ≡ self.old.probes }
     {
@@ -161,32 +120,28 @@ impl<'a> Walk<'a> {
 
     // Tests a provider behind the path, and counts the try. Choices that are passed over are counted by `pass_over`.
     pub(super) fn probe(&mut self, provider: u32) -> Step
-        requires among { slice_index self.old.places.items self.old.depth
-            < length (choices_at (search_in self.old) self.old.depth) }
-        requires next { provider ≡ next_at (search_in self.old) self.old.depth
-            (slice_index self.old.places.items self.old.depth) }
+        requires { IsNext self.old provider }
         ensures gives { StepGives result self.old self.new }
         ensures probes { self.new.probes ≡ one_more self.old.probes }
     {
-        self.put(provider);
         let tries = one_more(self.probes);
-        if !self.stays_open() {
+        if !self.stays_open(provider) {
             self.skip(tries);
             return Step::Went;
         }
         if self.depth + 1 < self.path.len() {
-            self.place(tries);
+            self.place(provider, tries);
             return Step::Went;
         }
-        let complete = self.is_complete();
+        self.put(provider);
+        let complete = completes(self.ledger.cloud, self.ledger.query, self.path.as_slice());
         self.skip(tries);
         if complete { Step::Given } else { Step::Went }
     }
 
     // Leaves a slot whose choices are at their end.
     pub(super) fn leave(&mut self) -> Step
-        requires { length (choices_at (search_in self.old) self.old.depth)
-            ≤ slice_index self.old.places.items self.old.depth }
+        requires { length (slot_in self.old) ≤ place_in self.old }
         ensures gives { StepGives result self.old self.new }
         ensures probes { self.new.probes ≡ self.old.probes }
     {

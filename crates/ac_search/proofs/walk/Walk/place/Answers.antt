@@ -1,53 +1,65 @@
-use Rattle.std.proofs.Common.{◌≡◌, ℕ, ◌+◌, suc, true, List, [], ◌∷◌, ◌++◌, slice_index, refl, arith, sym, subst}
-use Rattle.ac_base.specs.Devices.{Rises}
-use Rattle.ac_rules.specs.Judge.{is_open}
-use Rattle.ac_prune.specs.Left.Accounts.{providers_in, asked_in, Accounts}
-use Rattle.ac_search.specs.Shown.Walk.{search_in, path_in, changed}
-use Rattle.ac_search.proofs.Steps.ChangeLemmas.{changed_more, one_more_kept, one_more_most, one_more_some, one_more_rises, one_more_pays}
-use Rattle.ac_search.proofs.Steps.MoveLemmas.{sound_place, left_place, forward_place, front_back}
-use Rattle.ac_search.proofs.Steps.PathLemmas.{read_path, put_low, front_put}
+use Rattle.std.proofs.Common.{◌≡◌, ◌+◌, ℕ, suc, [], ◌∷◌, ◌++◌, take, set, refl, sym, ap, ◌∙◌, arith, get_or-set_same, length-set, length-append}
+use Rattle.std.proofs.Math.Seq.{take-suc, take-suc-set}
+use Rattle.std.proofs.lemmas.List.{take-set}
+use Rattle.ac_search.specs.Shown.Walk.{search_in, place_in, path_in, front_in, changed}
+use Rattle.ac_search.specs.declared.walk.Walk.{Walk}
+use Rattle.ac_search.specs.Search.Steps.{IsNext}
+use Rattle.ac_prune.specs.Search.{next_at}
+use Rattle.ac_prune.proofs.Search.SoughtLemmas.{low_at}
+use Rattle.ac_search.proofs.Search.FrontOrder.{lex_longer}
+use Rattle.ac_search.proofs.Search.BoundLemmas.{left_place}
+use Rattle.ac_search.proofs.Steps.ChangeLemmas.{changed_more, one_more_kept, one_more_most, one_more_some, one_more_pays}
+use Rattle.ac_search.proofs.Steps.MoveLemmas.{sound_place}
 use Rattle.ac_search.proofs.Steps.StepLemmas.{laws_in}
 use Rattle.ac_search.proofs.walk.Walk.place.Goals as goal
 
+-- the path with the next choice behind it, and the places of its choices
+front_put : (w : Walk) (p : ℕ) → IsNext w p → take (suc w.depth) (set w.path.items w.depth p) ≡ front_in w
+front_put w p next = take-suc-set w.path.items w.depth p (omega (arith, w.path_len, w.sound.within)) ∙ ap (λ (r : ℕ). path_in w ++ r ∷ []) next.is
+
+used_put : (w : Walk) (k : ℕ) → take (suc w.depth) (set w.places.items (suc w.depth) k) ≡ take w.depth w.places.items ++ place_in w ∷ []
+used_put w k = take-set w.places.items (suc w.depth) k ∙ take-suc w.places.items w.depth 0 (omega (arith, w.places_len, w.sound.within))
+
 pub take-requires-clause-provider : goal.take-requires-clause-provider
-take-requires-clause-provider c = put_low c.args.self.now c.index-provider.result.now (record { among = c.requires.among; put = c.requires.put }) c.index-provider.ensures
+take-requires-clause-provider c =
+    let w = c.args.self.now in
+    rw c.requires.next.is (low_at (search_in w) (laws_in w) w.depth (place_in w) w.sound.within c.requires.next.among)
 
 pub take-requires-clause-open : goal.take-requires-clause-open
-take-requires-clause-open c =
-    let w = c.args.self.now in
-    subst (λ (u : List ℕ). is_open (providers_in w.ledger) (asked_in w.ledger) u ≡ true) (front_put w c.deref.result.now c.index-provider.result.now c.deref.ensures.value c.index-provider.ensures) c.requires.opens
+take-requires-clause-open c = rw (c.deref.ensures.value, c.requires.next.is) c.requires.opens
 
-pub invariant_of-self-2 : goal.invariant_of-self-2
-invariant_of-self-2 c =
+pub invariant_of-self : goal.invariant_of-self
+invariant_of-self c =
     let w = c.args.self.now in
-    let m = search_in w in
-    let same = read_path w w.depth c.index-provider.result.now (omega arith) c.index-provider.ensures in
     let next : w.depth + 1 ≡ suc w.depth = omega arith in
-    let opens = subst (λ (u : List ℕ). m.is_open u ≡ true) (front_back w.path.items w.depth (omega (arith, w.sound.path_len, w.sound.within))) c.requires.opens in
+    let start = c.entry-start.result.0 in
     record {
       resumed = rw (c.take.ensures.same.cloud, c.take.ensures.same.query) w.resumed;
       listed = rw (c.take.ensures.same.cloud, c.take.ensures.same.query) w.listed;
       looking = rw (c.take.ensures.same.cloud, c.take.ensures.same.query) w.looking;
-      accounted = rw next (subst (Accounts c.take.new.self) (sym (front_put w c.deref.result.now c.index-provider.result.now c.deref.ensures.value c.index-provider.ensures)) c.take.ensures.accounts);
-      sound = rw (c.take.ensures.same.cloud, c.take.ensures.same.query, next) (sound_place m (laws_in w) w.least.items w.path.items w.places.items w.depth w.seeking c.entry-start.result.1 w.probes c.args.tries c.entry-start.result.0
-          w.sound c.requires.short c.requires.among c.requires.put opens c.entry-start.ensures.within (rw same at c.entry-start.ensures.enters) (rw same at c.entry-start.ensures.seeks) (omega (arith, c.requires.counted, one_more_most w.probes)) (omega (arith, c.requires.counted, one_more_some w.probes)));
+      path_len = rw c.take.ensures.same.query (length-set w.path.items w.depth c.args.provider ∙ w.path_len);
+      places_len = rw c.take.ensures.same.query (length-set w.places.items (w.depth + 1) start ∙ w.places_len);
+      accounted = rw (next, front_put w c.args.provider c.requires.next) (rw (c.deref.ensures.value, c.requires.next.is) at c.take.ensures.accounts);
+      sound = rw (c.take.ensures.same.cloud, c.take.ensures.same.query, next, front_put w c.args.provider c.requires.next, used_put w start, get_or-set_same w.places.items (suc w.depth) start 0 (omega (arith, w.places_len, c.requires.short)))
+          (sound_place (laws_in w) w.sound start c.args.tries c.entry-start.result.1 c.requires.short c.requires.next.among c.requires.opens c.entry-start.ensures
+          (omega (arith, c.requires.counted, one_more_most w.probes)) (omega (arith, c.requires.counted, one_more_some w.probes)));
     }
 
 pub returns-clause-goes : goal.returns-clause-goes
 returns-clause-goes c =
     let w = c.args.self.now in
     let m = search_in w in
-    let same = read_path w w.depth c.index-provider.result.now (omega arith) c.index-provider.ensures in
     let next : w.depth + 1 ≡ suc w.depth = omega arith in
-    let q = path_in w in
+    let start = c.entry-start.result.0 in
+    let there = get_or-set_same w.places.items (suc w.depth) start 0 (omega (arith, w.places_len, c.requires.short)) in
+    let front = front_put w c.args.provider c.requires.next in
+    let p = next_at m w.depth (place_in w) in
     record {
       same = record { cloud = c.take.ensures.same.cloud; query = c.take.ensures.same.query; after = refl; least = refl };
-      left = rw (c.take.ensures.same.cloud, c.take.ensures.same.query, next)
-          (sym (left_place m (laws_in w) w.least.items w.path.items w.places.items w.depth c.entry-start.result.0 c.entry-start.result.1 w.sound.path_len w.sound.places_len c.requires.short c.requires.put (rw same at c.entry-start.ensures.enters)));
-      up = rw (c.take.ensures.same.cloud, c.take.ensures.same.query, next)
-          (forward_place m w.path.items w.places.items w.depth c.entry-start.result.0 (omega (arith, w.sound.path_len, w.sound.within)) (omega (arith, w.sound.places_len, c.requires.short)) c.requires.put);
+      left = rw (c.take.ensures.same.cloud, c.take.ensures.same.query, next, front, there)
+          (sym (left_place m w.least.items (front_in w) (suc w.depth) start c.entry-start.result.1 (length-append (path_in w) (p ∷ []) ∙ omega (arith, w.sound.long)) c.requires.short c.entry-start.ensures));
+      up = rw (c.take.ensures.same.cloud, c.take.ensures.same.query, next, front, there) (lex_longer (front_in w) (next_at m (suc w.depth) start) []);
       kept = omega (arith, c.requires.counted, one_more_kept w.probes);
-      rises = λ _. subst (Rises w.probes) (sym c.requires.counted) (one_more_rises w.probes);
-      tried = λ x n h. rw (next, c.requires.counted, front_back w.path.items w.depth (omega (arith, w.sound.path_len, w.sound.within)))
-          (one_more_pays (n + changed x q) (n + changed x (q ++ slice_index w.path.items w.depth ∷ [])) w.probes (omega (arith, changed_more x q (slice_index w.path.items w.depth))) h);
+      counted = λ _. c.requires.counted;
+      tried = λ x n h. rw (next, c.requires.counted, front) (one_more_pays (n + changed x (path_in w)) (n + changed x (front_in w)) w.probes (omega (arith, changed_more x (path_in w) p)) h);
     }

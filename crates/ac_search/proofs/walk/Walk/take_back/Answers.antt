@@ -1,65 +1,71 @@
-use Rattle.std.proofs.Common.{◌≡◌, ℕ, ◌+◌, ◌-◌, ◌<◌, ◌≤◌, suc, true, List, Option, take, slice_index, set, arith, sym, ◌∙◌, subst, refl}
-use Rattle.std.proofs.lemmas.List.{get_or_default}
-use Rattle.ac_rules.specs.Order.{lex_lt}
-use Rattle.ac_search.specs.Search.{IsSound, next_front, left_from}
-use Rattle.ac_search.specs.Shown.Walk.{search_in, changed}
-use Rattle.ac_search.specs.declared.walk.Walk.{Walk}
-use Rattle.ac_search.proofs.Steps.ChangeLemmas.{changed_less, fewer_paid}
-use Rattle.ac_search.proofs.Steps.MoveLemmas.{sound_back, left_back, forward_back, front_back}
-use Rattle.ac_search.proofs.Steps.PathLemmas.{placed_low}
+use Rattle.std.proofs.Common.{◌≡◌, ◌+◌, ◌-◌, ℕ, suc, [], ◌∷◌, ◌++◌, take, refl, sym, ap, ◌∙◌, arith, get_or-set_same, length-set}
+use Rattle.std.specs.List.{slice_index}
+use Rattle.std.proofs.Math.Seq.{take-suc}
+use Rattle.std.proofs.lemmas.List.{take-set, get_or_default}
+use Rattle.ac_search.specs.Shown.Walk.{search_in, path_in, changed}
+use Rattle.ac_prune.proofs.Search.SoughtLemmas.{low_at}
 use Rattle.ac_prune.proofs.Roots.TreeLemmas.{few_providers}
+use Rattle.ac_search.proofs.Search.BoundLemmas.{last_placed, back_rises, left_back}
+use Rattle.ac_search.proofs.Steps.ChangeLemmas.{changed_less, fewer_paid}
+use Rattle.ac_search.proofs.Steps.MoveLemmas.{sound_back}
+use Rattle.ac_search.proofs.Steps.PathLemmas.{deeper, front_deep}
 use Rattle.ac_search.proofs.Steps.StepLemmas.{laws_in}
 use Rattle.ac_search.proofs.walk.Walk.take_back.Goals as goal
 
--- it stands one below its depth
-deeper : (w : Walk) → 0 < w.depth → IsSound (search_in w) w.least.items w.path.items w.places.items (suc (w.depth - 1)) w.seeking w.probes
-deeper w h = subst (λ (d : ℕ). IsSound (search_in w) w.least.items w.path.items w.places.items d w.seeking w.probes) (omega arith) w.sound
-
 pub give_back-requires-clause-provider : goal.give_back-requires-clause-provider
-give_back-requires-clause-provider c = let w = c.args.self.now in placed_low w (w.depth - 1) c.index.result.now (omega (arith, c.requires.deep)) c.index.ensures
+give_back-requires-clause-provider c =
+    let w = c.args.self.now in
+    let e = w.depth - 1 in
+    let s = deeper w e (omega (arith, c.requires.deep)) in
+    let on = last_placed (laws_in w) (take e w.path.items) (take e w.places.items) (slice_index w.path.items e) (slice_index w.places.items e) s in
+    let read = c.index.ensures ∙ get_or_default w.path.items e c.index.result.now 0 (omega (arith, w.path_len, s.within)) in
+    omega (arith, read, on.1, low_at (search_in w) (laws_in w) e (slice_index w.places.items e) (omega (arith, s.within)) on.0)
 
 pub overflow_add-index_mut : goal.overflow_add-index_mut
 overflow_add-index_mut c =
     let w = c.args.self.now in
-    let s = deeper w c.requires.deep in
     let e = w.depth - 1 in
-    let on = s.placed e (omega arith) in
-    let few = (laws_in w).few e (omega (arith, s.within)) in
-    let cell : c.index_mut.result.now ≡ slice_index w.places.items e = c.index_mut.ensures.value ∙ get_or_default w.places.items e c.index_mut.result.now 0 (omega (arith, s.places_len, s.within)) in
-    omega (arith, few_providers w.ledger.cloud.now, on.0)
+    let s = deeper w e (omega (arith, c.requires.deep)) in
+    let on = last_placed (laws_in w) (take e w.path.items) (take e w.places.items) (slice_index w.path.items e) (slice_index w.places.items e) s in
+    let read = c.index_mut.ensures.value ∙ get_or_default w.places.items e c.index_mut.result.now 0 (omega (arith, w.places_len, s.within)) in
+    omega (arith, read, on.0, (laws_in w).few e (omega (arith, s.within)), few_providers w.ledger.cloud.now)
 
 pub invariant_of-self : goal.invariant_of-self
 invariant_of-self c =
     let w = c.args.self.now in
-    let s = deeper w c.requires.deep in
     let e = w.depth - 1 in
-    let place : c.index_mut.result.now ≡ slice_index w.places.items e = c.index_mut.ensures.value ∙ get_or_default w.places.items e c.index_mut.result.now 0 (omega (arith, s.places_len, s.within)) in
+    let s = deeper w e (omega (arith, c.requires.deep)) in
+    let place = c.index_mut.ensures.value ∙ get_or_default w.places.items e c.index_mut.result.now 0 (omega (arith, w.places_len, s.within)) in
+    let a = slice_index w.places.items e in
     record {
       resumed = rw (c.give_back.ensures.same.cloud, c.give_back.ensures.same.query) w.resumed;
       listed = rw (c.give_back.ensures.same.cloud, c.give_back.ensures.same.query) w.listed;
       looking = rw (c.give_back.ensures.same.cloud, c.give_back.ensures.same.query) w.looking;
+      path_len = rw c.give_back.ensures.same.query w.path_len;
+      places_len = rw c.give_back.ensures.same.query (length-set w.places.items e _ ∙ w.places_len);
       accounted = rw c.deref.ensures.value at c.give_back.ensures.accounts;
-      sound = rw (c.give_back.ensures.same.cloud, c.give_back.ensures.same.query, place) (sound_back (search_in w) (laws_in w) w.least.items w.path.items w.places.items e w.seeking w.probes s);
+      sound = rw (c.give_back.ensures.same.cloud, c.give_back.ensures.same.query, place, take-set w.places.items e (a + 1), get_or-set_same w.places.items e (a + 1) 0 (omega (arith, w.places_len, s.within)))
+          (sound_back (laws_in w) (take e w.path.items) (take e w.places.items) (slice_index w.path.items e) a s);
     }
 
 pub returns-clause-goes : goal.returns-clause-goes
 returns-clause-goes c =
     let w = c.args.self.now in
-    let m = search_in w in
-    let s = deeper w c.requires.deep in
     let e = w.depth - 1 in
-    let deep : suc e ≡ w.depth = omega (arith, c.requires.deep) in
-    let on = s.placed e (omega arith) in
-    let place : c.index_mut.result.now ≡ slice_index w.places.items e = c.index_mut.ensures.value ∙ get_or_default w.places.items e c.index_mut.result.now 0 (omega (arith, s.places_len, s.within)) in
-    let less : (x : Option (List ℕ)) → changed x (take e w.path.items) ≤ changed x (take (suc e) w.path.items) = λ x. rw (front_back w.path.items e (omega (arith, s.path_len, s.within))) (changed_less x (take e w.path.items) (slice_index w.path.items e)) in
-    let after = next_front m w.path.items (set w.places.items e (slice_index w.places.items e + 1)) e in
+    let deep : w.depth ≡ suc e = omega (arith, c.requires.deep) in
+    let s = deeper w e deep in
+    let q = take e w.path.items in
+    let used = take e w.places.items in
+    let p = slice_index w.path.items e in
+    let a = slice_index w.places.items e in
+    let place = c.index_mut.ensures.value ∙ get_or_default w.places.items e c.index_mut.result.now 0 (omega (arith, w.places_len, s.within)) in
+    let there = get_or-set_same w.places.items e (a + 1) 0 (omega (arith, w.places_len, s.within)) in
+    let path : path_in w ≡ q ++ p ∷ [] = ap (λ (i : ℕ). take i w.path.items) deep ∙ take-suc w.path.items e 0 (omega (arith, w.path_len, s.within)) in
     record {
       same = record { cloud = c.give_back.ensures.same.cloud; query = c.give_back.ensures.same.query; after = refl; least = refl };
-      left = rw (c.give_back.ensures.same.cloud, c.give_back.ensures.same.query, place) (sym (subst (λ (d : ℕ). left_from m w.least.items (next_front m w.path.items w.places.items d) ≡ left_from m w.least.items after) deep
-          (left_back m (laws_in w) w.path.items w.places.items w.least.items e s.path_len s.places_len s.within on.0 on.1 (rw deep c.requires.end))));
-      up = rw (c.give_back.ensures.same.cloud, c.give_back.ensures.same.query, place) (subst (λ (d : ℕ). lex_lt (next_front m w.path.items w.places.items d) after ≡ true) deep
-          (forward_back m (laws_in w) w.path.items w.places.items e (omega (arith, s.path_len, s.within)) (omega (arith, s.places_len, s.within)) (omega (arith, s.within)) on.0 on.1));
+      left = rw (c.give_back.ensures.same.cloud, c.give_back.ensures.same.query, place, there, front_deep w e deep) (sym (left_back (laws_in w) q used p a s (rw deep at c.requires.end)));
+      up = rw (c.give_back.ensures.same.cloud, c.give_back.ensures.same.query, place, there, front_deep w e deep) (back_rises (laws_in w) q used p a s);
       kept = omega arith;
-      rises = λ deep. absurd (omega (arith, c.requires.deep));
-      tried = λ x n h. fewer_paid (n + changed x (take (suc e) w.path.items)) (n + changed x (take e w.path.items)) w.probes (omega (arith, less x)) (rw deep h);
+      counted = λ up. absurd (omega (arith, c.requires.deep));
+      tried = λ x n h. fewer_paid (n + changed x (q ++ p ∷ [])) (n + changed x q) w.probes (omega (arith, changed_less x q p)) (rw path at h);
     }
