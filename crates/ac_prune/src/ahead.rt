@@ -4,9 +4,9 @@ ghost use Rattle.std.specs.Prelude.{◌≡◌, ◌+◌, ◌-◌, ◌/◌, ◌<�
 ghost use Rattle.std.specs.List.{range_with_len};
 ghost use Rattle.ac_base.specs.Names.{class_bytes};
 ghost use Rattle.ac_cloud.specs.Cloud.CloudWorld.{providers_of};
-ghost use Rattle.ac_prune.specs.Left.Accounts.{providers_in, asked_in, texts_in, columns_in};
+ghost use Rattle.ac_prune.specs.Left.Accounts.{providers_in, asked_in, texts_in, left_in};
 ghost use Rattle.ac_prune.specs.Ahead.{load_of, hosts_of, IsHosted};
-ghost use Rattle.ac_prune.specs.Left.{IsKnown, left_at};
+ghost use Rattle.ac_prune.specs.Left.{IsKnown};
 ghost use Rattle.ac_prune.specs.Fronts.{search_at};
 ghost use Rattle.ac_prune.specs.Search.{IsDead};
 ghost use Rattle.ac_prune.specs.Trees.{HasProviders};
@@ -97,9 +97,9 @@ impl Ahead {
         requires trees { HasProviders (providers_in ledger.now) self.now }
         requires whole { self.now.trees.count ≡ length (providers_in ledger.now) }
         requires root { root < length (providers_in ledger.now) }
-        requires class { class < length (texts_in ledger.now) }
+        requires class { class < length ledger.now.classes.items }
         requires some { 0 < amount }
-        ensures { min (load_of (λ p. left_at (columns_in ledger.now) p class / amount)
+        ensures { min (load_of (λ p. left_in ledger.now p class / amount)
             (hosts_of (providers_in ledger.now) root)) (2 ^ 64 - 1) ≤ result }
     {
         let mut pieces = 0u64;
@@ -109,7 +109,7 @@ impl Ahead {
             if ix >= self.trees.len() {
                 return pieces;
             }
-            pieces = pieces.saturating_add(ledger.columns[class][ix] / amount);
+            pieces = pieces.saturating_add(ledger.left(ix, class) / amount);
             from = ix + 1;
         }
         u64::MAX

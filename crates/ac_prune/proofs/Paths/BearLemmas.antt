@@ -14,13 +14,14 @@ use Rattle.ac_prune.specs.Marks.{needs_own}
 use Rattle.ac_rules.specs.Together.{amount_of, sum_on, holds, holds_sums, sums, is_set_apart, are_apart, all_apart, isolate}
 use Rattle.ac_rules.specs.Judge.{is_open}
 use Rattle.ac_prune.specs.QuerySearch.{fits}
-use Rattle.ac_prune.specs.Ahead.{weight_on, later, Bears, left_on, asks_much, asks_own, lone_much, is_kept, serves}
+use Rattle.ac_prune.specs.Ahead.{weight_on, later, Bears, left_on, asks_much, asks_own, lone_much, serves}
 use Rattle.ac_rules.proofs.Elements.{each_weaker, each_both}
 use Rattle.ac_rules.proofs.PlacedLemmas.{placed_append}
 use Rattle.ac_rules.proofs.EachSlot.FrontLemmas.{Opens, open_parts, all_weaker, room_less}
 use Rattle.ac_rules.proofs.EachSlot.FullLemmas.{full_from}
 use Rattle.ac_prune.proofs.Paths.LeftLemmas.{room_enough}
 use Rattle.ac_prune.proofs.Roots.CountLemmas.{load_append, load_weaker, load_times}
+use Rattle.ac_prune.proofs.Roots.HostLemmas.{all_behind}
 
 -- the parts of an open list, front and later slots
 pub open_split : (all : List Provider) (asked : Asked) (q v : List ℕ) → is_open all asked (q ++ v) ≡ true → Opens all asked (assigned asked q ++ placed (later asked q) v)
@@ -92,28 +93,14 @@ apart_one (x ∷ xs) p h =
       | inr e ↦ let other = ne_eqb x.provider p e in rw other (omega (arith, more))
     ]
 
-kept_weighs : (xs : List Placed) (p : ℕ) → is_kept xs p ≡ true → 1 ≤ weight_on asks_own xs p
-kept_weighs [] p h = absurd (false≢true h)
-kept_weighs (x ∷ xs) p h = elim (cases_Bool (is_set_apart x.slot)) [
-  | inl s ↦ elim (cases_Bool (x.provider == p)) [
-    | inl e ↦ rw (e, s) (omega arith)
-    | inr e ↦ let more = kept_weighs xs p (rw (s, e) at h) in rw e (omega (arith, more))
-  ]
-  | inr s ↦ let more = kept_weighs xs p (rw s at h) in omega (arith, more)
-]
-
-pub own_bears : (all : List Provider) (asked : Asked) (q : List ℕ) → is_isolated asked ≡ true → Bears all asked q asks_own (λ p. if is_kept (assigned asked q) p then 0 else 1)
+-- of the later slots at most one has a provider for itself
+own_one : (all : List Provider) (asked : Asked) (q v : List ℕ) → is_isolated asked ≡ true → is_open all asked (q ++ v) ≡ true → (p : ℕ) → weight_on asks_own (placed (later asked q) v) p ≤ 1
 unfolding isolate
-own_bears all asked q e v o p =
+own_one all asked q v e o p =
     let xs = assigned asked q in
     let ys = placed (later asked q) v in
     let apart : all_apart (xs ++ ys) ≡ true = rw e at (open_split all asked q v o).isolate in
-    let one = apart_one (xs ++ ys) p apart in
-    let both = load_append (λ (x : Placed). x.provider) (λ (x : Placed). asks_own x.slot) xs ys p in
-    elim (cases_Bool (is_kept xs p)) [
-      | inl k ↦ let some = kept_weighs xs p k in rw k (omega (arith, one, both, some))
-      | inr k ↦ rw k (omega (arith, one, both))
-    ]
+    omega (arith, apart_one (xs ++ ys) p apart, load_append (λ (x : Placed). x.provider) (λ (x : Placed). asks_own x.slot) xs ys p)
 
 pub bears_weaker : (all : List Provider) (asked : Asked) (q : List ℕ) (f g : Slot → ℕ) (room : ℕ → ℕ) → ((s : Slot) → f s ≤ g s) → Bears all asked q g room → Bears all asked q f room
 bears_weaker all asked q f g room less bears v o p =
@@ -134,12 +121,8 @@ each_part (y ∷ ys) = (
   each_weaker (λ z. (c : List ℕ) → amount_of z.slot.needs c ≤ sum_on ys z.provider c) (λ z. (c : List ℕ) → amount_of z.slot.needs c ≤ sum_on (y ∷ ys) z.provider c) ys (λ z h c. let less = h c in omega (arith, less)) (each_part ys),
 )
 
-each_behind : {X : Type 0} (P : X → Type 0) (xs ys : List X) → Each P (xs ++ ys) → Each P ys
-each_behind P [] ys h = h
-each_behind P (x ∷ xs) ys h = each_behind P xs ys h.1
-
 behind_true : {X : Type 0} (f : X → Bool) (xs ys : List X) → list_all f (xs ++ ys) ≡ true → Each (λ y. f y ≡ true) ys
-behind_true f xs ys h = each_behind (λ y. f y ≡ true) xs ys (each_true f (xs ++ ys) h)
+behind_true f xs ys h = each_true f ys (all_behind f xs ys h)
 
 one_serves : (all : List Provider) (asked : Asked) (q : List ℕ) (ys : List Placed) (y : Placed) → ((c : List ℕ) → amount_of y.slot.needs c ≤ sum_on ys y.provider c)
     → units_fit all y ≡ true → traits_fit all y ≡ true → aggregates_fit all y ≡ true → tree_fits all y ≡ true → holds_sums all (assigned asked q ++ ys) y ≡ true
@@ -194,10 +177,8 @@ load_nothing f h (x ∷ xs) p = let here = h x.slot in let more = load_nothing f
 
 lone_one : (all : List Provider) (asked : Asked) (q : List ℕ) (c : List ℕ) (a : ℕ) (v : List ℕ) → is_open all asked (q ++ v) ≡ true → (p : ℕ) → weight_on (lone_much asked c a) (placed (later asked q) v) p ≤ 1
 lone_one all asked q c a v o p = elim (cases_Bool (is_isolated asked)) [
-  | inl i ↦
-      let most = bears_weaker all asked q (lone_much asked c a) asks_own _ (lone_own asked c a) (own_bears all asked q i) v o p in
-      elim (cases_Bool (is_kept (assigned asked q) p)) [ inl k ↦ let none = rw k at most in omega (arith, none) | inr k ↦ let one = rw k at most in omega (arith, one) ]
-  | inr i ↦ let none = load_nothing (lone_much asked c a) (λ s. rw i refl) (placed (later asked q) v) p in omega (arith, none)
+  | inl i ↦ omega (arith, own_one all asked q v i o p, load_weaker (λ (x : Placed). x.provider) (λ (x : Placed). lone_much asked c a x.slot) (λ (x : Placed). asks_own x.slot) (placed (later asked q) v) p (λ x. lone_own asked c a x.slot))
+  | inr i ↦ omega (arith, load_nothing (lone_much asked c a) (λ s. rw i refl) (placed (later asked q) v) p)
 ]
 
 pub lone_bears : (all : List Provider) (asked : Asked) (q : List ℕ) (c : List ℕ) (a : ℕ) → 0 < a → Bears all asked q (lone_much asked c a) (λ p. min (left_on all asked q c p / a) 1)

@@ -19,7 +19,7 @@ use Rattle.ac_rules.specs.Room.{room_in}
 use Rattle.ac_rules.specs.Placed.{Placed}
 use Rattle.ac_rules.specs.Together.{amount_of, sum_on, has_room, holds, sums}
 use Rattle.ac_rules.specs.Laws.{AskAmounts, IsFull}
-use Rattle.ac_prune.specs.Left.{place_of, IsKnown, numbered, wanted, left_at, has_each, suffices, room_on, Moves, AreLeft}
+use Rattle.ac_prune.specs.Left.{place_of, IsKnown, numbered, wanted, has_each, suffices, room_on}
 use Rattle.ac_rules.proofs.EachSlot.FullLemmas.{sums_say_full}
 
 -- a class that is known stands at its place
@@ -93,7 +93,7 @@ less_holds all p c m some h = enough_room (inventory_of (provider_at all p) c) (
 
 -- ---- One more slot
 
-sum_more : (xs : List Placed) (x : Placed) (p : ℕ) (c : List ℕ) → sum_on (xs ++ x ∷ []) p c ≡ sum_on xs p c + (if x.provider == p then amount_of x.slot.needs c else 0)
+pub sum_more : (xs : List Placed) (x : Placed) (p : ℕ) (c : List ℕ) → sum_on (xs ++ x ∷ []) p c ≡ sum_on xs p c + (if x.provider == p then amount_of x.slot.needs c else 0)
 sum_more [] x p c = omega arith
 sum_more (y ∷ xs) x p c = let more = sum_more xs x p c in omega arith
 
@@ -209,57 +209,3 @@ sums_next all classes row xs x left known some more own fine = same_tests (sums 
 
     up : suffices row (map (numbered classes) x.slot.needs) ≡ true → sums all (xs ++ x ∷ []) ≡ true
     up h = (sums_say_full all (xs ++ x ∷ []) more).1 (full_next all classes row xs x left known ((sums_say_full all xs some).0 fine) h)
-
--- ---- Columns
-
--- one more slot takes its part
-pub left_more : (all : List Provider) (classes : List (List ℕ)) (columns new : List (List ℕ)) (xs : List Placed) (x : Placed)
-    → Each (λ need. IsKnown classes need.0) x.slot.needs → Moves columns x.provider (map (numbered classes) x.slot.needs) [] new
-    → AreLeft all classes columns xs → AreLeft all classes new (xs ++ x ∷ [])
-left_more all classes columns new xs x known takes left p c h k = elim (cases_eq x.provider p) [
-  | inl e ↦
-      let here = subst (λ (r : ℕ). left_at new r (place_of classes c) + wanted (map (numbered classes) x.slot.needs) (place_of classes c) ≡ left_at columns r (place_of classes c) + 0) e (takes.here (place_of classes c)) in
-      omega (arith, here, wanted_is classes x.slot.needs c known, sum_here xs x p c e, left p c h k)
-  | inr e ↦
-      let same = takes.others p (place_of classes c) (λ s. e (sym s)) in
-      omega (arith, same, sum_other xs x p c e, left p c h k)
-]
-
--- and gives it back
-pub left_less : (all : List Provider) (classes : List (List ℕ)) (columns new : List (List ℕ)) (xs : List Placed) (x : Placed)
-    → Each (λ need. IsKnown classes need.0) x.slot.needs → Moves columns x.provider [] (map (numbered classes) x.slot.needs) new
-    → AreLeft all classes columns (xs ++ x ∷ []) → AreLeft all classes new xs
-left_less all classes columns new xs x known takes left p c h k = elim (cases_eq x.provider p) [
-  | inl e ↦
-      let here = subst (λ (r : ℕ). left_at new r (place_of classes c) + 0 ≡ left_at columns r (place_of classes c) + wanted (map (numbered classes) x.slot.needs) (place_of classes c)) e (takes.here (place_of classes c)) in
-      omega (arith, here, wanted_is classes x.slot.needs c known, sum_here xs x p c e, left p c h k)
-  | inr e ↦
-      let same = takes.others p (place_of classes c) (λ s. e (sym s)) in
-      omega (arith, same, sum_other xs x p c e, left p c h k)
-]
-
--- ---- What asks want of a provider
-
-wanted_at : (row : ℕ → ℕ) (asks ns : List (ℕ × ℕ)) (k : ℕ) → list_all (λ a. nat_le (wanted asks a.0) (row a.0)) ns ≡ true → 0 < wanted ns k → wanted asks k ≤ row k
-wanted_at row asks [] k h some = absurd (omega arith)
-wanted_at row asks (a ∷ ns) k h some =
-    let both = and_parts _ _ h in
-    elim (cases_eq a.0 k) [
-      | inl e ↦
-          let test : nat_le (wanted asks a.0) (row a.0) ≡ true = both.0 in
-          let less : wanted asks a.0 ≤ row a.0 = grind (arith, nat_tests) in
-          subst (λ (j : ℕ). wanted asks j ≤ row j) e less
-      | inr e ↦ let other = ne_eqb a.0 k e in let more = rw other at some in wanted_at row asks ns k both.1 (omega (arith, more))
-    ]
-
-pub wanted_fits : (row : ℕ → ℕ) (asks : List (ℕ × ℕ)) (k : ℕ) → suffices row asks ≡ true → wanted asks k ≤ row k
-wanted_fits row asks k h = elim (cases_lt 0 (wanted asks k)) [ inl l ↦ wanted_at row asks asks k h l | inr l ↦ omega (arith, l) ]
-
--- what is wanted of a number is wanted of a class that has it
-pub wanted_class : (classes : List (List ℕ)) (needs : List (List ℕ × ℕ)) (k : ℕ) → Each (λ need. IsKnown classes need.0) needs → 0 < wanted (map (numbered classes) needs) k
-    → (c : List ℕ) × (IsKnown classes c × (place_of classes c ≡ k))
-wanted_class classes [] k known some = absurd (omega arith)
-wanted_class classes (n ∷ needs) k known some = elim (cases_eq (place_of classes n.0) k) [
-  | inl e ↦ (n.0, (known.0, e))
-  | inr e ↦ let other = ne_eqb (place_of classes n.0) k e in let more = rw other at some in wanted_class classes needs k known.1 (omega (arith, more))
-]

@@ -11,12 +11,13 @@ use Rattle.ac_prune.specs.Left.Accounts.{providers_in, asked_in}
 use Rattle.ac_prune.specs.Families.{Names, IsFamily}
 use Rattle.ac_prune.specs.Fronts.{LeadsNowhere}
 use Rattle.ac_prune.specs.Parts.{IsNamed, AreParts}
-use Rattle.ac_prune.specs.QuerySearch.{choices_of}
+use Rattle.ac_prune.specs.QuerySearch.{choice_of}
+use Rattle.ac_rules.specs.Placed.{slot_at}
 use Rattle.ac_prune.specs.Trees.{IsByPart, AreByPart}
 use Rattle.ac_prune.specs.declared.by_tree.ByTree.{ByTree}
 use Rattle.ac_prune.specs.declared.families.Family.{Family}
 use Rattle.ac_prune.specs.declared.front.Front.{Front}
-use Rattle.ac_prune.proofs.Paths.FrontLemmas.{listed_at, slot_inside}
+use Rattle.ac_prune.proofs.Paths.FrontLemmas.{listed_at}
 use Rattle.ac_prune.proofs.Roots.PartLemmas.{named_at}
 
 -- a slot that is marked is named
@@ -30,7 +31,7 @@ marked_named asked names family s is mark =
     ]
 
 pub family_made : (all : List Provider) (asked : Asked) (names : List (List ℕ)) (family : Family) → family.named.items ≡ map (λ (x : Slot). lists_suffix names x.suffix) (slots_of asked)
-    → (family.first < length family.named.items → Names family family.first) → AreParts all asked names family.parts.items → AreByPart (choices_of all asked) family.parts.items family.places.items → IsFamily all asked family
+    → (family.first < length family.named.items → Names family family.first) → AreParts all asked names family.parts.items → AreByPart all asked family.parts.items family.places.items → IsFamily all asked family
 family_made all asked names family is first parts placed = record {
   named = ap length is ∙ length-map (slots_of asked) (λ (x : Slot). lists_suffix names x.suffix);
   first = first;
@@ -58,7 +59,9 @@ first_part f family d is less at =
 -- the choices behind the path, by part
 pub choices_by_part : (f : Front) (family : Family) (b : ByTree) → IsIn f family → b ≡ slice_index_or family.places.items (length f.path.now) b → IsByPart f.choices.now family.parts.items b
 choices_by_part f family b is at =
-    rw (listed_at f) (subst (IsByPart (slice_index_or (choices_of (providers_in f.ledger.now) (asked_in f.ledger.now)) (length f.path.now) []) family.parts.items) (sym at) (is.placed.each (length f.path.now) b (slot_inside f)))
+    let all = providers_in f.ledger.now in
+    let asked = asked_in f.ledger.now in
+    rw (listed_at f) (subst (IsByPart (choice_of all asked (slot_at asked (length f.path.now))) family.parts.items) (sym at) (is.placed.each (length f.path.now) b f.short))
 
 -- the last provider of a front, with what goes on from it
 last_is : (path v : List ℕ) (p : ℕ) → slice_index ((path ++ p ∷ []) ++ v) (length path) ≡ p

@@ -1,13 +1,13 @@
 -- What a root must have where a candidate stands.
-use Rattle.std.proofs.Common.{◌≡◌, ℕ, ◌<◌, Bool, true, List, [], ◌∷◌, ◌++◌, length, refl, sym, ◌∙◌, subst, arith, length-append, length-drop}
+use Rattle.std.proofs.Common.{◌≡◌, ℕ, ◌<◌, ◌&&◌, Bool, true, false, List, [], ◌∷◌, ◌++◌, length, refl, sym, ◌∙◌, subst, arith, length-append, length-drop}
 use Rattle.std.specs.List.{list_all, range_with_len, AllByRecursion as Each}
-use Rattle.std.proofs.lemmas.Bool.{and_parts}
+use Rattle.std.proofs.lemmas.Bool.{and_parts, and_from, false≢true, false_from_ne_true}
 use Rattle.std.proofs.lemmas.List.Elements.{recursion_from_All}
 use Rattle.std.proofs.lemmas.List.Folds.{list_all-append}
 use Rattle.ac_query.specs.Asked.{Asked, Slot, slots_of}
-use Rattle.ac_cloud.specs.World.{Provider, is_available_at}
+use Rattle.ac_cloud.specs.World.{Provider, is_available_at, anchors_of}
 use Rattle.ac_rules.specs.Placed.{Placed, placed, assigned}
-use Rattle.ac_rules.specs.Together.{hosts_all}
+use Rattle.ac_rules.specs.Together.{takes_root, hosts_all, anchor}
 use Rattle.ac_rules.specs.Judge.{is_candidate, is_open}
 use Rattle.ac_prune.specs.Ahead.{load_of, hosts_of, later, IsHosted, RoomsReach}
 use Rattle.ac_rules.proofs.Elements.{Among, among_filter}
@@ -16,6 +16,12 @@ use Rattle.ac_rules.proofs.PlacedLemmas.{placed_append}
 use Rattle.ac_rules.proofs.EachSlot.FrontLemmas.{Opens, candidate_opens}
 use Rattle.ac_prune.proofs.Search.OpenLemmas.{is_search}
 use Rattle.ac_prune.proofs.Roots.CountLemmas.{boxes_reach}
+use Rattle.ac_prune.proofs.Roots.TreeLemmas.{all_there, anchor_there, any_found, each_there}
+use Rattle.ac_prune.specs.QuerySearch.{search_of}
+use Rattle.ac_prune.specs.Search.{IsDead}
+use Rattle.ac_prune.specs.Trees.Keys.{is_there}
+use Rattle.ac_rules.proofs.EachSlot.AnchorLemmas.{each_range, hosts_list}
+use Rattle.ac_rules.specs.Lists.{IsListBelow}
 
 -- a provider that is available at a root is among its hosts
 pub among_hosts : (all : List Provider) (r p : ℕ) → p < length all → is_available_at all p r ≡ true → Among (hosts_of all r) p
@@ -72,3 +78,38 @@ rooms_reach all asked q v r weight room bears h =
 pub candidate_parts : (all : List Provider) (asked : Asked) (t : List ℕ) → is_candidate all asked t ≡ true → Opens all asked (assigned asked t)
 unfolding is_candidate
 candidate_parts all asked t h = candidate_opens all asked (assigned asked t) h
+
+-- ---- A root at which a candidate stands
+
+-- all of the candidate is available there
+pub record Stands (all : List Provider) (asked : Asked) (t : List ℕ) : Type 0 where
+  pub root : ℕ
+  pub low : root < length all
+  pub hosted : IsHosted all asked root t
+  pub available : list_all (λ p. is_available_at all p root) t ≡ true
+
+pub stands : (all : List Provider) (asked : Asked) (t : List ℕ) → IsListBelow (length all) (length (slots_of asked)) t → is_candidate all asked t ≡ true → Stands all asked t
+unfolding anchor
+stands all asked t list candidate =
+    let opens : Opens all asked (assigned asked t) = candidate_parts all asked t candidate in
+    let found = any_found (λ r. takes_root all asked r && hosts_all all (assigned asked t) r) (range_with_len 0 (length all)) opens.anchor in
+    let both = and_parts (takes_root all asked found.0) (hosts_all all (assigned asked t) found.0) found.2 in
+    record {
+      root = found.0;
+      low = each_there (λ r. r < length all) (range_with_len 0 (length all)) found.0 (each_range 0 (length all) (length all) (omega arith)) found.1;
+      hosted = record { list = list; candidate = candidate; takes = both.0; hosts = both.1 };
+      available = sym (hosts_list all (slots_of asked) t found.0 (omega (arith, list.long))) ∙ both.1;
+    }
+
+-- the last provider of a front, and those before it
+pub front_parts : (f : ℕ → Bool) (q v : List ℕ) (p : ℕ) → list_all f ((q ++ p ∷ []) ++ v) ≡ true → (list_all f q ≡ true) × (f p ≡ true)
+front_parts f [] v p h = (refl, (and_parts (f p) (list_all f v) h).0)
+front_parts f (x ∷ q) v p h = let both = and_parts (f x) (list_all f ((q ++ p ∷ []) ++ v)) h in let more = front_parts f q v p both.1 in (and_from _ _ both.0 more.0, more.1)
+
+-- no candidate goes on by what isn't available where a provider of the path is
+pub elsewhere_dead : (all : List Provider) (asked : Asked) (q : List ℕ) (b p : ℕ) → is_there q b ≡ true
+    → ((r : ℕ) → is_there (anchors_of all b) r ≡ true → r < length all → is_available_at all p r ≡ false) → IsDead (search_of all asked) (q ++ p ∷ [])
+elsewhere_dead all asked q b p there away v list = false_from_ne_true _ (λ candidate.
+    let s = stands all asked ((q ++ p ∷ []) ++ v) list candidate in
+    let parts = front_parts (λ x. is_available_at all x s.root) q v p s.available in
+    false≢true (sym (away s.root (anchor_there all b s.root s.low (all_there (λ x. is_available_at all x s.root) q b parts.0 there)) s.low) ∙ parts.1))

@@ -3,7 +3,6 @@ use Rattle.std.proofs.Common.{inl, inr, ◌⊎◌, ◌≤◌, rules, ◌≡◌, 
 use Rattle.std.specs.Prelude.{◌==◌, IfSome}
 use Rattle.std.specs.Option.{option_map, unwrap_or}
 use Rattle.std.specs.List.{list_any}
-use Rattle.std.specs.Global.{Vec}
 use Rattle.std.proofs.Math.Seq.{drop-cons}
 use Rattle.std.proofs.lemmas.Bool.{cases_Bool, cases_eq, cases_order, eq-eqb, ne_eqb, false≢true}
 use Rattle.std.proofs.lemmas.List.{get_or_past, take-append-drop, get_or-map}
@@ -20,27 +19,13 @@ use Rattle.ac_rules.specs.Together.{listed, is_top, subtree}
 use Rattle.ac_rules.specs.Judge.{tests, all_hold, is_candidate}
 use Rattle.ac_prune.specs.Trees.Keys.{is_there}
 use Rattle.ac_prune.specs.Search.{choices_at}
-use Rattle.ac_prune.specs.QuerySearch.{choice_of, choices_of, search_of}
+use Rattle.ac_prune.specs.QuerySearch.{choice_of, search_of}
 use Rattle.ac_prune.specs.Parts.{IsNamed, AreParts, AreTops, AreLinked, KeepSeen}
 use Rattle.ac_rules.proofs.Elements.{Among}
-use Rattle.ac_prune.proofs.Roots.KeptLemmas.{kept_choices}
 use Rattle.ac_rules.proofs.SlotLemmas.{each_at}
 use Rattle.ac_prune.proofs.Search.SoughtLemmas.{IsSought, choice_in, place_of}
 use Rattle.ac_prune.proofs.Search.OpenLemmas.{choices_here, is_search}
-use Rattle.ac_prune.proofs.Roots.TreeLemmas.{all_there, or_left, or_right}
-
--- what is kept for a slot are its choices
-pub slot_choices : (all : List Provider) (asked : Asked) (kept : List (Vec ℕ)) (s : ℕ) (v : Vec ℕ) (list : List ℕ) → map (λ (u : Vec ℕ). u.items) kept ≡ choices_of all asked → s < length (slots_of asked) → v ≡ slice_index_or kept s v
-    → list ≡ v.items → list ≡ choice_of all asked (slot_at asked s)
-slot_choices all asked kept s v list listed h is same = same ∙ (kept_choices (search_of all asked) (is_search all asked) kept s v listed h is ∙ choices_here all asked s h)
-
--- what holds of each item of a list, and of one more
-pub each_more : {X : Type 0} (P : ℕ → X → Type 0) (xs : List X) (x : X) → ((i : ℕ) (d : X) → i < length xs → P i (slice_index_or xs i d)) → P (length xs) x
-    → (i : ℕ) (d : X) → i < length (xs ++ x ∷ []) → P i (slice_index_or (xs ++ x ∷ []) i d)
-each_more P [] x each last zero d inside = last
-each_more P [] x each last (suc i) d inside = absurd (omega arith)
-each_more P (y ∷ xs) x each last zero d inside = each zero d (omega arith)
-each_more P (y ∷ xs) x each last (suc i) d inside = each_more (λ k v. P (suc k) v) xs x (λ k e below. each (suc k) e (omega arith)) last i d (omega arith)
+use Rattle.ac_prune.proofs.Roots.TreeLemmas.{all_there, any_found, or_right}
 
 -- the part of a choice that is marked, by any provider of it; past the end all marks are set
 pub seen_part : (old new : List Bool) (parts list : List ℕ) (p j : ℕ) → length new ≡ length old
@@ -56,13 +41,6 @@ seen_part old new parts list p j count marked same =
     below_or k i = search (arith, rules)
 
 -- ---- Those that a list names
-
-any_found : (f : ℕ → Bool) (xs : List ℕ) → list_any f xs ≡ true → (x : ℕ) × (is_there xs x ≡ true) × (f x ≡ true)
-any_found f [] h = absurd (false≢true h)
-any_found f (x ∷ xs) h = elim (cases_Bool (f x)) [
-  | inl e ↦ let on = eq-eqb x x refl in (x, or_left (x == x) (is_there xs x) on, e)
-  | inr e ↦ let more = any_found f xs (rw e at h) in (more.0, or_right (x == more.0) (is_there xs more.0) more.1, more.2)
-]
 
 -- a slot that is named, with its provider
 record IsOf (names : List (List ℕ)) (ss : List Slot) (t : List ℕ) (a : ℕ) : Type 0 where

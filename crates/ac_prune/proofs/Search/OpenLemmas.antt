@@ -19,6 +19,7 @@ use Rattle.ac_prune.specs.Search.{choices_at}
 use Rattle.ac_prune.specs.QuerySearch.{fits, has_room_alone, choice_of, completes, search_of}
 use Rattle.ac_rules.proofs.Elements.{Among, each_filter, each_weaker, each_all, among_filter, filter_none}
 use Rattle.ac_rules.proofs.Lists.ListLemmas.{among_range}
+use Rattle.ac_rules.proofs.EachSlot.AnchorLemmas.{each_range}
 use Rattle.ac_rules.proofs.PlacedLemmas.{placed_append, placed_none}
 use Rattle.ac_rules.proofs.EachSlot.FrontLemmas.{all_weaker, room_less, Opens, open_parts, opens, open_front, prefix_open}
 use Rattle.ac_prune.proofs.Search.SoughtLemmas.{IsSearch}
@@ -43,10 +44,6 @@ rising_choice : (all : List Provider) (asked : Asked) (slot : Slot) → AllPairs
 unfolding choice_of
 rising_choice all asked slot = AllPairs-filter (λ x y. x < y) (test all asked slot) (range_with_len 0 (length all)) (rising_range (length all))
 
-each_range : (a m n : ℕ) → a + m ≤ n → Each (λ p. p < n) (range_with_len a m)
-each_range a zero n h = tt
-each_range a (suc m) n h = (omega arith, each_range (a + 1) m n (omega arith))
-
 pub each_choice : (all : List Provider) (asked : Asked) (slot : Slot)
     → Each (λ p. ((is_open all asked [] && fits all (record { slot = slot; provider = p })) ≡ true) × (p < length all)) (choice_of all asked slot)
 unfolding choice_of
@@ -62,7 +59,7 @@ pub filter_few : {X : Type 0} (f : X → Bool) (xs : List X) → length (filter 
 filter_few f [] = omega arith
 filter_few f (x ∷ xs) = let more = filter_few f xs in elim (cases_Bool (f x)) [ inl e ↦ rw e (omega arith) | inr e ↦ rw e (omega arith) ]
 
-few_choices : (all : List Provider) (asked : Asked) (slot : Slot) → length (choice_of all asked slot) ≤ length all
+pub few_choices : (all : List Provider) (asked : Asked) (slot : Slot) → length (choice_of all asked slot) ≤ length all
 unfolding choice_of
 few_choices all asked slot = let size = length-range_with_len 0 (length all) in let less = filter_few (test all asked slot) (range_with_len 0 (length all)) in omega arith
 
