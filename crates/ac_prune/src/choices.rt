@@ -54,7 +54,7 @@ pub(crate) struct Choices<'c, 'a> {
 }
 
 impl<'c, 'a> Choices<'c, 'a> {
-    /// Those of a slot.
+    /// The choices of a slot.
     pub(crate) fn of_slot(&self, s: usize) -> &[u32]
         requires { s < length (slots_of (asked_in self.now.ledger.now)) }
         ensures list { result.now ≡ choice_in self.now.ledger.now s }

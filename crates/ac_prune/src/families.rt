@@ -11,30 +11,28 @@ ghost use Rattle.ac_prune.specs.Left.Accounts.{providers_in, asked_in};
 
 pub mod parts;
 
-use crate::by_tree::ByTree;
+use crate::by_tree::Places;
 use crate::choices::Choices;
 use crate::families::parts::parts_of;
 use crate::front::Front;
 use crate::look_ahead::LookAhead;
+use crate::tuning::MOST_PLACES;
 use ac_base::NoMemory;
 use ac_query::Query;
 use ac_rules::slots::{count_slots, is_listed};
 use std::alloc::Global;
-
-// How many choices of a list's slots are kept by part.
-const MOST_PLACES: usize = 1 << 18;
 
 /// A list of `same_subtree`.
 #[derive(Drop)]
 pub(crate) struct Family {
     // For each slot whether the list names it.
     named: Vec<bool>,
-    // The first one that is named.
+    // The first slot that the list names; past the end where it names none.
     first: usize,
     // For each provider its part.
     parts: Vec<u32>,
     // For each slot that is named the places of its choices by part, where they aren't too many; none of the others.
-    places: Vec<ByTree>,
+    places: Vec<Places>,
 }
 
 // For each slot whether a list names it.
@@ -77,15 +75,15 @@ fn count_named(choices: &Choices, named: &[bool]) -> usize
 }
 
 // The places of a slot's choices by part, where they are wanted; none otherwise.
-fn places_of(alloc: Global, wanted: bool, list: &[u32], parts: &[u32]) -> Result<ByTree, NoMemory>
+fn places_of(alloc: Global, wanted: bool, list: &[u32], parts: &[u32]) -> Result<Places, NoMemory>
     requires few { length list.now ≤ 65536 }
     requires providers { All (λ p. p < length parts.now) list.now }
     ensures { IfOk result (λ places. IsByPart list.now parts.now places) }
 {
     if wanted {
-        ByTree::by_part(alloc, list, parts)
+        Places::by_part(alloc, list, parts)
     } else {
-        ByTree::by_part(alloc, &[], parts)
+        Places::by_part(alloc, &[], parts)
     }
 }
 
@@ -96,7 +94,7 @@ fn all_places(
     choices: &Choices,
     named: &[bool],
     parts: &[u32],
-) -> Result<Vec<ByTree>, NoMemory>
+) -> Result<Vec<Places>, NoMemory>
     requires named { length named.now ≡ length (slots_of (asked_in choices.now.ledger.now)) }
     requires parts { length parts.now ≡ length (providers_in choices.now.ledger.now) }
     ensures { IfOk result (λ all. AreByPart (providers_in choices.now.ledger.now)

@@ -15,6 +15,7 @@ use crate::front::Front;
 use crate::ledger::Ledger;
 use crate::ledger::marks::{has_full, taken_roots};
 use crate::look_ahead::LookAhead;
+use crate::tuning::MOST_STEPS;
 use ac_base::NoMemory;
 use ac_cloud::Cloud;
 use ac_rules::slots::count_slots;
@@ -22,9 +23,6 @@ use column::Column;
 pub(crate) use column::count_asking;
 pub use loads::limit;
 use std::alloc::Global;
-
-// How many steps all tests may take together.
-const MOST_STEPS: u64 = 1 << 28;
 
 /// How many tests of all roots may still be made, so that they don't take longer than the search that they shorten.
 #[derive(Drop)]
@@ -53,7 +51,7 @@ impl Budget {
         }
     }
 
-    /// Whether one more may be made, which counts.
+    /// Whether one more test may be made; it is counted as made.
     pub(crate) fn take(&mut self) -> bool {
         let some = self.tests > 0;
         self.tests = self.tests.saturating_sub(1);
@@ -148,7 +146,7 @@ pub(crate) struct Hosts {
 }
 
 impl Hosts {
-    /// Of the choices of all slots, before anything is placed.
+    /// The roots that may host a candidate, by the choices of all slots, before anything is placed.
     pub(crate) fn new(alloc: Global, choices: &Choices) -> Result<Hosts, NoMemory>
         requires { Accounts choices.now.ledger.now [] }
         ensures { IfOk result (λ hosts. MayHost choices.now.ledger.now hosts.may.items) }

@@ -52,7 +52,7 @@ pub struct Ledger<'a> {
 impl<'a> Ledger<'a> {
     ghost use Rattle.ac_prune.specs.Left.Accounts.{providers_in, asked_in, texts_in, left_in, Accounts, IsSameLedger};
 
-    /// Of an empty path. It takes all its memory here.
+    /// The ledger of an empty path. All its memory is taken here.
     pub fn new(alloc: Global, cloud: &'a Cloud, query: &'a Query) -> Result<Ledger<'a>, NoMemory>
         ensures cloud { IfOk result (λ ledger. ledger.cloud ≡ cloud.entry) }
         ensures query { IfOk result (λ ledger. ledger.query ≡ query.entry) }

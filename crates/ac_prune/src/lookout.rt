@@ -12,11 +12,9 @@ use crate::hosts::Hosts;
 use crate::ledger::Ledger;
 use crate::look_ahead::LookAhead;
 use crate::trees::Trees;
+use crate::tuning::MOST_FAMILIES;
 use ac_base::NoMemory;
 use std::alloc::Global;
-
-// How many lists of `same_subtree` are looked at ahead; further ones are judged when all slots have a provider, as all are.
-const MOST_FAMILIES: usize = 16;
 
 /// One of the tests.
 #[derive(Drop)]

@@ -18,7 +18,7 @@ pub(crate) struct Trees {
 }
 
 impl Trees {
-    /// Of the choices of all slots.
+    /// The choices of all slots, by tree.
     pub(crate) fn new(alloc: Global, choices: &Choices) -> Result<Trees, NoMemory>
         ensures { IfOk result (λ trees. AreByTree (providers_in choices.now.ledger.now)
             (asked_in choices.now.ledger.now) trees.slots.items) }

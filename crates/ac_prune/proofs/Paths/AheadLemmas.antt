@@ -26,6 +26,7 @@ use Rattle.ac_prune.proofs.Roots.HostLemmas.{stands}
 use Rattle.ac_prune.proofs.Roots.RootLemmas.{reached, asks_load, all_known}
 use Rattle.ac_prune.proofs.Roots.TreeLemmas.{all_there, anchor_there, at_there}
 use Rattle.std.proofs.lemmas.List.Elements.{Contains-get_or}
+use Rattle.std.proofs.Common.{rules}
 
 -- ---- Providers one after another
 
@@ -49,31 +50,22 @@ load_to f test a b h none =
 -- what is counted up to the next that passes it
 pub load_found : (f : ℕ → ℕ) (test : ℕ → Bool) (a b old new most : ℕ) → a ≤ b → ((i : ℕ) → a ≤ i → i < b → test i ≡ false)
     → min (load_of f (filter test (range_with_len 0 a))) most ≤ old → min (old + f b) most ≤ new → min (load_of f (filter test (range_with_len 0 (b + 1)))) most ≤ new
-load_found f test a b old new most h none was is =
-    let same = load_to f test a b h none in
-    let last = load_range f test b in
-    elim (cases_Bool (test b)) [
-      | inl e ↦ let more = rw e at last in omega (arith, was, is, same, more)
-      | inr e ↦ let more = rw e at last in omega (arith, was, is, same, more)
-    ]
+load_found f test a b old new most h none was is = search (rules, load_to, load_range)
 
 -- all that are counted
 pub all_counted : (all : List Provider) (f : ℕ → ℕ) (root from next old most : ℕ) → from ≤ next → next ≡ length all → ((i : ℕ) → from ≤ i → i < next → is_available_at all i root ≡ false)
     → min (load_of f (filter (λ p. is_available_at all p root) (range_with_len 0 from))) most ≤ old → min (load_of f (hosts_of all root)) most ≤ old
 unfolding hosts_of
-all_counted all f root from next old most h end none was =
-    let same = load_to f (λ p. is_available_at all p root) from next h none in
-    let whole = ap (λ (n : ℕ). load_of f (filter (λ p. is_available_at all p root) (range_with_len 0 n))) end in
-    omega (arith, same, whole, was)
+all_counted all f root from next old most h end none was = search (rules, load_to)
 
 -- the providers that the next place passes over aren't available at the root
-pub none_passed : (all : List Provider) (trees : ByTree) (root from next : ℕ) → root < length all → next ≤ trees.count → IsByTree all (range_with_len 0 trees.count) trees
+pub none_passed : (all : List Provider) (trees : ByTree) (root from next : ℕ) → root < length all → next ≤ trees.places.count → IsByTree all (range_with_len 0 trees.places.count) trees
     → ((all : List Provider) (choices : List ℕ) → IsByTree all choices trees → (r i : ℕ) → is_there (root ∷ []) r ≡ true → r < length all → from ≤ i → i < next → is_available_at all (slice_index choices i) r ≡ false)
     → (i : ℕ) → from ≤ i → i < next → is_available_at all i root ≡ false
 none_passed all trees root from next low within has passed i above less =
-    let same : slice_index (range_with_len 0 trees.count) i ≡ i = get_or-range_with_len 0 trees.count i 0 (omega (arith, less, within)) ∙ omega arith in
+    let same : slice_index (range_with_len 0 trees.places.count) i ≡ i = get_or-range_with_len 0 trees.places.count i 0 (omega (arith, less, within)) ∙ omega arith in
     let here = eq-eqb root root refl in
-    subst (λ (p : ℕ). is_available_at all p root ≡ false) same (passed all (range_with_len 0 trees.count) has root i (rw here refl) low above less)
+    subst (λ (p : ℕ). is_available_at all p root ≡ false) same (passed all (range_with_len 0 trees.places.count) has root i (rw here refl) low above less)
 
 -- ---- What the later slots ask
 

@@ -22,6 +22,7 @@ use Rattle.ac_rules.proofs.EachSlot.FullLemmas.{full_from}
 use Rattle.ac_prune.proofs.Paths.LeftLemmas.{room_enough}
 use Rattle.ac_prune.proofs.Roots.CountLemmas.{load_append, load_weaker, load_times}
 use Rattle.ac_prune.proofs.Roots.HostLemmas.{all_behind}
+use Rattle.std.proofs.Common.{rules}
 
 -- the parts of an open list, front and later slots
 pub open_split : (all : List Provider) (asked : Asked) (q v : List ℕ) → is_open all asked (q ++ v) ≡ true → Opens all asked (assigned asked q ++ placed (later asked q) v)
@@ -37,10 +38,7 @@ sum_load (x ∷ xs) p c = ap (λ n. (if x.provider == p then amount_of x.slot.ne
 -- no more is taken of a class than there is room
 pub open_room : (all : List Provider) (asked : Asked) (xs : List Placed) → Opens all asked xs → (p : ℕ) (c : List ℕ) → sum_on xs p c ≤ room_on all p c
 unfolding sums
-open_room all asked xs o p c = elim (cases_lt 0 (sum_on xs p c)) [
-  | inl l ↦ room_enough (inventory_of (provider_at all p) c) (used_of (provider_at all p) c) (sum_on xs p c) (full_from all xs xs o.sums p c l)
-  | inr l ↦ omega arith
-]
+open_room all asked xs o p c = search (rules, room_enough, full_from)
 
 pub left_bears : (all : List Provider) (asked : Asked) (q : List ℕ) (c : List ℕ) → Bears all asked q (λ s. amount_of s.needs c) (λ p. left_on all asked q c p)
 left_bears all asked q c v o p =
@@ -51,10 +49,7 @@ left_bears all asked q c v o p =
     omega (arith, room, both, sum_load (xs ++ ys) p c, sum_load xs p c)
 
 much_times : (c : List ℕ) (a : ℕ) (x : Placed) → asks_much c a x.slot * a ≤ amount_of x.slot.needs c
-much_times c a x = elim (cases_Bool (nat_le a (amount_of x.slot.needs c))) [
-  | inl e ↦ rw e (grind (arith, nat_tests))
-  | inr e ↦ rw e (omega arith)
-]
+much_times c a x = search rules
 
 pub pieces_bear : (all : List Provider) (asked : Asked) (q : List ℕ) (c : List ℕ) (a : ℕ) → 0 < a → Bears all asked q (asks_much c a) (λ p. left_on all asked q c p / a)
 pieces_bear all asked q c a some v o p =
@@ -72,13 +67,7 @@ apart_none x [] s h = refl
 apart_none x (y ∷ ys) s h =
     let both = and_parts (are_apart x y) (list_all (λ y. are_apart x y) ys) h in
     let more = apart_none x ys s both.1 in
-    elim (cases_eq y.provider x.provider) [
-      | inl e ↦ elim (cases_Bool (is_set_apart y.slot)) [
-        | inl t ↦ absurd (let same = eq-eqb x.provider y.provider (sym e) in false≢true (rw (s, t, same) at both.0))
-        | inr t ↦ let on = eq-eqb y.provider x.provider e in rw (on, t) (omega (arith, more))
-      ]
-      | inr e ↦ let other = ne_eqb y.provider x.provider e in rw other (omega (arith, more))
-    ]
+    search rules
 
 apart_one : (xs : List Placed) (p : ℕ) → all_apart xs ≡ true → weight_on asks_own xs p ≤ 1
 apart_one [] p h = omega arith
@@ -116,10 +105,7 @@ each_true f (x ∷ xs) h = let both = and_parts (f x) (list_all f xs) h in (both
 -- what a slot asks is among the sum on its provider
 each_part : (ys : List Placed) → Each (λ y. (c : List ℕ) → amount_of y.slot.needs c ≤ sum_on ys y.provider c) ys
 each_part [] = tt
-each_part (y ∷ ys) = (
-  λ c. let same = eq-eqb y.provider y.provider refl in rw same (omega arith),
-  each_weaker (λ z. (c : List ℕ) → amount_of z.slot.needs c ≤ sum_on ys z.provider c) (λ z. (c : List ℕ) → amount_of z.slot.needs c ≤ sum_on (y ∷ ys) z.provider c) ys (λ z h c. let less = h c in omega (arith, less)) (each_part ys),
-)
+each_part (y ∷ ys) = search (rules, eq-eqb, each_weaker, each_part ys)
 
 behind_true : {X : Type 0} (f : X → Bool) (xs ys : List X) → list_all f (xs ++ ys) ≡ true → Each (λ y. f y ≡ true) ys
 behind_true f xs ys h = each_true f ys (all_behind f xs ys h)
@@ -128,16 +114,7 @@ one_serves : (all : List Provider) (asked : Asked) (q : List ℕ) (ys : List Pla
     → units_fit all y ≡ true → traits_fit all y ≡ true → aggregates_fit all y ≡ true → tree_fits all y ≡ true → holds_sums all (assigned asked q ++ ys) y ≡ true
     → serves all asked q y.slot y.provider ≡ true
 unfolding serves fits holds_sums
-one_serves all asked q ys y part units traits aggregates tree holds_all =
-    let p = provider_at all y.provider in
-    let xs = assigned asked q in
-    let room = all_weaker (λ (need : List ℕ × ℕ). holds p need.0 (sum_on (xs ++ ys) y.provider need.0)) (λ (need : List ℕ × ℕ). holds p need.0 (sum_on xs y.provider need.0 + amount_of y.slot.needs need.0))
-    (λ (need : List ℕ × ℕ) e. room_less (inventory_of p need.0) (used_of p need.0) (sum_on xs y.provider need.0 + amount_of y.slot.needs need.0) (sum_on (xs ++ ys) y.provider need.0)
-    (let less = part need.0 in
-    let both = load_append (λ (x : Placed). x.provider) (λ (x : Placed). amount_of x.slot.needs need.0) xs ys y.provider in
-    omega (arith, less, both, sum_load (xs ++ ys) y.provider need.0, sum_load xs y.provider need.0, sum_load ys y.provider need.0)) e)
-    y.slot.needs holds_all in
-    rw (units, traits, aggregates, tree, room) refl
+one_serves all asked q ys y part units traits aggregates tree holds_all = search (rules, all_weaker, room_less, load_append, sum_load)
 
 -- each later slot is served by its provider
 pub each_serves : (all : List Provider) (asked : Asked) (q v : List ℕ) → is_open all asked (q ++ v) ≡ true → Each (λ y. serves all asked q y.slot y.provider ≡ true) (placed (later asked q) v)
@@ -157,19 +134,10 @@ each_serves all asked q v o =
 -- ---- Slots that need a provider for themselves
 
 lone_own : (asked : Asked) (c : List ℕ) (a : ℕ) (s : Slot) → lone_much asked c a s ≤ asks_own s
-lone_own asked c a s = elim (cases_Bool (is_isolated asked)) [
-  | inl i ↦ elim (cases_Bool (is_set_apart s)) [
-    | inl e ↦ elim (cases_Bool (nat_le a (amount_of s.needs c))) [ inl f ↦ rw (i, e, f) (omega arith) | inr f ↦ rw (i, e, f) (omega arith) ]
-    | inr e ↦ rw (i, e) (omega arith)
-  ]
-  | inr i ↦ rw i (omega arith)
-]
+lone_own asked c a s = search rules
 
 lone_asks : (asked : Asked) (c : List ℕ) (a : ℕ) (s : Slot) → lone_much asked c a s ≤ asks_much c a s
-lone_asks asked c a s = elim (cases_Bool (nat_le a (amount_of s.needs c))) [
-  | inl f ↦ elim (cases_Bool (needs_own asked s)) [ inl e ↦ rw (e, f) (omega arith) | inr e ↦ rw (e, f) (omega arith) ]
-  | inr f ↦ elim (cases_Bool (needs_own asked s)) [ inl e ↦ rw (e, f) (omega arith) | inr e ↦ rw (e, f) (omega arith) ]
-]
+lone_asks asked c a s = search rules
 
 load_nothing : (f : Slot → ℕ) → ((s : Slot) → f s ≡ 0) → (xs : List Placed) (p : ℕ) → weight_on f xs p ≡ 0
 load_nothing f h [] p = refl

@@ -5,7 +5,7 @@ use Rattle.std.specs.Option.{unwrap_or}
 use Rattle.std.specs.List.{list_all, AllByRecursion as Each}
 use Rattle.std.specs.Str.{bytes_eq}
 use Rattle.std.proofs.lemmas.Bool.{cases_Bool, cases_eq, cases_lt, and_parts, and_from, eq-eqb, ne_eqb, false≢true, false_from_ne_true}
-use Rattle.std.proofs.lemmas.Bool.Decides.{nat_tests}
+use Rattle.std.proofs.lemmas.Bool.Decides.{nat_tests, same_from_decides}
 use Rattle.std.proofs.lemmas.List.{map-append}
 use Rattle.std.proofs.lemmas.Slice.Eq.{bytes_eq-Decides}
 use Rattle.std.specs.List.Sorted.{IsStrictlySortedBy}
@@ -21,6 +21,7 @@ use Rattle.ac_rules.specs.Together.{amount_of, sum_on, has_room, holds, sums}
 use Rattle.ac_rules.specs.Laws.{AskAmounts, IsFull}
 use Rattle.ac_prune.specs.Left.{place_of, IsKnown, numbered, wanted, has_each, suffices, room_on}
 use Rattle.ac_rules.proofs.EachSlot.FullLemmas.{sums_say_full}
+use Rattle.std.proofs.Common.{rules}
 
 -- a class that is known stands at its place
 pub known_at : (classes : List (List ℕ)) (c : List ℕ) → IsKnown classes c → slice_index_or classes (place_of classes c) [] ≡ c
@@ -45,10 +46,7 @@ known_more (b ∷ classes) d c h = elim (cases_Bool (bytes_eq b c)) [
 
 known_last : (classes : List (List ℕ)) (c : List ℕ) → IsKnown (classes ++ c ∷ []) c
 known_last [] c = let same = (bytes_eq-Decides c c).1 refl in rw same (omega arith)
-known_last (b ∷ classes) c = elim (cases_Bool (bytes_eq b c)) [
-  | inl e ↦ rw e (omega arith)
-  | inr e ↦ let more = known_last classes c in rw e (omega (arith, more))
-]
+known_last (b ∷ classes) c = search (rules, known_last classes c)
 
 pub known_pushed : {X : Type 0} (text : X → List ℕ) (xs : List X) (x : X) → IsKnown (map text (xs ++ x ∷ [])) (text x)
 known_pushed text xs x = subst (λ ts. IsKnown ts (text x)) (sym (map-append text xs (x ∷ []))) (known_last (map text xs) (text x))
@@ -58,10 +56,7 @@ known_kept text xs x c h = subst (λ ts. IsKnown ts c) (sym (map-append text xs 
 
 -- a number of a class stands for its text
 number_test : (classes : List (List ℕ)) (c d : List ℕ) → IsKnown classes c → (place_of classes c == place_of classes d) ≡ bytes_eq c d
-number_test classes c d h = elim (cases_Bool (bytes_eq c d)) [
-  | inl e ↦ rw e (eq-eqb (place_of classes c) (place_of classes d) (ap (place_of classes) ((bytes_eq-Decides c d).0 e)))
-  | inr e ↦ rw e (ne_eqb (place_of classes c) (place_of classes d) (λ s. false≢true (sym e ∙ (bytes_eq-Decides c d).1 (same_place classes c d h s))))
-]
+number_test classes c d h = search (rules, eq-eqb, bytes_eq-Decides, ne_eqb, false≢true, same_place)
 
 -- what asks want of a class is what the needs ask of it
 pub wanted_is : (classes : List (List ℕ)) (needs : List (List ℕ × ℕ)) (c : List ℕ) → Each (λ need. IsKnown classes need.0) needs
@@ -73,17 +68,11 @@ wanted_is classes (need ∷ needs) c h = ap₂ (λ (b : Bool) (n : ℕ). (if b t
 
 pub room_enough : (inventory : Option InventoryNumbers) (used m : ℕ) → has_room inventory used m ≡ true → m ≤ unwrap_or (room_in inventory used) 0
 room_enough None used m h = absurd (false≢true h)
-room_enough (Some inventory) used m h = elim (cases_Bool (nat_le used (capacity inventory))) [
-  | inl e ↦ rw e (grind (arith, nat_tests))
-  | inr e ↦ absurd (grind (arith, nat_tests))
-]
+room_enough (Some inventory) used m h = search rules
 
 enough_room : (inventory : Option InventoryNumbers) (used m : ℕ) → 0 < m → m ≤ unwrap_or (room_in inventory used) 0 → has_room inventory used m ≡ true
 enough_room None used m some h = absurd (omega (arith, some, h))
-enough_room (Some inventory) used m some h = elim (cases_Bool (nat_le used (capacity inventory))) [
-  | inl e ↦ let less = rw e at h in grind (arith, nat_tests)
-  | inr e ↦ let less = rw e at h in absurd (omega (arith, some, less))
-]
+enough_room (Some inventory) used m some h = search rules
 
 pub holds_less : (all : List Provider) (p : ℕ) (c : List ℕ) (m : ℕ) → holds (provider_at all p) c m ≡ true → m ≤ room_on all p c
 holds_less all p c m h = room_enough (inventory_of (provider_at all p) c) (used_of (provider_at all p) c) m h
@@ -110,13 +99,7 @@ suffices_from : (classes : List (List ℕ)) (row : ℕ → ℕ) (needs ns : List
     → Each (λ need. IsKnown classes need.0) ns → Each (λ need. 0 < need.1) ns
     → list_all (λ a. nat_le (wanted (map (numbered classes) needs) a.0) (row a.0)) (map (numbered classes) ns) ≡ true
 suffices_from classes row needs [] all enough known some = refl
-suffices_from classes row needs (n ∷ ns) all enough known some =
-    let itself = (bytes_eq-Decides n.0 n.0).1 refl in
-    let asks : 0 < amount_of (n ∷ ns) n.0 = let one = some.0 in rw itself (omega arith) in
-    let here = enough n.0 known.0 asks in
-    let is = wanted_is classes needs n.0 all in
-    and_from _ _ (rw is (grind (arith, nat_tests)))
-    (suffices_from classes row needs ns all (λ c k more. enough c k (omega (arith, more))) known.1 some.1)
+suffices_from classes row needs (n ∷ ns) all enough known some = search (rules, bytes_eq-Decides, wanted_is, and_from, suffices_from classes row needs ns all (λ c k more. enough c k (omega (arith, more))) known.1 some.1)
 
 suffices_at : (classes : List (List ℕ)) (row : ℕ → ℕ) (needs ns : List (List ℕ × ℕ)) (c : List ℕ) → Each (λ need. IsKnown classes need.0) needs
     → Each (λ need. IsKnown classes need.0) ns
@@ -140,10 +123,7 @@ suffices_at classes row needs (n ∷ ns) c all known h asks =
 -- what needs ask of their own classes, which differ
 amount_none : (needs : List (List ℕ × ℕ)) (c : List ℕ) → Each (λ d. bytes_eq c d ≡ false) (map (λ need. need.0) needs) → amount_of needs c ≡ 0
 amount_none [] c h = refl
-amount_none (n ∷ needs) c h =
-    let other : bytes_eq n.0 c ≡ false = false_from_ne_true _ (λ e. false≢true (sym h.0 ∙ (bytes_eq-Decides c n.0).1 (sym ((bytes_eq-Decides n.0 c).0 e)))) in
-    let none = amount_none needs c h.1 in
-    rw other (omega (arith, none))
+amount_none (n ∷ needs) c h = search (rules, false_from_ne_true, false≢true, bytes_eq-Decides, amount_none needs c h.1)
 
 amounts_once : (needs : List (List ℕ × ℕ)) → AreApart (map (λ need. need.0) needs) → Each (λ need. amount_of needs need.0 ≡ need.1) needs
 amounts_once [] h = tt
@@ -191,21 +171,10 @@ full_next all classes row xs x left known full enough p c asked = elim (cases_eq
 pub sums_next : (all : List Provider) (classes : List (List ℕ)) (row : ℕ → ℕ) (xs : List Placed) (x : Placed) → IsLeft all classes row xs x.provider
     → Each (λ need. IsKnown classes need.0) x.slot.needs → AskAmounts xs → AskAmounts (xs ++ x ∷ []) → Each (λ need. 0 < need.1) x.slot.needs → sums all xs ≡ true
     → sums all (xs ++ x ∷ []) ≡ suffices row (map (numbered classes) x.slot.needs)
-sums_next all classes row xs x left known some more own fine = same_tests (sums all (xs ++ x ∷ [])) (suffices row (map (numbered classes) x.slot.needs)) down up
-  where
-    same_tests : (a b : Bool) → (a ≡ true → b ≡ true) → (b ≡ true → a ≡ true) → a ≡ b
-    same_tests true b f g = sym (f refl)
-    same_tests false true f g = g refl
-    same_tests false false f g = refl
-
-    down : sums all (xs ++ x ∷ []) ≡ true → suffices row (map (numbered classes) x.slot.needs) ≡ true
-    down h =
-        let full = (sums_say_full all (xs ++ x ∷ []) more).0 h in
-        suffices_from classes row x.slot.needs x.slot.needs known
-        (λ c k asks.
-        let sum = sum_here xs x x.provider c refl in
-        let less = holds_less all x.provider c (sum_on (xs ++ x ∷ []) x.provider c) (full x.provider c (omega (arith, sum, asks))) in
-        omega (arith, sum, less, left c k)) known own
-
-    up : suffices row (map (numbered classes) x.slot.needs) ≡ true → sums all (xs ++ x ∷ []) ≡ true
-    up h = (sums_say_full all (xs ++ x ∷ []) more).1 (full_next all classes row xs x left known ((sums_say_full all xs some).0 fine) h)
+sums_next all classes row xs x left known some more own fine = same_from_decides _ _ (sums_say_full all (xs ++ x ∷ []) more) (
+  full_next all classes row xs x left known ((sums_say_full all xs some).0 fine),
+  λ full. suffices_from classes row x.slot.needs x.slot.needs known
+      (λ c k asks.
+      let sum = sum_here xs x x.provider c refl in
+      omega (arith, sum, left c k, holds_less all x.provider c (sum_on (xs ++ x ∷ []) x.provider c) (full x.provider c (omega (arith, sum, asks))))) known own,
+)

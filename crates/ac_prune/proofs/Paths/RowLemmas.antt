@@ -7,6 +7,7 @@ use Rattle.std.proofs.lemmas.Bool.Decides.{nat_tests}
 use Rattle.std.proofs.lemmas.Nat.{div-mul-add}
 use Rattle.ac_prune.specs.Left.{ask_pair, wanted, wanted_at}
 use Rattle.ac_prune.specs.declared.ledger.rooms.Ask.{Ask}
+use Rattle.std.proofs.Common.{rules}
 
 same_column : (row a k : ℕ) → (row + a == row + k) ≡ (a == k)
 same_column row a k = grind (arith, nat_tests)
@@ -25,7 +26,4 @@ wanted_other [] w p r k low h e = refl
 wanted_other (a ∷ asks) w p r k low h e = rw (ne_eqb (p * w + a.class) (r * w + k) (λ s. e (same_row w p r a.class k low.0 h s)), wanted_other asks w p r k low.1 h e) refl
 
 pub wanted_there : (asks : List Ask) (w p r k : ℕ) → Each (λ a. a.class < w) asks → k < w → wanted_at (p * w) asks (r * w + k) ≡ (if p == r then wanted (map ask_pair asks) k else 0)
-wanted_there asks w p r k low h = elim (cases_eq p r) [
-  | inl e ↦ rw (e, eq-eqb r r refl) (wanted_here asks (r * w) k)
-  | inr e ↦ rw (ne_eqb p r e) (wanted_other asks w p r k low h e)
-]
+wanted_there asks w p r k low h = search (rules, eq-eqb, wanted_here, ne_eqb, wanted_other)

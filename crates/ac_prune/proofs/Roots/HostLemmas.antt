@@ -22,6 +22,7 @@ use Rattle.ac_prune.specs.Search.{IsDead}
 use Rattle.ac_prune.specs.Trees.Keys.{is_there}
 use Rattle.ac_rules.proofs.EachSlot.AnchorLemmas.{each_range, hosts_list}
 use Rattle.ac_rules.specs.Lists.{IsListBelow}
+use Rattle.std.proofs.Common.{rules}
 
 -- a provider that is available at a root is among its hosts
 pub among_hosts : (all : List Provider) (r p : ℕ) → p < length all → is_available_at all p r ≡ true → Among (hosts_of all r) p
@@ -53,11 +54,7 @@ all_behind f xs ys h = (and_parts (list_all f xs) (list_all f ys) (sym (list_all
 -- those behind the front stand there too
 pub behind_hosts : (all : List Provider) (asked : Asked) (q v : List ℕ) (r : ℕ) → IsHosted all asked r (q ++ v) → Each (λ x. Among (hosts_of all r) x.provider) (placed (later asked q) v)
 unfolding hosts_all
-behind_hosts all asked q v r h =
-    let there : list_all (λ x. is_available_at all x.provider r) (assigned asked q ++ placed (later asked q) v) ≡ true =
-    subst (λ xs. list_all (λ x. is_available_at all x.provider r) xs ≡ true) (placed_append (slots_of asked) q v) h.hosts in
-    each_host all r (later asked q) v (each_behind (λ p. p < length all) q v (recursion_from_All (λ p. p < length all) (q ++ v) h.list.below))
-    (all_behind (λ x. is_available_at all x.provider r) (assigned asked q) (placed (later asked q) v) there)
+behind_hosts all asked q v r h = search (rules, placed_append, each_host, each_behind, recursion_from_All, all_behind)
 
 -- as many as the later slots
 pub behind_long : (all : List Provider) (asked : Asked) (q v : List ℕ) (r : ℕ) → IsHosted all asked r (q ++ v) → length v ≡ length (later asked q)

@@ -26,19 +26,13 @@ use Rattle.ac_rules.proofs.SlotLemmas.{each_at}
 use Rattle.ac_prune.proofs.Search.SoughtLemmas.{IsSought, choice_in, place_of}
 use Rattle.ac_prune.proofs.Search.OpenLemmas.{choices_here, is_search}
 use Rattle.ac_prune.proofs.Roots.TreeLemmas.{all_there, any_found, or_right}
+use Rattle.std.proofs.lemmas.Bool.Decides.{nat_tests}
 
 -- the part of a choice that is marked, by any provider of it; past the end all marks are set
 pub seen_part : (old new : List Bool) (parts list : List ℕ) (p j : ℕ) → length new ≡ length old
     → (slice_index parts (slice_index list j) < length old → slice_index_or new (slice_index parts (slice_index list j)) true ≡ true)
     → slice_index parts (slice_index list j) ≡ slice_index parts p → slice_index_or new (slice_index parts p) true ≡ true
-seen_part old new parts list p j count marked same =
-    elim (below_or (slice_index parts p) (length old)) [
-      | inl less ↦ subst (λ (q : ℕ). slice_index_or new q true ≡ true) same (marked (omega (arith, same, less)))
-      | inr past ↦ get_or_past new (slice_index parts p) true (omega (arith, count, past))
-    ]
-  where
-    below_or : (k i : ℕ) → (k < i) ⊎ (i ≤ k)
-    below_or k i = search (arith, rules)
+seen_part old new parts list p j count marked same = search (rules, get_or_past)
 
 -- ---- Those that a list names
 
@@ -54,9 +48,7 @@ named_there : (names : List (List ℕ)) (ss : List Slot) (t : List ℕ) (s : ℕ
 named_there names [] t s size h named = absurd (omega (arith, h))
 named_there names (x ∷ ss) [] s size h named = absurd (omega (arith, size))
 named_there names (x ∷ ss) (p ∷ t) zero size h named = let on = eq-eqb p p refl in rw (named, on) refl
-named_there names (x ∷ ss) (p ∷ t) (suc s) size h named =
-    let more = named_there names ss t s (omega (arith, size)) (omega (arith, h)) named in
-    elim (cases_Bool (lists_suffix names x.suffix)) [ inl e ↦ rw e (or_right (p == slice_index t s) (is_there (listed names (placed ss t)) (slice_index t s)) more) | inr e ↦ rw e more ]
+named_there names (x ∷ ss) (p ∷ t) (suc s) size h named = search (rules, or_right, named_there names ss t s (omega (arith, size)) (omega (arith, h)) named)
 
 later : (names : List (List ℕ)) (x : Slot) (ss : List Slot) (p : ℕ) (t : List ℕ) (a : ℕ) → IsOf names ss t a → IsOf names (x ∷ ss) (p ∷ t) a
 later names x ss p t a more = record { slot = suc more.slot; within = omega (arith, more.within); named = more.named; is = more.is }
@@ -76,10 +68,7 @@ there_named names (x ∷ ss) (p ∷ t) a h =
 -- ---- Links
 
 same_place : (all : List Provider) → AreInOrder all → (a b : ℕ) → a < length all → b < length all → id_at all a ≡ id_at all b → a ≡ b
-same_place all order a b h k e = elim (cases_order a b) [
-  | inl s ↦ s
-  | inr o ↦ elim o [ inl l ↦ absurd (omega (arith, e, order a b l k)) | inr g ↦ absurd (omega (arith, e, order b a g h)) ]
-]
+same_place all order a b h k e = search rules
 
 linked_up : (all : List Provider) (tops : List Bool) (parts : List ℕ) (k a b : ℕ)
     → ((q : ℕ) → q < length all → list_any (λ p. p == id_at all a) (chain (parent_of all) k (id_at all q)) ≡ true → slice_index parts q ≡ slice_index parts a) → slice_index parts a < length all
@@ -91,10 +80,7 @@ linked_up all tops parts k a b next has (Some q) is same more = let one = next q
 -- who is below a provider that has a part is of that part
 linked_chain : (all : List Provider) → AreInOrder all → (tops : List Bool) (parts : List ℕ) → AreLinked all tops parts → (k a b : ℕ) → a < length all → b < length all → slice_index parts a < length all
     → list_any (λ p. p == id_at all a) (chain (parent_of all) k (id_at all b)) ≡ true → slice_index parts b ≡ slice_index parts a
-linked_chain all order tops parts links zero a b low here has above = elim (cases_eq (id_at all b) (id_at all a)) [
-  | inl e ↦ ap (slice_index parts) (same_place all order b a here low e)
-  | inr e ↦ let other = ne_eqb (id_at all b) (id_at all a) e in absurd (false≢true (rw other at above))
-]
+linked_chain all order tops parts links zero a b low here has above = grind (arith, nat_tests)
 linked_chain all order tops parts links (suc k) a b low here has above = elim (cases_eq (id_at all b) (id_at all a)) [
   | inl e ↦ ap (slice_index parts) (same_place all order b a here low e)
   | inr e ↦ let other = ne_eqb (id_at all b) (id_at all a) e in let link = links b here in

@@ -38,6 +38,7 @@ use Rattle.ac_prune.proofs.Paths.BearLemmas.{left_bears, pieces_bear, lone_bears
 use Rattle.ac_prune.proofs.Roots.PartLemmas.{choice_there}
 use Rattle.ac_prune.proofs.Roots.HostLemmas.{rooms_reach, behind_hosts, front_parts, stands}
 use Rattle.ac_prune.proofs.Roots.TreeLemmas.{anchor_there, any_there}
+use Rattle.std.proofs.Common.{rules}
 
 pub if_ok : {X E : Type 0} (P Q : X → Type 0) (r : Result X E) → ((x : X) → P x → Q x) → IfOk r P → IfOk r Q
 if_ok P Q (Ok x) f h = f x h
@@ -51,8 +52,7 @@ keeps all asked old new test was is passes r t h hosted = is r h ∙ and_from (s
 
 pub hosts_low : (all : List Provider) (r : ℕ) → Each (λ p. p < length all) (hosts_of all r)
 unfolding hosts_of
-hosts_low all r = each_weaker _ (λ p. p < length all) (hosts_of all r) (λ p h. h.1)
-    (each_filter (λ p. p < length all) (λ p. is_available_at all p r) (range_with_len 0 (length all)) (each_range 0 (length all) (length all) (omega arith)))
+hosts_low all r = search (rules, each_weaker, each_filter, each_range)
 
 pub load_within : (f g : ℕ → ℕ) (n : ℕ) (xs : List ℕ) → Each (λ x. x < n) xs → ((x : ℕ) → x < n → f x ≤ g x) → load_of f xs ≤ load_of g xs
 load_within f g n [] low h = omega arith
@@ -121,10 +121,7 @@ lone_keep column old new pieces ones a most some are size one wants was count is
 known_at_place : {X : Type 0} (text : X → List ℕ) (xs : List X) (i : ℕ) (d : X) → i < length xs → IsKnown (map text xs) (text (slice_index_or xs i d))
 known_at_place text [] i d h = absurd (omega arith)
 known_at_place text (x ∷ xs) zero d h = let same = (bytes_eq-Decides (text x) (text x)).1 refl in rw same (omega arith)
-known_at_place text (x ∷ xs) (suc i) d h = elim (cases_Bool (bytes_eq (text x) (text (slice_index_or xs i d)))) [
-  | inl e ↦ rw e (omega arith)
-  | inr e ↦ let more = known_at_place text xs i d (omega arith) in rw e (omega (arith, more))
-]
+known_at_place text (x ∷ xs) (suc i) d h = search (rules, known_at_place text xs i d (omega arith))
 
 pub known_item : {X : Type 0} (text : X → List ℕ) (xs : List X) (i : ℕ) (x : X) → i < length xs → x ≡ slice_index_or xs i x → IsKnown (map text xs) (text x)
 known_item text xs i x h is = subst (λ y. IsKnown (map text xs) (text y)) (sym is) (known_at_place text xs i x h)
@@ -213,9 +210,4 @@ load_take w ss s h = ap (load_of w) (take_more ss s no_slot h) ∙ (load_of_appe
 -- what is told of a slot that needs a provider for itself
 pub lone_told : (l : Ledger) (s k a w : ℕ) (c : List ℕ) (b : Bool) (v : Vec Ask) → s < length (slots_of (asked_in l)) → k ≡ place_of (texts_in l) c → b ≡ slice_index_or l.lone.items s b → v ≡ slice_index_or l.asks.items s v
     → w ≤ wanted (map ask_pair v.items) k → b ≡ true → a ≤ w → 1 ≤ lone_much (asked_in l) c a (slot_at (asked_in l) s)
-lone_told l s k a w c b v h number is of less lone much =
-    let own : needs_own (asked_in l) (slot_at (asked_in l) s) ≡ true = sym (lone_at l s b h is) ∙ lone in
-    let asks = asks_at l s v h of in
-    let wants : wanted (map ask_pair v.items) k ≡ amount_of (slot_at (asked_in l) s).needs c = ap₂ (λ (ns : List (ℕ × ℕ)) (j : ℕ). wanted ns j) asks number ∙ wanted_is (texts_in l) (slot_at (asked_in l) s).needs c (known_in l s h) in
-    let enough : nat_le a (amount_of (slot_at (asked_in l) s).needs c) ≡ true = let fits : a ≤ amount_of (slot_at (asked_in l) s).needs c = omega (arith, less, much, wants) in grind (arith, nat_tests) in
-    rw (own, enough) (omega arith)
+lone_told l s k a w c b v h number is of less lone much = search (rules, lone_at, asks_at, wanted_is, known_in)

@@ -12,6 +12,7 @@ use Rattle.ac_cloud.proofs.Places.CloudFacts.{size}
 use Rattle.ac_prune.specs.Trees.Keys.{key_of, is_there, IsUnder}
 use Rattle.ac_rules.proofs.Elements.{Among, among_filter}
 use Rattle.ac_rules.proofs.Lists.ListLemmas.{among_range}
+use Rattle.std.proofs.Common.{rules}
 
 -- ---- Numbers that are there
 
@@ -78,17 +79,13 @@ or_more false false d h = absurd (false≢true h)
 
 -- one more key
 pub under_more : (xs ys : List ℕ) (wide tree place : ℕ) → ((x : ℕ) → is_there xs x ≡ true → is_there ys x ≡ true) → IsUnder xs wide tree place → IsUnder ys wide tree place
-under_more xs ys wide tree place more h = elim (cases_Bool (is_there xs (key_of tree place))) [
-  | inl e ↦ or_left _ _ (more (key_of tree place) e)
-  | inr e ↦ or_right _ _ (more (key_of wide place) (rw e at h))
-]
+under_more xs ys wide tree place more h = search rules
 
 -- ---- The trees to which a front is bound
 
 -- where a provider is available
 pub anchor_there : (all : List Provider) (p r : ℕ) → r < length all → is_available_at all p r ≡ true → is_there (anchors_of all p) r ≡ true
-anchor_there all p r h here =
-    among_there (anchors_of all p) r (among_filter (is_available_at all p) (range_with_len 0 (length all)) r (among_range 0 (length all) r (omega arith) (omega (arith, h))) here)
+anchor_there all p r h here = search (rules, among_there, among_filter, among_range)
 
 -- a cloud has few providers
 pub few_providers : (cloud : Cloud) → length (providers_of cloud) ≤ 65536

@@ -28,7 +28,7 @@ fn mark_each(marks: &mut [bool], list: &[u32])
     }
 }
 
-// The same, where a list names the slot of which these are the choices.
+// Marks each choice of a slot, where a list names the slot.
 fn mark_slot(marks: &mut [bool], query: &Query, k: usize, s: usize, list: &[u32])
     requires names { k < length (asked_of query.now).subtrees }
     requires slot { s < length (slots_of (asked_of query.now)) }
@@ -148,7 +148,7 @@ fn is_linked(cloud: &Cloud, tops: &[bool], parts: &[u32], ix: u32) -> bool
     }
 }
 
-// Whether all are.
+// Whether each top has a part, and each provider whose parent has one is of that part.
 fn are_linked(cloud: &Cloud, tops: &[bool], parts: &[u32]) -> bool
     requires tops { length tops.now ≡ length (providers_of cloud.now) }
     requires parts { length parts.now ≡ length (providers_of cloud.now) }

@@ -22,7 +22,7 @@ use std::alloc::Global;
 pub(crate) struct Column<'l, 'a> {
     ledger: &'l Ledger<'a>,
     class: &'a ClassName,
-    // Its number among the classes of the ledger.
+    // The number of the class among the classes of the ledger.
     number: usize,
     rooms: Vec<u64>,
     ghost empty: { Accounts ledger.now [] },
@@ -98,7 +98,7 @@ fn at_most_one(alloc: Global, rooms: &[u64]) -> Result<Vec<u64>, NoMemory>
 impl<'l, 'a> Column<'l, 'a> {
     ghost use Rattle.ac_prune.specs.Loads.Columns.{is_lone, count_of_lone};
 
-    /// Of a class that the query asks for.
+    /// The column of a class that the query asks for.
     pub(crate) fn new(
         alloc: Global,
         ledger: &'l Ledger<'a>,
@@ -150,7 +150,7 @@ impl<'l, 'a> Column<'l, 'a> {
         }
     }
 
-    // How many such slots there are.
+    // How many slots are to have a provider for themselves and ask so much or more.
     fn count_lone(&self, amount: u64) -> u64
         ensures { result ≤ count_of_lone self.now amount }
     {
@@ -178,7 +178,7 @@ impl<'l, 'a> Column<'l, 'a> {
         )
     }
 
-    // Of each amount that a slot asks, both.
+    // Drops the roots that have too few pieces, or too few providers for lone slots, of some amount that a slot asks.
     fn limit_amounts(
         &self,
         alloc: Global,

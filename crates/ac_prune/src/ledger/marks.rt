@@ -62,7 +62,7 @@ pub(crate) fn mark(marks: &mut [u32], lone: bool, at: usize)
     }
 }
 
-/// Counts one less there.
+/// Counts one less at a provider, where it is for a slot that needs one for itself.
 pub(crate) fn unmark(marks: &mut [u32], lone: bool, at: usize)
     requires within { at < length marks.old }
     requires there { lone ≡ true → 0 < slice_index marks.old at }
