@@ -76,11 +76,7 @@ fn pieces(alloc: Global, rooms: &[u64], amount: u64) -> Result<Vec<u64>, NoMemor
     ensures count { IfOk result (λ pieces. length pieces.items ≡ length rooms.now) }
     ensures pieces { IfOk result (λ pieces. ArePieces rooms.now amount pieces.items) }
 {
-    let mut pieces = Vec::new(alloc);
-    for room in rooms {
-        pieces.push(*room / amount)?;
-    }
-    Ok(pieces)
+    Ok(rooms.iter().map(|room| *room / amount).collect(alloc)?)
 }
 
 // Each room, but 1 at most.
@@ -88,11 +84,7 @@ fn at_most_one(alloc: Global, rooms: &[u64]) -> Result<Vec<u64>, NoMemory>
     ensures count { IfOk result (λ ones. length ones.items ≡ length rooms.now) }
     ensures ones { IfOk result (λ ones. AreOnes rooms.now ones.items) }
 {
-    let mut ones = Vec::new(alloc);
-    for room in rooms {
-        ones.push((*room).min(1))?;
-    }
-    Ok(ones)
+    Ok(rooms.iter().map(|room| (*room).min(1)).collect(alloc)?)
 }
 
 impl<'l, 'a> Column<'l, 'a> {
