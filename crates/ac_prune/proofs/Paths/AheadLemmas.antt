@@ -36,10 +36,7 @@ load_skip : (f : ℕ → ℕ) (test : ℕ → Bool) (a k : ℕ) → ((i : ℕ) �
 load_skip f test a zero none = let e : a + zero ≡ a = omega arith in rw e refl
 load_skip f test a (suc k) none =
     let e : a + suc k ≡ (a + k) + 1 = omega arith in
-    let off = none (a + k) (omega arith) (omega arith) in
-    let more = load_skip f test a k (λ i above less. none i above (omega (arith, less))) in
-    let last = rw off at (load_range f test (a + k)) in
-    rw e (omega (arith, last, more))
+    search (rules, load_range, load_skip f test a k)
 
 pub load_to : (f : ℕ → ℕ) (test : ℕ → Bool) (a b : ℕ) → a ≤ b → ((i : ℕ) → a ≤ i → i < b → test i ≡ false)
     → load_of f (filter test (range_with_len 0 b)) ≡ load_of f (filter test (range_with_len 0 a))
@@ -64,8 +61,7 @@ pub none_passed : (all : List Provider) (trees : ByTree) (root from next : ℕ) 
     → (i : ℕ) → from ≤ i → i < next → is_available_at all i root ≡ false
 none_passed all trees root from next low within has passed i above less =
     let same : slice_index (range_with_len 0 trees.places.count) i ≡ i = get_or-range_with_len 0 trees.places.count i 0 (omega (arith, less, within)) ∙ omega arith in
-    let here = eq-eqb root root refl in
-    subst (λ (p : ℕ). is_available_at all p root ≡ false) same (passed all (range_with_len 0 trees.places.count) has root i (rw here refl) low above less)
+    search (rules, eq-eqb)
 
 -- ---- What the later slots ask
 
@@ -96,9 +92,7 @@ pieces_lack l q r k a n left most c asks whole some known number accounts is sho
     let asked = asked_in l in
     let reach = reached all asked q v r (asks_much c a) (λ p. left_on all asked q c p / a) (λ p. left_in l p k / a) (pieces_bear all asked q c a some)
     (λ p low. let rest : left_on all asked q c p ≡ left_in l p k = omega (arith, accounts.left p c low known, ap (left_in l p) number) in omega (arith, ap (λ (m : ℕ). m / a) rest)) hosted in
-    let front = fewer (is_much k a) n (drop (length q) asks) in
-    let later : load_of (is_much k a) (pairs_of (drop (length q) asks)) ≡ load_of (asks_much c a) (drop (length q) (slots_of asked)) = rw (number, whole) (later_much l (length q) a c) in
-    omega (arith, reach, is, short, fits, wants, front, later)
+    search (rules, fewer, later_much)
 
 -- ---- The one tree of a front
 

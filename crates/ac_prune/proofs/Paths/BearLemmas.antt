@@ -45,8 +45,7 @@ left_bears all asked q c v o p =
     let xs = assigned asked q in
     let ys = placed (later asked q) v in
     let room = open_room all asked (xs ++ ys) (open_split all asked q v o) p c in
-    let both = load_append (λ (x : Placed). x.provider) (λ (x : Placed). amount_of x.slot.needs c) xs ys p in
-    omega (arith, room, both, sum_load (xs ++ ys) p c, sum_load xs p c)
+    search (rules, load_append, sum_load)
 
 much_times : (c : List ℕ) (a : ℕ) (x : Placed) → asks_much c a x.slot * a ≤ amount_of x.slot.needs c
 much_times c a x = search rules
@@ -64,23 +63,11 @@ pieces_bear all asked q c a some v o p =
 apart_none : (x : Placed) (ys : List Placed) → is_set_apart x.slot ≡ true → list_all (λ y. are_apart x y) ys ≡ true → weight_on asks_own ys x.provider ≡ 0
 unfolding are_apart
 apart_none x [] s h = refl
-apart_none x (y ∷ ys) s h =
-    let both = and_parts (are_apart x y) (list_all (λ y. are_apart x y) ys) h in
-    let more = apart_none x ys s both.1 in
-    search rules
+apart_none x (y ∷ ys) s h = search (rules, and_parts, apart_none x ys s)
 
 apart_one : (xs : List Placed) (p : ℕ) → all_apart xs ≡ true → weight_on asks_own xs p ≤ 1
 apart_one [] p h = omega arith
-apart_one (x ∷ xs) p h =
-    let both = and_parts (list_all (λ y. are_apart x y) xs) (all_apart xs) h in
-    let more = apart_one xs p both.1 in
-    elim (cases_eq x.provider p) [
-      | inl e ↦ elim (cases_Bool (is_set_apart x.slot)) [
-        | inl s ↦ let none = subst (λ (r : ℕ). weight_on asks_own xs r ≡ 0) e (apart_none x xs s both.0) in let same = eq-eqb x.provider p e in rw (same, s) (omega (arith, none))
-        | inr s ↦ let same = eq-eqb x.provider p e in rw (same, s) (omega (arith, more))
-      ]
-      | inr e ↦ let other = ne_eqb x.provider p e in rw other (omega (arith, more))
-    ]
+apart_one (x ∷ xs) p h = search (rules, and_parts, apart_none, eq-eqb, ne_eqb, apart_one xs p)
 
 -- of the later slots at most one has a provider for itself
 own_one : (all : List Provider) (asked : Asked) (q v : List ℕ) → is_isolated asked ≡ true → is_open all asked (q ++ v) ≡ true → (p : ℕ) → weight_on asks_own (placed (later asked q) v) p ≤ 1

@@ -137,8 +137,7 @@ taken_at l r h =
     let n = length (providers_in l) in
     let size : r < length (range_with_len 0 n) = omega (arith, h, length-range_with_len 0 n) in
     let here : slice_index_or (range_with_len 0 n) r 0 ≡ r = get_or-range_with_len 0 n r 0 h ∙ omega arith in
-    ap (λ (bs : List Bool). slice_index_or bs r false) l.rooted
-    ∙ (get_or-map (takes_root (providers_in l) (asked_in l)) (range_with_len 0 n) r 0 false size ∙ ap (takes_root (providers_in l) (asked_in l)) here)
+    search (rules, get_or-map)
 
 -- ---- One more provider
 
@@ -151,9 +150,7 @@ sums_here l q p h k accounts open_q =
     let slots = query_asks l.query.now in
     let next = placed_next asked q p h in
     let front : Opens (providers_in l) asked (assigned asked q) = open_parts (providers_in l) asked (assigned asked q) open_q in
-    ap (sums (providers_in l)) next
-    ∙ sums_next (providers_in l) (texts_in l) (left_in l p) (assigned asked q) (placed_at asked (length q) p) (λ c known. accounts.left p c k known) (known_in l (length q) h) (placed_ask (slots_of asked) q slots)
-    (subst AskAmounts next (placed_ask (slots_of asked) (q ++ p ∷ []) slots)) (slot_asks l.query.now (length q) h) front.sums
+    grind (arith, nat_tests, sums_next, known_in, placed_ask, slot_asks)
 
 pub open_next : (l : Ledger) (q : List ℕ) (p : ℕ) → length q < length (slots_of (asked_in l)) → p < length (providers_in l) → Accounts l q
     → list_all (λ x. fits (providers_in l) x) (assigned (asked_in l) (q ++ p ∷ [])) ≡ true → is_open (providers_in l) (asked_in l) q ≡ true
@@ -207,8 +204,7 @@ room_back l q p v h within accounts e i d less =
     let c = at.0 in
     let sum = sum_here (assigned (asked_in l) q) (placed_at (asked_in l) (length q) p) p c refl in
     let same = ap (λ xs. sum_on xs p c) (placed_next (asked_in l) q p h) in
-    let wants = wanted_here v.items (p * length l.classes.items) (place_of (texts_in l) c) ∙ ap (λ ns. wanted ns (place_of (texts_in l) c)) (asks_at l (length q) v h e) ∙ wanted_is (texts_in l) (slot_at (asked_in l) (length q)).needs c (known_in l (length q) h) in
-    rw (← at.2) (omega (arith, sum, same, accounts.left p c within at.1, wants, l.small c at.1 p within))
+    search (rules, wanted_here, asks_at, wanted_is, known_in)
 
 pub mark_there : (l : Ledger) (q : List ℕ) (p : ℕ) → length q < length (slots_of (asked_in l)) → p < length (providers_in l) → Accounts l (q ++ p ∷ [])
     → needs_own (asked_in l) (slot_at (asked_in l) (length q)) ≡ true → 0 < slice_index l.marks.items p

@@ -26,10 +26,7 @@ use Rattle.std.proofs.Common.{rules}
 -- a class that is known stands at its place
 pub known_at : (classes : List (List ℕ)) (c : List ℕ) → IsKnown classes c → slice_index_or classes (place_of classes c) [] ≡ c
 known_at [] c h = absurd (omega arith)
-known_at (d ∷ classes) c h = elim (cases_Bool (bytes_eq d c)) [
-  | inl e ↦ rw e ((bytes_eq-Decides d c).0 e)
-  | inr e ↦ let less : IsKnown classes c = let more = rw e at h in omega arith in rw e (known_at classes c less)
-]
+known_at (d ∷ classes) c h = search (rules, bytes_eq-Decides, known_at classes c)
 
 same_place : (classes : List (List ℕ)) (c d : List ℕ) → IsKnown classes c → place_of classes c ≡ place_of classes d → c ≡ d
 same_place classes c d h e =
@@ -39,10 +36,7 @@ same_place classes c d h e =
 -- one more class
 known_more : (classes : List (List ℕ)) (d c : List ℕ) → IsKnown classes c → IsKnown (classes ++ d ∷ []) c
 known_more [] d c h = absurd (omega arith)
-known_more (b ∷ classes) d c h = elim (cases_Bool (bytes_eq b c)) [
-  | inl e ↦ rw e (omega arith)
-  | inr e ↦ let less : IsKnown classes c = let more = rw e at h in omega arith in let more = known_more classes d c less in rw e (omega (arith, more))
-]
+known_more (b ∷ classes) d c h = search (rules, known_more classes d c)
 
 known_last : (classes : List (List ℕ)) (c : List ℕ) → IsKnown (classes ++ c ∷ []) c
 known_last [] c = let same = (bytes_eq-Decides c c).1 refl in rw same (omega arith)
@@ -106,17 +100,7 @@ suffices_at : (classes : List (List ℕ)) (row : ℕ → ℕ) (needs ns : List (
     → list_all (λ a. nat_le (wanted (map (numbered classes) needs) a.0) (row a.0)) (map (numbered classes) ns) ≡ true → 0 < amount_of ns c
     → IsKnown classes c × (amount_of needs c ≤ row (place_of classes c))
 suffices_at classes row needs [] c all known h asks = absurd (omega arith)
-suffices_at classes row needs (n ∷ ns) c all known h asks =
-    let both = and_parts _ _ h in
-    elim (cases_Bool (bytes_eq n.0 c)) [
-      | inl e ↦
-          let same : n.0 ≡ c = (bytes_eq-Decides n.0 c).0 e in
-          let test : nat_le (wanted (map (numbered classes) needs) (place_of classes n.0)) (row (place_of classes n.0)) ≡ true = both.0 in
-          let less : wanted (map (numbered classes) needs) (place_of classes n.0) ≤ row (place_of classes n.0) = grind (arith, nat_tests) in
-          let fits : amount_of needs n.0 ≤ row (place_of classes n.0) = omega (arith, less, wanted_is classes needs n.0 all) in
-          subst (λ (d : List ℕ). IsKnown classes d × (amount_of needs d ≤ row (place_of classes d))) same (known.0, fits)
-      | inr e ↦ let less : 0 < amount_of ns c = let more = rw e at asks in omega arith in suffices_at classes row needs ns c all known.1 both.1 less
-    ]
+suffices_at classes row needs (n ∷ ns) c all known h asks = search (rules, and_parts, bytes_eq-Decides, wanted_is, suffices_at classes row needs ns c all known.1)
 
 -- ---- Classes that stand once
 

@@ -42,8 +42,7 @@ pub boxes_reach : {X : Type 0} (box amount : X → ℕ) (room : ℕ → ℕ) (xs
     → ((b : ℕ) → load_in box amount xs b ≤ room b) → load_of amount xs ≤ load_of room bs
 boxes_reach box amount room xs bs h k =
     let all = load_boxes box amount xs bs h in
-    let less = load_less (λ b. load_in box amount xs b) room bs k in
-    omega arith
+    search (rules, load_less)
 
 -- ---- Items one after another
 

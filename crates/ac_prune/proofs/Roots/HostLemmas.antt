@@ -40,9 +40,7 @@ each_host : (all : List Provider) (r : ℕ) (ss : List Slot) (t : List ℕ) → 
     → Each (λ x. Among (hosts_of all r) x.provider) (placed ss t)
 each_host all r [] t low h = tt
 each_host all r (s ∷ ss) [] low h = tt
-each_host all r (s ∷ ss) (p ∷ t) low h =
-    let both = and_parts (is_available_at all p r) (list_all (λ x. is_available_at all x.provider r) (placed ss t)) h in
-    (among_hosts all r p low.0 both.0, each_host all r ss t low.1 both.1)
+each_host all r (s ∷ ss) (p ∷ t) low h = search (rules, and_parts, among_hosts, each_host all r ss t low.1)
 
 each_behind : {X : Type 0} (P : X → Type 0) (xs ys : List X) → Each P (xs ++ ys) → Each P ys
 each_behind P [] ys h = h
@@ -89,14 +87,7 @@ pub stands : (all : List Provider) (asked : Asked) (t : List ℕ) → IsListBelo
 unfolding anchor
 stands all asked t list candidate =
     let opens : Opens all asked (assigned asked t) = candidate_parts all asked t candidate in
-    let found = any_found (λ r. takes_root all asked r && hosts_all all (assigned asked t) r) (range_with_len 0 (length all)) opens.anchor in
-    let both = and_parts (takes_root all asked found.0) (hosts_all all (assigned asked t) found.0) found.2 in
-    record {
-      root = found.0;
-      low = each_there (λ r. r < length all) (range_with_len 0 (length all)) found.0 (each_range 0 (length all) (length all) (omega arith)) found.1;
-      hosted = record { list = list; candidate = candidate; takes = both.0; hosts = both.1 };
-      available = sym (hosts_list all (slots_of asked) t found.0 (omega (arith, list.long))) ∙ both.1;
-    }
+    search (rules, any_found, and_parts, each_there, each_range, hosts_list)
 
 -- the last provider of a front, and those before it
 pub front_parts : (f : ℕ → Bool) (q v : List ℕ) (p : ℕ) → list_all f ((q ++ p ∷ []) ++ v) ≡ true → (list_all f q ≡ true) × (f p ≡ true)

@@ -56,14 +56,7 @@ later names x ss p t a more = record { slot = suc more.slot; within = omega (ari
 there_named : (names : List (List ℕ)) (ss : List Slot) (t : List ℕ) (a : ℕ) → is_there (listed names (placed ss t)) a ≡ true → IsOf names ss t a
 there_named names [] t a h = absurd (false≢true h)
 there_named names (x ∷ ss) [] a h = absurd (false≢true h)
-there_named names (x ∷ ss) (p ∷ t) a h =
-    elim (cases_Bool (lists_suffix names x.suffix)) [
-      | inr e ↦ later names x ss p t a (there_named names ss t a (rw e at h))
-      | inl e ↦ elim (cases_eq p a) [
-        | inl same ↦ record { slot = 0; within = omega arith; named = e; is = same }
-        | inr differs ↦ let other = ne_eqb p a differs in later names x ss p t a (there_named names ss t a (rw (e, other) at h))
-      ]
-    ]
+there_named names (x ∷ ss) (p ∷ t) a h = search (rules, later, ne_eqb, there_named names ss t a)
 
 -- ---- Links
 
@@ -97,8 +90,7 @@ has_top : (all : List Provider) (asked : Asked) (t : List ℕ) (k : ℕ) → is_
 unfolding is_candidate subtree
 has_top all asked t k candidate h =
     let each = candidate_subtree all asked (assigned asked t) candidate in
-    let test = λ (names : List (List ℕ)). list_any (λ a. is_top all (listed names (assigned asked t)) a) (listed names (assigned asked t)) in
-    elim (cases_Bool (test (get_or asked.subtrees k []))) [ inl e ↦ e | inr e ↦ absurd (false≢true (sym (list_all_at test asked.subtrees k [] h e) ∙ each)) ]
+    grind (arith, nat_tests, list_all_at)
 
 top_above : (all : List Provider) (ps : List ℕ) (a b : ℕ) → is_top all ps a ≡ true → is_there ps b ≡ true → is_above all (id_at all a) (id_at all b) ≡ true
 unfolding is_top

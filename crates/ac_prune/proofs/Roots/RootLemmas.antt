@@ -130,10 +130,7 @@ known_item text xs i x h is = subst (λ y. IsKnown (map text xs) (text y)) (sym 
 
 among_load : (f : ℕ → ℕ) (xs : List ℕ) (x : ℕ) → Among xs x → f x ≤ load_of f xs
 among_load f [] x h = absurd h
-among_load f (y ∷ xs) x h = elim h [
-  | inl e ↦ subst (λ (z : ℕ). f z ≤ f y + load_of f xs) e (omega arith)
-  | inr m ↦ let more = among_load f xs x m in omega (arith, more)
-]
+among_load f (y ∷ xs) x h = search (rules, among_load f xs x)
 
 -- what holds of each slot with its provider
 placed_holds : (P : Slot → ℕ → Type 0) (ss : List Slot) (t : List ℕ) (s : ℕ) → length t ≡ length ss → s < length ss → Each (λ (y : Placed). P y.slot y.provider) (placed ss t)
@@ -159,10 +156,7 @@ slot_hosted l r t s choices rooms h hosted are some =
     let p = slice_index t s in
     let host = placed_holds (λ slot p. Among (hosts_of all r) p) (slots_of asked) t s hosted.list.long h (behind_hosts all asked [] t r hosted) in
     let there : Among choices p = subst (λ (xs : List ℕ). Among xs p) (sym are) (choice_there all asked t s hosted.list hosted.candidate h) in
-    let at = place_of_choice choices p there in
-    let here = subst (λ (x : ℕ). 0 < slice_index rooms x) (at.2 0) (some at.0 at.1) in
-    let reach = among_load (λ p. slice_index rooms p) (hosts_of all r) p host in
-    omega (arith, here, reach)
+    grind (arith, nat_tests, place_of_choice, among_load)
 
 pub slot_keeps : (l : Ledger) (old new : List Bool) (choices rooms : List ℕ) (s : ℕ) → s < length (slots_of (asked_in l)) → choices ≡ choice_in l s → AreServing choices rooms
     → MayHost l old → length new ≡ length old → AreLimited (providers_in l) rooms 1 old new → MayHost l new
@@ -178,8 +172,7 @@ takes_host all asked taken is r t h hosted =
     let n = length all in
     let size : r < length (range_with_len 0 n) = omega (arith, h, length-range_with_len 0 n) in
     let here : slice_index_or (range_with_len 0 n) r 0 ≡ r = get_or-range_with_len 0 n r 0 h ∙ omega arith in
-    ap (λ (bs : List Bool). slice_index_or bs r false) is
-    ∙ (get_or-map (takes_root all asked) (range_with_len 0 n) r 0 false size ∙ (ap (takes_root all asked) here ∙ hosted.takes))
+    search (rules, get_or-map)
 
 pub choice_low : (all : List Provider) (asked : Asked) (slot : Slot) → All (λ p. p < length all) (choice_of all asked slot)
 choice_low all asked slot = All-from_recursion (λ p. p < length all) (choice_of all asked slot) (each_weaker _ (λ p. p < length all) (choice_of all asked slot) (λ p h. h.1) (each_choice all asked slot))
@@ -188,10 +181,7 @@ choice_low all asked slot = All-from_recursion (λ p. p < length all) (choice_of
 
 pub any_within : (f g : ℕ → Bool) (zs : List ℕ) → Each (λ z. f z ≡ true → g z ≡ true) zs → list_any f zs ≡ true → list_any g zs ≡ true
 any_within f g [] each h = h
-any_within f g (z ∷ zs) each h = elim (cases_Bool (f z)) [
-  | inl e ↦ rw (each.0 e) refl
-  | inr e ↦ let more = any_within f g zs each.1 (rw e at h) in elim (cases_Bool (g z)) [ inl t ↦ rw t refl | inr t ↦ rw (t, more) refl ]
-]
+any_within f g (z ∷ zs) each h = search (rules, any_within f g zs each.1)
 
 -- a front is dead where no marked root has all of it
 pub root_dead : (all : List Provider) (asked : Asked) (q : List ℕ) (p : ℕ) (may : List Bool) (hits : List ℕ) → AreRoots all asked may → AreHits all hits q

@@ -83,11 +83,7 @@ open_fits all asked q p h o =
     let xs = assigned asked q in
     let x = placed_at asked (length q) p in
     let parts : Opens all asked (xs ++ x ∷ []) = subst (Opens all asked) (placed_next asked q p h) (open_parts all asked (assigned asked (q ++ p ∷ [])) o) in
-    let units : units_fit all x ≡ true = all_last (λ y. units_fit all y) xs x parts.units in
-    let traits : traits_fit all x ≡ true = all_last (λ y. traits_fit all y) xs x parts.traits in
-    let aggregates : aggregates_fit all x ≡ true = all_last (λ y. aggregates_fit all y) xs x parts.aggregates in
-    let tree : tree_fits all x ≡ true = all_last (λ y. tree_fits all y) xs x parts.tree in
-    rw (units, traits, aggregates, tree) refl
+    search (rules, all_last)
 
 -- each amount is among what all of them ask of its class
 pub amounts_among : (needs : List (List ℕ × ℕ)) → Each (λ need. need.1 ≤ amount_of needs need.0) needs
@@ -103,9 +99,7 @@ sum_last (y ∷ xs) x c = let more = sum_last xs x c in omega (arith, more)
 pub room_each : (all : List Provider) (p : ℕ) (sum : List ℕ → ℕ) (ns : List (List ℕ × ℕ)) → Each (λ need. need.1 ≤ sum need.0) ns
     → list_all (λ (need : List ℕ × ℕ). holds (provider_at all p) need.0 (sum need.0)) ns ≡ true → list_all (λ (need : List ℕ × ℕ). holds (provider_at all p) need.0 need.1) ns ≡ true
 room_each all p sum [] less h = refl
-room_each all p sum (n ∷ ns) less h =
-    let both = and_parts (holds (provider_at all p) n.0 (sum n.0)) (list_all (λ (need : List ℕ × ℕ). holds (provider_at all p) need.0 (sum need.0)) ns) h in
-    and_from _ _ (room_less (inventory_of (provider_at all p) n.0) (used_of (provider_at all p) n.0) n.1 (sum n.0) less.0 both.0) (room_each all p sum ns less.1 both.1)
+room_each all p sum (n ∷ ns) less h = search (rules, and_parts, and_from, room_less, room_each all p sum ns less.1)
 
 -- and has room for what its slot alone asks
 pub open_room_alone : (all : List Provider) (asked : Asked) (q : List ℕ) (p : ℕ) → length q < length (slots_of asked) → is_open all asked (q ++ p ∷ []) ≡ true → has_room_alone all (placed_at asked (length q) p) ≡ true
