@@ -1,7 +1,7 @@
 -- What the path of a walk takes, and what it leaves.
 pub mod AheadLemmas
 pub mod BearLemmas
-pub mod ColumnLemmas
+pub mod RowLemmas
 pub mod FrontLemmas
 pub mod LeftLemmas
 pub mod LedgerLemmas

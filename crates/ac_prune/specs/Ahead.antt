@@ -1,6 +1,6 @@
 -- What lies ahead of a front: what the slots behind it still need at a root, and whether the root's providers can bear it.
 use Rattle.std.specs.Prelude.{◌≡◌, ℕ, ◌+◌, ◌-◌, ◌<◌, ◌≤◌, ◌==◌, ◌&&◌, Bool, true, false, nat_le, if◌then◌else◌, List, [], ◌∷◌, ◌++◌, length, drop, slice_index_or}
-use Rattle.std.specs.List.{list_all, list_any, filter, range_with_len}
+use Rattle.std.specs.List.{list_all, filter, range_with_len}
 use Rattle.ac_query.specs.Asked.{Asked, Slot, slots_of}
 use Rattle.ac_cloud.specs.World.{Provider, provider_at, is_available_at}
 use Rattle.ac_rules.specs.Lists.{IsListBelow}
@@ -70,10 +70,6 @@ asks_own s = if is_set_apart s then 1 else 0
 -- 1 for one that needs a provider for itself and asks so much or more
 abbrev pub lone_much : Asked → List ℕ → ℕ → Slot → ℕ
 lone_much asked class amount s = if needs_own asked s && nat_le amount (amount_of s.needs class) then 1 else 0
-
--- a slot of the front that stands apart has a provider
-abbrev pub is_kept : List Placed → ℕ → Bool
-is_kept xs p = list_any (λ x. is_set_apart x.slot && (x.provider == p)) xs
 
 -- a provider fits a slot, and has room for it behind a front
 unfoldable pub serves : List Provider → Asked → List ℕ → Slot → ℕ → Bool

@@ -4,7 +4,6 @@ use Rattle.ac_query.specs.Asked.{Asked, slots_of}
 use Rattle.ac_cloud.specs.World.{Provider}
 use Rattle.ac_rules.specs.Judge.{is_candidate}
 use Rattle.ac_rules.specs.Lists.{IsListBelow}
-use Rattle.ac_prune.specs.QuerySearch.{choices_of}
 use Rattle.ac_prune.specs.Trees.{AreByPart}
 use Rattle.ac_prune.specs.declared.families.Family.{Family}
 
@@ -20,4 +19,4 @@ pub record IsFamily (all : List Provider) (asked : Asked) (family : Family) : Ty
   pub within : (t : List ℕ) (s : ℕ) → IsListBelow (length all) (length (slots_of asked)) t → is_candidate all asked t ≡ true → Names family s → slice_index family.parts.items (slice_index t s) < length all
   pub one : (t : List ℕ) (s u : ℕ) → IsListBelow (length all) (length (slots_of asked)) t → is_candidate all asked t ≡ true → Names family s → Names family u
       → slice_index family.parts.items (slice_index t s) ≡ slice_index family.parts.items (slice_index t u)
-  pub placed : AreByPart (choices_of all asked) family.parts.items family.places.items
+  pub placed : AreByPart all asked family.parts.items family.places.items

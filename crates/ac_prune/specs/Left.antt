@@ -1,8 +1,8 @@
 -- What is left of rooms, class by class: classes by their numbers, and each room less what a front asks of it.
 pub mod Accounts
-use Rattle.std.specs.Prelude.{◌≡◌, ◌≢◌, ℕ, ◌+◌, ◌<◌, ◌^◌, suc, Bool, nat_le, if◌then◌else◌, ◌==◌, List, [], ◌∷◌, map, length, slice_index, slice_index_or}
+use Rattle.std.specs.Prelude.{◌≡◌, ℕ, ◌+◌, ◌*◌, ◌<◌, ◌^◌, suc, Bool, nat_le, if◌then◌else◌, ◌==◌, List, [], ◌∷◌, length, slice_index, slice_index_or}
 use Rattle.std.specs.Option.{unwrap_or}
-use Rattle.std.specs.List.{list_all, range_with_len}
+use Rattle.std.specs.List.{list_all}
 use Rattle.std.specs.Str.{bytes_eq}
 use Rattle.ac_cloud.specs.World.{Provider, provider_at, used_of}
 use Rattle.ac_rules.specs.Own.{inventory_of}
@@ -47,27 +47,22 @@ suffices left asks = list_all (λ a. nat_le (wanted asks a.0) (left a.0)) asks
 abbrev pub room_on : List Provider → ℕ → List ℕ → ℕ
 room_on all p class = unwrap_or (room_in (inventory_of (provider_at all p) class) (used_of (provider_at all p) class)) 0
 
--- the rooms of all providers for a class
-abbrev pub rooms_of : List Provider → List ℕ → List ℕ
-rooms_of all class = map (λ p. room_on all p class) (range_with_len 0 (length all))
-
--- each of them fits in 64 bits
+-- that of each provider fits in 64 bits
 abbrev pub AreSmall : List Provider → List ℕ → Type 0
 AreSmall all class = (p : ℕ) → p < length all → room_on all p class < 2 ^ 64
 
--- ---- Columns: what is left of each class, by its number, at each provider
+-- ---- Rows: what is left of each class, by its number, at each provider
 
--- what is left of a class at a provider
-abbrev pub left_at : List (List ℕ) → ℕ → ℕ → ℕ
-left_at columns p k = slice_index (slice_index_or columns k []) p
+-- each provider's room for each class, provider by provider
+abbrev pub AreRooms : List Provider → List (List ℕ) → ℕ → List ℕ → Type 0
+AreRooms all classes width rooms = (p k : ℕ) → p < length all → k < width → slice_index rooms (p * width + k) ≡ room_on all p (slice_index_or classes k [])
 
--- Of one provider some asks were taken and others given back, and of no other.
-pub record Moves (columns : List (List ℕ)) (p : ℕ) (taken given : List (ℕ × ℕ)) (new : List (List ℕ)) : Type 0 where
-  pub here : (k : ℕ) → left_at new p k + wanted taken k ≡ left_at columns p k + wanted given k
-  pub others : (r k : ℕ) → r ≢ p → left_at new r k ≡ left_at columns r k
-  pub sizes : map length new ≡ map length columns
+-- what asks want of a room, where the row of their provider begins at a place
+abbrev pub wanted_at : ℕ → List Ask → ℕ → ℕ
+wanted_at row [] i = 0
+wanted_at row (a ∷ asks) i = (if row + a.class == i then a.amount else 0) + wanted_at row asks i
 
 -- For each class the room of each provider is left, less what a front asks of it.
-abbrev pub AreLeft : List Provider → List (List ℕ) → List (List ℕ) → List Placed → Type 0
-AreLeft all classes columns xs = (p : ℕ) (class : List ℕ) → p < length all → IsKnown classes class
-    → left_at columns p (place_of classes class) + sum_on xs p class ≡ room_on all p class
+abbrev pub AreLeft : List Provider → List (List ℕ) → (ℕ → ℕ → ℕ) → List Placed → Type 0
+AreLeft all classes left xs = (p : ℕ) (class : List ℕ) → p < length all → IsKnown classes class
+    → left p (place_of classes class) + sum_on xs p class ≡ room_on all p class

@@ -7,7 +7,6 @@ use Rattle.ac_query.specs.Asked.{Asked}
 use Rattle.ac_cloud.specs.World.{Provider}
 use Rattle.ac_prune.specs.Ahead.{AreRoots}
 use Rattle.ac_prune.specs.Families.{IsFamily}
-use Rattle.ac_prune.specs.QuerySearch.{choices_of}
 use Rattle.ac_prune.specs.Trees.{AreByTree, HasProviders}
 use Rattle.ac_prune.specs.declared.lookout.Lookout.{Lookout}
 use Rattle.ac_prune.specs.declared.lookout.Test.{Test}
@@ -16,7 +15,7 @@ use Rattle.ac_prune.specs.declared.lookout.Test.TheVariants.{Ahead, Trees, Hosts
 -- a test is of some providers and a query
 abbrev pub IsTest : List Provider → Asked → Test → Type 0
 IsTest all asked (Ahead ahead) = HasProviders all ahead
-IsTest all asked (Trees trees) = AreByTree all (choices_of all asked) trees.slots.items
+IsTest all asked (Trees trees) = AreByTree all asked trees.slots.items
 IsTest all asked (Hosts hosts) = AreRoots all asked hosts.may.items
 IsTest all asked (Family family) = IsFamily all asked family
 

@@ -4,9 +4,9 @@ ghost use Rattle.std.specs.Prelude.{◌≡◌, ◌+◌, ◌-◌, ◌/◌, ◌<�
 ghost use Rattle.std.specs.List.{range_with_len};
 ghost use Rattle.ac_base.specs.Names.{class_bytes};
 ghost use Rattle.ac_cloud.specs.Cloud.CloudWorld.{providers_of};
-ghost use Rattle.ac_prune.specs.Left.Accounts.{providers_in, asked_in, texts_in, columns_in};
+ghost use Rattle.ac_prune.specs.Left.Accounts.{providers_in, asked_in, texts_in, left_in};
 ghost use Rattle.ac_prune.specs.Ahead.{load_of, hosts_of, IsHosted};
-ghost use Rattle.ac_prune.specs.Left.{IsKnown, left_at};
+ghost use Rattle.ac_prune.specs.Left.{IsKnown};
 ghost use Rattle.ac_prune.specs.Fronts.{search_at};
 ghost use Rattle.ac_prune.specs.Search.{IsDead};
 ghost use Rattle.ac_prune.specs.Trees.{HasProviders};
@@ -17,21 +17,17 @@ use crate::hosts::count_asking;
 use crate::ledger::Ledger;
 use crate::ledger::rooms::{Ask, number_of, wanted};
 use crate::look_ahead::LookAhead;
+use crate::tuning::{MOST_ASKS, MOST_HOSTS};
 use ac_base::{ClassName, NoMemory};
 use ac_cloud::Cloud;
 use std::alloc::Global;
-
-// How many amounts the slots may ask together, and how many providers a tree may have, to be looked at.
-const MOST_ASKS: usize = 128;
-
-const MOST_HOSTS: usize = 64;
 
 /// What is kept to look ahead along a path.
 #[derive(Drop)]
 pub(crate) struct Ahead {
     // The greatest depth whose slots ask other amounts of some class than the slot before them; 0 where there is none.
     last: usize,
-    // The providers by tree; none where that is 0.
+    // The providers by tree; none where `last` is 0.
     trees: ByTree,
 }
 
@@ -66,7 +62,7 @@ fn last_mixed(asks: &[Vec<Ask>]) -> usize {
     last
 }
 
-// The providers, where they are wanted; none otherwise.
+// All providers, where they are wanted; none otherwise.
 fn providers(alloc: Global, cloud: &Cloud, wanted: bool) -> Result<Vec<u32>, NoMemory>
     ensures few { IfOk result (λ places. length places.items ≤ length (providers_of cloud.now)) }
     ensures places { IfOk result (λ places. places.items ≡ range_with_len 0 (length places.items)) }
@@ -82,7 +78,7 @@ fn providers(alloc: Global, cloud: &Cloud, wanted: bool) -> Result<Vec<u32>, NoM
 }
 
 impl Ahead {
-    /// Of the slots and the cloud of a ledger.
+    /// What the slots and the cloud of a ledger give to look ahead.
     pub(crate) fn new(alloc: Global, ledger: &Ledger) -> Result<Ahead, NoMemory>
         ensures { IfOk result (λ ahead. HasProviders (providers_in ledger.now) ahead) }
     {
@@ -95,11 +91,11 @@ impl Ahead {
     // How many pieces of an amount the providers at a root have left, or more; the greatest number where these are too many.
     fn pieces_left(&self, ledger: &Ledger, root: u32, class: usize, amount: u64) -> u64
         requires trees { HasProviders (providers_in ledger.now) self.now }
-        requires whole { self.now.trees.count ≡ length (providers_in ledger.now) }
+        requires whole { self.now.trees.places.count ≡ length (providers_in ledger.now) }
         requires root { root < length (providers_in ledger.now) }
-        requires class { class < length (texts_in ledger.now) }
+        requires class { class < length ledger.now.classes.items }
         requires some { 0 < amount }
-        ensures { min (load_of (λ p. left_at (columns_in ledger.now) p class / amount)
+        ensures { min (load_of (λ p. left_in ledger.now p class / amount)
             (hosts_of (providers_in ledger.now) root)) (2 ^ 64 - 1) ≤ result }
     {
         let mut pieces = 0u64;
@@ -109,16 +105,16 @@ impl Ahead {
             if ix >= self.trees.len() {
                 return pieces;
             }
-            pieces = pieces.saturating_add(ledger.columns[class][ix] / amount);
+            pieces = pieces.saturating_add(ledger.left(ix, class) / amount);
             from = ix + 1;
         }
         u64::MAX
     }
 
-    // Whether they have fewer of some amount of a class than the slots behind a path ask for.
+    // Whether the providers at a root have fewer pieces of some amount of a class than the slots behind a path ask for.
     fn lacks(&self, front: &Front, root: u32, class: &ClassName) -> bool
         requires trees { HasProviders (providers_in front.now.ledger.now) self.now }
-        requires whole { self.now.trees.count ≡ length (providers_in front.now.ledger.now) }
+        requires whole { self.now.trees.places.count ≡ length (providers_in front.now.ledger.now) }
         requires root { root < length (providers_in front.now.ledger.now) }
         requires known { IsKnown (texts_in front.now.ledger.now) (class_bytes class.now) }
         requires some { 0 < length front.now.path.now }
@@ -146,10 +142,10 @@ impl Ahead {
         false
     }
 
-    // Whether they have fewer of some amount of any class.
+    // Whether the providers at a root lack pieces of some class in this way.
     fn lacks_any(&self, front: &Front, root: u32) -> bool
         requires trees { HasProviders (providers_in front.now.ledger.now) self.now }
-        requires whole { self.now.trees.count ≡ length (providers_in front.now.ledger.now) }
+        requires whole { self.now.trees.places.count ≡ length (providers_in front.now.ledger.now) }
         requires root { root < length (providers_in front.now.ledger.now) }
         requires some { 0 < length front.now.path.now }
         ensures { result ≡ true → (v : List ℕ) → IsHosted (providers_in front.now.ledger.now)
@@ -183,7 +179,7 @@ impl Ahead {
 impl LookAhead for Ahead {
     ghost is_of = { λ all asked ahead. HasProviders all ahead };
 
-    // It is looked at where no choice of the slot was: the path has just grown.
+    // The tree is looked at once for each path: before the first choice of the slot, when the path has just grown.
     fn next(&self, front: &Front, from: usize) -> usize {
         if from == 0 && self.falls_short(front) {
             front.choices.len()

@@ -6,25 +6,30 @@ ghost use Rattle.ac_cloud.specs.Cloud.CloudWorld.{providers_of};
 ghost use Rattle.ac_cloud.specs.World.{Provider, is_available_at};
 ghost use Rattle.ac_prune.specs.Trees.Keys.{key_of, is_there, IsUnder, IsLeastFrom, IsNextIn};
 
+use crate::tuning::MOST_PAIRS;
 use ac_base::NoMemory;
 use ac_cloud::Cloud;
 use std::alloc::Global;
 
-// How many pairs of a choice and a tree in which it is available are kept for a slot.
-const MOST_PAIRS: u64 = 1 << 18;
-
-/// The places of a slot's choices by tree: each choice stands in each tree in which it is available. Where that would be
-/// too many pairs, those of several trees stand in one tree of their own, past all others.
+/// Places of choices, each under the number of a tree or of a part, of which the next one under a number is found by binary
+/// search.
 #[derive(Drop)]
-pub(crate) struct ByTree {
-    // For each choice the number of each of its trees, which is the place of its root, and its place as one number; rising.
+pub(crate) struct Places {
+    // A tree, or a part, and a place in it as one number; rising.
     keys: Vec<u64>,
     // How many choices there are.
     count: usize,
-    // The number of the tree of those whose trees aren't told apart.
-    wide: u32,
     ghost rising: { (i j : ℕ) → i ≤ j → j < length keys.items → slice_index keys.items i ≤ slice_index keys.items j },
     ghost few: { count ≤ 65536 },
+}
+
+/// The places of a slot's choices by tree: each choice stands in each tree in which it is available, whose number is the place
+/// of its root. Where that would be too many pairs, those of several trees stand in one tree of their own, past all others.
+#[derive(Drop)]
+pub(crate) struct ByTree {
+    places: Places,
+    // The number of the tree of those whose trees aren't told apart.
+    wide: u32,
     ghost last: { wide ≤ 65536 },
 }
 
@@ -96,30 +101,23 @@ fn least_from(numbers: &[u64], bound: u64) -> u64
     }
 }
 
-impl ByTree {
-    ghost use Rattle.ac_prune.specs.Trees.{IsByTree, AreByTree, IsByPart};
+impl Places {
+    ghost use Rattle.ac_prune.specs.Trees.{IsByPart};
 
-    /// Those of some choices.
-    pub(crate) fn new(alloc: Global, cloud: &Cloud, choices: &[u32]) -> Result<ByTree, NoMemory>
-        requires few { length choices.now ≤ length (providers_of cloud.now) }
-        requires providers { All (λ p. p < length (providers_of cloud.now)) choices.now }
-        ensures { IfOk result (λ trees. IsByTree (providers_of cloud.now) choices.now trees) }
+    // The places of so many choices, by their keys in any order.
+    fn of_keys(keys: Vec<u64>, count: usize) -> Places
+        requires { count ≤ 65536 }
+        ensures count { result.count ≡ count }
+        ensures kept { (x : ℕ) → is_there keys.items x ≡ true
+            → is_there result.keys.items x ≡ true }
     {
-        let most = most_trees(cloud, choices);
-        let mut keys = Vec::new(alloc);
-        for (place, ix) in choices.iter().enumerate() {
-            push_choice(&mut keys, cloud, *ix, place, most)?;
-        }
+        let mut keys = keys;
         keys.sort_unstable();
-        Ok(ByTree {
-            keys,
-            count: choices.len(),
-            wide: cloud.len(),
-        })
+        Places { keys, count }
     }
 
-    /// The places of a slot's choices by their parts of the forest, a number for each provider.
-    pub(crate) fn by_part(alloc: Global, choices: &[u32], parts: &[u32]) -> Result<ByTree, NoMemory>
+    /// The places of some choices by their parts of the forest, a number for each provider.
+    pub(crate) fn by_part(alloc: Global, choices: &[u32], parts: &[u32]) -> Result<Places, NoMemory>
         requires few { length choices.now ≤ 65536 }
         requires providers { All (λ p. p < length parts.now) choices.now }
         ensures { IfOk result (λ places. IsByPart choices.now parts.now places) }
@@ -128,12 +126,7 @@ impl ByTree {
         for (place, ix) in choices.iter().enumerate() {
             keys.push(key(parts[*ix as usize], place))?;
         }
-        keys.sort_unstable();
-        Ok(ByTree {
-            keys,
-            count: choices.len(),
-            wide: 0,
-        })
+        Ok(Places::of_keys(keys, choices.len()))
     }
 
     /// How many choices there are.
@@ -151,22 +144,52 @@ impl ByTree {
         let least = least_from(&self.keys, key(tree, from)) - key(tree, 0);
         least.min(self.count as u64) as usize
     }
+}
+
+impl ByTree {
+    ghost use Rattle.ac_prune.specs.Trees.{IsByTree, AreByTree};
+
+    /// The places of some choices by tree.
+    #[tactic(auto, using(crate::proofs::Roots::TreeLemmas::few_providers))]
+    pub(crate) fn new(alloc: Global, cloud: &Cloud, choices: &[u32]) -> Result<ByTree, NoMemory>
+        requires few { length choices.now ≤ length (providers_of cloud.now) }
+        requires providers { All (λ p. p < length (providers_of cloud.now)) choices.now }
+        ensures { IfOk result (λ trees. IsByTree (providers_of cloud.now) choices.now trees) }
+    {
+        let most = most_trees(cloud, choices);
+        let mut keys = Vec::new(alloc);
+        for (place, ix) in choices.iter().enumerate() {
+            push_choice(&mut keys, cloud, *ix, place, most)?;
+        }
+        Ok(ByTree {
+            places: Places::of_keys(keys, choices.len()),
+            wide: cloud.len(),
+        })
+    }
+
+    /// How many choices there are.
+    pub(crate) fn len(&self) -> usize
+        ensures { result ≡ self.now.places.count }
+    {
+        self.places.len()
+    }
 
     /// The least place from one on whose choice may be available in one of some trees; past the end where there is none.
     pub(crate) fn next(&self, trees: &[u32], from: usize) -> usize
-        requires { from ≤ self.now.count }
+        requires { from ≤ self.now.places.count }
         ensures kept { from ≤ result }
-        ensures within { result ≤ self.now.count }
-        ensures there { result < self.now.count
-            → (is_there self.now.keys.items (key_of self.now.wide result)
-            || list_any (λ r. is_there self.now.keys.items (key_of r result)) trees.now) ≡ true }
+        ensures within { result ≤ self.now.places.count }
+        ensures there { result < self.now.places.count
+            → (is_there self.now.places.keys.items (key_of self.now.wide result)
+            || list_any (λ r. is_there self.now.places.keys.items (key_of r result)) trees.now)
+            ≡ true }
         ensures passed { (all : List Provider) (choices : List ℕ) → IsByTree all choices self.now
             → (r i : ℕ) → is_there trees.now r ≡ true → r < length all → from ≤ i → i < result
             → is_available_at all (slice_index choices i) r ≡ false }
     {
-        let mut least = self.next_in(self.wide, from);
+        let mut least = self.places.next_in(self.wide, from);
         for tree in trees {
-            least = least.min(self.next_in(*tree, from));
+            least = least.min(self.places.next_in(*tree, from));
         }
         least
     }

@@ -1,6 +1,7 @@
 //! The providers that each slot may have: those that meet its rules and have room for what it alone asks.
 
-ghost use Rattle.std.specs.Prelude.{◌≡◌, ◌<◌, ◌&&◌, IfOk, [], length, map};
+ghost use Rattle.std.specs.Prelude.{◌≡◌, ◌<◌, ◌≤◌, ◌&&◌, IfOk, [], length, map};
+ghost use Rattle.std.specs.List.{All};
 ghost use Rattle.ac_query.specs.Asked.{slots_of};
 ghost use Rattle.ac_rules.specs.Placed.{placed_at};
 ghost use Rattle.ac_rules.specs.Judge.{is_open};
@@ -42,6 +43,26 @@ fn slot_choices(alloc: Global, ledger: &Ledger, s: usize, opens: bool) -> Result
         }
     }
     Ok(choices)
+}
+
+/// The choices of all slots, beside the ledger that they are of.
+#[derive(Drop)]
+pub(crate) struct Choices<'c, 'a> {
+    pub(crate) ledger: &'c Ledger<'a>,
+    pub(crate) lists: &'c [Vec<u32>],
+    ghost listed: { map (λ v. v.items) lists.now ≡ choices_in ledger.now },
+}
+
+impl<'c, 'a> Choices<'c, 'a> {
+    /// The choices of a slot.
+    pub(crate) fn of_slot(&self, s: usize) -> &[u32]
+        requires { s < length (slots_of (asked_in self.now.ledger.now)) }
+        ensures list { result.now ≡ choice_in self.now.ledger.now s }
+        ensures few { length result.now ≤ length (providers_in self.now.ledger.now) }
+        ensures low { All (λ p. p < length (providers_in self.now.ledger.now)) result.now }
+    {
+        &self.lists[s]
+    }
 }
 
 /// The providers that each slot may have, by the ledger of an empty path.

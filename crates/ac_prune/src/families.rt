@@ -1,41 +1,38 @@
 //! The lists of `same_subtree`: which slots each names, and in which parts of the forest their providers stand together.
 
-ghost use Rattle.std.specs.Prelude.{◌≡◌, ◌<◌, ◌≤◌, ◌++◌, ◌∷◌, ℕ, List, [], true, false, length, map, get_or, slice_index, slice_index_or, IfOk};
+ghost use Rattle.std.specs.Prelude.{◌≡◌, ◌<◌, ◌≤◌, List, [], true, false, length, map, get_or, slice_index, slice_index_or, IfOk};
 ghost use Rattle.ac_prune.specs.Trees.{IsByPart, AreByPart};
 ghost use Rattle.std.specs.List.{All};
 ghost use Rattle.ac_query.specs.Asked.{Asked, slots_of, lists_suffix};
 ghost use Rattle.ac_query.specs.Shown.Queries.{asked_of};
 ghost use Rattle.ac_cloud.specs.World.{Provider};
 ghost use Rattle.ac_rules.specs.Placed.{slot_at};
-ghost use Rattle.ac_prune.specs.Left.Accounts.{providers_in, asked_in, Accounts};
-ghost use Rattle.ac_prune.specs.Loads.{choices_in};
+ghost use Rattle.ac_prune.specs.Left.Accounts.{providers_in, asked_in};
 
 pub mod parts;
 
-use crate::by_tree::ByTree;
+use crate::by_tree::Places;
+use crate::choices::Choices;
 use crate::families::parts::parts_of;
 use crate::front::Front;
-use crate::ledger::Ledger;
 use crate::look_ahead::LookAhead;
+use crate::tuning::MOST_PLACES;
 use ac_base::NoMemory;
 use ac_query::Query;
 use ac_rules::slots::{count_slots, is_listed};
 use std::alloc::Global;
-
-// How many choices of a list's slots are kept by part.
-const MOST_PLACES: usize = 1 << 18;
 
 /// A list of `same_subtree`.
 #[derive(Drop)]
 pub(crate) struct Family {
     // For each slot whether the list names it.
     named: Vec<bool>,
-    // The first one that is named.
+    // The first slot that the list names; past the end where it names none.
     first: usize,
     // For each provider its part.
     parts: Vec<u32>,
     // For each slot that is named the places of its choices by part, where they aren't too many; none of the others.
-    places: Vec<ByTree>,
+    places: Vec<Places>,
 }
 
 // For each slot whether a list names it.
@@ -65,47 +62,48 @@ fn first_marked(marks: &[bool]) -> usize
 }
 
 // How many choices the slots that a list names have together.
-fn count_named(named: &[bool], choices: &[Vec<u32>]) -> usize {
+fn count_named(choices: &Choices, named: &[bool]) -> usize
+    requires { length named.now ≡ length (slots_of (asked_in choices.now.ledger.now)) }
+{
     let mut count = 0usize;
-    for (is_named, list) in named.iter().zip(choices) {
+    for (s, is_named) in named.iter().enumerate() {
         if *is_named {
-            count = count.saturating_add(list.len());
+            count = count.saturating_add(choices.of_slot(s).len());
         }
     }
     count
 }
 
 // The places of a slot's choices by part, where they are wanted; none otherwise.
-fn places_of(alloc: Global, wanted: bool, list: &[u32], parts: &[u32]) -> Result<ByTree, NoMemory>
+fn places_of(alloc: Global, wanted: bool, list: &[u32], parts: &[u32]) -> Result<Places, NoMemory>
     requires few { length list.now ≤ 65536 }
     requires providers { All (λ p. p < length parts.now) list.now }
     ensures { IfOk result (λ places. IsByPart list.now parts.now places) }
 {
     if wanted {
-        ByTree::by_part(alloc, list, parts)
+        Places::by_part(alloc, list, parts)
     } else {
-        ByTree::by_part(alloc, &[], parts)
+        Places::by_part(alloc, &[], parts)
     }
 }
 
-// Those of all slots.
+// The places of each slot's choices by part, where these aren't too many.
+#[tactic(auto, using(crate::proofs::Roots::TreeLemmas::few_providers))]
 fn all_places(
     alloc: Global,
+    choices: &Choices,
     named: &[bool],
-    choices: &[Vec<u32>],
     parts: &[u32],
-) -> Result<Vec<ByTree>, NoMemory>
-    requires named { length named.now ≡ length choices.now }
-    requires few { (s : ℕ) → s < length choices.now
-        → length (slice_index_or (map (λ v. v.items) choices.now) s []) ≤ 65536 }
-    requires providers { (s : ℕ) → s < length choices.now
-        → All (λ p. p < length parts.now) (slice_index_or (map (λ v. v.items) choices.now) s []) }
-    ensures { IfOk result (λ all. AreByPart (map (λ v. v.items) choices.now) parts.now all.items) }
+) -> Result<Vec<Places>, NoMemory>
+    requires named { length named.now ≡ length (slots_of (asked_in choices.now.ledger.now)) }
+    requires parts { length parts.now ≡ length (providers_in choices.now.ledger.now) }
+    ensures { IfOk result (λ all. AreByPart (providers_in choices.now.ledger.now)
+        (asked_in choices.now.ledger.now) parts.now all.items) }
 {
-    let few = count_named(named, choices) <= MOST_PLACES;
+    let few = count_named(choices, named) <= MOST_PLACES;
     let mut all = Vec::new(alloc);
-    for (s, list) in choices.iter().enumerate() {
-        all.push(places_of(alloc, few && named[s], list, parts)?)?;
+    for (s, is_named) in named.iter().enumerate() {
+        all.push(places_of(alloc, few && *is_named, choices.of_slot(s), parts)?)?;
     }
     Ok(all)
 }
@@ -113,22 +111,16 @@ fn all_places(
 impl Family {
     ghost use Rattle.ac_prune.specs.Families.{IsFamily};
 
-    /// The list at a place, of the query of a ledger before anything is placed.
-    pub(crate) fn new(
-        alloc: Global,
-        ledger: &Ledger,
-        k: usize,
-        choices: &[Vec<u32>],
-    ) -> Result<Family, NoMemory>
-        requires list { k < length (asked_in ledger.now).subtrees }
-        requires choices { map (λ v. v.items) choices.now ≡ choices_in ledger.now }
-        ensures { IfOk result (λ family.
-            IsFamily (providers_in ledger.now) (asked_in ledger.now) family) }
+    /// The list at a place, by the choices of all slots.
+    pub(crate) fn new(alloc: Global, choices: &Choices, k: usize) -> Result<Family, NoMemory>
+        requires { k < length (asked_in choices.now.ledger.now).subtrees }
+        ensures { IfOk result (λ family. IsFamily (providers_in choices.now.ledger.now)
+            (asked_in choices.now.ledger.now) family) }
     {
-        let parts = parts_of(alloc, ledger, k, choices)?;
-        let named = named_slots(alloc, ledger.query, k)?;
+        let parts = parts_of(alloc, choices, k)?;
+        let named = named_slots(alloc, choices.ledger.query, k)?;
         let first = first_marked(&named);
-        let places = all_places(alloc, &named, choices, &parts)?;
+        let places = all_places(alloc, choices, &named, &parts)?;
         Ok(Family {
             named,
             first,

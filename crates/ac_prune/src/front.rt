@@ -11,10 +11,8 @@ ghost use Rattle.ac_prune.specs.Search.{choices_at};
 ghost use Rattle.ac_prune.specs.Trees.Keys.{is_there};
 
 use crate::ledger::Ledger;
+use crate::tuning::FEW;
 use ac_cloud::Cloud;
-
-// To how many trees a path is bound at the most.
-const FEW: usize = 8;
 
 /// A path of providers that isn't whole yet, and the choices of the slot behind it.
 #[derive(Drop)]

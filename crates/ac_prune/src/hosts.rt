@@ -1,19 +1,21 @@
 //! Which roots may host a candidate: what the providers of each root have together, counted once for all roots.
 
-ghost use Rattle.std.specs.Prelude.{◌≡◌, ◌<◌, [], length, map, IfOk};
+ghost use Rattle.std.specs.Prelude.{◌≡◌, ◌<◌, [], length, IfOk};
 ghost use Rattle.std.specs.List.{All};
 ghost use Rattle.ac_query.specs.Asked.{slots_of};
 ghost use Rattle.ac_prune.specs.Left.Accounts.{asked_in, Accounts};
 ghost use Rattle.ac_prune.specs.Ahead.{AreRoots};
-ghost use Rattle.ac_prune.specs.Loads.{AreServing, MayHost, choice_in, choices_in};
+ghost use Rattle.ac_prune.specs.Loads.{AreServing, MayHost};
 
 mod column;
 mod loads;
 
+use crate::choices::Choices;
 use crate::front::Front;
 use crate::ledger::Ledger;
 use crate::ledger::marks::{has_full, taken_roots};
 use crate::look_ahead::LookAhead;
+use crate::tuning::MOST_STEPS;
 use ac_base::NoMemory;
 use ac_cloud::Cloud;
 use ac_rules::slots::count_slots;
@@ -21,9 +23,6 @@ use column::Column;
 pub(crate) use column::count_asking;
 pub use loads::limit;
 use std::alloc::Global;
-
-// How many steps all tests may take together.
-const MOST_STEPS: u64 = 1 << 28;
 
 /// How many tests of all roots may still be made, so that they don't take longer than the search that they shorten.
 #[derive(Drop)]
@@ -52,7 +51,7 @@ impl Budget {
         }
     }
 
-    /// Whether one more may be made, which counts.
+    /// Whether one more test may be made; it is counted as made.
     pub(crate) fn take(&mut self) -> bool {
         let some = self.tests > 0;
         self.tests = self.tests.saturating_sub(1);
@@ -74,39 +73,31 @@ fn serving(alloc: Global, count: usize, choices: &[u32]) -> Result<Vec<u64>, NoM
 }
 
 // Drops the roots at which no choice of a slot is available.
-fn limit_slot(
-    alloc: Global,
-    ledger: &Ledger,
-    choices: &[u32],
-    s: usize,
-    may: &mut [bool],
-) -> Result<(), NoMemory>
-    requires slot { s < length (slots_of (asked_in ledger.now)) }
-    requires choices { choices.now ≡ choice_in ledger.now s }
-    requires hosts { MayHost ledger.now may.old }
-    ensures { IfOk result (λ _. MayHost ledger.now may.new) }
+fn limit_slot(alloc: Global, choices: &Choices, s: usize, may: &mut [bool]) -> Result<(), NoMemory>
+    requires slot { s < length (slots_of (asked_in choices.now.ledger.now)) }
+    requires hosts { MayHost choices.now.ledger.now may.old }
+    ensures { IfOk result (λ _. MayHost choices.now.ledger.now may.new) }
 {
-    let rooms = serving(alloc, ledger.cloud.len() as usize, choices)?;
-    limit(alloc, ledger.cloud, may, &rooms, 1)
+    let cloud = choices.ledger.cloud;
+    let rooms = serving(alloc, cloud.len() as usize, choices.of_slot(s))?;
+    limit(alloc, cloud, may, &rooms, 1)
 }
 
 // Drops the roots at which some slot has no choice available.
 fn limit_slots(
     alloc: Global,
-    ledger: &Ledger,
-    choices: &[Vec<u32>],
+    choices: &Choices,
     budget: &mut Budget,
     may: &mut [bool],
 ) -> Result<(), NoMemory>
-    requires choices { map (λ v. v.items) choices.now ≡ choices_in ledger.now }
-    requires hosts { MayHost ledger.now may.old }
-    ensures { IfOk result (λ _. MayHost ledger.now may.new) }
+    requires { MayHost choices.now.ledger.now may.old }
+    ensures { IfOk result (λ _. MayHost choices.now.ledger.now may.new) }
 {
-    for s in 0..count_slots(ledger.query) {
+    for s in 0..count_slots(choices.ledger.query) {
         if !may.contains(&true) || !budget.take() {
             return Ok(());
         }
-        limit_slot(alloc, ledger, &choices[s], s, may)?;
+        limit_slot(alloc, choices, s, may)?;
     }
     Ok(())
 }
@@ -127,25 +118,20 @@ fn limit_classes(
         if !may.contains(&true) || budget.tests == 0 {
             return Ok(());
         }
-        Column::new(ledger, class).limit(alloc, test, budget, may)?;
+        Column::new(alloc, ledger, class)?.limit(alloc, test, budget, may)?;
     }
     Ok(())
 }
 
 // Drops the roots that fail some test, as far as the budget goes.
-fn limit_all(
-    alloc: Global,
-    ledger: &Ledger,
-    choices: &[Vec<u32>],
-    may: &mut [bool],
-) -> Result<(), NoMemory>
-    requires choices { map (λ v. v.items) choices.now ≡ choices_in ledger.now }
-    requires empty { Accounts ledger.now [] }
-    requires hosts { MayHost ledger.now may.old }
-    ensures { IfOk result (λ _. MayHost ledger.now may.new) }
+fn limit_all(alloc: Global, choices: &Choices, may: &mut [bool]) -> Result<(), NoMemory>
+    requires empty { Accounts choices.now.ledger.now [] }
+    requires hosts { MayHost choices.now.ledger.now may.old }
+    ensures { IfOk result (λ _. MayHost choices.now.ledger.now may.new) }
 {
+    let ledger = choices.ledger;
     let mut budget = Budget::of_cloud(ledger.cloud);
-    limit_slots(alloc, ledger, choices, &mut budget, may)?;
+    limit_slots(alloc, choices, &mut budget, may)?;
     limit_classes(alloc, ledger, ClassTest::Sums, &mut budget, may)?;
     limit_classes(alloc, ledger, ClassTest::Pieces, &mut budget, may)
 }
@@ -160,18 +146,13 @@ pub(crate) struct Hosts {
 }
 
 impl Hosts {
-    /// Of the cloud and the query of a ledger, before anything is placed, and of the choices of the slots.
-    pub(crate) fn new(
-        alloc: Global,
-        ledger: &Ledger,
-        choices: &[Vec<u32>],
-    ) -> Result<Hosts, NoMemory>
-        requires choices { map (λ v. v.items) choices.now ≡ choices_in ledger.now }
-        requires empty { Accounts ledger.now [] }
-        ensures { IfOk result (λ hosts. MayHost ledger.now hosts.may.items) }
+    /// The roots that may host a candidate, by the choices of all slots, before anything is placed.
+    pub(crate) fn new(alloc: Global, choices: &Choices) -> Result<Hosts, NoMemory>
+        requires { Accounts choices.now.ledger.now [] }
+        ensures { IfOk result (λ hosts. MayHost choices.now.ledger.now hosts.may.items) }
     {
-        let mut may = taken_roots(alloc, ledger.cloud, ledger.query)?;
-        limit_all(alloc, ledger, choices, &mut may)?;
+        let mut may = taken_roots(alloc, choices.ledger.cloud, choices.ledger.query)?;
+        limit_all(alloc, choices, &mut may)?;
         Ok(Hosts { may })
     }
 }

@@ -1,6 +1,6 @@
 //! What the path of a walk takes, in plain numbers, so that a try looks at one provider alone.
 
-ghost use Rattle.std.specs.Prelude.{◌≡◌, ◌<◌, ◌≤◌, ◌^◌, ◌++◌, ◌∷◌, ◌&&◌, ◌==◌, [], ℕ, List, length, map, replicate, true, false, not, nat_lt, slice_index, slice_index_or, IfOk};
+ghost use Rattle.std.specs.Prelude.{◌≡◌, ◌<◌, ◌≤◌, ◌*◌, ◌++◌, ◌∷◌, ◌&&◌, ◌==◌, [], ℕ, List, length, map, true, false, not, nat_lt, slice_index, slice_index_or, IfOk};
 ghost use Rattle.std.specs.List.{All, list_all, list_any, range_with_len};
 ghost use Rattle.ac_base.specs.Names.{class_bytes};
 ghost use Rattle.ac_cloud.specs.Cloud.CloudWorld.{providers_of};
@@ -11,14 +11,14 @@ ghost use Rattle.ac_rules.specs.Placed.{slot_at, assigned};
 ghost use Rattle.ac_rules.specs.Together.{takes_root};
 ghost use Rattle.ac_rules.specs.Judge.{is_open};
 ghost use Rattle.ac_prune.specs.QuerySearch.{fits};
-ghost use Rattle.ac_prune.specs.Left.{IsKnown, ask_pair, numbered, left_at, AreSmall, suffices};
+ghost use Rattle.ac_prune.specs.Left.{IsKnown, ask_pair, numbered, AreSmall, suffices};
 ghost use Rattle.ac_prune.specs.Marks.{needs_own};
 
 pub mod marks;
 pub mod rooms;
 
 use crate::ledger::marks::{has_full, hit, lone_slots, mark, taken_roots, unhit, unmark};
-use crate::ledger::rooms::{Ask, all_asks, all_classes, all_columns, give_back, has_each, take};
+use crate::ledger::rooms::{Ask, all_asks, all_classes, all_rooms, give_back, has_each, take};
 use ac_base::{ClassName, NoMemory};
 use ac_cloud::Cloud;
 use ac_query::Query;
@@ -29,10 +29,10 @@ use std::alloc::Global;
 pub struct Ledger<'a> {
     pub cloud: &'a Cloud,
     pub query: &'a Query,
-    // The classes that the slots ask for, what each slot asks of them, and what is left of each at each provider.
+    // The classes that the slots ask for, what each slot asks of them, and what is left of each, provider by provider.
     pub(crate) classes: Vec<&'a ClassName>,
     pub(crate) asks: Vec<Vec<Ask>>,
-    pub(crate) columns: Vec<Vec<u64>>,
+    rooms: Vec<u64>,
     // The slots that need a provider for themselves, and how many of them each provider has.
     pub(crate) lone: Vec<bool>,
     marks: Vec<u32>,
@@ -41,7 +41,7 @@ pub struct Ledger<'a> {
     pub(crate) hits: Vec<u32>,
     ghost known: { (s : ℕ) → s < length (slots_of (asked_of query.now)) → All (λ need. IsKnown (map (λ c. class_bytes c.now) classes.items) need.0) (slot_at (asked_of query.now) s).needs },
     ghost asked: { map (λ v. map ask_pair v.items) asks.items ≡ map (λ slot. map (numbered (map (λ c. class_bytes c.now) classes.items)) slot.needs) (slots_of (asked_of query.now)) },
-    ghost sized: { map (λ column. length column.items) columns.items ≡ replicate (length classes.items) (length (providers_of cloud.now)) },
+    ghost sized: { length rooms.items ≡ length (providers_of cloud.now) * length classes.items },
     ghost small: { (c : List ℕ) → IsKnown (map (λ c. class_bytes c.now) classes.items) c → AreSmall (providers_of cloud.now) c },
     ghost alone: { lone.items ≡ map (needs_own (asked_of query.now)) (slots_of (asked_of query.now)) },
     ghost marked: { length marks.items ≡ length (providers_of cloud.now) },
@@ -50,9 +50,9 @@ pub struct Ledger<'a> {
 }
 
 impl<'a> Ledger<'a> {
-    ghost use Rattle.ac_prune.specs.Left.Accounts.{providers_in, asked_in, texts_in, columns_in, Accounts, IsSameLedger};
+    ghost use Rattle.ac_prune.specs.Left.Accounts.{providers_in, asked_in, texts_in, left_in, Accounts, IsSameLedger};
 
-    /// Of an empty path. It takes all its memory here.
+    /// The ledger of an empty path. All its memory is taken here.
     pub fn new(alloc: Global, cloud: &'a Cloud, query: &'a Query) -> Result<Ledger<'a>, NoMemory>
         ensures cloud { IfOk result (λ ledger. ledger.cloud ≡ cloud.entry) }
         ensures query { IfOk result (λ ledger. ledger.query ≡ query.entry) }
@@ -60,7 +60,7 @@ impl<'a> Ledger<'a> {
     {
         let classes = all_classes(alloc, query)?;
         let asks = all_asks(alloc, query, &classes)?;
-        let columns = all_columns(alloc, cloud, &classes)?;
+        let rooms = all_rooms(alloc, cloud, &classes)?;
         let lone = lone_slots(alloc, query)?;
         let taken = taken_roots(alloc, cloud, query)?;
         let count = cloud.len() as usize;
@@ -71,12 +71,29 @@ impl<'a> Ledger<'a> {
             query,
             classes,
             asks,
-            columns,
+            rooms,
             lone,
             marks,
             taken,
             hits,
         })
+    }
+
+    // Where the rooms of a provider begin.
+    fn row(&self, ix: usize) -> usize
+        requires { ix < length (providers_in self.now) }
+        ensures { result ≡ ix * length self.now.classes.items }
+    {
+        ix * self.classes.len()
+    }
+
+    /// What a provider has left of the class of a number.
+    pub(crate) fn left(&self, ix: usize, class: usize) -> u64
+        requires provider { ix < length (providers_in self.now) }
+        requires class { class < length self.now.classes.items }
+        ensures { result ≡ left_in self.now ix class }
+    {
+        self.rooms[self.row(ix) + class]
     }
 
     // Whether the next slot may have a provider as far as Isolate goes.
@@ -93,10 +110,10 @@ impl<'a> Ledger<'a> {
     pub(crate) fn has_enough(&self, s: usize, ix: u32) -> bool
         requires slot { s < length (slots_of (asked_in self.now)) }
         requires provider { ix < length (providers_in self.now) }
-        ensures { result ≡ suffices (left_at (columns_in self.now) ix)
+        ensures { result ≡ suffices (left_in self.now ix)
             (map (numbered (texts_in self.now)) (slot_at (asked_in self.now) s).needs) }
     {
-        has_each(&self.columns, ix as usize, &self.asks[s])
+        has_each(&self.rooms, self.row(ix as usize), &self.asks[s])
     }
 
     // Whether a whole path of a depth keeps a root with one more provider.
@@ -138,7 +155,8 @@ impl<'a> Ledger<'a> {
     {
         let s = front.len();
         let at = ix as usize;
-        take(&mut self.columns, at, &self.asks[s]);
+        let row = self.row(at);
+        take(&mut self.rooms, row, &self.asks[s]);
         mark(&mut self.marks, self.lone[s], at);
         hit(&mut self.hits, self.cloud.anchors(ix));
     }
@@ -153,7 +171,8 @@ impl<'a> Ledger<'a> {
     {
         let s = front.len();
         let at = ix as usize;
-        give_back(&mut self.columns, at, &self.asks[s]);
+        let row = self.row(at);
+        give_back(&mut self.rooms, row, &self.asks[s]);
         unmark(&mut self.marks, self.lone[s], at);
         unhit(&mut self.hits, self.cloud.anchors(ix));
     }

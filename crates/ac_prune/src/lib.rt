@@ -15,6 +15,7 @@ mod look_ahead;
 mod lookout;
 mod open;
 mod trees;
+mod tuning;
 
 pub use choices::all_choices;
 pub use front::{Front, bound_by};

@@ -5,17 +5,16 @@ ghost use Rattle.ac_prune.specs.Loads.{choices_in};
 ghost use Rattle.ac_prune.specs.Tests.{AreTests, IsTest};
 
 use crate::ahead::Ahead;
+use crate::choices::Choices;
 use crate::families::Family;
 use crate::front::Front;
 use crate::hosts::Hosts;
 use crate::ledger::Ledger;
 use crate::look_ahead::LookAhead;
 use crate::trees::Trees;
+use crate::tuning::MOST_FAMILIES;
 use ac_base::NoMemory;
 use std::alloc::Global;
-
-// How many lists of `same_subtree` are looked at ahead; further ones are judged when all slots have a provider, as all are.
-const MOST_FAMILIES: usize = 16;
 
 /// One of the tests.
 #[derive(Drop)]
@@ -62,12 +61,16 @@ impl Lookout {
         ensures { IfOk result (λ lookout.
             AreTests (providers_in ledger.now) (asked_in ledger.now) lookout) }
     {
+        let choices = Choices {
+            ledger,
+            lists: choices,
+        };
         let mut tests = Vec::new(alloc);
         tests.push(Test::Ahead(Ahead::new(alloc, ledger)?))?;
-        tests.push(Test::Trees(Trees::new(alloc, ledger, choices)?))?;
-        tests.push(Test::Hosts(Hosts::new(alloc, ledger, choices)?))?;
+        tests.push(Test::Trees(Trees::new(alloc, &choices)?))?;
+        tests.push(Test::Hosts(Hosts::new(alloc, &choices)?))?;
         for k in 0..ledger.query.subtrees().min(MOST_FAMILIES) {
-            tests.push(Test::Family(Family::new(alloc, ledger, k, choices)?))?;
+            tests.push(Test::Family(Family::new(alloc, &choices, k)?))?;
         }
         Ok(Lookout { tests })
     }

@@ -14,13 +14,15 @@ use Rattle.ac_prune.specs.Marks.{needs_own}
 use Rattle.ac_rules.specs.Together.{amount_of, sum_on, holds, holds_sums, sums, is_set_apart, are_apart, all_apart, isolate}
 use Rattle.ac_rules.specs.Judge.{is_open}
 use Rattle.ac_prune.specs.QuerySearch.{fits}
-use Rattle.ac_prune.specs.Ahead.{weight_on, later, Bears, left_on, asks_much, asks_own, lone_much, is_kept, serves}
+use Rattle.ac_prune.specs.Ahead.{weight_on, later, Bears, left_on, asks_much, asks_own, lone_much, serves}
 use Rattle.ac_rules.proofs.Elements.{each_weaker, each_both}
 use Rattle.ac_rules.proofs.PlacedLemmas.{placed_append}
 use Rattle.ac_rules.proofs.EachSlot.FrontLemmas.{Opens, open_parts, all_weaker, room_less}
 use Rattle.ac_rules.proofs.EachSlot.FullLemmas.{full_from}
 use Rattle.ac_prune.proofs.Paths.LeftLemmas.{room_enough}
 use Rattle.ac_prune.proofs.Roots.CountLemmas.{load_append, load_weaker, load_times}
+use Rattle.ac_prune.proofs.Roots.HostLemmas.{all_behind}
+use Rattle.std.proofs.Common.{rules}
 
 -- the parts of an open list, front and later slots
 pub open_split : (all : List Provider) (asked : Asked) (q v : List ℕ) → is_open all asked (q ++ v) ≡ true → Opens all asked (assigned asked q ++ placed (later asked q) v)
@@ -36,24 +38,17 @@ sum_load (x ∷ xs) p c = ap (λ n. (if x.provider == p then amount_of x.slot.ne
 -- no more is taken of a class than there is room
 pub open_room : (all : List Provider) (asked : Asked) (xs : List Placed) → Opens all asked xs → (p : ℕ) (c : List ℕ) → sum_on xs p c ≤ room_on all p c
 unfolding sums
-open_room all asked xs o p c = elim (cases_lt 0 (sum_on xs p c)) [
-  | inl l ↦ room_enough (inventory_of (provider_at all p) c) (used_of (provider_at all p) c) (sum_on xs p c) (full_from all xs xs o.sums p c l)
-  | inr l ↦ omega arith
-]
+open_room all asked xs o p c = search (rules, room_enough, full_from)
 
 pub left_bears : (all : List Provider) (asked : Asked) (q : List ℕ) (c : List ℕ) → Bears all asked q (λ s. amount_of s.needs c) (λ p. left_on all asked q c p)
 left_bears all asked q c v o p =
     let xs = assigned asked q in
     let ys = placed (later asked q) v in
     let room = open_room all asked (xs ++ ys) (open_split all asked q v o) p c in
-    let both = load_append (λ (x : Placed). x.provider) (λ (x : Placed). amount_of x.slot.needs c) xs ys p in
-    omega (arith, room, both, sum_load (xs ++ ys) p c, sum_load xs p c)
+    search (rules, load_append, sum_load)
 
 much_times : (c : List ℕ) (a : ℕ) (x : Placed) → asks_much c a x.slot * a ≤ amount_of x.slot.needs c
-much_times c a x = elim (cases_Bool (nat_le a (amount_of x.slot.needs c))) [
-  | inl e ↦ rw e (grind (arith, nat_tests))
-  | inr e ↦ rw e (omega arith)
-]
+much_times c a x = search rules
 
 pub pieces_bear : (all : List Provider) (asked : Asked) (q : List ℕ) (c : List ℕ) (a : ℕ) → 0 < a → Bears all asked q (asks_much c a) (λ p. left_on all asked q c p / a)
 pieces_bear all asked q c a some v o p =
@@ -68,52 +63,20 @@ pieces_bear all asked q c a some v o p =
 apart_none : (x : Placed) (ys : List Placed) → is_set_apart x.slot ≡ true → list_all (λ y. are_apart x y) ys ≡ true → weight_on asks_own ys x.provider ≡ 0
 unfolding are_apart
 apart_none x [] s h = refl
-apart_none x (y ∷ ys) s h =
-    let both = and_parts (are_apart x y) (list_all (λ y. are_apart x y) ys) h in
-    let more = apart_none x ys s both.1 in
-    elim (cases_eq y.provider x.provider) [
-      | inl e ↦ elim (cases_Bool (is_set_apart y.slot)) [
-        | inl t ↦ absurd (let same = eq-eqb x.provider y.provider (sym e) in false≢true (rw (s, t, same) at both.0))
-        | inr t ↦ let on = eq-eqb y.provider x.provider e in rw (on, t) (omega (arith, more))
-      ]
-      | inr e ↦ let other = ne_eqb y.provider x.provider e in rw other (omega (arith, more))
-    ]
+apart_none x (y ∷ ys) s h = search (rules, and_parts, apart_none x ys s)
 
 apart_one : (xs : List Placed) (p : ℕ) → all_apart xs ≡ true → weight_on asks_own xs p ≤ 1
 apart_one [] p h = omega arith
-apart_one (x ∷ xs) p h =
-    let both = and_parts (list_all (λ y. are_apart x y) xs) (all_apart xs) h in
-    let more = apart_one xs p both.1 in
-    elim (cases_eq x.provider p) [
-      | inl e ↦ elim (cases_Bool (is_set_apart x.slot)) [
-        | inl s ↦ let none = subst (λ (r : ℕ). weight_on asks_own xs r ≡ 0) e (apart_none x xs s both.0) in let same = eq-eqb x.provider p e in rw (same, s) (omega (arith, none))
-        | inr s ↦ let same = eq-eqb x.provider p e in rw (same, s) (omega (arith, more))
-      ]
-      | inr e ↦ let other = ne_eqb x.provider p e in rw other (omega (arith, more))
-    ]
+apart_one (x ∷ xs) p h = search (rules, and_parts, apart_none, eq-eqb, ne_eqb, apart_one xs p)
 
-kept_weighs : (xs : List Placed) (p : ℕ) → is_kept xs p ≡ true → 1 ≤ weight_on asks_own xs p
-kept_weighs [] p h = absurd (false≢true h)
-kept_weighs (x ∷ xs) p h = elim (cases_Bool (is_set_apart x.slot)) [
-  | inl s ↦ elim (cases_Bool (x.provider == p)) [
-    | inl e ↦ rw (e, s) (omega arith)
-    | inr e ↦ let more = kept_weighs xs p (rw (s, e) at h) in rw e (omega (arith, more))
-  ]
-  | inr s ↦ let more = kept_weighs xs p (rw s at h) in omega (arith, more)
-]
-
-pub own_bears : (all : List Provider) (asked : Asked) (q : List ℕ) → is_isolated asked ≡ true → Bears all asked q asks_own (λ p. if is_kept (assigned asked q) p then 0 else 1)
+-- of the later slots at most one has a provider for itself
+own_one : (all : List Provider) (asked : Asked) (q v : List ℕ) → is_isolated asked ≡ true → is_open all asked (q ++ v) ≡ true → (p : ℕ) → weight_on asks_own (placed (later asked q) v) p ≤ 1
 unfolding isolate
-own_bears all asked q e v o p =
+own_one all asked q v e o p =
     let xs = assigned asked q in
     let ys = placed (later asked q) v in
     let apart : all_apart (xs ++ ys) ≡ true = rw e at (open_split all asked q v o).isolate in
-    let one = apart_one (xs ++ ys) p apart in
-    let both = load_append (λ (x : Placed). x.provider) (λ (x : Placed). asks_own x.slot) xs ys p in
-    elim (cases_Bool (is_kept xs p)) [
-      | inl k ↦ let some = kept_weighs xs p k in rw k (omega (arith, one, both, some))
-      | inr k ↦ rw k (omega (arith, one, both))
-    ]
+    omega (arith, apart_one (xs ++ ys) p apart, load_append (λ (x : Placed). x.provider) (λ (x : Placed). asks_own x.slot) xs ys p)
 
 pub bears_weaker : (all : List Provider) (asked : Asked) (q : List ℕ) (f g : Slot → ℕ) (room : ℕ → ℕ) → ((s : Slot) → f s ≤ g s) → Bears all asked q g room → Bears all asked q f room
 bears_weaker all asked q f g room less bears v o p =
@@ -129,32 +92,16 @@ each_true f (x ∷ xs) h = let both = and_parts (f x) (list_all f xs) h in (both
 -- what a slot asks is among the sum on its provider
 each_part : (ys : List Placed) → Each (λ y. (c : List ℕ) → amount_of y.slot.needs c ≤ sum_on ys y.provider c) ys
 each_part [] = tt
-each_part (y ∷ ys) = (
-  λ c. let same = eq-eqb y.provider y.provider refl in rw same (omega arith),
-  each_weaker (λ z. (c : List ℕ) → amount_of z.slot.needs c ≤ sum_on ys z.provider c) (λ z. (c : List ℕ) → amount_of z.slot.needs c ≤ sum_on (y ∷ ys) z.provider c) ys (λ z h c. let less = h c in omega (arith, less)) (each_part ys),
-)
-
-each_behind : {X : Type 0} (P : X → Type 0) (xs ys : List X) → Each P (xs ++ ys) → Each P ys
-each_behind P [] ys h = h
-each_behind P (x ∷ xs) ys h = each_behind P xs ys h.1
+each_part (y ∷ ys) = search (rules, eq-eqb, each_weaker, each_part ys)
 
 behind_true : {X : Type 0} (f : X → Bool) (xs ys : List X) → list_all f (xs ++ ys) ≡ true → Each (λ y. f y ≡ true) ys
-behind_true f xs ys h = each_behind (λ y. f y ≡ true) xs ys (each_true f (xs ++ ys) h)
+behind_true f xs ys h = each_true f ys (all_behind f xs ys h)
 
 one_serves : (all : List Provider) (asked : Asked) (q : List ℕ) (ys : List Placed) (y : Placed) → ((c : List ℕ) → amount_of y.slot.needs c ≤ sum_on ys y.provider c)
     → units_fit all y ≡ true → traits_fit all y ≡ true → aggregates_fit all y ≡ true → tree_fits all y ≡ true → holds_sums all (assigned asked q ++ ys) y ≡ true
     → serves all asked q y.slot y.provider ≡ true
 unfolding serves fits holds_sums
-one_serves all asked q ys y part units traits aggregates tree holds_all =
-    let p = provider_at all y.provider in
-    let xs = assigned asked q in
-    let room = all_weaker (λ (need : List ℕ × ℕ). holds p need.0 (sum_on (xs ++ ys) y.provider need.0)) (λ (need : List ℕ × ℕ). holds p need.0 (sum_on xs y.provider need.0 + amount_of y.slot.needs need.0))
-    (λ (need : List ℕ × ℕ) e. room_less (inventory_of p need.0) (used_of p need.0) (sum_on xs y.provider need.0 + amount_of y.slot.needs need.0) (sum_on (xs ++ ys) y.provider need.0)
-    (let less = part need.0 in
-    let both = load_append (λ (x : Placed). x.provider) (λ (x : Placed). amount_of x.slot.needs need.0) xs ys y.provider in
-    omega (arith, less, both, sum_load (xs ++ ys) y.provider need.0, sum_load xs y.provider need.0, sum_load ys y.provider need.0)) e)
-    y.slot.needs holds_all in
-    rw (units, traits, aggregates, tree, room) refl
+one_serves all asked q ys y part units traits aggregates tree holds_all = search (rules, all_weaker, room_less, load_append, sum_load)
 
 -- each later slot is served by its provider
 pub each_serves : (all : List Provider) (asked : Asked) (q v : List ℕ) → is_open all asked (q ++ v) ≡ true → Each (λ y. serves all asked q y.slot y.provider ≡ true) (placed (later asked q) v)
@@ -174,19 +121,10 @@ each_serves all asked q v o =
 -- ---- Slots that need a provider for themselves
 
 lone_own : (asked : Asked) (c : List ℕ) (a : ℕ) (s : Slot) → lone_much asked c a s ≤ asks_own s
-lone_own asked c a s = elim (cases_Bool (is_isolated asked)) [
-  | inl i ↦ elim (cases_Bool (is_set_apart s)) [
-    | inl e ↦ elim (cases_Bool (nat_le a (amount_of s.needs c))) [ inl f ↦ rw (i, e, f) (omega arith) | inr f ↦ rw (i, e, f) (omega arith) ]
-    | inr e ↦ rw (i, e) (omega arith)
-  ]
-  | inr i ↦ rw i (omega arith)
-]
+lone_own asked c a s = search rules
 
 lone_asks : (asked : Asked) (c : List ℕ) (a : ℕ) (s : Slot) → lone_much asked c a s ≤ asks_much c a s
-lone_asks asked c a s = elim (cases_Bool (nat_le a (amount_of s.needs c))) [
-  | inl f ↦ elim (cases_Bool (needs_own asked s)) [ inl e ↦ rw (e, f) (omega arith) | inr e ↦ rw (e, f) (omega arith) ]
-  | inr f ↦ elim (cases_Bool (needs_own asked s)) [ inl e ↦ rw (e, f) (omega arith) | inr e ↦ rw (e, f) (omega arith) ]
-]
+lone_asks asked c a s = search rules
 
 load_nothing : (f : Slot → ℕ) → ((s : Slot) → f s ≡ 0) → (xs : List Placed) (p : ℕ) → weight_on f xs p ≡ 0
 load_nothing f h [] p = refl
@@ -194,10 +132,8 @@ load_nothing f h (x ∷ xs) p = let here = h x.slot in let more = load_nothing f
 
 lone_one : (all : List Provider) (asked : Asked) (q : List ℕ) (c : List ℕ) (a : ℕ) (v : List ℕ) → is_open all asked (q ++ v) ≡ true → (p : ℕ) → weight_on (lone_much asked c a) (placed (later asked q) v) p ≤ 1
 lone_one all asked q c a v o p = elim (cases_Bool (is_isolated asked)) [
-  | inl i ↦
-      let most = bears_weaker all asked q (lone_much asked c a) asks_own _ (lone_own asked c a) (own_bears all asked q i) v o p in
-      elim (cases_Bool (is_kept (assigned asked q) p)) [ inl k ↦ let none = rw k at most in omega (arith, none) | inr k ↦ let one = rw k at most in omega (arith, one) ]
-  | inr i ↦ let none = load_nothing (lone_much asked c a) (λ s. rw i refl) (placed (later asked q) v) p in omega (arith, none)
+  | inl i ↦ omega (arith, own_one all asked q v i o p, load_weaker (λ (x : Placed). x.provider) (λ (x : Placed). lone_much asked c a x.slot) (λ (x : Placed). asks_own x.slot) (placed (later asked q) v) p (λ x. lone_own asked c a x.slot))
+  | inr i ↦ omega (arith, load_nothing (lone_much asked c a) (λ s. rw i refl) (placed (later asked q) v) p)
 ]
 
 pub lone_bears : (all : List Provider) (asked : Asked) (q : List ℕ) (c : List ℕ) (a : ℕ) → 0 < a → Bears all asked q (lone_much asked c a) (λ p. min (left_on all asked q c p / a) 1)

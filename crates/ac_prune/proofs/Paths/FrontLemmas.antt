@@ -1,11 +1,11 @@
 -- Choices behind a front that lead to nothing.
-use Rattle.std.proofs.Common.{◌≡◌, ℕ, ◌<◌, true, false, List, [], ◌∷◌, Some, length, slice_index, slice_index_or, sym, subst, arith, append_assoc}
-use Rattle.std.proofs.lemmas.List.{length-map}
+use Rattle.std.proofs.Common.{◌≡◌, ◌∙◌, ℕ, ◌<◌, true, false, List, [], ◌∷◌, Some, length, slice_index, sym, subst, append_assoc}
 use Rattle.std.proofs.lemmas.List.Elements.{recursion_from_All}
-use Rattle.ac_query.specs.Asked.{Slot, slots_of}
 use Rattle.ac_rules.specs.Lists.{IsListBelow}
-use Rattle.ac_prune.specs.Search.{IsDead, choices_at}
-use Rattle.ac_prune.specs.QuerySearch.{choice_of, choices_of}
+use Rattle.ac_prune.specs.Search.{IsDead}
+use Rattle.ac_prune.specs.QuerySearch.{choice_of}
+use Rattle.ac_rules.specs.Placed.{slot_at}
+use Rattle.ac_prune.proofs.Search.OpenLemmas.{choices_here}
 use Rattle.ac_prune.specs.Left.Accounts.{providers_in, asked_in}
 use Rattle.ac_prune.specs.Trees.Keys.{is_there}
 use Rattle.ac_prune.proofs.Roots.TreeLemmas.{each_there}
@@ -20,12 +20,8 @@ path_leads_nowhere f from to dead i above less v list =
     subst (λ (l : List ℕ). (search_at f).is_wanted l ≡ false) (sym same) (dead (p ∷ v) (subst (IsListBelow (search_at f).count (search_at f).width) same list))
 
 -- its choices are those of the slot behind its path
-pub listed_at : (f : Front) → f.choices.now ≡ slice_index_or (choices_of (providers_in f.ledger.now) (asked_in f.ledger.now)) (length f.path.now) []
-unfolding choices_at
-listed_at f = f.listed
-
-pub slot_inside : (f : Front) → length f.path.now < length (choices_of (providers_in f.ledger.now) (asked_in f.ledger.now))
-slot_inside f = omega (arith, f.short, length-map (slots_of (asked_in f.ledger.now)) (λ (s : Slot). choice_of (providers_in f.ledger.now) (asked_in f.ledger.now) s))
+pub listed_at : (f : Front) → f.choices.now ≡ choice_of (providers_in f.ledger.now) (asked_in f.ledger.now) (slot_at (asked_in f.ledger.now) (length f.path.now))
+listed_at f = f.listed ∙ choices_here (providers_in f.ledger.now) (asked_in f.ledger.now) (length f.path.now) f.short
 
 -- the provider to whose trees it is bound
 pub bound_there : (f : Front) (b : ℕ) → f.bound ≡ Some b → is_there f.path.now b ≡ true

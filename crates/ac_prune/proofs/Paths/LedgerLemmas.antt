@@ -1,9 +1,12 @@
 -- What a ledger knows of a slot and a provider, and how it accounts for one provider more and less.
-use Rattle.std.proofs.Common.{◌≡◌, ◌∙◌, ℕ, ◌+◌, ◌<◌, ◌≤◌, ◌^◌, Bool, true, false, inl, inr, not, ◌&&◌, List, [], ◌∷◌, ◌++◌, map, length, Option, Some, None, refl, sym, ap, ap₂, subst, arith, length-append, nat_le, nat_lt, replicate, slice_index, slice_index_or}
+use Rattle.std.proofs.Common.{◌≡◌, ◌∙◌, ℕ, ◌+◌, ◌*◌, ◌<◌, ◌≤◌, ◌^◌, Bool, true, false, inl, inr, not, ◌&&◌, List, [], ◌∷◌, ◌++◌, map, length, Option, Some, None, refl, sym, ap, ap₂, subst, arith, length-append, nat_le, nat_lt, replicate, slice_index, slice_index_or}
 use Rattle.std.specs.Prelude.{◌==◌, if◌then◌else◌}
 use Rattle.std.specs.Global.{Vec}
 use Rattle.std.specs.List.{list_all, list_any, range_with_len, All, AllByRecursion as Each}
-use Rattle.std.proofs.lemmas.Bool.{cases_Bool, eq-eqb, false≢true, false_from_ne_true}
+use Rattle.std.proofs.lemmas.Bool.{cases_Bool, eq-eqb, false≢true, false_from_ne_true, leb-true}
+use Rattle.std.proofs.lemmas.Nat.{mul-add-lt}
+use Rattle.std.proofs.lemmas.List.Folds.{list_all-map}
+use Rattle.std.proofs.lemmas.List.Sums.{AllPass-from_list_all}
 use Rattle.std.proofs.lemmas.Bool.Decides.{nat_tests}
 use Rattle.std.proofs.lemmas.List.{get_or-map, get_or-replicate, length-map}
 use Rattle.std.proofs.lemmas.List.FromFn.{length-range_with_len, get_or-range_with_len}
@@ -22,13 +25,13 @@ use Rattle.ac_query.specs.declared.group.Group as rust
 use Rattle.ac_query.specs.declared.query.Query.{Query}
 use Rattle.ac_cloud.specs.World.{Provider, provider_at, is_available_at, anchors_of}
 use Rattle.ac_rules.specs.Placed.{placed, placed_at, slot_at, no_slot, assigned}
-use Rattle.ac_rules.specs.Together.{sum_on, holds, sums, isolate, takes_root}
+use Rattle.ac_rules.specs.Together.{amount_of, sum_on, holds, sums, isolate, takes_root}
 use Rattle.ac_rules.specs.Judge.{is_open}
 use Rattle.ac_prune.specs.QuerySearch.{fits, has_room_alone}
 use Rattle.ac_rules.specs.Laws.{AskAmounts}
-use Rattle.ac_prune.specs.Left.{place_of, IsKnown, AreLeft, ask_pair, numbered, wanted, left_at, has_each, suffices, room_on, rooms_of}
+use Rattle.ac_prune.specs.Left.{place_of, IsKnown, AreLeft, AreRooms, ask_pair, numbered, wanted, wanted_at, has_each, suffices, room_on}
 use Rattle.ac_prune.specs.Marks.{needs_own, marks_at, times, AreMarks, AreHits}
-use Rattle.ac_prune.specs.Left.Accounts.{providers_in, asked_in, texts_in, columns_in, Accounts}
+use Rattle.ac_prune.specs.Left.Accounts.{providers_in, asked_in, texts_in, left_in, Accounts}
 use Rattle.ac_prune.specs.declared.ledger.rooms.Ask.{Ask}
 use Rattle.ac_prune.specs.declared.ledger.Ledger.{Ledger}
 use Rattle.ac_rules.proofs.Elements.{each_append, each_map, each_weaker}
@@ -36,9 +39,10 @@ use Rattle.ac_rules.proofs.SlotLemmas.{each_at}
 use Rattle.ac_rules.proofs.PlacedLemmas.{placed_none}
 use Rattle.ac_rules.proofs.EachSlot.FrontLemmas.{Opens, open_parts}
 use Rattle.ac_prune.proofs.Search.OpenLemmas.{placed_next, open_together, front_open}
-use Rattle.ac_prune.proofs.Paths.ColumnLemmas.{column_room, column_at, left_read, sized}
-use Rattle.ac_prune.proofs.Paths.LeftLemmas.{sums_next, sum_here, wanted_is, wanted_fits, wanted_class, each_suffices, holds_less, less_holds}
+use Rattle.ac_prune.proofs.Paths.RowLemmas.{wanted_here, wanted_there}
+use Rattle.ac_prune.proofs.Paths.LeftLemmas.{known_at, sums_next, sum_here, sum_more, wanted_is, each_suffices, holds_less, less_holds}
 use Rattle.ac_prune.proofs.Paths.MarkLemmas.{isolate_next, anchor_next, marks_more, marks_most, hits_more, hits_most, times_anchors}
+use Rattle.std.proofs.Common.{rules}
 
 -- ---- Queries ask for amounts
 
@@ -75,8 +79,7 @@ group_rises i (Some s) g h = (h, tt)
 
 slots_rise : (i : ℕ) (gs : List rust.Group) → Each Rises (slots_from i (map group_entry gs))
 slots_rise i [] = tt
-slots_rise i (g ∷ gs) = each_append Rises (group_slots i (group_entry g)) (slots_from (i + 1) (map group_entry gs))
-    (group_rises i (suffix_of g) (group_asked g) (subst (IsStrictlySortedBy text_cmp) (sym (classes_kept g.needs.items)) g.needs_rising)) (slots_rise (i + 1) gs)
+slots_rise i (g ∷ gs) = search (rules, each_append, group_rises, classes_kept, slots_rise (i + 1) gs)
 
 pub slot_rises : (query : Query) (s : ℕ) → s < length (slots_of (asked_of query)) → Rises (slot_at (asked_of query) s)
 slot_rises query s h = each_at Rises (slots_of (asked_of query)) s no_slot (slots_rise 0 query.groups.items) h
@@ -105,72 +108,66 @@ asks_at l s v h e =
     let many : s < length l.asks.items = omega (arith, h, ap length l.asked, length-map l.asks.items f, length-map (slots_of (asked_in l)) g) in
     ap f e ∙ (sym (get_or-map f l.asks.items s v [] many) ∙ (ap (λ (ls : List (List (ℕ × ℕ))). slice_index_or ls s []) l.asked ∙ get_or-map g (slots_of (asked_in l)) s no_slot [] h))
 
--- the column of each class
-pub columns_long : (l : Ledger) → (length l.columns.items ≡ length (texts_in l)) × All (λ v. length v.items ≡ length (providers_in l)) l.columns.items
-columns_long l =
-    let long = sized l.columns.items (length l.classes.items) (length (providers_in l)) l.sized in
-    (omega (arith, long.0, length-map l.classes.items (λ v. class_bytes v.now)), long.1)
+-- some class has a number
+abbrev HasClass : List (List ℕ) → ℕ → Type 0
+HasClass texts k = (c : List ℕ) × IsKnown texts c × (place_of texts c ≡ k)
 
--- a room that was read
-pub room_read : (l : Ledger) (k p x : ℕ) (v : Vec ℕ) → k < length (texts_in l) → p < length (providers_in l) → v ≡ slice_index_or l.columns.items k v → x ≡ slice_index_or v.items p x → x ≡ left_at (columns_in l) p k
-room_read l k p x v class low at is =
-    let long = columns_long l in
-    let here : k < length l.columns.items = omega (arith, class, long.0) in
-    left_read l.columns.items k p x v here (omega (arith, long.1 k v here, low, ap length (column_at l.columns.items k v here))) (is ∙ ap (λ (w : Vec ℕ). slice_index_or w.items p x) at)
-
--- what a slot asks is of classes that have one
-pub asks_low : (l : Ledger) (s : ℕ) (v : Vec Ask) → s < length (slots_of (asked_in l)) → v ≡ slice_index_or l.asks.items s v → All (λ a. a.class < length l.columns.items) v.items
-asks_low l s v h e i d less =
+class_at : (l : Ledger) (s : ℕ) (v : Vec Ask) → s < length (slots_of (asked_in l)) → v ≡ slice_index_or l.asks.items s v → All (λ a. HasClass (texts_in l) a.class) v.items
+class_at l s v h e i d less =
     let needs = (slot_at (asked_in l) s).needs in
-    let f = numbered (texts_in l) in
     let is = asks_at l s v h e in
-    let many : i < length needs = omega (arith, less, ap length is, length-map v.items ask_pair, length-map needs f) in
+    let many : i < length needs = omega (arith, less, ap length is, length-map v.items ask_pair, length-map needs (numbered (texts_in l))) in
     let none : List ℕ × ℕ = ([], 0) in
-    let pair : ask_pair (slice_index_or v.items i d) ≡ f (slice_index_or needs i none) =
-    sym (get_or-map ask_pair v.items i d (0, 0) less) ∙ (ap (λ (ls : List (ℕ × ℕ)). slice_index_or ls i (0, 0)) is ∙ get_or-map f needs i none (0, 0) many) in
-    let known = each_at (λ need. IsKnown (texts_in l) need.0) needs i none (known_in l s h) many in
-    omega (arith, known, ap (λ (a : ℕ × ℕ). a.0) pair, (columns_long l).0)
+    let pair = sym (get_or-map ask_pair v.items i d (0, 0) less) ∙ (ap (λ (ls : List (ℕ × ℕ)). slice_index_or ls i (0, 0)) is ∙ get_or-map (numbered (texts_in l)) needs i none (0, 0) many) in
+    ((slice_index_or needs i none).0, each_at (λ need. IsKnown (texts_in l) need.0) needs i none (known_in l s h) many, sym (ap (λ (a : ℕ × ℕ). a.0) pair))
 
-pub provider_low : (l : Ledger) (p : ℕ) → p < length (providers_in l) → All (λ v. p < length v.items) l.columns.items
-provider_low l p h i d less = omega (arith, h, (columns_long l).1 i d less)
+-- so its number is a column of each row
+pub asks_low : (l : Ledger) (s : ℕ) (v : Vec Ask) → s < length (slots_of (asked_in l)) → v ≡ slice_index_or l.asks.items s v → All (λ a. a.class < length l.classes.items) v.items
+asks_low l s v h e i d less = let at = class_at l s v h e i d less in omega (arith, at.1, at.2, length-map l.classes.items (λ v. class_bytes v.now))
+
+pub row_low : (l : Ledger) (s p : ℕ) (v : Vec Ask) → s < length (slots_of (asked_in l)) → p < length (providers_in l) → v ≡ slice_index_or l.asks.items s v
+    → All (λ a. p * length l.classes.items + a.class < length l.rooms.items) v.items
+row_low l s p v h k e i d less = search (rules, mul-add-lt, asks_low)
 
 pub lone_at : (l : Ledger) (s : ℕ) (b : Bool) → s < length (slots_of (asked_in l)) → b ≡ slice_index_or l.lone.items s b → b ≡ needs_own (asked_in l) (slot_at (asked_in l) s)
-lone_at l s b h e =
-    e ∙ (ap (λ (bs : List Bool). slice_index_or bs s b) l.alone ∙ get_or-map (needs_own (asked_in l)) (slots_of (asked_in l)) s no_slot b h)
+lone_at l s b h e = search (rules, get_or-map)
 
 taken_at : (l : Ledger) (r : ℕ) → r < length (providers_in l) → slice_index_or l.taken.items r false ≡ takes_root (providers_in l) (asked_in l) r
 taken_at l r h =
     let n = length (providers_in l) in
     let size : r < length (range_with_len 0 n) = omega (arith, h, length-range_with_len 0 n) in
     let here : slice_index_or (range_with_len 0 n) r 0 ≡ r = get_or-range_with_len 0 n r 0 h ∙ omega arith in
-    ap (λ (bs : List Bool). slice_index_or bs r false) l.rooted
-    ∙ (get_or-map (takes_root (providers_in l) (asked_in l)) (range_with_len 0 n) r 0 false size ∙ ap (takes_root (providers_in l) (asked_in l)) here)
+    search (rules, get_or-map)
 
 -- ---- One more provider
+
+-- the sums hold exactly where the rooms suffice
+sums_here : (l : Ledger) (q : List ℕ) (p : ℕ) → length q < length (slots_of (asked_in l)) → p < length (providers_in l) → Accounts l q → is_open (providers_in l) (asked_in l) q ≡ true
+    → sums (providers_in l) (assigned (asked_in l) (q ++ p ∷ [])) ≡ suffices (left_in l p) (map (numbered (texts_in l)) (slot_at (asked_in l) (length q)).needs)
+unfolding is_open
+sums_here l q p h k accounts open_q =
+    let asked = asked_in l in
+    let slots = query_asks l.query.now in
+    let next = placed_next asked q p h in
+    let front : Opens (providers_in l) asked (assigned asked q) = open_parts (providers_in l) asked (assigned asked q) open_q in
+    grind (arith, nat_tests, sums_next, known_in, placed_ask, slot_asks)
 
 pub open_next : (l : Ledger) (q : List ℕ) (p : ℕ) → length q < length (slots_of (asked_in l)) → p < length (providers_in l) → Accounts l q
     → list_all (λ x. fits (providers_in l) x) (assigned (asked_in l) (q ++ p ∷ [])) ≡ true → is_open (providers_in l) (asked_in l) q ≡ true
     → is_open (providers_in l) (asked_in l) (q ++ p ∷ [])
-    ≡ (suffices (left_at (columns_in l) p) (map (numbered (texts_in l)) (slot_at (asked_in l) (length q)).needs)
+    ≡ (suffices (left_in l p) (map (numbered (texts_in l)) (slot_at (asked_in l) (length q)).needs)
     && (not (needs_own (asked_in l) (slot_at (asked_in l) (length q)) && nat_lt 0 (slice_index l.marks.items p))
     && list_any (λ r. slice_index_or l.taken.items r false && (slice_index l.hits.items r == length q)) (anchors_of (providers_in l) p)))
 unfolding is_open
 open_next l q p h k accounts own open_q =
     let all = providers_in l in
     let asked = asked_in l in
-    let xs = assigned asked q in
-    let x = placed_at asked (length q) p in
-    let parts : Opens all asked xs = open_parts all asked xs open_q in
-    let next = placed_next asked q p h in
-    let slots = query_asks l.query.now in
-    let short : length (q ++ p ∷ []) ≤ length (slots_of asked) = omega (arith, h, length-append q (p ∷ [])) in
-    let more : AskAmounts (xs ++ x ∷ []) = subst AskAmounts next (placed_ask (slots_of asked) (q ++ p ∷ []) slots) in
-    let room : sums all (assigned asked (q ++ p ∷ [])) ≡ suffices (left_at (columns_in l) p) (map (numbered (texts_in l)) (slot_at asked (length q)).needs) =
-    ap (sums all) next ∙ sums_next all (texts_in l) (left_at (columns_in l) p) xs x (λ c known. accounts.left p c k known) (known_in l (length q) h) (placed_ask (slots_of asked) q slots) more (slot_asks l.query.now (length q) h) parts.sums in
+    let front : Opens all asked (assigned asked q) = open_parts all asked (assigned asked q) open_q in
     let apart : isolate asked (assigned asked (q ++ p ∷ [])) ≡ not (needs_own asked (slot_at asked (length q)) && nat_lt 0 (slice_index l.marks.items p)) =
-    ap (isolate asked) next ∙ (isolate_next asked xs x parts.isolate ∙ ap (λ (n : ℕ). not (needs_own asked (slot_at asked (length q)) && nat_lt 0 n)) (sym (accounts.marks p k))) in
+    rw (placed_next asked q p h, accounts.marks p k) (isolate_next asked (assigned asked q) (placed_at asked (length q) p) front.isolate) in
     open_together all asked (q ++ p ∷ []) own
-    ∙ ap₂ (λ a b. a && b) room (ap₂ (λ a b. a && b) apart (sym (anchor_next all asked (slots_of asked) q p l.taken.items l.hits.items short (taken_at l) accounts.hits)))
+    ∙ ap₂ (λ a b. a && b) (sums_here l q p h k accounts open_q)
+    (ap₂ (λ a b. a && b) apart (sym (anchor_next all asked (slots_of asked) q p l.taken.items l.hits.items (omega (arith, h, length-append q (p ∷ []))) (taken_at l) accounts.hits)))
 
 -- ---- Room to count
 
@@ -180,51 +177,34 @@ placed_few (s ∷ ss) [] = omega arith
 placed_few (s ∷ ss) (p ∷ q) = let more = placed_few ss q in omega arith
 
 -- an open front has room for what its last provider takes
-pub room_for : (l : Ledger) (q : List ℕ) (p k : ℕ) → length q < length (slots_of (asked_in l)) → p < length (providers_in l) → Accounts l q → is_open (providers_in l) (asked_in l) (q ++ p ∷ []) ≡ true
-    → wanted (map (numbered (texts_in l)) (slot_at (asked_in l) (length q)).needs) k ≤ left_at (columns_in l) p k
+pub room_for : (l : Ledger) (q : List ℕ) (p : ℕ) (v : Vec Ask) → length q < length (slots_of (asked_in l)) → p < length (providers_in l) → Accounts l q → is_open (providers_in l) (asked_in l) (q ++ p ∷ []) ≡ true
+    → v ≡ slice_index_or l.asks.items (length q) v
+    → All (λ a. wanted_at (p * length l.classes.items) v.items (p * length l.classes.items + a.class) ≤ slice_index l.rooms.items (p * length l.classes.items + a.class)) v.items
 unfolding is_open
-room_for l q p k h within accounts opens =
-    let all = providers_in l in
-    let asked = asked_in l in
-    let xs = assigned asked q in
-    let x = placed_at asked (length q) p in
-    let next = placed_next asked q p h in
-    let slots = query_asks l.query.now in
-    let front : Opens all asked xs = open_parts all asked xs (front_open all asked q (p ∷ []) opens) in
-    let whole : Opens all asked (assigned asked (q ++ p ∷ [])) = open_parts all asked (assigned asked (q ++ p ∷ [])) opens in
-    let more : AskAmounts (xs ++ x ∷ []) = subst AskAmounts next (placed_ask (slots_of asked) (q ++ p ∷ []) slots) in
-    let enough : suffices (left_at (columns_in l) p) (map (numbered (texts_in l)) (slot_at asked (length q)).needs) ≡ true =
-    sym (ap (sums all) next ∙ sums_next all (texts_in l) (left_at (columns_in l) p) xs x (λ c known. accounts.left p c within known) (known_in l (length q) h) (placed_ask (slots_of asked) q slots) more (slot_asks l.query.now (length q) h) front.sums) ∙ whole.sums in
-    wanted_fits (left_at (columns_in l) p) (map (numbered (texts_in l)) (slot_at asked (length q)).needs) k enough
+room_for l q p v h within accounts opens e i d less =
+    let whole : Opens (providers_in l) (asked_in l) (assigned (asked_in l) (q ++ p ∷ [])) = open_parts (providers_in l) (asked_in l) (assigned (asked_in l) (q ++ p ∷ [])) opens in
+    let enough : suffices (left_in l p) (map ask_pair v.items) ≡ true =
+    ap (suffices (left_in l p)) (asks_at l (length q) v h e) ∙ (sym (sums_here l q p h within accounts (front_open (providers_in l) (asked_in l) q (p ∷ []) opens)) ∙ whole.sums) in
+    let fits = leb-true _ _ (AllPass-from_list_all _ v.items (sym (list_all-map (λ a. nat_le (wanted (map ask_pair v.items) a.0) (left_in l p a.0)) ask_pair v.items) ∙ enough) i d less) in
+    omega (arith, fits, wanted_here v.items (p * length l.classes.items) (slice_index_or v.items i d).class)
 
 pub room_to_mark : (l : Ledger) (q : List ℕ) (p : ℕ) → length q < length (slots_of (asked_in l)) → p < length (providers_in l) → Accounts l q → slice_index l.marks.items p < 64
-room_to_mark l q p h within accounts =
-    omega (arith, accounts.marks p within, marks_most (asked_in l) (assigned (asked_in l) q) p, placed_few (slots_of (asked_in l)) q, h, few_slots l.query.now)
+room_to_mark l q p h within accounts = search (rules, marks_most, placed_few, few_slots)
 
 pub room_to_hit : (l : Ledger) (q : List ℕ) (p r : ℕ) → length q < length (slots_of (asked_in l)) → r < length (providers_in l) → Accounts l q
     → slice_index l.hits.items r + times r (anchors_of (providers_in l) p) < 2 ^ 32
-room_to_hit l q p r h within accounts =
-    let once = times_anchors (providers_in l) p r within in
-    elim (cases_Bool (is_available_at (providers_in l) p r)) [
-      | inl e ↦ let one = rw e at once in omega (arith, one, accounts.hits r within, hits_most (providers_in l) q r, h, few_slots l.query.now)
-      | inr e ↦ let none = rw e at once in omega (arith, none, accounts.hits r within, hits_most (providers_in l) q r, h, few_slots l.query.now)
-    ]
+room_to_hit l q p r h within accounts = search (rules, times_anchors, hits_most, few_slots)
 
 -- what is given back was taken of a small room
-pub room_back : (l : Ledger) (q : List ℕ) (p k : ℕ) → length q < length (slots_of (asked_in l)) → p < length (providers_in l) → Accounts l (q ++ p ∷ [])
-    → 0 < wanted (map (numbered (texts_in l)) (slot_at (asked_in l) (length q)).needs) k
-    → left_at (columns_in l) p k + wanted (map (numbered (texts_in l)) (slot_at (asked_in l) (length q)).needs) k < 2 ^ 64
-room_back l q p k h within accounts some =
-    let needs = (slot_at (asked_in l) (length q)).needs in
-    let known = known_in l (length q) h in
-    let at = wanted_class (texts_in l) needs k known some in
+pub room_back : (l : Ledger) (q : List ℕ) (p : ℕ) (v : Vec Ask) → length q < length (slots_of (asked_in l)) → p < length (providers_in l) → Accounts l (q ++ p ∷ [])
+    → v ≡ slice_index_or l.asks.items (length q) v
+    → All (λ a. slice_index l.rooms.items (p * length l.classes.items + a.class) + wanted_at (p * length l.classes.items) v.items (p * length l.classes.items + a.class) < 2 ^ 64) v.items
+room_back l q p v h within accounts e i d less =
+    let at = class_at l (length q) v h e i d less in
     let c = at.0 in
     let sum = sum_here (assigned (asked_in l) q) (placed_at (asked_in l) (length q) p) p c refl in
     let same = ap (λ xs. sum_on xs p c) (placed_next (asked_in l) q p h) in
-    let left = accounts.left p c within at.1.0 in
-    let is = wanted_is (texts_in l) needs c known in
-    subst (λ (j : ℕ). left_at (columns_in l) p j + wanted (map (numbered (texts_in l)) needs) j < 2 ^ 64) at.1.1
-    (omega (arith, sum, same, left, is, l.small c at.1.0 p within))
+    search (rules, wanted_here, asks_at, wanted_is, known_in)
 
 pub mark_there : (l : Ledger) (q : List ℕ) (p : ℕ) → length q < length (slots_of (asked_in l)) → p < length (providers_in l) → Accounts l (q ++ p ∷ [])
     → needs_own (asked_in l) (slot_at (asked_in l) (length q)) ≡ true → 0 < slice_index l.marks.items p
@@ -240,19 +220,31 @@ hit_there l q p r within accounts = omega (arith, accounts.hits r within, hits_m
 
 -- ---- The accounts of one more and of one less
 
+-- what a provider more takes of each room
+moved : (l : Ledger) (s p r : ℕ) (v : Vec Ask) (c : List ℕ) (less more : List ℕ) → s < length (slots_of (asked_in l)) → v ≡ slice_index_or l.asks.items s v → IsKnown (texts_in l) c
+    → ((i : ℕ) → slice_index less i + wanted_at (p * length l.classes.items) v.items i ≡ slice_index more i)
+    → slice_index less (r * length l.classes.items + place_of (texts_in l) c) + (if p == r then amount_of (slot_at (asked_in l) s).needs c else 0) ≡ slice_index more (r * length l.classes.items + place_of (texts_in l) c)
+moved l s p r v c less more h e known moves = search (rules, wanted_there, recursion_from_All, asks_low, length-map, asks_at, wanted_is, known_in)
+
+pub left_next : (l : Ledger) (q : List ℕ) (p : ℕ) (v : Vec Ask) (new : List ℕ) → length q < length (slots_of (asked_in l)) → v ≡ slice_index_or l.asks.items (length q) v
+    → ((i : ℕ) → slice_index new i + wanted_at (p * length l.classes.items) v.items i ≡ slice_index l.rooms.items i) → Accounts l q
+    → AreLeft (providers_in l) (texts_in l) (λ r k. slice_index new (r * length l.classes.items + k)) (assigned (asked_in l) (q ++ p ∷ []))
+left_next l q p v new h e moves accounts r c low known =
+    omega (arith, moved l (length q) p r v c new l.rooms.items h e known moves, accounts.left r c low known, sum_more (assigned (asked_in l) q) (placed_at (asked_in l) (length q) p) r c, ap (λ xs. sum_on xs r c) (placed_next (asked_in l) q p h))
+
+pub left_back : (l : Ledger) (q : List ℕ) (p : ℕ) (v : Vec Ask) (new : List ℕ) → length q < length (slots_of (asked_in l)) → v ≡ slice_index_or l.asks.items (length q) v
+    → ((i : ℕ) → slice_index new i ≡ slice_index l.rooms.items i + wanted_at (p * length l.classes.items) v.items i) → Accounts l (q ++ p ∷ [])
+    → AreLeft (providers_in l) (texts_in l) (λ r k. slice_index new (r * length l.classes.items + k)) (assigned (asked_in l) q)
+left_back l q p v new h e moves accounts r c low known =
+    omega (arith, moved l (length q) p r v c l.rooms.items new h e known (λ i. sym (moves i)), accounts.left r c low known, sum_more (assigned (asked_in l) q) (placed_at (asked_in l) (length q) p) r c, ap (λ xs. sum_on xs r c) (placed_next (asked_in l) q p h))
+
 pub marks_next : (all : List Provider) (asked : Asked) (q : List ℕ) (p : ℕ) (lone : Bool) (old new : List ℕ) → length q < length (slots_of asked) → lone ≡ needs_own asked (slot_at asked (length q))
     → ((r : ℕ) → slice_index new r ≡ slice_index old r + (if lone && (p == r) then 1 else 0)) → AreMarks all asked old (assigned asked q) → AreMarks all asked new (assigned asked (q ++ p ∷ []))
-marks_next all asked q p lone old new h is change old_marks r within =
-    let more = marks_more asked (assigned asked q) (placed_at asked (length q) p) r in
-    let same = ap (λ xs. marks_at asked xs r) (placed_next asked q p h) in
-    omega (arith, rw is at (change r), old_marks r within, more, same)
+marks_next all asked q p lone old new h is change old_marks r within = search (rules, marks_more, placed_next)
 
 pub marks_back : (all : List Provider) (asked : Asked) (q : List ℕ) (p : ℕ) (lone : Bool) (old new : List ℕ) → length q < length (slots_of asked) → lone ≡ needs_own asked (slot_at asked (length q))
     → ((r : ℕ) → slice_index new r + (if lone && (p == r) then 1 else 0) ≡ slice_index old r) → AreMarks all asked old (assigned asked (q ++ p ∷ [])) → AreMarks all asked new (assigned asked q)
-marks_back all asked q p lone old new h is change old_marks r within =
-    let more = marks_more asked (assigned asked q) (placed_at asked (length q) p) r in
-    let same = ap (λ xs. marks_at asked xs r) (placed_next asked q p h) in
-    omega (arith, rw is at (change r), old_marks r within, more, same)
+marks_back all asked q p lone old new h is change old_marks r within = search (rules, marks_more, placed_next)
 
 pub hits_next : (all : List Provider) (q : List ℕ) (p : ℕ) (old new : List ℕ) → ((r : ℕ) → slice_index new r ≡ slice_index old r + times r (anchors_of all p)) → AreHits all old q → AreHits all new (q ++ p ∷ [])
 hits_next all q p old new change old_hits r within = omega (arith, change r, old_hits r within, hits_more all q p r, times_anchors all p r within)
@@ -262,12 +254,11 @@ hits_back all q p old new change old_hits r within = omega (arith, change r, old
 
 -- ---- The accounts of nothing
 
-pub left_none : (all : List Provider) (asked : Asked) (texts columns : List (List ℕ)) → columns ≡ map (rooms_of all) texts → AreLeft all texts columns (assigned asked [])
-left_none all asked texts columns made p c h known = omega (arith, column_room all texts columns made p c h known, ap (λ xs. sum_on xs p c) (placed_none (slots_of asked)))
+pub left_none : (all : List Provider) (asked : Asked) (texts : List (List ℕ)) (w : ℕ) (rooms : List ℕ) → w ≡ length texts → AreRooms all texts w rooms → AreLeft all texts (λ p k. slice_index rooms (p * w + k)) (assigned asked [])
+left_none all asked texts w rooms e are p c h known = search (rules, known_at, placed_none)
 
 pub marks_empty : (all : List Provider) (asked : Asked) (marks : List ℕ) → marks ≡ replicate (length all) 0 → AreMarks all asked marks (assigned asked [])
-marks_empty all asked marks made p h =
-    ap (λ (l : List ℕ). slice_index l p) made ∙ (get_or-replicate (length all) p 0 0 h ∙ sym (ap (λ xs. marks_at asked xs p) (placed_none (slots_of asked))))
+marks_empty all asked marks made p h = search (rules, get_or-replicate, placed_none)
 
 pub hits_empty : (all : List Provider) (hits : List ℕ) → hits ≡ replicate (length all) 0 → AreHits all hits []
 hits_empty all hits made r h = ap (λ (l : List ℕ). slice_index l r) made ∙ get_or-replicate (length all) r 0 0 h
@@ -275,24 +266,15 @@ hits_empty all hits made r h = ap (λ (l : List ℕ). slice_index l r) made ∙ 
 -- ---- Room for a slot alone
 
 each_alone : (l : Ledger) (p : ℕ) (needs : List (List ℕ × ℕ)) → p < length (providers_in l) → Accounts l [] → Each (λ need. IsKnown (texts_in l) need.0) needs → Each (λ need. 0 < need.1) needs
-    → has_each (left_at (columns_in l) p) (map (numbered (texts_in l)) needs) ≡ list_all (λ (need : List ℕ × ℕ). holds (provider_at (providers_in l) p) need.0 need.1) needs
+    → has_each (left_in l p) (map (numbered (texts_in l)) needs) ≡ list_all (λ (need : List ℕ × ℕ). holds (provider_at (providers_in l) p) need.0 need.1) needs
 each_alone l p [] low accounts known some = refl
-each_alone l p (n ∷ ns) low accounts known some =
-    let all = providers_in l in
-    let left = left_at (columns_in l) p (place_of (texts_in l) n.0) in
-    let nothing : sum_on (assigned (asked_in l) []) p n.0 ≡ 0 = ap (λ xs. sum_on xs p n.0) (placed_none (slots_of (asked_in l))) in
-    let room : left ≡ room_on all p n.0 = omega (arith, accounts.left p n.0 low known.0, nothing) in
-    let here : nat_le n.1 left ≡ holds (provider_at all p) n.0 n.1 = elim (cases_Bool (holds (provider_at all p) n.0 n.1)) [
-      | inl e ↦ let less : n.1 ≤ left = omega (arith, holds_less all p n.0 n.1 e, room) in rw e (grind (arith, nat_tests))
-      | inr e ↦ rw e (false_from_ne_true _ (λ t. let less : n.1 ≤ left = grind (arith, nat_tests) in false≢true (sym e ∙ less_holds all p n.0 n.1 some.0 (omega (arith, less, room)))))
-    ] in
-    ap₂ (λ a b. a && b) here (each_alone l p ns low accounts known.1 some.1)
+each_alone l p (n ∷ ns) low accounts known some = search (rules, placed_none, holds_less, false_from_ne_true, false≢true, less_holds, each_alone l p ns low accounts known.1 some.1)
 
 -- the row of a provider has enough for a slot exactly where the provider has room for it alone
 pub enough_alone : (l : Ledger) (s p : ℕ) → s < length (slots_of (asked_in l)) → p < length (providers_in l) → Accounts l []
-    → suffices (left_at (columns_in l) p) (map (numbered (texts_in l)) (slot_at (asked_in l) s).needs) ≡ has_room_alone (providers_in l) (placed_at (asked_in l) s p)
+    → suffices (left_in l p) (map (numbered (texts_in l)) (slot_at (asked_in l) s).needs) ≡ has_room_alone (providers_in l) (placed_at (asked_in l) s p)
 unfolding has_room_alone
 enough_alone l s p h low accounts =
     let needs = (slot_at (asked_in l) s).needs in
-    sym (each_suffices (texts_in l) (left_at (columns_in l) p) needs (known_in l s h) (slot_rises l.query.now s h))
+    sym (each_suffices (texts_in l) (left_in l p) needs (known_in l s h) (slot_rises l.query.now s h))
     ∙ each_alone l p needs low accounts (known_in l s h) (each_at Asks (slots_of (asked_in l)) s no_slot (query_asks l.query.now) h)

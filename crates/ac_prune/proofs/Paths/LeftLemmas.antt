@@ -5,7 +5,7 @@ use Rattle.std.specs.Option.{unwrap_or}
 use Rattle.std.specs.List.{list_all, AllByRecursion as Each}
 use Rattle.std.specs.Str.{bytes_eq}
 use Rattle.std.proofs.lemmas.Bool.{cases_Bool, cases_eq, cases_lt, and_parts, and_from, eq-eqb, ne_eqb, false≢true, false_from_ne_true}
-use Rattle.std.proofs.lemmas.Bool.Decides.{nat_tests}
+use Rattle.std.proofs.lemmas.Bool.Decides.{nat_tests, same_from_decides}
 use Rattle.std.proofs.lemmas.List.{map-append}
 use Rattle.std.proofs.lemmas.Slice.Eq.{bytes_eq-Decides}
 use Rattle.std.specs.List.Sorted.{IsStrictlySortedBy}
@@ -19,16 +19,14 @@ use Rattle.ac_rules.specs.Room.{room_in}
 use Rattle.ac_rules.specs.Placed.{Placed}
 use Rattle.ac_rules.specs.Together.{amount_of, sum_on, has_room, holds, sums}
 use Rattle.ac_rules.specs.Laws.{AskAmounts, IsFull}
-use Rattle.ac_prune.specs.Left.{place_of, IsKnown, numbered, wanted, left_at, has_each, suffices, room_on, Moves, AreLeft}
+use Rattle.ac_prune.specs.Left.{place_of, IsKnown, numbered, wanted, has_each, suffices, room_on}
 use Rattle.ac_rules.proofs.EachSlot.FullLemmas.{sums_say_full}
+use Rattle.std.proofs.Common.{rules}
 
 -- a class that is known stands at its place
 pub known_at : (classes : List (List ℕ)) (c : List ℕ) → IsKnown classes c → slice_index_or classes (place_of classes c) [] ≡ c
 known_at [] c h = absurd (omega arith)
-known_at (d ∷ classes) c h = elim (cases_Bool (bytes_eq d c)) [
-  | inl e ↦ rw e ((bytes_eq-Decides d c).0 e)
-  | inr e ↦ let less : IsKnown classes c = let more = rw e at h in omega arith in rw e (known_at classes c less)
-]
+known_at (d ∷ classes) c h = search (rules, bytes_eq-Decides, known_at classes c)
 
 same_place : (classes : List (List ℕ)) (c d : List ℕ) → IsKnown classes c → place_of classes c ≡ place_of classes d → c ≡ d
 same_place classes c d h e =
@@ -38,17 +36,11 @@ same_place classes c d h e =
 -- one more class
 known_more : (classes : List (List ℕ)) (d c : List ℕ) → IsKnown classes c → IsKnown (classes ++ d ∷ []) c
 known_more [] d c h = absurd (omega arith)
-known_more (b ∷ classes) d c h = elim (cases_Bool (bytes_eq b c)) [
-  | inl e ↦ rw e (omega arith)
-  | inr e ↦ let less : IsKnown classes c = let more = rw e at h in omega arith in let more = known_more classes d c less in rw e (omega (arith, more))
-]
+known_more (b ∷ classes) d c h = search (rules, known_more classes d c)
 
 known_last : (classes : List (List ℕ)) (c : List ℕ) → IsKnown (classes ++ c ∷ []) c
 known_last [] c = let same = (bytes_eq-Decides c c).1 refl in rw same (omega arith)
-known_last (b ∷ classes) c = elim (cases_Bool (bytes_eq b c)) [
-  | inl e ↦ rw e (omega arith)
-  | inr e ↦ let more = known_last classes c in rw e (omega (arith, more))
-]
+known_last (b ∷ classes) c = search (rules, known_last classes c)
 
 pub known_pushed : {X : Type 0} (text : X → List ℕ) (xs : List X) (x : X) → IsKnown (map text (xs ++ x ∷ [])) (text x)
 known_pushed text xs x = subst (λ ts. IsKnown ts (text x)) (sym (map-append text xs (x ∷ []))) (known_last (map text xs) (text x))
@@ -58,10 +50,7 @@ known_kept text xs x c h = subst (λ ts. IsKnown ts c) (sym (map-append text xs 
 
 -- a number of a class stands for its text
 number_test : (classes : List (List ℕ)) (c d : List ℕ) → IsKnown classes c → (place_of classes c == place_of classes d) ≡ bytes_eq c d
-number_test classes c d h = elim (cases_Bool (bytes_eq c d)) [
-  | inl e ↦ rw e (eq-eqb (place_of classes c) (place_of classes d) (ap (place_of classes) ((bytes_eq-Decides c d).0 e)))
-  | inr e ↦ rw e (ne_eqb (place_of classes c) (place_of classes d) (λ s. false≢true (sym e ∙ (bytes_eq-Decides c d).1 (same_place classes c d h s))))
-]
+number_test classes c d h = search (rules, eq-eqb, bytes_eq-Decides, ne_eqb, false≢true, same_place)
 
 -- what asks want of a class is what the needs ask of it
 pub wanted_is : (classes : List (List ℕ)) (needs : List (List ℕ × ℕ)) (c : List ℕ) → Each (λ need. IsKnown classes need.0) needs
@@ -73,17 +62,11 @@ wanted_is classes (need ∷ needs) c h = ap₂ (λ (b : Bool) (n : ℕ). (if b t
 
 pub room_enough : (inventory : Option InventoryNumbers) (used m : ℕ) → has_room inventory used m ≡ true → m ≤ unwrap_or (room_in inventory used) 0
 room_enough None used m h = absurd (false≢true h)
-room_enough (Some inventory) used m h = elim (cases_Bool (nat_le used (capacity inventory))) [
-  | inl e ↦ rw e (grind (arith, nat_tests))
-  | inr e ↦ absurd (grind (arith, nat_tests))
-]
+room_enough (Some inventory) used m h = search rules
 
 enough_room : (inventory : Option InventoryNumbers) (used m : ℕ) → 0 < m → m ≤ unwrap_or (room_in inventory used) 0 → has_room inventory used m ≡ true
 enough_room None used m some h = absurd (omega (arith, some, h))
-enough_room (Some inventory) used m some h = elim (cases_Bool (nat_le used (capacity inventory))) [
-  | inl e ↦ let less = rw e at h in grind (arith, nat_tests)
-  | inr e ↦ let less = rw e at h in absurd (omega (arith, some, less))
-]
+enough_room (Some inventory) used m some h = search rules
 
 pub holds_less : (all : List Provider) (p : ℕ) (c : List ℕ) (m : ℕ) → holds (provider_at all p) c m ≡ true → m ≤ room_on all p c
 holds_less all p c m h = room_enough (inventory_of (provider_at all p) c) (used_of (provider_at all p) c) m h
@@ -93,7 +76,7 @@ less_holds all p c m some h = enough_room (inventory_of (provider_at all p) c) (
 
 -- ---- One more slot
 
-sum_more : (xs : List Placed) (x : Placed) (p : ℕ) (c : List ℕ) → sum_on (xs ++ x ∷ []) p c ≡ sum_on xs p c + (if x.provider == p then amount_of x.slot.needs c else 0)
+pub sum_more : (xs : List Placed) (x : Placed) (p : ℕ) (c : List ℕ) → sum_on (xs ++ x ∷ []) p c ≡ sum_on xs p c + (if x.provider == p then amount_of x.slot.needs c else 0)
 sum_more [] x p c = omega arith
 sum_more (y ∷ xs) x p c = let more = sum_more xs x p c in omega arith
 
@@ -110,40 +93,21 @@ suffices_from : (classes : List (List ℕ)) (row : ℕ → ℕ) (needs ns : List
     → Each (λ need. IsKnown classes need.0) ns → Each (λ need. 0 < need.1) ns
     → list_all (λ a. nat_le (wanted (map (numbered classes) needs) a.0) (row a.0)) (map (numbered classes) ns) ≡ true
 suffices_from classes row needs [] all enough known some = refl
-suffices_from classes row needs (n ∷ ns) all enough known some =
-    let itself = (bytes_eq-Decides n.0 n.0).1 refl in
-    let asks : 0 < amount_of (n ∷ ns) n.0 = let one = some.0 in rw itself (omega arith) in
-    let here = enough n.0 known.0 asks in
-    let is = wanted_is classes needs n.0 all in
-    and_from _ _ (rw is (grind (arith, nat_tests)))
-    (suffices_from classes row needs ns all (λ c k more. enough c k (omega (arith, more))) known.1 some.1)
+suffices_from classes row needs (n ∷ ns) all enough known some = search (rules, bytes_eq-Decides, wanted_is, and_from, suffices_from classes row needs ns all (λ c k more. enough c k (omega (arith, more))) known.1 some.1)
 
 suffices_at : (classes : List (List ℕ)) (row : ℕ → ℕ) (needs ns : List (List ℕ × ℕ)) (c : List ℕ) → Each (λ need. IsKnown classes need.0) needs
     → Each (λ need. IsKnown classes need.0) ns
     → list_all (λ a. nat_le (wanted (map (numbered classes) needs) a.0) (row a.0)) (map (numbered classes) ns) ≡ true → 0 < amount_of ns c
     → IsKnown classes c × (amount_of needs c ≤ row (place_of classes c))
 suffices_at classes row needs [] c all known h asks = absurd (omega arith)
-suffices_at classes row needs (n ∷ ns) c all known h asks =
-    let both = and_parts _ _ h in
-    elim (cases_Bool (bytes_eq n.0 c)) [
-      | inl e ↦
-          let same : n.0 ≡ c = (bytes_eq-Decides n.0 c).0 e in
-          let test : nat_le (wanted (map (numbered classes) needs) (place_of classes n.0)) (row (place_of classes n.0)) ≡ true = both.0 in
-          let less : wanted (map (numbered classes) needs) (place_of classes n.0) ≤ row (place_of classes n.0) = grind (arith, nat_tests) in
-          let fits : amount_of needs n.0 ≤ row (place_of classes n.0) = omega (arith, less, wanted_is classes needs n.0 all) in
-          subst (λ (d : List ℕ). IsKnown classes d × (amount_of needs d ≤ row (place_of classes d))) same (known.0, fits)
-      | inr e ↦ let less : 0 < amount_of ns c = let more = rw e at asks in omega arith in suffices_at classes row needs ns c all known.1 both.1 less
-    ]
+suffices_at classes row needs (n ∷ ns) c all known h asks = search (rules, and_parts, bytes_eq-Decides, wanted_is, suffices_at classes row needs ns c all known.1)
 
 -- ---- Classes that stand once
 
 -- what needs ask of their own classes, which differ
 amount_none : (needs : List (List ℕ × ℕ)) (c : List ℕ) → Each (λ d. bytes_eq c d ≡ false) (map (λ need. need.0) needs) → amount_of needs c ≡ 0
 amount_none [] c h = refl
-amount_none (n ∷ needs) c h =
-    let other : bytes_eq n.0 c ≡ false = false_from_ne_true _ (λ e. false≢true (sym h.0 ∙ (bytes_eq-Decides c n.0).1 (sym ((bytes_eq-Decides n.0 c).0 e)))) in
-    let none = amount_none needs c h.1 in
-    rw other (omega (arith, none))
+amount_none (n ∷ needs) c h = search (rules, false_from_ne_true, false≢true, bytes_eq-Decides, amount_none needs c h.1)
 
 amounts_once : (needs : List (List ℕ × ℕ)) → AreApart (map (λ need. need.0) needs) → Each (λ need. amount_of needs need.0 ≡ need.1) needs
 amounts_once [] h = tt
@@ -191,75 +155,10 @@ full_next all classes row xs x left known full enough p c asked = elim (cases_eq
 pub sums_next : (all : List Provider) (classes : List (List ℕ)) (row : ℕ → ℕ) (xs : List Placed) (x : Placed) → IsLeft all classes row xs x.provider
     → Each (λ need. IsKnown classes need.0) x.slot.needs → AskAmounts xs → AskAmounts (xs ++ x ∷ []) → Each (λ need. 0 < need.1) x.slot.needs → sums all xs ≡ true
     → sums all (xs ++ x ∷ []) ≡ suffices row (map (numbered classes) x.slot.needs)
-sums_next all classes row xs x left known some more own fine = same_tests (sums all (xs ++ x ∷ [])) (suffices row (map (numbered classes) x.slot.needs)) down up
-  where
-    same_tests : (a b : Bool) → (a ≡ true → b ≡ true) → (b ≡ true → a ≡ true) → a ≡ b
-    same_tests true b f g = sym (f refl)
-    same_tests false true f g = g refl
-    same_tests false false f g = refl
-
-    down : sums all (xs ++ x ∷ []) ≡ true → suffices row (map (numbered classes) x.slot.needs) ≡ true
-    down h =
-        let full = (sums_say_full all (xs ++ x ∷ []) more).0 h in
-        suffices_from classes row x.slot.needs x.slot.needs known
-        (λ c k asks.
-        let sum = sum_here xs x x.provider c refl in
-        let less = holds_less all x.provider c (sum_on (xs ++ x ∷ []) x.provider c) (full x.provider c (omega (arith, sum, asks))) in
-        omega (arith, sum, less, left c k)) known own
-
-    up : suffices row (map (numbered classes) x.slot.needs) ≡ true → sums all (xs ++ x ∷ []) ≡ true
-    up h = (sums_say_full all (xs ++ x ∷ []) more).1 (full_next all classes row xs x left known ((sums_say_full all xs some).0 fine) h)
-
--- ---- Columns
-
--- one more slot takes its part
-pub left_more : (all : List Provider) (classes : List (List ℕ)) (columns new : List (List ℕ)) (xs : List Placed) (x : Placed)
-    → Each (λ need. IsKnown classes need.0) x.slot.needs → Moves columns x.provider (map (numbered classes) x.slot.needs) [] new
-    → AreLeft all classes columns xs → AreLeft all classes new (xs ++ x ∷ [])
-left_more all classes columns new xs x known takes left p c h k = elim (cases_eq x.provider p) [
-  | inl e ↦
-      let here = subst (λ (r : ℕ). left_at new r (place_of classes c) + wanted (map (numbered classes) x.slot.needs) (place_of classes c) ≡ left_at columns r (place_of classes c) + 0) e (takes.here (place_of classes c)) in
-      omega (arith, here, wanted_is classes x.slot.needs c known, sum_here xs x p c e, left p c h k)
-  | inr e ↦
-      let same = takes.others p (place_of classes c) (λ s. e (sym s)) in
-      omega (arith, same, sum_other xs x p c e, left p c h k)
-]
-
--- and gives it back
-pub left_less : (all : List Provider) (classes : List (List ℕ)) (columns new : List (List ℕ)) (xs : List Placed) (x : Placed)
-    → Each (λ need. IsKnown classes need.0) x.slot.needs → Moves columns x.provider [] (map (numbered classes) x.slot.needs) new
-    → AreLeft all classes columns (xs ++ x ∷ []) → AreLeft all classes new xs
-left_less all classes columns new xs x known takes left p c h k = elim (cases_eq x.provider p) [
-  | inl e ↦
-      let here = subst (λ (r : ℕ). left_at new r (place_of classes c) + 0 ≡ left_at columns r (place_of classes c) + wanted (map (numbered classes) x.slot.needs) (place_of classes c)) e (takes.here (place_of classes c)) in
-      omega (arith, here, wanted_is classes x.slot.needs c known, sum_here xs x p c e, left p c h k)
-  | inr e ↦
-      let same = takes.others p (place_of classes c) (λ s. e (sym s)) in
-      omega (arith, same, sum_other xs x p c e, left p c h k)
-]
-
--- ---- What asks want of a provider
-
-wanted_at : (row : ℕ → ℕ) (asks ns : List (ℕ × ℕ)) (k : ℕ) → list_all (λ a. nat_le (wanted asks a.0) (row a.0)) ns ≡ true → 0 < wanted ns k → wanted asks k ≤ row k
-wanted_at row asks [] k h some = absurd (omega arith)
-wanted_at row asks (a ∷ ns) k h some =
-    let both = and_parts _ _ h in
-    elim (cases_eq a.0 k) [
-      | inl e ↦
-          let test : nat_le (wanted asks a.0) (row a.0) ≡ true = both.0 in
-          let less : wanted asks a.0 ≤ row a.0 = grind (arith, nat_tests) in
-          subst (λ (j : ℕ). wanted asks j ≤ row j) e less
-      | inr e ↦ let other = ne_eqb a.0 k e in let more = rw other at some in wanted_at row asks ns k both.1 (omega (arith, more))
-    ]
-
-pub wanted_fits : (row : ℕ → ℕ) (asks : List (ℕ × ℕ)) (k : ℕ) → suffices row asks ≡ true → wanted asks k ≤ row k
-wanted_fits row asks k h = elim (cases_lt 0 (wanted asks k)) [ inl l ↦ wanted_at row asks asks k h l | inr l ↦ omega (arith, l) ]
-
--- what is wanted of a number is wanted of a class that has it
-pub wanted_class : (classes : List (List ℕ)) (needs : List (List ℕ × ℕ)) (k : ℕ) → Each (λ need. IsKnown classes need.0) needs → 0 < wanted (map (numbered classes) needs) k
-    → (c : List ℕ) × (IsKnown classes c × (place_of classes c ≡ k))
-wanted_class classes [] k known some = absurd (omega arith)
-wanted_class classes (n ∷ needs) k known some = elim (cases_eq (place_of classes n.0) k) [
-  | inl e ↦ (n.0, (known.0, e))
-  | inr e ↦ let other = ne_eqb (place_of classes n.0) k e in let more = rw other at some in wanted_class classes needs k known.1 (omega (arith, more))
-]
+sums_next all classes row xs x left known some more own fine = same_from_decides _ _ (sums_say_full all (xs ++ x ∷ []) more) (
+  full_next all classes row xs x left known ((sums_say_full all xs some).0 fine),
+  λ full. suffices_from classes row x.slot.needs x.slot.needs known
+      (λ c k asks.
+      let sum = sum_here xs x x.provider c refl in
+      omega (arith, sum, left c k, holds_less all x.provider c (sum_on (xs ++ x ∷ []) x.provider c) (full x.provider c (omega (arith, sum, asks))))) known own,
+)

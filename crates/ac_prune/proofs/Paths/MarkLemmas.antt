@@ -12,6 +12,7 @@ use Rattle.ac_rules.specs.Together.{is_set_apart, are_apart, all_apart, isolate,
 use Rattle.ac_prune.specs.Marks.{needs_own, marks_at, times, hits_at, AreHits}
 use Rattle.ac_rules.proofs.EachSlot.AnchorLemmas.{anchors_list, anchor_list, any_filter, any_agree, each_range}
 use Rattle.ac_rules.proofs.Elements.{each_filter, each_weaker}
+use Rattle.std.proofs.Common.{rules}
 
 -- ---- Marks
 
@@ -26,16 +27,7 @@ marks_most asked (x ∷ xs) p = let more = marks_most asked xs p in elim (cases_
 -- a slot behind others stands apart from each
 apart_next : (xs : List Placed) (x : Placed) → all_apart (xs ++ x ∷ []) ≡ all_apart xs && list_all (λ y. are_apart y x) xs
 apart_next [] x = refl
-apart_next (y ∷ xs) x =
-    let here = list_all-append (λ z. are_apart y z) xs (x ∷ []) in
-    let more = apart_next xs x in
-    rw (here, more) (four (list_all (λ z. are_apart y z) xs) (are_apart y x) (all_apart xs) (list_all (λ z. are_apart z x) xs))
-  where
-    four : (a b c d : Bool) → (a && (b && true)) && (c && d) ≡ (a && c) && (b && d)
-    four false b c d = refl
-    four true false true d = refl
-    four true false false d = refl
-    four true true c d = refl
+apart_next (y ∷ xs) x = search (rules, list_all-append, apart_next xs x)
 
 some_mark : (b : Bool) (m : ℕ) → nat_lt 0 ((if b then 1 else 0) + m) ≡ b || nat_lt 0 m
 some_mark true m = grind (arith, nat_tests)
@@ -46,27 +38,13 @@ marks_none : (asked : Asked) (xs : List Placed) (x : Placed) → is_isolated ask
     → list_all (λ y. are_apart y x) xs ≡ not (is_set_apart x.slot && nat_lt 0 (marks_at asked xs x.provider))
 unfolding are_apart
 marks_none asked [] x is = elim (cases_Bool (is_set_apart x.slot)) [ inl e ↦ rw e refl | inr e ↦ rw e refl ]
-marks_none asked (y ∷ xs) x is =
-    rw (some_mark (needs_own asked y.slot && (y.provider == x.provider)) (marks_at asked xs x.provider), marks_none asked xs x is, is)
-    (both (is_set_apart y.slot) (is_set_apart x.slot) (y.provider == x.provider) (nat_lt 0 (marks_at asked xs x.provider)))
-  where
-    both : (a b c d : Bool) → not (a && b && c) && not (b && d) ≡ not (b && (((true && a) && c) || d))
-    both true true true d = refl
-    both true true false true = refl
-    both true true false false = refl
-    both true false c d = refl
-    both false true c true = refl
-    both false true c false = refl
-    both false false c d = refl
+marks_none asked (y ∷ xs) x is = search (rules, some_mark, marks_none asked xs x is)
 
 -- The next slot keeps Isolate exactly where it needs no provider for itself, or its own has no mark.
 pub isolate_next : (asked : Asked) (xs : List Placed) (x : Placed) → isolate asked xs ≡ true
     → isolate asked (xs ++ x ∷ []) ≡ not (needs_own asked x.slot && nat_lt 0 (marks_at asked xs x.provider))
 unfolding isolate
-isolate_next asked xs x h = elim (cases_Bool (is_isolated asked)) [
-  | inl e ↦ let apart = rw e at h in rw (e, apart_next xs x, apart) (marks_none asked xs x e)
-  | inr e ↦ rw e refl
-]
+isolate_next asked xs x h = search (rules, apart_next, marks_none)
 
 -- ---- Hits
 
@@ -81,13 +59,7 @@ hits_most all (p ∷ q) r = let more = hits_most all q r in elim (cases_Bool (is
 -- all are available where each hits
 pub all_hit : (all : List Provider) (q : List ℕ) (r : ℕ) → list_all (λ p. is_available_at all p r) q ≡ (hits_at all q r == length q)
 all_hit all [] r = refl
-all_hit all (p ∷ q) r =
-    let more = all_hit all q r in
-    let most = hits_most all q r in
-    elim (cases_Bool (is_available_at all p r)) [
-      | inl e ↦ rw (e, more) (grind (arith, nat_tests))
-      | inr e ↦ rw e (sym (ne_eqb (0 + hits_at all q r) (suc (length q)) (λ s. omega (arith, s, most))))
-    ]
+all_hit all (p ∷ q) r = search (rules, hits_most, ne_eqb, all_hit all q r)
 
 zero_more : (n : ℕ) → 0 + n ≡ n
 zero_more n = omega arith
@@ -95,29 +67,10 @@ zero_more n = omega arith
 -- a root stands once among those below n that pass a test
 pub times_filter : (f : ℕ → Bool) (a n r : ℕ) → r < a + n → times r (filter f (range_with_len a n)) ≡ (if nat_lt r a then 0 else (if f r then 1 else 0))
 times_filter f a zero r h = let low : nat_lt r a ≡ true = grind (arith, nat_tests) in rw low refl
-times_filter f a (suc n) r h = elim (cases_eq a r) [
-  | inl e ↦
-      let later = times_filter f (a + 1) n r (omega (arith, h)) in
-      let low : nat_lt r (a + 1) ≡ true = grind (arith, nat_tests) in
-      let here : nat_lt r a ≡ false = grind (arith, nat_tests) in
-      let none = rw low at later in
-      elim (cases_Bool (f a)) [
-        | inl t ↦ let same = ap f e in rw (t, here, none, eq-eqb a r e) (let passes : f r ≡ true = sym same ∙ t in rw passes refl)
-        | inr t ↦ let same = ap f e in rw (t, here, none) (let fails : f r ≡ false = sym same ∙ t in rw fails refl)
-      ]
-  | inr e ↦
-      let later = times_filter f (a + 1) n r (omega (arith, h)) in
-      let same : nat_lt r (a + 1) ≡ nat_lt r a = grind (arith, nat_tests, e) in
-      elim (cases_Bool (f a)) [
-        | inl t ↦ rw (t, ne_eqb a r e) (zero_more (times r (filter f (range_with_len (a + 1) n))) ∙ (later ∙ rw same refl))
-        | inr t ↦ rw t (later ∙ rw same refl)
-      ]
-]
+times_filter f a (suc n) r h = search (rules, eq-eqb, ne_eqb, zero_more, times_filter f (a + 1) n r (omega (arith, h)))
 
 pub times_anchors : (all : List Provider) (p r : ℕ) → r < length all → times r (anchors_of all p) ≡ (if is_available_at all p r then 1 else 0)
-times_anchors all p r h =
-    let low : nat_lt r 0 ≡ false = grind (arith, nat_tests) in
-    rw low at (times_filter (is_available_at all p) 0 (length all) r (omega (arith, h)))
+times_anchors all p r h = search (rules, times_filter)
 
 -- of those within a bound
 any_within : (f g : ℕ → Bool) (zs : List ℕ) → Each (λ z. f z ≡ g z) zs → list_any f zs ≡ list_any g zs
@@ -127,17 +80,7 @@ any_within f g (z ∷ zs) h = ap₂ (λ a b. a || b) h.0 (any_within f g zs h.1)
 -- the test of one more provider at a root
 at_root : (all : List Provider) (asked : Asked) (q : List ℕ) (p r : ℕ)
     → is_available_at all p r && (takes_root all asked r && (hits_at all q r == length q)) ≡ anchors_list all asked (q ++ p ∷ []) r
-at_root all asked q p r =
-    rw (list_all-append (λ s. is_available_at all s r) q (p ∷ []), all_hit all q r)
-    (three (is_available_at all p r) (takes_root all asked r) (hits_at all q r == length q))
-  where
-    three : (a t h : Bool) → a && (t && h) ≡ t && (h && (a && true))
-    three true true true = refl
-    three true true false = refl
-    three true false h = refl
-    three false true true = refl
-    three false true false = refl
-    three false false h = refl
+at_root all asked q p r = search (rules, list_all-append, all_hit)
 
 -- The next provider keeps an anchor exactly where one of its own roots is taken and was hit by all before.
 pub anchor_next : (all : List Provider) (asked : Asked) (ss : List Slot) (q : List ℕ) (p : ℕ) (taken : List Bool) (hits : List ℕ) → length (q ++ p ∷ []) ≤ length ss

@@ -10,6 +10,7 @@ use Rattle.std.proofs.lemmas.Bool.{cases_Bool, eq-eqb}
 use Rattle.ac_prune.specs.Ahead.{load_of, load_in, hosts_of}
 use Rattle.ac_prune.specs.Loads.{brought_at}
 use Rattle.ac_rules.proofs.Elements.{Among}
+use Rattle.std.proofs.Common.{rules}
 
 pub load_less : {X : Type 0} (f g : X → ℕ) (xs : List X) → ((x : X) → f x ≤ g x) → load_of f xs ≤ load_of g xs
 load_less f g [] h = omega arith
@@ -41,8 +42,7 @@ pub boxes_reach : {X : Type 0} (box amount : X → ℕ) (room : ℕ → ℕ) (xs
     → ((b : ℕ) → load_in box amount xs b ≤ room b) → load_of amount xs ≤ load_of room bs
 boxes_reach box amount room xs bs h k =
     let all = load_boxes box amount xs bs h in
-    let less = load_less (λ b. load_in box amount xs b) room bs k in
-    omega arith
+    search (rules, load_less)
 
 -- ---- Items one after another
 
@@ -80,11 +80,7 @@ load_times_of a (x ∷ xs) r = let more = load_times_of a xs r in elim (cases_Bo
 
 -- what a provider adds at a root
 pub load_anchors : (all : List Provider) (p r a : ℕ) → r < length all → load_in (λ x. x) (λ _. a) (anchors_of all p) r ≡ (if is_available_at all p r then a else 0)
-load_anchors all p r a h = load_times_of a (anchors_of all p) r ∙ (ap (λ (n : ℕ). n * a) (times_anchors all p r h) ∙ one (is_available_at all p r))
-  where
-    one : (b : Bool) → (if b then 1 else 0) * a ≡ (if b then a else 0)
-    one true = omega arith
-    one false = omega arith
+load_anchors all p r a h = search (rules, load_times_of, times_anchors)
 
 -- one more provider's room, where sums stay at a greatest number
 pub load_next : (all : List Provider) (f : ℕ → ℕ) (i r old new most : ℕ) → r < length all → min old most ≡ min (load_of f (filter (λ p. is_available_at all p r) (range_with_len 0 i))) most
@@ -126,15 +122,7 @@ pub listed_next : (all : List Provider) (f : ℕ → ℕ) (i k r old sum most : 
     → get_or lists k [] ≡ anchors_of all i → sum ≡ min (slice_index sums k + f i) most
     → min (old + brought_at lists sums r) most ≡ min (load_of f (filter (λ p. is_available_at all p r) (range_with_len 0 i))) most
     → min (old + brought_at lists (slice_set sums k sum) r) most ≡ min (load_of f (filter (λ p. is_available_at all p r) (range_with_len 0 (i + 1)))) most
-listed_next all f i k r old sum most lists sums h kl ks same is was =
-    let range = load_range f (λ p. is_available_at all p r) i in
-    let set = brought_set lists sums k sum r kl ks in
-    let one = brought_one lists sums k r kl ks in
-    let at : times r (get_or lists k []) ≡ (if is_available_at all i r then 1 else 0) = ap (times r) same ∙ times_anchors all i r h in
-    elim (cases_Bool (is_available_at all i r)) [
-      | inl e ↦ let here : times r (get_or lists k []) ≡ 1 = rw e at at in let more = rw e at range in omega (arith, was, is, more, rw here at set, rw here at one)
-      | inr e ↦ let here : times r (get_or lists k []) ≡ 0 = rw e at at in let more = rw e at range in omega (arith, was, is, more, rw here at set)
-    ]
+listed_next all f i k r old sum most lists sums h kl ks same is was = search (rules, load_range, brought_set, brought_one, times_anchors)
 
 -- one list more
 pub brought_next : (lists : List (List ℕ)) (sums : List ℕ) (k r : ℕ) → k < length lists → k < length sums

@@ -11,34 +11,23 @@ use Rattle.ac_prune.specs.Left.Accounts.{providers_in, asked_in}
 use Rattle.ac_prune.specs.Families.{Names, IsFamily}
 use Rattle.ac_prune.specs.Fronts.{LeadsNowhere}
 use Rattle.ac_prune.specs.Parts.{IsNamed, AreParts}
-use Rattle.ac_prune.specs.QuerySearch.{choices_of}
+use Rattle.ac_prune.specs.QuerySearch.{choice_of}
+use Rattle.ac_rules.specs.Placed.{slot_at}
 use Rattle.ac_prune.specs.Trees.{IsByPart, AreByPart}
-use Rattle.ac_prune.specs.declared.by_tree.ByTree.{ByTree}
+use Rattle.ac_prune.specs.declared.by_tree.Places.{Places}
 use Rattle.ac_prune.specs.declared.families.Family.{Family}
 use Rattle.ac_prune.specs.declared.front.Front.{Front}
-use Rattle.ac_prune.proofs.Paths.FrontLemmas.{listed_at, slot_inside}
+use Rattle.ac_prune.proofs.Paths.FrontLemmas.{listed_at}
 use Rattle.ac_prune.proofs.Roots.PartLemmas.{named_at}
+use Rattle.std.proofs.Common.{rules}
 
 -- a slot that is marked is named
 marked_named : (asked : Asked) (names : List (List ℕ)) (family : Family) (s : ℕ) → family.named.items ≡ map (λ (x : Slot). lists_suffix names x.suffix) (slots_of asked) → Names family s → IsNamed asked names s
-marked_named asked names family s is mark =
-    let size = length-map (slots_of asked) (λ (x : Slot). lists_suffix names x.suffix) in
-    let count = ap length is in
-    elim (cases_lt s (length (slots_of asked))) [
-      | inl l ↦ (l, named_at names (slots_of asked) family.named.items s false is l mark)
-      | inr g ↦ absurd (false≢true (sym (get_or_past family.named.items s false (omega (arith, g, size, count))) ∙ mark))
-    ]
+marked_named asked names family s is mark = search (rules, length-map, named_at, false≢true, get_or_past)
 
 pub family_made : (all : List Provider) (asked : Asked) (names : List (List ℕ)) (family : Family) → family.named.items ≡ map (λ (x : Slot). lists_suffix names x.suffix) (slots_of asked)
-    → (family.first < length family.named.items → Names family family.first) → AreParts all asked names family.parts.items → AreByPart (choices_of all asked) family.parts.items family.places.items → IsFamily all asked family
-family_made all asked names family is first parts placed = record {
-  named = ap length is ∙ length-map (slots_of asked) (λ (x : Slot). lists_suffix names x.suffix);
-  first = first;
-  count = parts.count;
-  within = λ t s list candidate here. parts.within t s list candidate (marked_named asked names family s is here);
-  one = λ t s u list candidate here there. parts.one t s u list candidate (marked_named asked names family s is here) (marked_named asked names family u is there);
-  placed = placed;
-}
+    → (family.first < length family.named.items → Names family family.first) → AreParts all asked names family.parts.items → AreByPart all asked family.parts.items family.places.items → IsFamily all asked family
+family_made all asked names family is first parts placed = search (rules, length-map, marked_named)
 
 abbrev IsIn : Front → Family → Type 0
 IsIn f family = IsFamily (providers_in f.ledger.now) (asked_in f.ledger.now) family
@@ -50,15 +39,11 @@ named_here f family mark is at on = sym (get_or_default family.named.items (leng
 -- the part of the first provider that is named
 pub first_part : (f : Front) (family : Family) (d : ℕ) → IsIn f family → family.first < length f.path.now
     → d ≡ slice_index_or family.parts.items (slice_index f.path.now family.first) d → d ≡ slice_index family.parts.items (slice_index f.path.now family.first)
-first_part f family d is less at =
-    let n = length (providers_in f.ledger.now) in
-    let low = each_at (λ p. p < n) f.path.now family.first 0 (recursion_from_All (λ p. p < n) f.path.now f.providers) less in
-    at ∙ get_or_default family.parts.items (slice_index f.path.now family.first) d 0 (omega (arith, is.count, low))
+first_part f family d is less at = search (rules, each_at, recursion_from_All, get_or_default)
 
 -- the choices behind the path, by part
-pub choices_by_part : (f : Front) (family : Family) (b : ByTree) → IsIn f family → b ≡ slice_index_or family.places.items (length f.path.now) b → IsByPart f.choices.now family.parts.items b
-choices_by_part f family b is at =
-    rw (listed_at f) (subst (IsByPart (slice_index_or (choices_of (providers_in f.ledger.now) (asked_in f.ledger.now)) (length f.path.now) []) family.parts.items) (sym at) (is.placed.each (length f.path.now) b (slot_inside f)))
+pub choices_by_part : (f : Front) (family : Family) (b : Places) → IsIn f family → b ≡ slice_index_or family.places.items (length f.path.now) b → IsByPart f.choices.now family.parts.items b
+choices_by_part f family b is at = search (rules, listed_at)
 
 -- the last provider of a front, with what goes on from it
 last_is : (path v : List ℕ) (p : ℕ) → slice_index ((path ++ p ∷ []) ++ v) (length path) ≡ p

@@ -1,9 +1,7 @@
 -- The lists of choices that a walk keeps.
-use Rattle.std.proofs.Common.{◌≡◌, ℕ, ◌<◌, ◌≤◌, List, [], length, map, get_or, slice_index_or, sym, ap, ◌∙◌, arith, Global}
-use Rattle.std.specs.List.{All}
+use Rattle.std.proofs.Common.{◌≡◌, ℕ, ◌<◌, List, [], length, map, get_or, sym, ap, ◌∙◌, arith, Global}
 use Rattle.std.specs.declared.vec.Vec.{Vec}
 use Rattle.std.proofs.lemmas.List.{get_or-map, length-map}
-use Rattle.std.proofs.lemmas.List.Elements.{All-from_recursion}
 use Rattle.ac_prune.specs.Search.{Search, choices_at}
 use Rattle.ac_prune.proofs.Search.SoughtLemmas.{IsSearch}
 
@@ -17,14 +15,3 @@ unfolding choices_at
 kept_choices m laws kept d v listed short is =
     let size = length_kept m laws kept listed in
     ap (λ (u : Vec ℕ Global). u.items) is ∙ (sym (get_or-map (λ (u : Vec ℕ Global). u.items) kept d v [] (omega arith)) ∙ ap (λ (ls : List (List ℕ)). get_or ls d []) listed)
-
--- each list is short, of numbers below the bound
-pub kept_few : (m : Search) → IsSearch m → (kept : List (Vec ℕ Global)) → map (λ (u : Vec ℕ Global). u.items) kept ≡ m.choices → (s : ℕ) → s < length kept
-    → length (slice_index_or (map (λ (u : Vec ℕ Global). u.items) kept) s []) ≤ m.count
-unfolding choices_at
-kept_few m laws kept listed s h = rw listed (laws.few s (omega (arith, h, length_kept m laws kept listed)))
-
-pub kept_low : (m : Search) → IsSearch m → (kept : List (Vec ℕ Global)) → map (λ (u : Vec ℕ Global). u.items) kept ≡ m.choices → (s : ℕ) → s < length kept
-    → All (λ p. p < m.count) (slice_index_or (map (λ (u : Vec ℕ Global). u.items) kept) s [])
-unfolding choices_at
-kept_low m laws kept listed s h = rw listed (All-from_recursion (λ p. p < m.count) (choices_at m s) (laws.low s (omega (arith, h, length_kept m laws kept listed))))

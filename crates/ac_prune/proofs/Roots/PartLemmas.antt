@@ -3,7 +3,6 @@ use Rattle.std.proofs.Common.{inl, inr, ◌⊎◌, ◌≤◌, rules, ◌≡◌, 
 use Rattle.std.specs.Prelude.{◌==◌, IfSome}
 use Rattle.std.specs.Option.{option_map, unwrap_or}
 use Rattle.std.specs.List.{list_any}
-use Rattle.std.specs.Global.{Vec}
 use Rattle.std.proofs.Math.Seq.{drop-cons}
 use Rattle.std.proofs.lemmas.Bool.{cases_Bool, cases_eq, cases_order, eq-eqb, ne_eqb, false≢true}
 use Rattle.std.proofs.lemmas.List.{get_or_past, take-append-drop, get_or-map}
@@ -20,49 +19,22 @@ use Rattle.ac_rules.specs.Together.{listed, is_top, subtree}
 use Rattle.ac_rules.specs.Judge.{tests, all_hold, is_candidate}
 use Rattle.ac_prune.specs.Trees.Keys.{is_there}
 use Rattle.ac_prune.specs.Search.{choices_at}
-use Rattle.ac_prune.specs.QuerySearch.{choice_of, choices_of, search_of}
+use Rattle.ac_prune.specs.QuerySearch.{choice_of, search_of}
 use Rattle.ac_prune.specs.Parts.{IsNamed, AreParts, AreTops, AreLinked, KeepSeen}
 use Rattle.ac_rules.proofs.Elements.{Among}
-use Rattle.ac_prune.proofs.Roots.KeptLemmas.{kept_choices}
 use Rattle.ac_rules.proofs.SlotLemmas.{each_at}
 use Rattle.ac_prune.proofs.Search.SoughtLemmas.{IsSought, choice_in, place_of}
 use Rattle.ac_prune.proofs.Search.OpenLemmas.{choices_here, is_search}
-use Rattle.ac_prune.proofs.Roots.TreeLemmas.{all_there, or_left, or_right}
-
--- what is kept for a slot are its choices
-pub slot_choices : (all : List Provider) (asked : Asked) (kept : List (Vec ℕ)) (s : ℕ) (v : Vec ℕ) (list : List ℕ) → map (λ (u : Vec ℕ). u.items) kept ≡ choices_of all asked → s < length (slots_of asked) → v ≡ slice_index_or kept s v
-    → list ≡ v.items → list ≡ choice_of all asked (slot_at asked s)
-slot_choices all asked kept s v list listed h is same = same ∙ (kept_choices (search_of all asked) (is_search all asked) kept s v listed h is ∙ choices_here all asked s h)
-
--- what holds of each item of a list, and of one more
-pub each_more : {X : Type 0} (P : ℕ → X → Type 0) (xs : List X) (x : X) → ((i : ℕ) (d : X) → i < length xs → P i (slice_index_or xs i d)) → P (length xs) x
-    → (i : ℕ) (d : X) → i < length (xs ++ x ∷ []) → P i (slice_index_or (xs ++ x ∷ []) i d)
-each_more P [] x each last zero d inside = last
-each_more P [] x each last (suc i) d inside = absurd (omega arith)
-each_more P (y ∷ xs) x each last zero d inside = each zero d (omega arith)
-each_more P (y ∷ xs) x each last (suc i) d inside = each_more (λ k v. P (suc k) v) xs x (λ k e below. each (suc k) e (omega arith)) last i d (omega arith)
+use Rattle.ac_prune.proofs.Roots.TreeLemmas.{all_there, any_found, or_right}
+use Rattle.std.proofs.lemmas.Bool.Decides.{nat_tests}
 
 -- the part of a choice that is marked, by any provider of it; past the end all marks are set
 pub seen_part : (old new : List Bool) (parts list : List ℕ) (p j : ℕ) → length new ≡ length old
     → (slice_index parts (slice_index list j) < length old → slice_index_or new (slice_index parts (slice_index list j)) true ≡ true)
     → slice_index parts (slice_index list j) ≡ slice_index parts p → slice_index_or new (slice_index parts p) true ≡ true
-seen_part old new parts list p j count marked same =
-    elim (below_or (slice_index parts p) (length old)) [
-      | inl less ↦ subst (λ (q : ℕ). slice_index_or new q true ≡ true) same (marked (omega (arith, same, less)))
-      | inr past ↦ get_or_past new (slice_index parts p) true (omega (arith, count, past))
-    ]
-  where
-    below_or : (k i : ℕ) → (k < i) ⊎ (i ≤ k)
-    below_or k i = search (arith, rules)
+seen_part old new parts list p j count marked same = search (rules, get_or_past)
 
 -- ---- Those that a list names
-
-any_found : (f : ℕ → Bool) (xs : List ℕ) → list_any f xs ≡ true → (x : ℕ) × (is_there xs x ≡ true) × (f x ≡ true)
-any_found f [] h = absurd (false≢true h)
-any_found f (x ∷ xs) h = elim (cases_Bool (f x)) [
-  | inl e ↦ let on = eq-eqb x x refl in (x, or_left (x == x) (is_there xs x) on, e)
-  | inr e ↦ let more = any_found f xs (rw e at h) in (more.0, or_right (x == more.0) (is_there xs more.0) more.1, more.2)
-]
 
 -- a slot that is named, with its provider
 record IsOf (names : List (List ℕ)) (ss : List Slot) (t : List ℕ) (a : ℕ) : Type 0 where
@@ -76,9 +48,7 @@ named_there : (names : List (List ℕ)) (ss : List Slot) (t : List ℕ) (s : ℕ
 named_there names [] t s size h named = absurd (omega (arith, h))
 named_there names (x ∷ ss) [] s size h named = absurd (omega (arith, size))
 named_there names (x ∷ ss) (p ∷ t) zero size h named = let on = eq-eqb p p refl in rw (named, on) refl
-named_there names (x ∷ ss) (p ∷ t) (suc s) size h named =
-    let more = named_there names ss t s (omega (arith, size)) (omega (arith, h)) named in
-    elim (cases_Bool (lists_suffix names x.suffix)) [ inl e ↦ rw e (or_right (p == slice_index t s) (is_there (listed names (placed ss t)) (slice_index t s)) more) | inr e ↦ rw e more ]
+named_there names (x ∷ ss) (p ∷ t) (suc s) size h named = search (rules, or_right, named_there names ss t s (omega (arith, size)) (omega (arith, h)) named)
 
 later : (names : List (List ℕ)) (x : Slot) (ss : List Slot) (p : ℕ) (t : List ℕ) (a : ℕ) → IsOf names ss t a → IsOf names (x ∷ ss) (p ∷ t) a
 later names x ss p t a more = record { slot = suc more.slot; within = omega (arith, more.within); named = more.named; is = more.is }
@@ -86,22 +56,12 @@ later names x ss p t a more = record { slot = suc more.slot; within = omega (ari
 there_named : (names : List (List ℕ)) (ss : List Slot) (t : List ℕ) (a : ℕ) → is_there (listed names (placed ss t)) a ≡ true → IsOf names ss t a
 there_named names [] t a h = absurd (false≢true h)
 there_named names (x ∷ ss) [] a h = absurd (false≢true h)
-there_named names (x ∷ ss) (p ∷ t) a h =
-    elim (cases_Bool (lists_suffix names x.suffix)) [
-      | inr e ↦ later names x ss p t a (there_named names ss t a (rw e at h))
-      | inl e ↦ elim (cases_eq p a) [
-        | inl same ↦ record { slot = 0; within = omega arith; named = e; is = same }
-        | inr differs ↦ let other = ne_eqb p a differs in later names x ss p t a (there_named names ss t a (rw (e, other) at h))
-      ]
-    ]
+there_named names (x ∷ ss) (p ∷ t) a h = search (rules, later, ne_eqb, there_named names ss t a)
 
 -- ---- Links
 
 same_place : (all : List Provider) → AreInOrder all → (a b : ℕ) → a < length all → b < length all → id_at all a ≡ id_at all b → a ≡ b
-same_place all order a b h k e = elim (cases_order a b) [
-  | inl s ↦ s
-  | inr o ↦ elim o [ inl l ↦ absurd (omega (arith, e, order a b l k)) | inr g ↦ absurd (omega (arith, e, order b a g h)) ]
-]
+same_place all order a b h k e = search rules
 
 linked_up : (all : List Provider) (tops : List Bool) (parts : List ℕ) (k a b : ℕ)
     → ((q : ℕ) → q < length all → list_any (λ p. p == id_at all a) (chain (parent_of all) k (id_at all q)) ≡ true → slice_index parts q ≡ slice_index parts a) → slice_index parts a < length all
@@ -113,10 +73,7 @@ linked_up all tops parts k a b next has (Some q) is same more = let one = next q
 -- who is below a provider that has a part is of that part
 linked_chain : (all : List Provider) → AreInOrder all → (tops : List Bool) (parts : List ℕ) → AreLinked all tops parts → (k a b : ℕ) → a < length all → b < length all → slice_index parts a < length all
     → list_any (λ p. p == id_at all a) (chain (parent_of all) k (id_at all b)) ≡ true → slice_index parts b ≡ slice_index parts a
-linked_chain all order tops parts links zero a b low here has above = elim (cases_eq (id_at all b) (id_at all a)) [
-  | inl e ↦ ap (slice_index parts) (same_place all order b a here low e)
-  | inr e ↦ let other = ne_eqb (id_at all b) (id_at all a) e in absurd (false≢true (rw other at above))
-]
+linked_chain all order tops parts links zero a b low here has above = grind (arith, nat_tests)
 linked_chain all order tops parts links (suc k) a b low here has above = elim (cases_eq (id_at all b) (id_at all a)) [
   | inl e ↦ ap (slice_index parts) (same_place all order b a here low e)
   | inr e ↦ let other = ne_eqb (id_at all b) (id_at all a) e in let link = links b here in
@@ -133,8 +90,7 @@ has_top : (all : List Provider) (asked : Asked) (t : List ℕ) (k : ℕ) → is_
 unfolding is_candidate subtree
 has_top all asked t k candidate h =
     let each = candidate_subtree all asked (assigned asked t) candidate in
-    let test = λ (names : List (List ℕ)). list_any (λ a. is_top all (listed names (assigned asked t)) a) (listed names (assigned asked t)) in
-    elim (cases_Bool (test (get_or asked.subtrees k []))) [ inl e ↦ e | inr e ↦ absurd (false≢true (sym (list_all_at test asked.subtrees k [] h e) ∙ each)) ]
+    grind (arith, nat_tests, list_all_at)
 
 top_above : (all : List Provider) (ps : List ℕ) (a b : ℕ) → is_top all ps a ≡ true → is_there ps b ≡ true → is_above all (id_at all a) (id_at all b) ≡ true
 unfolding is_top

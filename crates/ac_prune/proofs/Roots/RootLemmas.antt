@@ -6,7 +6,6 @@ use Rattle.std.specs.Global.{Vec}
 use Rattle.std.specs.Str.{bytes_eq}
 use Rattle.std.proofs.lemmas.Slice.Eq.{bytes_eq-Decides}
 use Rattle.std.proofs.lemmas.Bool.{cases_Bool, and_parts, and_from, false≢true, false_from_ne_true}
-use Rattle.std.proofs.lemmas.List.Folds.{list_all-append}
 use Rattle.std.proofs.lemmas.List.{get_or-map, take_more}
 use Rattle.std.proofs.lemmas.List.Elements.{All-from_recursion}
 use Rattle.std.proofs.lemmas.List.FromFn.{length-range_with_len, get_or-range_with_len}
@@ -16,18 +15,20 @@ use Rattle.ac_cloud.specs.World.{Provider, provider_at, is_available_at, anchors
 use Rattle.ac_prune.specs.Marks.{AreHits, needs_own}
 use Rattle.ac_prune.specs.Search.{IsDead}
 use Rattle.ac_rules.specs.Placed.{Placed, placed, slot_at, no_slot, assigned}
-use Rattle.ac_rules.specs.Together.{amount_of, sum_on, holds, takes_root, hosts_all, anchor}
+use Rattle.ac_rules.specs.Together.{amount_of, sum_on, holds, takes_root}
 use Rattle.ac_prune.specs.QuerySearch.{fits, choice_of, search_of}
-use Rattle.ac_prune.specs.Left.{ask_pair, numbered, wanted, left_at, place_of, IsKnown}
-use Rattle.ac_prune.specs.Left.Accounts.{providers_in, asked_in, texts_in, columns_in, Accounts}
-use Rattle.ac_prune.specs.Loads.{AreServing}
-use Rattle.ac_prune.specs.Ahead.{load_of, hosts_of, IsHosted, left_on, asks_much, lone_much, serves, AreHosts, AreRoots}
+use Rattle.ac_prune.specs.Left.{ask_pair, numbered, wanted, place_of, IsKnown}
+use Rattle.ac_prune.specs.Left.Accounts.{providers_in, asked_in, texts_in, left_in}
+use Rattle.ac_prune.specs.Loads.{AreServing, ArePieces, AreOnes, AreLimited, MayHost, choice_in, load_at, pairs_of, is_much}
+use Rattle.ac_prune.specs.Loads.Columns.{count_of_lone}
+use Rattle.ac_prune.specs.Ahead.{load_of, hosts_of, later, Bears, IsHosted, left_on, asks_much, lone_much, serves, AreHosts, AreRoots}
+use Rattle.ac_base.specs.Names.{class_bytes}
+use Rattle.ac_prune.specs.declared.hosts.column.Column.{Column}
 use Rattle.ac_prune.specs.declared.ledger.Ledger.{Ledger}
 use Rattle.ac_prune.specs.declared.ledger.rooms.Ask.{Ask}
 use Rattle.ac_rules.proofs.Elements.{Among, each_weaker, each_filter}
-use Rattle.ac_rules.proofs.EachSlot.AnchorLemmas.{each_range, hosts_list, any_filter}
+use Rattle.ac_rules.proofs.EachSlot.AnchorLemmas.{each_range}
 use Rattle.ac_prune.proofs.Paths.MarkLemmas.{all_hit}
-use Rattle.ac_rules.proofs.EachSlot.FrontLemmas.{Opens}
 use Rattle.ac_prune.proofs.Paths.LeftLemmas.{wanted_is}
 use Rattle.ac_prune.proofs.Search.OpenLemmas.{each_choice}
 use Rattle.ac_prune.proofs.Search.SoughtLemmas.{place_of as place_of_choice}
@@ -35,7 +36,9 @@ use Rattle.ac_prune.proofs.Paths.LedgerLemmas.{known_in, asks_at, lone_at}
 use Rattle.ac_prune.proofs.Roots.CountLemmas.{load_of_append}
 use Rattle.ac_prune.proofs.Paths.BearLemmas.{left_bears, pieces_bear, lone_bears}
 use Rattle.ac_prune.proofs.Roots.PartLemmas.{choice_there}
-use Rattle.ac_prune.proofs.Roots.HostLemmas.{rooms_reach, behind_hosts, candidate_parts}
+use Rattle.ac_prune.proofs.Roots.HostLemmas.{rooms_reach, behind_hosts, front_parts, stands}
+use Rattle.ac_prune.proofs.Roots.TreeLemmas.{anchor_there, any_there}
+use Rattle.std.proofs.Common.{rules}
 
 pub if_ok : {X E : Type 0} (P Q : X → Type 0) (r : Result X E) → ((x : X) → P x → Q x) → IfOk r P → IfOk r Q
 if_ok P Q (Ok x) f h = f x h
@@ -49,8 +52,7 @@ keeps all asked old new test was is passes r t h hosted = is r h ∙ and_from (s
 
 pub hosts_low : (all : List Provider) (r : ℕ) → Each (λ p. p < length all) (hosts_of all r)
 unfolding hosts_of
-hosts_low all r = each_weaker _ (λ p. p < length all) (hosts_of all r) (λ p h. h.1)
-    (each_filter (λ p. p < length all) (λ p. is_available_at all p r) (range_with_len 0 (length all)) (each_range 0 (length all) (length all) (omega arith)))
+hosts_low all r = search (rules, each_weaker, each_filter, each_range)
 
 pub load_within : (f g : ℕ → ℕ) (n : ℕ) (xs : List ℕ) → Each (λ x. x < n) xs → ((x : ℕ) → x < n → f x ≤ g x) → load_of f xs ≤ load_of g xs
 load_within f g n [] low h = omega arith
@@ -61,52 +63,65 @@ each_index P [] d h = tt
 each_index P (x ∷ xs) d h = (h 0 (omega arith), each_index P xs d (λ i l. h (suc i) (omega (arith, l))))
 
 -- what all slots ask of a class, by its number
-pub asks_load : (classes : List (List ℕ)) (c : List ℕ) (ss : List Slot) → Each (λ s. Each (λ need. IsKnown classes need.0) s.needs) ss
-    → load_of (λ a. wanted a (place_of classes c)) (map (λ s. map (numbered classes) s.needs) ss) ≡ load_of (λ s. amount_of s.needs c) ss
-asks_load classes c [] h = refl
-asks_load classes c (s ∷ ss) h = ap₂ (λ m n. m + n) (wanted_is classes s.needs c h.0) (asks_load classes c ss h.1)
+pub asks_load : (classes : List (List ℕ)) (c : List ℕ) (f : ℕ → ℕ) (ss : List Slot) → Each (λ s. Each (λ need. IsKnown classes need.0) s.needs) ss
+    → load_of (λ a. f (wanted a (place_of classes c))) (map (λ s. map (numbered classes) s.needs) ss) ≡ load_of (λ s. f (amount_of s.needs c)) ss
+asks_load classes c f [] h = refl
+asks_load classes c f (s ∷ ss) h = ap₂ (λ m n. f m + n) (wanted_is classes s.needs c h.0) (asks_load classes c f ss h.1)
 
-pub asks_in : (l : Ledger) (c : List ℕ) → load_of (λ a. wanted a (place_of (texts_in l) c)) (map (λ (v : Vec Ask). map ask_pair v.items) l.asks.items) ≡ load_of (λ s. amount_of s.needs c) (slots_of (asked_in l))
-asks_in l c = ap (load_of (λ a. wanted a (place_of (texts_in l) c))) l.asked
-    ∙ asks_load (texts_in l) c (slots_of (asked_in l)) (each_index (λ s. Each (λ need. IsKnown (texts_in l) need.0) s.needs) (slots_of (asked_in l)) no_slot (known_in l))
+pub all_known : (l : Ledger) → Each (λ s. Each (λ need. IsKnown (texts_in l) need.0) s.needs) (slots_of (asked_in l))
+all_known l = each_index (λ s. Each (λ need. IsKnown (texts_in l) need.0) s.needs) (slots_of (asked_in l)) no_slot (known_in l)
 
--- the rows of a root's providers reach what all slots ask
-pub class_hosted : (l : Ledger) (r : ℕ) (t : List ℕ) (c : List ℕ) → Accounts l [] → IsKnown (texts_in l) c → IsHosted (providers_in l) (asked_in l) r t
-    → load_of (λ s. amount_of s.needs c) (slots_of (asked_in l)) ≤ load_of (λ p. left_at (columns_in l) p (place_of (texts_in l) c)) (hosts_of (providers_in l) r)
-class_hosted l r t c accounts known hosted =
-    let all = providers_in l in
-    let asked = asked_in l in
-    let reach = rooms_reach all asked [] t r (λ s. amount_of s.needs c) (λ p. left_on all asked [] c p) (left_bears all asked [] c) hosted in
-    let same = load_within (λ p. left_on all asked [] c p) (λ p. left_at (columns_in l) p (place_of (texts_in l) c)) (length all) (hosts_of all r) (hosts_low all r)
-    (λ p h. omega (arith, accounts.left p c h known)) in
-    omega (arith, reach, same)
+pub asks_in : (l : Ledger) (c : List ℕ) (f : ℕ → ℕ) → load_of (λ a. f (wanted a (place_of (texts_in l) c))) (pairs_of l.asks.items) ≡ load_of (λ s. f (amount_of s.needs c)) (slots_of (asked_in l))
+asks_in l c f = ap (load_of (λ a. f (wanted a (place_of (texts_in l) c)))) l.asked ∙ asks_load (texts_in l) c f (slots_of (asked_in l)) (all_known l)
 
-pub class_keeps : (l : Ledger) (old new : List Bool) (rooms : List ℕ) (k most : ℕ) (c : List ℕ) → IsKnown (texts_in l) c → Accounts l [] → AreHosts (providers_in l) (asked_in l) old
-    → k ≡ place_of (texts_in l) c → ((p : ℕ) → p < length (providers_in l) → slice_index rooms p ≡ left_at (columns_in l) p k)
-    → most ≤ load_of (λ a. wanted a k) (map (λ (v : Vec Ask). map ask_pair v.items) l.asks.items)
-    → ((r : ℕ) → r < length (providers_in l) → slice_index_or new r false ≡ (slice_index_or old r false && nat_le most (load_of (λ p. slice_index rooms p) (hosts_of (providers_in l) r))))
-    → AreHosts (providers_in l) (asked_in l) new
-class_keeps l old new rooms k most c known accounts was number col less is =
-    let all = providers_in l in
-    let asked = asked_in l in
-    keeps all asked old new (λ r. nat_le most (load_of (λ p. slice_index rooms p) (hosts_of all r))) was is
-    (λ r t h hosted.
-    let reach = class_hosted l r t c accounts known hosted in
-    let same = load_within (λ p. left_at (columns_in l) p (place_of (texts_in l) c)) (λ p. slice_index rooms p) (length all) (hosts_of all r) (hosts_low all r)
-    (λ p low. let at = col p low in let there = ap (left_at (columns_in l) p) number in omega (arith, at, there)) in
-    let asks = asks_in l c in
-    let wants : most ≤ load_of (λ s. amount_of s.needs c) (slots_of asked) = omega (arith, asks, rw number at less) in
-    let enough : most ≤ load_of (λ p. slice_index rooms p) (hosts_of all r) = omega (arith, wants, reach, same) in
-    grind (arith, nat_tests))
+-- Where no provider bears more of a weight than its room, rooms that are no less reach at a root what the later slots weigh.
+pub reached : (all : List Provider) (asked : Asked) (q v : List ℕ) (r : ℕ) (weight : Slot → ℕ) (room rooms : ℕ → ℕ) → Bears all asked q weight room → ((p : ℕ) → p < length all → room p ≤ rooms p)
+    → IsHosted all asked r (q ++ v) → load_of weight (later asked q) ≤ load_of rooms (hosts_of all r)
+reached all asked q v r weight room rooms bears fits hosted =
+    omega (arith, rooms_reach all asked q v r weight room bears hosted, load_within room rooms (length all) (hosts_of all r) (hosts_low all r) fits)
+
+-- so the roots stay where they reach some of what all slots weigh
+weighed_keeps : (all : List Provider) (asked : Asked) (old new : List Bool) (rooms : List ℕ) (most : ℕ) (weight : Slot → ℕ) (room : ℕ → ℕ) → Bears all asked [] weight room
+    → ((p : ℕ) → p < length all → room p ≤ slice_index rooms p) → most ≤ load_of weight (slots_of asked) → AreRoots all asked old → length new ≡ length old → AreLimited all rooms most old new → AreRoots all asked new
+weighed_keeps all asked old new rooms most weight room bears fits wants was count is = record {
+  count = count ∙ was.count;
+  hosts = keeps all asked old new (λ r. nat_le most (load_at all rooms r)) was.hosts is
+      (λ r t low hosted. let reach = reached all asked [] t r weight room (λ p. slice_index rooms p) bears fits hosted in grind (arith, nat_tests));
+}
+
+-- what a column has left
+column_left : (column : Column) (p : ℕ) → p < length (providers_in column.ledger.now) → left_on (providers_in column.ledger.now) (asked_in column.ledger.now) [] (class_bytes column.class.now) p ≡ slice_index column.rooms.items p
+column_left column p h = omega (arith, column.empty.left p (class_bytes column.class.now) h column.known, column.left p h, ap (left_in column.ledger.now p) column.numbered)
+
+pub sum_keeps : (column : Column) (old new : List Bool) (most : ℕ) → most ≤ load_of (λ a. wanted a column.number) (pairs_of column.ledger.now.asks.items) → MayHost column.ledger.now old → length new ≡ length old
+    → AreLimited (providers_in column.ledger.now) column.rooms.items most old new → MayHost column.ledger.now new
+sum_keeps column old new most less was count is =
+    let l = column.ledger.now in
+    let c = class_bytes column.class.now in
+    weighed_keeps (providers_in l) (asked_in l) old new column.rooms.items most (λ s. amount_of s.needs c) (left_on (providers_in l) (asked_in l) [] c) (left_bears (providers_in l) (asked_in l) [] c)
+    (λ p h. omega (arith, column_left column p h)) (omega (arith, asks_in l c (λ n. n), rw column.numbered at less)) was count is
+
+pub pieces_keep : (column : Column) (old new : List Bool) (pieces : List ℕ) (a most : ℕ) → 0 < a → ArePieces column.rooms.items a pieces → most ≤ load_of (is_much column.number a) (pairs_of column.ledger.now.asks.items)
+    → MayHost column.ledger.now old → length new ≡ length old → AreLimited (providers_in column.ledger.now) pieces most old new → MayHost column.ledger.now new
+pieces_keep column old new pieces a most some are less was count is =
+    let l = column.ledger.now in
+    let c = class_bytes column.class.now in
+    weighed_keeps (providers_in l) (asked_in l) old new pieces most (asks_much c a) (λ p. left_on (providers_in l) (asked_in l) [] c p / a) (pieces_bear (providers_in l) (asked_in l) [] c a some)
+    (λ p h. omega (arith, ap (λ (n : ℕ). n / a) (column_left column p h), are p (omega (arith, h, column.as_many)))) (omega (arith, asks_in l c (λ n. if nat_le a n then 1 else 0), rw column.numbered at less)) was count is
+
+pub lone_keep : (column : Column) (old new : List Bool) (pieces ones : List ℕ) (a most : ℕ) → 0 < a → ArePieces column.rooms.items a pieces → length pieces ≡ length column.rooms.items → AreOnes pieces ones
+    → most ≤ count_of_lone column a → MayHost column.ledger.now old → length new ≡ length old → AreLimited (providers_in column.ledger.now) ones most old new → MayHost column.ledger.now new
+lone_keep column old new pieces ones a most some are size one wants was count is =
+    let l = column.ledger.now in
+    let c = class_bytes column.class.now in
+    weighed_keeps (providers_in l) (asked_in l) old new ones most (lone_much (asked_in l) c a) (λ p. min (left_on (providers_in l) (asked_in l) [] c p / a) 1) (lone_bears (providers_in l) (asked_in l) [] c a some)
+    (λ p h. omega (arith, ap (λ (n : ℕ). n / a) (column_left column p h), are p (omega (arith, h, column.as_many)), one p (omega (arith, h, size, column.as_many)))) wants was count is
 
 -- each class of a list is known there
 known_at_place : {X : Type 0} (text : X → List ℕ) (xs : List X) (i : ℕ) (d : X) → i < length xs → IsKnown (map text xs) (text (slice_index_or xs i d))
 known_at_place text [] i d h = absurd (omega arith)
 known_at_place text (x ∷ xs) zero d h = let same = (bytes_eq-Decides (text x) (text x)).1 refl in rw same (omega arith)
-known_at_place text (x ∷ xs) (suc i) d h = elim (cases_Bool (bytes_eq (text x) (text (slice_index_or xs i d)))) [
-  | inl e ↦ rw e (omega arith)
-  | inr e ↦ let more = known_at_place text xs i d (omega arith) in rw e (omega (arith, more))
-]
+known_at_place text (x ∷ xs) (suc i) d h = search (rules, known_at_place text xs i d (omega arith))
 
 pub known_item : {X : Type 0} (text : X → List ℕ) (xs : List X) (i : ℕ) (x : X) → i < length xs → x ≡ slice_index_or xs i x → IsKnown (map text xs) (text x)
 known_item text xs i x h is = subst (λ y. IsKnown (map text xs) (text y)) (sym is) (known_at_place text xs i x h)
@@ -115,10 +130,7 @@ known_item text xs i x h is = subst (λ y. IsKnown (map text xs) (text y)) (sym 
 
 among_load : (f : ℕ → ℕ) (xs : List ℕ) (x : ℕ) → Among xs x → f x ≤ load_of f xs
 among_load f [] x h = absurd h
-among_load f (y ∷ xs) x h = elim h [
-  | inl e ↦ subst (λ (z : ℕ). f z ≤ f y + load_of f xs) e (omega arith)
-  | inr m ↦ let more = among_load f xs x m in omega (arith, more)
-]
+among_load f (y ∷ xs) x h = search (rules, among_load f xs x)
 
 -- what holds of each slot with its provider
 placed_holds : (P : Slot → ℕ → Type 0) (ss : List Slot) (t : List ℕ) (s : ℕ) → length t ≡ length ss → s < length ss → Each (λ (y : Placed). P y.slot y.provider) (placed ss t)
@@ -144,18 +156,15 @@ slot_hosted l r t s choices rooms h hosted are some =
     let p = slice_index t s in
     let host = placed_holds (λ slot p. Among (hosts_of all r) p) (slots_of asked) t s hosted.list.long h (behind_hosts all asked [] t r hosted) in
     let there : Among choices p = subst (λ (xs : List ℕ). Among xs p) (sym are) (choice_there all asked t s hosted.list hosted.candidate h) in
-    let at = place_of_choice choices p there in
-    let here = subst (λ (x : ℕ). 0 < slice_index rooms x) (at.2 0) (some at.0 at.1) in
-    let reach = among_load (λ p. slice_index rooms p) (hosts_of all r) p host in
-    omega (arith, here, reach)
+    grind (arith, nat_tests, place_of_choice, among_load)
 
-pub slot_keeps : (l : Ledger) (old new : List Bool) (choices rooms : List ℕ) (s : ℕ) → s < length (slots_of (asked_in l)) → AreHosts (providers_in l) (asked_in l) old
-    → choices ≡ choice_of (providers_in l) (asked_in l) (slot_at (asked_in l) s) → AreServing choices rooms
-    → ((r : ℕ) → r < length (providers_in l) → slice_index_or new r false ≡ (slice_index_or old r false && nat_le 1 (load_of (λ p. slice_index rooms p) (hosts_of (providers_in l) r))))
-    → AreHosts (providers_in l) (asked_in l) new
-slot_keeps l old new choices rooms s h was are some is =
-    keeps (providers_in l) (asked_in l) old new (λ r. nat_le 1 (load_of (λ p. slice_index rooms p) (hosts_of (providers_in l) r))) was is
-    (λ r t low hosted. let reach = slot_hosted l r t s choices rooms h hosted are some in grind (arith, nat_tests))
+pub slot_keeps : (l : Ledger) (old new : List Bool) (choices rooms : List ℕ) (s : ℕ) → s < length (slots_of (asked_in l)) → choices ≡ choice_in l s → AreServing choices rooms
+    → MayHost l old → length new ≡ length old → AreLimited (providers_in l) rooms 1 old new → MayHost l new
+slot_keeps l old new choices rooms s h are some was count is = record {
+  count = count ∙ was.count;
+  hosts = keeps (providers_in l) (asked_in l) old new (λ r. nat_le 1 (load_at (providers_in l) rooms r)) was.hosts is
+      (λ r t low hosted. let reach = slot_hosted l r t s choices rooms h hosted are some in grind (arith, nat_tests));
+}
 
 -- it begins with the roots that the query takes
 pub takes_host : (all : List Provider) (asked : Asked) (taken : List Bool) → taken ≡ map (takes_root all asked) (range_with_len 0 (length all)) → AreHosts all asked taken
@@ -163,8 +172,7 @@ takes_host all asked taken is r t h hosted =
     let n = length all in
     let size : r < length (range_with_len 0 n) = omega (arith, h, length-range_with_len 0 n) in
     let here : slice_index_or (range_with_len 0 n) r 0 ≡ r = get_or-range_with_len 0 n r 0 h ∙ omega arith in
-    ap (λ (bs : List Bool). slice_index_or bs r false) is
-    ∙ (get_or-map (takes_root all asked) (range_with_len 0 n) r 0 false size ∙ (ap (takes_root all asked) here ∙ hosted.takes))
+    search (rules, get_or-map)
 
 pub choice_low : (all : List Provider) (asked : Asked) (slot : Slot) → All (λ p. p < length all) (choice_of all asked slot)
 choice_low all asked slot = All-from_recursion (λ p. p < length all) (choice_of all asked slot) (each_weaker _ (λ p. p < length all) (choice_of all asked slot) (λ p h. h.1) (each_choice all asked slot))
@@ -173,84 +181,17 @@ choice_low all asked slot = All-from_recursion (λ p. p < length all) (choice_of
 
 pub any_within : (f g : ℕ → Bool) (zs : List ℕ) → Each (λ z. f z ≡ true → g z ≡ true) zs → list_any f zs ≡ true → list_any g zs ≡ true
 any_within f g [] each h = h
-any_within f g (z ∷ zs) each h = elim (cases_Bool (f z)) [
-  | inl e ↦ rw (each.0 e) refl
-  | inr e ↦ let more = any_within f g zs each.1 (rw e at h) in elim (cases_Bool (g z)) [ inl t ↦ rw t refl | inr t ↦ rw (t, more) refl ]
-]
+any_within f g (z ∷ zs) each h = search (rules, any_within f g zs each.1)
 
 -- a front is dead where no marked root has all of it
 pub root_dead : (all : List Provider) (asked : Asked) (q : List ℕ) (p : ℕ) (may : List Bool) (hits : List ℕ) → AreRoots all asked may → AreHits all hits q
     → list_any (λ r. slice_index_or may r false && (slice_index hits r == length q)) (anchors_of all p) ≡ false → IsDead (search_of all asked) (q ++ p ∷ [])
-unfolding anchor
 root_dead all asked q p may hits roots hit none v list = false_from_ne_true _ (λ candidate.
-    let t = (q ++ p ∷ []) ++ v in
-    let has = λ (r : ℕ). slice_index_or may r false && (slice_index hits r == length q) in
-    let opens : Opens all asked (assigned asked t) = candidate_parts all asked t candidate in
-    let one = λ (r : ℕ) (low : r < length all) (h : takes_root all asked r && hosts_all all (assigned asked t) r ≡ true).
-    let both = and_parts (takes_root all asked r) (hosts_all all (assigned asked t) r) h in
-    let hosted : IsHosted all asked r t = record { list = list; candidate = candidate; takes = both.0; hosts = both.1 } in
-    let each : list_all (λ x. is_available_at all x r) t ≡ true = sym (hosts_list all (slots_of asked) t r (omega (arith, list.long))) ∙ both.1 in
-    let front = and_parts (list_all (λ x. is_available_at all x r) (q ++ p ∷ [])) (list_all (λ x. is_available_at all x r) v) (sym (list_all-append (λ x. is_available_at all x r) (q ++ p ∷ []) v) ∙ each) in
-    let parts = and_parts (list_all (λ x. is_available_at all x r) q) (list_all (λ x. is_available_at all x r) (p ∷ [])) (sym (list_all-append (λ x. is_available_at all x r) q (p ∷ [])) ∙ front.0) in
-    let here = (and_parts (is_available_at all p r) true parts.1).0 in
-    let met : (slice_index hits r == length q) ≡ true = ap (λ (n : ℕ). n == length q) (hit r low) ∙ (sym (all_hit all q r) ∙ parts.0) in
-    and_from (is_available_at all p r) (has r) here (and_from (slice_index_or may r false) (slice_index hits r == length q) (roots.hosts r t low hosted) met) in
-    let some = any_within (λ r. takes_root all asked r && hosts_all all (assigned asked t) r) (λ r. is_available_at all p r && has r) (range_with_len 0 (length all))
-    (each_weaker (λ r. r < length all) (λ r. takes_root all asked r && hosts_all all (assigned asked t) r ≡ true → is_available_at all p r && has r ≡ true) (range_with_len 0 (length all)) one (each_range 0 (length all) (length all) (omega arith)))
-    opens.anchor in
-    false≢true (sym none ∙ (any_filter has (is_available_at all p) (range_with_len 0 (length all)) ∙ some)))
-
--- ---- Pieces
-
--- how many slots ask so much, by the number of the class
-pub asks_count : (classes : List (List ℕ)) (c : List ℕ) (a : ℕ) (ss : List Slot) → Each (λ s. Each (λ need. IsKnown classes need.0) s.needs) ss
-    → load_of (λ n. if nat_le a (wanted n (place_of classes c)) then 1 else 0) (map (λ s. map (numbered classes) s.needs) ss) ≡ load_of (asks_much c a) ss
-asks_count classes c a [] h = refl
-asks_count classes c a (s ∷ ss) h = ap₂ (λ m n. (if nat_le a m then 1 else 0) + n) (wanted_is classes s.needs c h.0) (asks_count classes c a ss h.1)
-
-count_in : (l : Ledger) (c : List ℕ) (a : ℕ) → load_of (λ n. if nat_le a (wanted n (place_of (texts_in l) c)) then 1 else 0) (map (λ (v : Vec Ask). map ask_pair v.items) l.asks.items) ≡ load_of (asks_much c a) (slots_of (asked_in l))
-count_in l c a = ap (load_of (λ n. if nat_le a (wanted n (place_of (texts_in l) c)) then 1 else 0)) l.asked
-    ∙ asks_count (texts_in l) c a (slots_of (asked_in l)) (each_index (λ s. Each (λ need. IsKnown (texts_in l) need.0) s.needs) (slots_of (asked_in l)) no_slot (known_in l))
-
-pub pieces_keep : (l : Ledger) (old new : List Bool) (pieces : List ℕ) (k a most : ℕ) (c : List ℕ) → 0 < a → IsKnown (texts_in l) c → Accounts l [] → AreHosts (providers_in l) (asked_in l) old
-    → k ≡ place_of (texts_in l) c → ((p : ℕ) → p < length (providers_in l) → slice_index pieces p ≡ left_at (columns_in l) p k / a)
-    → most ≤ load_of (λ n. if nat_le a (wanted n k) then 1 else 0) (map (λ (v : Vec Ask). map ask_pair v.items) l.asks.items)
-    → ((r : ℕ) → r < length (providers_in l) → slice_index_or new r false ≡ (slice_index_or old r false && nat_le most (load_of (λ p. slice_index pieces p) (hosts_of (providers_in l) r))))
-    → AreHosts (providers_in l) (asked_in l) new
-pieces_keep l old new pieces k a most c some known accounts was number col less is =
-    let all = providers_in l in
-    let asked = asked_in l in
-    keeps all asked old new (λ r. nat_le most (load_of (λ p. slice_index pieces p) (hosts_of all r))) was is
-    (λ r t h hosted.
-    let reach = rooms_reach all asked [] t r (asks_much c a) (λ p. left_on all asked [] c p / a) (pieces_bear all asked [] c a some) hosted in
-    let same = load_within (λ p. left_on all asked [] c p / a) (λ p. slice_index pieces p) (length all) (hosts_of all r) (hosts_low all r)
-    (λ p low.
-    let left : left_on all asked [] c p ≡ left_at (columns_in l) p k = let there = ap (left_at (columns_in l) p) number in omega (arith, accounts.left p c low known, there) in
-    let one : left_on all asked [] c p / a ≡ slice_index pieces p = ap (λ (n : ℕ). n / a) left ∙ sym (col p low) in
-    omega (arith, one)) in
-    let asks = count_in l c a in
-    let wants : most ≤ load_of (asks_much c a) (slots_of asked) = omega (arith, asks, rw number at less) in
-    let enough : most ≤ load_of (λ p. slice_index pieces p) (hosts_of all r) = omega (arith, wants, reach, same) in
-    grind (arith, nat_tests))
-
-pub lone_keep : (l : Ledger) (old new : List Bool) (ones : List ℕ) (k a most : ℕ) (c : List ℕ) → 0 < a → IsKnown (texts_in l) c → Accounts l [] → AreHosts (providers_in l) (asked_in l) old
-    → k ≡ place_of (texts_in l) c → ((p : ℕ) → p < length (providers_in l) → slice_index ones p ≡ min (left_at (columns_in l) p k / a) 1)
-    → most ≤ load_of (lone_much (asked_in l) c a) (slots_of (asked_in l))
-    → ((r : ℕ) → r < length (providers_in l) → slice_index_or new r false ≡ (slice_index_or old r false && nat_le most (load_of (λ p. slice_index ones p) (hosts_of (providers_in l) r))))
-    → AreHosts (providers_in l) (asked_in l) new
-lone_keep l old new ones k a most c some known accounts was number col wants is =
-    let all = providers_in l in
-    let asked = asked_in l in
-    keeps all asked old new (λ r. nat_le most (load_of (λ p. slice_index ones p) (hosts_of all r))) was is
-    (λ r t h hosted.
-    let reach = rooms_reach all asked [] t r (lone_much asked c a) (λ p. min (left_on all asked [] c p / a) 1) (lone_bears all asked [] c a some) hosted in
-    let same = load_within (λ p. min (left_on all asked [] c p / a) 1) (λ p. slice_index ones p) (length all) (hosts_of all r) (hosts_low all r)
-    (λ p low.
-    let left : left_on all asked [] c p ≡ left_at (columns_in l) p k = let there = ap (left_at (columns_in l) p) number in omega (arith, accounts.left p c low known, there) in
-    let one : min (left_on all asked [] c p / a) 1 ≡ slice_index ones p = ap (λ (n : ℕ). min (n / a) 1) left ∙ sym (col p low) in
-    omega (arith, one)) in
-    let enough : most ≤ load_of (λ p. slice_index ones p) (hosts_of all r) = omega (arith, wants, reach, same) in
-    grind (arith, nat_tests))
+    let s = stands all asked ((q ++ p ∷ []) ++ v) list candidate in
+    let parts = front_parts (λ x. is_available_at all x s.root) q v p s.available in
+    let met : (slice_index hits s.root == length q) ≡ true = ap (λ (n : ℕ). n == length q) (hit s.root s.low) ∙ (sym (all_hit all q s.root) ∙ parts.0) in
+    let has = any_there (λ r. slice_index_or may r false && (slice_index hits r == length q)) (anchors_of all p) s.root (anchor_there all p s.root s.low parts.1) (and_from _ _ (roots.hosts s.root _ s.low s.hosted) met) in
+    false≢true (sym none ∙ has))
 
 -- one slot more
 pub load_take : (w : Slot → ℕ) (ss : List Slot) (s : ℕ) → s < length ss → load_of w (take (s + 1) ss) ≡ load_of w (take s ss) + w (slice_index_or ss s no_slot)
@@ -259,9 +200,4 @@ load_take w ss s h = ap (load_of w) (take_more ss s no_slot h) ∙ (load_of_appe
 -- what is told of a slot that needs a provider for itself
 pub lone_told : (l : Ledger) (s k a w : ℕ) (c : List ℕ) (b : Bool) (v : Vec Ask) → s < length (slots_of (asked_in l)) → k ≡ place_of (texts_in l) c → b ≡ slice_index_or l.lone.items s b → v ≡ slice_index_or l.asks.items s v
     → w ≤ wanted (map ask_pair v.items) k → b ≡ true → a ≤ w → 1 ≤ lone_much (asked_in l) c a (slot_at (asked_in l) s)
-lone_told l s k a w c b v h number is of less lone much =
-    let own : needs_own (asked_in l) (slot_at (asked_in l) s) ≡ true = sym (lone_at l s b h is) ∙ lone in
-    let asks = asks_at l s v h of in
-    let wants : wanted (map ask_pair v.items) k ≡ amount_of (slot_at (asked_in l) s).needs c = ap₂ (λ (ns : List (ℕ × ℕ)) (j : ℕ). wanted ns j) asks number ∙ wanted_is (texts_in l) (slot_at (asked_in l) s).needs c (known_in l s h) in
-    let enough : nat_le a (amount_of (slot_at (asked_in l) s).needs c) ≡ true = let fits : a ≤ amount_of (slot_at (asked_in l) s).needs c = omega (arith, less, much, wants) in grind (arith, nat_tests) in
-    rw (own, enough) (omega arith)
+lone_told l s k a w c b v h number is of less lone much = search (rules, lone_at, asks_at, wanted_is, known_in)

@@ -1,24 +1,18 @@
 -- Choices by tree, and the trees to which a front is bound.
-use Rattle.std.proofs.Common.{◌≡◌, ◌∙◌, ℕ, ◌<◌, ◌≤◌, suc, Bool, true, false, ◌||◌, List, [], ◌∷◌, ◌++◌, inl, inr, length, map, refl, sym, ap, subst, arith, get_or, slice_index_or}
-use Rattle.std.proofs.lemmas.List.{get_or-map}
+use Rattle.std.proofs.Common.{◌≡◌, ◌∙◌, ℕ, ◌<◌, ◌≤◌, suc, Bool, true, false, ◌||◌, List, [], ◌∷◌, ◌++◌, inl, inr, length, map, refl, sym, ap, subst, arith, get_or}
 use Rattle.std.specs.Prelude.{◌==◌}
-use Rattle.std.specs.Global.{Vec}
 use Rattle.std.specs.List.{list_all, list_any, range_with_len, Contains, AllByRecursion as Each}
-use Rattle.std.proofs.lemmas.Bool.{cases_Bool, cases_eq, and_parts, eq-eqb, ne_eqb, false≢true, false_from_ne_true}
-use Rattle.std.proofs.lemmas.List.Folds.{list_all-append, list_any-append, list_any_at}
-use Rattle.ac_query.specs.Asked.{Asked, slots_of}
+pub use Rattle.std.proofs.lemmas.Bool.{or_left, or_right}
+use Rattle.std.proofs.lemmas.Bool.{cases_Bool, cases_eq, and_parts, eq-eqb, ne_eqb, false≢true}
+use Rattle.std.proofs.lemmas.List.Folds.{list_any-append, list_any_at}
 use Rattle.ac_cloud.specs.World.{Provider, is_available_at, anchors_of}
 use Rattle.ac_cloud.specs.Cloud.CloudWorld.{providers_of}
 use Rattle.ac_cloud.specs.declared.cloud.Cloud.{Cloud}
 use Rattle.ac_cloud.proofs.Places.CloudFacts.{size}
-use Rattle.ac_rules.specs.Placed.{assigned}
-use Rattle.ac_rules.specs.Together.{takes_root}
-use Rattle.ac_rules.specs.Judge.{is_open}
 use Rattle.ac_prune.specs.Trees.Keys.{key_of, is_there, IsUnder}
 use Rattle.ac_rules.proofs.Elements.{Among, among_filter}
 use Rattle.ac_rules.proofs.Lists.ListLemmas.{among_range}
-use Rattle.ac_rules.proofs.EachSlot.AnchorLemmas.{anchors_list, anchor_list, each_range}
-use Rattle.ac_rules.proofs.EachSlot.FrontLemmas.{Opens, open_parts}
+use Rattle.std.proofs.Common.{rules}
 
 -- ---- Numbers that are there
 
@@ -50,17 +44,16 @@ pub each_there : (P : ℕ → Type 0) (xs : List ℕ) (x : ℕ) → Each P xs �
 each_there P [] x h m = absurd (false≢true m)
 each_there P (y ∷ xs) x h m = elim (cases_eq y x) [ inl e ↦ subst P e h.0 | inr e ↦ let other = ne_eqb y x e in each_there P xs x h.1 (rw other at m) ]
 
-pub or_left : (b d : Bool) → b ≡ true → (b || d) ≡ true
-or_left true d h = refl
-or_left false d h = absurd (false≢true h)
+-- a test that some number passes
+pub any_found : (f : ℕ → Bool) (xs : List ℕ) → list_any f xs ≡ true → (x : ℕ) × (is_there xs x ≡ true) × (f x ≡ true)
+any_found f [] h = absurd (false≢true h)
+any_found f (x ∷ xs) h = elim (cases_Bool (f x)) [
+  | inl e ↦ let on = eq-eqb x x refl in (x, or_left (x == x) (is_there xs x) on, e)
+  | inr e ↦ let more = any_found f xs (rw e at h) in (more.0, or_right (x == more.0) (is_there xs more.0) more.1, more.2)
+]
 
-pub or_right : (b d : Bool) → d ≡ true → (b || d) ≡ true
-or_right true d h = refl
-or_right false d h = h
-
--- the list that was read, of some lists
-pub list_at : (lists : List (Vec ℕ)) (s : ℕ) (v : Vec ℕ) (list : List ℕ) → s < length lists → v ≡ slice_index_or lists s v → list ≡ v.items → list ≡ slice_index_or (map (λ (u : Vec ℕ). u.items) lists) s []
-list_at lists s v list h is same = same ∙ (ap (λ (u : Vec ℕ). u.items) is ∙ sym (get_or-map (λ (u : Vec ℕ). u.items) lists s v [] h))
+pub any_there : (f : ℕ → Bool) (xs : List ℕ) (x : ℕ) → is_there xs x ≡ true → f x ≡ true → list_any f xs ≡ true
+any_there f xs x m e = let at = there_at xs x m in list_any_at f xs at.0 x at.1 (ap f at.2 ∙ e)
 
 pub there_new : (xs ys : List ℕ) (x : ℕ) → is_there ys x ≡ true → is_there (xs ++ ys) x ≡ true
 there_new xs ys x h = list_any-append (λ y. y == x) xs ys ∙ or_right _ _ h
@@ -86,40 +79,13 @@ or_more false false d h = absurd (false≢true h)
 
 -- one more key
 pub under_more : (xs ys : List ℕ) (wide tree place : ℕ) → ((x : ℕ) → is_there xs x ≡ true → is_there ys x ≡ true) → IsUnder xs wide tree place → IsUnder ys wide tree place
-under_more xs ys wide tree place more h = elim (cases_Bool (is_there xs (key_of tree place))) [
-  | inl e ↦ or_left _ _ (more (key_of tree place) e)
-  | inr e ↦ or_right _ _ (more (key_of wide place) (rw e at h))
-]
+under_more xs ys wide tree place more h = search rules
 
 -- ---- The trees to which a front is bound
 
-any_none_below : (f : ℕ → Bool) (xs : List ℕ) (n : ℕ) → Each (λ x. x < n) xs → ((x : ℕ) → x < n → f x ≡ false) → list_any f xs ≡ false
-any_none_below f [] n low h = refl
-any_none_below f (x ∷ xs) n low h = rw (h x low.0) (any_none_below f xs n low.1 h)
-
 -- where a provider is available
 pub anchor_there : (all : List Provider) (p r : ℕ) → r < length all → is_available_at all p r ≡ true → is_there (anchors_of all p) r ≡ true
-anchor_there all p r h here =
-    among_there (anchors_of all p) r (among_filter (is_available_at all p) (range_with_len 0 (length all)) r (among_range 0 (length all) r (omega arith) (omega (arith, h))) here)
-
--- what isn't available where a provider of a front is leads on to no open list
-pub elsewhere_closed : (all : List Provider) (asked : Asked) (q : List ℕ) (b p : ℕ) → is_there q b ≡ true
-    → ((r : ℕ) → is_there (anchors_of all b) r ≡ true → r < length all → is_available_at all p r ≡ false) → length (q ++ p ∷ []) ≤ length (slots_of asked)
-    → is_open all asked (q ++ p ∷ []) ≡ false
-unfolding is_open
-elsewhere_closed all asked q b p there away short = false_from_ne_true _ (λ opens.
-    let parts : Opens all asked (assigned asked (q ++ p ∷ [])) = open_parts all asked (assigned asked (q ++ p ∷ [])) opens in
-    let none : list_any (λ r. anchors_list all asked (q ++ p ∷ []) r) (range_with_len 0 (length all)) ≡ false =
-    any_none_below (λ r. anchors_list all asked (q ++ p ∷ []) r) (range_with_len 0 (length all)) (length all) (each_range 0 (length all) (length all) (omega arith)) (closed_at) in
-    false≢true (sym none ∙ (sym (anchor_list all asked (slots_of asked) (q ++ p ∷ []) short) ∙ parts.anchor)))
-  where
-    closed_at : (r : ℕ) → r < length all → anchors_list all asked (q ++ p ∷ []) r ≡ false
-    closed_at r h = false_from_ne_true _ (λ both.
-        let each = (and_parts (takes_root all asked r) (list_all (λ x. is_available_at all x r) (q ++ p ∷ [])) both).1 in
-        let parts = and_parts (list_all (λ x. is_available_at all x r) q) (list_all (λ x. is_available_at all x r) (p ∷ [])) (sym (list_all-append (λ x. is_available_at all x r) q (p ∷ [])) ∙ each) in
-        let home = anchor_there all b r h (all_there (λ x. is_available_at all x r) q b parts.0 there) in
-        let here = (and_parts (is_available_at all p r) true parts.1).0 in
-        false≢true (sym (away r home h) ∙ here))
+anchor_there all p r h here = search (rules, among_there, among_filter, among_range)
 
 -- a cloud has few providers
 pub few_providers : (cloud : Cloud) → length (providers_of cloud) ≤ 65536

@@ -19,9 +19,11 @@ use Rattle.ac_prune.specs.Search.{choices_at}
 use Rattle.ac_prune.specs.QuerySearch.{fits, has_room_alone, choice_of, completes, search_of}
 use Rattle.ac_rules.proofs.Elements.{Among, each_filter, each_weaker, each_all, among_filter, filter_none}
 use Rattle.ac_rules.proofs.Lists.ListLemmas.{among_range}
+use Rattle.ac_rules.proofs.EachSlot.AnchorLemmas.{each_range}
 use Rattle.ac_rules.proofs.PlacedLemmas.{placed_append, placed_none}
 use Rattle.ac_rules.proofs.EachSlot.FrontLemmas.{all_weaker, room_less, Opens, open_parts, opens, open_front, prefix_open}
 use Rattle.ac_prune.proofs.Search.SoughtLemmas.{IsSearch}
+use Rattle.std.proofs.Common.{rules}
 
 -- a slot at a depth, and its choices
 pub choices_here : (all : List Provider) (asked : Asked) (d : ℕ) → d < length (slots_of asked) → choices_at (search_of all asked) d ≡ choice_of all asked (slot_at asked d)
@@ -33,44 +35,29 @@ abbrev test : List Provider → Asked → Slot → ℕ → Bool
 test all asked slot p = is_open all asked [] && (fits all (record { slot = slot; provider = p }) && has_room_alone all (record { slot = slot; provider = p }))
 
 rising_range : (n : ℕ) → AllPairs (λ x y. x < y) (range_with_len 0 n)
-rising_range n i j d h k =
-    let size = length-range_with_len 0 n in
-    let one = get_or-range_with_len 0 n i d (omega arith) in
-    let two = get_or-range_with_len 0 n j d (omega arith) in
-    omega arith
+rising_range n i j d h k = search (rules, length-range_with_len, get_or-range_with_len)
 
 rising_choice : (all : List Provider) (asked : Asked) (slot : Slot) → AllPairs (λ x y. x < y) (choice_of all asked slot)
 unfolding choice_of
 rising_choice all asked slot = AllPairs-filter (λ x y. x < y) (test all asked slot) (range_with_len 0 (length all)) (rising_range (length all))
 
-each_range : (a m n : ℕ) → a + m ≤ n → Each (λ p. p < n) (range_with_len a m)
-each_range a zero n h = tt
-each_range a (suc m) n h = (omega arith, each_range (a + 1) m n (omega arith))
-
 pub each_choice : (all : List Provider) (asked : Asked) (slot : Slot)
     → Each (λ p. ((is_open all asked [] && fits all (record { slot = slot; provider = p })) ≡ true) × (p < length all)) (choice_of all asked slot)
 unfolding choice_of
-each_choice all asked slot =
-    each_weaker _ (λ p. ((is_open all asked [] && fits all (record { slot = slot; provider = p })) ≡ true) × (p < length all)) (choice_of all asked slot)
-    (λ p h. (without_last (is_open all asked []) (fits all (record { slot = slot; provider = p })) _ h.0, h.1))
-    (each_filter (λ p. p < length all) (test all asked slot) (range_with_len 0 (length all)) (each_range 0 (length all) (length all) (omega arith)))
-  where
-    without_last : (a b d : Bool) → a && (b && d) ≡ true → a && b ≡ true
-    without_last a b d h = let both = and_parts a (b && d) h in and_from a b both.0 (and_parts b d both.1).0
+each_choice all asked slot = search (rules, each_weaker, each_filter, each_range, and_parts, and_from)
 
 pub filter_few : {X : Type 0} (f : X → Bool) (xs : List X) → length (filter f xs) ≤ length xs
 filter_few f [] = omega arith
 filter_few f (x ∷ xs) = let more = filter_few f xs in elim (cases_Bool (f x)) [ inl e ↦ rw e (omega arith) | inr e ↦ rw e (omega arith) ]
 
-few_choices : (all : List Provider) (asked : Asked) (slot : Slot) → length (choice_of all asked slot) ≤ length all
+pub few_choices : (all : List Provider) (asked : Asked) (slot : Slot) → length (choice_of all asked slot) ≤ length all
 unfolding choice_of
 few_choices all asked slot = let size = length-range_with_len 0 (length all) in let less = filter_few (test all asked slot) (range_with_len 0 (length all)) in omega arith
 
 pub among_choice : (all : List Provider) (asked : Asked) (slot : Slot) (p : ℕ) → p < length all → is_open all asked [] ≡ true → fits all (record { slot = slot; provider = p }) ≡ true
     → has_room_alone all (record { slot = slot; provider = p }) ≡ true → Among (choice_of all asked slot) p
 unfolding choice_of
-among_choice all asked slot p h o f room =
-    among_filter (test all asked slot) (range_with_len 0 (length all)) p (among_range 0 (length all) p (omega arith) (omega arith)) (and_from _ _ o (and_from _ _ f room))
+among_choice all asked slot p h o f room = search (rules, among_filter, among_range, and_from)
 
 -- where the empty list isn't open, a slot has no choices
 choice_none : (all : List Provider) (asked : Asked) (slot : Slot) → is_open all asked [] ≡ false → choice_of all asked slot ≡ []
@@ -80,17 +67,11 @@ choice_none all asked slot e = filter_none (test all asked slot) (range_with_len
 -- a front of an open list is open
 pub front_open : (all : List Provider) (asked : Asked) (q w : List ℕ) → is_open all asked (q ++ w) ≡ true → is_open all asked q ≡ true
 unfolding is_open
-front_open all asked q w h =
-    opens all asked (assigned asked q)
-    (open_front all asked (assigned asked q) (placed (drop (length q) (slots_of asked)) w)
-    (subst (Opens all asked) (placed_append (slots_of asked) q w) (open_parts all asked (assigned asked (q ++ w)) h)))
+front_open all asked q w h = search (rules, opens, open_front, placed_append, open_parts)
 
 -- one more provider is placed in the next slot
 pub placed_next : (asked : Asked) (q : List ℕ) (p : ℕ) → length q < length (slots_of asked) → assigned asked (q ++ p ∷ []) ≡ assigned asked q ++ placed_at asked (length q) p ∷ []
-placed_next asked q p h =
-    placed_append (slots_of asked) q (p ∷ [])
-    ∙ ap (λ ss. assigned asked q ++ placed ss (p ∷ [])) (drop_more (slots_of asked) (length q) no_slot h)
-    ∙ ap (λ xs. assigned asked q ++ placed_at asked (length q) p ∷ xs) (placed_none (drop (length q + 1) (slots_of asked)))
+placed_next asked q p h = search (rules, placed_append, drop_more, placed_none)
 
 all_last : {X : Type 0} (f : X → Bool) (xs : List X) (x : X) → list_all f (xs ++ x ∷ []) ≡ true → f x ≡ true
 all_last f xs x h = (and_parts (f x) (list_all f []) (and_parts (list_all f xs) (list_all f (x ∷ [])) (sym (list_all-append f xs (x ∷ [])) ∙ h)).1).0
@@ -102,18 +83,12 @@ open_fits all asked q p h o =
     let xs = assigned asked q in
     let x = placed_at asked (length q) p in
     let parts : Opens all asked (xs ++ x ∷ []) = subst (Opens all asked) (placed_next asked q p h) (open_parts all asked (assigned asked (q ++ p ∷ [])) o) in
-    let units : units_fit all x ≡ true = all_last (λ y. units_fit all y) xs x parts.units in
-    let traits : traits_fit all x ≡ true = all_last (λ y. traits_fit all y) xs x parts.traits in
-    let aggregates : aggregates_fit all x ≡ true = all_last (λ y. aggregates_fit all y) xs x parts.aggregates in
-    let tree : tree_fits all x ≡ true = all_last (λ y. tree_fits all y) xs x parts.tree in
-    rw (units, traits, aggregates, tree) refl
+    search (rules, all_last)
 
 -- each amount is among what all of them ask of its class
 pub amounts_among : (needs : List (List ℕ × ℕ)) → Each (λ need. need.1 ≤ amount_of needs need.0) needs
 amounts_among [] = tt
-amounts_among (n ∷ needs) =
-    let itself = (bytes_eq-Decides n.0 n.0).1 refl in
-    (rw itself (omega arith), each_weaker (λ need. need.1 ≤ amount_of needs need.0) (λ need. need.1 ≤ amount_of (n ∷ needs) need.0) needs (λ need h. omega (arith, h)) (amounts_among needs))
+amounts_among (n ∷ needs) = search (rules, bytes_eq-Decides, each_weaker, amounts_among needs)
 
 -- what the last slot asks is among what all ask of its provider
 sum_last : (xs : List Placed) (x : Placed) (c : List ℕ) → amount_of x.slot.needs c ≤ sum_on (xs ++ x ∷ []) x.provider c
@@ -124,9 +99,7 @@ sum_last (y ∷ xs) x c = let more = sum_last xs x c in omega (arith, more)
 pub room_each : (all : List Provider) (p : ℕ) (sum : List ℕ → ℕ) (ns : List (List ℕ × ℕ)) → Each (λ need. need.1 ≤ sum need.0) ns
     → list_all (λ (need : List ℕ × ℕ). holds (provider_at all p) need.0 (sum need.0)) ns ≡ true → list_all (λ (need : List ℕ × ℕ). holds (provider_at all p) need.0 need.1) ns ≡ true
 room_each all p sum [] less h = refl
-room_each all p sum (n ∷ ns) less h =
-    let both = and_parts (holds (provider_at all p) n.0 (sum n.0)) (list_all (λ (need : List ℕ × ℕ). holds (provider_at all p) need.0 (sum need.0)) ns) h in
-    and_from _ _ (room_less (inventory_of (provider_at all p) n.0) (used_of (provider_at all p) n.0) n.1 (sum n.0) less.0 both.0) (room_each all p sum ns less.1 both.1)
+room_each all p sum (n ∷ ns) less h = search (rules, and_parts, and_from, room_less, room_each all p sum ns less.1)
 
 -- and has room for what its slot alone asks
 pub open_room_alone : (all : List Provider) (asked : Asked) (q : List ℕ) (p : ℕ) → length q < length (slots_of asked) → is_open all asked (q ++ p ∷ []) ≡ true → has_room_alone all (placed_at asked (length q) p) ≡ true
@@ -145,9 +118,7 @@ range_with_len_more a zero = ap (λ (i : ℕ). i ∷ []) (omega arith)
 range_with_len_more a (suc n) = rw add-one (ap (λ (l : List ℕ). a ∷ l) (ap (range_with_len (a + 1)) (sym (add-one n)) ∙ (range_with_len_more (a + 1) n ∙ ap (λ (i : ℕ). range_with_len (a + 1) n ++ i ∷ []) (omega arith))))
 
 pub map_range_more : {X : Type 0} (f : ℕ → X) (i : ℕ) → map f (range_with_len 0 (i + 1)) ≡ map f (range_with_len 0 i) ++ f i ∷ []
-map_range_more f i =
-    let here : 0 + i ≡ i = omega arith in
-    ap (map f) (range_with_len_more 0 i) ∙ (map-append f (range_with_len 0 i) ((0 + i) ∷ []) ∙ ap (λ (r : ℕ). map f (range_with_len 0 i) ++ f r ∷ []) here)
+map_range_more f i = search (rules, range_with_len_more, map-append)
 
 -- one more provider of which it is asked
 pub choice_more : (f : ℕ → Bool) (i : ℕ) → filter f (range_with_len 0 (i + 1)) ≡ filter f (range_with_len 0 i) ++ cond (f i) (i ∷ []) []
@@ -187,14 +158,7 @@ is_search all asked = record {
 pub open_together : (all : List Provider) (asked : Asked) (list : List ℕ) → list_all (λ x. fits all x) (assigned asked list) ≡ true
     → is_open all asked list ≡ (sums all (assigned asked list) && (isolate asked (assigned asked list) && anchor all asked (assigned asked list)))
 unfolding is_open is_open_at fits
-open_together all asked list h =
-    let xs = assigned asked list in
-    let one = λ (f : Placed → Bool) (w : (x : Placed) → (units_fit all x && traits_fit all x && aggregates_fit all x && tree_fits all x) ≡ true → f x ≡ true). all_weaker _ f w xs h in
-    let units = one (λ x. units_fit all x) (λ x e. grind arith) in
-    let traits = one (λ x. traits_fit all x) (λ x e. grind arith) in
-    let aggregates = one (λ x. aggregates_fit all x) (λ x e. grind arith) in
-    let tree = one (λ x. tree_fits all x) (λ x e. grind arith) in
-    rw (units, traits, aggregates, tree) (grind arith)
+open_together all asked list h = search (rules, all_weaker)
 
 -- a candidate is an open list that is complete
 pub candidate_completes : (all : List Provider) (asked : Asked) (list : List ℕ) → is_candidate all asked list ≡ is_open all asked list && completes all asked list

@@ -10,6 +10,9 @@ use Rattle.ac_prune.specs.Search.{Search, sought, IsDead, choices_at, next_at}
 use Rattle.ac_rules.proofs.Elements.{Among, each_filter, each_weaker, among_filter}
 use Rattle.ac_rules.proofs.SlotLemmas.{each_at}
 use Rattle.ac_rules.proofs.Lists.ListLemmas.{rising_all_lists, rising_filter, each_all_lists, among_all_lists}
+use Rattle.std.proofs.lemmas.Bool.Decides.{nat_tests}
+use Rattle.std.proofs.lemmas.Grind.{common_steps}
+use Rattle.std.proofs.Common.{rules}
 
 -- What makes a walk find all that is wanted. The choices of a slot rise, and have each number that leads to an open list.
 -- A front of an open list is open, and so is a wanted list.
@@ -31,20 +34,13 @@ pub record IsSought (m : Search) (x t : List ℕ) : Type 0 where
   pub low : Each (λ p. p < m.count) t
 
 pub each_sought : (m : Search) (x : List ℕ) → Each (IsSought m x) (sought m x)
-each_sought m x = each_weaker _ (IsSought m x) (sought m x)
-    (λ t h. record { after = not-true _ h.0; wanted = h.1.0; long = h.1.1.long; low = recursion_from_All (λ p. p < m.count) t h.1.1.below })
-    (each_filter (λ t. (m.is_wanted t ≡ true) × IsListBelow m.count m.width t) (λ t. not (lex_lt t x)) (filter (λ t. m.is_wanted t) (all_lists m.count m.width))
-    (each_filter (IsListBelow m.count m.width) (λ t. m.is_wanted t) (all_lists m.count m.width) (each_all_lists m.count m.width)))
+each_sought m x = search (rules, each_weaker, not-true, recursion_from_All, each_filter, each_all_lists)
 
 pub rising_sought : (m : Search) (x : List ℕ) → IsRising (sought m x)
-rising_sought m x = rising_filter (λ t. not (lex_lt t x)) (filter (λ t. m.is_wanted t) (all_lists m.count m.width))
-    (rising_filter (λ t. m.is_wanted t) (all_lists m.count m.width) (rising_all_lists m.count m.width))
+rising_sought m x = search (rules, rising_filter, rising_all_lists)
 
 pub among_sought : (m : Search) (x t : List ℕ) → length t ≡ m.width → Each (λ p. p < m.count) t → m.is_wanted t ≡ true → lex_lt t x ≡ false → Among (sought m x) t
-among_sought m x t l low h k = among_filter (λ u. not (lex_lt u x)) (filter (λ t. m.is_wanted t) (all_lists m.count m.width)) t
-    (among_filter (λ u. m.is_wanted u) (all_lists m.count m.width) t
-    (among_all_lists m.count m.width t (record { long = l; below = All-from_recursion (λ p. p < m.count) t low })) h)
-    (not_from_false _ k)
+among_sought m x t l low h k = grind (arith, common_steps, among_filter, among_all_lists, not_from_false)
 
 -- a number behind q on the way to an open list
 pub record IsChoice (m : Search) (q : List ℕ) (r : ℕ) : Type 0 where
@@ -70,10 +66,7 @@ low_at m laws d j h l = each_at (λ r. r < m.count) (choices_at m d) j m.count (
 
 -- the next choice is greater
 pub next_above : (m : Search) → IsSearch m → (d j : ℕ) → d < m.width → j < length (choices_at m d) → next_at m d j < next_at m d (suc j)
-next_above m laws d j h l = elim (cases_lt (suc j) (length (choices_at m d))) [
-  | inl g ↦ laws.rising d h j (suc j) m.count (omega arith) g
-  | inr g ↦ rw (get_or_past (choices_at m d) (suc j) m.count g) (low_at m laws d j h l)
-]
+next_above m laws d j h l = search (rules, get_or_past, low_at)
 
 -- the place of what is among a list
 pub place_of : (xs : List ℕ) (p : ℕ) → Among xs p → (k : ℕ) × (k < length xs) × ((d : ℕ) → get_or xs k d ≡ p)
@@ -83,26 +76,12 @@ place_of (x ∷ xs) p m = elim m [ inl e ↦ (0, omega arith, λ d. e) | inr m �
 -- where each before place j is below v, what is there from v on is not below the one at j
 pub least_from : (xs : List ℕ) (j v n r : ℕ) → AllPairs (λ x y. x < y) xs → ((i : ℕ) → i < j → i < length xs → get_or xs i n < v) → r < n → Among xs r → v ≤ r
     → get_or xs j n ≤ r
-least_from xs j v n r up before small m h =
-    let k = place_of xs r m in
-    let is = k.2 n in
-    elim (cases_lt k.0 j) [
-      | inl l ↦ let low = before k.0 l k.1 in absurd (omega arith)
-      | inr g ↦ elim (cases_eq j k.0) [
-        | inl e ↦ rw e (omega arith)
-        | inr other ↦ let less : get_or xs j n < get_or xs k.0 n = up j k.0 n (omega arith) k.1 in omega arith
-      ]
-    ]
+least_from xs j v n r up before small m h = grind (arith, nat_tests, place_of)
 
 -- and no choice lies between
 pub next_least : (m : Search) → IsSearch m → (d j r : ℕ) → d < m.width → j < length (choices_at m d) → Among (choices_at m d) r → r < m.count → next_at m d j < r
     → next_at m d (suc j) ≤ r
-next_least m laws d j r h l a low g = least_from (choices_at m d) (suc j) (suc (next_at m d j)) m.count r (laws.rising d h)
-    (λ i b c. elim (cases_eq i j) [
-      | inl e ↦ rw e (omega arith)
-      | inr ne ↦ let less : next_at m d i < next_at m d j = laws.rising d h i j m.count (omega arith) l in omega arith
-    ])
-    low a (omega arith)
+next_least m laws d j r h l a low g = search (rules, least_from)
 
 -- a list that isn't open is dead
 pub closed_dead : (m : Search) → IsSearch m → (q : List ℕ) → m.is_open q ≡ false → IsDead m q

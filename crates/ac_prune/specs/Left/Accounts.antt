@@ -1,5 +1,5 @@
 -- What a ledger keeps is what the front of a path takes.
-use Rattle.std.specs.Prelude.{◌≡◌, ℕ, List, map}
+use Rattle.std.specs.Prelude.{◌≡◌, ℕ, ◌+◌, ◌*◌, List, map, length, slice_index}
 use Rattle.ac_base.specs.Names.{class_bytes}
 use Rattle.ac_query.specs.Asked.{Asked}
 use Rattle.ac_query.specs.Shown.Queries.{asked_of}
@@ -20,13 +20,13 @@ asked_in l = asked_of l.query.now
 abbrev pub texts_in : Ledger → List (List ℕ)
 texts_in l = map (λ c. class_bytes c.now) l.classes.items
 
--- what is left of them
-abbrev pub columns_in : Ledger → List (List ℕ)
-columns_in l = map (λ column. column.items) l.columns.items
+-- what is left at a provider of the class of a number
+abbrev pub left_in : Ledger → ℕ → ℕ → ℕ
+left_in l p k = slice_index l.rooms.items (p * length l.classes.items + k)
 
 -- It accounts for a front: each room less what the front asks of it, who is taken, and where how many are available.
 pub record Accounts (l : Ledger) (q : List ℕ) : Type 0 where
-  pub left : AreLeft (providers_in l) (texts_in l) (columns_in l) (assigned (asked_in l) q)
+  pub left : AreLeft (providers_in l) (texts_in l) (left_in l) (assigned (asked_in l) q)
   pub marks : AreMarks (providers_in l) (asked_in l) l.marks.items (assigned (asked_in l) q)
   pub hits : AreHits (providers_in l) l.hits.items q
 

@@ -1,18 +1,17 @@
 //! The parts of the forest in which the providers of a list of `same_subtree` can stand together: each reaches down from a
 //! provider that may be above all others of the list.
 
-ghost use Rattle.std.specs.Prelude.{◌≡◌, ◌<◌, ℕ, [], true, length, map, get_or, slice_index, slice_index_or, IfOk};
+ghost use Rattle.std.specs.Prelude.{◌≡◌, ◌<◌, ℕ, [], true, length, get_or, slice_index, slice_index_or, IfOk};
 ghost use Rattle.std.specs.List.{All};
 ghost use Rattle.ac_query.specs.Asked.{slots_of, lists_suffix};
 ghost use Rattle.ac_query.specs.Shown.Queries.{asked_of};
 ghost use Rattle.ac_cloud.specs.Cloud.CloudWorld.{providers_of};
 ghost use Rattle.ac_rules.specs.Placed.{slot_at};
-ghost use Rattle.ac_prune.specs.Left.Accounts.{asked_in};
-ghost use Rattle.ac_prune.specs.Loads.{choice_in, choices_in, ArePartsIn};
-ghost use Rattle.ac_prune.specs.Parts.{AreParts, AreTops, AreMarked, IsLinked, AreLinked, KeepSeen};
-ghost use Rattle.ac_prune.specs.QuerySearch.{choices_of};
+ghost use Rattle.ac_prune.specs.Left.Accounts.{providers_in, asked_in};
+ghost use Rattle.ac_prune.specs.Loads.{ArePartsIn};
+ghost use Rattle.ac_prune.specs.Parts.{AreTops, AreMarked, IsLinked, AreLinked, KeepSeen};
 
-use crate::ledger::Ledger;
+use crate::choices::Choices;
 use ac_base::NoMemory;
 use ac_cloud::Cloud;
 use ac_query::Query;
@@ -29,7 +28,7 @@ fn mark_each(marks: &mut [bool], list: &[u32])
     }
 }
 
-// The same, where a list names the slot of which these are the choices.
+// Marks each choice of a slot, where a list names the slot.
 fn mark_slot(marks: &mut [bool], query: &Query, k: usize, s: usize, list: &[u32])
     requires names { k < length (asked_of query.now).subtrees }
     requires slot { s < length (slots_of (asked_of query.now)) }
@@ -47,24 +46,18 @@ fn mark_slot(marks: &mut [bool], query: &Query, k: usize, s: usize, list: &[u32]
 }
 
 // Marks each choice of the slots that a list names: one of them is above all others.
-fn tops_of(
-    alloc: Global,
-    cloud: &Cloud,
-    query: &Query,
-    k: usize,
-    choices: &[Vec<u32>],
-) -> Result<Vec<bool>, NoMemory>
-    requires list { k < length (asked_of query.now).subtrees }
-    requires choices { map (λ v. v.items) choices.now
-        ≡ choices_of (providers_of cloud.now) (asked_of query.now) }
-    ensures count { IfOk result (λ tops. length tops.items ≡ length (providers_of cloud.now)) }
+fn tops_of(alloc: Global, choices: &Choices, k: usize) -> Result<Vec<bool>, NoMemory>
+    requires { k < length (asked_in choices.now.ledger.now).subtrees }
+    ensures count { IfOk result (λ tops.
+        length tops.items ≡ length (providers_in choices.now.ledger.now)) }
     ensures tops { IfOk result (λ tops.
-        AreTops (providers_of cloud.now) (asked_of query.now)
-        (get_or (asked_of query.now).subtrees k []) tops.items) }
+        AreTops (providers_in choices.now.ledger.now) (asked_in choices.now.ledger.now)
+        (get_or (asked_in choices.now.ledger.now).subtrees k []) tops.items) }
 {
-    let mut tops = vec![in alloc; false; cloud.len() as usize]?;
+    let query = choices.ledger.query;
+    let mut tops = vec![in alloc; false; choices.ledger.cloud.len() as usize]?;
     for s in 0..count_slots(query) {
-        mark_slot(&mut tops, query, k, s, &choices[s]);
+        mark_slot(&mut tops, query, k, s, choices.of_slot(s));
     }
     Ok(tops)
 }
@@ -155,7 +148,7 @@ fn is_linked(cloud: &Cloud, tops: &[bool], parts: &[u32], ix: u32) -> bool
     }
 }
 
-// Whether all are.
+// Whether each top has a part, and each provider whose parent has one is of that part.
 fn are_linked(cloud: &Cloud, tops: &[bool], parts: &[u32]) -> bool
     requires tops { length tops.now ≡ length (providers_of cloud.now) }
     requires parts { length parts.now ≡ length (providers_of cloud.now) }
@@ -170,21 +163,12 @@ fn are_linked(cloud: &Cloud, tops: &[bool], parts: &[u32]) -> bool
 }
 
 // The parts of which each reaches down from a top; one part of all where the draft isn't right.
-fn all_parts(
-    alloc: Global,
-    cloud: &Cloud,
-    query: &Query,
-    k: usize,
-    choices: &[Vec<u32>],
-) -> Result<Vec<u32>, NoMemory>
-    requires list { k < length (asked_of query.now).subtrees }
-    requires choices { map (λ v. v.items) choices.now
-        ≡ choices_of (providers_of cloud.now) (asked_of query.now) }
-    ensures { IfOk result (λ parts.
-        AreParts (providers_of cloud.now) (asked_of query.now)
-        (get_or (asked_of query.now).subtrees k []) parts.items) }
+fn all_parts(alloc: Global, choices: &Choices, k: usize) -> Result<Vec<u32>, NoMemory>
+    requires { k < length (asked_in choices.now.ledger.now).subtrees }
+    ensures { IfOk result (λ parts. ArePartsIn choices.now.ledger.now k parts.items) }
 {
-    let tops = tops_of(alloc, cloud, query, k, choices)?;
+    let cloud = choices.ledger.cloud;
+    let tops = tops_of(alloc, choices, k)?;
     let parts = draft(alloc, cloud, &tops)?;
     if are_linked(cloud, &tops, &parts) {
         return Ok(parts);
@@ -237,40 +221,32 @@ fn keep_seen(alloc: Global, parts: &mut [u32], list: &[u32], none: u32) -> Resul
 // Keeps the parts in which some choice of a slot stands, where a list names the slot.
 fn keep_slot(
     alloc: Global,
-    ledger: &Ledger,
+    choices: &Choices,
     k: usize,
     s: usize,
-    list: &[u32],
     parts: &mut [u32],
 ) -> Result<(), NoMemory>
-    requires names { k < length (asked_in ledger.now).subtrees }
-    requires slot { s < length (slots_of (asked_in ledger.now)) }
-    requires list { list.now ≡ choice_in ledger.now s }
-    requires parts { ArePartsIn ledger.now k parts.old }
-    ensures { IfOk result (λ _. ArePartsIn ledger.now k parts.new) }
+    requires names { k < length (asked_in choices.now.ledger.now).subtrees }
+    requires slot { s < length (slots_of (asked_in choices.now.ledger.now)) }
+    requires parts { ArePartsIn choices.now.ledger.now k parts.old }
+    ensures { IfOk result (λ _. ArePartsIn choices.now.ledger.now k parts.new) }
 {
-    if !is_listed(ledger.query, k, s) {
+    if !is_listed(choices.ledger.query, k, s) {
         return Ok(());
     }
-    keep_seen(alloc, parts, list, ledger.cloud.len())
+    keep_seen(alloc, parts, choices.of_slot(s), choices.ledger.cloud.len())
 }
 
 /// For each provider the part of the forest in which it may stand with the others that a list of `same_subtree` names, or
 /// the number of all providers where it can't: some choice of a slot that the list names is above the whole part, and each
 /// of these slots has a choice in it.
-pub(crate) fn parts_of(
-    alloc: Global,
-    ledger: &Ledger,
-    k: usize,
-    choices: &[Vec<u32>],
-) -> Result<Vec<u32>, NoMemory>
-    requires list { k < length (asked_in ledger.now).subtrees }
-    requires choices { map (λ v. v.items) choices.now ≡ choices_in ledger.now }
-    ensures { IfOk result (λ parts. ArePartsIn ledger.now k parts.items) }
+pub(crate) fn parts_of(alloc: Global, choices: &Choices, k: usize) -> Result<Vec<u32>, NoMemory>
+    requires { k < length (asked_in choices.now.ledger.now).subtrees }
+    ensures { IfOk result (λ parts. ArePartsIn choices.now.ledger.now k parts.items) }
 {
-    let mut parts = all_parts(alloc, ledger.cloud, ledger.query, k, choices)?;
-    for s in 0..count_slots(ledger.query) {
-        keep_slot(alloc, ledger, k, s, &choices[s], &mut parts)?;
+    let mut parts = all_parts(alloc, choices, k)?;
+    for s in 0..count_slots(choices.ledger.query) {
+        keep_slot(alloc, choices, k, s, &mut parts)?;
     }
     Ok(parts)
 }

@@ -1,9 +1,9 @@
 //! What is left of a class at each provider before anything is placed, and which roots have enough of it.
 
-ghost use Rattle.std.specs.Prelude.{◌≡◌, ◌<◌, ◌≤◌, [], length, slice_index_or, IfOk};
+ghost use Rattle.std.specs.Prelude.{◌≡◌, ◌<◌, ◌≤◌, ℕ, [], length, slice_index, IfOk};
 ghost use Rattle.ac_base.specs.Names.{class_bytes};
 ghost use Rattle.ac_query.specs.Asked.{slots_of};
-ghost use Rattle.ac_prune.specs.Left.Accounts.{providers_in, asked_in, texts_in, columns_in, Accounts};
+ghost use Rattle.ac_prune.specs.Left.Accounts.{providers_in, asked_in, texts_in, left_in, Accounts};
 ghost use Rattle.ac_prune.specs.Ahead.{load_of};
 ghost use Rattle.ac_prune.specs.Left.{wanted, place_of, IsKnown};
 ghost use Rattle.ac_prune.specs.Loads.{ArePieces, AreOnes, MayHost, pairs_of, is_much};
@@ -22,14 +22,28 @@ use std::alloc::Global;
 pub(crate) struct Column<'l, 'a> {
     ledger: &'l Ledger<'a>,
     class: &'a ClassName,
-    // Its number among the classes of the ledger.
+    // The number of the class among the classes of the ledger.
     number: usize,
-    rooms: &'l [u64],
+    rooms: Vec<u64>,
     ghost empty: { Accounts ledger.now [] },
     ghost known: { IsKnown (texts_in ledger.now) (class_bytes class.now) },
     ghost numbered: { number ≡ place_of (texts_in ledger.now) (class_bytes class.now) },
-    ghost as_many: { length rooms.now ≡ length (providers_in ledger.now) },
-    ghost left: { rooms.now ≡ slice_index_or (columns_in ledger.now) number [] },
+    ghost as_many: { length rooms.items ≡ length (providers_in ledger.now) },
+    ghost left: { (p : ℕ) → p < length (providers_in ledger.now) → slice_index rooms.items p ≡ left_in ledger.now p number },
+}
+
+// What each provider has left of the class of a number.
+fn rooms_of(alloc: Global, ledger: &Ledger, number: usize) -> Result<Vec<u64>, NoMemory>
+    requires { number < length (texts_in ledger.now) }
+    ensures count { IfOk result (λ rooms. length rooms.items ≡ length (providers_in ledger.now)) }
+    ensures rooms { IfOk result (λ rooms. (p : ℕ) → p < length (providers_in ledger.now)
+        → slice_index rooms.items p ≡ left_in ledger.now p number) }
+{
+    let mut rooms = Vec::new(alloc);
+    for ix in 0..ledger.cloud.len() {
+        rooms.push(ledger.left(ix as usize, number))?;
+    }
+    Ok(rooms)
 }
 
 // What all slots ask of a class, or less where it is more than can be told.
@@ -62,11 +76,7 @@ fn pieces(alloc: Global, rooms: &[u64], amount: u64) -> Result<Vec<u64>, NoMemor
     ensures count { IfOk result (λ pieces. length pieces.items ≡ length rooms.now) }
     ensures pieces { IfOk result (λ pieces. ArePieces rooms.now amount pieces.items) }
 {
-    let mut pieces = Vec::new(alloc);
-    for room in rooms {
-        pieces.push(*room / amount)?;
-    }
-    Ok(pieces)
+    Ok(rooms.iter().map(|room| *room / amount).collect(alloc)?)
 }
 
 // Each room, but 1 at most.
@@ -74,29 +84,30 @@ fn at_most_one(alloc: Global, rooms: &[u64]) -> Result<Vec<u64>, NoMemory>
     ensures count { IfOk result (λ ones. length ones.items ≡ length rooms.now) }
     ensures ones { IfOk result (λ ones. AreOnes rooms.now ones.items) }
 {
-    let mut ones = Vec::new(alloc);
-    for room in rooms {
-        ones.push((*room).min(1))?;
-    }
-    Ok(ones)
+    Ok(rooms.iter().map(|room| (*room).min(1)).collect(alloc)?)
 }
 
 impl<'l, 'a> Column<'l, 'a> {
     ghost use Rattle.ac_prune.specs.Loads.Columns.{is_lone, count_of_lone};
 
-    /// Of a class that the query asks for.
-    pub(crate) fn new(ledger: &'l Ledger<'a>, class: &'a ClassName) -> Column<'l, 'a>
+    /// The column of a class that the query asks for.
+    pub(crate) fn new(
+        alloc: Global,
+        ledger: &'l Ledger<'a>,
+        class: &'a ClassName,
+    ) -> Result<Column<'l, 'a>, NoMemory>
         requires empty { Accounts ledger.now [] }
         requires known { IsKnown (texts_in ledger.now) (class_bytes class.now) }
-        ensures { result.ledger ≡ ledger.entry }
+        ensures { IfOk result (λ column. column.ledger ≡ ledger.entry) }
     {
         let number = number_of(&ledger.classes, class);
-        Column {
+        let rooms = rooms_of(alloc, ledger, number)?;
+        Ok(Column {
             ledger,
             class,
             number,
-            rooms: &ledger.columns[number],
-        }
+            rooms,
+        })
     }
 
     // Drops the roots whose providers have less of the class than all slots ask.
@@ -105,7 +116,7 @@ impl<'l, 'a> Column<'l, 'a> {
         ensures { IfOk result (λ _. MayHost self.now.ledger.now may.new) }
     {
         let wanted = wanted_of(&self.ledger.asks, self.number);
-        limit(alloc, self.ledger.cloud, may, self.rooms, wanted)
+        limit(alloc, self.ledger.cloud, may, &self.rooms, wanted)
     }
 
     // Drops the roots whose providers have fewer pieces of an amount than slots ask so much or more.
@@ -114,7 +125,7 @@ impl<'l, 'a> Column<'l, 'a> {
         requires hosts { MayHost self.now.ledger.now may.old }
         ensures { IfOk result (λ _. MayHost self.now.ledger.now may.new) }
     {
-        let pieces = pieces(alloc, self.rooms, amount)?;
+        let pieces = pieces(alloc, &self.rooms, amount)?;
         let wanted = count_asking(&self.ledger.asks, self.number, amount);
         limit(alloc, self.ledger.cloud, may, &pieces, wanted)
     }
@@ -131,7 +142,7 @@ impl<'l, 'a> Column<'l, 'a> {
         }
     }
 
-    // How many such slots there are.
+    // How many slots are to have a provider for themselves and ask so much or more.
     fn count_lone(&self, amount: u64) -> u64
         ensures { result ≤ count_of_lone self.now amount }
     {
@@ -148,7 +159,7 @@ impl<'l, 'a> Column<'l, 'a> {
         requires hosts { MayHost self.now.ledger.now may.old }
         ensures { IfOk result (λ _. MayHost self.now.ledger.now may.new) }
     {
-        let pieces = pieces(alloc, self.rooms, amount)?;
+        let pieces = pieces(alloc, &self.rooms, amount)?;
         let ones = at_most_one(alloc, &pieces)?;
         limit(
             alloc,
@@ -159,7 +170,7 @@ impl<'l, 'a> Column<'l, 'a> {
         )
     }
 
-    // Of each amount that a slot asks, both.
+    // Drops the roots that have too few pieces, or too few providers for lone slots, of some amount that a slot asks.
     fn limit_amounts(
         &self,
         alloc: Global,

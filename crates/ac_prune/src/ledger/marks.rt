@@ -62,7 +62,7 @@ pub(crate) fn mark(marks: &mut [u32], lone: bool, at: usize)
     }
 }
 
-/// Counts one less there.
+/// Counts one less at a provider, where it is for a slot that needs one for itself.
 pub(crate) fn unmark(marks: &mut [u32], lone: bool, at: usize)
     requires within { at < length marks.old }
     requires there { lone ≡ true → 0 < slice_index marks.old at }
@@ -105,11 +105,5 @@ pub(crate) fn has_full(hits: &[u32], taken: &[bool], roots: &[u32], depth: usize
         ≡ list_any (λ r. slice_index_or taken.now r false && (slice_index hits.now r == depth))
         roots.now }
 {
-    for root in roots {
-        let root = *root as usize;
-        if taken[root] && hits[root] as usize == depth {
-            return true;
-        }
-    }
-    false
+    roots.iter().any(|root| taken[*root as usize] && hits[*root as usize] as usize == depth)
 }

@@ -1,6 +1,6 @@
-//! Rooms in plain numbers: what each provider can still give of each class that the slots ask for, in a column for each class.
+//! Rooms in plain numbers: what each provider can still give of each class that the slots ask for, a row for each provider.
 
-ghost use Rattle.std.specs.Prelude.{◌≡◌, ◌+◌, ◌<◌, ◌≤◌, ◌^◌, ℕ, List, length, map, [], slice_index_or, IfOk};
+ghost use Rattle.std.specs.Prelude.{◌≡◌, ◌+◌, ◌*◌, ◌<◌, ◌≤◌, ◌^◌, ◌++◌, ℕ, List, length, map, slice_index, IfOk};
 ghost use Rattle.std.specs.List.{All, AllByRecursion};
 ghost use Rattle.ac_base.specs.Names.{class_bytes};
 ghost use Rattle.ac_cloud.specs.Cloud.CloudWorld.{providers_of};
@@ -8,7 +8,7 @@ ghost use Rattle.ac_query.specs.Asked.{slots_of};
 ghost use Rattle.ac_query.specs.Shown.Groups.{need_entry};
 ghost use Rattle.ac_query.specs.Shown.Queries.{asked_of};
 ghost use Rattle.ac_rules.specs.Placed.{slot_at};
-ghost use Rattle.ac_prune.specs.Left.{place_of, IsKnown, ask_pair, numbered, wanted, has_each, left_at, rooms_of, AreSmall, Moves};
+ghost use Rattle.ac_prune.specs.Left.{place_of, IsKnown, ask_pair, numbered, wanted, wanted_at, has_each, room_on, AreRooms};
 
 use ac_base::{ClassName, NoMemory};
 use ac_cloud::Cloud;
@@ -121,47 +121,50 @@ pub(crate) fn all_asks(
     Ok(all)
 }
 
-// The room of each provider for a class.
-fn column_of(alloc: Global, cloud: &Cloud, class: &ClassName) -> Result<Vec<u64>, NoMemory>
-    ensures rooms { IfOk result (λ column.
-        column.items ≡ rooms_of (providers_of cloud.now) (class_bytes class.now)) }
-    ensures small { IfOk result (λ _. AreSmall (providers_of cloud.now) (class_bytes class.now)) }
+// Adds the room of a provider for each class.
+fn push_row(
+    rooms: &mut Vec<u64>,
+    cloud: &Cloud,
+    ix: u32,
+    classes: &[&ClassName],
+) -> Result<(), NoMemory>
+    requires { ix < length (providers_of cloud.now) }
+    ensures rooms { IfOk result (λ _. rooms.new.items ≡ rooms.old.items
+        ++ map (λ c. room_on (providers_of cloud.now) ix (class_bytes c.now)) classes.now) }
+    ensures small { IfOk result (λ _. (i : ℕ) → slice_index rooms.new.items i < 2 ^ 64) }
 {
-    let mut column = Vec::new(alloc);
-    for ix in 0..cloud.len() {
-        column.push(room_at(cloud, ix, class).unwrap_or(0))?;
+    for class in classes {
+        rooms.push(room_at(cloud, ix, class).unwrap_or(0))?;
     }
-    Ok(column)
+    Ok(())
 }
 
-/// The rooms of all providers, a column for each class.
-pub(crate) fn all_columns(
+/// The room of each provider for each class, provider by provider.
+pub(crate) fn all_rooms(
     alloc: Global,
     cloud: &Cloud,
     classes: &[&ClassName],
-) -> Result<Vec<Vec<u64>>, NoMemory>
-    ensures rooms { IfOk result (λ all. map (λ column. column.items) all.items
-        ≡ map (λ c. rooms_of (providers_of cloud.now) (class_bytes c.now)) classes.now) }
-    ensures small { IfOk result (λ _. (k : ℕ) → k < length classes.now
-        → AreSmall (providers_of cloud.now)
-        (slice_index_or (map (λ c. class_bytes c.now) classes.now) k [])) }
+) -> Result<Vec<u64>, NoMemory>
+    ensures count { IfOk result (λ rooms.
+        length rooms.items ≡ length (providers_of cloud.now) * length classes.now) }
+    ensures rooms { IfOk result (λ rooms. AreRooms (providers_of cloud.now)
+        (map (λ c. class_bytes c.now) classes.now) (length classes.now) rooms.items) }
+    ensures small { IfOk result (λ rooms. (i : ℕ) → slice_index rooms.items i < 2 ^ 64) }
 {
-    let mut all = Vec::new(alloc);
-    for class in classes {
-        all.push(column_of(alloc, cloud, class)?)?;
+    let mut rooms = Vec::new(alloc);
+    for ix in 0..cloud.len() {
+        push_row(&mut rooms, cloud, ix, classes)?;
     }
-    Ok(all)
+    Ok(rooms)
 }
 
-/// Whether a provider has for each ask its amount.
-pub(crate) fn has_each(columns: &[Vec<u64>], ix: usize, asks: &[Ask]) -> bool
-    requires classes { All (λ a. a.class < length columns.now) asks.now }
-    requires provider { All (λ v. ix < length v.items) columns.now }
-    ensures { result ≡ has_each (left_at (map (λ v. v.items) columns.now) ix)
-        (map ask_pair asks.now) }
+/// Whether a row of rooms has for each ask its amount.
+pub(crate) fn has_each(rooms: &[u64], row: usize, asks: &[Ask]) -> bool
+    requires { All (λ a. row + a.class < length rooms.now) asks.now }
+    ensures { result ≡ has_each (λ k. slice_index rooms.now (row + k)) (map ask_pair asks.now) }
 {
     for ask in asks {
-        if columns[ask.class][ix] < u64::from(ask.amount) {
+        if rooms[row + ask.class] < u64::from(ask.amount) {
             return false;
         }
     }
@@ -181,32 +184,28 @@ pub(crate) fn wanted(asks: &[Ask], class: usize) -> u64
     total
 }
 
-/// Takes what asks want of a provider.
-pub(crate) fn take(columns: &mut [Vec<u64>], ix: usize, asks: &[Ask])
-    requires classes { All (λ a. a.class < length columns.old) asks.now }
-    requires provider { All (λ v. ix < length v.items) columns.old }
-    requires room { (k : ℕ) → wanted (map ask_pair asks.now) k
-        ≤ left_at (map (λ v. v.items) columns.old) ix k }
-    ensures { Moves (map (λ v. v.items) columns.old) ix (map ask_pair asks.now) []
-        (map (λ v. v.items) columns.new) }
+/// Takes of a row of rooms what asks want.
+pub(crate) fn take(rooms: &mut [u64], row: usize, asks: &[Ask])
+    requires within { All (λ a. row + a.class < length rooms.old) asks.now }
+    requires room { All (λ a. wanted_at row asks.now (row + a.class)
+        ≤ slice_index rooms.old (row + a.class)) asks.now }
+    ensures { (i : ℕ) → slice_index rooms.new i + wanted_at row asks.now i
+        ≡ slice_index rooms.old i }
 {
     for ask in asks {
-        columns[ask.class][ix] -= u64::from(ask.amount);
+        rooms[row + ask.class] -= u64::from(ask.amount);
     }
 }
 
-/// Gives back what asks wanted of a provider.
-pub(crate) fn give_back(columns: &mut [Vec<u64>], ix: usize, asks: &[Ask])
-    requires classes { All (λ a. a.class < length columns.old) asks.now }
-    requires provider { All (λ v. ix < length v.items) columns.old }
-    requires room { (k : ℕ) → 0 < wanted (map ask_pair asks.now) k
-        → left_at (map (λ v. v.items) columns.old) ix k
-        + wanted (map ask_pair asks.now) k < 2 ^ 64 }
-    ensures { Moves (map (λ v. v.items) columns.old) ix [] (map ask_pair asks.now)
-        (map (λ v. v.items) columns.new) }
+/// Gives back to a row of rooms what asks want.
+pub(crate) fn give_back(rooms: &mut [u64], row: usize, asks: &[Ask])
+    requires within { All (λ a. row + a.class < length rooms.old) asks.now }
+    requires room { All (λ a. slice_index rooms.old (row + a.class)
+        + wanted_at row asks.now (row + a.class) < 2 ^ 64) asks.now }
+    ensures { (i : ℕ) → slice_index rooms.new i
+        ≡ slice_index rooms.old i + wanted_at row asks.now i }
 {
     for ask in asks {
-        let left = columns[ask.class][ix];
-        columns[ask.class][ix] = left + u64::from(ask.amount);
+        rooms[row + ask.class] += u64::from(ask.amount);
     }
 }

@@ -1,25 +1,14 @@
 use Rattle.std.proofs.Common.{◌≡◌, ◌-◌, ◌/◌, ◌^◌, ◌<◌, ℕ, length, ap, arith}
 use Rattle.ac_cloud.specs.World.{is_available_at}
-use Rattle.ac_prune.specs.Left.{left_at}
-use Rattle.ac_prune.specs.Left.Accounts.{providers_in, columns_in}
+use Rattle.ac_prune.specs.Left.Accounts.{providers_in, left_in}
 use Rattle.ac_prune.proofs.Paths.AheadLemmas.{all_counted, none_passed, load_found}
-use Rattle.ac_prune.proofs.Paths.LedgerLemmas.{columns_long, room_read}
 use Rattle.ac_prune.proofs.ahead.Ahead.pieces_left.Goals as goal
-
-pub index-requires : goal.index-requires
-index-requires c = omega (arith, c.requires.class, (columns_long c.args.ledger.now).0)
-
-pub index-requires-in-loop : goal.index-requires-in-loop
-index-requires-in-loop c =
-    let l = c.args.ledger.now in
-    let class : c.args.class < length l.columns.items = omega (arith, c.requires.class, (columns_long l).0) in
-    omega (arith, (columns_long l).1 c.args.class c.index.result.now class, ap (λ v. length v.items) c.index.ensures, c.if-ix-len.false, c.len.ensures, c.requires.whole)
 
 pub returns-then-ix-len : goal.returns-then-ix-len
 returns-then-ix-len c =
     let l = c.args.ledger.now in
     let all = providers_in l in
-    all_counted all (λ p. left_at (columns_in l) p c.args.class / c.args.amount) c.args.root c.loop.from c.next-ix.result c.loop.pieces (2 ^ 64 - 1) c.next-ix.ensures.kept
+    all_counted all (λ p. left_in l p c.args.class / c.args.amount) c.args.root c.loop.from c.next-ix.result c.loop.pieces (2 ^ 64 - 1) c.next-ix.ensures.kept
     (omega (arith, c.next-ix.ensures.within, c.requires.whole, c.if-ix-len.true, c.len.ensures))
     (none_passed all c.args.self.now.trees c.args.root c.loop.from c.next-ix.result c.requires.root c.next-ix.ensures.within c.requires.trees c.next-ix.ensures.passed)
     c.loop.invariant.counted
@@ -28,10 +17,10 @@ pub loop-preserved : goal.loop-preserved
 loop-preserved c =
     let l = c.args.ledger.now in
     let all = providers_in l in
-    let f = λ (p : ℕ). left_at (columns_in l) p c.args.class / c.args.amount in
+    let f = λ (p : ℕ). left_in l p c.args.class / c.args.amount in
     let ix = c.next-ix.result in
     let low : ix < length all = omega (arith, c.if-ix-len.false, c.len.ensures, c.requires.whole) in
-    let here : c.index-in-loop.result.now / c.args.amount ≡ f ix = ap (λ (n : ℕ). n / c.args.amount) (room_read l c.args.class ix c.index-in-loop.result.now c.index.result.now c.requires.class low c.index.ensures c.index-in-loop.ensures) in
+    let here : c.left.result / c.args.amount ≡ f ix = ap (λ (n : ℕ). n / c.args.amount) c.left.ensures in
     record {
       within = omega (arith, low, c.requires.whole);
       counted = load_found f (λ p. is_available_at all p c.args.root) c.loop.from ix c.loop.pieces c.saturating_add-pieces.result (2 ^ 64 - 1) c.next-ix.ensures.kept

@@ -9,7 +9,7 @@ use Rattle.ac_prune.proofs.by_tree.ByTree.next.Goals as goal
 
 pub loop-tree-preserved : goal.loop-tree-preserved
 loop-tree-preserved c =
-    let keys = c.args.self.now.keys.items in
+    let keys = c.args.self.now.places.keys.items in
     let trees = c.args.trees.now in
     let j = c.loop-tree.tree-index in
     let tree = slice_index trees j in

@@ -1,26 +1,20 @@
-use Rattle.std.proofs.Common.{[], ◌≡◌, ◌<◌, ◌∙◌, List, ℕ, map, length, ap, sym, subst, arith}
+use Rattle.std.proofs.Common.{◌≡◌, ◌<◌, ◌∙◌, List, ℕ, length, ap, sym, subst, arith}
 use Rattle.std.specs.List.{All}
 use Rattle.std.proofs.lemmas.List.{with_items_is}
-use Rattle.ac_rules.specs.Placed.{placed_at, assigned, slot_at}
-use Rattle.ac_prune.specs.Left.{ask_pair, numbered, Moves, AreLeft}
+use Rattle.ac_rules.specs.Placed.{assigned}
 use Rattle.ac_prune.specs.Marks.{AreMarks, AreHits}
-use Rattle.ac_prune.specs.Left.Accounts.{providers_in, asked_in, texts_in, columns_in}
+use Rattle.ac_prune.specs.Left.Accounts.{providers_in, asked_in}
 use Rattle.ac_rules.proofs.EachSlot.AnchorLemmas.{anchors_within}
-use Rattle.ac_prune.proofs.Search.OpenLemmas.{placed_next}
-use Rattle.ac_prune.proofs.Paths.ColumnLemmas.{items, sizes_items}
-use Rattle.ac_prune.proofs.Paths.LeftLemmas.{left_less}
-use Rattle.ac_prune.proofs.Paths.LedgerLemmas.{asks_at, asks_low, provider_low, lone_at, known_in, room_back, mark_there, hit_there, marks_back, hits_back}
+use Rattle.ac_prune.proofs.Paths.LedgerLemmas.{row_low, left_back, lone_at, room_back, mark_there, hit_there, marks_back, hits_back}
 use Rattle.ac_prune.proofs.ledger.Ledger.give_back.Goals as goal
 
 pub give_back-requires : goal.give_back-requires
 give_back-requires c =
     let l = c.args.self.now in
     let q = c.args.front.now in
-    let asks = ap (map ask_pair) c.deref.ensures.value ∙ asks_at l (length q) c.index.result.now c.requires.slots c.index.ensures in
     record {
-      classes = rw (c.deref_mut.ensures.value, c.deref.ensures.value) (asks_low l (length q) c.index.result.now c.requires.slots c.index.ensures);
-      provider = rw c.deref_mut.ensures.value (provider_low l c.args.ix c.requires.provider);
-      room = λ k some. rw (c.deref_mut.ensures.value, asks) (room_back l q c.args.ix k c.requires.slots c.requires.provider c.requires.accounts (rw asks at some));
+      within = rw (c.deref_mut.ensures.value, c.deref.ensures.value, c.row-row.ensures) (row_low l (length q) c.args.ix c.index.result.now c.requires.slots c.requires.provider c.index.ensures);
+      room = rw (c.deref_mut.ensures.value, c.deref.ensures.value, c.row-row.ensures) (room_back l q c.args.ix c.index.result.now c.requires.slots c.requires.provider c.requires.accounts c.index.ensures);
     }
 
 pub unmark-requires-clause-there : goal.unmark-requires-clause-there
@@ -48,36 +42,12 @@ returns-clause-accounts c =
     let asked = asked_in l in
     let q = c.args.front.now in
     let p = c.args.ix in
-    let x = placed_at asked (length q) p in
-    let next = placed_next asked q p c.requires.slots in
-    let asks = ap (map ask_pair) c.deref.ensures.value ∙ asks_at l (length q) c.index.result.now c.requires.slots c.index.ensures in
-    let cols = with_items_is l.columns c.give_back.new.columns (c.give_back.auto.columns ∙ omega (arith, ap length c.deref_mut.ensures.value, l.columns.ok)) in
-    let moves : Moves (columns_in l) p [] (map (numbered (texts_in l)) (slot_at asked (length q)).needs) (items c.give_back.new.columns) = rw (c.deref_mut.ensures.value, asks) at c.give_back.ensures in
+    let rooms = with_items_is l.rooms c.give_back.new.rooms (c.give_back.auto.rooms ∙ omega (arith, ap length c.deref_mut.ensures.value, l.rooms.ok)) in
     let marks = with_items_is l.marks c.unmark.new.marks (c.unmark.auto.marks ∙ omega (arith, ap length c.deref_mut-2.ensures.value, l.marks.ok)) in
     let hits = with_items_is l.hits c.unhit.new.hits (c.unhit.auto.hits ∙ omega (arith, ap length c.deref_mut-3.ensures.value, l.hits.ok)) in
     record {
-      left = rw cols (left_less all (texts_in l) (columns_in l) (items c.give_back.new.columns) (assigned asked q) x (known_in l (length q) c.requires.slots) moves (subst (AreLeft all (texts_in l) (columns_in l)) next c.requires.accounts.left));
+      left = rw rooms (left_back l q p c.index.result.now c.give_back.new.rooms c.requires.slots c.index.ensures (rw (c.deref_mut.ensures.value, c.deref.ensures.value, c.row-row.ensures) at c.give_back.ensures) c.requires.accounts);
       marks = subst (λ (m : List ℕ). AreMarks all asked m (assigned asked q)) (sym marks)
           (marks_back all asked q p c.index-2.result.now l.marks.items c.unmark.new.marks c.requires.slots (lone_at l (length q) c.index-2.result.now c.requires.slots c.index-2.ensures) (rw c.deref_mut-2.ensures.value at c.unmark.ensures) c.requires.accounts.marks);
       hits = subst (λ (m : List ℕ). AreHits all m q) (sym hits) (hits_back all q p l.hits.items c.unhit.new.hits (rw (c.deref_mut-3.ensures.value, c.anchors.ensures) at c.unhit.ensures) c.requires.accounts.hits);
     }
-
-pub invariant_of-self-clause-sized : goal.invariant_of-self-clause-sized
-invariant_of-self-clause-sized c =
-    let l = c.args.self.now in
-    let cols = with_items_is l.columns c.give_back.new.columns (c.give_back.auto.columns ∙ omega (arith, ap length c.deref_mut.ensures.value, l.columns.ok)) in
-    rw cols (sizes_items l.columns.items c.give_back.new.columns (rw c.deref_mut.ensures.value at c.give_back.ensures.sizes) ∙ l.sized)
-
-pub invariant_of-self-clause-marked : goal.invariant_of-self-clause-marked
-invariant_of-self-clause-marked c =
-    let l = c.args.self.now in
-    let were = ap length c.deref_mut-2.ensures.value in
-    let items = with_items_is l.marks c.unmark.new.marks (c.unmark.auto.marks ∙ omega (arith, were, l.marks.ok)) in
-    omega (arith, ap length items, c.unmark.auto.marks, were, l.marked)
-
-pub invariant_of-self-clause-met : goal.invariant_of-self-clause-met
-invariant_of-self-clause-met c =
-    let l = c.args.self.now in
-    let were = ap length c.deref_mut-3.ensures.value in
-    let items = with_items_is l.hits c.unhit.new.hits (c.unhit.auto.hits ∙ omega (arith, were, l.hits.ok)) in
-    omega (arith, ap length items, c.unhit.auto.hits, were, l.met)

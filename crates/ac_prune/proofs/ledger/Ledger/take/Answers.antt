@@ -1,26 +1,20 @@
-use Rattle.std.proofs.Common.{◌≡◌, ◌<◌, ◌∙◌, ◌++◌, ◌∷◌, [], List, ℕ, map, length, ap, sym, subst, arith}
+use Rattle.std.proofs.Common.{◌≡◌, ◌<◌, ◌∙◌, ◌++◌, ◌∷◌, [], List, ℕ, length, ap, sym, subst, arith}
 use Rattle.std.specs.List.{All}
 use Rattle.std.proofs.lemmas.List.{with_items_is}
-use Rattle.ac_rules.specs.Placed.{placed_at, assigned, slot_at}
-use Rattle.ac_prune.specs.Left.{ask_pair, numbered, Moves, AreLeft}
+use Rattle.ac_rules.specs.Placed.{assigned}
 use Rattle.ac_prune.specs.Marks.{AreMarks, AreHits}
-use Rattle.ac_prune.specs.Left.Accounts.{providers_in, asked_in, texts_in, columns_in}
+use Rattle.ac_prune.specs.Left.Accounts.{providers_in, asked_in}
 use Rattle.ac_rules.proofs.EachSlot.AnchorLemmas.{anchors_within}
-use Rattle.ac_prune.proofs.Search.OpenLemmas.{placed_next}
-use Rattle.ac_prune.proofs.Paths.ColumnLemmas.{items, sizes_items}
-use Rattle.ac_prune.proofs.Paths.LeftLemmas.{left_more}
-use Rattle.ac_prune.proofs.Paths.LedgerLemmas.{asks_at, asks_low, provider_low, lone_at, known_in, room_for, room_to_mark, room_to_hit, marks_next, hits_next}
+use Rattle.ac_prune.proofs.Paths.LedgerLemmas.{row_low, left_next, lone_at, room_for, room_to_mark, room_to_hit, marks_next, hits_next}
 use Rattle.ac_prune.proofs.ledger.Ledger.take.Goals as goal
 
 pub take-requires : goal.take-requires
 take-requires c =
     let l = c.args.self.now in
     let q = c.args.front.now in
-    let asks = ap (map ask_pair) c.deref.ensures.value ∙ asks_at l (length q) c.index.result.now c.requires.slots c.index.ensures in
     record {
-      classes = rw (c.deref_mut.ensures.value, c.deref.ensures.value) (asks_low l (length q) c.index.result.now c.requires.slots c.index.ensures);
-      provider = rw c.deref_mut.ensures.value (provider_low l c.args.ix c.requires.provider);
-      room = λ k. rw (c.deref_mut.ensures.value, asks) (room_for l q c.args.ix k c.requires.slots c.requires.provider c.requires.accounts c.requires.open);
+      within = rw (c.deref_mut.ensures.value, c.deref.ensures.value, c.row-row.ensures) (row_low l (length q) c.args.ix c.index.result.now c.requires.slots c.requires.provider c.index.ensures);
+      room = rw (c.deref_mut.ensures.value, c.deref.ensures.value, c.row-row.ensures) (room_for l q c.args.ix c.index.result.now c.requires.slots c.requires.provider c.requires.accounts c.requires.open c.index.ensures);
     }
 
 pub mark-requires-clause-room : goal.mark-requires-clause-room
@@ -47,36 +41,12 @@ returns-clause-accounts c =
     let asked = asked_in l in
     let q = c.args.front.now in
     let p = c.args.ix in
-    let x = placed_at asked (length q) p in
-    let next = placed_next asked q p c.requires.slots in
-    let asks = ap (map ask_pair) c.deref.ensures.value ∙ asks_at l (length q) c.index.result.now c.requires.slots c.index.ensures in
-    let cols = with_items_is l.columns c.take.new.columns (c.take.auto.columns ∙ omega (arith, ap length c.deref_mut.ensures.value, l.columns.ok)) in
-    let moves : Moves (columns_in l) p (map (numbered (texts_in l)) (slot_at asked (length q)).needs) [] (items c.take.new.columns) = rw (c.deref_mut.ensures.value, asks) at c.take.ensures in
+    let rooms = with_items_is l.rooms c.take.new.rooms (c.take.auto.rooms ∙ omega (arith, ap length c.deref_mut.ensures.value, l.rooms.ok)) in
     let marks = with_items_is l.marks c.mark.new.marks (c.mark.auto.marks ∙ omega (arith, ap length c.deref_mut-2.ensures.value, l.marks.ok)) in
     let hits = with_items_is l.hits c.hit.new.hits (c.hit.auto.hits ∙ omega (arith, ap length c.deref_mut-3.ensures.value, l.hits.ok)) in
     record {
-      left = rw cols (subst (AreLeft all (texts_in l) (items c.take.new.columns)) (sym next) (left_more all (texts_in l) (columns_in l) (items c.take.new.columns) (assigned asked q) x (known_in l (length q) c.requires.slots) moves c.requires.accounts.left));
+      left = rw rooms (left_next l q p c.index.result.now c.take.new.rooms c.requires.slots c.index.ensures (rw (c.deref_mut.ensures.value, c.deref.ensures.value, c.row-row.ensures) at c.take.ensures) c.requires.accounts);
       marks = subst (λ (m : List ℕ). AreMarks all asked m (assigned asked (q ++ p ∷ []))) (sym marks)
           (marks_next all asked q p c.index-2.result.now l.marks.items c.mark.new.marks c.requires.slots (lone_at l (length q) c.index-2.result.now c.requires.slots c.index-2.ensures) (rw c.deref_mut-2.ensures.value at c.mark.ensures) c.requires.accounts.marks);
       hits = subst (λ (m : List ℕ). AreHits all m (q ++ p ∷ [])) (sym hits) (hits_next all q p l.hits.items c.hit.new.hits (rw (c.deref_mut-3.ensures.value, c.anchors.ensures) at c.hit.ensures) c.requires.accounts.hits);
     }
-
-pub invariant_of-self-clause-sized : goal.invariant_of-self-clause-sized
-invariant_of-self-clause-sized c =
-    let l = c.args.self.now in
-    let cols = with_items_is l.columns c.take.new.columns (c.take.auto.columns ∙ omega (arith, ap length c.deref_mut.ensures.value, l.columns.ok)) in
-    rw cols (sizes_items l.columns.items c.take.new.columns (rw c.deref_mut.ensures.value at c.take.ensures.sizes) ∙ l.sized)
-
-pub invariant_of-self-clause-marked : goal.invariant_of-self-clause-marked
-invariant_of-self-clause-marked c =
-    let l = c.args.self.now in
-    let were = ap length c.deref_mut-2.ensures.value in
-    let items = with_items_is l.marks c.mark.new.marks (c.mark.auto.marks ∙ omega (arith, were, l.marks.ok)) in
-    omega (arith, ap length items, c.mark.auto.marks, were, l.marked)
-
-pub invariant_of-self-clause-met : goal.invariant_of-self-clause-met
-invariant_of-self-clause-met c =
-    let l = c.args.self.now in
-    let were = ap length c.deref_mut-3.ensures.value in
-    let items = with_items_is l.hits c.hit.new.hits (c.hit.auto.hits ∙ omega (arith, were, l.hits.ok)) in
-    omega (arith, ap length items, c.hit.auto.hits, were, l.met)

@@ -1,7 +1,6 @@
-use Rattle.std.proofs.Common.{map, drop}
-use Rattle.ac_prune.specs.Left.{ask_pair, Moves}
-use Rattle.ac_prune.proofs.Paths.ColumnLemmas.{items}
+use Rattle.std.proofs.Common.{◌≡◌, ◌+◌, ℕ, drop, slice_index}
+use Rattle.ac_prune.specs.Left.{wanted_at}
 use Rattle.ac_prune.proofs.ledger.rooms.give_back.Given as goal
 
 abbrev pub invariant-loop-ask : goal.invariant-loop-ask
-invariant-loop-ask l = Moves (items l.fn.columns) l.ix (map ask_pair (drop l.ask-index l.asks)) (map ask_pair l.asks) (items l.columns)
+invariant-loop-ask l = (i : ℕ) → slice_index l.rooms i + wanted_at l.row (drop l.ask-index l.asks) i ≡ slice_index l.fn.rooms i + wanted_at l.row l.asks i

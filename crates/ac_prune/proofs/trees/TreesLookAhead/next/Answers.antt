@@ -1,19 +1,20 @@
-use Rattle.std.proofs.Common.{◌≡◌, ◌++◌, ◌∷◌, [], List, length, slice_index, slice_index_or, sym, subst, arith, length-append}
+use Rattle.std.proofs.Common.{◌≡◌, List, length, slice_index, slice_index_or, sym, subst, arith}
 use Rattle.ac_prune.specs.Left.Accounts.{providers_in, asked_in}
-use Rattle.ac_prune.specs.QuerySearch.{choices_of, search_of}
+use Rattle.ac_prune.specs.QuerySearch.{choice_of}
+use Rattle.ac_rules.specs.Placed.{slot_at}
 use Rattle.ac_prune.specs.Trees.{IsByTree, AreByTree}
 use Rattle.ac_prune.specs.declared.by_tree.ByTree.{ByTree}
 use Rattle.ac_prune.specs.declared.front.Front.{Front}
-use Rattle.ac_prune.proofs.Paths.FrontLemmas.{listed_at, slot_inside, bound_there, bound_low}
-use Rattle.ac_prune.proofs.Roots.TreeLemmas.{elsewhere_closed}
-use Rattle.ac_prune.proofs.Search.OpenLemmas.{is_search}
-use Rattle.ac_prune.proofs.Search.SoughtLemmas.{closed_dead}
+use Rattle.ac_prune.proofs.Paths.FrontLemmas.{listed_at, bound_there, bound_low}
+use Rattle.ac_prune.proofs.Roots.HostLemmas.{elsewhere_dead}
 use Rattle.ac_prune.proofs.trees.TreesLookAhead.next.Goals as goal
 
 -- the choices behind a front, by tree
-here : (f : Front) (slots : List ByTree) (b : ByTree) → AreByTree (providers_in f.ledger.now) (choices_of (providers_in f.ledger.now) (asked_in f.ledger.now)) slots → b ≡ slice_index_or slots (length f.path.now) b
-    → IsByTree (providers_in f.ledger.now) f.choices.now b
-here f slots b are is = rw (listed_at f) (subst (IsByTree (providers_in f.ledger.now) (slice_index_or (choices_of (providers_in f.ledger.now) (asked_in f.ledger.now)) (length f.path.now) [])) (sym is) (are.each (length f.path.now) b (slot_inside f)))
+here : (f : Front) (slots : List ByTree) (b : ByTree) → AreByTree (providers_in f.ledger.now) (asked_in f.ledger.now) slots → b ≡ slice_index_or slots (length f.path.now) b → IsByTree (providers_in f.ledger.now) f.choices.now b
+here f slots b are is =
+    let all = providers_in f.ledger.now in
+    let asked = asked_in f.ledger.now in
+    rw (listed_at f) (subst (IsByTree all (choice_of all asked (slot_at asked (length f.path.now)))) (sym is) (are.each (length f.path.now) b f.short))
 
 pub anchors-requires : goal.anchors-requires
 anchors-requires c = bound_low c.args.front.now c.in-Some.ix c.in-Some.is
@@ -28,10 +29,6 @@ pub returns-in-Some-clause-dead : goal.returns-in-Some-clause-dead
 returns-in-Some-clause-dead c = λ i above less.
     let f = c.args.front.now in
     let all = providers_in f.ledger.now in
-    let asked = asked_in f.ledger.now in
-    let p = slice_index f.choices.now i in
     let by = here f c.args.self.now.slots.items c.index.result.now c.requires.of c.index.ensures in
-    closed_dead (search_of all asked) (is_search all asked) (f.path.now ++ p ∷ [])
-    (elsewhere_closed all asked f.path.now c.in-Some.ix p (bound_there f c.in-Some.ix c.in-Some.is)
+    elsewhere_dead all (asked_in f.ledger.now) f.path.now c.in-Some.ix (slice_index f.choices.now i) (bound_there f c.in-Some.ix c.in-Some.is)
     (λ r home low. c.next.ensures.passed all f.choices.now by r i (rw c.anchors.ensures home) low above less)
-    (omega (arith, f.short, length-append f.path.now (p ∷ []))))

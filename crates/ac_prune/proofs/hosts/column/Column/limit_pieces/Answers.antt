@@ -1,18 +1,8 @@
-use Rattle.std.proofs.Common.{◌∙◌, ◌/◌, ℕ, List, slice_index, ap, arith}
-use Rattle.ac_base.specs.Names.{class_bytes}
 use Rattle.ac_prune.proofs.Roots.RootLemmas.{if_ok, pieces_keep}
 use Rattle.ac_prune.proofs.hosts.column.Column.limit_pieces.Goals as goal
 
 pub returns : goal.returns
-returns c =
-    let column = c.args.self.now in
-    let l = column.ledger.now in
-    if_ok _ _ c.limit.result
-    (λ _ is. record {
-      count = c.limit.auto.may ∙ c.requires.hosts.count;
-      hosts = pieces_keep l c.args.may.now c.limit.new.may c.in_ok-pieces.pieces.items column.number c.args.amount c.count_asking-wanted.result (class_bytes column.class.now) c.requires.some column.known column.empty c.requires.hosts.hosts
-          column.numbered
-          (λ p h. c.in_ok-pieces.ensures.pieces p (omega (arith, h, column.as_many)) ∙ ap (λ (xs : List ℕ). slice_index xs p / c.args.amount) column.left)
-          (rw c.deref.ensures.value at c.count_asking-wanted.ensures) (rw c.deref-2.ensures.value at is);
-    })
+returns c = if_ok _ _ c.limit.result
+    (λ _ is. pieces_keep c.args.self.now c.args.may.now c.limit.new.may c.in_ok-pieces.pieces.items c.args.amount c.count_asking-wanted.result c.requires.some (rw c.deref.ensures.value at c.in_ok-pieces.ensures.pieces)
+    (rw c.deref-2.ensures.value at c.count_asking-wanted.ensures) c.requires.hosts c.limit.auto.may (rw c.deref-3.ensures.value at is))
     c.limit.ensures

@@ -4,7 +4,7 @@ use Rattle.ac_prune.specs.Trees.Keys.{key_of, is_there}
 use Rattle.std.specs.List.Sorted.{IsNonDecreasing}
 use Rattle.std.proofs.lemmas.List.Sorted.{Contains-permutation, IsNonDecreasingBy-from_sort}
 use Rattle.ac_prune.proofs.Roots.TreeLemmas.{there_at, at_there, there_new, there_old, or_left}
-use Rattle.ac_prune.proofs.by_tree.ByTree.by_part.Goals as goal
+use Rattle.ac_prune.proofs.by_tree.Places.by_part.Goals as goal
 
 pub loop-place-preserved : goal.loop-place-preserved
 loop-place-preserved c = λ i h.
@@ -16,22 +16,8 @@ loop-place-preserved c = λ i h.
       | inr e ↦ there_old old (c.key.result ∷ []) (place i) (c.loop-place.invariant i (omega (arith, h, e)))
     ])
 
-pub invariant_of-result : goal.invariant_of-result
-invariant_of-result c =
-    let rises : IsNonDecreasing c.sort_unstable.new.self.items = IsNonDecreasingBy-from_sort (λ x. x) c.sort_unstable.new.self.items c.sort_unstable.ensures.sorted in
-    record {
-      rising = λ i j h k. rises i j 0 h k;
-      few = omega (arith, c.requires.few);
-      last = omega arith;
-    }
-
 pub returns : goal.returns
-returns c =
-    let old = c.loop-place.keys.items in
-    let new = c.sort_unstable.new.self.items in
-    record {
-      count = omega arith;
-      placed = λ i h.
-          at_there new _ (Contains-permutation old new _ c.sort_unstable.ensures.permutation
-          (there_at old _ (c.loop-place.invariant i (omega (arith, h, c.loop-place.auto.place-end, c.loop-place-test.false)))));
-    }
+returns c = record {
+  count = omega (arith, c.of_keys.ensures.count);
+  placed = λ i h. c.of_keys.ensures.kept _ (c.loop-place.invariant i (omega (arith, h, c.of_keys.ensures.count, c.loop-place.auto.place-end, c.loop-place-test.false)));
+}

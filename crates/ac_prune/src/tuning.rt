@@ -1,0 +1,26 @@
+//! How far looking ahead goes. Each number was chosen so that a test takes less time than it saves; with any other the same
+//! candidates are found.
+
+/// How many amounts the slots may ask together, for `Ahead` to compare each with those of all later slots: this is done once
+/// for a query, in their number squared.
+pub(crate) const MOST_ASKS: usize = 128;
+
+/// How many providers of a tree `Ahead` goes over: it does so at many places of a search, and a larger tree seldom lacks.
+pub(crate) const MOST_HOSTS: usize = 64;
+
+/// How many steps all tests of `Hosts` may take together, so that in a large cloud a search doesn't begin late: it may find a
+/// candidate sooner than they all end.
+pub(crate) const MOST_STEPS: u64 = 1 << 28;
+
+/// To how many trees a path is bound at the most: the next choice is looked up in each of them.
+pub(crate) const FEW: usize = 8;
+
+/// How many lists of `same_subtree` are looked at ahead, since each costs memory for every provider; further ones are judged
+/// when all slots have a provider, as all are.
+pub(crate) const MOST_FAMILIES: usize = 16;
+
+/// How many pairs of a choice and a tree in which it is available are kept for a slot: two megabytes of them.
+pub(crate) const MOST_PAIRS: u64 = 1 << 18;
+
+/// How many choices of the slots that a list of `same_subtree` names are kept by part: two megabytes of them.
+pub(crate) const MOST_PLACES: usize = 1 << 18;
