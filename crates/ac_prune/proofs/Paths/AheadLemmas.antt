@@ -4,7 +4,7 @@ use Rattle.std.specs.Prelude.{◌^◌, min, drop, take, map, nat_le, if◌then�
 use Rattle.std.specs.List.{filter, range_with_len, AllByRecursion as Each}
 use Rattle.std.specs.Global.{Vec}
 use Rattle.std.proofs.lemmas.List.{drop-map}
-use Rattle.std.proofs.lemmas.Bool.{cases_Bool, cases_eq, and_parts, eq-eqb, ne_eqb, false≢true, false_from_ne_true}
+use Rattle.std.proofs.lemmas.Bool.{cases_eq, and_parts, eq-eqb, ne_eqb, false≢true, false_from_ne_true}
 use Rattle.std.proofs.lemmas.List.FromFn.{get_or-range_with_len}
 use Rattle.std.proofs.lemmas.List.Folds.{list_all-append}
 use Rattle.ac_query.specs.Asked.{Asked, Slot, slots_of}

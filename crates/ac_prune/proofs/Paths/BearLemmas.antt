@@ -1,17 +1,15 @@
 -- What a provider bears of the slots behind a front, while a list stays open.
-use Rattle.std.proofs.Common.{◌≡◌, ℕ, ◌+◌, ◌*◌, ◌/◌, ◌<◌, ◌≤◌, Bool, true, List, [], ◌∷◌, ◌++◌, inl, inr, refl, sym, ap, subst, arith, nat_le}
+use Rattle.std.proofs.Common.{◌≡◌, ℕ, ◌+◌, ◌*◌, ◌/◌, ◌<◌, ◌≤◌, Bool, true, List, [], ◌∷◌, ◌++◌, inl, inr, refl, ap, subst, arith}
 use Rattle.std.specs.Prelude.{◌==◌, if◌then◌else◌, min}
 use Rattle.std.specs.List.{list_all, AllByRecursion as Each}
-use Rattle.std.proofs.lemmas.Bool.{cases_Bool, cases_eq, cases_lt, and_parts, eq-eqb, ne_eqb, false≢true}
-use Rattle.std.proofs.lemmas.Bool.Decides.{nat_tests}
+use Rattle.std.proofs.lemmas.Bool.{cases_Bool, and_parts, eq-eqb, ne_eqb}
 use Rattle.std.proofs.Math.Nat.{le-div_iff_mul-le}
 use Rattle.ac_query.specs.Asked.{Asked, Slot, slots_of, is_isolated}
-use Rattle.ac_cloud.specs.World.{Provider, provider_at, used_of}
+use Rattle.ac_cloud.specs.World.{Provider}
 use Rattle.ac_rules.specs.Placed.{Placed, placed, assigned}
-use Rattle.ac_rules.specs.Own.{inventory_of, units_fit, traits_fit, aggregates_fit, tree_fits}
+use Rattle.ac_rules.specs.Own.{units_fit, traits_fit, aggregates_fit, tree_fits}
 use Rattle.ac_prune.specs.Left.{room_on}
-use Rattle.ac_prune.specs.Marks.{needs_own}
-use Rattle.ac_rules.specs.Together.{amount_of, sum_on, holds, holds_sums, sums, is_set_apart, are_apart, all_apart, isolate}
+use Rattle.ac_rules.specs.Together.{amount_of, sum_on, holds_sums, sums, is_set_apart, are_apart, all_apart, isolate}
 use Rattle.ac_rules.specs.Judge.{is_open}
 use Rattle.ac_prune.specs.QuerySearch.{fits}
 use Rattle.ac_prune.specs.Ahead.{weight_on, later, Bears, left_on, asks_much, asks_own, lone_much, serves}

@@ -1,9 +1,9 @@
 -- What a ledger knows of a slot and a provider, and how it accounts for one provider more and less.
-use Rattle.std.proofs.Common.{◌≡◌, ◌∙◌, ℕ, ◌+◌, ◌*◌, ◌<◌, ◌≤◌, ◌^◌, Bool, true, false, inl, inr, not, ◌&&◌, List, [], ◌∷◌, ◌++◌, map, length, Option, Some, None, refl, sym, ap, ap₂, subst, arith, length-append, nat_le, nat_lt, replicate, slice_index, slice_index_or}
+use Rattle.std.proofs.Common.{◌≡◌, ◌∙◌, ℕ, ◌+◌, ◌*◌, ◌<◌, ◌≤◌, ◌^◌, Bool, true, false, not, ◌&&◌, List, [], ◌∷◌, ◌++◌, map, length, Option, Some, None, refl, sym, ap, ap₂, arith, length-append, nat_le, nat_lt, replicate, slice_index, slice_index_or}
 use Rattle.std.specs.Prelude.{◌==◌, if◌then◌else◌}
 use Rattle.std.specs.Global.{Vec}
 use Rattle.std.specs.List.{list_all, list_any, range_with_len, All, AllByRecursion as Each}
-use Rattle.std.proofs.lemmas.Bool.{cases_Bool, eq-eqb, false≢true, false_from_ne_true, leb-true}
+use Rattle.std.proofs.lemmas.Bool.{eq-eqb, false≢true, false_from_ne_true, leb-true}
 use Rattle.std.proofs.lemmas.Nat.{mul-add-lt}
 use Rattle.std.proofs.lemmas.List.Folds.{list_all-map}
 use Rattle.std.proofs.lemmas.List.Sums.{AllPass-from_list_all}
@@ -23,13 +23,13 @@ use Rattle.ac_query.specs.Shown.Slots.{slot_shown}
 use Rattle.ac_query.specs.declared.group.Need.{Need}
 use Rattle.ac_query.specs.declared.group.Group as rust
 use Rattle.ac_query.specs.declared.query.Query.{Query}
-use Rattle.ac_cloud.specs.World.{Provider, provider_at, is_available_at, anchors_of}
+use Rattle.ac_cloud.specs.World.{Provider, provider_at, anchors_of}
 use Rattle.ac_rules.specs.Placed.{placed, placed_at, slot_at, no_slot, assigned}
 use Rattle.ac_rules.specs.Together.{amount_of, sum_on, holds, sums, isolate, takes_root}
 use Rattle.ac_rules.specs.Judge.{is_open}
 use Rattle.ac_prune.specs.QuerySearch.{fits, has_room_alone}
 use Rattle.ac_rules.specs.Laws.{AskAmounts}
-use Rattle.ac_prune.specs.Left.{place_of, IsKnown, AreLeft, AreRooms, ask_pair, numbered, wanted, wanted_at, has_each, suffices, room_on}
+use Rattle.ac_prune.specs.Left.{place_of, IsKnown, AreLeft, AreRooms, ask_pair, numbered, wanted, wanted_at, has_each, suffices}
 use Rattle.ac_prune.specs.Marks.{needs_own, marks_at, times, AreMarks, AreHits}
 use Rattle.ac_prune.specs.Left.Accounts.{providers_in, asked_in, texts_in, left_in, Accounts}
 use Rattle.ac_prune.specs.declared.ledger.rooms.Ask.{Ask}

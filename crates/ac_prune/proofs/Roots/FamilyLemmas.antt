@@ -1,6 +1,6 @@
 -- What a list of `same_subtree` says of a front.
-use Rattle.std.proofs.Common.{◌≡◌, ◌∙◌, ◌<◌, ◌≤◌, ◌++◌, ◌∷◌, [], ℕ, List, Bool, true, false, inl, inr, length, map, slice_index, slice_index_or, refl, ap, sym, subst, arith, length-append}
-use Rattle.std.proofs.lemmas.Bool.{cases_Bool, cases_lt, false≢true}
+use Rattle.std.proofs.Common.{◌≡◌, ◌∙◌, ◌<◌, ◌≤◌, ◌++◌, ◌∷◌, [], ℕ, List, Bool, true, false, inl, inr, length, map, slice_index, slice_index_or, refl, ap, sym, arith, length-append}
+use Rattle.std.proofs.lemmas.Bool.{cases_Bool, false≢true}
 use Rattle.std.proofs.lemmas.List.{length-map, get_or_default, get_or_past, get_or_append_left, get_or_push}
 use Rattle.std.proofs.lemmas.List.Elements.{recursion_from_All}
 use Rattle.ac_query.specs.Asked.{Asked, Slot, slots_of, lists_suffix}
@@ -11,8 +11,6 @@ use Rattle.ac_prune.specs.Left.Accounts.{providers_in, asked_in}
 use Rattle.ac_prune.specs.Families.{Names, IsFamily}
 use Rattle.ac_prune.specs.Fronts.{LeadsNowhere}
 use Rattle.ac_prune.specs.Parts.{IsNamed, AreParts}
-use Rattle.ac_prune.specs.QuerySearch.{choice_of}
-use Rattle.ac_rules.specs.Placed.{slot_at}
 use Rattle.ac_prune.specs.Trees.{IsByPart, AreByPart}
 use Rattle.ac_prune.specs.declared.by_tree.Places.{Places}
 use Rattle.ac_prune.specs.declared.families.Family.{Family}

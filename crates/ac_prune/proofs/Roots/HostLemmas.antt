@@ -1,5 +1,5 @@
 -- What a root must have where a candidate stands.
-use Rattle.std.proofs.Common.{◌≡◌, ℕ, ◌<◌, ◌&&◌, Bool, true, false, List, [], ◌∷◌, ◌++◌, length, refl, sym, ◌∙◌, subst, arith, length-append, length-drop}
+use Rattle.std.proofs.Common.{◌≡◌, ℕ, ◌<◌, Bool, true, false, List, [], ◌∷◌, ◌++◌, length, refl, sym, ◌∙◌, arith, length-append, length-drop}
 use Rattle.std.specs.List.{list_all, range_with_len, AllByRecursion as Each}
 use Rattle.std.proofs.lemmas.Bool.{and_parts, and_from, false≢true, false_from_ne_true}
 use Rattle.std.proofs.lemmas.List.Elements.{recursion_from_All}
@@ -7,7 +7,7 @@ use Rattle.std.proofs.lemmas.List.Folds.{list_all-append}
 use Rattle.ac_query.specs.Asked.{Asked, Slot, slots_of}
 use Rattle.ac_cloud.specs.World.{Provider, is_available_at, anchors_of}
 use Rattle.ac_rules.specs.Placed.{Placed, placed, assigned}
-use Rattle.ac_rules.specs.Together.{takes_root, hosts_all, anchor}
+use Rattle.ac_rules.specs.Together.{hosts_all, anchor}
 use Rattle.ac_rules.specs.Judge.{is_candidate, is_open}
 use Rattle.ac_prune.specs.Ahead.{load_of, hosts_of, later, IsHosted, RoomsReach}
 use Rattle.ac_rules.proofs.Elements.{Among, among_filter}

@@ -1,7 +1,7 @@
 -- Choices by tree, and the trees to which a front is bound.
 use Rattle.std.proofs.Common.{◌≡◌, ◌∙◌, ℕ, ◌<◌, ◌≤◌, suc, Bool, true, false, ◌||◌, List, [], ◌∷◌, ◌++◌, inl, inr, length, map, refl, sym, ap, subst, arith, get_or}
 use Rattle.std.specs.Prelude.{◌==◌}
-use Rattle.std.specs.List.{list_all, list_any, range_with_len, Contains, AllByRecursion as Each}
+use Rattle.std.specs.List.{list_all, list_any, Contains, AllByRecursion as Each}
 pub use Rattle.std.proofs.lemmas.Bool.{or_left, or_right}
 use Rattle.std.proofs.lemmas.Bool.{cases_Bool, cases_eq, and_parts, eq-eqb, ne_eqb, false≢true}
 use Rattle.std.proofs.lemmas.List.Folds.{list_any-append, list_any_at}
@@ -9,7 +9,7 @@ use Rattle.ac_cloud.specs.World.{Provider, is_available_at, anchors_of}
 use Rattle.ac_cloud.specs.Cloud.CloudWorld.{providers_of}
 use Rattle.ac_cloud.specs.declared.cloud.Cloud.{Cloud}
 use Rattle.ac_cloud.proofs.Places.CloudFacts.{size}
-use Rattle.ac_prune.specs.Trees.Keys.{key_of, is_there, IsUnder}
+use Rattle.ac_prune.specs.Trees.Keys.{is_there, IsUnder}
 use Rattle.ac_rules.proofs.Elements.{Among, among_filter}
 use Rattle.ac_rules.proofs.Lists.ListLemmas.{among_range}
 use Rattle.std.proofs.Common.{rules}

@@ -1,5 +1,5 @@
 -- The search of a query is one that a walk goes through.
-use Rattle.std.proofs.Common.{◌≡◌, ℕ, ◌+◌, ◌<◌, ◌≤◌, zero, suc, Bool, true, false, ◌&&◌, List, [], ◌∷◌, ◌++◌, inl, inr, length, map, get_or, drop, refl, sym, ap, ◌∙◌, subst, arith, slice_index_or, slice_index, append-nil}
+use Rattle.std.proofs.Common.{◌≡◌, ℕ, ◌+◌, ◌<◌, ◌≤◌, zero, suc, Bool, true, false, ◌&&◌, List, [], ◌∷◌, ◌++◌, inl, inr, length, map, get_or, refl, sym, ap, ◌∙◌, subst, arith, slice_index_or, slice_index, append-nil}
 use Rattle.std.specs.List.{filter, list_all, range_with_len, AllPairs, AllByRecursion as Each}
 use Rattle.std.proofs.lemmas.Bool.{cases_Bool, and_parts, and_from, eq-eqb}
 use Rattle.std.proofs.lemmas.Slice.Eq.{bytes_eq-Decides}
@@ -10,9 +10,8 @@ use Rattle.std.proofs.lemmas.List.FromFn.{length-range_with_len, get_or-range_wi
 use Rattle.std.proofs.lemmas.List.Elements.{filter-append}
 use Rattle.std.proofs.Common.{cond, add-one}
 use Rattle.ac_query.specs.Asked.{Asked, Slot, slots_of}
-use Rattle.ac_cloud.specs.World.{Provider, provider_at, used_of}
+use Rattle.ac_cloud.specs.World.{Provider, provider_at}
 use Rattle.ac_rules.specs.Placed.{Placed, placed, placed_at, slot_at, no_slot, assigned}
-use Rattle.ac_rules.specs.Own.{inventory_of, units_fit, traits_fit, aggregates_fit, tree_fits}
 use Rattle.ac_rules.specs.Together.{amount_of, sum_on, holds, holds_sums, sums, isolate, anchor}
 use Rattle.ac_rules.specs.Judge.{tests, is_candidate, is_open, is_open_at}
 use Rattle.ac_prune.specs.Search.{choices_at}

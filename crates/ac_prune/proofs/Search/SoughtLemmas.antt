@@ -1,11 +1,11 @@
 -- What a search looks for: in order, each once; and where the choices of a slot lead.
-use Rattle.std.proofs.Common.{◌≡◌, ℕ, ◌<◌, ◌≤◌, suc, true, false, not, List, [], ◌∷◌, ◌++◌, inl, inr, length, get_or, sym, ap, ◌∙◌, subst, arith, append_assoc, length-append}
-use Rattle.std.specs.List.{filter, AllPairs, AllByRecursion as Each}
-use Rattle.std.proofs.lemmas.Bool.{cases_lt, cases_eq, not-true, not_from_false, false_from_ne_true, false≢true}
+use Rattle.std.proofs.Common.{◌≡◌, ℕ, ◌<◌, ◌≤◌, suc, true, false, List, [], ◌∷◌, ◌++◌, inl, inr, length, get_or, sym, ap, ◌∙◌, subst, arith, append_assoc, length-append}
+use Rattle.std.specs.List.{AllPairs, AllByRecursion as Each}
+use Rattle.std.proofs.lemmas.Bool.{not-true, not_from_false, false_from_ne_true, false≢true}
 use Rattle.std.proofs.lemmas.List.{get_or_past}
-use Rattle.std.proofs.lemmas.List.Elements.{All-from_recursion, recursion_from_All}
+use Rattle.std.proofs.lemmas.List.Elements.{recursion_from_All}
 use Rattle.ac_rules.specs.Order.{lex_lt}
-use Rattle.ac_rules.specs.Lists.{all_lists, IsListBelow, IsRising}
+use Rattle.ac_rules.specs.Lists.{IsRising}
 use Rattle.ac_prune.specs.Search.{Search, sought, IsDead, choices_at, next_at}
 use Rattle.ac_rules.proofs.Elements.{Among, each_filter, each_weaker, among_filter}
 use Rattle.ac_rules.proofs.SlotLemmas.{each_at}

@@ -1,12 +1,9 @@
 use Rattle.std.proofs.Common.{◌≡◌, ℕ, true, length, slice_index, inl, inr, arith, subst, sym}
-use Rattle.std.specs.List.Sorted.{IsNonDecreasing}
 use Rattle.std.proofs.lemmas.Bool.{cases_eq}
-use Rattle.std.proofs.lemmas.List.Sorted.{Contains-permutation, IsNonDecreasingBy-from_sort}
 use Rattle.ac_cloud.specs.Cloud.CloudWorld.{providers_of}
 use Rattle.ac_cloud.specs.World.{is_available_at}
 use Rattle.ac_prune.specs.Trees.Keys.{IsUnder}
-use Rattle.ac_prune.proofs.Roots.TreeLemmas.{few_providers}
-use Rattle.ac_prune.proofs.Roots.TreeLemmas.{under_more, there_at, at_there}
+use Rattle.ac_prune.proofs.Roots.TreeLemmas.{under_more}
 use Rattle.ac_prune.proofs.by_tree.ByTree.new.Goals as goal
 
 pub loop-place-preserved : goal.loop-place-preserved

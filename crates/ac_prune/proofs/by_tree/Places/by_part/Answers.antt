@@ -1,9 +1,7 @@
 use Rattle.std.proofs.Common.{inl, inr, ◌≡◌, ◌∙◌, ◌∷◌, [], ℕ, List, true, slice_index, arith, ap, sym, subst}
 use Rattle.std.proofs.lemmas.Bool.{cases_eq, eq-eqb}
 use Rattle.ac_prune.specs.Trees.Keys.{key_of, is_there}
-use Rattle.std.specs.List.Sorted.{IsNonDecreasing}
-use Rattle.std.proofs.lemmas.List.Sorted.{Contains-permutation, IsNonDecreasingBy-from_sort}
-use Rattle.ac_prune.proofs.Roots.TreeLemmas.{there_at, at_there, there_new, there_old, or_left}
+use Rattle.ac_prune.proofs.Roots.TreeLemmas.{there_new, there_old, or_left}
 use Rattle.ac_prune.proofs.by_tree.Places.by_part.Goals as goal
 
 pub loop-place-preserved : goal.loop-place-preserved
