@@ -31,19 +31,6 @@ pub(crate) struct Ahead {
     trees: ByTree,
 }
 
-// Whether later slots ask other amounts of a class than a slot does.
-fn is_mixed(asks: &[Ask], later: &[Vec<Ask>]) -> bool {
-    for ask in asks {
-        for list in later {
-            let amount = wanted(list, ask.class);
-            if amount > 0 && amount != u64::from(ask.amount) {
-                return true;
-            }
-        }
-    }
-    false
-}
-
 // The greatest depth whose slots ask other amounts of some class than the slot before them; 0 where there is none, or where
 // the slots ask too many amounts.
 fn last_mixed(asks: &[Vec<Ask>]) -> usize {
@@ -54,8 +41,13 @@ fn last_mixed(asks: &[Vec<Ask>]) -> usize {
     let mut last = 0;
     if count <= MOST_ASKS {
         for depth in 1..asks.len() {
-            if is_mixed(&asks[depth - 1], &asks[depth..]) {
-                last = depth;
+            for ask in &asks[depth - 1] {
+                for later in &asks[depth..] {
+                    let amount = wanted(later, ask.class);
+                    if amount > 0 && amount != u64::from(ask.amount) {
+                        last = depth;
+                    }
+                }
             }
         }
     }
@@ -102,7 +94,7 @@ impl Ahead {
         let mut from = 0;
         for _ in 0..MOST_HOSTS {
             let ix = self.trees.next(&[root], from);
-            if ix >= self.trees.len() {
+            if ix >= self.trees.places.count {
                 return pieces;
             }
             pieces = pieces.saturating_add(ledger.left(ix, class) / amount);
@@ -167,7 +159,7 @@ impl Ahead {
         let depth = front.path.len();
         if depth == 0
             || depth > self.last
-            || self.trees.len() != front.ledger.cloud.len() as usize
+            || self.trees.places.count != front.ledger.cloud.len() as usize
         {
             return false;
         }

@@ -18,7 +18,7 @@ pub(crate) struct Places {
     // A tree, or a part, and a place in it as one number; rising.
     keys: Vec<u64>,
     // How many choices there are.
-    count: usize,
+    pub(crate) count: usize,
     ghost rising: { (i j : ℕ) → i ≤ j → j < length keys.items → slice_index keys.items i ≤ slice_index keys.items j },
     ghost few: { count ≤ 65536 },
 }
@@ -27,21 +27,10 @@ pub(crate) struct Places {
 /// of its root. Where that would be too many pairs, those of several trees stand in one tree of their own, past all others.
 #[derive(Drop)]
 pub(crate) struct ByTree {
-    places: Places,
+    pub(crate) places: Places,
     // The number of the tree of those whose trees aren't told apart.
     wide: u32,
     ghost last: { wide ≤ 65536 },
-}
-
-// Of how many trees a choice may be, to be kept in each: of any number, or of one.
-fn most_trees(cloud: &Cloud, choices: &[u32]) -> usize
-    requires { All (λ p. p < length (providers_of cloud.now)) choices.now }
-{
-    let mut pairs = 0u64;
-    for ix in choices {
-        pairs = pairs.saturating_add(cloud.anchors(*ix).len() as u64);
-    }
-    if pairs <= MOST_PAIRS { usize::MAX } else { 1 }
 }
 
 // A tree and a place as one number, so that places are in order tree by tree.
@@ -129,13 +118,6 @@ impl Places {
         Ok(Places::of_keys(keys, choices.len()))
     }
 
-    /// How many choices there are.
-    pub(crate) fn len(&self) -> usize
-        ensures { result ≡ self.now.count }
-    {
-        self.count
-    }
-
     /// The least place from one on in a tree, or in a part; past the end where there is none.
     pub(crate) fn next_in(&self, tree: u32, from: usize) -> usize
         requires { from ≤ self.now.count }
@@ -156,7 +138,12 @@ impl ByTree {
         requires providers { All (λ p. p < length (providers_of cloud.now)) choices.now }
         ensures { IfOk result (λ trees. IsByTree (providers_of cloud.now) choices.now trees) }
     {
-        let most = most_trees(cloud, choices);
+        let mut pairs = 0u64;
+        for ix in choices {
+            pairs = pairs.saturating_add(cloud.anchors(*ix).len() as u64);
+        }
+        // Of how many trees a choice may be, to be kept in each: of any number, or of one.
+        let most = if pairs <= MOST_PAIRS { usize::MAX } else { 1 };
         let mut keys = Vec::new(alloc);
         for (place, ix) in choices.iter().enumerate() {
             push_choice(&mut keys, cloud, *ix, place, most)?;
@@ -165,13 +152,6 @@ impl ByTree {
             places: Places::of_keys(keys, choices.len()),
             wide: cloud.len(),
         })
-    }
-
-    /// How many choices there are.
-    pub(crate) fn len(&self) -> usize
-        ensures { result ≡ self.now.places.count }
-    {
-        self.places.len()
     }
 
     /// The least place from one on whose choice may be available in one of some trees; past the end where there is none.

@@ -61,19 +61,6 @@ fn first_marked(marks: &[bool]) -> usize
     marks.len()
 }
 
-// How many choices the slots that a list names have together.
-fn count_named(choices: &Choices, named: &[bool]) -> usize
-    requires { length named.now ≡ length (slots_of (asked_in choices.now.ledger.now)) }
-{
-    let mut count = 0usize;
-    for (s, is_named) in named.iter().enumerate() {
-        if *is_named {
-            count = count.saturating_add(choices.of_slot(s).len());
-        }
-    }
-    count
-}
-
 // The places of a slot's choices by part, where they are wanted; none otherwise.
 fn places_of(alloc: Global, wanted: bool, list: &[u32], parts: &[u32]) -> Result<Places, NoMemory>
     requires few { length list.now ≤ 65536 }
@@ -100,7 +87,13 @@ fn all_places(
     ensures { IfOk result (λ all. AreByPart (providers_in choices.now.ledger.now)
         (asked_in choices.now.ledger.now) parts.now all.items) }
 {
-    let few = count_named(choices, named) <= MOST_PLACES;
+    let mut count = 0usize;
+    for (slot, is_named) in named.iter().enumerate() {
+        if *is_named {
+            count = count.saturating_add(choices.of_slot(slot).len());
+        }
+    }
+    let few = count <= MOST_PLACES;
     let mut all = Vec::new(alloc);
     for (s, is_named) in named.iter().enumerate() {
         all.push(places_of(alloc, few && *is_named, choices.of_slot(s), parts)?)?;
@@ -142,7 +135,7 @@ impl LookAhead for Family {
             return from;
         }
         let places = &self.places[s];
-        if from < places.len() {
+        if from < places.count {
             places.next_in(self.parts[front.path[self.first] as usize], from)
         } else {
             from

@@ -17,7 +17,6 @@ use crate::ledger::marks::{has_full, taken_roots};
 use crate::look_ahead::LookAhead;
 use crate::tuning::MOST_STEPS;
 use ac_base::NoMemory;
-use ac_cloud::Cloud;
 use ac_rules::slots::count_slots;
 use column::Column;
 pub(crate) use column::count_asking;
@@ -40,17 +39,6 @@ pub(crate) enum ClassTest {
 }
 
 impl Budget {
-    // A test goes over all providers, and over each list of roots.
-    fn of_cloud(cloud: &Cloud) -> Budget {
-        let mut steps = u64::from(cloud.len());
-        for list in cloud.root_lists() {
-            steps = steps.saturating_add(list.len() as u64);
-        }
-        Budget {
-            tests: MOST_STEPS / steps.max(1),
-        }
-    }
-
     /// Whether one more test may be made; it is counted as made.
     pub(crate) fn take(&mut self) -> bool {
         let some = self.tests > 0;
@@ -130,7 +118,14 @@ fn limit_all(alloc: Global, choices: &Choices, may: &mut [bool]) -> Result<(), N
     ensures { IfOk result (λ _. MayHost choices.now.ledger.now may.new) }
 {
     let ledger = choices.ledger;
-    let mut budget = Budget::of_cloud(ledger.cloud);
+    // A test goes over all providers, and over each list of roots.
+    let mut steps = u64::from(ledger.cloud.len());
+    for list in ledger.cloud.root_lists() {
+        steps = steps.saturating_add(list.len() as u64);
+    }
+    let mut budget = Budget {
+        tests: MOST_STEPS / steps.max(1),
+    };
     limit_slots(alloc, choices, &mut budget, may)?;
     limit_classes(alloc, ledger, ClassTest::Sums, &mut budget, may)?;
     limit_classes(alloc, ledger, ClassTest::Pieces, &mut budget, may)

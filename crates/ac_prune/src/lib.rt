@@ -13,15 +13,13 @@ mod hosts;
 mod ledger;
 mod look_ahead;
 mod lookout;
-mod open;
 mod trees;
 mod tuning;
 
-pub use choices::all_choices;
+pub use choices::{all_choices, fits_slot};
 pub use front::{Front, bound_by};
 pub use hosts::limit;
 pub use ledger::Ledger;
 pub use ledger::marks::taken_roots;
 pub use look_ahead::LookAhead;
 pub use lookout::Lookout;
-pub use open::fits_slot;

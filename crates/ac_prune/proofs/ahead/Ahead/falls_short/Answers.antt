@@ -5,7 +5,7 @@ use Rattle.ac_prune.proofs.Paths.AheadLemmas.{bound_dead}
 use Rattle.ac_prune.proofs.ahead.Ahead.falls_short.Goals as goal
 
 pub lacks_any-requires-clause-whole : goal.lacks_any-requires-clause-whole
-lacks_any-requires-clause-whole c = omega (arith, c.if-len.false, c.len.ensures, c.len-else-depth-self.ensures)
+lacks_any-requires-clause-whole c = omega (arith, c.if-self-len.false, c.len.ensures)
 
 pub lacks_any-requires-clause-root : goal.lacks_any-requires-clause-root
 lacks_any-requires-clause-root c =

@@ -4,12 +4,12 @@ use Rattle.ac_prune.specs.Left.Accounts.{providers_in, left_in}
 use Rattle.ac_prune.proofs.Paths.AheadLemmas.{all_counted, none_passed, load_found}
 use Rattle.ac_prune.proofs.ahead.Ahead.pieces_left.Goals as goal
 
-pub returns-then-ix-len : goal.returns-then-ix-len
-returns-then-ix-len c =
+pub returns-then-ix-self : goal.returns-then-ix-self
+returns-then-ix-self c =
     let l = c.args.ledger.now in
     let all = providers_in l in
     all_counted all (λ p. left_in l p c.args.class / c.args.amount) c.args.root c.loop.from c.next-ix.result c.loop.pieces (2 ^ 64 - 1) c.next-ix.ensures.kept
-    (omega (arith, c.next-ix.ensures.within, c.requires.whole, c.if-ix-len.true, c.len.ensures))
+    (omega (arith, c.next-ix.ensures.within, c.requires.whole, c.if-ix-self.true))
     (none_passed all c.args.self.now.trees c.args.root c.loop.from c.next-ix.result c.requires.root c.next-ix.ensures.within c.requires.trees c.next-ix.ensures.passed)
     c.loop.invariant.counted
 
@@ -19,7 +19,7 @@ loop-preserved c =
     let all = providers_in l in
     let f = λ (p : ℕ). left_in l p c.args.class / c.args.amount in
     let ix = c.next-ix.result in
-    let low : ix < length all = omega (arith, c.if-ix-len.false, c.len.ensures, c.requires.whole) in
+    let low : ix < length all = omega (arith, c.if-ix-self.false, c.requires.whole) in
     let here : c.left.result / c.args.amount ≡ f ix = ap (λ (n : ℕ). n / c.args.amount) c.left.ensures in
     record {
       within = omega (arith, low, c.requires.whole);
