@@ -134,9 +134,14 @@ impl LookAhead for Family {
         if !self.named[s] || self.first >= s {
             return from;
         }
+        let part = self.parts[front.path[self.first] as usize];
         let places = &self.places[s];
         if from < places.count {
-            places.next_in(self.parts[front.path[self.first] as usize], from)
+            // A choice in that part is the next one: no need to search.
+            if self.parts[front.choices[from] as usize] == part {
+                return from;
+            }
+            places.next_in(part, from)
         } else {
             from
         }

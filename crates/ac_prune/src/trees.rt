@@ -37,7 +37,16 @@ impl LookAhead for Trees {
 
     fn next(&self, front: &Front, from: usize) -> usize {
         match front.bound {
-            Some(ix) => self.slots[front.path.len()].next(front.ledger.cloud.anchors(ix), from),
+            Some(ix) => {
+                let cloud = front.ledger.cloud;
+                // A choice in the provider's own tree is the next one: no need to search.
+                let beside = from < front.choices.len()
+                    && cloud.root(front.choices[from]) == cloud.root(ix);
+                if beside {
+                    return from;
+                }
+                self.slots[front.path.len()].next(cloud.anchors(ix), from)
+            }
             None => from,
         }
     }

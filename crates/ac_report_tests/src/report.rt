@@ -6,8 +6,8 @@ ghost use Rattle.ac_query.specs.Shown.Queries.{asked_of};
 ghost use Rattle.ac_cloud.specs.Cloud.CloudWorld.{providers_of};
 ghost use Rattle.ac_report.specs.Pages.{IsAssignment};
 
-use ac_example_clouds::{NONE, ONE, PAIR, Rows, cloud_of, expanded, query_of};
 use ac_base::{MemSink, Turn};
+use ac_example_clouds::{NONE, ONE, PAIR, Rows, cloud_of, expanded, query_of};
 use ac_query::Query;
 use ac_report::{PageFault, request_text, summary_text, write_page, write_tokens};
 use ac_rules::Source;

@@ -3,8 +3,8 @@ ghost use Rattle.std.specs.Prelude.{◌<◌, length, IfOk};
 ghost use Rattle.std.specs.List.{All};
 ghost use Rattle.ac_cloud.specs.Cloud.CloudWorld.{providers_of};
 
-use ac_example_clouds::{Rows, cloud_of, expanded, query_of};
 use ac_base::Id;
+use ac_example_clouds::{Rows, cloud_of, expanded, query_of};
 use ac_query::{Query, Token};
 use ac_rules::slots::count_slots;
 use ac_rules::{Plain, Source, Verdict, verify};

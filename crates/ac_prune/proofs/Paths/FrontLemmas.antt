@@ -1,11 +1,14 @@
 -- Choices behind a front that lead to nothing.
-use Rattle.std.proofs.Common.{◌≡◌, ◌∙◌, ℕ, ◌<◌, true, false, List, [], ◌∷◌, Some, length, slice_index, sym, subst, append_assoc}
+use Rattle.std.proofs.Common.{◌≡◌, ◌∙◌, ℕ, ◌<◌, ◌&&◌, true, false, List, [], ◌∷◌, Some, length, slice_index, sym, subst, append_assoc}
+use Rattle.std.specs.List.{AllByRecursion as Each}
 use Rattle.std.proofs.lemmas.List.Elements.{recursion_from_All}
 use Rattle.ac_rules.specs.Lists.{IsListBelow}
 use Rattle.ac_prune.specs.Search.{IsDead}
-use Rattle.ac_prune.specs.QuerySearch.{choice_of}
-use Rattle.ac_rules.specs.Placed.{slot_at}
-use Rattle.ac_prune.proofs.Search.OpenLemmas.{choices_here}
+use Rattle.ac_prune.specs.QuerySearch.{choice_of, fits}
+use Rattle.ac_rules.specs.Placed.{placed_at, slot_at}
+use Rattle.ac_rules.specs.Judge.{is_open}
+use Rattle.ac_rules.proofs.SlotLemmas.{each_at}
+use Rattle.ac_prune.proofs.Search.OpenLemmas.{choices_here, each_choice}
 use Rattle.ac_prune.specs.Left.Accounts.{providers_in, asked_in}
 use Rattle.ac_prune.specs.Trees.Keys.{is_there}
 use Rattle.ac_prune.proofs.Roots.TreeLemmas.{each_there}
@@ -29,3 +32,11 @@ bound_there f b is = rw is at f.bounded
 
 pub bound_low : (f : Front) (b : ℕ) → f.bound ≡ Some b → b < length (providers_in f.ledger.now)
 bound_low f b is = each_there (λ p. p < length (providers_in f.ledger.now)) f.path.now b (recursion_from_All (λ p. p < length (providers_in f.ledger.now)) f.path.now f.providers) (bound_there f b is)
+
+-- a choice of its slot is a provider
+pub choice_inside : (f : Front) (i : ℕ) → i < length f.choices.now → slice_index f.choices.now i < length (providers_in f.ledger.now)
+choice_inside f i h =
+    let all = providers_in f.ledger.now in
+    let asked = asked_in f.ledger.now in
+    let P = λ (p : ℕ). ((is_open all asked [] && fits all (placed_at asked (length f.path.now) p)) ≡ true) × (p < length all) in
+    (each_at P f.choices.now i 0 (subst (Each P) (sym (listed_at f)) (each_choice all asked (slot_at asked (length f.path.now)))) h).1

@@ -1,7 +1,7 @@
 //! Texts and writers, run with each of their growths refused in turn: all of the text, or want of memory and a first part of it.
 use super::{BODY, Writer, is_assignment, run_writer};
-use ac_example_clouds::{ONE, cloud_of, expanded, query_of};
 use ac_base::NoMemory;
+use ac_example_clouds::{ONE, cloud_of, expanded, query_of};
 use ac_report::{PageFault, request_text, summary_text};
 use std::alloc::Global;
 use std::process::Abort;

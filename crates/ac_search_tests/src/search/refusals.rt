@@ -1,7 +1,7 @@
 //! What takes memory, made with each of its growths refused in turn: all candidates, the counts of trees, or want of memory. What a source gives
 //! takes none, so it is given with all growths refused too.
-use ac_example_clouds::{PAIR, cloud_of, query_of};
 use ac_base::NoMemory;
+use ac_example_clouds::{PAIR, cloud_of, query_of};
 use ac_query::{Query, Token};
 use ac_rules::{Plain, Source};
 use ac_search::{TreeCounts, Walk, tree_counts};

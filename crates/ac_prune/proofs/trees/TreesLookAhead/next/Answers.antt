@@ -5,7 +5,7 @@ use Rattle.ac_rules.specs.Placed.{slot_at}
 use Rattle.ac_prune.specs.Trees.{IsByTree, AreByTree}
 use Rattle.ac_prune.specs.declared.by_tree.ByTree.{ByTree}
 use Rattle.ac_prune.specs.declared.front.Front.{Front}
-use Rattle.ac_prune.proofs.Paths.FrontLemmas.{listed_at, bound_there, bound_low}
+use Rattle.ac_prune.proofs.Paths.FrontLemmas.{listed_at, bound_there, bound_low, choice_inside}
 use Rattle.ac_prune.proofs.Roots.HostLemmas.{elsewhere_dead}
 use Rattle.ac_prune.proofs.trees.TreesLookAhead.next.Goals as goal
 
@@ -22,13 +22,19 @@ anchors-requires c = bound_low c.args.front.now c.in-Some.ix c.in-Some.is
 pub next-requires : goal.next-requires
 next-requires c = omega (arith, (here c.args.front.now c.args.self.now.slots.items c.index.result.now c.requires.of c.index.ensures).count, c.requires.from)
 
-pub returns-in-Some-clause-within : goal.returns-in-Some-clause-within
-returns-in-Some-clause-within c = omega (arith, (here c.args.front.now c.args.self.now.slots.items c.index.result.now c.requires.of c.index.ensures).count, c.next.ensures.within)
+pub returns-else-beside-clause-within : goal.returns-else-beside-clause-within
+returns-else-beside-clause-within c = omega (arith, (here c.args.front.now c.args.self.now.slots.items c.index.result.now c.requires.of c.index.ensures).count, c.next.ensures.within)
 
-pub returns-in-Some-clause-dead : goal.returns-in-Some-clause-dead
-returns-in-Some-clause-dead c = λ i above less.
+pub returns-else-beside-clause-dead : goal.returns-else-beside-clause-dead
+returns-else-beside-clause-dead c = λ i above less.
     let f = c.args.front.now in
     let all = providers_in f.ledger.now in
     let by = here f c.args.self.now.slots.items c.index.result.now c.requires.of c.index.ensures in
     elsewhere_dead all (asked_in f.ledger.now) f.path.now c.in-Some.ix (slice_index f.choices.now i) (bound_there f c.in-Some.ix c.in-Some.is)
     (λ r home low. c.next.ensures.passed all f.choices.now by r i (rw c.anchors.ensures home) low above less)
+
+pub root-requires : goal.root-requires
+root-requires c = choice_inside c.args.front.now c.args.from c.if-from-front.true
+
+pub root-requires-then-from-front : goal.root-requires-then-from-front
+root-requires-then-from-front c = bound_low c.args.front.now c.in-Some.ix c.in-Some.is
