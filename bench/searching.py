@@ -46,11 +46,13 @@ OTHERS = [
 
 
 def program():
-    """The program; it is proved and built first where that is needed."""
+    """The program, which has to be built."""
     if 'AC_CLI' in os.environ:
         return os.environ['AC_CLI']
     top = os.path.dirname(BENCH)
-    subprocess.run([os.path.join(top, 'ac_cli'), '--help'], stdout=subprocess.DEVNULL, check=True)
+    told = subprocess.run([os.path.join(top, 'ac_cli')], stdout=subprocess.DEVNULL, env={**os.environ, 'AC_CLI_NO_BUILD': 'yes'})
+    if told.returncode:
+        sys.exit(told.returncode)
     return os.path.join(top, 'out', 'ac_cli')
 
 

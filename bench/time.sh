@@ -7,7 +7,7 @@
 # hosts, of which each shares in a group of its own too. Then operators' clouds of 300, 1000 and 10000 hosts, with an ordinary flavor and with one that
 # asks for four functions of network cards. With --deep, also searches with several slots, which a search that goes through all
 # lists doesn't end. With --disks, only searches and explanations over hosts that share many disks through one aggregate, each with the processor
-# time that it is to take at the most. Where AC_CLI is set, it names the program; where BESIDE is set, it names another one that knows `tokens` by the
+# time that it is to take at the most. The program has to be built before, by ./ac_cli. Where AC_CLI is set, it names the program; where BESIDE is set, it names another one that knows `tokens` by the
 # same command line, which is timed beside it.
 # Each figure is the best of three runs, or that of one which took more than ten seconds: wall time, and the most memory held at once.
 
@@ -17,7 +17,10 @@ bench=$(dirname "$(readlink -f "$0")")
 room=$(mktemp -d)
 trap 'rm -rf "$room"' EXIT
 deep='' disks=''
-if [[ ${1-} == --deep ]]; then
+if [[ ${1-} == --help ]]; then
+    sed -n '2,/^$/s/^# \{0,1\}//p' "$0"
+    exit 0
+elif [[ ${1-} == --deep ]]; then
     deep=yes
     shift
 elif [[ ${1-} == --disks ]]; then
@@ -27,7 +30,7 @@ fi
 
 program=${AC_CLI-}
 if [[ -z $program ]]; then
-    "$bench/../ac_cli" --help >"$room/help"
+    AC_CLI_NO_BUILD=yes "$bench/../ac_cli" >"$room/sample" || exit
     program=$(dirname "$bench")/out/ac_cli
 fi
 

@@ -362,12 +362,16 @@ TABLES = [
             inventories=one_inventory(total='0000000008', min_unit=9, max_unit=0, allocation_ratio='1000000.0000')),
     counted('a column needed elsewhere is there twice', (1, 1, 0, 0, 0),
             providers=rows('providers', 'P1,P1,,a,b', header=HEADERS['providers'].strip() + ',name,name\n')),
+    counted('names of all sorts', (6, 1, 0, 0, 0),
+            providers=rows('providers', 'P1,P1,,"a, b"', 'P2,P2,,"say ""hi"""', 'P3,P3,,"two\nlines"', 'P4,P4,,"two\nlines"', 'P5,P5,,',
+                           'P6,P6,,' + 'x' * 65536, header=HEADERS['providers'].strip() + ',name\n')),
     counted('quotes within a field, and each end of a record', (2, 1, 0, 0, 0),
             providers=HEADERS['providers'].replace('\n', '\r') + full('"00000000-"0000-0000-0000-000000000001,P1,""\r\n\r\nP2,P2,None')),
     bad_table('providers: record 2: BadUuid', why='a quote that begins no field', providers=HEADERS['providers'] + full(' "P1",P1,')),
-    Case('tokens: the byte 255 in a column that is passed over', ['tokens', 'resources=VCPU:2'], lines('P1'),
-         tables={**tables(ONE), 'providers': rows('providers', 'P1,P1,,\xff', header=HEADERS['providers'].strip() + ',note\n')
-                 .encode('latin-1')}),
+    *(Case(f'tokens: the byte 255 in a column {column}', ['tokens', 'resources=VCPU:2'], lines('P1'),
+           tables={**tables(ONE), 'providers': rows('providers', 'P1,P1,,\xff', header=f'{HEADERS["providers"].strip()},{column}\n')
+                   .encode('latin-1')})
+      for column in ('note', 'name')),
     Case('tokens: a byte order mark, CR LF', ['tokens', 'resources=VCPU:2'], lines('P1'),
          tables={**tables(ONE), 'providers': '\ufeff' + tables(ONE)['providers'].replace('\n', '\r\n')}),
     *(bad_table(f'{table}: record 1: MissingColumn', why=column,

@@ -152,7 +152,7 @@ def spoil(chance, rows):
     elif change < 0.88 and header:
         header[chance.randrange(len(header))] = chance.choice((*KINDS, 'note'))
     elif change < 0.92 and header:
-        name = chance.choice((*header, 'note', 'note'))
+        name = chance.choice((*header, 'note', 'name'))
         for record in rows:
             record.append(name if record is header else 'x')
     elif change < 0.95:

@@ -145,9 +145,9 @@ LARGE = [
          lambda: ''.join(f'{a},{b},{c}\n' for a in ids(40) for b in ids(40) for c in ids(40)), tables=STAR),
     Case('tokens: eight functions apart on 1000 hosts of seven', ['tokens', EIGHT_APART], tables=FUNCTIONS),
     explained('eight functions apart on 1000 hosts of seven', EIGHT_APART, [f'"{n}" SRIOV_NET_VF:1' for n in range(8)],
-              'units 7000 of 8000, traits 7000, aggregates 7000, tree 7000, room 7000', 'trees 1000: root traits 1000, each slot 1000', FUNCTIONS),
+              'units 7000 of 8000, traits 7000, aggregates 7000, tree 7000, room 7000', 'trees 1000: root traits 1000, each slot 1000, required traits 1000', FUNCTIONS),
     explained('64 groups of four classes, which nobody has', '&'.join([*EACH, 'group_policy=none']),
               [f'"{n}" C0:1,C1:1,C2:1,C3:1' for n in sorted(map(str, range(64)))],
-              'units 0 of 1, traits 0, aggregates 0, tree 0, room 0', 'trees 1: root traits 1, each slot 0', ONE),
+              'units 0 of 1, traits 0, aggregates 0, tree 0, room 0', 'trees 1: root traits 1, each slot 0, required traits 0', ONE),
     Case('tokens: after the last of 64000', ['tokens', THREE, '--after', ','.join([provider(40)] * 3)], tables=STAR),
 ]

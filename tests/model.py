@@ -183,17 +183,52 @@ def explanation(found, query, cloud):
     told, served = [], []
     for number, (suffix, needs) in enumerate(query.slots(), 1):
         *_, last = left = list(serving(suffix, needs, query, cloud))
-        served.append(last)
+        served.append((suffix, last))
         units, traits, aggregates, tree, room = map(len, left)
         classes = ','.join(f'{name}:{needs[name]}' for name in sorted(needs))
+        fitting = left[3]
+        each = ', '.join(f'{name} {sum(has_room(provider, {name: needs[name]}) for provider in fitting)}' for name in sorted(needs))
         told.append(f'slot {number} "{suffix}"{" " * bool(needs)}{classes}: units {units} of {len(cloud)}, traits {traits}, aggregates {aggregates}, '
-                    f'tree {tree}, room {room}')
+                    f'tree {tree}, room {room}' + (f' ({each})' if len(needs) > 1 and room < tree else ''))
     roots = [root for root in cloud if root.root() is root]
     taken = [root for root in roots if takes(root, query)]
-    whole = [root for root in taken if all(any(available(provider, root, cloud) for provider in last) for last in served)]
-    told.append(f'trees {len(roots)}: root traits {len(taken)}, each slot {len(whole)}')
+    whole = [root for root in taken if all(any(available(provider, root, cloud) for provider in last) for _, last in served)]
+    held = [root for root in whole if '' not in query.groups or meets(query.groups[''], set().union(
+        *(provider.traits for suffix, last in served if not suffix for provider in last if available(provider, root, cloud))))]
+    told.append(f'trees {len(roots)}: root traits {len(taken)}, each slot {len(whole)}, required traits {len(held)}')
     told.append(f'candidates: {"some" if found else "none"}')
     return ''.join(line + '\n' for line in told)
+
+
+STAGES = 'units', 'traits', 'aggregates', 'tree', 'room'
+
+
+def lacks(root, found, query, cloud):
+    """What a root lacks of a query: the number of a slot, where it is one slot that nobody serves there, and a name; none where it fits."""
+    if not takes(root, query):
+        return '', 'root traits'
+    hosts = [provider for provider in cloud if available(provider, root, cloud)]
+    together = set()
+    for number, (suffix, needs) in enumerate(query.slots(), 1):
+        left = [[provider for provider in some if provider in hosts] for some in serving(suffix, needs, query, cloud)]
+        for stage, some in zip(STAGES, left):
+            if not some:
+                return number, stage
+        together |= set().union(*(provider.traits for provider in left[-1] if not suffix))
+    if '' in query.groups and not meets(query.groups[''], together):
+        return '', 'required traits'
+    if not any(all(provider in hosts for provider in assignment) for assignment in found):
+        return '', 'together'
+    return '', ''
+
+
+def host_rows(found, query, cloud):
+    rows = ['root,name,fits,slot,lacks']
+    for root in cloud:
+        if root.root() is root:
+            slot, lack = lacks(root, found, query, cloud)
+            rows.append(f'{root.name},,{"no" if lack else "yes"},{slot},{lack}')
+    return ''.join(row + '\n' for row in rows)
 
 
 def request(assignment, query):
@@ -308,4 +343,5 @@ def asked(name, chance, cloud, query, every, judged):
     yield Case(f'{name}: candidates', ['candidates', text, *version], full(body(found, query, cloud)), tables=made)
     yield Case(f'{name}: candidates after a token', ['candidates', text + '&limit=2', *after, *version], full(body(later, query, cloud)), tables=made)
     yield Case(f'{name}: explain', ['explain', text, *version], explanation(found, query, cloud), status=0 if found else 1, tables=made)
+    yield Case(f'{name}: hosts', ['hosts', text, *version], full(host_rows(found, query, cloud)), status=0 if found else 1, tables=made)
     yield Case(f'{name}: verify', ['verify', text, full(names(every[one])), *version], line, status=1 if rule else 0, tables=made)

@@ -20,7 +20,7 @@ from database import database_exports
 from export import exports
 from faults import drawn_queries, drawn_tables
 from hostile import hostile
-from large import LARGE, MOST_PROVIDERS, roots, vcpu
+from large import LARGE, MOST_PROVIDERS, QUERY_BYTES, roots, vcpu
 from model import drawn
 from notation import HEADERS, provider
 
@@ -34,10 +34,11 @@ INVENTORIES = os.path.join(EXAMPLES, 'inventories.csv')
 CLOUD = os.path.join(EXAMPLES, 'cloud')
 NO_FILE = os.path.join(EXAMPLES, 'no_such_file.csv')
 ONE_HOST = '2b7d9e54-61c8-4f03-8a9d-c4e1b05f3a27\n'
-COMMANDS = 'check', 'candidates', 'tokens', 'verify', 'explain'
+COMMANDS = 'check', 'candidates', 'tokens', 'verify', 'explain', 'hosts'
 STATUSES = {'no: rule': 1, 'unknown provider': 1, 'query': 4, 'token': 5, 'output': 6, 'out of memory': 7,
             **dict.fromkeys(('providers:', 'inventories:', 'usages:', 'traits:', 'aggregates:'), 3)}
 NOT_BUILT = 70
+UNBUILT = "ac_cli: the program isn't built, or is older than its sources; ./ac_cli without words proves and builds it\n"
 SECONDS = 60
 
 
@@ -74,16 +75,45 @@ def contents(path):
         return file.read()
 
 
+def help_text(name):
+    """A text that ./ac_cli answers where there is no program yet."""
+    return contents(os.path.join(ROOT, 'docs', 'help', name + '.txt')).decode()
+
+
+# What the program says by itself, and the launcher without it, to the same words.
+HELP_WORDS = {
+    'ac_cli': [['--help'], ['-h'], ['help']],
+    'version': [['--version'], ['-V']],
+    **{name: [[name, '--help'], [name, '-h'], ['help', name]] for name in COMMANDS},
+}
+
+
+def without_program(name, script, out='', err='', status=0):
+    """./ac_cli as it is in a fresh clone, where `rt` can't be called either."""
+    made = 'room=$(mktemp -d) && cp -r ac_cli crates.txt "$room" && mkdir "$room/docs" && cp -r docs/help "$room/docs" && cd "$room" || exit'
+    called = f'{made}; PATH=/usr/bin:/bin; {script}; status=$?; rm -r "$room"; exit $status'
+    return Case(f'without a program: {name}', ['sh', '-c', called], out, err, status)
+
+
+def example_of(name):
+    """The command that a text of help ends with, over the example cloud."""
+    command = help_text(name).rstrip('\n').rpartition('\n')[2].strip()
+    called = re.sub('^ac_cli', lambda _: shlex.quote(PROGRAM), command)
+    return Case(f'the example in the help: {command}', ['sh', '-c', f'cd examples && {called}'], SOME, status={'verify': 1, 'explain': 1, 'hosts': 1}.get(name, 0))
+
+
 HELP = [
-    *(Case(f'help: {" ".join(words)}', words, SOME, has=(*COMMANDS, '--help', 'Exit status'))
-      for words in (['--help'], ['-h'], ['help'])),
-    *(Case(f'help: {" ".join(words)}', words, SOME, has=('--tables', '--providers', '--inventories', '--usages', '--traits', '--aggregates'))
-      for name in COMMANDS for words in ([name, '--help'], ['help', name])),
-    *(Case(f'help of {name} tells --microversion', [name, '--help'], SOME, has=('--microversion', '1.36', '1.39', 'in:A,B'))
-      for name in COMMANDS if name != 'check'),
-    *(Case(f'help of {name} tells --after', [name, '--help'], SOME, has=('--after', 'QUERY')) for name in ('candidates', 'tokens')),
-    Case('help of verify tells both words', ['verify', '--help'], SOME, has=('QUERY', 'TOKEN')),
-    *(Case(f'version: {word}', [word], f"ac_cli 1.0.0, proved with Rattle's {logic()}\n") for word in ('--version', '-V')),
+    *(Case(f'help: {" ".join(words)}', words, help_text(name)) for name, each in HELP_WORDS.items() for words in each),
+    *(without_program(' '.join(words), './ac_cli ' + ' '.join(words), help_text(name)) for name, each in HELP_WORDS.items() for words in each),
+    *(example_of(name) for name in ('ac_cli', *COMMANDS)),
+    Case('version: the logic is that of the toolchain', ['--version'], f"ac_cli 1.0.0, proved with Rattle's {logic()}\n"),
+    Case('the manual page and what shells complete are as the help says', ['sh', '-c', 'python3 -B tests/help.py']),
+    without_program('a word that is no command', './ac_cli token x', err='ac_cli: no command token; ./ac_cli --help tells the commands\n', status=2),
+    without_program('an option in place of a command', './ac_cli --tables x check',
+                    err='ac_cli: no command --tables; ./ac_cli --help tells the commands\n', status=2),
+    without_program('help of a word that is no command', './ac_cli help token', err='ac_cli: no command token; ./ac_cli --help tells the commands\n', status=2),
+    *(without_program(f'no build is begun: {words}', f'AC_CLI_NO_BUILD=yes ./ac_cli {words}', err=UNBUILT, status=NOT_BUILT)
+      for words in ('', 'check --tables x', 'check --help --tables')),
 ]
 
 WORDS = [
@@ -100,6 +130,9 @@ WORDS = [
     refused('no query to explain', over(['explain'])),
     refused('a token to explain', over(['explain', 'resources=VCPU:2', ONE_HOST.strip()])),
     refused('--after for explain', over(['explain', 'resources=VCPU:2', '--after', ONE_HOST.strip()]), '--after'),
+    refused('no query for hosts', over(['hosts'])),
+    refused('a token for hosts', over(['hosts', 'resources=VCPU:2', ONE_HOST.strip()])),
+    refused('--after for hosts', over(['hosts', 'resources=VCPU:2', '--after', ONE_HOST.strip()]), '--after'),
     refused('--after without a token', tokens('resources=VCPU:2') + ['--after']),
     refused('no inventories', ['tokens', 'resources=VCPU:2', '--providers', PROVIDERS], '--inventories <FILE>', 'Usage: ac_cli tokens'),
     refused('no providers', ['check', '--inventories', INVENTORIES], '--providers <FILE>', 'Usage: ac_cli check'),
@@ -187,6 +220,32 @@ FOLDERS = [
 ]
 
 
+def filled(query, size):
+    """A query of so many bytes: an empty piece between two `&` is no pair."""
+    return query + '&' * (size - len(query))
+
+
+# A query as a log has it, with the path of its URL.
+TWELVE = 'resources=VCPU:12'
+PATH = '/placement/allocation_candidates?'
+PASTED = [
+    Case('pasted: a path before the query', tokens(PATH + TWELVE), ONE_HOST),
+    Case('pasted: a whole URL, percent-encoded', tokens('http://controller:8778/allocation_candidates?limit=5&resources=VCPU%3A12'), ONE_HOST),
+    Case('pasted: with the method of the request', tokens('GET ' + PATH + TWELVE), ONE_HOST),
+    Case('pasted: a mark alone', tokens('?' + TWELVE), ONE_HOST),
+    Case('pasted: a path and no query', tokens(PATH), err='query: NoResources\n', status=4),
+    Case('pasted: a path without a mark', tokens(PATH[:-1] + '&' + TWELVE), err='query: pair 1: UnknownParameter\n', status=4),
+    Case('pasted: two marks', tokens('a?' + PATH + TWELVE), err='query: pair 1: UnknownParameter\n', status=4),
+    Case('pasted: pairs are counted behind the path', tokens(PATH + TWELVE + '&limit=0'), err='query: pair 2: BadValue\n', status=4),
+    Case('pasted: bytes are counted behind the path', tokens(PATH + filled(TWELVE, QUERY_BYTES)), ONE_HOST),
+    Case('pasted: one byte too many behind the path', tokens(PATH + filled(TWELVE, QUERY_BYTES + 1)), err='query: QueryTooLong\n', status=4),
+    Case('pasted: a mark behind an equals sign drops nothing', tokens(TWELVE + '?limit=1'), err='query: pair 1: BadValue\n', status=4),
+    Case('pasted: a mark behind an ampersand drops nothing', tokens('a&b?' + TWELVE), err='query: pair 1: UnknownParameter\n', status=4),
+    Case('pasted: an encoded mark is none', tokens('a%3F' + TWELVE), err='query: pair 1: UnknownParameter\n', status=4),
+    Case('pasted: a token keeps its mark', [*tokens(TWELVE), '--after', '?' + ONE_HOST.strip()], err='token: BadToken\n', status=5),
+]
+
+
 def to_full(name, words, **made):
     return Case(f'a full device: {name}', words, None, 'output: WriteFailed\n', 6, made, to='/dev/full')
 
@@ -198,7 +257,7 @@ def to_nobody(name, words, **made):
 # Answers of more than the 65536 bytes that are gathered before they are handed on: so they fail amid what writes them.
 HOSTS = {'providers': roots(2000), 'inventories': vcpu(2000)}
 LONG_NAMES = '&'.join(f'resources{n}=' + ','.join(f'C{n}_{k}_'.ljust(240, 'C') + ':1' for k in range(4)) for n in range(10, 74)) + '&group_policy=none'
-LONG = (('tokens', 'resources=VCPU:2', HOSTS), ('candidates', 'resources=VCPU:2', HOSTS), ('explain', LONG_NAMES, tables(ONE)))
+LONG = (('tokens', 'resources=VCPU:2', HOSTS), ('candidates', 'resources=VCPU:2', HOSTS), ('explain', LONG_NAMES, tables(ONE)), ('hosts', 'resources=VCPU:2', HOSTS))
 
 DEVICES = [
     to_full('without words', []),
@@ -209,6 +268,7 @@ DEVICES = [
     to_full('candidates', over(['candidates', 'resources=VCPU:2'])),
     to_full('verify', over(['verify', 'resources=VCPU:2', ONE_HOST.strip()])),
     to_full('explain', over(['explain', 'resources=VCPU:2'])),
+    to_full('hosts', over(['hosts', 'resources=VCPU:2'])),
     Case('a full device: nothing to write', tokens('resources=DISK_GB:3000'), to='/dev/full'),
     to_nobody('tokens', tokens('resources=VCPU:2')),
     to_nobody('candidates', over(['candidates', 'resources=VCPU:2'])),
@@ -242,6 +302,8 @@ GROWTHS = [
     growing('verify, an unknown provider', ['verify', FIVES, 'P1,P7'], CHILD),
     growing('explain', ['explain', DISK], SHARED),
     growing('explain, no candidate', ['explain', FIVES], ONE),
+    growing('hosts', ['hosts', DISK], SHARED),
+    growing('hosts, no candidate', ['hosts', FIVES], ONE),
     growing('check of a usage without an inventory', ['check'], ONE, usages=HEADERS['usages'] + f'{provider(1)},MEMORY_MB,1\n'),
     growing('a refused query', ['tokens', 'resources1=VCPU:1&same_subtree=1,2'], ONE),
     growing('a refused token', ['tokens', FIVES, '--after', 'P1'], CHILD),
@@ -296,6 +358,9 @@ def ruled(page):
             elif ' is explained by `' in line:
                 says = ''.join(name + '\n' for name in names)
                 yield Case(f'{page}: {line}', ['explain', full(query), *version], says, status=status_of(says), tables=tables(cloud))
+            elif ', hosts `' in line:
+                rows = ''.join(full(name) + '\n' for name in ['root,name,fits,slot,lacks', *names])
+                yield Case(f'{page}: {line}', ['hosts', full(query), *version], rows, status=0 if ',yes,' in rows else 1, tables=tables(cloud))
             elif ' is refused: `' in line:
                 yield Case(f'{page}: {line}', ['tokens', full(query), *version], err=names[0] + '\n', status=status_of(names[0]), tables=tables(cloud))
             else:
@@ -318,6 +383,12 @@ def files(case, folder):
 # A search over the most providers that there may be takes memory for each, not for each two.
 FEW_BYTES = Case('tokens: the first of 65536 roots, within 512 MiB', ['sh', '-c', 'ulimit -v 524288; exec "$@"', 'limited', PROGRAM, 'tokens', 'resources=VCPU:1&limit=1'],
                  lines('P1'), tables={'providers': lambda: roots(MOST_PROVIDERS), 'inventories': lambda: vcpu(MOST_PROVIDERS)})
+
+# Where the last build left the object file: linked with a static C library, the program answers as ever.
+STATIC = [Case('linked statically, it answers as by itself',
+               ['sh', '-c', 'made=$(mktemp) && tools/link-statically.sh "$made" && "$made" candidates "$1" --tables examples/private; status=$?; rm "$made"; exit $status',
+                'linked', 'resources=VCPU:8,DISK_GB:80'],
+               lambda: run(Case('', ['candidates', 'resources=VCPU:8,DISK_GB:80', '--tables', 'examples/private']))[0])]
 
 PAGES = Case('the documents name what is there', ['sh', '-c', 'python3 -B tests/pages.py'])
 DRAWING = Case('a picture of a cloud is that of its tables', ['sh', '-c', 'python3 -B tests/drawing.py'])
@@ -367,7 +438,7 @@ def wrong(case):
 
 def main(*given):
     words = [text for text in given if text != '--all']
-    _, said, status = run(Case('build', ['--help']), seconds=None, program=LAUNCHER)
+    _, said, status = run(Case('build', []), seconds=None, program=LAUNCHER)
     if status == NOT_BUILT:
         print(f'FAILED to build the program:\n{said}\n0 passed, 1 failed')
         return 1
@@ -375,10 +446,11 @@ def main(*given):
     if len({case.out for case in rules if case.out.startswith('no: rule')}) < 9:
         print('FAILED to find an example of each rule in docs/RULES.md\n0 passed, 1 failed')
         return 1
-    pages = [case for page in ('README.md', 'examples/README.md', 'examples/private/README.md', 'docs/RULES.md', 'docs/FORMATS.md', 'docs/EXPORT.md')
+    pages = [case for page in ('README.md', 'examples/README.md', 'examples/private/README.md', 'docs/NO-VALID-HOST.md', 'docs/RULES.md', 'docs/FORMATS.md', 'docs/EXPORT.md')
              for case in shown(page)]
     chance = [*drawn(150), *drawn_tables(200), *drawn_queries(200)]
-    cases = [PAGES, DRAWING, *HELP, *WORDS, *FILES, *FOLDERS, *DEVICES, *GROWTHS, KNOWN, *REFUSALS, *SMALL, *pages, remade('examples/private/README.md'),
+    linked = STATIC if os.path.isfile(os.path.join(ROOT, 'out', 'ac_cli.o')) and 'AC_CLI' not in os.environ else []
+    cases = [PAGES, DRAWING, *linked, *HELP, *WORDS, *FILES, *FOLDERS, *PASTED, *DEVICES, *GROWTHS, KNOWN, *REFUSALS, *SMALL, *pages, remade('examples/private/README.md'),
              *rules, *exports(), *database_exports(), *chance, *LARGE, *hostile(PROGRAM), FEW_BYTES, *cuts()]
     cases = [case for case in cases if all(word in case.name for word in words)]
     failed = 0

@@ -1,13 +1,19 @@
 -- Lists that stand one after the other in one list.
-use Rattle.ac_cloud.proofs.Common.{◌≡◌, ◌∙◌, ◌+◌, ◌-◌, ◌<◌, ℕ, zero, suc, List, [], ◌∷◌, map, length, get_or, take, drop, refl, sym, ap, ap₂, arith, range_with_len, sum_by, length-map, length-take-le, get_or-map-range_with_len, length-range_with_len, map-map}
-use Rattle.std.proofs.lemmas.List.FromFn.{sum_by-map-range_with_len_more}
-use Rattle.std.proofs.lemmas.List.{drop-map, take-map}
-use Rattle.std.proofs.Common.{add-one, length-drop}
+use Rattle.ac_cloud.proofs.Common.{◌≡◌, ◌∙◌, ◌+◌, ◌-◌, ◌<◌, ◌≤◌, ◌++◌, ◌⊎◌, ℕ, zero, suc, List, [], ◌∷◌, map, length, get_or, take, drop, refl, sym, ap, ap₂, inl, inr, rules, arith, range_with_len, sum_by, length-map, length-take-le, get_or_append_left, get_or-map-range_with_len, length-range_with_len, map-map}
+use Rattle.std.proofs.lemmas.List.FromFn.{map-range_with_len_more, sum_by-map-range_with_len_more}
+use Rattle.std.proofs.lemmas.List.{drop-append-le, drop-map, take-append-le, take-map}
+use Rattle.std.proofs.Math.Seq.{drop-append_seam, get_or-append_seam, take-length}
+use Rattle.std.proofs.Common.{add-one, length-append, length-drop}
 use Rattle.ac_cloud.specs.ListBounds.{AreBounds, list_at, lists_in}
 
 pub map_same : {X Y : Type 0} (f g : X → Y) → ((x : X) → f x ≡ g x) → (xs : List X) → map f xs ≡ map g xs
 map_same f g same [] = refl
 map_same f g same (x ∷ xs) = ap₂ (λ y l. y ∷ l) (same x) (map_same f g same xs)
+
+-- equal at each number of a range
+pub range_same : {X : Type 0} (f g : ℕ → X) (k n : ℕ) → ((p : ℕ) → k ≤ p → p < k + n → f p ≡ g p) → map f (range_with_len k n) ≡ map g (range_with_len k n)
+range_same f g k zero same = refl
+range_same f g k (suc n) same = ap₂ (λ y l. y ∷ l) (same k (omega arith) (omega arith)) (range_same f g (k + 1) n (λ p low high. same p (omega arith) (omega arith)))
 
 module _ {X : Type 0} (items : List X) (starts : List ℕ) where
   pub lists_size : length (lists_in items starts) ≡ length starts - 1
@@ -39,6 +45,72 @@ module _ {X : Type 0} (items : List X) (starts : List ℕ) where
       ap (take (get_or starts (p + 1) 0 - get_or starts p 0)) (drop-map f (get_or starts p 0) items)
       ∙ take-map f (get_or starts (p + 1) 0 - get_or starts p 0) (drop (get_or starts p 0) items)) (range_with_len 0 (length starts - 1))
       ∙ sym (map-map (map f) (list_at items starts) (range_with_len 0 (length starts - 1)))
+
+-- one list more
+module _ {X : Type 0} (items : List X) (starts : List ℕ) (b : AreBounds (length items) starts) (list : List X) where
+  abbrev more : List ℕ
+  more = starts ++ length (items ++ list) ∷ []
+
+  size : length more ≡ length starts + 1
+  size = length-append starts (length (items ++ list) ∷ [])
+
+  before : (p : ℕ) → p < length starts → get_or (starts ++ length (items ++ list) ∷ []) p 0 ≡ get_or starts p 0
+  before p h = get_or_append_left starts (length (items ++ list) ∷ []) 0 p h
+
+  behind : get_or (starts ++ length (items ++ list) ∷ []) (length starts) 0 ≡ length (items ++ list)
+  behind = get_or-append_seam starts (length (items ++ list)) [] 0
+
+  fits : length items ≤ length (items ++ list)
+  fits = omega (arith, length-append items list)
+
+  at_or_before : (p : ℕ) → p < length more → (p < length starts) ⊎ (p ≡ length starts)
+  at_or_before p h = let s = size in search (arith, rules)
+
+  pub bounds_more : AreBounds (length (items ++ list)) (starts ++ length (items ++ list) ∷ [])
+  bounds_more = record {
+    some = omega (arith, size);
+    first = before 0 b.some ∙ b.first;
+    last = ap (λ (p : ℕ). get_or more p 0) (omega (arith, size)) ∙ behind;
+    order = λ p h. elim (at_or_before (p + 1) h) [
+      | inl k ↦ omega (arith, before p (omega arith), before (p + 1) k, b.order p k)
+      | inr e ↦ omega (arith, before p (omega arith), b.inside p (omega arith), fits, ap (λ (q : ℕ). get_or more q 0) e ∙ behind)
+    ];
+    inside = λ p h. elim (at_or_before p h) [
+      | inl k ↦ omega (arith, before p k, b.inside p k, fits)
+      | inr e ↦ omega (arith, ap (λ (q : ℕ). get_or more q 0) e ∙ behind)
+    ];
+  }
+
+  same_list : (p : ℕ) → p + 1 < length starts → list_at (items ++ list) (starts ++ length (items ++ list) ∷ []) p ≡ list_at items starts p
+  same_list p h =
+      let from = get_or starts p 0 in
+      let to = get_or starts (p + 1) 0 in
+      let fit = b.inside (p + 1) h in
+      ap₂ (λ (s e : ℕ). take (e - s) (drop s (items ++ list))) (before p (omega arith)) (before (p + 1) h)
+      ∙ ap (take (to - from)) (drop-append-le from items list (b.inside p (omega arith)))
+      ∙ take-append-le (to - from) (drop from items) list (omega (arith, length-drop from items, fit))
+
+  last_list : list_at (items ++ list) (starts ++ length (items ++ list) ∷ []) (length starts - 1) ≡ list
+  last_list =
+      let some = b.some in
+      let from : get_or more (length starts - 1) 0 ≡ length items = before (length starts - 1) (omega arith) ∙ b.last in
+      let to : get_or more (length starts - 1 + 1) 0 ≡ length (items ++ list) = ap (λ (p : ℕ). get_or more p 0) (omega arith) ∙ behind in
+      ap₂ (λ (s e : ℕ). take (e - s) (drop s (items ++ list))) from to
+      ∙ ap₂ (λ (n : ℕ) (l : List X). take n l) (omega (arith, length-append items list)) (drop-append_seam items list)
+      ∙ take-length list
+
+  pub lists_more : lists_in (items ++ list) (starts ++ length (items ++ list) ∷ []) ≡ lists_in items starts ++ list ∷ []
+  unfolding lists_in
+  lists_more =
+      let some = b.some in
+      let n = length starts - 1 in
+      ap (λ (k : ℕ). map (list_at (items ++ list) more) (range_with_len 0 k)) (omega (arith, size))
+      ∙ map-range_with_len_more (list_at (items ++ list) more) 0 n n (omega arith)
+      ∙ ap₂ (λ (l : List (List X)) (x : List X). l ++ x ∷ [])
+      (range_same (list_at (items ++ list) more) (list_at items starts) 0 n (λ p low high. same_list p (omega arith))) last_list
+
+-- what shows that a list was put behind others
+pub ruleset one_more = (bounds_more, lists_more)
 
 -- what shows how many lists there are, which ones, and how many items
 pub ruleset of_lists = (lists_size, list_here, lists_sum)

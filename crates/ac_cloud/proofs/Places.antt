@@ -5,6 +5,7 @@ pub mod AvailableFacts
 pub mod CloudFacts
 pub mod CloudSets
 pub mod GroupFacts
+pub mod HostFacts
 pub mod KeptFacts
 pub mod WideAggregates
 pub mod WorldFacts

@@ -3,6 +3,7 @@ pub mod CloudParts
 pub mod CloudWorld
 pub mod Entries
 pub mod Forests
+pub mod Hosts
 pub mod Numbered
 pub mod Places
 pub mod RisingIds

@@ -1,5 +1,5 @@
 -- The world: what accepted tables state, with its trees and what is available in them.
-use Rattle.std.specs.Prelude.{ℕ, Bool, ◌&&◌, ◌||◌, ◌==◌, List, [], codes, length, get_or, Option, None}
+use Rattle.std.specs.Prelude.{ℕ, Bool, ◌&&◌, ◌||◌, ◌==◌, not, List, [], codes, length, get_or, Option, None}
 use Rattle.std.specs.Option.{unwrap_or, is_none, is_some, option_map, option_and_then}
 use Rattle.std.specs.List.{list_any, position_from, filter, range_with_len}
 use Rattle.std.specs.Str.{bytes_eq}
@@ -13,9 +13,10 @@ pub record UsedInventory : Type 0 where
   pub inventory : InventoryNumbers
   pub used : ℕ
 
--- a provider: its parent, what it has by class, its traits in byte order and its aggregates rising, each once
+-- a provider: its name, which is empty where it has none, its parent, what it has by class, its traits in byte order and its aggregates rising, each once
 pub record Provider : Type 0 where
   pub id : ℕ
+  pub name : List ℕ
   pub parent : Option ℕ
   pub entries : TextMap UsedInventory
   pub traits : List (List ℕ)
@@ -36,7 +37,7 @@ pub record World : Type 0 where
 
 -- a provider for the places past the end
 abbrev pub no_provider : Provider
-no_provider = record { id = 0; parent = None; entries = []; traits = []; aggregates = [] }
+no_provider = record { id = 0; name = []; parent = None; entries = []; traits = []; aggregates = [] }
 
 -- the provider at a place of the rising order
 abbrev pub provider_at : List Provider → ℕ → Provider
@@ -45,6 +46,10 @@ provider_at all ix = get_or all ix no_provider
 -- its id
 abbrev pub id_at : List Provider → ℕ → ℕ
 id_at all ix = (provider_at all ix).id
+
+-- it has this name; an empty text is no name
+abbrev pub has_name : Provider → List ℕ → Bool
+has_name p name = not (bytes_eq name []) && bytes_eq p.name name
 
 abbrev pub is_provider : ℕ → Provider → Bool
 is_provider id p = p.id == id

@@ -6,6 +6,7 @@ pub mod build;
 pub mod entry;
 mod kept_lists;
 mod lookups;
+pub mod naming;
 pub mod provider_index;
 pub mod roots;
 mod roots_by_aggregate;
@@ -51,11 +52,12 @@ pub struct Cloud {
     pub(crate) entries: Lists<Entry>,
     pub(crate) traits: Lists<TraitName>,
     pub(crate) aggregates: Lists<Id>,
+    pub(crate) names: Lists<u8>,
     pub(crate) sharing: Vec<bool>,
     pub(crate) anchors: Anchors,
     pub(crate) visits: Option<Visits>,
     pub(crate) counts: Counts,
-    ghost whole: { BelongTogether ids.ids.items parents.items roots.items (lists_of entries) (lists_of traits) (lists_of aggregates) sharing.items anchors visits } by { BelongTogether-prop ids.ids.items parents.items roots.items (lists_of entries) (lists_of traits) (lists_of aggregates) sharing.items anchors visits },
+    ghost whole: { BelongTogether ids.ids.items parents.items roots.items (lists_of entries) (lists_of traits) (lists_of aggregates) (lists_of names) sharing.items anchors visits } by { BelongTogether-prop ids.ids.items parents.items roots.items (lists_of entries) (lists_of traits) (lists_of aggregates) (lists_of names) sharing.items anchors visits },
 }
 
 #[tactic(auto, using(crate::proofs::Places::CloudSets::here))]
@@ -82,6 +84,14 @@ impl Cloud {
         ensures { result ≡ id_at (providers_of self.now) ix }
     {
         self.ids.ids[ix as usize]
+    }
+
+    /// A provider's name; empty where it has none.
+    pub fn name(&self, ix: u32) -> &[u8]
+        requires { ix < length (providers_of self.now) }
+        ensures { result.now ≡ (provider_at (providers_of self.now) ix).name }
+    {
+        self.names.of(ix as usize)
     }
 
     /// The place of the provider of a UUID, where it is one.

@@ -8,6 +8,7 @@ pub mod laws;
 pub mod lists;
 
 pub use cloud::entry::Entry;
+pub use cloud::naming::HostFault;
 pub use cloud::provider_index::{Expected, Ids};
 pub use cloud::{Cloud, Counts};
 pub use lists::Lists;

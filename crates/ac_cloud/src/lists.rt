@@ -1,8 +1,10 @@
 //! The lists of all providers, one after the other in one vector.
-ghost use Rattle.std.specs.Prelude.{◌≡◌, ◌≤◌, ◌<◌, ◌-◌, [], length, get_or, take, drop};
+ghost use Rattle.std.specs.Prelude.{◌≡◌, ◌≤◌, ◌<◌, ◌-◌, ◌++◌, [], ◌∷◌, length, get_or, take, drop, IfOk};
 ghost use Rattle.std.specs.List.{sum_by};
 ghost use Rattle.std.proofs.Props.{props};
 ghost use Rattle.ac_cloud.specs.ListBounds.{AreBounds};
+
+use std::alloc::{AllocError, Global};
 
 /// A list for each provider: where it starts, and behind all lists where the last one ends.
 #[derive(Drop)]
@@ -25,6 +27,19 @@ fn cut<X>(items: &[X], from: usize, to: usize) -> &[X]
 impl<X> Lists<X> {
     ghost use Rattle.ac_cloud.specs.ListsOf.{lists_of};
 
+    /// None yet.
+    #[tactic(auto, unfolding(crate::specs::ListBounds::lists_in))]
+    pub fn new(alloc: Global) -> Result<Lists<X>, AllocError>
+        ensures { IfOk result (λ new. lists_of new ≡ []) }
+    {
+        let mut starts = Vec::new(alloc);
+        starts.push(0)?;
+        Ok(Lists {
+            items: Vec::new(alloc),
+            starts,
+        })
+    }
+
     /// How many lists there are.
     pub fn len(&self) -> usize
         ensures { result ≡ length (lists_of self.now) }
@@ -46,5 +61,20 @@ impl<X> Lists<X> {
         ensures { result.now ≡ get_or (lists_of self.now) place [] }
     {
         cut(&self.items, self.starts[place], self.starts[place + 1])
+    }
+}
+
+impl<X: Copy> Lists<X> {
+    ghost use Rattle.ac_cloud.specs.ListsOf.{lists_of};
+
+    /// Puts a list behind the others.
+    #[tactic(auto, using(crate::proofs::ListFacts::one_more))]
+    pub fn push(&mut self, list: &[X]) -> Result<(), AllocError>
+        ensures { IfOk result (λ _. lists_of self.new ≡ lists_of self.old ++ list.now ∷ []) }
+    {
+        self.starts.reserve(1)?;
+        self.items.extend_from_slice(list)?;
+        self.starts.push_reserved(self.items.len());
+        Ok(())
     }
 }

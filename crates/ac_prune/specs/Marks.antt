@@ -1,5 +1,6 @@
 -- Which providers are taken by slots that stand apart, and at how many providers of a front a root is available.
-use Rattle.std.specs.Prelude.{◌≡◌, ℕ, ◌+◌, ◌<◌, Bool, ◌&&◌, ◌==◌, if◌then◌else◌, List, [], ◌∷◌, length, slice_index}
+use Rattle.std.specs.Prelude.{◌≡◌, ℕ, ◌+◌, ◌<◌, Bool, false, ◌&&◌, ◌==◌, if◌then◌else◌, List, [], ◌∷◌, length, slice_index, slice_index_or}
+use Rattle.std.specs.List.{list_all, list_any, range_with_len}
 use Rattle.ac_query.specs.Asked.{Asked, Slot, is_isolated}
 use Rattle.ac_cloud.specs.World.{Provider, is_available_at}
 use Rattle.ac_rules.specs.Placed.{Placed}
@@ -26,6 +27,14 @@ times r (x ∷ xs) = (if x == r then 1 else 0) + times r xs
 abbrev pub hits_at : List Provider → List ℕ → ℕ → ℕ
 hits_at all [] r = 0
 hits_at all (p ∷ q) r = (if is_available_at all p r then 1 else 0) + hits_at all q r
+
+-- all of some providers are available in the tree of a root
+abbrev pub stand_at : List Provider → List ℕ → ℕ → Bool
+stand_at all list r = list_all (λ p. is_available_at all p r) list
+
+-- they are in the tree of some root that is marked
+unfoldable pub stand_at_marked : List Provider → List Bool → List ℕ → Bool
+stand_at_marked all marks list = list_any (λ r. slice_index_or marks r false && stand_at all list r) (range_with_len 0 (length all))
 
 abbrev pub AreHits : List Provider → List ℕ → List ℕ → Type 0
 AreHits all hits q = (r : ℕ) → r < length all → slice_index hits r ≡ hits_at all q r

@@ -13,7 +13,7 @@ mod loads;
 use crate::choices::Choices;
 use crate::front::Front;
 use crate::ledger::Ledger;
-use crate::ledger::marks::{has_full, taken_roots};
+use crate::ledger::marks::taken_roots;
 use crate::look_ahead::LookAhead;
 use crate::tuning::MOST_STEPS;
 use ac_base::NoMemory;
@@ -157,7 +157,6 @@ impl LookAhead for Hosts {
 
     // Whether some root that may host a candidate has all of the path, and the provider too.
     fn may_follow(&self, front: &Front, provider: u32) -> bool {
-        let roots = front.ledger.cloud.anchors(provider);
-        has_full(&front.ledger.hits, &self.may, roots, front.path.len())
+        front.ledger.stands_at(&self.may, front.path, provider)
     }
 }

@@ -12,7 +12,7 @@ ghost use Rattle.ac_rules.specs.Together.{takes_root};
 ghost use Rattle.ac_rules.specs.Judge.{is_open};
 ghost use Rattle.ac_prune.specs.QuerySearch.{fits};
 ghost use Rattle.ac_prune.specs.Left.{IsKnown, ask_pair, numbered, AreSmall, suffices};
-ghost use Rattle.ac_prune.specs.Marks.{needs_own};
+ghost use Rattle.ac_prune.specs.Marks.{needs_own, stand_at_marked};
 
 pub mod marks;
 pub mod rooms;
@@ -116,15 +116,15 @@ impl<'a> Ledger<'a> {
         has_each(&self.rooms, self.row(ix as usize), &self.asks[s])
     }
 
-    // Whether a whole path of a depth keeps a root with one more provider.
-    fn has_root(&self, depth: usize, ix: u32) -> bool
-        requires { ix < length (providers_in self.now) }
+    /// Whether all of a front and one more provider are available in the tree of some marked root.
+    pub fn stands_at(&self, marks: &[bool], front: &[u32], ix: u32) -> bool
+        requires marks { length marks.now ≡ length (providers_in self.now) }
+        requires provider { ix < length (providers_in self.now) }
+        requires accounts { Accounts self.now front.now }
         ensures { result
-            ≡ list_any (λ r. slice_index_or self.now.taken.items r false
-            && (slice_index self.now.hits.items r == depth))
-            (anchors_of (providers_in self.now) ix) }
+            ≡ stand_at_marked (providers_in self.now) marks.now (front.now ++ ix ∷ []) }
     {
-        has_full(&self.hits, &self.taken, self.cloud.anchors(ix), depth)
+        has_full(&self.hits, marks, self.cloud.anchors(ix), front.len())
     }
 
     /// Whether an open front stays open with one more provider, which fits its slot.
@@ -140,7 +140,7 @@ impl<'a> Ledger<'a> {
             (front.now ++ ix ∷ []) }
     {
         let s = front.len();
-        self.has_enough(s, ix) && self.is_apart(s, ix) && self.has_root(s, ix)
+        self.has_enough(s, ix) && self.is_apart(s, ix) && self.stands_at(&self.taken, front, ix)
     }
 
     /// Takes what one more provider behind an open front gives to its slot.

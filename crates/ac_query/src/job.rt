@@ -14,6 +14,8 @@ pub enum Command {
     Verify,
     /// Writes how many providers and roots come how far, and whether there is a candidate.
     Explain,
+    /// Writes at which roots candidates stand, and what the others lack.
+    Hosts,
 }
 
 /// What is to be done, and for which query, version and token.
@@ -24,6 +26,6 @@ pub struct Job<'a> {
     pub query: &'a str,
     /// The microversion of the API by which the query is read; `V136` for `Check`, where it says nothing.
     pub version: Version,
-    /// For `Verify` the token to judge, which is there; for `Candidates` and `Tokens` the one to begin after; none for `Check` and `Explain`.
+    /// For `Verify` the token to judge, which is there; for `Candidates` and `Tokens` the one to begin after; none for `Check`, `Explain` and `Hosts`.
     pub token: Option<&'a str>,
 }

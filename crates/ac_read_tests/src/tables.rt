@@ -9,6 +9,7 @@ use std::test::Fail;
 mod draining;
 mod faults;
 mod limits;
+mod names;
 mod refusals;
 
 const LIMIT: usize = 67_108_864;

@@ -160,6 +160,23 @@ fn explain(rt: HostRuntime) -> Result<(), Fail> {
     Ok(())
 }
 
+const FITS: &[&str] = &[
+    "ac_cli hosts q --providers a --inventories b",
+    "ac_cli hosts --inventories=b --traits c --providers=a q",
+    "ac_cli hosts q --tables d",
+];
+
+#[test]
+fn hosts(rt: HostRuntime) -> Result<(), Fail> {
+    for line in FITS {
+        assert!(rt;
+            asks(rt.alloc(), line, Command::Hosts, "q", None)?,
+            "{line}"
+        );
+    }
+    Ok(())
+}
+
 #[test]
 fn versions(rt: HostRuntime) -> Result<(), Fail> {
     let job = Job {
@@ -259,6 +276,42 @@ fn words_with_a_hyphen(rt: HostRuntime) -> Result<(), Fail> {
     Ok(())
 }
 
+// Of the URL that the log of the service has, the query is what stands behind the `?`.
+const PASTED: &[&str] = &[
+    "ac_cli tokens /placement/allocation_candidates?resources=VCPU:2 --tables d",
+    "ac_cli tokens http://controller:8778/allocation_candidates?resources=VCPU:2 --tables d",
+    "ac_cli tokens ?resources=VCPU:2 --tables d",
+];
+
+// What stands before the first mark is dropped, where neither `=` nor `&` stands before it.
+const MARKED: &[(&str, &str)] = &[
+    ("ac_cli tokens a?b?c --tables d", "b?c"),
+    ("ac_cli tokens a? --tables d", ""),
+    ("ac_cli tokens a%3Fb --tables d", "a%3Fb"),
+    ("ac_cli tokens a=b?c --tables d", "a=b?c"),
+    ("ac_cli tokens a&b?c --tables d", "a&b?c"),
+    ("ac_cli tokens a?b=c&d=e?f --tables d", "b=c&d=e?f"),
+];
+
+#[test]
+fn pasted(rt: HostRuntime) -> Result<(), Fail> {
+    for line in PASTED {
+        assert!(rt;
+            asks(rt.alloc(), line, Command::Tokens, "resources=VCPU:2", None)?,
+            "{line}"
+        );
+    }
+    for (line, query) in MARKED {
+        assert!(rt;
+            asks(rt.alloc(), line, Command::Tokens, query, None)?,
+            "{line}"
+        );
+    }
+    let token = "ac_cli verify a?q b?t --tables d";
+    assert!(rt; asks(rt.alloc(), token, Command::Verify, "q", Some("b?t"))?);
+    Ok(())
+}
+
 const CALLS_FOR_HELP: &[&str] = &[
     "ac_cli --help",
     "ac_cli -h",
@@ -273,29 +326,125 @@ const CALLS_FOR_HELP: &[&str] = &[
     "ac_cli verify q --help",
     "ac_cli help explain",
     "ac_cli explain --help",
+    "ac_cli help hosts",
+    "ac_cli hosts --help",
 ];
 
-const TOLD_BY_EACH: &[&str] = &[
-    "Exit status:",
-    "  0  written",
-    "  1  `verify` says no, or `explain` finds no candidate",
-    "  2  the command line was refused",
-    "  3  a table was refused, or could not be read",
-    "  4  the query was refused",
-    "  5  the token was refused",
-    "  6  a write failed",
-    "  7  out of memory",
-    "  ./ac_cli tokens 'resources=VCPU:2' --tables examples/cloud",
+// The lines of the statuses, and of the example.
+const BELOW_EACH: &[(&str, &[&str])] = &[
+    (
+        "ac_cli --help",
+        &[
+            "  0  the answer is written",
+            "  1  `verify` says no, or `explain` or `hosts` finds no candidate",
+            "  2  the command line was refused",
+            "  3  a table was refused, or could not be read",
+            "  4  the query was refused",
+            "  5  the token was refused",
+            "  6  a write failed",
+            "  7  out of memory",
+            "  ac_cli tokens 'resources=VCPU:2,DISK_GB:20' --tables cloud",
+        ],
+    ),
+    (
+        "ac_cli check --help",
+        &[
+            "  0  the tables are accepted",
+            "  2  the command line was refused",
+            "  3  a table was refused, or could not be read",
+            "  6  a write failed",
+            "  7  out of memory",
+            "  ac_cli check --tables cloud",
+        ],
+    ),
+    (
+        "ac_cli candidates --help",
+        &[
+            "  0  the candidates are written, if there are any",
+            "  2  the command line was refused",
+            "  3  a table was refused, or could not be read",
+            "  4  the query was refused",
+            "  5  the token was refused",
+            "  6  a write failed",
+            "  7  out of memory",
+            "  ac_cli candidates 'resources=VCPU:2,DISK_GB:20&limit=10' --tables cloud",
+        ],
+    ),
+    (
+        "ac_cli tokens --help",
+        &[
+            "  0  the candidates are written, if there are any",
+            "  2  the command line was refused",
+            "  3  a table was refused, or could not be read",
+            "  4  the query was refused",
+            "  5  the token was refused",
+            "  6  a write failed",
+            "  7  out of memory",
+            "  ac_cli tokens 'resources=VCPU:2,DISK_GB:20&limit=10' --tables cloud",
+        ],
+    ),
+    (
+        "ac_cli verify --help",
+        &[
+            "  0  the token is a candidate",
+            "  1  it isn't one",
+            "  2  the command line was refused",
+            "  3  a table was refused, or could not be read",
+            "  4  the query was refused",
+            "  5  the token was refused",
+            "  6  a write failed",
+            "  7  out of memory",
+            "  ac_cli verify 'resources=VCPU:4' b48d0f61-9e2c-4c7a-83d5-e6047b15ac05 --tables cloud",
+        ],
+    ),
+    (
+        "ac_cli explain --help",
+        &[
+            "  0  there is a candidate",
+            "  1  there is none",
+            "  2  the command line was refused",
+            "  3  a table was refused, or could not be read",
+            "  4  the query was refused",
+            "  6  a write failed",
+            "  7  out of memory",
+            "  ac_cli explain 'resources=VCPU:8&required=CUSTOM_ROW_2' --tables cloud",
+        ],
+    ),
+    (
+        "ac_cli hosts --help",
+        &[
+            "  0  the query fits at some root",
+            "  1  it fits at none",
+            "  2  the command line was refused",
+            "  3  a table was refused, or could not be read",
+            "  4  the query was refused",
+            "  6  a write failed",
+            "  7  out of memory",
+            "  ac_cli hosts 'resources=VCPU:8&required=CUSTOM_ROW_2' --tables cloud",
+        ],
+    ),
 ];
 
 #[test]
 fn help_is_answered(rt: HostRuntime) -> Result<(), Fail> {
     for line in CALLS_FOR_HELP {
+        assert!(rt; help(rt.alloc(), line)?.is_some(), "{line}");
+    }
+    Ok(())
+}
+
+// Below the heading stand these lines of statuses and no other.
+#[test]
+fn help_tells_statuses_and_an_example(rt: HostRuntime) -> Result<(), Fail> {
+    for (line, told) in BELOW_EACH {
         match help(rt.alloc(), line)? {
             Some(text) => {
-                for other in TOLD_BY_EACH {
+                for other in *told {
                     assert!(rt; has_line(text.as_str(), other), "{line}: {other}");
                 }
+                let below = text.lines().skip_while(|other| *other != "Exit status:");
+                let shown = below.filter(|other| other.starts_with("  ")).count();
+                assert_eq!(rt; shown, told.len(), "{line}");
             }
             None => assert!(rt; false, "{line}"),
         }
@@ -318,6 +467,7 @@ const COMMANDS: &[&str] = &[
     "  tokens      Writes the candidates for a query, one per line: the UUIDs of their providers",
     "  verify      Writes whether a token is a candidate for a query, or which rule it breaks",
     "  explain     Writes how many providers and trees meet a query, rule by rule: why nothing is found",
+    "  hosts       Writes whether a query fits at each root, and what is missing there (CSV)",
 ];
 
 #[test]
@@ -346,12 +496,12 @@ const OPTIONS: &[&str] = &[
 ];
 
 const SEARCHES: &[&str] = &[
-    "  <QUERY>  What is asked for, as in 'resources=VCPU:2'",
+    "  <QUERY>  What is asked for, between '..' since the shell reads & ! and ? otherwise; of a URL, what stands behind its ?",
     "      --after <TOKEN>           Begins after this candidate, written as `tokens` writes it",
 ];
 
 const VERIFIED: &[&str] = &[
-    "  <QUERY>  What is asked for, as in 'resources=VCPU:2'",
+    "  <QUERY>  What is asked for, between '..' since the shell reads & ! and ? otherwise; of a URL, what stands behind its ?",
     "  <TOKEN>  The UUIDs of providers, as `tokens` writes them",
 ];
 
@@ -360,6 +510,7 @@ const WITH_OPTIONS: &[&str] = &[
     "ac_cli help tokens",
     "ac_cli help verify",
     "ac_cli help explain",
+    "ac_cli help hosts",
 ];
 
 #[test]
@@ -399,6 +550,11 @@ const EXPLAIN_USAGE: &[&str] = &[
     "       ac_cli explain [OPTIONS] --providers <FILE> --inventories <FILE> <QUERY>",
 ];
 
+const HOSTS_USAGE: &[&str] = &[
+    "Usage: ac_cli hosts [OPTIONS] --tables <DIR> <QUERY>",
+    "       ac_cli hosts [OPTIONS] --providers <FILE> --inventories <FILE> <QUERY>",
+];
+
 #[test]
 fn help_tells_the_usage(rt: HostRuntime) -> Result<(), Fail> {
     assert!(rt; tells(rt.alloc(), "ac_cli help check", CHECK_USAGE)?);
@@ -406,6 +562,7 @@ fn help_tells_the_usage(rt: HostRuntime) -> Result<(), Fail> {
     assert!(rt; tells(rt.alloc(), "ac_cli help tokens", TOKENS_USAGE)?);
     assert!(rt; tells(rt.alloc(), "ac_cli help verify", VERIFY_USAGE)?);
     assert!(rt; tells(rt.alloc(), "ac_cli help explain", EXPLAIN_USAGE)?);
+    assert!(rt; tells(rt.alloc(), "ac_cli help hosts", HOSTS_USAGE)?);
     Ok(())
 }
 
@@ -444,6 +601,9 @@ const OTHER_WORDS: &[&str] = &[
     "ac_cli explain --providers a --inventories b",
     "ac_cli explain q t --providers a --inventories b",
     "ac_cli explain q --providers a --inventories b --after t",
+    "ac_cli hosts --providers a --inventories b",
+    "ac_cli hosts q t --providers a --inventories b",
+    "ac_cli hosts q --providers a --inventories b --after t",
 ];
 
 #[test]

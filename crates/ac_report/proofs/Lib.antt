@@ -4,3 +4,4 @@ pub mod IdTexts
 pub mod SlotLemmas
 pub mod Differing
 pub mod Assigning
+pub mod NameBytes

@@ -6,3 +6,4 @@ pub mod Parts
 pub mod Marks
 pub mod Requests
 pub mod Outcomes
+pub mod Names

@@ -7,6 +7,7 @@ pub mod fault;
 mod ids;
 pub mod laws;
 pub mod lines;
+pub mod names;
 pub mod page;
 pub mod request;
 mod serving;
@@ -14,6 +15,7 @@ pub mod summary;
 
 pub use fault::PageFault;
 pub use lines::write_tokens;
+pub use names::shown_name;
 pub use page::write_page;
 pub use request::{request_text, suffix_text};
 pub use summary::summary_text;

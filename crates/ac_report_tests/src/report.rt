@@ -1,5 +1,5 @@
 //! Bodies and lines of lists that a source in memory has left.
-ghost use Rattle.std.specs.Prelude.{◌≤◌, drop, length, map};
+ghost use Rattle.std.specs.Prelude.{◌≤◌, ◌<◌, drop, length, map};
 ghost use Rattle.std.specs.Bool.{OnTrue};
 ghost use Rattle.std.specs.List.{All};
 ghost use Rattle.ac_query.specs.Shown.Queries.{asked_of};
@@ -15,6 +15,7 @@ use ac_tables::Cloud;
 use std::alloc::{AllocError, Global};
 use std::test::Fail;
 
+mod names;
 mod refusals;
 
 // Two trees, and a provider that shares its disk with both.
@@ -80,10 +81,17 @@ impl<'a> Source for Lists<'a> {
     }
 }
 
+// Whether all numbers of a list are below a count.
+fn are_below(count: u32, list: &[u32]) -> bool
+    ensures { OnTrue result (All (λ p. p < count) list.now) }
+{
+    list.iter().all(|ix| *ix < count)
+}
+
 fn is_assignment(cloud: &Cloud, query: &Query, list: &[u32]) -> bool
     ensures { OnTrue result (IsAssignment (providers_of cloud.now) (asked_of query.now) list.now) }
 {
-    list.len() == query.slots().len() && list.iter().all(|ix| *ix < cloud.len())
+    list.len() == query.slots().len() && are_below(cloud.len(), list)
 }
 
 fn are_assignments(cloud: &Cloud, query: &Query, lists: &[&[u32]]) -> bool

@@ -9,3 +9,4 @@ pub mod WantedSaid
 pub mod Attempted
 pub mod Told
 pub mod HandedOn
+pub mod HostsWritten

@@ -1,12 +1,11 @@
 -- What each command says of a query and a token that were read, and of those that were refused.
-use Rattle.std.proofs.Common.{◌≡◌, ◌∙◌, ℕ, List, Option, Some, refl, ap}
+use Rattle.std.proofs.Common.{◌≡◌, ◌∙◌, ℕ, List, Option, Some, ap}
 use Rattle.ac_query.specs.Asked.{Asked}
 use Rattle.ac_cloud.specs.World.{World}
-use Rattle.ac_run.specs.Answer.{Says, Task, answer_in, explanation, page_body, page_lines, past_query, verdict_line}
+use Rattle.ac_run.specs.Answer.{Says, Task, answer_in, explanation, host_rows, page_body, page_lines, past_query, verdict_line}
 use Rattle.ac_run.specs.Jobs.{ExplainsAsked, ExplainsWanted}
 use Rattle.ac_run.specs.declared.refusal.Refusal.{Refusal}
 use Rattle.ac_run.specs.declared.refusal.Refusal.TheVariants as why
-use Rattle.ac_query.specs.declared.job.Command.{Command}
 use Rattle.ac_query.specs.declared.job.Command.TheVariants as command
 
 module _ (task : Task) where
@@ -25,6 +24,9 @@ module _ (task : Task) where
 
   says_explanation : task.command ≡ command.Explain → SaysIt (λ world. explanation world.providers)
   says_explanation is world = ap (λ k. answer_in k task world) is
+
+  says_hosts : task.command ≡ command.Hosts → SaysIt (λ world. host_rows world.providers)
+  says_hosts is world = ap (λ k. answer_in k task world) is
 
   -- ---- what is refused
 
@@ -50,6 +52,9 @@ module _ (task : Task) where
     pub explains_explanation : task.command ≡ command.Explain → ExplainsWanted task refusal
     explains_explanation is = explains (λ world. explanation world.providers) (says_explanation is) refusal h
 
+    pub explains_hosts : task.command ≡ command.Hosts → ExplainsWanted task refusal
+    explains_hosts is = explains (λ world. host_rows world.providers) (says_hosts is) refusal h
+
   -- ---- what was read
 
   module _ (asked : Asked) (ids : Option (List ℕ)) (said : (say : Says) → past_query say task ≡ say asked ids) (world : World) where
@@ -64,3 +69,6 @@ module _ (task : Task) where
 
     pub said_explanation : task.command ≡ command.Explain → answer_in task.command task world ≡ explanation world.providers asked ids
     said_explanation is = says_explanation is world ∙ said (explanation world.providers)
+
+    pub said_hosts : task.command ≡ command.Hosts → answer_in task.command task world ≡ host_rows world.providers asked ids
+    said_hosts is = says_hosts is world ∙ said (host_rows world.providers)

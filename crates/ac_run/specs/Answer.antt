@@ -20,9 +20,11 @@ use Rattle.ac_query.specs.Pairs.Values.{ids_value}
 use Rattle.ac_query.specs.declared.token.TokenFault.{TokenFault}
 use Rattle.ac_rules.specs.Judge.{judge}
 use Rattle.ac_rules.specs.Pages.{page}
+use Rattle.ac_search.specs.Hosts.{fitting}
 use Rattle.ac_report.specs.Texts.{body, lines}
 use Rattle.ac_run.specs.Outputs.{counts, verdict_status, verdict_text}
 use Rattle.ac_run.specs.Explanation.{explanation_status, explanation_text, has_candidate}
+use Rattle.ac_run.specs.Outputs.HostRows.{hosts_status, hosts_text}
 use Rattle.ac_run.specs.Feeds.{Bytes, too_large}
 use Rattle.ac_run.specs.Lines.{too_large_line, record_line, query_line, token_line, memory_line}
 use Rattle.ac_query.specs.declared.job.Command.{Command}
@@ -90,6 +92,9 @@ verdict_line all asked ids = verdict_on all asked (option_and_then (places_of al
 abbrev pub explanation : List Provider → Says
 explanation all asked ids = written (explanation_text all asked (has_candidate all asked)) (explanation_status (has_candidate all asked))
 
+abbrev pub host_rows : List Provider → Says
+host_rows all asked ids = written (hosts_text all asked) (hosts_status (fitting all asked))
+
 -- what is said, unless the token is refused
 abbrev pub past_token : Says → Option (List ℕ) → Asked → Outcome
 past_token say token asked = told (token_refusal asked token) (λ f. refused (token_line f) 5) (say asked (ids_given token))
@@ -106,6 +111,7 @@ answer_in command.Candidates task world = past_query (page_body world.providers)
 answer_in command.Tokens task world = past_query (page_lines world.providers) task
 answer_in command.Verify task world = past_query (verdict_line world.providers) task
 answer_in command.Explain task world = past_query (explanation world.providers) task
+answer_in command.Hosts task world = past_query (host_rows world.providers) task
 
 abbrev pub table_refused : TableFault → Outcome
 table_refused (fault.At t row kind) = refused (record_line t row kind) 3

@@ -9,7 +9,7 @@ use Rattle.ac_query.specs.Shown.Queries.{asked_of}
 use Rattle.ac_query.specs.Tokens.{ids_of}
 use Rattle.ac_query.specs.declared.fault.QueryFault.{QueryFault}
 use Rattle.ac_query.specs.declared.token.TokenFault.{TokenFault}
-use Rattle.ac_run.specs.Answer.{Outcome, explanation, page_body, page_lines, verdict_line, written}
+use Rattle.ac_run.specs.Answer.{Outcome, explanation, host_rows, page_body, page_lines, verdict_line, written}
 use Rattle.ac_run.specs.Outputs.{counts}
 use Rattle.ac_run.specs.declared.asking.Wanted.{Wanted}
 use Rattle.ac_run.specs.declared.asking.Wanted.TheVariants as wanted
@@ -23,6 +23,7 @@ answer_to (wanted.Body query token) world = page_body world.providers (asked_of 
 answer_to (wanted.Lines query token) world = page_lines world.providers (asked_of query) (option_map ids_of token)
 answer_to (wanted.Verdict query token) world = verdict_line world.providers (asked_of query) (Some (ids_of token))
 answer_to (wanted.Explanation query) world = explanation world.providers (asked_of query) None
+answer_to (wanted.Hosts query) world = host_rows world.providers (asked_of query) None
 
 -- the token on which a verdict is wanted has an id for each slot of the query
 abbrev pub HasIdForEachSlot : Wanted → Type 0

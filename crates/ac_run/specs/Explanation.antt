@@ -1,10 +1,10 @@
 -- The text of an explanation: a line for each slot, one for the trees, and whether there is a candidate.
-use Rattle.std.specs.Prelude.{ℕ, ◌+◌, Bool, true, false, not, List, [], ◌∷◌, ◌++◌, length, codes}
+use Rattle.std.specs.Prelude.{ℕ, ◌+◌, ◌==◌, Bool, true, false, not, if◌then◌else◌, List, [], ◌∷◌, ◌++◌, get_or, length, codes}
 use Rattle.std.specs.Fmt.{decimal}
 use Rattle.std.specs.List.{flat_map, range_with_len}
 use Rattle.ac_query.specs.Asked.{Asked, Slot, slots_of}
 use Rattle.ac_cloud.specs.World.{Provider}
-use Rattle.ac_search.specs.Explained.{SlotCounts, TreeCounts, slot_counts, tree_counts}
+use Rattle.ac_search.specs.Explained.{SlotCounts, SlotTold, TreeCounts, slot_told, tree_counts}
 use Rattle.ac_rules.specs.Pages.{candidates}
 use Rattle.ac_rules.specs.Placed.{slot_at}
 use Rattle.ac_rules.specs.Together.{is_empty}
@@ -30,21 +30,39 @@ unfoldable pub slot_counted : ℕ → SlotCounts → List ℕ
 slot_counted providers c =
     said
     (codes ": units " ∷ decimal c.units ∷ codes " of " ∷ decimal providers ∷ codes ", traits " ∷ decimal c.traits ∷ codes ", aggregates " ∷ decimal c.aggregates
-    ∷ codes ", tree " ∷ decimal c.tree ∷ codes ", room " ∷ decimal c.room ∷ newline ∷ [])
+    ∷ codes ", tree " ∷ decimal c.tree ∷ codes ", room " ∷ decimal c.room ∷ [])
 
-abbrev pub slot_line : List Provider → ℕ → Slot → List ℕ
-slot_line all number slot = slot_name number slot ++ (needs_text slot.needs ++ slot_counted (length all) (slot_counts all slot))
+-- the mark before the class at a place: a bracket before the first
+abbrev pub room_mark : ℕ → List ℕ
+room_mark k = if k == 0 then codes " (" else codes ", "
+
+-- how many have room for a class, behind a mark
+unfoldable pub room_text : List ℕ → List ℕ → ℕ → List ℕ
+room_text mark class room = said (mark ∷ class ∷ codes " " ∷ decimal room ∷ [])
+
+-- each class with its room, where it is told
+abbrev pub each_room : List (List ℕ × ℕ) → List ℕ → List ℕ
+each_room needs rooms = flat_map (λ k. room_text (room_mark k) (get_or needs k ([], 0)).0 (get_or rooms k 0)) (range_with_len 0 (length rooms))
+
+-- the end of the line: a bracket, where classes are told
+abbrev pub slot_end : List ℕ → List ℕ
+slot_end rooms = if is_empty rooms then codes "\n" else codes ")\n"
+
+abbrev pub slot_line : List Provider → ℕ → Slot → SlotTold → List ℕ
+slot_line all number slot told =
+    (slot_name number slot ++ needs_text slot.needs) ++ (slot_counted (length all) told.counts ++ (each_room slot.needs told.rooms ++ slot_end told.rooms))
 
 -- a line for each slot, numbered from 1
 abbrev pub slot_lines : List Provider → Asked → List ℕ
-slot_lines all asked = flat_map (λ s. slot_line all (s + 1) (slot_at asked s)) (range_with_len 0 (length (slots_of asked)))
+slot_lines all asked = flat_map (λ s. slot_line all (s + 1) (slot_at asked s) (slot_told all (slot_at asked s))) (range_with_len 0 (length (slots_of asked)))
 
 -- ---- The trees, and candidates
 
 unfoldable pub trees_line : TreeCounts → List ℕ
 trees_line c =
     said
-    (codes "trees " ∷ decimal c.roots ∷ codes ": root traits " ∷ decimal c.root_traits ∷ codes ", each slot " ∷ decimal c.each_slot ∷ newline ∷ [])
+    (codes "trees " ∷ decimal c.roots ∷ codes ": root traits " ∷ decimal c.root_traits ∷ codes ", each slot " ∷ decimal c.each_slot
+    ∷ codes ", required traits " ∷ decimal c.required_traits ∷ newline ∷ [])
 
 abbrev pub has_candidate : List Provider → Asked → Bool
 has_candidate all asked = not (is_empty (candidates all asked))

@@ -1,4 +1,5 @@
--- The small outputs: the counts of the tables, and the verdict on a list.
+-- The small outputs: the counts of the tables, and the verdict on a list; and the rows of roots.
+pub mod HostRows
 use Rattle.std.specs.Prelude.{ℕ, List, [], ◌∷◌, codes}
 use Rattle.std.specs.Fmt.{decimal}
 use Rattle.ac_cloud.specs.World.{Sizes}

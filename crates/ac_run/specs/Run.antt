@@ -1,7 +1,6 @@
 -- What is known after each part of a run.
 use Rattle.std.specs.Prelude.{◌≡◌, ℕ, List, [], Option, Some, None, ⊤}
-use Rattle.std.specs.Io.KnownBytes.{Appends, Keeps}
-use Rattle.ac_base.specs.Devices.{TakesPart}
+use Rattle.std.specs.Io.KnownBytes.{Appends}
 use Rattle.ac_tables.specs.declared.fault.Table.{Table}
 use Rattle.ac_tables.specs.declared.fault.TableFault.{TableFault}
 use Rattle.ac_tables.specs.declared.fault.TableFault.TheVariants as fault

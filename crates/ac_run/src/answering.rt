@@ -1,4 +1,7 @@
 //! The answers over a cloud, each written with its status.
+
+mod host_rows;
+
 ghost use Rattle.std.specs.Prelude.{◌≡◌, ◌≤◌, IfOk, OnErr, Err, Some, None, length};
 ghost use Rattle.std.specs.Option.{option_map};
 ghost use Rattle.ac_base.specs.Devices.{Rises, TakesPart};
@@ -6,12 +9,13 @@ ghost use Rattle.ac_cloud.specs.Cloud.CloudWorld.{providers_of, world_of};
 ghost use Rattle.ac_query.specs.Asked.{slots_of};
 ghost use Rattle.ac_query.specs.Shown.Queries.{asked_of};
 ghost use Rattle.ac_query.specs.Tokens.{ids_of};
-ghost use Rattle.ac_run.specs.Answer.{explanation, page_body, page_lines, verdict_line, written};
+ghost use Rattle.ac_run.specs.Answer.{explanation, host_rows, page_body, page_lines, verdict_line, written};
 ghost use Rattle.ac_run.specs.Asking.{HasIdForEachSlot, answer_to};
 ghost use Rattle.ac_run.specs.Outputs.{counts};
 ghost use Rattle.ac_report.specs.declared.fault.PageFault.TheVariants as PageFault;
 ghost use Rattle.ac_run.specs.Run.{IsWritten};
 
+use self::host_rows::{hosts_status, hosts_text};
 use crate::asking::Wanted;
 use crate::explanation::{explanation_status, has_candidate, push_explanation};
 use crate::outputs::{push_counts, verdict_status, verdict_text};
@@ -19,7 +23,7 @@ use ac_base::{NoMemory, Sink, push_all};
 use ac_query::{Query, Token};
 use ac_report::{PageFault, write_page, write_tokens};
 use ac_rules::{InCloud, verify};
-use ac_search::{Walk, tree_counts};
+use ac_search::{Walk, all_slots, find_lacks, fitting_roots, tree_counts};
 use ac_tables::Cloud;
 use std::alloc::Global;
 
@@ -152,10 +156,35 @@ fn write_explanation<W: Sink>(
         → Rises (W.failures out.old) (W.failures out.new) }
     ensures failures { W.failures out.old ≤ W.failures out.new }
 {
+    let slots = all_slots(alloc, cloud, query)?;
     let trees = tree_counts(alloc, cloud, query)?;
     let found = has_candidate(alloc, cloud, query, &trees)?;
-    push_explanation(out, cloud, query, &trees, found)?;
+    push_explanation(out, cloud, query, &slots, &trees, found)?;
     Ok(explanation_status(found))
+}
+
+// Which roots fit, and what the others lack.
+#[tactic(auto, using(ac_base::proofs::Leaving::part_none))]
+fn write_hosts<W: Sink>(
+    alloc: Global,
+    cloud: &Cloud,
+    query: &Query,
+    out: &mut W,
+) -> Result<u8, PageFault>
+    ensures few { IfOk result (λ status. status ≤ 1) }
+    ensures ok { IfOk result (IsWritten
+        (host_rows (providers_of cloud.now) (asked_of query.now) None)
+        (W.taken out.old) (W.taken out.new)) }
+    ensures part { OnErr result (TakesPart (W.taken out.old) (W.taken out.new)
+        (host_rows (providers_of cloud.now) (asked_of query.now) None).output) }
+    ensures failed { result ≡ Err PageFault.WriteFailed
+        → Rises (W.failures out.old) (W.failures out.new) }
+    ensures failures { W.failures out.old ≤ W.failures out.new }
+{
+    let fits = fitting_roots(alloc, cloud, query)?;
+    let lacks = find_lacks(alloc, cloud, query, &fits)?;
+    let text = hosts_text(alloc, cloud, query, &fits, &lacks)?;
+    push_text(out, &text, hosts_status(&fits))
 }
 
 /// Writes what is wanted of a cloud.
@@ -181,5 +210,6 @@ pub fn write_answer<W: Sink>(
         Wanted::Lines(query, token) => write_lines(alloc, cloud, query, token, out),
         Wanted::Verdict(query, token) => write_verdict(alloc, cloud, query, token, out),
         Wanted::Explanation(query) => write_explanation(alloc, cloud, query, out),
+        Wanted::Hosts(query) => write_hosts(alloc, cloud, query, out),
     }
 }

@@ -30,6 +30,8 @@ pub enum Wanted {
     Verdict(Query, Token),
     /// How far a query comes.
     Explanation(Query),
+    /// Which roots fit, and what the others lack.
+    Hosts(Query),
 }
 
 // The query of a text, as a version reads it.
@@ -92,7 +94,7 @@ fn read_asked(alloc: Global, job: &Job) -> Result<(Query, Option<Token>), Refusa
 }
 
 /// What a job wants: its query is read, and then its token.
-#[tactic(auto, using(crate::proofs::WantedSaid::explains_body, crate::proofs::WantedSaid::explains_lines, crate::proofs::WantedSaid::explains_verdict, crate::proofs::WantedSaid::explains_explanation))]
+#[tactic(auto, using(crate::proofs::WantedSaid::explains_body, crate::proofs::WantedSaid::explains_lines, crate::proofs::WantedSaid::explains_verdict, crate::proofs::WantedSaid::explains_explanation, crate::proofs::WantedSaid::explains_hosts))]
 pub fn read_wanted(alloc: Global, job: &Job) -> Result<Wanted, Refusal>
     requires { HasToken job.now.command (option_map (λ token. token.now) job.now.token) }
     ensures wanted { IfOk result (λ wanted. (world : World)
@@ -120,6 +122,10 @@ pub fn read_wanted(alloc: Global, job: &Job) -> Result<Wanted, Refusal>
         Command::Explain => {
             let (query, _token) = read_asked(alloc, job)?;
             Ok(Wanted::Explanation(query))
+        }
+        Command::Hosts => {
+            let (query, _token) = read_asked(alloc, job)?;
+            Ok(Wanted::Hosts(query))
         }
     }
 }

@@ -6,10 +6,10 @@ ghost use Rattle.ac_cloud.specs.Cloud.CloudWorld.{providers_of};
 ghost use Rattle.ac_query.specs.Asked.{slots_of};
 ghost use Rattle.ac_query.specs.Shown.Groups.{need_entry};
 ghost use Rattle.ac_query.specs.Shown.Queries.{asked_of};
-ghost use Rattle.ac_search.specs.Explained.{tree_counts};
-ghost use Rattle.ac_search.specs.Shown.Explained.{slot_counted as slot_shown, trees_counted as trees_shown};
+ghost use Rattle.ac_search.specs.Explained.{slot_told, tree_counts};
+ghost use Rattle.ac_search.specs.Shown.Explained.{slot_counted as counts_shown, slot_shown, trees_counted as trees_shown};
 ghost use Rattle.ac_rules.specs.Placed.{slot_at};
-ghost use Rattle.ac_run.specs.Explanation.{candidates_line, explanation_status, has_candidate, need_text, needs_text, slot_counted, slot_line, slot_lines, slot_name, trees_line};
+ghost use Rattle.ac_run.specs.Explanation.{candidates_line, each_room, explanation_status, has_candidate, need_text, needs_text, room_mark, room_text, slot_counted, slot_end, slot_line, slot_lines, slot_name, trees_line};
 ghost use Rattle.ac_run.specs.Lines.{printed};
 
 use crate::pieces::digits::Digits;
@@ -19,7 +19,7 @@ use ac_query::{Need, Query};
 use ac_report::suffix_text;
 use ac_rules::Source;
 use ac_rules::slots::{count_slots, group_at, needs_at};
-use ac_search::{SlotCounts, TreeCounts, Walk, slot_counts};
+use ac_search::{SlotCounts, SlotTold, TreeCounts, Walk};
 use ac_tables::Cloud;
 use std::alloc::Global;
 
@@ -86,13 +86,58 @@ fn push_name<W: Sink>(out: &mut W, query: &Query, s: usize) -> Result<(), WriteF
     )
 }
 
+// How many have room for a class of a slot: the first stands behind a bracket.
+#[tactic(auto, unfolding(crate::specs::Explanation::room_text))]
+fn push_room<W: Sink>(out: &mut W, k: usize, need: &Need, room: u32) -> Result<(), WriteFailed>
+    ensures ok { OnOk result (Appends (W.taken out.old) (W.taken out.new)
+        (room_text (room_mark k) (need_entry need.now).0 room)) }
+    ensures part { OnErr result (TakesPart (W.taken out.old) (W.taken out.new)
+        (room_text (room_mark k) (need_entry need.now).0 room)) }
+    ensures rises { OnErr result (Rises (W.failures out.old) (W.failures out.new)) }
+    ensures failures { W.failures out.old ≤ W.failures out.new }
+{
+    let mark = if k == 0 { b" (" } else { b", " };
+    push_pieces(
+        out,
+        &[
+            mark,
+            need.class().text().as_bytes(),
+            b" ",
+            Digits::of(room).as_bytes(),
+        ],
+    )
+}
+
+// How many have room for each class of a slot, where that is told.
+fn push_rooms<W: Sink>(out: &mut W, needs: &[Need], rooms: &[u32]) -> Result<(), WriteFailed>
+    requires { length rooms.now ≤ length needs.now }
+    ensures ok { OnOk result (Appends (W.taken out.old) (W.taken out.new)
+        (each_room (map need_entry needs.now) rooms.now)) }
+    ensures part { OnErr result (TakesPart (W.taken out.old) (W.taken out.new)
+        (each_room (map need_entry needs.now) rooms.now)) }
+    ensures rises { OnErr result (Rises (W.failures out.old) (W.failures out.new)) }
+    ensures failures { W.failures out.old ≤ W.failures out.new }
+{
+    for k in 0..rooms.len() {
+        push_room(out, k, &needs[k], rooms[k])?;
+    }
+    Ok(())
+}
+
+// The end of a slot's line: a bracket, where classes are told.
+fn slot_end(rooms: &[u32]) -> &'static [u8]
+    ensures { result.now ≡ slot_end rooms.now }
+{
+    if rooms.is_empty() { b"\n" } else { b")\n" }
+}
+
 // How many of all providers meet what a slot asks.
 #[tactic(auto, unfolding(crate::specs::Explanation::slot_counted))]
 fn push_counts<W: Sink>(out: &mut W, providers: u32, counts: &SlotCounts) -> Result<(), WriteFailed>
     ensures ok { OnOk result (Appends (W.taken out.old) (W.taken out.new)
-        (slot_counted providers (slot_shown counts.now))) }
+        (slot_counted providers (counts_shown counts.now))) }
     ensures part { OnErr result (TakesPart (W.taken out.old) (W.taken out.new)
-        (slot_counted providers (slot_shown counts.now))) }
+        (slot_counted providers (counts_shown counts.now))) }
     ensures rises { OnErr result (Rises (W.failures out.old) (W.failures out.new)) }
     ensures failures { W.failures out.old ≤ W.failures out.new }
 {
@@ -111,9 +156,50 @@ fn push_counts<W: Sink>(out: &mut W, providers: u32, counts: &SlotCounts) -> Res
             Digits::of(counts.tree).as_bytes(),
             b", room ",
             Digits::of(counts.room).as_bytes(),
-            b"\n",
         ],
     )
+}
+
+// A slot and what it asks.
+#[tactic(auto, using(ac_base::proofs::Leaving::appends_both, ac_base::proofs::Leaving::part_of_first, ac_base::proofs::Leaving::part_of_second))]
+fn push_asked<W: Sink>(out: &mut W, query: &Query, s: usize) -> Result<(), WriteFailed>
+    requires { s < length (slots_of (asked_of query.now)) }
+    ensures ok { OnOk result (Appends (W.taken out.old) (W.taken out.new)
+        (slot_name (s + 1) (slot_at (asked_of query.now) s)
+        ++ needs_text (slot_at (asked_of query.now) s).needs)) }
+    ensures part { OnErr result (TakesPart (W.taken out.old) (W.taken out.new)
+        (slot_name (s + 1) (slot_at (asked_of query.now) s)
+        ++ needs_text (slot_at (asked_of query.now) s).needs)) }
+    ensures rises { OnErr result (Rises (W.failures out.old) (W.failures out.new)) }
+    ensures failures { W.failures out.old ≤ W.failures out.new }
+{
+    push_name(out, query, s)?;
+    push_needs(out, needs_at(query, s))
+}
+
+// What is told of a slot, behind what it asks.
+#[tactic(auto, using(ac_base::proofs::Leaving::appends_both, ac_base::proofs::Leaving::part_of_first, ac_base::proofs::Leaving::part_of_second))]
+fn push_told<W: Sink>(
+    out: &mut W,
+    providers: u32,
+    needs: &[Need],
+    told: &SlotTold,
+) -> Result<(), WriteFailed>
+    requires { length told.now.rooms.items ≤ length needs.now }
+    ensures ok { OnOk result (Appends (W.taken out.old) (W.taken out.new)
+        (slot_counted providers (slot_shown told.now).counts
+        ++ (each_room (map need_entry needs.now) (slot_shown told.now).rooms
+        ++ slot_end (slot_shown told.now).rooms))) }
+    ensures part { OnErr result (TakesPart (W.taken out.old) (W.taken out.new)
+        (slot_counted providers (slot_shown told.now).counts
+        ++ (each_room (map need_entry needs.now) (slot_shown told.now).rooms
+        ++ slot_end (slot_shown told.now).rooms))) }
+    ensures rises { OnErr result (Rises (W.failures out.old) (W.failures out.new)) }
+    ensures failures { W.failures out.old ≤ W.failures out.new }
+{
+    push_counts(out, providers, &told.counts)?;
+    push_rooms(out, needs, &told.rooms)?;
+    push_all(out, slot_end(&told.rooms))
 }
 
 // The line of a slot.
@@ -123,22 +209,33 @@ fn push_slot<W: Sink>(
     cloud: &Cloud,
     query: &Query,
     s: usize,
+    told: &SlotTold,
 ) -> Result<(), WriteFailed>
-    requires { s < length (slots_of (asked_of query.now)) }
+    requires slot { s < length (slots_of (asked_of query.now)) }
+    requires rooms { length told.now.rooms.items
+        ≤ length (slot_at (asked_of query.now) s).needs }
     ensures ok { OnOk result (Appends (W.taken out.old) (W.taken out.new)
-        (slot_line (providers_of cloud.now) (s + 1) (slot_at (asked_of query.now) s))) }
+        (slot_line (providers_of cloud.now) (s + 1) (slot_at (asked_of query.now) s)
+        (slot_shown told.now))) }
     ensures part { OnErr result (TakesPart (W.taken out.old) (W.taken out.new)
-        (slot_line (providers_of cloud.now) (s + 1) (slot_at (asked_of query.now) s))) }
+        (slot_line (providers_of cloud.now) (s + 1) (slot_at (asked_of query.now) s)
+        (slot_shown told.now))) }
     ensures rises { OnErr result (Rises (W.failures out.old) (W.failures out.new)) }
     ensures failures { W.failures out.old ≤ W.failures out.new }
 {
-    push_name(out, query, s)?;
-    push_needs(out, needs_at(query, s))?;
-    push_counts(out, cloud.len(), &slot_counts(cloud, query, s))
+    push_asked(out, query, s)?;
+    push_told(out, cloud.len(), needs_at(query, s), told)
 }
 
 // The lines of all slots.
-fn push_slots<W: Sink>(out: &mut W, cloud: &Cloud, query: &Query) -> Result<(), WriteFailed>
+fn push_slots<W: Sink>(
+    out: &mut W,
+    cloud: &Cloud,
+    query: &Query,
+    slots: &[SlotTold],
+) -> Result<(), WriteFailed>
+    requires { map slot_shown slots.now
+        ≡ map (slot_told (providers_of cloud.now)) (slots_of (asked_of query.now)) }
     ensures ok { OnOk result (Appends (W.taken out.old) (W.taken out.new)
         (slot_lines (providers_of cloud.now) (asked_of query.now))) }
     ensures part { OnErr result (TakesPart (W.taken out.old) (W.taken out.new)
@@ -146,8 +243,8 @@ fn push_slots<W: Sink>(out: &mut W, cloud: &Cloud, query: &Query) -> Result<(), 
     ensures rises { OnErr result (Rises (W.failures out.old) (W.failures out.new)) }
     ensures failures { W.failures out.old ≤ W.failures out.new }
 {
-    for s in 0..count_slots(query) {
-        push_slot(out, cloud, query, s)?;
+    for (s, told) in slots.iter().enumerate() {
+        push_slot(out, cloud, query, s, told)?;
     }
     Ok(())
 }
@@ -171,6 +268,8 @@ fn push_trees<W: Sink>(out: &mut W, counts: &TreeCounts) -> Result<(), WriteFail
             Digits::of(counts.root_traits).as_bytes(),
             b", each slot ",
             Digits::of(counts.each_slot).as_bytes(),
+            b", required traits ",
+            Digits::of(counts.required_traits).as_bytes(),
             b"\n",
         ],
     )
@@ -194,9 +293,12 @@ pub fn push_explanation<W: Sink>(
     out: &mut W,
     cloud: &Cloud,
     query: &Query,
+    slots: &[SlotTold],
     trees: &TreeCounts,
     found: bool,
 ) -> Result<(), WriteFailed>
+    requires { map slot_shown slots.now
+        ≡ map (slot_told (providers_of cloud.now)) (slots_of (asked_of query.now)) }
     ensures ok { OnOk result (Appends (W.taken out.old) (W.taken out.new)
         (slot_lines (providers_of cloud.now) (asked_of query.now)
         ++ (trees_line (trees_shown trees.now) ++ candidates_line found))) }
@@ -206,13 +308,13 @@ pub fn push_explanation<W: Sink>(
     ensures rises { OnErr result (Rises (W.failures out.old) (W.failures out.new)) }
     ensures failures { W.failures out.old ≤ W.failures out.new }
 {
-    push_slots(out, cloud, query)?;
+    push_slots(out, cloud, query, slots)?;
     push_trees(out, trees)?;
     push_all(out, candidates_line(found))
 }
 
-/// Whether there is a candidate. Where the counts say that no root has a provider for each slot, there is none, and none is
-/// searched for.
+/// Whether there is a candidate. Where the counts say that no root has a provider for each slot and the traits that the group
+/// without a suffix requires, there is none, and none is searched for.
 pub fn has_candidate(
     alloc: Global,
     cloud: &Cloud,
@@ -223,7 +325,7 @@ pub fn has_candidate(
     ensures { IfOk result (λ found.
         found ≡ has_candidate (providers_of cloud.now) (asked_of query.now)) }
 {
-    if trees.each_slot == 0 {
+    if trees.required_traits == 0 {
         return Ok(false);
     }
     let mut walk = Walk::new(alloc, cloud, query, None)?;

@@ -3,32 +3,23 @@ use Rattle.std.proofs.Common.{inl, inr, ◌≡◌, ◌∙◌, ◌<◌, ◌≤◌
 use Rattle.std.specs.Prelude.{if◌then◌else◌, take}
 use Rattle.std.specs.List.{filter, list_all, list_any, range_with_len, AllByRecursion as Each}
 use Rattle.std.proofs.Math.Bool.{and-true}
-use Rattle.std.proofs.lemmas.Bool.{cases_Bool, and_parts, and_from, false≢true, false_from_ne_true}
+use Rattle.std.proofs.lemmas.Bool.{cases_Bool}
 use Rattle.std.proofs.lemmas.Bool.Decides.{nat_tests}
 use Rattle.std.proofs.lemmas.List.{length-append}
 use Rattle.std.proofs.lemmas.List.Folds.{list_all_more}
 use Rattle.std.proofs.lemmas.List.FromFn.{fill_by_all, get_or-map-range_with_len, length-map-range_with_len, length-range_with_len}
 use Rattle.ac_query.specs.Asked.{Asked, Slot, slots_of}
-use Rattle.ac_cloud.specs.World.{Provider}
-use Rattle.ac_prune.specs.Ahead.{load_of, hosts_of, serves, IsHosted}
-use Rattle.ac_search.specs.Explained.{count_below, in_slot, is_served, meets_room, meets_tree, tree_counts}
-use Rattle.ac_search.specs.Laws.{NoneWithoutRoots}
-use Rattle.ac_prune.specs.QuerySearch.{fits, has_room_alone}
-use Rattle.ac_search.specs.Shown.Explained.{marked, served, served_roots}
+use Rattle.ac_cloud.specs.World.{Provider, provider_at}
+use Rattle.ac_prune.specs.Ahead.{load_of, hosts_of}
+use Rattle.ac_search.specs.Explained.{class_room, count_below, count_of, in_slot, is_served, meets_room, meets_tree}
+use Rattle.ac_search.specs.Shown.Explained.{fitting, marked, served, served_roots}
 use Rattle.ac_prune.specs.Loads.{AreLimited}
-use Rattle.ac_rules.specs.Judge.{is_candidate}
-use Rattle.ac_rules.specs.Lists.{IsListBelow, all_lists}
-use Rattle.ac_rules.specs.Pages.{candidates}
-use Rattle.ac_rules.specs.Placed.{Placed, placed, assigned, no_slot, slot_at}
-use Rattle.ac_rules.specs.Together.{amount_of, sum_on, takes_root, hosts_all, anchor}
+use Rattle.ac_rules.specs.Placed.{no_slot, slot_at}
+use Rattle.ac_rules.specs.Together.{holds, takes_root}
 use Rattle.ac_rules.proofs.EachSlot.AnchorLemmas.{each_range}
-use Rattle.ac_rules.proofs.Elements.{Among, each_weaker, filter_none}
-use Rattle.ac_rules.proofs.Lists.ListLemmas.{each_all_lists}
-use Rattle.ac_prune.proofs.Paths.BearLemmas.{each_serves}
-use Rattle.ac_prune.proofs.Roots.HostLemmas.{behind_hosts, candidate_open, candidate_parts}
-use Rattle.ac_prune.proofs.Roots.TreeLemmas.{or_left, or_right}
-use Rattle.ac_prune.proofs.Search.OpenLemmas.{amounts_among, choice_more, filter_few, room_each}
-use Rattle.ac_prune.proofs.Roots.RootLemmas.{any_within, hosts_low, served_fits}
+use Rattle.ac_rules.proofs.Elements.{each_weaker, filter_agree}
+use Rattle.ac_prune.proofs.Search.OpenLemmas.{choice_more, filter_few}
+use Rattle.ac_prune.proofs.Roots.RootLemmas.{hosts_low}
 
 -- one more place
 pub count_more : (test : ℕ → Bool) (n : ℕ) → count_below (n + 1) test ≡ count_below n test + (if test n then 1 else 0)
@@ -41,10 +32,21 @@ count_more test n = elim (cases_Bool (test n)) [
 pub count_few : (test : ℕ → Bool) (n : ℕ) → count_below n test ≤ n
 count_few test n = let few = filter_few test (range_with_len 0 n) in let size = length-range_with_len 0 n in omega (arith, few, size)
 
+-- by marks of the providers that meet all but room
+pub class_marked : (all : List Provider) (slot : Slot) (need : List ℕ × ℕ) (marks : List Bool) → marks ≡ fitting all slot
+    → count_of all (λ p. slice_index_or marks p false && holds (provider_at all p) need.0 need.1) ≡ class_room all slot need
+class_marked all slot need marks are =
+    let n = length all in
+    let meets = λ (p : ℕ). meets_tree all (in_slot slot p) in
+    ap length (filter_agree (λ p. slice_index_or marks p false && holds (provider_at all p) need.0 need.1) (λ p. meets p && holds (provider_at all p) need.0 need.1) (range_with_len 0 n)
+    (each_weaker (λ p. p < n) _ (range_with_len 0 n)
+    (λ p low. ap (λ b. b && holds (provider_at all p) need.0 need.1) (ap (λ (bs : List Bool). slice_index_or bs p false) are ∙ get_or-map-range_with_len meets 0 n p p false low (omega arith)))
+    (each_range 0 n n (omega arith))))
+
 -- ---- Marks of roots
 
 -- some have 1, and the others 0
-reaches : (test : ℕ → Bool) (rooms hosts : List ℕ) (n : ℕ) → Each (λ p. p < n) hosts → ((p : ℕ) → p < n → slice_index rooms p ≡ (if test p then 1 else 0))
+pub reaches : (test : ℕ → Bool) (rooms hosts : List ℕ) (n : ℕ) → Each (λ p. p < n) hosts → ((p : ℕ) → p < n → slice_index rooms p ≡ (if test p then 1 else 0))
     → nat_le 1 (load_of (λ p. slice_index rooms p) hosts) ≡ list_any test hosts
 reaches test rooms [] n low is = refl
 reaches test rooms (p ∷ hosts) n low is =
@@ -79,59 +81,3 @@ served_none all asked (r ∷ rs) = ap₂ (λ b bs. b ∷ bs) (sym (and-true (tak
 pub marked_map : {X : Type 0} (test : X → Bool) (xs : List X) → marked (map test xs) ≡ length (filter test xs)
 marked_map test [] = refl
 marked_map test (x ∷ xs) = grind (arith, marked_map test xs)
-
--- ---- Where a candidate stands
-
--- a provider that serves a slot before anything is placed meets all that is asked of it alone
-serves_alone : (all : List Provider) (asked : Asked) (slot : Slot) (p : ℕ) → serves all asked [] slot p ≡ true → meets_room all (in_slot slot p) ≡ true
-unfolding fits has_room_alone
-serves_alone all asked slot p h =
-    let both = served_fits all asked slot p h in
-    let room = room_each all p (λ c. sum_on (assigned asked []) p c + amount_of slot.needs c) slot.needs
-    (each_weaker (λ need. need.1 ≤ amount_of slot.needs need.0) (λ need. need.1 ≤ sum_on (assigned asked []) p need.0 + amount_of slot.needs need.0) slot.needs (λ need less. omega (arith, less)) (amounts_among slot.needs))
-    both.1 in
-    and_from (meets_tree all (in_slot slot p)) _ both.0 room
-
-any_among : (f : ℕ → Bool) (xs : List ℕ) (x : ℕ) → Among xs x → f x ≡ true → list_any f xs ≡ true
-any_among f [] x h on = absurd h
-any_among f (y ∷ xs) x h on = elim h [
-  | inl e ↦ or_left (f y) (list_any f xs) (ap f e ∙ on)
-  | inr m ↦ or_right (f y) (list_any f xs) (any_among f xs x m on)
-]
-
--- each slot has its provider
-each_served : (all : List Provider) (asked : Asked) (r : ℕ) (ss : List Slot) (t : List ℕ) → length t ≡ length ss → Each (λ (y : Placed). Among (hosts_of all r) y.provider) (placed ss t)
-    → Each (λ (y : Placed). serves all asked [] y.slot y.provider ≡ true) (placed ss t) → list_all (λ slot. is_served all r slot) ss ≡ true
-each_served all asked r [] t size hosts serve = refl
-each_served all asked r (s ∷ ss) [] size hosts serve = absurd (omega (arith, size))
-each_served all asked r (s ∷ ss) (p ∷ t) size hosts serve =
-    and_from _ _ (any_among (λ p. meets_room all (in_slot s p)) (hosts_of all r) p hosts.0 (serves_alone all asked s p serve.0)) (each_served all asked r ss t (omega (arith, size)) hosts.1 serve.1)
-
-any_kept : {X : Type 0} (f : X → Bool) (xs : List X) → list_any f xs ≡ true → 0 < length (filter f xs)
-any_kept f [] h = absurd (false≢true h)
-any_kept f (x ∷ xs) h = grind (arith, any_kept f xs)
-
--- a candidate stands at a root that has a provider for each slot
-root_counted : (all : List Provider) (asked : Asked) (t : List ℕ) → IsListBelow (length all) (length (slots_of asked)) t → is_candidate all asked t ≡ true → 0 < (tree_counts all asked).each_slot
-unfolding anchor
-root_counted all asked t list candidate =
-    let counted = λ (r : ℕ). takes_root all asked r && list_all (λ slot. is_served all r slot) (slots_of asked) in
-    let stands = λ (r : ℕ). takes_root all asked r && hosts_all all (assigned asked t) r in
-    let serve = each_serves all asked [] t (candidate_open all asked t candidate) in
-    let one = λ (r : ℕ) (low : r < length all) (h : stands r ≡ true).
-    let both = and_parts (takes_root all asked r) (hosts_all all (assigned asked t) r) h in
-    let hosted : IsHosted all asked r t = record { list = list; candidate = candidate; takes = both.0; hosts = both.1 } in
-    and_from (takes_root all asked r) (list_all (λ slot. is_served all r slot) (slots_of asked)) both.0
-    (each_served all asked r (slots_of asked) t list.long (behind_hosts all asked [] t r hosted) serve) in
-    any_kept counted (range_with_len 0 (length all))
-    (any_within stands counted (range_with_len 0 (length all))
-    (each_weaker (λ r. r < length all) (λ r. stands r ≡ true → counted r ≡ true) (range_with_len 0 (length all)) one (each_range 0 (length all) (length all) (omega arith)))
-    (candidate_parts all asked t candidate).anchor)
-
-pub none_without_roots : NoneWithoutRoots
-unfolding candidates
-none_without_roots all asked none =
-    filter_none (λ t. is_candidate all asked t) (all_lists (length all) (length (slots_of asked)))
-    (each_weaker (IsListBelow (length all) (length (slots_of asked))) (λ t. is_candidate all asked t ≡ false) (all_lists (length all) (length (slots_of asked)))
-    (λ t list. false_from_ne_true _ (λ candidate. let some = root_counted all asked t list candidate in absurd (omega (arith, some, none))))
-    (each_all_lists (length all) (length (slots_of asked))))

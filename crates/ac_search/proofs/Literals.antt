@@ -21,7 +21,7 @@ own_entry : List ℕ → ℕ → List (List ℕ × UsedInventory)
 own_entry class total = (class, record { inventory = record { total = total; reserved = 0; min_unit = 1; max_unit = total; step_size = 1; ratio = 1000000 }; used = 0 }) ∷ []
 
 provider : ℕ → Option ℕ → List (List ℕ × UsedInventory) → List (List ℕ) → List ℕ → Provider
-provider id parent entries traits aggregates = record { id = id; parent = parent; entries = entries; traits = traits; aggregates = aggregates }
+provider id parent entries traits aggregates = record { id = id; name = []; parent = parent; entries = entries; traits = traits; aggregates = aggregates }
 
 -- a group without required traits
 group : List (List ℕ × ℕ) → List AggregateRule → Group

@@ -2,5 +2,6 @@
 pub mod FrontOrder
 pub mod BoundLemmas
 pub mod ShorterLemmas
+pub mod StandLemmas
 pub mod LeastLemmas
 pub mod IdsLemmas

@@ -7,3 +7,4 @@ pub mod PathLemmas
 pub mod StepLemmas
 pub mod ChangeLemmas
 pub mod EntryLemmas
+pub mod LeaveLemmas

@@ -1,11 +1,13 @@
--- How far a query comes: of each slot how many providers meet its rules, one after another, and how many roots have one for each slot.
-use Rattle.std.specs.Prelude.{ℕ, Bool, ◌&&◌, List, length}
+-- How far a query comes: of each slot how many providers meet its rules, one after another, and how many roots have one for each slot, and
+-- the traits that the group without a suffix requires.
+use Rattle.std.specs.Prelude.{ℕ, Bool, ◌&&◌, ◌||◌, if◌then◌else◌, nat_lt, List, [], length, map}
 use Rattle.std.specs.List.{list_all, list_any, filter, range_with_len}
-use Rattle.ac_query.specs.Asked.{Asked, Slot, slots_of}
-use Rattle.ac_cloud.specs.World.{Provider, id_at, is_root}
+use Rattle.std.specs.Option.{is_none, is_some}
+use Rattle.ac_query.specs.Asked.{Asked, Group, Slot, slots_of}
+use Rattle.ac_cloud.specs.World.{Provider, provider_at, id_at, has_trait, is_root}
 use Rattle.ac_rules.specs.Placed.{Placed}
-use Rattle.ac_rules.specs.Own.{units_fit, traits_fit, aggregates_fit, tree_fits}
-use Rattle.ac_rules.specs.Together.{takes_root}
+use Rattle.ac_rules.specs.Own.{units_fit, traits_fit, aggregates_fit, tree_fits, has_any}
+use Rattle.ac_rules.specs.Together.{holds, takes_root}
 use Rattle.ac_prune.specs.QuerySearch.{has_room_alone}
 use Rattle.ac_prune.specs.Ahead.{hosts_of}
 
@@ -57,21 +59,68 @@ slot_counts all slot = record {
   room = count_of all (λ p. meets_room all (in_slot slot p));
 }
 
+-- how many providers that meet all but room have room for one class of the slot, whatever they have of the others
+abbrev pub class_room : List Provider → Slot → List ℕ × ℕ → ℕ
+class_room all slot need = count_of all (λ p. meets_tree all (in_slot slot p) && holds (provider_at all p) need.0 need.1)
+
+-- a slot has several classes, and some provider that meets all but room has no room for them
+abbrev pub is_short : List Provider → Slot → Bool
+is_short all slot = nat_lt 1 (length slot.needs) && nat_lt (slot_counts all slot).room (slot_counts all slot).tree
+
+-- of such a slot how many have room for each class, in the order of classes; of others nothing
+abbrev pub class_rooms : List Provider → Slot → List ℕ
+class_rooms all slot = if is_short all slot then map (class_room all slot) slot.needs else []
+
+-- what is told of a slot
+pub record SlotTold : Type 0 where
+  pub counts : SlotCounts
+  pub rooms : List ℕ
+
+abbrev pub slot_told : List Provider → Slot → SlotTold
+slot_told all slot = record { counts = slot_counts all slot; rooms = class_rooms all slot }
+
 -- ---- Counts of roots
 
 -- a provider that meets all that a slot asks is available in the tree of a root
 abbrev pub is_served : List Provider → ℕ → Slot → Bool
 is_served all r slot = list_any (λ p. meets_room all (in_slot slot p)) (hosts_of all r)
 
--- how many roots there are, how many of them the query takes, and at how many of these each slot has such a provider
+-- a root that the query takes, and at which each slot has such a provider
+abbrev pub has_each_slot : List Provider → Asked → ℕ → Bool
+has_each_slot all asked r = takes_root all asked r && list_all (λ slot. is_served all r slot) (slots_of asked)
+
+-- a provider that meets all that some slot without a suffix asks
+abbrev pub serves_unsuffixed : List Provider → Asked → ℕ → Bool
+serves_unsuffixed all asked p = list_any (λ slot. is_none slot.suffix && meets_room all (in_slot slot p)) (slots_of asked)
+
+-- such a provider is available in the tree of a root, and has a trait
+abbrev pub is_held : List Provider → Asked → ℕ → List ℕ → Bool
+is_held all asked r name = list_any (λ p. serves_unsuffixed all asked p && has_trait (provider_at all p) name) (hosts_of all r)
+
+-- one is, and has one of these traits
+abbrev pub is_one_held : List Provider → Asked → ℕ → List (List ℕ) → Bool
+is_one_held all asked r names = list_any (λ p. serves_unsuffixed all asked p && has_any (provider_at all p) names) (hosts_of all r)
+
+-- each required trait of a group is held there, by one provider or another, and of each any-of list one is
+abbrev pub are_held : List Provider → Asked → ℕ → Group → Bool
+are_held all asked r g = list_all (λ name. is_held all asked r name) g.required && list_all (λ names. is_one_held all asked r names) g.any_of
+
+-- all that the group without a suffix requires is held there
+abbrev pub holds_required : List Provider → Asked → ℕ → Bool
+holds_required all asked r = list_all (λ g. is_some g.0 || are_held all asked r g.1) asked.groups
+
+-- how many roots there are, how many of them the query takes, at how many of these each slot has such a provider, and at how many of
+-- these all that the group without a suffix requires is held
 pub record TreeCounts : Type 0 where
   pub roots : ℕ
   pub root_traits : ℕ
   pub each_slot : ℕ
+  pub required_traits : ℕ
 
 abbrev pub tree_counts : List Provider → Asked → TreeCounts
 tree_counts all asked = record {
   roots = count_of all (λ r. is_root all (id_at all r));
   root_traits = count_of all (λ r. takes_root all asked r);
-  each_slot = count_of all (λ r. takes_root all asked r && list_all (λ slot. is_served all r slot) (slots_of asked));
+  each_slot = count_of all (λ r. has_each_slot all asked r);
+  required_traits = count_of all (λ r. has_each_slot all asked r && holds_required all asked r);
 }

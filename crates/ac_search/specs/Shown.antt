@@ -1,3 +1,5 @@
 -- What a walk and an explanation show.
 pub mod Explained
+pub mod Hosts
+pub mod Lacking
 pub mod Walk

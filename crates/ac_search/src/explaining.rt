@@ -1,5 +1,5 @@
 //! How far a query comes: of each slot how many providers meet its rules, one after another, and how many roots have one
-//! for each slot.
+//! for each slot, and the traits that the group without a suffix requires.
 
 ghost use Rattle.std.specs.Prelude.{◌≡◌, ◌<◌, ◌^◌, IfOk, [], length, nat_lt};
 ghost use Rattle.ac_cloud.specs.World.{id_at, is_root, provider_at};
@@ -14,6 +14,9 @@ ghost use Rattle.ac_prune.specs.QuerySearch.{has_room_alone};
 ghost use Rattle.ac_rules.specs.Shown.Assignments.{placed_of};
 ghost use Rattle.ac_search.specs.Shown.Explained.{marked, served, served_roots, slot_counted, trees_counted};
 
+mod classes;
+pub(crate) mod required;
+
 use ac_base::NoMemory;
 use ac_cloud::Cloud;
 use ac_prune::{fits_slot, limit, taken_roots};
@@ -21,6 +24,8 @@ use ac_query::{Need, Query};
 use ac_rules::Placed;
 use ac_rules::rules::sums::room_at;
 use ac_rules::slots::{count_slots, needs_at};
+pub use classes::{SlotTold, all_slots};
+use required::limit_required;
 use std::alloc::Global;
 
 /// How many providers meet what a slot asks. Each number counts those that meet all that stands before it, too.
@@ -47,6 +52,9 @@ pub struct TreeCounts {
     pub root_traits: u32,
     /// Of these, those in whose trees each slot has a provider available that meets its rules and has room for it.
     pub each_slot: u32,
+    /// Of these, those in whose trees each trait that the group without a suffix requires, and one of each of its lists, is
+    /// had by some such provider of one of that group's slots.
+    pub required_traits: u32,
 }
 
 // Whether a provider has room for an amount of a class.
@@ -78,7 +86,7 @@ fn has_room_alone(cloud: &Cloud, query: &Query, s: usize, ix: u32) -> bool
 }
 
 // How many of the rules of its slot a provider meets, one after another: the four of its own, and room for what the slot alone asks.
-fn count_met(placed: &Placed) -> u32
+pub(crate) fn count_met(placed: &Placed) -> u32
     ensures units { nat_lt 0 result
         ≡ meets_units (providers_of placed.now.cloud.now) (placed_of placed.now) }
     ensures traits { nat_lt 1 result
@@ -143,14 +151,23 @@ pub fn slot_counts(cloud: &Cloud, query: &Query, s: usize) -> SlotCounts
     }
 }
 
-// Whether a provider meets all that a slot asks, room included.
+// Whether a provider meets the rules of a slot.
 #[tactic(auto, unfolding(ac_prune::specs::QuerySearch::fits))]
+fn meets_rules(cloud: &Cloud, query: &Query, s: usize, ix: u32) -> bool
+    requires slot { s < length (slots_of (asked_of query.now)) }
+    requires provider { ix < length (providers_of cloud.now) }
+    ensures { result ≡ meets_tree (providers_of cloud.now) (placed_at (asked_of query.now) s ix) }
+{
+    fits_slot(cloud, query, s, ix)
+}
+
+// Whether a provider meets all that a slot asks, room included.
 fn serves(cloud: &Cloud, query: &Query, s: usize, ix: u32) -> bool
     requires slot { s < length (slots_of (asked_of query.now)) }
     requires provider { ix < length (providers_of cloud.now) }
     ensures { result ≡ meets_room (providers_of cloud.now) (placed_at (asked_of query.now) s ix) }
 {
-    fits_slot(cloud, query, s, ix) && has_room_alone(cloud, query, s, ix)
+    meets_rules(cloud, query, s, ix) && has_room_alone(cloud, query, s, ix)
 }
 
 // 1 for each provider that meets all that a slot asks, and else 0.
@@ -212,7 +229,8 @@ fn count_marks(marks: &[bool]) -> u32
     count
 }
 
-/// How many roots there are, how many of them the query takes, and at how many of these each slot has a provider.
+/// How many roots there are, how many of them the query takes, at how many of these each slot has a provider, and at how many
+/// of these all that the group without a suffix requires is held.
 pub fn tree_counts(alloc: Global, cloud: &Cloud, query: &Query) -> Result<TreeCounts, NoMemory>
     ensures { IfOk result (λ counts.
         trees_counted counts ≡ tree_counts (providers_of cloud.now) (asked_of query.now)) }
@@ -222,9 +240,12 @@ pub fn tree_counts(alloc: Global, cloud: &Cloud, query: &Query) -> Result<TreeCo
     let root_traits = count_marks(&marks);
     limit_slots(alloc, cloud, query, &mut marks)?;
     let each_slot = count_marks(&marks);
+    limit_required(alloc, cloud, query, &mut marks)?;
+    let required_traits = count_marks(&marks);
     Ok(TreeCounts {
         roots,
         root_traits,
         each_slot,
+        required_traits,
     })
 }

@@ -1,5 +1,7 @@
 //! The walk: candidates found slot by slot, leaving a path as soon as it can hold none.
-ghost use Rattle.std.specs.Prelude.{◌≡◌, ◌<◌, length, map, take, slice_index, true, false, None, IfOk};
+ghost use Rattle.std.specs.Prelude.{◌≡◌, ◌<◌, length, map, take, slice_index, true, false, None, Some, IfOk, IfSome};
+ghost use Rattle.std.specs.List.{filter};
+ghost use Rattle.std.proofs.Props.{props};
 ghost use Rattle.std.specs.Bool.{MatchBool};
 ghost use Rattle.std.specs.Option.{option_map};
 ghost use Rattle.ac_cloud.specs.Cloud.CloudWorld.{providers_of};
@@ -7,12 +9,15 @@ ghost use Rattle.ac_query.specs.Asked.{slots_of};
 ghost use Rattle.ac_query.specs.Shown.Queries.{asked_of};
 ghost use Rattle.ac_query.specs.Tokens as tokens;
 ghost use Rattle.ac_prune.specs.Left.Accounts.{providers_in, asked_in, Accounts};
-ghost use Rattle.ac_rules.specs.Pages.{rest};
+ghost use Rattle.ac_rules.specs.Pages.{candidates, rest};
 ghost use Rattle.ac_search.specs.Search.{IsSound};
-ghost use Rattle.ac_prune.specs.QuerySearch.{choices_of, search_of};
+ghost use Rattle.ac_prune.specs.Marks.{stand_at_marked};
+ghost use Rattle.ac_prune.specs.QuerySearch.{choices_of};
+ghost use Rattle.ac_search.specs.Hosts.{search_at, standing};
 ghost use Rattle.ac_search.specs.Between.{least_of};
 ghost use Rattle.ac_prune.specs.Tests.{AreTests, AreTests-prop};
 
+mod leaving;
 mod passing;
 mod trying;
 
@@ -49,6 +54,8 @@ pub struct Walk<'a> {
     choices: Vec<Vec<u32>>,
     // The tests by which it looks ahead.
     lookout: Lookout,
+    // Marks of the roots at which candidates are looked for; without them, they are at all.
+    roots: Option<Vec<bool>>,
     // The providers so far, as many as the depth says, and where each stands among the choices of its slot.
     path: Vec<u32>,
     places: Vec<usize>,
@@ -61,12 +68,13 @@ pub struct Walk<'a> {
     ghost looking: { AreTests (providers_in ledger) (asked_in ledger) lookout } by { AreTests-prop (providers_in ledger) (asked_in ledger) lookout },
     ghost path_len: { length path.items ≡ length (slots_of (asked_in ledger)) },
     ghost places_len: { length places.items ≡ length (slots_of (asked_in ledger)) },
-    ghost sound: { IsSound (search_of (providers_in ledger) (asked_in ledger)) least.items (take depth path.items) (take depth places.items) depth (slice_index places.items depth) seeking probes },
+    ghost marked: { IfSome roots (λ marks. length marks.items ≡ length (providers_in ledger)) } by { Prim.hlevel props },
+    ghost sound: { IsSound (search_at (providers_in ledger) (asked_in ledger) (option_map (λ marks. marks.items) roots)) least.items (take depth path.items) (take depth places.items) depth (slice_index places.items depth) seeking probes },
     ghost accounted: { Accounts ledger (take depth path.items) },
 }
 
 impl<'a> Walk<'a> {
-    ghost use Rattle.ac_search.specs.Shown.Walk.{cloud_in, query_in, token_in, probes_in, given_in};
+    ghost use Rattle.ac_search.specs.Shown.Walk.{cloud_in, query_in, token_in, roots_in, probes_in, given_in, left_of};
     ghost use Rattle.ac_search.specs.Search.Steps.{StepGives, Goes, Advances, Finishes};
 
     /// Begins with the first candidate after the ids of a token, or with the first of all. It takes all its memory
@@ -87,6 +95,48 @@ impl<'a> Walk<'a> {
         ensures probes { IfOk result (λ walk. probes_in walk ≡ 0) }
         ensures last { IfOk result (λ walk. given_in walk ≡ None) }
     {
+        Walk::begin(alloc, cloud, query, after, None)
+    }
+
+    /// Begins with the first candidate that stands at one of some marked roots.
+    pub(crate) fn at_roots(
+        alloc: Global,
+        cloud: &'a Cloud,
+        query: &'a Query,
+        roots: Vec<bool>,
+    ) -> Result<Walk<'a>, NoMemory>
+        requires { length roots.items ≡ length (providers_of cloud.now) }
+        ensures left { IfOk result (λ walk. left_of walk
+            ≡ filter (stand_at_marked (providers_of cloud.now) roots.items)
+            (candidates (providers_of cloud.now) (asked_of query.now))) }
+        ensures cloud { IfOk result (λ walk. cloud_in walk ≡ providers_of cloud.now) }
+        ensures query { IfOk result (λ walk. query_in walk ≡ asked_of query.now) }
+        ensures roots { IfOk result (λ walk. roots_in walk ≡ Some roots.items) }
+    {
+        Walk::begin(alloc, cloud, query, None, Some(roots))
+    }
+
+    // Begins with the first list after the ids of a token that is looked for.
+    fn begin(
+        alloc: Global,
+        cloud: &'a Cloud,
+        query: &'a Query,
+        after: Option<&Token>,
+        roots: Option<Vec<bool>>,
+    ) -> Result<Walk<'a>, NoMemory>
+        requires { IfSome roots (λ marks. length marks.items ≡ length (providers_of cloud.now)) }
+        ensures left { IfOk result (λ walk. left_of walk
+            ≡ standing (providers_of cloud.now) (option_map (λ marks. marks.items) roots)
+            (rest (providers_of cloud.now) (asked_of query.now)
+            (option_map (λ t. tokens.ids_of t.now) after.entry))) }
+        ensures cloud { IfOk result (λ walk. cloud_in walk ≡ providers_of cloud.now) }
+        ensures query { IfOk result (λ walk. query_in walk ≡ asked_of query.now) }
+        ensures token { IfOk result (λ walk. token_in walk
+            ≡ option_map (λ t. tokens.ids_of t.now) after.entry) }
+        ensures roots { IfOk result (λ walk. walk.roots ≡ roots) }
+        ensures probes { IfOk result (λ walk. probes_in walk ≡ 0) }
+        ensures last { IfOk result (λ walk. given_in walk ≡ None) }
+    {
         let width = count_slots(query);
         let least = least_of(alloc, cloud, after, width)?;
         let after = ids_of(alloc, after)?;
@@ -102,6 +152,7 @@ impl<'a> Walk<'a> {
             least,
             choices,
             lookout,
+            roots,
             path,
             places,
             depth: 0,
@@ -128,7 +179,7 @@ impl<'a> Walk<'a> {
     }
 
     // Goes on to the next candidate, where there is one.
-    fn advance(&mut self) -> bool
+    pub(crate) fn advance(&mut self) -> bool
         ensures { MatchBool result (Advances self.old self.new) (Finishes self.old self.new) }
     {
         'steps: loop {

@@ -15,7 +15,7 @@ pub use Rattle.ac_tables.specs.Reader.InventoryRows.{class_pair, inventory_recor
 pub use Rattle.ac_cloud.specs.ListBounds.{lists_in}
 pub use Rattle.ac_tables.specs.Reader.Listings.{IsFirst}
 pub use Rattle.ac_cloud.specs.ListsOf.{lists_of}
-pub use Rattle.ac_tables.specs.Reader.ProviderLaws.{provider_shown}
+pub use Rattle.ac_tables.specs.Reader.ProviderLaws.{name_bytes, provider_shown}
 pub use Rattle.ac_base.proofs.Small.{eq_turned}
 pub use Rattle.ac_tables.specs.Reader.RecordLaws.{lone_checks, same_place}
 pub use Rattle.ac_tables.specs.Reader.TableRows.{AreStarts, AreTiesRising, IsKeyed, IsLeast, IsLeastBelow, IsLeastRepeat, IsReadSoFar, IsStart, IsTable, row_cmp, row_lt, row_shown, row_ties, is_past, sooner}
@@ -25,7 +25,7 @@ pub use Rattle.ac_tables.specs.Tables.AggregateTable.{AggregateRecord, aggregate
 pub use Rattle.ac_tables.specs.Tables.Checks.{Check, Row, Tells, TellsKind, first_failing, pass, record_checks, rows_fault, told_at}
 pub use Rattle.ac_tables.specs.Tables.Columns.{id_in, table_checks, text_in}
 pub use Rattle.ac_tables.specs.Tables.InventoryTable.{InventoryRecord, class_name, inventories_said, is_inventory_of, known_checks, owner_checks, provider_name}
-pub use Rattle.ac_tables.specs.Tables.ProviderTable.{ProviderRecord, has_endless_chain, has_unknown_parent, has_wrong_root, is_known, no_record, providers_said, record_at, said_parent, uuid_name}
+pub use Rattle.ac_tables.specs.Tables.ProviderTable.{ProviderRecord, has_endless_chain, has_unknown_parent, has_wrong_root, is_known, no_record, providers_said, record_at, said_name, said_parent, uuid_name}
 pub use Rattle.ac_tables.specs.Tables.Rows.{IsReading, records_of, rows_left}
 pub use Rattle.ac_tables.specs.Tables.TraitTable.{TraitRecord, traits_said}
 pub use Rattle.ac_tables.specs.Tables.UsageTable.{UsageRecord, usage_field_checks, usages_said}

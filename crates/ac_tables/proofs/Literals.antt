@@ -4,10 +4,10 @@ use Rattle.uuid.proofs.OnLiterals.{uuid_on_literals}
 use Rattle.csv.proofs.OnLiterals.{csv_on_literals}
 use Rattle.ac_base.specs.Texts.{number, count_value, in_millionths, ratio_value}
 use Rattle.ac_tables.specs.Tables.Columns.{header_checks}
-use Rattle.ac_tables.specs.Tables.ProviderTable.{uuid_name, root_name, parent_name, provider_columns, provider_said, place_of, provider_field_checks, place_checks, provider_record_checks}
+use Rattle.ac_tables.specs.Tables.ProviderTable.{name_name, uuid_name, root_name, parent_name, provider_columns, provider_said, place_of, provider_field_checks, place_checks, provider_record_checks}
 use Rattle.ac_tables.specs.Tables.InventoryTable.{provider_name, class_name, total_name, reserved_name, min_unit_name, max_unit_name, step_size_name, ratio_name, inventory_columns, numbers_said, inventory_said, number_checks, owner_checks, class_checks, inventory_field_checks, once_checks, inventory_record_checks}
 use Rattle.ac_tables.specs.Tables.UsageTable.{usage_name, usage_columns}
-use Rattle.ac_tables.specs.Tables.TraitTable.{name_name, trait_columns}
+use Rattle.ac_tables.specs.Tables.TraitTable.{trait_columns}
 use Rattle.ac_tables.specs.Tables.AggregateTable.{aggregate_columns}
 use Rattle.ac_tables.specs.Tables.{ids_of, tables_fault}
 use Rattle.ac_tables.specs.declared.fault.Table.TheVariants as table

@@ -1,5 +1,5 @@
 -- The providers that tables state are in order.
-use Rattle.ac_tables.proofs.Common.{◌≡◌, ◌<◌, ℕ, List, map, length, get_or, ap, arith, All, nat_cmp_total, get_or-map, length-map, Row, providers_of, IsRising, providers_said, gathered, Provider, no_provider, id_at}
+use Rattle.ac_tables.proofs.Common.{List, map, ap, All, nat_cmp_total, get_or-map, length-map, Row, IsRising, providers_said, gathered, no_provider}
 use Rattle.ac_tables.specs.Laws.{ProvidersInOrder}
 use Rattle.ac_tables.specs.Tables.{ids_of, world_stated}
 use Rattle.ac_cloud.proofs.InOrder.{in_order}

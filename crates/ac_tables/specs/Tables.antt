@@ -18,7 +18,7 @@ use Rattle.ac_base.specs.Quantities.{InventoryNumbers}
 use Rattle.ac_tables.specs.Tables.Checks.{Row, first_failing}
 use Rattle.ac_tables.specs.Tables.Rows.{records_of}
 use Rattle.ac_base.specs.Sorted.{TextMap, rising, map_of}
-use Rattle.ac_tables.specs.Tables.ProviderTable.{providers_said, said_parent, provider_checks}
+use Rattle.ac_tables.specs.Tables.ProviderTable.{providers_said, said_name, said_parent, provider_checks}
 use Rattle.ac_tables.specs.Tables.InventoryTable.{InventoryRecord, inventories_said, inventory_checks}
 use Rattle.ac_tables.specs.Tables.UsageTable.{UsageRecord, usages_said, usage_checks}
 use Rattle.ac_tables.specs.Tables.TraitTable.{TraitRecord, traits_said, trait_checks}
@@ -78,6 +78,7 @@ with_used amounts inventories = map (λ e. (e.0, record { inventory = e.1; used 
 abbrev pub gathered : Tables → ℕ → Provider
 gathered t id = record {
   id = id;
+  name = said_name (providers_said t.providers) id;
   parent = said_parent (providers_said t.providers) id;
   entries = with_used (amounts_of (usages_said t.usages) id) (inventories_of (inventories_said t.inventories) id);
   traits = names_of (traits_said t.traits) id;

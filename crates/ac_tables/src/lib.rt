@@ -10,7 +10,7 @@ mod reader;
 pub mod reading;
 mod tables;
 
-pub use ac_cloud::{Cloud, Counts, Entry};
+pub use ac_cloud::{Cloud, Counts, Entry, HostFault};
 pub use fault::{Table, TableFault, TableKind};
 pub use read::{FiveTables, FromTables, Sources};
 pub use reading::{ReadFault, drain};

@@ -107,6 +107,7 @@ impl FromTables for Cloud {
             ids,
             parents,
             roots,
+            names,
         } = providers;
         let inventories = Inventories::read(alloc, ids, src.inventories)?;
         let usages = read_usages(alloc, &inventories, src.usages_text())?;
@@ -128,6 +129,7 @@ impl FromTables for Cloud {
             entries,
             traits,
             aggregates,
+            names,
             counts,
         };
         Ok(Cloud::build(alloc, parts)?)

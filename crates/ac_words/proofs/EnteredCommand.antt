@@ -12,13 +12,15 @@ use Rattle.clap.specs.Kinds.{or_else}
 use Rattle.clap.specs.Lexer.{long_of, short_of}
 use Rattle.clap.specs.Simple.{App, Shape, argument_words, built, entered, label_of, names_of, rows_at}
 use Rattle.clap.specs.Takes.{is_given}
+use Rattle.clap.specs.Words.{first_of}
 use Rattle.clap.specs.Walk.{Held, Names, Outcome, Row, Rule, Step, Text, Waiting, Walk, after_flag, after_step, answers_to, arg_by_index, arg_by_long, bundle, done, finished, idle, is_empty, long_met, long_or_other, next, nothing_held, option, plain, plain_word, positional, refused, rows_after, settled, short_or_plain, subcommand, subcommand_met, subcommand_or_other, to_positional, trailing, value, waits, walk, walk_from, walked, walked_from, word_met}
 use Rattle.clap.proofs.SimpleLemmas.{is_nil}
 use Rattle.clap.proofs.OnLiterals.{clap_on_literals}
+use Rattle.ac_words.specs.Mark.{past_mark}
 use Rattle.ac_words.specs.Words.{HasEntry, IsComplete, name_of, named, program, query_of, token_of}
 use Rattle.ac_query.specs.Jobs.{HasToken}
 use Rattle.ac_query.specs.declared.job.Command.{Command}
-use Rattle.ac_query.specs.declared.job.Command.TheVariants.{Check, Candidates, Tokens, Verify, Explain}
+use Rattle.ac_query.specs.declared.job.Command.TheVariants.{Check, Candidates, Tokens, Verify, Explain, Hosts}
 use Rattle.ac_words.proofs.FilledRows.{Filled, HasValue, asks_or_takes, first_free, then_free}
 use Rattle.ac_words.proofs.FilledWalk.{keeps-defaults, keeps-settled, keeps-walk}
 
@@ -189,23 +191,33 @@ abbrev serves : Command → Shape → Bool
 serves command s = bytes_eq s.name (name_of command) && (needs_words command s && list_all asks_or_takes s.rules)
 
 abbrev is_served : Shape → Bool
-is_served s = serves Check s || (serves Candidates s || (serves Tokens s || (serves Verify s || serves Explain s)))
+is_served s = serves Check s || (serves Candidates s || (serves Tokens s || (serves Verify s || (serves Explain s || serves Hosts s))))
 
 abbrev ServedOption : Option Shape → Type 0
 ServedOption None = ⊤
 ServedOption (Some s) = is_served s ≡ true
 
+-- a query is there where its word is
+query-entry : (s : Shape) (words : List Text) → list_all asks_or_takes s.rules ≡ true → needs (codes "query") s ≡ true
+    → level_fault s [] nothing_held words false [] ≡ [] → is_some (option_map past_mark (first_of (codes "query") (rows_after s.rules [] words))) ≡ true
+query-entry s words kept n e = by_word (first_of (codes "query") (rows_after s.rules [] words)) (level-entry s words (codes "query") kept n e)
+  where
+    by_word : (word : Option Text) → is_some word ≡ true → is_some (option_map past_mark word) ≡ true
+    by_word (Some text) h = refl
+    by_word None h = h
+
 words-given : (command : Command) (s : Shape) (words : List Text) → list_all asks_or_takes s.rules ≡ true → needs_words command s ≡ true
     → level_fault s [] nothing_held words false [] ≡ []
     → (is_some (query_of command (rows_after s.rules [] words)) ≡ true) × HasToken command (token_of command (rows_after s.rules [] words))
 words-given Check s words kept n e = (refl, tt)
-words-given Candidates s words kept n e = (level-entry s words (codes "query") kept n e, tt)
-words-given Tokens s words kept n e = (level-entry s words (codes "query") kept n e, tt)
-words-given Explain s words kept n e = (level-entry s words (codes "query") kept n e, tt)
+words-given Candidates s words kept n e = (query-entry s words kept n e, tt)
+words-given Tokens s words kept n e = (query-entry s words kept n e, tt)
+words-given Explain s words kept n e = (query-entry s words kept n e, tt)
+words-given Hosts s words kept n e = (query-entry s words kept n e, tt)
 words-given Verify s words kept n e =
     let query : needs (codes "query") s ≡ true = grind arith in
     let token : needs (codes "token") s ≡ true = grind arith in
-    (level-entry s words (codes "query") kept query e, level-entry s words (codes "token") kept token e)
+    (query-entry s words kept query e, level-entry s words (codes "token") kept token e)
 
 command-complete : (command : Command) (s : Shape) (words : List Text) → serves command s ≡ true
     → level_fault s [] nothing_held words false [] ≡ [] → IsComplete (Some (rows_at s words))
@@ -225,7 +237,10 @@ level-complete s words k e = elim (cases_Bool (serves Check s)) [
       | inl t ↦ command-complete Tokens s words t e
       | inr no_tokens ↦ elim (cases_Bool (serves Verify s)) [
         | inl t ↦ command-complete Verify s words t e
-        | inr no_verify ↦ command-complete Explain s words (rw (no_check, no_candidates, no_tokens, no_verify) at k) e
+        | inr no_verify ↦ elim (cases_Bool (serves Explain s)) [
+          | inl t ↦ command-complete Explain s words t e
+          | inr no_explain ↦ command-complete Hosts s words (rw (no_check, no_candidates, no_tokens, no_verify, no_explain) at k) e
+        ]
       ]
     ]
   ]

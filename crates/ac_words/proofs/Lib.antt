@@ -1,3 +1,4 @@
 pub mod EnteredCommand
 pub mod FilledRows
 pub mod FilledWalk
+pub mod Marks

@@ -1,1 +1,3 @@
+pub mod Mark
 pub mod Words
+pub mod Laws

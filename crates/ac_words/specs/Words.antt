@@ -1,5 +1,5 @@
 -- The command line: what `clap` is told of it, and what it states of the words.
-use Rattle.std.specs.Prelude.{◌≡◌, ◌≢◌, ◌&&◌, ⊤, List, [], ◌∷◌, ◌++◌, Bool, Option, Some, None, true, codes, is_some, if◌then◌else◌}
+use Rattle.std.specs.Prelude.{◌≡◌, ◌≢◌, ◌&&◌, ⊤, List, [], ◌∷◌, ◌++◌, Bool, Option, Some, None, true, codes, is_some, option_map, if◌then◌else◌}
 use Rattle.std.specs.List.{list_any}
 use Rattle.std.specs.Str.{bytes_eq}
 use Rattle.clap.specs.Kinds.{or_else}
@@ -13,7 +13,8 @@ use Rattle.ac_query.specs.declared.version.Version.{Version}
 use Rattle.ac_query.specs.declared.version.Version.TheVariants.{V136, V139}
 use Rattle.ac_query.specs.Jobs.{HasToken}
 use Rattle.ac_query.specs.declared.job.Command.{Command}
-use Rattle.ac_query.specs.declared.job.Command.TheVariants.{Check, Candidates, Tokens, Verify, Explain}
+use Rattle.ac_query.specs.declared.job.Command.TheVariants.{Check, Candidates, Tokens, Verify, Explain, Hosts}
+use Rattle.ac_words.specs.Mark.{past_mark}
 use Rattle.ac_words.specs.declared.words.WordFault.{WordFault}
 use Rattle.ac_words.specs.declared.words.WordFault.TheVariants.{Refused, Help, NoMemory}
 use Rattle.ac_words.specs.declared.words.WordFault.TheVariants as fault
@@ -61,6 +62,9 @@ verify_app = with_options (with_rule (query_app (codes "verify")) (word_rule (co
 abbrev pub explain_app : App
 explain_app = with_options (query_app (codes "explain"))
 
+abbrev pub hosts_app : App
+hosts_app = with_options (query_app (codes "hosts"))
+
 -- what is told of a command
 abbrev pub app_for : Command → App
 app_for Check = check_app
@@ -68,6 +72,7 @@ app_for Candidates = candidates_app
 app_for Tokens = tokens_app
 app_for Verify = verify_app
 app_for Explain = explain_app
+app_for Hosts = hosts_app
 
 -- what has a version, and needs one of its own commands
 abbrev pub as_program : App → App
@@ -75,8 +80,8 @@ as_program app = record app { top = record app.top { has_version = true; subcomm
 
 abbrev pub program : App
 program =
-    with_subcommand (with_subcommand (with_subcommand (with_subcommand (with_subcommand (as_program (new_app (codes "ac_cli")))
-    check_app.top) candidates_app.top) tokens_app.top) verify_app.top) explain_app.top
+    with_subcommand (with_subcommand (with_subcommand (with_subcommand (with_subcommand (with_subcommand (as_program (new_app (codes "ac_cli")))
+    check_app.top) candidates_app.top) tokens_app.top) verify_app.top) explain_app.top) hosts_app.top
 
 -- ---- what it states of the words
 
@@ -167,16 +172,18 @@ name_of Candidates = codes "candidates"
 name_of Tokens = codes "tokens"
 name_of Verify = codes "verify"
 name_of Explain = codes "explain"
+name_of Hosts = codes "hosts"
 
--- the query of a command: a check has the empty one
+-- the query of a command, without the path of a URL before it; a check has the empty one
 abbrev pub query_of : Command → List Row → Option Text
 query_of Check rows = Some []
-query_of _ rows = first_of (codes "query") rows
+query_of _ rows = option_map past_mark (first_of (codes "query") rows)
 
--- the token of a command: to be judged, or to begin after; a check and an explanation have none
+-- the token of a command: to be judged, or to begin after; a check, an explanation and the rows of roots have none
 abbrev pub token_of : Command → List Row → Option Text
 token_of Check rows = None
 token_of Explain rows = None
+token_of Hosts rows = None
 token_of Verify rows = first_of (codes "token") rows
 token_of _ rows = first_of (codes "after") rows
 

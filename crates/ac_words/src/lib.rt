@@ -1,6 +1,9 @@
 //! The words of a command line: what they ask for, and why they are refused.
 #![tactic(auto)]
 
+pub mod laws;
+pub mod mark;
 pub mod words;
 
+pub use mark::past_mark;
 pub use words::{WordFault, Words, read_words};

@@ -6,6 +6,7 @@ ghost use Rattle.ac_words.specs.declared.words.WordFault.TheVariants.{NoMemory};
 
 mod entries;
 mod grammar;
+mod help;
 mod tables;
 
 use ac_query::{Command, Job, Version};

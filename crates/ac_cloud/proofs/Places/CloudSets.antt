@@ -1,6 +1,6 @@
 -- A cloud's parts, as the accessors of a cloud ask of them.
 use Rattle.ac_cloud.proofs.Common.{All, IsStrictlySortedBy, text_cmp, nat_cmp, entry_class, ◌≡◌, map, length, trait_bytes, lists_of, Cloud}
-use Rattle.ac_cloud.proofs.Places.CloudFacts.{parts, size, id_here, place_here, parent_here, root_here, root_inside, inventory_records_here, traits_here, aggregates_here}
+use Rattle.ac_cloud.proofs.Places.CloudFacts.{parts, size, id_here, place_here, parent_here, root_here, root_inside, inventory_records_here, traits_here, aggregates_here, name_here}
 
 module _ (c : Cloud) where
   -- as many of each part as there are providers
@@ -19,6 +19,9 @@ module _ (c : Cloud) where
   pub aggregates_sized : length (lists_of c.aggregates) ≡ length c.ids.ids.items
   aggregates_sized = (parts c).with_aggregates
 
+  pub names_sized : length (lists_of c.names) ≡ length c.ids.ids.items
+  names_sized = (parts c).with_names
+
   pub sharing_sized : length c.sharing.items ≡ length c.ids.ids.items
   sharing_sized = (parts c).with_sharing
 
@@ -35,4 +38,4 @@ module _ (c : Cloud) where
   ids_rise = (parts c).aggregates_rise
 
 -- what shows how the parts of a cloud are sized, and what they say
-pub ruleset here = (size, id_here, place_here, parent_here, root_here, root_inside, inventory_records_here, traits_here, aggregates_here, parents_sized, roots_sized, entries_sized, traits_sized, aggregates_sized, sharing_sized, anchors_sized, classes_rise, names_rise, ids_rise)
+pub ruleset here = (size, id_here, place_here, parent_here, root_here, root_inside, inventory_records_here, traits_here, aggregates_here, name_here, parents_sized, roots_sized, entries_sized, traits_sized, aggregates_sized, names_sized, sharing_sized, anchors_sized, classes_rise, names_rise, ids_rise)

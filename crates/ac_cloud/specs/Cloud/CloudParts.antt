@@ -17,11 +17,12 @@ use Rattle.ac_cloud.specs.declared.cloud.anchors.Anchors.{Anchors}
 use Rattle.ac_cloud.specs.declared.cloud.entry.Entry.{Entry}
 
 -- Each provider has its parent, its root and its lists, each list in order; it is known who shares, where each one is available, and who is above whom.
-pub record AreParts (ids : List ℕ) (parents : List (Option ℕ)) (roots : List ℕ) (entries : List (List Entry)) (traits : List (List TraitName)) (aggregates : List (List ℕ)) (sharing : List Bool) (anchors : Anchors) (visits : Option Visits) : Type 0 where
+pub record AreParts (ids : List ℕ) (parents : List (Option ℕ)) (roots : List ℕ) (entries : List (List Entry)) (traits : List (List TraitName)) (aggregates names : List (List ℕ)) (sharing : List Bool) (anchors : Anchors) (visits : Option Visits) : Type 0 where
   pub forest : IsForest (length ids) parents roots
   pub with_entries : length entries ≡ length ids
   pub with_traits : length traits ≡ length ids
   pub with_aggregates : length aggregates ≡ length ids
+  pub with_names : length names ≡ length ids
   pub with_sharing : length sharing ≡ length ids
   pub with_anchors : length anchors.places.items ≡ length ids
   pub classes_rise : All (λ es. IsStrictlySortedBy text_cmp (map entry_class es)) entries
@@ -34,10 +35,10 @@ pub record AreParts (ids : List ℕ) (parents : List (Option ℕ)) (roots : List
   pub alone : (j : ℕ) → j < length ids → is_some (get_or anchors.places.items j None) ≡ false → is_marked sharing aggregates j ≡ true → IsAlone roots aggregates j
 
 -- The same as one word, so that a proof which only asks a cloud looks through none of it.
-unfoldable pub BelongTogether : List ℕ → List (Option ℕ) → List ℕ → List (List Entry) → List (List TraitName) → List (List ℕ) → List Bool → Anchors → Option Visits → Type 0
-BelongTogether ids parents roots entries traits aggregates sharing anchors visits = AreParts ids parents roots entries traits aggregates sharing anchors visits
+unfoldable pub BelongTogether : List ℕ → List (Option ℕ) → List ℕ → List (List Entry) → List (List TraitName) → List (List ℕ) → List (List ℕ) → List Bool → Anchors → Option Visits → Type 0
+BelongTogether ids parents roots entries traits aggregates names sharing anchors visits = AreParts ids parents roots entries traits aggregates names sharing anchors visits
 
-pub BelongTogether-prop : (ids : List ℕ) (parents : List (Option ℕ)) (roots : List ℕ) (entries : List (List Entry)) (traits : List (List TraitName)) (aggregates : List (List ℕ)) (sharing : List Bool) (anchors : Anchors) (visits : Option Visits)
-    → IsProp (BelongTogether ids parents roots entries traits aggregates sharing anchors visits)
+pub BelongTogether-prop : (ids : List ℕ) (parents : List (Option ℕ)) (roots : List ℕ) (entries : List (List Entry)) (traits : List (List TraitName)) (aggregates names : List (List ℕ)) (sharing : List Bool) (anchors : Anchors) (visits : Option Visits)
+    → IsProp (BelongTogether ids parents roots entries traits aggregates names sharing anchors visits)
 unfolding BelongTogether
-BelongTogether-prop ids parents roots entries traits aggregates sharing anchors visits = Prim.hlevel props
+BelongTogether-prop ids parents roots entries traits aggregates names sharing anchors visits = Prim.hlevel props

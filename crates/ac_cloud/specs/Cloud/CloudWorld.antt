@@ -15,7 +15,7 @@ sizes_of c = record { providers = c.providers; inventories = c.inventories; usag
 
 -- the providers of a cloud, in the order of their ids
 unfoldable pub providers_of : Cloud → List Provider
-providers_of cloud = numbered cloud.ids.ids.items cloud.parents.items (map (map entry_pair) (lists_of cloud.entries)) (map (map trait_bytes) (lists_of cloud.traits)) (lists_of cloud.aggregates)
+providers_of cloud = numbered cloud.ids.ids.items cloud.parents.items (map (map entry_pair) (lists_of cloud.entries)) (map (map trait_bytes) (lists_of cloud.traits)) (lists_of cloud.aggregates) (lists_of cloud.names)
 
 -- the lists of roots that a cloud keeps beside its providers, each for one of them or for several
 unfoldable pub root_lists_of : Cloud → List (List ℕ)

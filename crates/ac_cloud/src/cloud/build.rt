@@ -29,6 +29,7 @@ pub struct Parts {
     pub entries: Lists<Entry>,
     pub traits: Lists<TraitName>,
     pub aggregates: Lists<Id>,
+    pub names: Lists<u8>,
     pub counts: Counts,
 }
 
@@ -43,6 +44,7 @@ impl Cloud {
         requires entries { length (lists_of parts.entries) ≡ length parts.ids.ids.items }
         requires traits { length (lists_of parts.traits) ≡ length parts.ids.ids.items }
         requires aggregates { length (lists_of parts.aggregates) ≡ length parts.ids.ids.items }
+        requires names { length (lists_of parts.names) ≡ length parts.ids.ids.items }
         requires classes_rise { All (λ es. IsStrictlySortedBy text_cmp (map entry_class es))
             (lists_of parts.entries) }
         requires names_rise { All (λ names. IsStrictlySortedBy text_cmp (map trait_bytes names))
@@ -52,7 +54,8 @@ impl Cloud {
         ensures providers { IfOk result (λ cloud.
             providers_of cloud ≡ numbered parts.ids.ids.items parts.parents.items
             (map (map entry_pair) (lists_of parts.entries))
-            (map (map trait_bytes) (lists_of parts.traits)) (lists_of parts.aggregates)) }
+            (map (map trait_bytes) (lists_of parts.traits)) (lists_of parts.aggregates)
+            (lists_of parts.names)) }
         ensures sizes { IfOk result (λ cloud. (world_of cloud).sizes ≡ sizes_of parts.counts) }
     {
         let Parts {
@@ -62,6 +65,7 @@ impl Cloud {
             entries,
             traits,
             aggregates,
+            names,
             counts,
         } = parts;
         let sharing = find_sharing(alloc, &traits)?;
@@ -74,6 +78,7 @@ impl Cloud {
             entries,
             traits,
             aggregates,
+            names,
             sharing,
             anchors,
             visits,

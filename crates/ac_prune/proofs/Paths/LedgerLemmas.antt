@@ -30,7 +30,7 @@ use Rattle.ac_rules.specs.Judge.{is_open}
 use Rattle.ac_prune.specs.QuerySearch.{fits, has_room_alone}
 use Rattle.ac_rules.specs.Laws.{AskAmounts}
 use Rattle.ac_prune.specs.Left.{place_of, IsKnown, AreLeft, AreRooms, ask_pair, numbered, wanted, wanted_at, has_each, suffices}
-use Rattle.ac_prune.specs.Marks.{needs_own, marks_at, times, AreMarks, AreHits}
+use Rattle.ac_prune.specs.Marks.{needs_own, marks_at, times, AreMarks, AreHits, stand_at_marked}
 use Rattle.ac_prune.specs.Left.Accounts.{providers_in, asked_in, texts_in, left_in, Accounts}
 use Rattle.ac_prune.specs.declared.ledger.rooms.Ask.{Ask}
 use Rattle.ac_prune.specs.declared.ledger.Ledger.{Ledger}
@@ -41,7 +41,7 @@ use Rattle.ac_rules.proofs.EachSlot.FrontLemmas.{Opens, open_parts}
 use Rattle.ac_prune.proofs.Search.OpenLemmas.{placed_next, open_together, front_open}
 use Rattle.ac_prune.proofs.Paths.RowLemmas.{wanted_here, wanted_there}
 use Rattle.ac_prune.proofs.Paths.LeftLemmas.{known_at, sums_next, sum_here, sum_more, wanted_is, each_suffices, holds_less, less_holds}
-use Rattle.ac_prune.proofs.Paths.MarkLemmas.{isolate_next, anchor_next, marks_more, marks_most, hits_more, hits_most, times_anchors}
+use Rattle.ac_prune.proofs.Paths.MarkLemmas.{isolate_next, anchor_marked, marks_more, marks_most, hits_more, hits_most, times_anchors}
 use Rattle.std.proofs.Common.{rules}
 
 -- ---- Queries ask for amounts
@@ -132,12 +132,15 @@ row_low l s p v h k e i d less = search (rules, mul-add-lt, asks_low)
 pub lone_at : (l : Ledger) (s : ℕ) (b : Bool) → s < length (slots_of (asked_in l)) → b ≡ slice_index_or l.lone.items s b → b ≡ needs_own (asked_in l) (slot_at (asked_in l) s)
 lone_at l s b h e = search (rules, get_or-map)
 
-taken_at : (l : Ledger) (r : ℕ) → r < length (providers_in l) → slice_index_or l.taken.items r false ≡ takes_root (providers_in l) (asked_in l) r
-taken_at l r h =
-    let n = length (providers_in l) in
+-- a test of each number below n, at one of them
+pub mapped_at : (f : ℕ → Bool) (n r : ℕ) → r < n → slice_index_or (map f (range_with_len 0 n)) r false ≡ f r
+mapped_at f n r h =
     let size : r < length (range_with_len 0 n) = omega (arith, h, length-range_with_len 0 n) in
     let here : slice_index_or (range_with_len 0 n) r 0 ≡ r = get_or-range_with_len 0 n r 0 h ∙ omega arith in
     search (rules, get_or-map)
+
+taken_at : (l : Ledger) (r : ℕ) → r < length (providers_in l) → slice_index_or l.taken.items r false ≡ takes_root (providers_in l) (asked_in l) r
+taken_at l r h = ap (λ (taken : List Bool). slice_index_or taken r false) l.rooted ∙ mapped_at (takes_root (providers_in l) (asked_in l)) (length (providers_in l)) r h
 
 -- ---- One more provider
 
@@ -157,7 +160,7 @@ pub open_next : (l : Ledger) (q : List ℕ) (p : ℕ) → length q < length (slo
     → is_open (providers_in l) (asked_in l) (q ++ p ∷ [])
     ≡ (suffices (left_in l p) (map (numbered (texts_in l)) (slot_at (asked_in l) (length q)).needs)
     && (not (needs_own (asked_in l) (slot_at (asked_in l) (length q)) && nat_lt 0 (slice_index l.marks.items p))
-    && list_any (λ r. slice_index_or l.taken.items r false && (slice_index l.hits.items r == length q)) (anchors_of (providers_in l) p)))
+    && stand_at_marked (providers_in l) l.taken.items (q ++ p ∷ [])))
 unfolding is_open
 open_next l q p h k accounts own open_q =
     let all = providers_in l in
@@ -167,7 +170,7 @@ open_next l q p h k accounts own open_q =
     rw (placed_next asked q p h, accounts.marks p k) (isolate_next asked (assigned asked q) (placed_at asked (length q) p) front.isolate) in
     open_together all asked (q ++ p ∷ []) own
     ∙ ap₂ (λ a b. a && b) (sums_here l q p h k accounts open_q)
-    (ap₂ (λ a b. a && b) apart (sym (anchor_next all asked (slots_of asked) q p l.taken.items l.hits.items (omega (arith, h, length-append q (p ∷ []))) (taken_at l) accounts.hits)))
+    (ap₂ (λ a b. a && b) apart (sym (anchor_marked all asked (slots_of asked) (q ++ p ∷ []) l.taken.items (omega (arith, h, length-append q (p ∷ []))) (taken_at l))))
 
 -- ---- Room to count
 

@@ -9,7 +9,7 @@ use Rattle.ac_query.specs.Asked.{Asked, Slot, is_isolated}
 use Rattle.ac_cloud.specs.World.{Provider, is_available_at, anchors_of}
 use Rattle.ac_rules.specs.Placed.{Placed, placed}
 use Rattle.ac_rules.specs.Together.{is_set_apart, are_apart, all_apart, isolate, takes_root, anchor}
-use Rattle.ac_prune.specs.Marks.{needs_own, marks_at, times, hits_at, AreHits}
+use Rattle.ac_prune.specs.Marks.{needs_own, marks_at, times, hits_at, AreHits, stand_at, stand_at_marked}
 use Rattle.ac_rules.proofs.EachSlot.AnchorLemmas.{anchors_list, anchor_list, any_filter, any_agree, each_range}
 use Rattle.ac_rules.proofs.Elements.{each_filter, each_weaker}
 use Rattle.std.proofs.Common.{rules}
@@ -78,18 +78,27 @@ any_within f g [] h = refl
 any_within f g (z ∷ zs) h = ap₂ (λ a b. a || b) h.0 (any_within f g zs h.1)
 
 -- the test of one more provider at a root
-at_root : (all : List Provider) (asked : Asked) (q : List ℕ) (p r : ℕ)
-    → is_available_at all p r && (takes_root all asked r && (hits_at all q r == length q)) ≡ anchors_list all asked (q ++ p ∷ []) r
-at_root all asked q p r = search (rules, list_all-append, all_hit)
+at_root : (all : List Provider) (b : Bool) (q : List ℕ) (p r : ℕ)
+    → is_available_at all p r && (b && (hits_at all q r == length q)) ≡ b && stand_at all (q ++ p ∷ []) r
+at_root all b q p r = search (rules, list_all-append, all_hit)
 
--- The next provider keeps an anchor exactly where one of its own roots is taken and was hit by all before.
-pub anchor_next : (all : List Provider) (asked : Asked) (ss : List Slot) (q : List ℕ) (p : ℕ) (taken : List Bool) (hits : List ℕ) → length (q ++ p ∷ []) ≤ length ss
-    → ((r : ℕ) → r < length all → slice_index_or taken r false ≡ takes_root all asked r) → AreHits all hits q
-    → list_any (λ r. slice_index_or taken r false && (slice_index hits r == length q)) (anchors_of all p) ≡ anchor all asked (placed ss (q ++ p ∷ []))
-anchor_next all asked ss q p taken hits short takes hit =
-    any_within (λ r. slice_index_or taken r false && (slice_index hits r == length q)) (λ r. takes_root all asked r && (hits_at all q r == length q)) (anchors_of all p)
-    (each_weaker (λ r. (is_available_at all p r ≡ true) × (r < length all)) _ (anchors_of all p) (λ r h. ap₂ (λ (a : Bool) (n : ℕ). a && (n == length q)) (takes r h.1) (hit r h.1))
+-- With the next provider a list stands at a marked root exactly where one of its own roots is marked and was hit by all before.
+pub stand_next : (all : List Provider) (marks : List Bool) (q : List ℕ) (p : ℕ) (hits : List ℕ) → AreHits all hits q
+    → list_any (λ r. slice_index_or marks r false && (slice_index hits r == length q)) (anchors_of all p) ≡ stand_at_marked all marks (q ++ p ∷ [])
+unfolding stand_at_marked
+stand_next all marks q p hits hit =
+    any_within (λ r. slice_index_or marks r false && (slice_index hits r == length q)) (λ r. slice_index_or marks r false && (hits_at all q r == length q)) (anchors_of all p)
+    (each_weaker (λ r. (is_available_at all p r ≡ true) × (r < length all)) _ (anchors_of all p) (λ r h. ap (λ (n : ℕ). slice_index_or marks r false && (n == length q)) (hit r h.1))
     (each_filter (λ r. r < length all) (is_available_at all p) (range_with_len 0 (length all)) (each_range 0 (length all) (length all) (omega arith))))
-    ∙ (any_filter (λ r. takes_root all asked r && (hits_at all q r == length q)) (is_available_at all p) (range_with_len 0 (length all))
-    ∙ (any_agree (λ r. is_available_at all p r && (takes_root all asked r && (hits_at all q r == length q))) (λ r. anchors_list all asked (q ++ p ∷ []) r) (λ r. at_root all asked q p r) (range_with_len 0 (length all))
-    ∙ sym (anchor_list all asked ss (q ++ p ∷ []) short)))
+    ∙ (any_filter (λ r. slice_index_or marks r false && (hits_at all q r == length q)) (is_available_at all p) (range_with_len 0 (length all))
+    ∙ any_agree (λ r. is_available_at all p r && (slice_index_or marks r false && (hits_at all q r == length q))) (λ r. slice_index_or marks r false && stand_at all (q ++ p ∷ []) r)
+    (λ r. at_root all (slice_index_or marks r false) q p r) (range_with_len 0 (length all)))
+
+-- where those roots are marked that the query takes, that is an anchor
+pub anchor_marked : (all : List Provider) (asked : Asked) (ss : List Slot) (list : List ℕ) (taken : List Bool) → length list ≤ length ss
+    → ((r : ℕ) → r < length all → slice_index_or taken r false ≡ takes_root all asked r) → stand_at_marked all taken list ≡ anchor all asked (placed ss list)
+unfolding stand_at_marked
+anchor_marked all asked ss list taken short takes =
+    any_within (λ r. slice_index_or taken r false && stand_at all list r) (λ r. anchors_list all asked list r) (range_with_len 0 (length all))
+    (each_weaker (λ r. r < length all) _ (range_with_len 0 (length all)) (λ r h. ap (λ (b : Bool). b && stand_at all list r) (takes r h)) (each_range 0 (length all) (length all) (omega arith)))
+    ∙ sym (anchor_list all asked ss list short)

@@ -6,12 +6,13 @@ use Rattle.std.specs.Global.{Vec}
 use Rattle.std.proofs.lemmas.Slice.Eq.{bytes_eq-Decides}
 use Rattle.std.proofs.lemmas.Bool.{and_parts, and_from, false≢true, false_from_ne_true}
 use Rattle.std.proofs.lemmas.List.{get_or-map, take_more}
+use Rattle.std.proofs.lemmas.List.Folds.{list_all-append}
 use Rattle.std.proofs.lemmas.List.Elements.{All-from_recursion}
 use Rattle.std.proofs.lemmas.List.FromFn.{length-range_with_len, get_or-range_with_len}
 use Rattle.std.proofs.lemmas.Bool.Decides.{nat_tests}
 use Rattle.ac_query.specs.Asked.{Asked, Slot, slots_of}
 use Rattle.ac_cloud.specs.World.{Provider, provider_at, is_available_at, anchors_of}
-use Rattle.ac_prune.specs.Marks.{AreHits}
+use Rattle.ac_prune.specs.Marks.{stand_at, stand_at_marked}
 use Rattle.ac_prune.specs.Search.{IsDead}
 use Rattle.ac_rules.specs.Placed.{Placed, placed, slot_at, no_slot, assigned}
 use Rattle.ac_rules.specs.Together.{amount_of, sum_on, holds, takes_root}
@@ -27,7 +28,6 @@ use Rattle.ac_prune.specs.declared.ledger.Ledger.{Ledger}
 use Rattle.ac_prune.specs.declared.ledger.rooms.Ask.{Ask}
 use Rattle.ac_rules.proofs.Elements.{Among, each_weaker, each_filter}
 use Rattle.ac_rules.proofs.EachSlot.AnchorLemmas.{each_range}
-use Rattle.ac_prune.proofs.Paths.MarkLemmas.{all_hit}
 use Rattle.ac_prune.proofs.Paths.LeftLemmas.{wanted_is}
 use Rattle.ac_prune.proofs.Search.OpenLemmas.{each_choice}
 use Rattle.ac_prune.proofs.Search.SoughtLemmas.{place_of as place_of_choice}
@@ -35,8 +35,8 @@ use Rattle.ac_prune.proofs.Paths.LedgerLemmas.{known_in, asks_at, lone_at}
 use Rattle.ac_prune.proofs.Roots.CountLemmas.{load_of_append}
 use Rattle.ac_prune.proofs.Paths.BearLemmas.{left_bears, pieces_bear, lone_bears}
 use Rattle.ac_prune.proofs.Roots.PartLemmas.{choice_there}
-use Rattle.ac_prune.proofs.Roots.HostLemmas.{rooms_reach, behind_hosts, front_parts, stands}
-use Rattle.ac_prune.proofs.Roots.TreeLemmas.{anchor_there, any_there}
+use Rattle.ac_prune.proofs.Roots.HostLemmas.{rooms_reach, behind_hosts, stands}
+use Rattle.ac_prune.proofs.Roots.TreeLemmas.{any_there, range_there}
 use Rattle.std.proofs.Common.{rules}
 
 pub if_ok : {X E : Type 0} (P Q : X → Type 0) (r : Result X E) → ((x : X) → P x → Q x) → IfOk r P → IfOk r Q
@@ -182,14 +182,13 @@ pub any_within : (f g : ℕ → Bool) (zs : List ℕ) → Each (λ z. f z ≡ tr
 any_within f g [] each h = h
 any_within f g (z ∷ zs) each h = search (rules, any_within f g zs each.1)
 
--- a front is dead where no marked root has all of it
-pub root_dead : (all : List Provider) (asked : Asked) (q : List ℕ) (p : ℕ) (may : List Bool) (hits : List ℕ) → AreRoots all asked may → AreHits all hits q
-    → list_any (λ r. slice_index_or may r false && (slice_index hits r == length q)) (anchors_of all p) ≡ false → IsDead (search_of all asked) (q ++ p ∷ [])
-root_dead all asked q p may hits roots hit none v list = false_from_ne_true _ (λ candidate.
-    let s = stands all asked ((q ++ p ∷ []) ++ v) list candidate in
-    let parts = front_parts (λ x. is_available_at all x s.root) q v p s.available in
-    let met : (slice_index hits s.root == length q) ≡ true = ap (λ (n : ℕ). n == length q) (hit s.root s.low) ∙ (sym (all_hit all q s.root) ∙ parts.0) in
-    let has = any_there (λ r. slice_index_or may r false && (slice_index hits r == length q)) (anchors_of all p) s.root (anchor_there all p s.root s.low parts.1) (and_from _ _ (roots.hosts s.root _ s.low s.hosted) met) in
+-- a front is dead where it stands at no marked root
+pub root_dead : (all : List Provider) (asked : Asked) (q : List ℕ) (may : List Bool) → AreRoots all asked may → stand_at_marked all may q ≡ false → IsDead (search_of all asked) q
+unfolding stand_at_marked
+root_dead all asked q may roots none v list = false_from_ne_true _ (λ candidate.
+    let s = stands all asked (q ++ v) list candidate in
+    let all_here = (and_parts (stand_at all q s.root) (stand_at all v s.root) (sym (list_all-append (λ p. is_available_at all p s.root) q v) ∙ s.available)).0 in
+    let has = any_there (λ r. slice_index_or may r false && stand_at all q r) (range_with_len 0 (length all)) s.root (range_there (length all) s.root s.low) (and_from _ _ (roots.hosts s.root _ s.low s.hosted) all_here) in
     false≢true (sym none ∙ has))
 
 -- one slot more

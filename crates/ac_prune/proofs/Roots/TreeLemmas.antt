@@ -1,7 +1,7 @@
 -- Choices by tree, and the trees to which a front is bound.
 use Rattle.std.proofs.Common.{◌≡◌, ◌∙◌, ℕ, ◌<◌, ◌≤◌, suc, Bool, true, false, ◌||◌, List, [], ◌∷◌, ◌++◌, inl, inr, length, map, refl, sym, ap, subst, arith, get_or}
 use Rattle.std.specs.Prelude.{◌==◌}
-use Rattle.std.specs.List.{list_all, list_any, Contains, AllByRecursion as Each}
+use Rattle.std.specs.List.{list_all, list_any, range_with_len, Contains, AllByRecursion as Each}
 pub use Rattle.std.proofs.lemmas.Bool.{or_left, or_right}
 use Rattle.std.proofs.lemmas.Bool.{cases_Bool, cases_eq, and_parts, eq-eqb, ne_eqb, false≢true}
 use Rattle.std.proofs.lemmas.List.Folds.{list_any-append, list_any_at}
@@ -84,6 +84,9 @@ under_more xs ys wide tree place more h = search rules
 -- ---- The trees to which a front is bound
 
 -- where a provider is available
+pub range_there : (n r : ℕ) → r < n → is_there (range_with_len 0 n) r ≡ true
+range_there n r h = among_there (range_with_len 0 n) r (among_range 0 n r (omega arith) (omega (arith, h)))
+
 pub anchor_there : (all : List Provider) (p r : ℕ) → r < length all → is_available_at all p r ≡ true → is_there (anchors_of all p) r ≡ true
 anchor_there all p r h here = search (rules, among_there, among_filter, among_range)
 

@@ -6,7 +6,7 @@ use std::test::Fail;
 
 const P1: &str = "00000000-0000-0000-0000-000000000001";
 
-fn repeated(alloc: Global, piece: &str, count: usize) -> Result<String, AllocError> {
+pub(super) fn repeated(alloc: Global, piece: &str, count: usize) -> Result<String, AllocError> {
     let mut text = String::new(alloc);
     for _ in 0..count {
         text.push_str(piece)?;

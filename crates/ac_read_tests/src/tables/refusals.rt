@@ -1,5 +1,5 @@
 //! What reads a table, run with each of its growths refused in turn: all of it, or want of memory.
-use super::{GROUPS, MARKS, ONE, STOCKS, TREES, USED, at, read, told};
+use super::{GROUPS, MARKS, ONE, STOCKS, TREES, USED, VCPU, at, read, told};
 use ac_base::MemFeed;
 use ac_tables::{ReadFault, Table, TableFault, TableKind, drain};
 
@@ -8,6 +8,23 @@ fn cloud(rt: HostRuntime) {
     let tables = (TREES, STOCKS, Some(USED), Some(MARKS), Some(GROUPS));
     match read(rt.alloc(), tables) {
         Ok(cloud) => assert!(rt; cloud.len() == 5 && cloud.counts().aggregates == 3, "whole"),
+        Err(fault) => assert!(rt; fault == TableFault::NoMemory, "want of memory"),
+    }
+}
+
+// Names are all there, or want of memory is told.
+#[test]
+fn named_cloud(rt: HostRuntime) {
+    let providers = "uuid,name,root_provider_uuid,parent_provider_uuid
+00000000-0000-0000-0000-000000000001,cmp-1,00000000-0000-0000-0000-000000000001,
+00000000-0000-0000-0000-000000000002,,00000000-0000-0000-0000-000000000002,
+00000000-0000-0000-0000-000000000003,cmp-3,00000000-0000-0000-0000-000000000003,
+";
+    match read(rt.alloc(), (providers, VCPU, None, None, None)) {
+        Ok(cloud) => assert!(rt;
+            cloud.host(b"cmp-1") == Ok(0) && cloud.host(b"cmp-3") == Ok(2),
+            "whole"
+        ),
         Err(fault) => assert!(rt; fault == TableFault::NoMemory, "want of memory"),
     }
 }

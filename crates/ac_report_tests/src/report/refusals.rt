@@ -2,7 +2,7 @@
 use super::{BODY, Writer, is_assignment, run_writer};
 use ac_base::NoMemory;
 use ac_example_clouds::{ONE, cloud_of, expanded, query_of};
-use ac_report::{PageFault, request_text, summary_text};
+use ac_report::{PageFault, request_text, shown_name, summary_text};
 use std::alloc::Global;
 use std::process::Abort;
 
@@ -32,6 +32,14 @@ fn page(rt: HostRuntime) {
 #[test]
 fn tokens(rt: HostRuntime) {
     check_writer(&rt, Writer::Tokens, &[&[0], &[0]], "@01\n@01\n");
+}
+
+#[test]
+fn name(rt: HostRuntime) {
+    match shown_name(rt.alloc(), b"two\nlines\xff") {
+        Ok(shown) => assert!(rt; shown.as_slice() == b"two?lines?".as_slice()),
+        Err(fault) => assert_eq!(rt; fault, NoMemory),
+    }
 }
 
 fn is_text(alloc: Global, text: &str, want: &str) -> bool {

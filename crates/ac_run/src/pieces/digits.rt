@@ -1,5 +1,5 @@
 //! The decimal digits of a number, made without memory.
-ghost use Rattle.std.specs.Prelude.{◌≡◌, ◌≤◌};
+ghost use Rattle.std.specs.Prelude.{◌≡◌, ◌≤◌, []};
 ghost use Rattle.std.specs.Fmt.{decimal};
 
 /// The decimal digits of a number, in a room of their own.
@@ -26,6 +26,16 @@ impl Digits {
             rest /= 10;
         }
         Digits { room, start }
+    }
+
+    /// No digit at all.
+    pub fn none() -> Digits
+        ensures { digits_shown result ≡ [] }
+    {
+        Digits {
+            room: [b'0'; 10],
+            start: 10,
+        }
     }
 
     pub fn as_bytes(&self) -> &[u8]

@@ -272,7 +272,7 @@ fn each_whole_piece_of_an_output_fails(rt: HostRuntime) -> Result<(), Fail> {
     let alloc = rt.alloc();
     let counts = "providers 1\ninventories 1\nusages 0\ntraits 0\naggregates 0\n";
     let explanation = "slot 1 \"\" VCPU:2: units 1 of 1, traits 1, aggregates 1, tree 1, room 1\n\
-        trees 1: root traits 1, each slot 1\n\
+        trees 1: root traits 1, each slot 1, required traits 1\n\
         candidates: some\n";
     let body = expanded(alloc, ONE_BODY)?;
     let line = expanded(alloc, "@1\n")?;
@@ -281,7 +281,9 @@ fn each_whole_piece_of_an_output_fails(rt: HostRuntime) -> Result<(), Fail> {
     check_pieces(&rt, Command::Candidates, None, body.as_str())?;
     check_pieces(&rt, Command::Tokens, None, line.as_str())?;
     check_pieces(&rt, Command::Verify, Some(one.as_str()), "candidate\n")?;
-    check_pieces(&rt, Command::Explain, None, explanation)
+    check_pieces(&rt, Command::Explain, None, explanation)?;
+    let rows = expanded(alloc, "root,name,fits,slot,lacks\n@1,,yes,,\n")?;
+    check_pieces(&rt, Command::Hosts, None, rows.as_str())
 }
 
 // A sink that takes nothing has failed, at its first call and after some bytes: it isn't asked again.

@@ -8,6 +8,7 @@ use std::process::Abort;
 use std::test::Fail;
 
 mod explained;
+mod hosts;
 
 // What a run is asked, and what it answers. In all texts `@1` stands for the UUID that ends with 1.
 #[derive(Clone, Copy)]

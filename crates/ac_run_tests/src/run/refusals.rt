@@ -94,8 +94,18 @@ fn explanations(rt: HostRuntime) {
     let one = Case {
         command: Command::Explain,
         output: "slot 1 \"\" VCPU:2: units 1 of 1, traits 1, aggregates 1, tree 1, room 1\n\
-            trees 1: root traits 1, each slot 1\n\
+            trees 1: root traits 1, each slot 1, required traits 1\n\
             candidates: some\n",
+        ..TOKENS
+    };
+    check(&rt, one);
+}
+
+#[test]
+fn rows_of_roots(rt: HostRuntime) {
+    let one = Case {
+        command: Command::Hosts,
+        output: "root,name,fits,slot,lacks\n@1,,yes,,\n",
         ..TOKENS
     };
     check(&rt, one);

@@ -120,6 +120,7 @@ advances w u v a b =
     let paid : min (w.probes + changed (given_in w) (path_in v ++ p ∷ [])) last_count ≤ one_more u.probes =
     one_more_pays (w.probes + changed (given_in w) (path_in v)) _ u.probes (omega (arith, changed_more (given_in w) (path_in v) p)) (rw b.skips.path a.tried) in
     record {
+      roots = b.skips.same.roots ∙ a.same.roots;
       head = sym a.left ∙ b.head;
       tries = tries_told w v (Some v.path.items) (same_then w u v a.same b.skips.same) (rw whole at (counted_given (laws_in v) v.sound p b.last)) (omega (arith, a.kept, b.skips.counted)) (λ _. rises) (given_last v some)
           (rw (b.skips.counted, ← whole) paid);
@@ -127,6 +128,7 @@ advances w u v a b =
 
 pub finishes : (w u v : Walk) → Comes w u → Ends u v → Finishes w v
 finishes w u v a b = subst (Finishes w) (sym b.stays) (record {
+  roots = a.same.roots;
   nothing = sym a.left ∙ b.nothing;
   none = b.nothing;
   tries = tries_told w u None a.same (counted_end (laws_in u) u.sound) a.kept (λ some. absurd (cc)) tt tt;

@@ -8,11 +8,12 @@ use Rattle.ac_prune.specs.Fronts.{LeadsNowhere, LeadNowhere}
 use Rattle.ac_prune.specs.declared.front.Front.{Front}
 use Rattle.ac_prune.specs.Search.{next_at, IsDead, AllDead}
 use Rattle.ac_search.specs.Search.{next_front}
-use Rattle.ac_search.specs.Shown.Walk.{search_in, place_in, slot_in, front_in, path_in}
+use Rattle.ac_search.specs.Shown.Walk.{cloud_in, query_in, roots_in, search_in, place_in, slot_in, front_in, path_in}
 use Rattle.ac_search.specs.Search.Steps.{Passes}
 use Rattle.ac_search.specs.declared.walk.Walk.{Walk}
 use Rattle.ac_rules.proofs.Lists.OrderLemmas.{lex_irrefl}
 use Rattle.ac_search.proofs.Search.FrontOrder.{lex_le_trans}
+use Rattle.ac_search.proofs.Search.StandLemmas.{dead_at}
 use Rattle.ac_prune.proofs.Search.SoughtLemmas.{low_at}
 use Rattle.ac_search.proofs.Steps.StepLemmas.{laws_in, itself, same_then}
 
@@ -33,10 +34,10 @@ passes_then w u v a b = record {
 -- what holds at the place that it went on to
 module _ (w v : Walk) (place : ℕ) (passes : Passes w v) (at : place_in v ≡ place) where
   pub among_there : place < length (slot_in w) → place_in v < length (slot_in v)
-  among_there inside = rw (at, passes.same.cloud, passes.same.query, passes.depth) inside
+  among_there inside = rw (at, passes.same.cloud, passes.same.query, passes.same.roots, passes.depth) inside
 
   pub dead_there : IsDead (search_in w) (next_front (search_in w) (path_in w) w.depth place) → IsDead (search_in v) (front_in v)
-  dead_there dead = rw (at, passes.path, passes.depth, passes.same.cloud, passes.same.query) dead
+  dead_there dead = rw (at, passes.path, passes.depth, passes.same.cloud, passes.same.query, passes.same.roots) dead
 
 -- ---- A front of the tests
 
@@ -52,7 +53,7 @@ module _ (w : Walk) (f : Front) (ledger : f.ledger.now ≡ w.ledger) (path : f.p
 
   -- what leads nowhere behind it is dead
   pub choice_dead : (i : ℕ) → i < length f.choices.now → LeadsNowhere f (slice_index f.choices.now i) → IsDead (search_in w) (next_front (search_in w) (path_in w) w.depth i)
-  choice_dead i inside dead = rw (ledger, path, front_choice i inside) at dead
+  choice_dead i inside dead = dead_at (cloud_in w) (query_in w) (roots_in w) _ (rw (ledger, path, front_choice i inside) at dead)
 
   pub choices_dead : (from to : ℕ) → to ≤ length f.choices.now → LeadNowhere f from to → AllDead (search_in w) (path_in w) w.depth from to
   choices_dead from to within dead i above less = choice_dead i (omega (arith, less, within)) (dead i above less)

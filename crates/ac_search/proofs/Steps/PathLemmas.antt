@@ -12,13 +12,16 @@ use Rattle.ac_prune.specs.Search.{choices_at, next_at}
 use Rattle.ac_prune.specs.QuerySearch.{fits}
 use Rattle.ac_search.specs.Search.{next_front, IsSound}
 use Rattle.ac_search.specs.Shown.Walk.{cloud_in, query_in, search_in, place_in, slot_in, front_in, path_in}
+use Rattle.ac_search.specs.Search.Steps.{IsNext}
 use Rattle.ac_search.specs.declared.walk.Walk.{Walk}
 use Rattle.ac_rules.proofs.SlotLemmas.{each_at}
+use Rattle.ac_prune.proofs.Search.SoughtLemmas.{low_at}
 use Rattle.ac_prune.proofs.Search.OpenLemmas.{choices_here, each_choice, fits_placed}
 use Rattle.ac_search.proofs.Steps.StepLemmas.{laws_in}
 
 -- a choice of a slot fits it
 choice_fits : (w : Walk) (i j : ℕ) → i < (search_in w).width → j < length (choices_at (search_in w) i) → fits (cloud_in w) (placed_at (query_in w) i (next_at (search_in w) i j)) ≡ true
+unfolding choices_at
 choice_fits w i j h l =
     let all = cloud_in w in
     let asked = query_in w in
@@ -36,6 +39,10 @@ front_fits w among =
       | inl l ↦ let on = w.sound.placed i l in rw (get_or-append (path_in w) (p ∷ []) 0 i (omega (arith, w.sound.long)), ← on.1) (choice_fits w i (slice_index (take w.depth w.places.items) i) (omega (arith, w.sound.within)) on.0)
       | inr g ↦ let here : i ≡ w.depth = omega (arith, long) in rw (here, get_or_push (path_in w) p 0 w.depth w.sound.long) (choice_fits w w.depth (place_in w) w.sound.within among)
     ])
+
+-- the next choice is a provider
+pub next_within : (w : Walk) (p : ℕ) → IsNext w p → p < length (cloud_in w)
+next_within w p next = rw next.is (low_at (search_in w) (laws_in w) w.depth (place_in w) w.sound.within next.among)
 
 -- where there is something to try, the path is open
 pub path_opens : (w : Walk) → place_in w < length (slot_in w) → is_open (cloud_in w) (query_in w) (path_in w) ≡ true

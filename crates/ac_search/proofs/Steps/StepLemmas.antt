@@ -7,26 +7,26 @@ use Rattle.ac_base.specs.Devices.{last_count}
 use Rattle.ac_query.specs.Shown.Queries.{asked_of}
 use Rattle.ac_cloud.specs.Cloud.CloudWorld.{providers_of}
 use Rattle.ac_search.specs.Search.{next_front, left_from, IsSound}
-use Rattle.ac_search.specs.Shown.Walk.{search_in, place_in, slot_in, front_in, path_in, left_of, changed, IsSame}
+use Rattle.ac_search.specs.Shown.Walk.{search_in, place_in, slot_in, front_in, path_in, left_of, roots_in, changed, IsSame}
 use Rattle.ac_search.specs.Search.Steps.{IsTried, Goes, Skips}
 use Rattle.ac_search.specs.declared.walk.Walk.{Walk}
 use Rattle.ac_prune.proofs.Search.SoughtLemmas.{IsSearch}
-use Rattle.ac_prune.proofs.Search.OpenLemmas.{is_search}
+use Rattle.ac_search.proofs.Search.StandLemmas.{is_search_at}
 use Rattle.ac_search.proofs.Search.BoundLemmas.{front_rises}
 use Rattle.ac_search.proofs.Steps.MoveLemmas.{sound_on}
 use Rattle.ac_search.proofs.Steps.ChangeLemmas.{one_more_kept}
 
 pub laws_in : (w : Walk) → IsSearch (search_in w)
-laws_in w = is_search (providers_of w.ledger.cloud.now) (asked_of w.ledger.query.now)
+laws_in w = is_search_at (providers_of w.ledger.cloud.now) (asked_of w.ledger.query.now) (roots_in w)
 
 pub search_same : (w v : Walk) → IsSame w v → search_in v ≡ search_in w
-search_same w v s = rw (s.cloud, s.query) refl
+search_same w v s = rw (s.cloud, s.query, s.roots) refl
 
 pub itself : (w : Walk) → IsSame w w
-itself w = record { cloud = refl; query = refl; after = refl; least = refl }
+itself w = record { cloud = refl; query = refl; after = refl; least = refl; roots = refl }
 
 pub same_then : (w u v : Walk) → IsSame w u → IsSame u v → IsSame w v
-same_then w u v a b = record { cloud = b.cloud ∙ a.cloud; query = b.query ∙ a.query; after = b.after ∙ a.after; least = b.least ∙ a.least }
+same_then w u v a b = record { cloud = b.cloud ∙ a.cloud; query = b.query ∙ a.query; after = b.after ∙ a.after; least = b.least ∙ a.least; roots = b.roots ∙ a.roots }
 
 -- along the same path no further slot is to be paid
 pub tried_on : (w u : Walk) → path_in u ≡ path_in w → w.probes ≤ u.probes → (x : Option (List ℕ)) (n : ℕ) → IsTried x n w → IsTried x n u
@@ -48,10 +48,10 @@ front_after w = next_front (search_in w) (path_in w) w.depth (place_in w + 1)
 
 module _ (w v : Walk) (s : Skips w v) where
   front_skip : front_in v ≡ front_after w
-  front_skip = rw (s.same.cloud, s.same.query, s.path, s.at, s.depth) refl
+  front_skip = rw (s.same.cloud, s.same.query, s.same.roots, s.path, s.at, s.depth) refl
 
   pub left_skip : left_of v ≡ left_from (search_in w) w.least.items (front_after w)
-  left_skip = rw (front_skip, s.same.cloud, s.same.query, s.same.least) refl
+  left_skip = rw (front_skip, s.same.cloud, s.same.query, s.same.roots, s.same.least) refl
 
   pub kept_skip : w.probes ≤ v.probes
   kept_skip = omega (arith, s.counted, one_more_kept w.probes)

@@ -64,11 +64,13 @@ StepGives Ended old new = Ends old new
 
 -- its path is the first list that was left
 pub record Advances (old new : Walk) : Type 0 where
+  pub roots : new.roots ≡ old.roots
   pub head : left_of old ≡ new.path.items ∷ left_of new
   pub tries : Tries old (Some new.path.items) new
 
 -- nothing is left
 pub record Finishes (old new : Walk) : Type 0 where
+  pub roots : new.roots ≡ old.roots
   pub nothing : left_of old ≡ []
   pub none : left_of new ≡ []
   pub tries : Tries old None new

@@ -1,5 +1,5 @@
 -- What a walk searches, where it stands, and what it has left.
-use Rattle.std.specs.Prelude.{◌≡◌, ℕ, ◌+◌, ◌*◌, ◌≤◌, ◌==◌, min, if◌then◌else◌, List, [], ◌∷◌, length, take, slice_index, Option, Some, None, IsSome, IfSome}
+use Rattle.std.specs.Prelude.{◌≡◌, ℕ, Bool, ◌+◌, ◌*◌, ◌≤◌, ◌==◌, min, if◌then◌else◌, List, [], ◌∷◌, length, take, slice_index, Option, Some, None, IsSome, IfSome}
 use Rattle.std.specs.Option.{option_map}
 use Rattle.ac_base.specs.Devices.{last_count, Rises}
 use Rattle.ac_query.specs.Asked.{Asked}
@@ -8,7 +8,7 @@ use Rattle.ac_cloud.specs.Cloud.CloudWorld.{providers_of}
 use Rattle.ac_cloud.specs.World.{Provider}
 use Rattle.ac_prune.specs.Search.{Search, choices_at}
 use Rattle.ac_search.specs.Search.{next_front, left_from}
-use Rattle.ac_prune.specs.QuerySearch.{search_of}
+use Rattle.ac_search.specs.Hosts.{search_at}
 use Rattle.ac_search.specs.Between.{open_between}
 use Rattle.ac_search.specs.declared.walk.Walk.{Walk}
 
@@ -43,12 +43,17 @@ abbrev pub changed : Option (List ℕ) → List ℕ → ℕ
 changed None y = length y
 changed (Some x) y = differing x y
 
--- it is of the same cloud, query and token
+-- the marks of the roots that it looks at; none where it looks at all
+abbrev pub roots_in : Walk → Option (List Bool)
+roots_in w = option_map (λ marks. marks.items) w.roots
+
+-- it is of the same cloud, query, token and roots
 pub record IsSame (old new : Walk) : Type 0 where
   pub cloud : new.ledger.cloud ≡ old.ledger.cloud
   pub query : new.ledger.query ≡ old.ledger.query
   pub after : new.after ≡ old.after
   pub least : new.least.items ≡ old.least.items
+  pub roots : new.roots ≡ old.roots
 
 -- What a call of `next` does besides: it has made at most as many tries as there are providers, for each open list between its token and
 -- the list that it gave, or the end. Where it gave a list it has made a try, and one for each slot from the first on that differs from the
@@ -65,9 +70,9 @@ pub record Tries (old : Walk) (given : Option (List ℕ)) (new : Walk) : Type 0 
 
 -- ---- Private: where it stands
 
--- the search of its query
+-- what it looks for
 abbrev pub search_in : Walk → Search
-search_in w = search_of (cloud_in w) (query_in w)
+search_in w = search_at (cloud_in w) (query_in w) (roots_in w)
 
 -- the providers of its path
 abbrev pub path_in : Walk → List ℕ

@@ -1,5 +1,5 @@
 //! Trying a provider behind the path of a walk, and taking it back.
-ghost use Rattle.std.specs.Prelude.{◌≡◌, ◌<◌, ◌≤◌, length, true, suc, MatchOption, IsTrue, ◌↔◌, slice_set};
+ghost use Rattle.std.specs.Prelude.{◌≡◌, ◌<◌, ◌≤◌, length, true, false, suc, MatchOption, IsTrue, ◌↔◌, slice_set};
 ghost use Rattle.std.specs.List.{All};
 ghost use Rattle.ac_base.specs.Devices.{one_more};
 ghost use Rattle.ac_query.specs.Asked.{slots_of};
@@ -9,6 +9,8 @@ ghost use Rattle.ac_prune.specs.Left.Accounts.{providers_in, asked_in};
 ghost use Rattle.ac_rules.specs.Judge.{is_open};
 ghost use Rattle.ac_search.specs.Search.{IsStart, Enters, HasAt, least_at};
 ghost use Rattle.ac_prune.specs.QuerySearch.{completes};
+ghost use Rattle.ac_prune.specs.Search.{IsDead};
+ghost use Rattle.ac_search.specs.Hosts.{stands};
 
 use super::{Step, Walk};
 use ac_cloud::Cloud;
@@ -16,7 +18,7 @@ use ac_query::Query;
 use ac_rules::Assignment;
 
 impl<'a> Walk<'a> {
-    ghost use Rattle.ac_search.specs.Shown.Walk.{search_in, place_in, slot_in, path_in, front_in, IsSame};
+    ghost use Rattle.ac_search.specs.Shown.Walk.{cloud_in, roots_in, search_in, place_in, slot_in, path_in, front_in, IsSame};
     ghost use Rattle.ac_search.specs.Search.Steps.{IsNext, Goes, Skips, StepGives};
 
     // The next provider to try, where the slot has one more.
@@ -53,6 +55,31 @@ impl<'a> Walk<'a> {
             (front_in self.now) }
     {
         self.ledger.admits(&self.path[..self.depth], provider)
+    }
+
+    // Whether the path with the next choice behind it stands at a root that is looked at.
+    fn stands(&self, provider: u32) -> bool
+        requires { IsNext self.now provider }
+        ensures { result ≡ stands (cloud_in self.now) (roots_in self.now) (front_in self.now) }
+    {
+        match &self.roots {
+            Some(roots) => self
+                .ledger
+                .stands_at(roots, &self.path[..self.depth], provider),
+            None => true,
+        }
+    }
+
+    // Whether the path may lead on by the next choice.
+    fn leads_on(&self, provider: u32) -> bool
+        requires { IsNext self.now provider }
+        ensures opens { result ≡ true → is_open (providers_in self.now.ledger)
+            (asked_in self.now.ledger) (front_in self.now) ≡ true }
+        ensures stands { result ≡ true
+            → stands (cloud_in self.now) (roots_in self.now) (front_in self.now) ≡ true }
+        ensures dead { result ≡ false → IsDead (search_in self.now) (front_in self.now) }
+    {
+        self.stays_open(provider) && self.stands(provider)
     }
 
     // Goes on to the next choice of the slot, after so many tries.
@@ -125,7 +152,7 @@ impl<'a> Walk<'a> {
         ensures probes { self.new.probes ≡ one_more self.old.probes }
     {
         let tries = one_more(self.probes);
-        if !self.stays_open(provider) {
+        if !self.leads_on(provider) {
             self.skip(tries);
             return Step::Went;
         }

@@ -116,6 +116,8 @@ fn trees(rt: HostRuntime) -> Result<(), AllocError> {
         root_traits: 2,
         // 01
         each_slot: 1,
+        // nothing is required
+        required_traits: 1,
     };
     assert_eq!(rt; counts_trees(rt.alloc(), TREES, query)?, Some(want));
     Ok(())
@@ -131,6 +133,7 @@ fn any_root(rt: HostRuntime) -> Result<(), AllocError> {
         root_traits: 4,
         // 01 and 05
         each_slot: 2,
+        required_traits: 2,
     };
     assert_eq!(rt; counts_trees(rt.alloc(), TREES, query)?, Some(want));
     Ok(())
@@ -162,6 +165,7 @@ fn shared_disks(rt: HostRuntime) -> Result<(), AllocError> {
         root_traits: 4,
         // 01 and 02
         each_slot: 2,
+        required_traits: 2,
     };
     let query = "resources1=VCPU:1&resources2=DISK_GB:1&group_policy=none";
     assert_eq!(rt; counts_slot(rt.alloc(), SHARED, query, 1)?, Some(slot));
@@ -175,8 +179,76 @@ fn shared_disks(rt: HostRuntime) -> Result<(), AllocError> {
         counts_trees(rt.alloc(), SHARED, query)?,
         Some(TreeCounts {
             each_slot: 0,
+            required_traits: 0,
             ..one
         })
     );
+    Ok(())
+}
+
+// Four hosts with units and a root without; 05 shares its disk with 02 and 03. Of the traits, 01 has both, 02 the first, and the
+// disk the second; 03 has neither, and 04 has the first, but no unit left.
+const HOLDERS: Rows<'static> = Rows {
+    providers: "@01,@01,\n@02,@02,\n@03,@03,\n@04,@04,\n@05,@05,\n",
+    inventories: "@01,VCPU,8,0,1,8,1,1.0\n@01,DISK_GB,9,0,1,9,1,1.0\n@02,VCPU,8,0,1,8,1,1.0\n@03,VCPU,8,0,1,8,1,1.0\n@04,VCPU,8,0,1,8,1,1.0\n@04,DISK_GB,9,0,1,9,1,1.0\n@05,DISK_GB,9,0,1,9,1,1.0\n",
+    usages: "@04,VCPU,8\n",
+    traits: "@01,CUSTOM_A\n@01,CUSTOM_B\n@02,CUSTOM_A\n@04,CUSTOM_A\n@04,CUSTOM_B\n@05,CUSTOM_B\n@05,MISC_SHARES_VIA_AGGREGATE\n",
+    aggregates: "@02,@a1\n@03,@a1\n@05,@a1\n",
+    ..NONE
+};
+
+// At how many of the three roots where each slot has a provider all is held that the group without a suffix requires.
+fn count_held(alloc: Global, query: &str) -> Result<Option<u32>, AllocError> {
+    let Some(counts) = counts_trees(alloc, HOLDERS, query)? else {
+        return Ok(None);
+    };
+    // All are roots; 01, 02 and 03 have units and a disk.
+    if counts.roots == 5 && counts.root_traits == 5 && counts.each_slot == 3 {
+        Ok(Some(counts.required_traits))
+    } else {
+        Ok(None)
+    }
+}
+
+#[test]
+fn required_traits(rt: HostRuntime) -> Result<(), AllocError> {
+    let query = "resources=VCPU:1,DISK_GB:1";
+    assert_eq!(rt; count_held(rt.alloc(), query)?, Some(3));
+    // 01 and 02
+    let query = "resources=VCPU:1,DISK_GB:1&required=CUSTOM_A";
+    assert_eq!(rt; count_held(rt.alloc(), query)?, Some(2));
+    // 01 by itself, 02 and 03 by the disk
+    let query = "resources=VCPU:1,DISK_GB:1&required=CUSTOM_B";
+    assert_eq!(rt; count_held(rt.alloc(), query)?, Some(3));
+    // 01, and 02 with the disk
+    let query = "resources=VCPU:1,DISK_GB:1&required=CUSTOM_A,CUSTOM_B";
+    assert_eq!(rt; count_held(rt.alloc(), query)?, Some(2));
+    let query = "resources=VCPU:1,DISK_GB:1&required=CUSTOM_A,CUSTOM_C";
+    assert_eq!(rt; count_held(rt.alloc(), query)?, Some(0));
+    Ok(())
+}
+
+#[test]
+fn required_lists(rt: HostRuntime) -> Result<(), AllocError> {
+    // one of each list is enough, at all three
+    let query = "resources=VCPU:1,DISK_GB:1&required=in:CUSTOM_B,CUSTOM_C";
+    assert_eq!(rt; count_held(rt.alloc(), query)?, Some(3));
+    let query =
+        "resources=VCPU:1,DISK_GB:1&required=in:CUSTOM_B,CUSTOM_C&required=in:CUSTOM_A,CUSTOM_C";
+    assert_eq!(rt; count_held(rt.alloc(), query)?, Some(2));
+    let query = "resources=VCPU:1,DISK_GB:1&required=in:CUSTOM_C,CUSTOM_D";
+    assert_eq!(rt; count_held(rt.alloc(), query)?, Some(0));
+    Ok(())
+}
+
+// What another group is served by brings nothing, and what it requires is counted in its own line.
+#[test]
+fn traits_of_another_group(rt: HostRuntime) -> Result<(), AllocError> {
+    // 01, and not the disk
+    let query = "resources=VCPU:1&resources1=DISK_GB:1&required=CUSTOM_B";
+    assert_eq!(rt; count_held(rt.alloc(), query)?, Some(1));
+    // 01 and 02
+    let query = "resources=VCPU:1&resources1=DISK_GB:1&required=CUSTOM_A&required1=CUSTOM_B";
+    assert_eq!(rt; count_held(rt.alloc(), query)?, Some(2));
     Ok(())
 }

@@ -1,10 +1,10 @@
 //! What takes memory, made with each of its growths refused in turn: all candidates, the counts of trees, or want of memory. What a source gives
 //! takes none, so it is given with all growths refused too.
 use ac_base::NoMemory;
-use ac_example_clouds::{PAIR, cloud_of, query_of};
+use ac_example_clouds::{NONE, PAIR, Rows, cloud_of, query_of};
 use ac_query::{Query, Token};
 use ac_rules::{Plain, Source};
-use ac_search::{TreeCounts, Walk, tree_counts};
+use ac_search::{SlotCounts, TreeCounts, Walk, all_slots, fitting_roots, tree_counts};
 use ac_tables::Cloud;
 use std::alloc::{AllocError, Global};
 use std::process::Abort;
@@ -34,6 +34,14 @@ fn gives_both<S: Source>(rt: &impl Abort, source: &mut S) {
     }
     assert!(rt; source.next().is_none(), "the end");
 }
+
+// One provider, whose disk is used up.
+const FULL: Rows<'static> = Rows {
+    providers: "@01,@01,\n",
+    inventories: "@01,VCPU,8,0,1,8,1,1.0\n@01,DISK_GB,8,0,1,8,1,1.0\n",
+    usages: "@01,DISK_GB,8\n",
+    ..NONE
+};
 
 // The size of a growth that no other call asks for: where `tests/refusals.py` says so, each growth is refused from one of this size up to the next.
 const MARK: usize = 40_961;
@@ -100,9 +108,73 @@ fn counts(rt: HostRuntime) {
         roots: 1,
         root_traits: 1,
         each_slot: 1,
+        required_traits: 1,
     };
     match tree_counts(rt.alloc(), &cloud, &query) {
         Ok(counts) => assert_eq!(rt; counts, want),
+        Err(fault) => assert_eq!(rt; fault, NoMemory),
+    }
+}
+
+#[test]
+fn hosts(rt: HostRuntime) {
+    let Ok(Some((cloud, query, _token))) = given(rt.alloc()) else {
+        return;
+    };
+    // Both slots fit 01 and 02, which are one tree.
+    match fitting_roots(rt.alloc(), &cloud, &query) {
+        Ok(fits) => assert_eq!(rt; fits.iter().filter(|fit| **fit).count(), 1),
+        Err(fault) => assert_eq!(rt; fault, NoMemory),
+    }
+}
+
+#[test]
+fn counts_of_required_traits(rt: HostRuntime) {
+    let Ok(Some(cloud)) = cloud_of(rt.alloc(), PAIR) else {
+        return;
+    };
+    let text = "resources=VCPU:5&required=in:CUSTOM_A,CUSTOM_B";
+    let Ok(Some(query)) = query_of(rt.alloc(), text) else {
+        return;
+    };
+    // Nobody has a trait.
+    let want = TreeCounts {
+        roots: 1,
+        root_traits: 1,
+        each_slot: 1,
+        required_traits: 0,
+    };
+    match tree_counts(rt.alloc(), &cloud, &query) {
+        Ok(counts) => assert_eq!(rt; counts, want),
+        Err(fault) => assert_eq!(rt; fault, NoMemory),
+    }
+}
+
+#[test]
+fn slots_by_class(rt: HostRuntime) {
+    let Ok(Some(cloud)) = cloud_of(rt.alloc(), FULL) else {
+        return;
+    };
+    let Ok(Some(query)) = query_of(rt.alloc(), "resources1=DISK_GB:5,VCPU:5") else {
+        return;
+    };
+    // The provider has no disk left.
+    let counts = SlotCounts {
+        units: 1,
+        traits: 1,
+        aggregates: 1,
+        tree: 1,
+        room: 0,
+    };
+    match all_slots(rt.alloc(), &cloud, &query) {
+        Ok(told) => {
+            let Some(first) = told.first() else {
+                assert!(rt; false, "a slot");
+                return;
+            };
+            assert_eq!(rt; first.counts, counts);
+            assert!(rt; first.rooms.as_slice() == [0, 1].as_slice());
+        }
         Err(fault) => assert_eq!(rt; fault, NoMemory),
     }
 }

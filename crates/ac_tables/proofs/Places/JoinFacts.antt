@@ -1,8 +1,8 @@
 -- Inventories beside how much of each is used.
 use Rattle.ac_tables.proofs.Common.{◌≡◌, ◌∙◌, ℕ, zero, suc, true, List, [], ◌∷◌, map, length, get_or, drop, subst, refl, sym, ap, ap₂, arith, rules, inl, inr, ◌==◌, All, filter, range_with_len, cases_Bool, InventoryNumbers, ClassName, TextMap, UsedInventory, with_used, entry_class, entry_pair, Entry, class_bytes, class_pair, AreStarts, lists_in, entry_of, with_used_lists, TableRow, map-map}
 use Rattle.std.proofs.lemmas.List.FromFn.{fill_by_all}
-use Rattle.ac_cloud.proofs.ListFacts.{lists_map}
-use Rattle.ac_tables.proofs.Sorted.RowLists.{range_same, split_lists}
+use Rattle.ac_cloud.proofs.ListFacts.{lists_map, range_same}
+use Rattle.ac_tables.proofs.Sorted.RowLists.{split_lists}
 
 -- of maps of one list
 pub zip_maps : (f : ℕ → TextMap ℕ) (g : ℕ → TextMap InventoryNumbers) (ids : List ℕ) → with_used_lists (map f ids) (map g ids) ≡ map (λ id. with_used (f id) (g id)) ids

@@ -2,10 +2,10 @@
 use Rattle.ac_tables.proofs.Common.{◌≡◌, ℕ, List, Option, Some, None, refl, codes, Bor, option_map, records_of, records_or_header}
 use Rattle.csv.proofs.OnLiterals.{csv_on_literals}
 use Rattle.ac_tables.specs.SourceText.{text_or}
-use Rattle.ac_tables.specs.Tables.ProviderTable.{uuid_name}
+use Rattle.ac_tables.specs.Tables.ProviderTable.{name_name, uuid_name}
 use Rattle.ac_tables.specs.Tables.InventoryTable.{provider_name, class_name}
 use Rattle.ac_tables.specs.Tables.UsageTable.{usage_columns, usage_name}
-use Rattle.ac_tables.specs.Tables.TraitTable.{trait_columns, name_name}
+use Rattle.ac_tables.specs.Tables.TraitTable.{trait_columns}
 use Rattle.ac_tables.specs.Tables.AggregateTable.{aggregate_columns}
 use Rattle.ac_tables.proofs.FirstFailing.{append_none}
 use Rattle.ac_tables.proofs.Records.ProviderFaults.{tells_first, tells_next}

@@ -1,5 +1,5 @@
 -- The rows of the table of providers say what its records say: their ids, who is whose parent, and what is wrong with a provider.
-use Rattle.ac_tables.proofs.Common.{◌≡◌, ◌∙◌, ◌+◌, ◌<◌, ℕ, zero, suc, Bool, true, false, List, [], ◌∷◌, map, length, get_or, Option, Some, None, refl, sym, ap, ap₂, subst, arith, rules, ◌==◌, ◌&&◌, not, nat_cmp, eq_by_cmp, is_some, is_none, unwrap_or, option_map, option_and_then, position_from, IsPermutation, IsStrictlySortedBy, cases_Bool, get_or-map, length-map, All-weaker, recursion_from_All, Contains-permutation, IsPermutation-sym, IsPermutation-map, length_permutation, IsDistinct-from_sorted, eq_by_cmp_equiv, exact_unsigned, is_one_of, rank, parent_in, AreParents, provider_shown, ProviderRecord, is_known, no_record, record_at, said_parent, has_unknown_parent, has_endless_chain, has_wrong_root, rising, row_shown, IsTable, top, TableRow, Named, map-map}
+use Rattle.ac_tables.proofs.Common.{◌≡◌, ◌∙◌, ◌+◌, ◌<◌, ℕ, zero, suc, Bool, true, false, List, [], ◌∷◌, map, length, get_or, Option, Some, None, refl, sym, ap, ap₂, subst, arith, rules, ◌==◌, ◌&&◌, not, nat_cmp, eq_by_cmp, is_some, is_none, unwrap_or, option_map, option_and_then, position_from, IsPermutation, IsStrictlySortedBy, cases_Bool, get_or-map, length-map, All-weaker, recursion_from_All, Contains-permutation, IsPermutation-sym, IsPermutation-map, length_permutation, IsDistinct-from_sorted, eq_by_cmp_equiv, exact_unsigned, is_one_of, rank, parent_in, AreParents, name_bytes, provider_shown, ProviderRecord, is_known, no_record, record_at, said_name, said_parent, has_unknown_parent, has_endless_chain, has_wrong_root, rising, row_shown, IsTable, top, TableRow, Named, map-map}
 use Rattle.std.specs.Cmp.{nat_cmp_total, unsigned_tied}
 use Rattle.std.specs.List.{IsDistinct}
 use Rattle.std.proofs.lemmas.Map.Keys.{IsDistinct-IsPermutation, apart_from_distinct}
@@ -20,7 +20,7 @@ ListingRow = TableRow ℕ Named
 
 -- a row for the places past the end
 pub no_row : ListingRow
-no_row = record { place = 0; number = 0; key = 0; value = record { root = 0; parent = None } }
+no_row = record { place = 0; number = 0; key = 0; value = record { root = 0; parent = None; name = None } }
 
 abbrev pub key : ListingRow → ℕ
 key r = r.key
@@ -88,14 +88,29 @@ module _ (said : List ProviderRecord) (rows : List ListingRow) (t : IsTable nat_
       turned : (a b : ℕ) → eq_by_cmp nat_cmp a b ≡ eq_by_cmp nat_cmp b a
       turned a b = (eq_by_cmp_equiv nat_cmp_total).symm a b
 
+  -- the record of a row's provider
+  record_here : (k : ℕ) → k < length rows → (i : ℕ) × (place_of said (get_or rows k no_row).key ≡ Some i) × (record_at said i ≡ row_shown provider_shown (get_or rows k no_row))
+  record_here k h =
+      let r = record_of said rows t k no_row h in
+      let at : record_at said r.0 ≡ row_shown provider_shown (get_or rows k no_row) = said_at said rows t r.0 no_row no_record r.1 ∙ ap (row_shown provider_shown) r.2 in
+      (r.0, ap (λ (p : ProviderRecord). place_of said p.id) (sym at) ∙ distinct r.0 (let i = r.1 in omega (arith, i, size said rows t)), at)
+
   -- the parent of a row's provider
   pub parent_here : (k : ℕ) → k < length rows → said_parent said (get_or rows k no_row).key ≡ (get_or rows k no_row).value.parent
   parent_here k h =
-      let r = record_of said rows t k no_row h in
-      let at : record_at said r.0 ≡ row_shown provider_shown (get_or rows k no_row) = said_at said rows t r.0 no_row no_record r.1 ∙ ap (row_shown provider_shown) r.2 in
-      ap (λ (q : ℕ). said_parent said q) (ap (λ (p : ProviderRecord). p.id) (sym at))
-      ∙ ap (option_and_then (λ (i : ℕ). (record_at said i).parent)) (distinct r.0 (let i = r.1 in omega (arith, i, size said rows t)))
-      ∙ ap (λ (p : ProviderRecord). p.parent) at
+      let r = record_here k h in
+      ap (option_and_then (λ (i : ℕ). (record_at said i).parent)) r.1 ∙ ap (λ (p : ProviderRecord). p.parent) r.2
+
+  -- its name
+  name_here : (k : ℕ) → k < length rows → said_name said (get_or rows k no_row).key ≡ name_bytes (get_or rows k no_row).value.name
+  name_here k h =
+      let r = record_here k h in
+      ap (λ (o : Option ℕ). unwrap_or (option_map (λ (i : ℕ). (record_at said i).name) o) []) r.1 ∙ ap (λ (p : ProviderRecord). p.name) r.2
+
+  pub names_are : map (λ r. name_bytes r.value.name) rows ≡ map (said_name said) (map (λ r. r.key) rows)
+  names_are =
+      map_at (λ (r : ListingRow). name_bytes r.value.name) (λ (r : ListingRow). said_name said r.key) rows no_row (λ k h. sym (name_here k h))
+      ∙ sym (map-map (said_name said) key rows)
 
   module _ (parents : List (Option ℕ)) (are : parents ≡ map (λ r. option_and_then (rank (map (λ r. r.key) rows)) r.value.parent) rows) where
     pub parents_are : parents ≡ map (λ id. option_and_then (rank (map (λ r. r.key) rows)) (said_parent said id)) (map (λ r. r.key) rows)

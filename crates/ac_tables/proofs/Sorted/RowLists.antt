@@ -1,14 +1,9 @@
 -- The rows of each provider, cut out of the sorted rows of a table.
-use Rattle.ac_tables.proofs.Common.{◌≡◌, ◌∙◌, ◌+◌, ◌-◌, ◌<◌, ◌≤◌, ℕ, zero, suc, List, [], ◌∷◌, map, length, get_or, subst, inl, inr, ◌⊎◌, rules, refl, sym, ap, ap₂, arith, ◌==◌, All, filter, range_with_len, length-map, get_or-map, IsStart, AreStarts, TableRow, map-map}
+use Rattle.ac_tables.proofs.Common.{◌≡◌, ◌∙◌, ◌+◌, ◌-◌, ◌<◌, ◌≤◌, ℕ, zero, suc, List, [], ◌∷◌, map, length, get_or, subst, inl, inr, ◌⊎◌, rules, refl, sym, ap, arith, ◌==◌, All, filter, range_with_len, length-map, get_or-map, IsStart, AreStarts, TableRow, map-map}
 use Rattle.std.proofs.lemmas.List.FromFn.{fill_by_all}
 use Rattle.ac_cloud.specs.ListBounds.{AreBounds, lists_in}
 use Rattle.ac_cloud.proofs.ListFacts.{lists_size, list_here}
 use Rattle.ac_tables.proofs.Gathered.RowSlices.{start_order, slice_kept}
-
--- equal at each number of a range
-pub range_same : {X : Type 0} (f g : ℕ → X) (k n : ℕ) → ((p : ℕ) → k ≤ p → p < k + n → f p ≡ g p) → map f (range_with_len k n) ≡ map g (range_with_len k n)
-range_same f g k zero same = refl
-range_same f g k (suc n) same = ap₂ (λ y l. y ∷ l) (same k (omega arith) (omega arith)) (range_same f g (k + 1) n (λ p low high. same p (omega arith) (omega arith)))
 
 below_or_at : (s n : ℕ) → s ≤ n → (s ≡ n) ⊎ (s < n)
 below_or_at s n h = search (arith, rules)

@@ -3,10 +3,9 @@ use Rattle.std.specs.Prelude.{ℕ, List}
 use Rattle.std.specs.Option.{unwrap_or}
 use Rattle.ac_tables.specs.Tables.Checks.{Row}
 use Rattle.ac_tables.specs.Tables.Columns.{column}
-use Rattle.ac_tables.specs.Tables.ProviderTable.{uuid_name, root_name, parent_name}
+use Rattle.ac_tables.specs.Tables.ProviderTable.{uuid_name, root_name, parent_name, name_name}
 use Rattle.ac_tables.specs.Tables.InventoryTable.{provider_name, class_name, total_name, reserved_name, min_unit_name, max_unit_name, step_size_name, ratio_name}
 use Rattle.ac_tables.specs.Tables.UsageTable.{usage_name}
-use Rattle.ac_tables.specs.Tables.TraitTable.{name_name}
 use Rattle.ac_tables.specs.declared.tables.usages.UsageColumns.{UsageColumns}
 use Rattle.ac_tables.specs.declared.tables.traits.TraitColumns.{TraitColumns}
 use Rattle.ac_tables.specs.declared.tables.aggregates.AggregateColumns.{AggregateColumns}
@@ -18,7 +17,7 @@ abbrev pub place_in : Row → List ℕ → ℕ
 place_in header name = unwrap_or (column header name) 0
 
 unfoldable pub provider_places : Row → ProviderColumns
-provider_places header = record { id = place_in header uuid_name; root = place_in header root_name; parent = place_in header parent_name }
+provider_places header = record { id = place_in header uuid_name; root = place_in header root_name; parent = place_in header parent_name; name = column header name_name }
 
 unfoldable pub inventory_places : Row → InventoryColumns
 inventory_places header = record {

@@ -1,7 +1,8 @@
 -- What the table of providers checks, record by record: the laws that the reader of all tables asks for, proved.
-use Rattle.std.proofs.Common.{◌≡◌, ◌∙◌, ◌+◌, ◌<◌, ◌++◌, ℕ, Bool, zero, suc, true, false, List, [], ◌∷◌, length, Some, None, refl, sym, arith, inl, inr}
+use Rattle.std.proofs.Common.{◌≡◌, ◌∙◌, ◌+◌, ◌<◌, ◌++◌, ℕ, Bool, zero, suc, true, false, List, [], ◌∷◌, length, Option, Some, None, refl, sym, arith, inl, inr}
 use Rattle.std.specs.Prelude.{◌==◌, ◌&&◌, nat_lt, nat_le}
-use Rattle.std.specs.Option.{is_some}
+use Rattle.std.specs.Global.{Vec}
+use Rattle.std.specs.Option.{is_some, option_map, unwrap_or}
 use Rattle.std.specs.Ordering.{nat_cmp, ordering_then, is_eq}
 use Rattle.std.specs.Cmp.{unsigned_tied}
 use Rattle.std.specs.List.{list_any, position_from}
@@ -13,9 +14,13 @@ use Rattle.ac_tables.specs.declared.fault.TableKind.{TableKind}
 use Rattle.ac_tables.specs.declared.fault.TableKind.TheVariants as kind
 use Rattle.ac_tables.specs.declared.tables.provider_record.Named.{Named}
 
+-- the bytes of a name that was read, where the table has names
+abbrev pub name_bytes : Option (Vec ℕ) → List ℕ
+name_bytes name = unwrap_or (option_map (λ v. v.items) name) []
+
 -- what a row shows; all providers have their rows at place 0
 abbrev pub provider_shown : ℕ → ℕ → Named → ProviderRecord
-provider_shown place id named = record { id = id; root = named.root; parent = named.parent }
+provider_shown place id named = record { id = id; root = named.root; parent = named.parent; name = name_bytes named.name }
 
 any_position : (p : ProviderRecord → Bool) (i : ℕ) (xs : List ProviderRecord) → is_some (position_from p i xs) ≡ list_any p xs
 any_position p i [] = refl

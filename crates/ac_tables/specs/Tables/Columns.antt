@@ -1,6 +1,6 @@
 -- Columns, found by their names in the header, and the checks of a header.
 use Rattle.std.specs.Prelude.{Some, ℕ, Bool, true, nat_lt, List, [], ◌∷◌, ◌++◌, map, get_or, Option, ◌==◌, not, length}
-use Rattle.std.specs.Option.{unwrap_or, is_none}
+use Rattle.std.specs.Option.{unwrap_or, is_none, option_map}
 use Rattle.std.specs.List.{count_by, position_from}
 use Rattle.std.specs.Str.{bytes_eq}
 use Rattle.std.specs.Borrow.{Bor}
@@ -18,6 +18,10 @@ column header name = position_from (bytes_eq name) 0 header
 -- a record's text in the column of this name
 abbrev pub text_in : Row → List ℕ → Row → List ℕ
 text_in header name row = get_or row (unwrap_or (column header name) 0) []
+
+-- a record's text in a column that may be left out, which is empty there
+abbrev pub text_or_none : Row → List ℕ → Row → List ℕ
+text_or_none header name row = unwrap_or (option_map (λ place. get_or row place []) (column header name)) []
 
 -- a needed column isn't in the header
 abbrev pub is_missing : Row → List ℕ → Bool

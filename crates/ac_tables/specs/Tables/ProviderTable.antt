@@ -1,11 +1,11 @@
 -- The table of providers.
 use Rattle.std.specs.Prelude.{◌&&◌, ℕ, Bool, ◌||◌, ◌==◌, not, nat_le, if◌then◌else◌, List, [], ◌∷◌, ◌++◌, codes, length, get_or, Option, None, false}
-use Rattle.std.specs.Option.{unwrap_or, is_none, is_some, option_and_then}
+use Rattle.std.specs.Option.{unwrap_or, is_none, is_some, option_and_then, option_map}
 use Rattle.std.specs.List.{position_from}
 use Rattle.std.specs.Str.{bytes_eq}
 use Rattle.ac_base.specs.Texts.{id_value}
 use Rattle.ac_tables.specs.Tables.Checks.{Row, Check, first_failing, pass}
-use Rattle.ac_tables.specs.Tables.Columns.{table_checks, said_by, text_in, id_in, bad_width, bad_id}
+use Rattle.ac_tables.specs.Tables.Columns.{table_checks, said_by, text_in, text_or_none, id_in, bad_width, bad_id}
 use Rattle.ac_cloud.specs.Trees.{top, is_endless}
 use Rattle.ac_tables.specs.declared.fault.Table.TheVariants as table
 use Rattle.ac_tables.specs.declared.fault.TableKind.TheVariants as kind
@@ -16,6 +16,7 @@ pub record ProviderRecord : Type 0 where
   pub id : ℕ
   pub root : ℕ
   pub parent : Option ℕ
+  pub name : List ℕ
 
 unfoldable pub uuid_name : List ℕ
 uuid_name = codes "uuid"
@@ -25,6 +26,10 @@ root_name = codes "root_provider_uuid"
 
 unfoldable pub parent_name : List ℕ
 parent_name = codes "parent_provider_uuid"
+
+-- a column that may be left out
+unfoldable pub name_name : List ℕ
+name_name = codes "name"
 
 -- the needed columns, in the order in which they are checked
 unfoldable pub provider_columns : List (List ℕ)
@@ -48,6 +53,7 @@ provider_said header row = record {
   id = id_in header uuid_name row;
   root = id_in header root_name row;
   parent = parent_value (text_in header parent_name row);
+  name = text_or_none header name_name row;
 }
 
 abbrev pub is_at : ℕ → ProviderRecord → Bool
@@ -84,7 +90,7 @@ provider_record_checks header before row = provider_field_checks header row ++ p
 
 -- a provider for the places past the end
 abbrev pub no_record : ProviderRecord
-no_record = record { id = 0; root = 0; parent = None }
+no_record = record { id = 0; root = 0; parent = None; name = [] }
 
 -- the provider at a place
 abbrev pub record_at : List ProviderRecord → ℕ → ProviderRecord
@@ -93,6 +99,10 @@ record_at all i = get_or all i no_record
 -- the parent of a provider, where it has one
 abbrev pub said_parent : List ProviderRecord → ℕ → Option ℕ
 said_parent all id = option_and_then (λ i. (record_at all i).parent) (place_of all id)
+
+-- the name of a provider; empty where it has none
+abbrev pub said_name : List ProviderRecord → ℕ → List ℕ
+said_name all id = unwrap_or (option_map (λ i. (record_at all i).name) (place_of all id)) []
 
 -- a parent that isn't there
 abbrev pub has_unknown_parent : List ProviderRecord → ProviderRecord → Bool

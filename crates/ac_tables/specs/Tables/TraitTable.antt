@@ -1,10 +1,11 @@
 -- The table of traits.
-use Rattle.std.specs.Prelude.{Option, ℕ, Bool, List, [], ◌∷◌, ◌++◌, codes}
+use Rattle.std.specs.Prelude.{Option, ℕ, Bool, List, [], ◌∷◌, ◌++◌}
 use Rattle.std.specs.Option.{is_none}
 use Rattle.ac_base.specs.Texts.{name_value}
 use Rattle.ac_tables.specs.Tables.Checks.{Row, Check, first_failing}
 use Rattle.ac_tables.specs.Tables.Columns.{table_checks, said_by, text_in, id_in}
 use Rattle.ac_tables.specs.Tables.InventoryTable.{provider_name, owner_checks, known_checks}
+use Rattle.ac_tables.specs.Tables.ProviderTable.{name_name}
 use Rattle.ac_tables.specs.declared.fault.Table.TheVariants as table
 use Rattle.ac_tables.specs.declared.fault.TableKind.TheVariants as kind
 use Rattle.ac_tables.specs.declared.fault.TableFault.{TableFault}
@@ -13,9 +14,6 @@ use Rattle.ac_tables.specs.declared.fault.TableFault.{TableFault}
 pub record TraitRecord : Type 0 where
   pub provider : ℕ
   pub name : List ℕ
-
-unfoldable pub name_name : List ℕ
-name_name = codes "name"
 
 -- the needed columns, in the order in which they are checked
 unfoldable pub trait_columns : List (List ℕ)

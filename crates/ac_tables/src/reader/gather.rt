@@ -52,7 +52,7 @@ pub(crate) fn read_rows<T: Record>(
     let mut number = 2u32;
     while !is_past::<T>(rows.len()) && next_row(reader, &mut row)? {
         rows.reserve(1)?;
-        let (place, key, value) = T::read(&mut seen, beside, header, columns, &row)?;
+        let (place, key, value) = T::read(alloc, &mut seen, beside, header, columns, &row)?;
         rows.push_reserved(TableRow {
             place,
             number,

@@ -13,7 +13,7 @@ use csv::{ByteRecord, Reader};
 use std::alloc::Global;
 
 // The place of the first column of this name.
-fn find_column(header: &ByteRecord, name: &[u8]) -> Option<usize>
+pub(crate) fn find_column(header: &ByteRecord, name: &[u8]) -> Option<usize>
     ensures { result ≡ column (fields_of header.now) name.now }
 {
     for place in 0..header.len() {

@@ -11,6 +11,7 @@ use crate::fault::{RecordFault, Table};
 use ac_base::Names;
 use ac_cloud::Expected;
 use csv::ByteRecord;
+use std::alloc::Global;
 
 // What was seen of a table so far, to guess by.
 #[derive(Drop)]
@@ -80,6 +81,7 @@ pub(crate) trait Record {
 
     // What a record says, or the first fault that it has alone.
     fn read(
+        alloc: Global,
         seen: &mut Seen,
         beside: &Self::Beside,
         header: &ByteRecord,

@@ -111,6 +111,7 @@ impl Record for AggregateTable {
 
     #[tactic(auto, unfolding(crate::specs::Reader::ColumnPlaces::aggregate_places, crate::specs::Tables::AggregateTable::aggregate_record_checks, crate::specs::Tables::AggregateTable::aggregate_field_checks, crate::specs::Tables::AggregateTable::aggregate_said), using(crate::proofs::Records::KnownFacts::reading))]
     fn read(
+        _alloc: Global,
         seen: &mut Seen,
         ids: &Ids,
         header: &ByteRecord,

@@ -167,6 +167,7 @@ impl Record for InventoryTable {
 
     #[tactic(auto, unfolding(crate::specs::Reader::ColumnPlaces::inventory_places, crate::specs::Tables::InventoryTable::inventory_field_checks, crate::specs::Tables::InventoryTable::inventory_said), using(crate::proofs::Records::KnownFacts::reading))]
     fn read(
+        _alloc: Global,
         seen: &mut Seen,
         ids: &Ids,
         header: &ByteRecord,

@@ -2,7 +2,9 @@
 ghost use Rattle.std.specs.Prelude.{◌≡◌, ◌<◌, ◌&&◌, ◌==◌, not, ℕ, false, Some, None, List, length, map, get_or, IfOk, IfErr};
 ghost use Rattle.std.specs.Option.{option_and_then, is_some, is_none};
 ghost use Rattle.ac_tables.specs.Reader.Listings.{IsListing, IsFirst};
+ghost use Rattle.ac_tables.specs.Reader.ProviderLaws.{name_bytes};
 ghost use Rattle.ac_cloud.specs.Cloud.Places.{rank};
+ghost use Rattle.ac_cloud.specs.ListsOf.{lists_of};
 ghost use Rattle.ac_tables.specs.Tables.ProviderTable.{ProviderRecord};
 ghost use Rattle.ac_tables.specs.declared.reader.row.TableRow.{TableRow as ListingRow};
 ghost use Rattle.ac_tables.specs.declared.tables.provider_record.Named.{Named as NamedShown};
@@ -11,7 +13,7 @@ use crate::fault::{Table, TableFault, TableKind};
 use crate::reader::row::{TableRow, sooner};
 use crate::tables::provider_record::Named;
 use ac_base::Id;
-use ac_cloud::{Expected, Ids};
+use ac_cloud::{Expected, Ids, Lists};
 use std::alloc::{AllocError, Global};
 
 fn keys(alloc: Global, rows: &[TableRow<Id, Named>]) -> Result<Vec<Id>, AllocError>
@@ -33,6 +35,21 @@ pub(crate) fn find_ids(alloc: Global, rows: &[TableRow<Id, Named>]) -> Result<Id
         .map(|row| row.number.saturating_sub(2))
         .collect(alloc)?;
     Ids::new(alloc, ids, turns)
+}
+
+// The names of the providers.
+pub(crate) fn find_names(
+    alloc: Global,
+    rows: &[TableRow<Id, Named>],
+) -> Result<Lists<u8>, AllocError>
+    ensures { IfOk result (λ names. lists_of names
+        ≡ map (λ (r : ListingRow ℕ NamedShown). name_bytes r.value.name) rows.now) }
+{
+    let mut names = Lists::new(alloc)?;
+    for row in rows {
+        names.push(row.value.name())?;
+    }
+    Ok(names)
 }
 
 // The place of the parent that a row names; it is looked for near the one that was named last.

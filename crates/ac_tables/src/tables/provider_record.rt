@@ -1,22 +1,29 @@
 //! A record of the table of providers.
-ghost use Rattle.std.specs.Prelude.{◌≡◌, true, Some};
-ghost use Rattle.ac_tables.specs.Reader.ColumnPlaces.{provider_places};
-ghost use Rattle.ac_tables.specs.Tables.ProviderTable.{says_none, ProviderRecord, is_at, provider_said, provider_field_checks, provider_record_checks, provider_columns};
-ghost use Rattle.ac_tables.specs.Reader.ProviderLaws.{provider_shown, providers_keyed, providers_apart};
+ghost use Rattle.std.specs.Prelude.{◌≡◌, true, Some, IfOk, IfSome};
+ghost use Rattle.std.specs.Option.{is_none};
+ghost use Rattle.csv.specs.Records.{fields_of};
+ghost use Rattle.ac_tables.specs.Reader.ColumnPlaces.{place_in, provider_places};
+ghost use Rattle.ac_tables.specs.Tables.Columns.{column, text_in, text_or_none};
+ghost use Rattle.ac_tables.specs.Tables.ProviderTable.{says_none, parent_name, name_name, parent_value, is_bad_parent, ProviderRecord, is_at, provider_said, provider_field_checks, provider_record_checks, provider_columns};
+ghost use Rattle.ac_tables.specs.Reader.ProviderLaws.{name_bytes, provider_shown, providers_keyed, providers_apart};
 ghost use Rattle.ac_tables.specs.declared.fault.Table.TheVariants as table;
 
 use crate::fault::{RecordFault, Table, TableKind};
-use crate::reader::header::column_at;
+use crate::reader::header::{column_at, find_column};
 use crate::reader::record::{Record, Seen};
 use crate::reader::records::text_at;
 use ac_base::Id;
 use csv::ByteRecord;
+use std::alloc::{AllocError, Global};
 
 const UUID: &[u8] = b"uuid";
 
 const ROOT: &[u8] = b"root_provider_uuid";
 
 const PARENT: &[u8] = b"parent_provider_uuid";
+
+// A column that may be left out.
+const NAME: &[u8] = b"name";
 
 // The needed columns, in the order in which they are checked.
 const PROVIDER_COLUMNS: [&[u8]; 3] = [UUID, ROOT, PARENT];
@@ -27,6 +34,7 @@ pub(crate) struct ProviderColumns {
     id: usize,
     root: usize,
     parent: usize,
+    name: Option<usize>,
 }
 
 fn says_none(text: &[u8]) -> bool
@@ -35,11 +43,57 @@ fn says_none(text: &[u8]) -> bool
     text.is_empty() || text == b"None".as_slice()
 }
 
+// The parent that a record names, or that it names none; nothing where the field is bad.
+fn read_parent(header: &ByteRecord, place: usize, row: &ByteRecord) -> Option<Option<Id>>
+    requires { place ≡ place_in (fields_of header.now) parent_name }
+    ensures bad { is_none result
+        ≡ is_bad_parent (text_in (fields_of header.now) parent_name (fields_of row.now)) }
+    ensures value { IfSome result (λ parent. parent
+        ≡ parent_value (text_in (fields_of header.now) parent_name (fields_of row.now))) }
+{
+    let text = text_at(row, place);
+    if says_none(text) {
+        return Some(None);
+    }
+    let id = Id::read(text)?;
+    Some(Some(id))
+}
+
 // What a record names beside its own id.
-#[derive(Clone, Copy, Debug, PartialEq, Eq)]
+#[derive(Drop)]
 pub(crate) struct Named {
     pub(crate) root: Id,
     pub(crate) parent: Option<Id>,
+    name: Option<Vec<u8>>,
+}
+
+impl Named {
+    // The provider's name; empty where it has none.
+    pub(crate) fn name(&self) -> &[u8]
+        ensures { result.now ≡ name_bytes self.now.name }
+    {
+        match &self.name {
+            Some(name) => name.as_slice(),
+            None => b"",
+        }
+    }
+}
+
+// The name of a record, where the table has names.
+fn read_name(
+    alloc: Global,
+    header: &ByteRecord,
+    place: Option<usize>,
+    row: &ByteRecord,
+) -> Result<Option<Vec<u8>>, AllocError>
+    requires { place ≡ column (fields_of header.now) name_name }
+    ensures { IfOk result (λ name. name_bytes name
+        ≡ text_or_none (fields_of header.now) name_name (fields_of row.now)) }
+{
+    match place {
+        Some(place) => Ok(Some(Vec::from_slice(alloc, text_at(row, place))?)),
+        None => Ok(None),
+    }
 }
 
 // The table of providers. Its rows go by their ids alone.
@@ -89,17 +143,19 @@ impl Record for ProviderTable {
         &PROVIDER_COLUMNS
     }
 
-    #[tactic(auto, unfolding(crate::specs::Reader::ColumnPlaces::provider_places, crate::specs::Tables::ProviderTable::uuid_name, crate::specs::Tables::ProviderTable::root_name, crate::specs::Tables::ProviderTable::parent_name))]
+    #[tactic(auto, unfolding(crate::specs::Reader::ColumnPlaces::provider_places, crate::specs::Tables::ProviderTable::uuid_name, crate::specs::Tables::ProviderTable::root_name, crate::specs::Tables::ProviderTable::parent_name, crate::specs::Tables::ProviderTable::name_name))]
     fn columns(header: &ByteRecord) -> ProviderColumns {
         ProviderColumns {
             id: column_at(header, UUID),
             root: column_at(header, ROOT),
             parent: column_at(header, PARENT),
+            name: find_column(header, NAME),
         }
     }
 
     #[tactic(auto, unfolding(crate::specs::Reader::ColumnPlaces::provider_places, crate::specs::Tables::ProviderTable::provider_said, crate::specs::Tables::ProviderTable::provider_field_checks))]
     fn read(
+        alloc: Global,
         _seen: &mut Seen,
         _beside: &(),
         header: &ByteRecord,
@@ -115,15 +171,11 @@ impl Record for ProviderTable {
         let Some(root) = Id::read(text_at(row, columns.root)) else {
             return Err(RecordFault::Kind(TableKind::BadUuid));
         };
-        let text = text_at(row, columns.parent);
-        if says_none(text) {
-            return Ok((0, id, Named { root, parent: None }));
-        }
-        let Some(parent) = Id::read(text) else {
+        let Some(parent) = read_parent(header, columns.parent, row) else {
             return Err(RecordFault::Kind(TableKind::BadUuid));
         };
-        let parent = Some(parent);
-        Ok((0, id, Named { root, parent }))
+        let name = read_name(alloc, header, columns.name, row)?;
+        Ok((0, id, Named { root, parent, name }))
     }
 
     ghost keyed = { λ _ header. providers_keyed header };

@@ -6,21 +6,22 @@ ghost use Rattle.ac_tables.specs.Drain.{most_bytes};
 ghost use Rattle.ac_tables.specs.Reader.Kin.{AreKin};
 ghost use Rattle.ac_tables.specs.Reader.Listings.{IsListing};
 ghost use Rattle.ac_cloud.specs.Cloud.Places.{parent_in, rank};
-ghost use Rattle.ac_tables.specs.Tables.ProviderTable.{providers_said, provider_records_fault, said_parent, providers_fault};
+ghost use Rattle.ac_tables.specs.Tables.ProviderTable.{providers_said, provider_records_fault, said_name, said_parent, providers_fault};
 ghost use Rattle.ac_tables.specs.Tables.Rows.{records_of};
 ghost use Rattle.ac_tables.specs.Tables.{ids_of};
+ghost use Rattle.ac_cloud.specs.ListsOf.{lists_of};
 ghost use Rattle.ac_cloud.specs.Trees.{top};
 
 use crate::fault::{TableFault, TableKind};
 use crate::reader::gather::read_table;
 use crate::reader::row::TableRow;
 use crate::tables::listing::{
-    check_marks, find_ids, find_parents, mark_endless, mark_other_roots, mark_unknown,
+    check_marks, find_ids, find_names, find_parents, mark_endless, mark_other_roots, mark_unknown,
 };
 use crate::tables::provider_record::{Named, ProviderTable};
 use ac_base::Id;
-use ac_cloud::Ids;
 use ac_cloud::cloud::roots::find_tops;
+use ac_cloud::{Ids, Lists};
 use std::alloc::Global;
 
 // The rows of the providers of a text, before their parents are looked at.
@@ -41,6 +42,7 @@ pub(crate) struct Providers {
     pub(crate) ids: Ids,
     pub(crate) parents: Vec<Option<u32>>,
     pub(crate) roots: Vec<u32>,
+    pub(crate) names: Lists<u8>,
 }
 
 // The providers of a text, or the first fault of their table: each check of the trees passes over all before the next.
@@ -53,6 +55,8 @@ pub(crate) fn read_providers(alloc: Global, text: &[u8]) -> Result<Providers, Ta
     ensures count { IfOk result (λ v. length v.roots.items ≡ length v.parents.items) }
     ensures roots { IfOk result (λ v. (i : ℕ) → i < length v.parents.items
         → get_or v.roots.items i 0 ≡ top (parent_in v.parents.items) (length v.parents.items) i) }
+    ensures names { IfOk result (λ v. lists_of v.names
+        ≡ map (said_name (providers_said (records_of text.now))) v.ids.ids.items) }
     ensures kin { IfOk result (λ v. AreKin v.ids.ids.items (providers_said (records_of text.now))) }
     ensures ok { IfOk result (λ _. providers_fault (records_of text.now) ≡ None) }
     ensures fault { IfErr result (λ e. Tells (providers_fault (records_of text.now)) e) }
@@ -78,9 +82,11 @@ pub(crate) fn read_providers(alloc: Global, text: &[u8]) -> Result<Providers, Ta
     if let Err(fault) = check_marks(&rows, &other, TableKind::WrongRoot) {
         return Err(fault);
     }
+    let names = find_names(alloc, &rows)?;
     Ok(Providers {
         ids,
         parents,
         roots,
+        names,
     })
 }

@@ -6,7 +6,8 @@ ghost use Rattle.ac_tables.specs.Tables.Checks.{first_failing, TellsKind, Tells}
 ghost use Rattle.ac_tables.specs.Tables.Columns.{text_in};
 ghost use Rattle.ac_tables.specs.Reader.ColumnPlaces.{place_in, trait_places};
 ghost use Rattle.ac_tables.specs.Tables.InventoryTable.{provider_name};
-ghost use Rattle.ac_tables.specs.Tables.TraitTable.{name_name, name_checks, TraitRecord, trait_columns, trait_said, trait_record_checks, traits_said, traits_fault};
+ghost use Rattle.ac_tables.specs.Tables.ProviderTable.{name_name};
+ghost use Rattle.ac_tables.specs.Tables.TraitTable.{name_checks, TraitRecord, trait_columns, trait_said, trait_record_checks, traits_said, traits_fault};
 ghost use Rattle.ac_tables.specs.Reader.RecordLaws.{traits_keyed, traits_apart};
 ghost use Rattle.ac_tables.specs.Drain.{most_bytes};
 ghost use Rattle.ac_cloud.specs.ListsOf.{lists_of};
@@ -102,12 +103,12 @@ impl Record for TraitTable {
 
     ghost places = { trait_places };
 
-    #[tactic(auto, unfolding(crate::specs::Tables::TraitTable::trait_columns, crate::specs::Tables::InventoryTable::provider_name, crate::specs::Tables::TraitTable::name_name))]
+    #[tactic(auto, unfolding(crate::specs::Tables::TraitTable::trait_columns, crate::specs::Tables::InventoryTable::provider_name, crate::specs::Tables::ProviderTable::name_name))]
     fn names() -> &'static [&'static [u8]] {
         &TRAIT_COLUMNS
     }
 
-    #[tactic(auto, unfolding(crate::specs::Reader::ColumnPlaces::trait_places, crate::specs::Tables::InventoryTable::provider_name, crate::specs::Tables::TraitTable::name_name))]
+    #[tactic(auto, unfolding(crate::specs::Reader::ColumnPlaces::trait_places, crate::specs::Tables::InventoryTable::provider_name, crate::specs::Tables::ProviderTable::name_name))]
     fn columns(header: &ByteRecord) -> TraitColumns {
         TraitColumns {
             provider: column_at(header, OWNER),
@@ -117,6 +118,7 @@ impl Record for TraitTable {
 
     #[tactic(auto, unfolding(crate::specs::Reader::ColumnPlaces::trait_places, crate::specs::Tables::TraitTable::trait_record_checks, crate::specs::Tables::TraitTable::trait_field_checks, crate::specs::Tables::TraitTable::trait_said), using(crate::proofs::Records::KnownFacts::reading))]
     fn read(
+        _alloc: Global,
         seen: &mut Seen,
         ids: &Ids,
         header: &ByteRecord,

@@ -114,6 +114,7 @@ impl Record for UsageTable {
 
     #[tactic(auto, unfolding(crate::specs::Reader::ColumnPlaces::usage_places, crate::specs::Tables::UsageTable::usage_field_checks, crate::specs::Tables::UsageTable::usage_said), using(crate::proofs::Records::KnownFacts::reading, ac_cloud::proofs::Rising::one_of_place))]
     fn read(
+        _alloc: Global,
         seen: &mut Seen,
         inventories: &Inventories,
         header: &ByteRecord,

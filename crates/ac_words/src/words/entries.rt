@@ -1,10 +1,11 @@
 //! What the matches of `clap` hold.
 ghost use Rattle.std.specs.Prelude.{◌≡◌, ◌∷◌, IfErr, IfOk, OnOk, Some, [], is_some, option_map, string_bytes, true};
 ghost use Rattle.clap.specs.Words.{first_of, found_of, rows_of, subcommand_rows_of};
-ghost use Rattle.ac_words.specs.Words.{HasEntry, HasNeeded, IsComplete, IsMadeOf, Says, Tells, name_of, own_faults, query_of, table_kinds, token_of, version_kinds, version_named, version_of};
+ghost use Rattle.ac_words.specs.Words.{HasNeeded, IsComplete, IsMadeOf, Says, Tells, name_of, own_faults, query_of, table_kinds, token_of, version_kinds, version_named, version_of};
 
 use super::tables::{check_tables, needed_path, path};
 use super::{WordFault, Words, fault_of, grammar};
+use crate::mark::past_mark;
 use ac_query::{Command, Version};
 use ac_tables::Table;
 use clap::ArgMatches;
@@ -17,22 +18,6 @@ pub(super) fn entry<'a>(entries: &ArgMatches<'a>, name: &str) -> Option<&'a str>
         ≡ first_of name.now (rows_of (found_of entries.now)) }
 {
     entries.get_str(name)
-}
-
-// A copy of the entry of a name that has one.
-fn copy_needed_entry(
-    alloc: Global,
-    entries: &ArgMatches<'_>,
-    name: &str,
-) -> Result<String, AllocError>
-    requires { HasEntry name.now (rows_of (found_of entries.now)) }
-    ensures { IfOk result (λ text. first_of name.now (rows_of (found_of entries.now))
-        ≡ Some (string_bytes text)) }
-{
-    match entry(entries, name) {
-        Some(text) => String::from_str(alloc, text),
-        None => unreachable!(),
-    }
 }
 
 // A copy of the entry of a name, where it has one.
@@ -58,9 +43,14 @@ fn query(alloc: Global, command: Command, entries: &ArgMatches<'_>) -> Result<St
 {
     match command {
         Command::Check => Ok(String::new(alloc)),
-        Command::Candidates | Command::Tokens | Command::Verify | Command::Explain => {
-            copy_needed_entry(alloc, entries, "query")
-        }
+        Command::Candidates
+        | Command::Tokens
+        | Command::Verify
+        | Command::Explain
+        | Command::Hosts => match entry(entries, "query") {
+            Some(text) => String::from_str(alloc, past_mark(text)),
+            None => unreachable!(),
+        },
     }
 }
 
@@ -117,7 +107,7 @@ fn token(
         ≡ option_map string_bytes copy) }
 {
     match command {
-        Command::Check | Command::Explain => Ok(None),
+        Command::Check | Command::Explain | Command::Hosts => Ok(None),
         Command::Candidates | Command::Tokens => copy_entry(alloc, entries, "after"),
         Command::Verify => copy_entry(alloc, entries, "token"),
     }
@@ -135,6 +125,7 @@ fn find_command<'m, 'a>(matches: &'m ArgMatches<'a>) -> (Command, &'m ArgMatches
         Some(("tokens", entries)) => (Command::Tokens, entries),
         Some(("verify", entries)) => (Command::Verify, entries),
         Some(("explain", entries)) => (Command::Explain, entries),
+        Some(("hosts", entries)) => (Command::Hosts, entries),
         _ => unreachable!(),
     }
 }

@@ -2,26 +2,12 @@
 ghost use Rattle.std.specs.Prelude.{◌≡◌, IfOk, false};
 ghost use Rattle.clap.specs.Words.{app_of, rule_of};
 ghost use Rattle.clap.specs.declared.builder.command.Command.TheViews.{out-Command as fields_of};
-ghost use Rattle.ac_words.specs.Words.{app_for, candidates_app, check_app, explain_app, option_rule, program, query_app, search_app, tokens_app, verify_app, with_options, with_tables, word_rule};
+ghost use Rattle.ac_words.specs.Words.{app_for, candidates_app, check_app, explain_app, hosts_app, option_rule, program, query_app, search_app, tokens_app, verify_app, with_options, with_tables, word_rule};
 
+use super::help;
 use ac_query::Command as Asked;
 use clap::{Arg, Command};
 use std::alloc::{AllocError, Global};
-
-// Shown below the help of the program and of each command.
-const AFTER_HELP: &str = "\
-Exit status:
-  0  written
-  1  `verify` says no, or `explain` finds no candidate
-  2  the command line was refused
-  3  a table was refused, or could not be read
-  4  the query was refused
-  5  the token was refused
-  6  a write failed
-  7  out of memory
-
-Example, at the top of the repository:
-  ./ac_cli tokens 'resources=VCPU:2' --tables examples/cloud";
 
 // The program's version, and the logic by which it is proved, as `rt version` names it: toolchains of several names have it.
 const VERSION: &str = "1.0.0, proved with Rattle's logic dac8208d650f15bf";
@@ -120,6 +106,7 @@ fn with_query<'a>(
     name: &'a str,
     about: &'a str,
     usage: &'a str,
+    below: &'a str,
 ) -> Result<Command<'a>, AllocError>
     ensures app { IfOk result (λ c. app_of c ≡ query_app name.entry.now) }
     ensures local { IfOk result (λ c. (fields_of c).has_globals ≡ false) }
@@ -127,12 +114,13 @@ fn with_query<'a>(
     let command = Command::new(alloc, name)
         .about(about)
         .override_usage(usage)
-        .after_help(AFTER_HELP);
+        .after_help(below);
     command.arg(word(
         alloc,
         "query",
         "QUERY",
-        "What is asked for, as in 'resources=VCPU:2'",
+        "What is asked for, between '..' since the shell reads & ! and ? otherwise; of a URL, what \
+         stands behind its ?",
     ))
 }
 
@@ -146,7 +134,7 @@ fn check<'a>(alloc: Global) -> Result<Command<'a>, AllocError>
             "ac_cli check --tables <DIR>\n       \
              ac_cli check [OPTIONS] --providers <FILE> --inventories <FILE>",
         )
-        .after_help(AFTER_HELP);
+        .after_help(help::CHECK);
     add_tables(alloc, command)
 }
 
@@ -156,11 +144,12 @@ fn search<'a>(
     name: &'a str,
     about: &'a str,
     usage: &'a str,
+    below: &'a str,
 ) -> Result<Command<'a>, AllocError>
     ensures app { IfOk result (λ c. app_of c ≡ search_app name.entry.now) }
     ensures local { IfOk result (λ c. (fields_of c).has_globals ≡ false) }
 {
-    let command = add_options(alloc, with_query(alloc, name, about, usage)?)?;
+    let command = add_options(alloc, with_query(alloc, name, about, usage, below)?)?;
     command.arg(option(
         alloc,
         "after",
@@ -179,6 +168,7 @@ fn candidates<'a>(alloc: Global) -> Result<Command<'a>, AllocError>
         "Writes the candidates for a query as JSON, with summaries of their providers",
         "ac_cli candidates [OPTIONS] --tables <DIR> <QUERY>\n       \
          ac_cli candidates [OPTIONS] --providers <FILE> --inventories <FILE> <QUERY>",
+        help::CANDIDATES,
     )
 }
 
@@ -192,6 +182,7 @@ fn tokens<'a>(alloc: Global) -> Result<Command<'a>, AllocError>
         "Writes the candidates for a query, one per line: the UUIDs of their providers",
         "ac_cli tokens [OPTIONS] --tables <DIR> <QUERY>\n       \
          ac_cli tokens [OPTIONS] --providers <FILE> --inventories <FILE> <QUERY>",
+        help::TOKENS,
     )
 }
 
@@ -205,6 +196,7 @@ fn verify<'a>(alloc: Global) -> Result<Command<'a>, AllocError>
         "Writes whether a token is a candidate for a query, or which rule it breaks",
         "ac_cli verify [OPTIONS] --tables <DIR> <QUERY> <TOKEN>\n       \
          ac_cli verify [OPTIONS] --providers <FILE> --inventories <FILE> <QUERY> <TOKEN>",
+        help::VERIFY,
     )?;
     let command = command.arg(word(
         alloc,
@@ -225,6 +217,22 @@ fn explain<'a>(alloc: Global) -> Result<Command<'a>, AllocError>
         "Writes how many providers and trees meet a query, rule by rule: why nothing is found",
         "ac_cli explain [OPTIONS] --tables <DIR> <QUERY>\n       \
          ac_cli explain [OPTIONS] --providers <FILE> --inventories <FILE> <QUERY>",
+        help::EXPLAIN,
+    )?;
+    add_options(alloc, command)
+}
+
+fn hosts<'a>(alloc: Global) -> Result<Command<'a>, AllocError>
+    ensures app { IfOk result (λ c. app_of c ≡ hosts_app) }
+    ensures local { IfOk result (λ c. (fields_of c).has_globals ≡ false) }
+{
+    let command = with_query(
+        alloc,
+        "hosts",
+        "Writes whether a query fits at each root, and what is missing there (CSV)",
+        "ac_cli hosts [OPTIONS] --tables <DIR> <QUERY>\n       \
+         ac_cli hosts [OPTIONS] --providers <FILE> --inventories <FILE> <QUERY>",
+        help::HOSTS,
     )?;
     add_options(alloc, command)
 }
@@ -239,6 +247,7 @@ pub(super) fn command<'a>(alloc: Global, asked: Asked) -> Result<Command<'a>, Al
         Asked::Tokens => tokens(alloc),
         Asked::Verify => verify(alloc),
         Asked::Explain => explain(alloc),
+        Asked::Hosts => hosts(alloc),
     }
 }
 
@@ -251,12 +260,13 @@ pub(super) fn program<'a>(alloc: Global) -> Result<Command<'a>, AllocError>
         .about(
             "Finds allocation candidates in exported Placement tables; with no arguments, in a built-in sample",
         )
-        .after_help(AFTER_HELP)
+        .after_help(help::PROGRAM)
         .subcommand_required(true);
     let command = command.subcommand(check(alloc)?)?;
     let command = command.subcommand(candidates(alloc)?)?;
     let command = command.subcommand(tokens(alloc)?)?;
     let command = command.subcommand(verify(alloc)?)?;
     let command = command.subcommand(explain(alloc)?)?;
+    let command = command.subcommand(hosts(alloc)?)?;
     Ok(command)
 }

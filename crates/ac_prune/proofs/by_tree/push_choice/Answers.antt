@@ -3,8 +3,12 @@ use Rattle.ac_cloud.specs.Cloud.CloudWorld.{providers_of}
 use Rattle.ac_cloud.specs.World.{anchors_of}
 use Rattle.ac_prune.specs.Trees.Keys.{key_of, is_there}
 use Rattle.ac_prune.proofs.Roots.RootLemmas.{if_ok}
-use Rattle.ac_prune.proofs.Roots.TreeLemmas.{or_left, there_new, there_map, anchor_there}
+use Rattle.ac_prune.proofs.Roots.TreeLemmas.{or_left, there_new, there_old, there_map, anchor_there}
 use Rattle.ac_prune.proofs.by_tree.push_choice.Goals as goal
+
+pub returns-then-trees-most-clause-kept : goal.returns-then-trees-most-clause-kept
+returns-then-trees-most-clause-kept c =
+    if_ok _ _ c.push_keys.result (λ _ is x there. subst (λ (ks : List ℕ). is_there ks x ≡ true) (sym is) (there_old c.args.keys.now.items _ x there)) c.push_keys.ensures
 
 pub returns-then-trees-most-clause-placed : goal.returns-then-trees-most-clause-placed
 returns-then-trees-most-clause-placed c =

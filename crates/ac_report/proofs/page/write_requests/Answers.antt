@@ -1,6 +1,6 @@
-use Rattle.std.proofs.lemmas.Grind.{common_steps}
-use Rattle.std.proofs.Common.{◌≡◌, ◌∙◌, refl, ap, [], ◌∷◌, ◌++◌, false, get_or, arith}
+use Rattle.std.proofs.Common.{◌≡◌, ◌∙◌, ◌||◌, ℕ, List, refl, sym, ap, [], ◌∷◌, ◌++◌, false, get_or, arith}
 use Rattle.std.proofs.Math.Bool.{or-false}
+use Rattle.std.specs.List.{list_any}
 use Rattle.serde_json.specs.Written.{comma_if}
 use Rattle.ac_query.specs.Shown.Queries.{asked_of}
 use Rattle.ac_rules.specs.Lists.{tail_of}
@@ -24,7 +24,14 @@ pub returns-in-None-clause-writes : goal.returns-in-None-clause-writes
 returns-in-None-clause-writes g c = c.lists.invariant.writes _ _ _ (wrote_none _ _ _ _ _ (ap (requests (providers_of c.args.cloud.now) (asked_of c.args.query.now) c.lists.later) (cut_end _ _ c.in-None.ensures.head)))
 
 pub returns-in-None-clause-marks : goal.returns-in-None-clause-marks
-returns-in-None-clause-marks g c = grind (arith, common_steps, cut_end, or-false)
+returns-in-None-clause-marks g c =
+    let all = providers_of c.args.cloud.now in
+    record {
+      long = c.lists.invariant.long;
+      at_root = λ r low. sym (c.lists.invariant.marked r low
+          ∙ ap (λ (l : List (List ℕ)). get_or c.lists.marks r false || list_any (meets_root all (id_at all r)) l) (cut_end _ _ c.in-None.ensures.head)
+          ∙ or-false (get_or c.lists.marks r false));
+    }
 
 pub returns-in_err-text-in-Some-clause-reads : goal.returns-in_err-text-in-Some-clause-reads
 returns-in_err-text-in-Some-clause-reads g c =

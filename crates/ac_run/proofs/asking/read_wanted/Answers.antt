@@ -1,7 +1,7 @@
 use Rattle.std.proofs.Common.{ap}
 use Rattle.std.specs.Option.{option_map}
 use Rattle.ac_query.specs.Tokens.{ids_of}
-use Rattle.ac_run.proofs.WantedSaid.{said_body, said_explanation, said_lines, said_verdict}
+use Rattle.ac_run.proofs.WantedSaid.{said_body, said_explanation, said_hosts, said_lines, said_verdict}
 use Rattle.ac_run.specs.Jobs.{task_of}
 use Rattle.ac_run.proofs.asking.read_wanted.Goals as goal
 
@@ -22,3 +22,7 @@ pub returns-in_ok-query-in-Explain-clause-wanted :
     goal.returns-in_ok-query-in-Explain-clause-wanted
 returns-in_ok-query-in-Explain-clause-wanted c = λ world.
     said_explanation (task_of c.args.job.now) _ _ c.in_ok-query-in-Explain.ensures.said world c.in-Explain.is
+
+pub returns-in_ok-query-in-Hosts-clause-wanted : goal.returns-in_ok-query-in-Hosts-clause-wanted
+returns-in_ok-query-in-Hosts-clause-wanted c = λ world.
+    said_hosts (task_of c.args.job.now) _ _ c.in_ok-query-in-Hosts.ensures.said world c.in-Hosts.is

@@ -4,7 +4,7 @@ use Rattle.ac_query.specs.Shown.Queries.{asked_of}
 use Rattle.ac_rules.specs.Lists.{head_of}
 use Rattle.ac_rules.specs.Together.{is_empty}
 use Rattle.ac_search.specs.Explained.{TreeCounts}
-use Rattle.ac_search.proofs.ExplainedLemmas.{none_without_roots}
+use Rattle.ac_search.proofs.NoneLemmas.{none_without_traits}
 use Rattle.ac_cloud.specs.Cloud.CloudWorld.{providers_of}
 use Rattle.ac_run.proofs.FirstFound.{first_found}
 use Rattle.ac_run.proofs.explanation.has_candidate.Goals as goal
@@ -13,7 +13,7 @@ pub returns-then-trees-eq0 : goal.returns-then-trees-eq0
 returns-then-trees-eq0 c =
     let all = providers_of c.args.cloud.now in
     let asked = asked_of c.args.query.now in
-    sym (ap (λ lists. not (is_empty lists)) (none_without_roots all asked (sym (ap (λ (counts : TreeCounts). counts.each_slot) c.requires) ∙ c.if-trees-eq0.true)))
+    sym (ap (λ lists. not (is_empty lists)) (none_without_traits all asked (sym (ap (λ (counts : TreeCounts). counts.required_traits) c.requires) ∙ c.if-trees-eq0.true)))
 
 pub returns : goal.returns
 returns c =

@@ -4,8 +4,8 @@ use Rattle.ac_run.proofs.explanation.push_trees.Goals as goal
 
 pub returns-clause-ok : goal.returns-clause-ok
 unfolding trees_line
-returns-clause-ok g c = rw (c.as_bytes.ensures ∙ c.of.ensures, c.as_bytes-2.ensures ∙ c.of-2.ensures, c.as_bytes-3.ensures ∙ c.of-3.ensures) at c.push_pieces.ensures.ok
+returns-clause-ok g c = rw (c.as_bytes.ensures ∙ c.of.ensures, c.as_bytes-2.ensures ∙ c.of-2.ensures, c.as_bytes-3.ensures ∙ c.of-3.ensures, c.as_bytes-4.ensures ∙ c.of-4.ensures) at c.push_pieces.ensures.ok
 
 pub returns-clause-part : goal.returns-clause-part
 unfolding trees_line
-returns-clause-part g c = rw (c.as_bytes.ensures ∙ c.of.ensures, c.as_bytes-2.ensures ∙ c.of-2.ensures, c.as_bytes-3.ensures ∙ c.of-3.ensures) at c.push_pieces.ensures.part
+returns-clause-part g c = rw (c.as_bytes.ensures ∙ c.of.ensures, c.as_bytes-2.ensures ∙ c.of-2.ensures, c.as_bytes-3.ensures ∙ c.of-3.ensures, c.as_bytes-4.ensures ∙ c.of-4.ensures) at c.push_pieces.ensures.part

@@ -17,7 +17,7 @@ const SOME: Case = Case { status: 0, ..NONE };
 const FOUND: &[Case] = &[
     Case {
         output: "slot 1 \"\" VCPU:2: units 1 of 1, traits 1, aggregates 1, tree 1, room 1\n\
-                    trees 1: root traits 1, each slot 1\n\
+                    trees 1: root traits 1, each slot 1, required traits 1\n\
                     candidates: some\n",
         ..SOME
     },
@@ -27,7 +27,7 @@ const FOUND: &[Case] = &[
         query: UNDER_A_NODE,
         output: "slot 1 \"_NUMA\": units 4 of 4, traits 2, aggregates 2, tree 2, room 2\n\
                     slot 2 \"_PF\" VCPU:1: units 1 of 4, traits 1, aggregates 1, tree 1, room 1\n\
-                    trees 1: root traits 1, each slot 1\n\
+                    trees 1: root traits 1, each slot 1, required traits 1\n\
                     candidates: some\n",
         ..SOME
     },
@@ -41,7 +41,7 @@ const FOUND: &[Case] = &[
         output: "slot 1 \"\" MEMORY_MB:2: units 1 of 1, traits 1, aggregates 1, tree 1, room 1\n\
                     slot 2 \"\" VCPU:1: units 1 of 1, traits 1, aggregates 1, tree 1, room 1\n\
                     slot 3 \"_A\" MEMORY_MB:4,VCPU:3: units 1 of 1, traits 1, aggregates 1, tree 1, room 1\n\
-                    trees 1: root traits 1, each slot 1\n\
+                    trees 1: root traits 1, each slot 1, required traits 1\n\
                     candidates: some\n",
         ..SOME
     },
@@ -52,13 +52,56 @@ fn found(rt: HostRuntime) -> Result<(), Fail> {
     check(&rt, FOUND)
 }
 
+// The first has memory left, and the second units; the third has no memory at all.
+const HALVES: Rows = Rows {
+    providers: "@1,@1,\n@2,@2,\n@3,@3,\n",
+    inventories: "@1,VCPU,8,0,1,8,1,1.0\n@1,MEMORY_MB,9,0,1,9,1,1.0\n@2,VCPU,8,0,1,8,1,1.0\n@2,MEMORY_MB,9,0,1,9,1,1.0\n@3,VCPU,8,0,1,8,1,1.0\n",
+    usages: "@1,VCPU,7\n@2,MEMORY_MB,9\n",
+    ..ONE
+};
+
+// In a slot of several classes each is told with those that have room for it, unless all have.
+const BY_CLASS: &[Case] = &[
+    Case {
+        rows: HALVES,
+        query: "resources_A=VCPU:2,MEMORY_MB:1",
+        output: "slot 1 \"_A\" MEMORY_MB:1,VCPU:2: units 2 of 3, traits 2, aggregates 2, tree 2, room 0 (MEMORY_MB 1, VCPU 1)\n\
+                    trees 3: root traits 3, each slot 0, required traits 0\n\
+                    candidates: none\n",
+        ..NONE
+    },
+    // One unit is left of the first.
+    Case {
+        rows: HALVES,
+        query: "resources_A=VCPU:1,MEMORY_MB:1",
+        output: "slot 1 \"_A\" MEMORY_MB:1,VCPU:1: units 2 of 3, traits 2, aggregates 2, tree 2, room 1 (MEMORY_MB 1, VCPU 2)\n\
+                    trees 3: root traits 3, each slot 1, required traits 1\n\
+                    candidates: some\n",
+        ..SOME
+    },
+    // A slot has one class.
+    Case {
+        rows: HALVES,
+        query: "resources_A=MEMORY_MB:1",
+        output: "slot 1 \"_A\" MEMORY_MB:1: units 2 of 3, traits 2, aggregates 2, tree 2, room 1\n\
+                    trees 3: root traits 3, each slot 1, required traits 1\n\
+                    candidates: some\n",
+        ..SOME
+    },
+];
+
+#[test]
+fn by_class(rt: HostRuntime) -> Result<(), Fail> {
+    check(&rt, BY_CLASS)
+}
+
 // A slot that nobody fits: the number that is the first 0 says what is missing.
 const A_SLOT_ALONE: &[Case] = &[
     // No inventory admits nine units.
     Case {
         query: "resources=VCPU:9",
         output: "slot 1 \"\" VCPU:9: units 0 of 1, traits 0, aggregates 0, tree 0, room 0\n\
-                    trees 1: root traits 1, each slot 0\n\
+                    trees 1: root traits 1, each slot 0, required traits 0\n\
                     candidates: none\n",
         ..NONE
     },
@@ -66,7 +109,7 @@ const A_SLOT_ALONE: &[Case] = &[
     Case {
         query: "resources_A=VCPU:2&required_A=CUSTOM_A",
         output: "slot 1 \"_A\" VCPU:2: units 1 of 1, traits 0, aggregates 0, tree 0, room 0\n\
-                    trees 1: root traits 1, each slot 0\n\
+                    trees 1: root traits 1, each slot 0, required traits 0\n\
                     candidates: none\n",
         ..NONE
     },
@@ -74,7 +117,7 @@ const A_SLOT_ALONE: &[Case] = &[
     Case {
         query: "resources=VCPU:2&member_of=@a",
         output: "slot 1 \"\" VCPU:2: units 1 of 1, traits 1, aggregates 0, tree 0, room 0\n\
-                    trees 1: root traits 1, each slot 0\n\
+                    trees 1: root traits 1, each slot 0, required traits 0\n\
                     candidates: none\n",
         ..NONE
     },
@@ -86,7 +129,7 @@ const A_SLOT_ALONE: &[Case] = &[
         },
         query: "resources=VCPU:2&in_tree=@2",
         output: "slot 1 \"\" VCPU:2: units 1 of 2, traits 1, aggregates 1, tree 0, room 0\n\
-                    trees 2: root traits 2, each slot 0\n\
+                    trees 2: root traits 2, each slot 0, required traits 0\n\
                     candidates: none\n",
         ..NONE
     },
@@ -97,7 +140,7 @@ const A_SLOT_ALONE: &[Case] = &[
             ..ONE
         },
         output: "slot 1 \"\" VCPU:2: units 1 of 1, traits 1, aggregates 1, tree 1, room 0\n\
-                    trees 1: root traits 1, each slot 0\n\
+                    trees 1: root traits 1, each slot 0, required traits 0\n\
                     candidates: none\n",
         ..NONE
     },
@@ -114,7 +157,7 @@ const NO_TREE: &[Case] = &[
     Case {
         query: "resources=VCPU:2&root_required=CUSTOM_R",
         output: "slot 1 \"\" VCPU:2: units 1 of 1, traits 1, aggregates 1, tree 1, room 1\n\
-                    trees 1: root traits 0, each slot 0\n\
+                    trees 1: root traits 0, each slot 0, required traits 0\n\
                     candidates: none\n",
         ..NONE
     },
@@ -123,7 +166,7 @@ const NO_TREE: &[Case] = &[
         rows: OLD,
         query: "resources=VCPU:1&in_tree=@1&root_required=!CUSTOM_OLD",
         output: "slot 1 \"\" VCPU:1: units 2 of 3, traits 2, aggregates 2, tree 1, room 1\n\
-                    trees 2: root traits 1, each slot 0\n\
+                    trees 2: root traits 1, each slot 0, required traits 0\n\
                     candidates: none\n",
         ..NONE
     },
@@ -137,7 +180,7 @@ const NO_TREE: &[Case] = &[
         query: "resources=DISK_GB:1,VCPU:1",
         output: "slot 1 \"\" DISK_GB:1: units 1 of 2, traits 1, aggregates 1, tree 1, room 1\n\
                     slot 2 \"\" VCPU:1: units 1 of 2, traits 1, aggregates 1, tree 1, room 1\n\
-                    trees 2: root traits 2, each slot 0\n\
+                    trees 2: root traits 2, each slot 0, required traits 0\n\
                     candidates: none\n",
         ..NONE
     },
@@ -153,7 +196,7 @@ const NO_TREE: &[Case] = &[
         query: "resources=DISK_GB:1,VCPU:1",
         output: "slot 1 \"\" DISK_GB:1: units 2 of 4, traits 2, aggregates 2, tree 2, room 0\n\
                     slot 2 \"\" VCPU:1: units 2 of 4, traits 2, aggregates 2, tree 2, room 2\n\
-                    trees 4: root traits 4, each slot 0\n\
+                    trees 4: root traits 4, each slot 0, required traits 0\n\
                     candidates: none\n",
         ..NONE
     },
@@ -164,6 +207,40 @@ fn no_tree(rt: HostRuntime) -> Result<(), Fail> {
     check(&rt, NO_TREE)
 }
 
+// Below the first, which has nothing but a trait, the second and the third have units, and each of them a trait of its own.
+const TWO_TRAITS: Rows = Rows {
+    providers: "@1,@1,\n@2,@1,@1\n@3,@1,@1\n",
+    inventories: "@2,VCPU,8,0,1,8,1,1.0\n@3,VCPU,8,0,1,8,1,1.0\n",
+    traits: "@1,CUSTOM_R\n@2,CUSTOM_A\n@3,CUSTOM_B\n",
+    ..ONE
+};
+
+// Each slot has a provider, and a trait that the group without a suffix requires is had by none of those that it may have.
+const NO_TRAIT: &[Case] = &[
+    // Nobody has it.
+    Case {
+        query: "resources=VCPU:2&required=CUSTOM_A",
+        output: "slot 1 \"\" VCPU:2: units 1 of 1, traits 1, aggregates 1, tree 1, room 1\n\
+                    trees 1: root traits 1, each slot 1, required traits 0\n\
+                    candidates: none\n",
+        ..NONE
+    },
+    // The root has it, and gives no units.
+    Case {
+        rows: TWO_TRAITS,
+        query: "resources=VCPU:1&required=CUSTOM_A,CUSTOM_R",
+        output: "slot 1 \"\" VCPU:1: units 2 of 3, traits 2, aggregates 2, tree 2, room 2\n\
+                    trees 1: root traits 1, each slot 1, required traits 0\n\
+                    candidates: none\n",
+        ..NONE
+    },
+];
+
+#[test]
+fn no_trait(rt: HostRuntime) -> Result<(), Fail> {
+    check(&rt, NO_TRAIT)
+}
+
 // A tree has a provider for each slot, but not for all slots together.
 const NOT_TOGETHER: &[Case] = &[
     // Two groups want providers of their own.
@@ -171,7 +248,7 @@ const NOT_TOGETHER: &[Case] = &[
         query: "resources_A=VCPU:1&resources_B=VCPU:1&group_policy=isolate",
         output: "slot 1 \"_A\" VCPU:1: units 1 of 1, traits 1, aggregates 1, tree 1, room 1\n\
                     slot 2 \"_B\" VCPU:1: units 1 of 1, traits 1, aggregates 1, tree 1, room 1\n\
-                    trees 1: root traits 1, each slot 1\n\
+                    trees 1: root traits 1, each slot 1, required traits 1\n\
                     candidates: none\n",
         ..NONE
     },
@@ -180,15 +257,16 @@ const NOT_TOGETHER: &[Case] = &[
         query: "resources_A=VCPU:5&resources_B=VCPU:5&group_policy=none",
         output: "slot 1 \"_A\" VCPU:5: units 1 of 1, traits 1, aggregates 1, tree 1, room 1\n\
                     slot 2 \"_B\" VCPU:5: units 1 of 1, traits 1, aggregates 1, tree 1, room 1\n\
-                    trees 1: root traits 1, each slot 1\n\
+                    trees 1: root traits 1, each slot 1, required traits 1\n\
                     candidates: none\n",
         ..NONE
     },
-    // The trait that the group without a suffix requires is asked of all its providers together.
+    // One slot has one provider, and each of two traits is another's.
     Case {
-        query: "resources=VCPU:2&required=CUSTOM_A",
-        output: "slot 1 \"\" VCPU:2: units 1 of 1, traits 1, aggregates 1, tree 1, room 1\n\
-                    trees 1: root traits 1, each slot 1\n\
+        rows: TWO_TRAITS,
+        query: "resources=VCPU:1&required=CUSTOM_A,CUSTOM_B",
+        output: "slot 1 \"\" VCPU:1: units 2 of 3, traits 2, aggregates 2, tree 2, room 2\n\
+                    trees 1: root traits 1, each slot 1, required traits 1\n\
                     candidates: none\n",
         ..NONE
     },
@@ -204,7 +282,7 @@ const BESIDE: &[Case] = &[
     Case {
         query: "resources=VCPU:2&limit=1",
         output: "slot 1 \"\" VCPU:2: units 1 of 1, traits 1, aggregates 1, tree 1, room 1\n\
-                    trees 1: root traits 1, each slot 1\n\
+                    trees 1: root traits 1, each slot 1, required traits 1\n\
                     candidates: some\n",
         ..SOME
     },

@@ -1,4 +1,4 @@
-use Rattle.ac_search.proofs.ExplainedLemmas.{none_without_roots}
+use Rattle.ac_search.proofs.NoneLemmas.{none_without_roots}
 use Rattle.ac_search.proofs.laws.none_without_roots.Goals as goal
 
 pub returns : goal.returns

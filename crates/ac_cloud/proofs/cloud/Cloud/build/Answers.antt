@@ -10,7 +10,7 @@ find_anchors-requires-clause-inside c =
     subst (λ (l : List ℕ). ArePlaces (length l) l) (sym c.deref.ensures.value)
     (λ (i : ℕ) (h : i < length c.args.parts.roots.items).
     let inside : i < length ids = omega (arith, h, forest.with_roots) in
-    let r = numbered_root ids c.args.parts.parents.items [] [] [] c.args.parts.ids.rising forest.within i inside in
+    let r = numbered_root ids c.args.parts.parents.items [] [] [] [] c.args.parts.ids.rising forest.within i inside in
     omega (arith, forest.rooted i inside, r.0, forest.with_roots))
 
 pub walk-requires-clause-known : goal.walk-requires-clause-known
@@ -32,6 +32,7 @@ invariant_of-result c =
         with_entries = c.requires.entries;
         with_traits = c.requires.traits;
         with_aggregates = c.requires.aggregates;
+        with_names = c.requires.names;
         with_sharing = ap length c.in_ok-sharing.ensures ∙ length-map traits shares_by ∙ c.requires.traits;
         with_anchors = c.in_ok-anchors.ensures.length ∙ ap length c.deref.ensures.value ∙ sized;
         classes_rise = c.requires.classes_rise;

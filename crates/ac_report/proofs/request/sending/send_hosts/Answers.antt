@@ -1,4 +1,3 @@
-use Rattle.std.proofs.lemmas.Grind.{common_steps}
 use Rattle.std.proofs.Common.{◌≡◌, ◌∙◌, ℕ, List, arith, length, map, rules, subst, sym}
 use Rattle.std.proofs.lemmas.List.{drop_all, drop_more, length-map}
 use Rattle.std.proofs.lemmas.Result.{on_ok_weaker}
@@ -31,4 +30,9 @@ loop-ix-preserved g c = λ end rest.
     (subst (λ (ys : List ℕ). SendsItems (items_of (map string (map named ys))) (w c.loop-ix.out) end) (sym (drop_more c.deref-ix-items.result.now c.loop-ix.ix-index 0 (omega arith))) (w c.send_id.new.out, sent, rest))
 
 pub returns : goal.returns
-returns g c = grind (arith, common_steps, drop_all, on_ok_weaker)
+returns g c =
+    let w = g.S.Serializer.written in
+    let named = provider_text (providers_of c.args.hosts.now.cloud.now) in
+    let end = w c.end_seq.new.self in
+    on_ok_weaker c.end_seq.result (λ ends. c.loop-ix.invariant end
+    (subst (λ (ys : List ℕ). SendsItems (items_of (map string (map named ys))) (w c.loop-ix.out) end) (sym (drop_all c.loop-ix.ix-index c.deref-ix-items.result.now c.loop-ix-test.false)) ends)) c.end_seq.ensures

@@ -5,11 +5,11 @@ use Rattle.ac_search.specs.Shown.Walk.{search_in, place_in, path_in, front_in, c
 use Rattle.ac_search.specs.declared.walk.Walk.{Walk}
 use Rattle.ac_search.specs.Search.Steps.{IsNext}
 use Rattle.ac_prune.specs.Search.{next_at}
-use Rattle.ac_prune.proofs.Search.SoughtLemmas.{low_at}
 use Rattle.ac_search.proofs.Search.FrontOrder.{lex_longer}
 use Rattle.ac_search.proofs.Search.BoundLemmas.{left_place}
 use Rattle.ac_search.proofs.Steps.ChangeLemmas.{changed_more, one_more_kept, one_more_most, one_more_some, one_more_pays}
 use Rattle.ac_search.proofs.Steps.MoveLemmas.{sound_place}
+use Rattle.ac_search.proofs.Steps.PathLemmas.{next_within}
 use Rattle.ac_search.proofs.Steps.StepLemmas.{laws_in}
 use Rattle.ac_search.proofs.walk.Walk.place.Goals as goal
 
@@ -21,9 +21,7 @@ used_put : (w : Walk) (k : ℕ) → take (suc w.depth) (set w.places.items (suc 
 used_put w k = take-set w.places.items (suc w.depth) k ∙ take-suc w.places.items w.depth 0 (omega (arith, w.places_len, w.sound.within))
 
 pub take-requires-clause-provider : goal.take-requires-clause-provider
-take-requires-clause-provider c =
-    let w = c.args.self.now in
-    rw c.requires.next.is (low_at (search_in w) (laws_in w) w.depth (place_in w) w.sound.within c.requires.next.among)
+take-requires-clause-provider c = next_within c.args.self.now c.args.provider c.requires.next
 
 pub take-requires-clause-open : goal.take-requires-clause-open
 take-requires-clause-open c = rw (c.deref.ensures.value, c.requires.next.is) c.requires.opens
@@ -36,6 +34,7 @@ invariant_of-self c =
     record {
       resumed = rw (c.take.ensures.same.cloud, c.take.ensures.same.query) w.resumed;
       listed = rw (c.take.ensures.same.cloud, c.take.ensures.same.query) w.listed;
+      marked = rw c.take.ensures.same.cloud w.marked;
       looking = rw (c.take.ensures.same.cloud, c.take.ensures.same.query) w.looking;
       path_len = rw c.take.ensures.same.query (length-set w.path.items w.depth c.args.provider ∙ w.path_len);
       places_len = rw c.take.ensures.same.query (length-set w.places.items (w.depth + 1) start ∙ w.places_len);
@@ -55,7 +54,7 @@ returns-clause-goes c =
     let front = front_put w c.args.provider c.requires.next in
     let p = next_at m w.depth (place_in w) in
     record {
-      same = record { cloud = c.take.ensures.same.cloud; query = c.take.ensures.same.query; after = refl; least = refl };
+      same = record { cloud = c.take.ensures.same.cloud; query = c.take.ensures.same.query; after = refl; least = refl; roots = refl };
       left = rw (c.take.ensures.same.cloud, c.take.ensures.same.query, next, front, there)
           (sym (left_place m w.least.items (front_in w) (suc w.depth) start c.entry-start.result.1 (length-append (path_in w) (p ∷ []) ∙ omega (arith, w.sound.long)) c.requires.short c.entry-start.ensures));
       up = rw (c.take.ensures.same.cloud, c.take.ensures.same.query, next, front, there) (lex_longer (front_in w) (next_at m (suc w.depth) start) []);

@@ -40,6 +40,7 @@ invariant_of-self c =
     record {
       resumed = rw (c.give_back.ensures.same.cloud, c.give_back.ensures.same.query) w.resumed;
       listed = rw (c.give_back.ensures.same.cloud, c.give_back.ensures.same.query) w.listed;
+      marked = rw c.give_back.ensures.same.cloud w.marked;
       looking = rw (c.give_back.ensures.same.cloud, c.give_back.ensures.same.query) w.looking;
       path_len = rw c.give_back.ensures.same.query w.path_len;
       places_len = rw c.give_back.ensures.same.query (length-set w.places.items e _ ∙ w.places_len);
@@ -62,7 +63,7 @@ returns-clause-goes c =
     let there = get_or-set_same w.places.items e (a + 1) 0 (omega (arith, w.places_len, s.within)) in
     let path : path_in w ≡ q ++ p ∷ [] = ap (λ (i : ℕ). take i w.path.items) deep ∙ take-suc w.path.items e 0 (omega (arith, w.path_len, s.within)) in
     record {
-      same = record { cloud = c.give_back.ensures.same.cloud; query = c.give_back.ensures.same.query; after = refl; least = refl };
+      same = record { cloud = c.give_back.ensures.same.cloud; query = c.give_back.ensures.same.query; after = refl; least = refl; roots = refl };
       left = rw (c.give_back.ensures.same.cloud, c.give_back.ensures.same.query, place, there, front_deep w e deep) (sym (left_back (laws_in w) q used p a s (rw deep at c.requires.end)));
       up = rw (c.give_back.ensures.same.cloud, c.give_back.ensures.same.query, place, there, front_deep w e deep) (back_rises (laws_in w) q used p a s);
       kept = omega arith;

@@ -1,4 +1,4 @@
-use Rattle.ac_tables.proofs.Common.{IsStrictlySortedBy, text_cmp, TextMap, UsedInventory, ◌≡◌, ◌∙◌, ℕ, Option, List, map, length, refl, sym, ap, subst, sum_by, length-map, trait_bytes, Row, records_of, providers_said, said_parent, inventories_said, usages_said, traits_said, aggregates_said, inventories_of, amounts_of, names_of, aggregates_of, gathered, option_and_then, rank, AreKin, class_pair, with_used_lists, lists_of, map-id, length_permutation}
+use Rattle.ac_tables.proofs.Common.{IsStrictlySortedBy, text_cmp, TextMap, UsedInventory, ◌≡◌, ◌∙◌, ℕ, Option, List, map, length, refl, sym, ap, subst, sum_by, length-map, trait_bytes, Row, records_of, providers_said, said_name, said_parent, inventories_said, usages_said, traits_said, aggregates_said, inventories_of, amounts_of, names_of, aggregates_of, gathered, option_and_then, rank, AreKin, class_pair, with_used_lists, lists_of, map-id, length_permutation}
 use Rattle.ac_tables.specs.Tables.{ids_of, world_stated}
 use Rattle.ac_cloud.specs.Cloud.Numbered.{numbered}
 use Rattle.ac_cloud.specs.Cloud.CloudWorld.{sizes_of}
@@ -44,11 +44,13 @@ returns-clause-world c =
     let ss = map (map class_pair) (lists_of c.in_ok-inventories.inventories.rows) in
     let ns = map (map trait_bytes) (lists_of c.in_ok-traits.traits) in
     let gs = lists_of c.in_ok-aggregates.aggregates in
+    let ls = lists_of c.in_ok-providers.providers.names in
+    let called = c.in_ok-providers.ensures.names ∙ ap (map (said_name said)) (sym same) in
     let providers =
     c.in_ok-build.ensures.providers
-    ∙ ap (λ (l : List (TextMap UsedInventory)). numbered ids c.in_ok-providers.providers.parents.items l ns gs) entries
-    ∙ ap (λ (l : List (Option ℕ)). numbered ids l (with_used_lists us ss) ns gs) parents
-    ∙ stated t ids us ss ns gs kin usages inventories names aggregates
+    ∙ ap (λ (l : List (TextMap UsedInventory)). numbered ids c.in_ok-providers.providers.parents.items l ns gs ls) entries
+    ∙ ap (λ (l : List (Option ℕ)). numbered ids l (with_used_lists us ss) ns gs ls) parents
+    ∙ stated t ids us ss ns gs ls kin usages inventories names aggregates called
     ∙ ap (map (gathered t)) all in
     let s1 = c.len.ensures.value ∙ ap length all in
     let s2 = c.count.ensures.items ∙ sym (length-map c.in_ok-inventories.inventories.rows.items.items _) ∙ length_permutation _ _ c.in_ok-inventories.ensures.said in

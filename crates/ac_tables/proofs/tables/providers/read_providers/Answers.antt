@@ -1,9 +1,9 @@
-use Rattle.ac_tables.proofs.Common.{◌≡◌, ◌∙◌, ◌<◌, ℕ, Option, Some, None, length, get_or, map, option_map, option_and_then, sym, ap, subst, arith, AreParents, rank, parent_in, top, IsFirst, providers_said, records_of}
+use Rattle.ac_tables.proofs.Common.{◌≡◌, ◌∙◌, ◌<◌, ℕ, Option, Some, None, length, get_or, map, option_map, option_and_then, sym, ap, subst, arith, AreParents, rank, parent_in, top, IsFirst, providers_said, said_name, records_of}
 use Rattle.ac_tables.specs.declared.fault.Table.TheVariants as table
 use Rattle.ac_tables.specs.declared.fault.TableKind.TheVariants as kind
 use Rattle.ac_tables.specs.declared.fault.TableFault.TheVariants as fault
 use Rattle.ac_tables.specs.Tables.{ids_of}
-use Rattle.ac_tables.proofs.Records.ProviderRecords.{ids_are}
+use Rattle.ac_tables.proofs.Records.ProviderRecords.{ids_are, names_are}
 use Rattle.ac_tables.proofs.Records.ProviderFaults.{tells_table, tells_trees, none_whole, tells_unknown, tells_cycle, tells_root, none_trees}
 use Rattle.ac_tables.proofs.Records.TreeChecks.{tells_this, same_parents, unknown_told, parents_placed, as_ids, roots_inside, endless_told, wrong_told, kin_here}
 use Rattle.ac_tables.proofs.tables.providers.read_providers.Goals as goal
@@ -104,6 +104,11 @@ pub returns-clause-parents : goal.returns-clause-parents
 returns-clause-parents c =
     let u = (goal.at.returns-clause-parents c).In_ok-unknown in
     same_parents (providers_said (records_of c.args.text.now)) c.in-Ok.rows.items c.in-Ok.ensures.rows.table c.in_ok-ids.ids.ids.items (own u) c.in_ok-parents.parents.items (are u)
+
+pub returns-clause-names : goal.returns-clause-names
+returns-clause-names c =
+    let u = (goal.at.returns-clause-names c).In_ok-unknown in
+    rw c.deref-16.ensures.value at c.in_ok-names.ensures ∙ names_are (providers_said (records_of c.args.text.now)) c.in-Ok.rows.items c.in-Ok.ensures.rows.table ∙ ap (map (said_name (providers_said (records_of c.args.text.now)))) (sym (own u))
 
 pub returns-clause-kin : goal.returns-clause-kin
 returns-clause-kin c =

@@ -1,0 +1,51 @@
+-- At which roots candidates stand.
+use Rattle.std.specs.Prelude.{ℕ, Bool, true, false, ◌&&◌, List, map, length, slice_index_or, Option, Some, None}
+use Rattle.std.specs.List.{list_any, filter, range_with_len}
+use Rattle.ac_query.specs.Asked.{Asked, slots_of}
+use Rattle.ac_cloud.specs.World.{Provider}
+use Rattle.ac_rules.specs.Together.{takes_root}
+use Rattle.ac_rules.specs.Judge.{is_candidate, is_open}
+use Rattle.ac_rules.specs.Pages.{candidates}
+use Rattle.ac_prune.specs.Marks.{stand_at, stand_at_marked}
+use Rattle.ac_prune.specs.Search.{Search}
+use Rattle.ac_prune.specs.QuerySearch.{choices_of}
+
+-- a root fits: the query takes it, and all providers of some candidate are available in its tree
+abbrev pub fits_at : List Provider → Asked → ℕ → Bool
+fits_at all asked r = takes_root all asked r && list_any (λ t. stand_at all t r) (candidates all asked)
+
+-- for each provider by its place, whether it is such a root
+abbrev pub fitting : List Provider → Asked → List Bool
+fitting all asked = map (fits_at all asked) (range_with_len 0 (length all))
+
+-- ---- Private: a search at some roots
+
+-- a root is looked at: it is marked; without marks each is
+abbrev pub is_looked_at : Option (List Bool) → ℕ → Bool
+is_looked_at None r = true
+is_looked_at (Some marks) r = slice_index_or marks r false
+
+-- a list stands at a root that is looked at
+abbrev pub stands : List Provider → Option (List Bool) → List ℕ → Bool
+stands all None t = true
+stands all (Some marks) t = stand_at_marked all marks t
+
+-- those of some lists that stand at such a root
+abbrev pub standing : List Provider → Option (List Bool) → List (List ℕ) → List (List ℕ)
+standing all None ts = ts
+standing all (Some marks) ts = filter (stand_at_marked all marks) ts
+
+-- a candidate that does
+abbrev pub is_sought : List Provider → Asked → Option (List Bool) → List ℕ → Bool
+is_sought all asked None t = is_candidate all asked t
+is_sought all asked (Some marks) t = is_candidate all asked t && stand_at_marked all marks t
+
+-- what a query looks for there
+abbrev pub search_at : List Provider → Asked → Option (List Bool) → Search
+search_at all asked marks = record {
+  count = length all;
+  width = length (slots_of asked);
+  choices = choices_of all asked;
+  is_open = λ list. is_open all asked list;
+  is_wanted = λ list. is_sought all asked marks list;
+}

@@ -1,0 +1,44 @@
+//! The roots at which candidates stand: one walk, which leaves each root with the first candidate there.
+ghost use Rattle.std.specs.Prelude.{◌≡◌, ◌<◌, length, IfOk};
+ghost use Rattle.ac_cloud.specs.Cloud.CloudWorld.{providers_of};
+ghost use Rattle.ac_query.specs.Shown.Queries.{asked_of};
+ghost use Rattle.ac_search.specs.Hosts.{fitting};
+ghost use Rattle.ac_search.specs.Shown.Hosts.{Settles, IsSettled};
+ghost use Rattle.ac_search.specs.Shown.Walk.{cloud_in, query_in};
+
+use crate::walk::Walk;
+use ac_base::NoMemory;
+use ac_cloud::Cloud;
+use ac_prune::taken_roots;
+use ac_query::Query;
+use std::alloc::Global;
+
+// Goes through the candidates that stand at a root that is looked at, until there is no such root left.
+fn settle(walk: &mut Walk)
+    requires { Settles walk.old }
+    ensures cloud { cloud_in walk.new ≡ cloud_in walk.old }
+    ensures query { query_in walk.new ≡ query_in walk.old }
+    ensures settled { IsSettled walk.new }
+{
+    'candidates: loop {
+        if !walk.advance() {
+            return;
+        }
+        walk.leave_roots();
+    }
+}
+
+/// For each provider by its place, whether it is a root that fits: the query takes it, and all providers of some
+/// candidate are available in its tree. The search at a root ends with its first candidate.
+pub fn fitting_roots(alloc: Global, cloud: &Cloud, query: &Query) -> Result<Vec<bool>, NoMemory>
+    ensures { IfOk result (λ fits.
+        fits.items ≡ fitting (providers_of cloud.now) (asked_of query.now)) }
+{
+    let mut walk = Walk::at_roots(alloc, cloud, query, taken_roots(alloc, cloud, query)?)?;
+    settle(&mut walk);
+    let mut fits = Vec::new(alloc);
+    for root in 0..cloud.len() {
+        fits.push(walk.has_left(root))?;
+    }
+    Ok(fits)
+}

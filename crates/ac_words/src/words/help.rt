@@ -1,0 +1,61 @@
+//! What is shown below the help of the program and of each command: the statuses that it ends with, and an example.
+
+// The statuses of answers and refusals, among those that every command has, then the example.
+macro_rules! below {
+    ($answers:literal, $refusals:literal, $example:literal) => {
+        concat!(
+            "Exit status:\n",
+            $answers,
+            "  2  the command line was refused\n",
+            "  3  a table was refused, or could not be read\n",
+            $refusals,
+            "  6  a write failed\n",
+            "  7  out of memory\n",
+            "\n",
+            "Example, with the five tables of an export in the folder cloud:\n",
+            $example
+        )
+    };
+}
+
+pub(super) const PROGRAM: &str = below!(
+    "  0  the answer is written\n  1  `verify` says no, or `explain` or `hosts` finds no candidate\n",
+    "  4  the query was refused\n  5  the token was refused\n",
+    "  ac_cli tokens 'resources=VCPU:2,DISK_GB:20' --tables cloud"
+);
+
+pub(super) const CHECK: &str = below!(
+    "  0  the tables are accepted\n",
+    "",
+    "  ac_cli check --tables cloud"
+);
+
+pub(super) const CANDIDATES: &str = below!(
+    "  0  the candidates are written, if there are any\n",
+    "  4  the query was refused\n  5  the token was refused\n",
+    "  ac_cli candidates 'resources=VCPU:2,DISK_GB:20&limit=10' --tables cloud"
+);
+
+pub(super) const TOKENS: &str = below!(
+    "  0  the candidates are written, if there are any\n",
+    "  4  the query was refused\n  5  the token was refused\n",
+    "  ac_cli tokens 'resources=VCPU:2,DISK_GB:20&limit=10' --tables cloud"
+);
+
+pub(super) const VERIFY: &str = below!(
+    "  0  the token is a candidate\n  1  it isn't one\n",
+    "  4  the query was refused\n  5  the token was refused\n",
+    "  ac_cli verify 'resources=VCPU:4' b48d0f61-9e2c-4c7a-83d5-e6047b15ac05 --tables cloud"
+);
+
+pub(super) const EXPLAIN: &str = below!(
+    "  0  there is a candidate\n  1  there is none\n",
+    "  4  the query was refused\n",
+    "  ac_cli explain 'resources=VCPU:8&required=CUSTOM_ROW_2' --tables cloud"
+);
+
+pub(super) const HOSTS: &str = below!(
+    "  0  the query fits at some root\n  1  it fits at none\n",
+    "  4  the query was refused\n",
+    "  ac_cli hosts 'resources=VCPU:8&required=CUSTOM_ROW_2' --tables cloud"
+);

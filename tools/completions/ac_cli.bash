@@ -1,0 +1,42 @@
+# What bash completes after `ac_cli`: commands, options, versions, folders and files. Source this file in ~/.bashrc, or copy it as `ac_cli` into
+# ~/.local/share/bash-completion/completions.
+
+_ac_cli() {
+    local word=$2 before=$3
+    local tables='--tables --providers --inventories --usages --traits --aggregates'
+    local commands='check candidates tokens verify explain hosts help'
+    COMPREPLY=()
+    case $before in
+    --tables)
+        compopt -o filenames 2>/dev/null
+        mapfile -t COMPREPLY < <(compgen -d -- "$word")
+        return
+        ;;
+    --providers | --inventories | --usages | --traits | --aggregates)
+        compopt -o filenames 2>/dev/null
+        mapfile -t COMPREPLY < <(compgen -f -- "$word")
+        return
+        ;;
+    --microversion)
+        mapfile -t COMPREPLY < <(compgen -W '1.36 1.39' -- "$word")
+        return
+        ;;
+    --after)
+        return
+        ;;
+    esac
+    local offered=''
+    if [[ $COMP_CWORD == 1 ]]; then
+        offered="$commands --help --version"
+    else
+        case ${COMP_WORDS[1]} in
+        check) offered="$tables --help" ;;
+        candidates | tokens) offered="$tables --microversion --after --help" ;;
+        verify | explain | hosts) offered="$tables --microversion --help" ;;
+        help) offered=$commands ;;
+        esac
+    fi
+    mapfile -t COMPREPLY < <(compgen -W "$offered" -- "$word")
+}
+
+complete -F _ac_cli ac_cli
