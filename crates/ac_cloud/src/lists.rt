@@ -1,8 +1,7 @@
 //! The lists of all providers, one after the other in one vector.
 ghost use Rattle.std.specs.Prelude.{◌≡◌, ◌≤◌, ◌<◌, ◌-◌, ◌++◌, [], ◌∷◌, length, get_or, take, drop, IfOk};
 ghost use Rattle.std.specs.List.{sum_by};
-ghost use Rattle.std.proofs.Props.{props};
-ghost use Rattle.ac_cloud.specs.ListBounds.{AreBounds};
+ghost use Rattle.ac_cloud.specs.ListBounds.{AreLaidOut, AreLaidOut-prop};
 
 use std::alloc::{AllocError, Global};
 
@@ -11,7 +10,7 @@ use std::alloc::{AllocError, Global};
 pub struct Lists<X> {
     pub items: Vec<X>,
     pub starts: Vec<usize>,
-    ghost bounds: { AreBounds (length items.items) starts.items } by { Prim.hlevel props },
+    ghost bounds: { AreLaidOut (length items.items) starts.items } by { AreLaidOut-prop (length items.items) starts.items },
 }
 
 // A part of a list.
@@ -23,12 +22,12 @@ fn cut<X>(items: &[X], from: usize, to: usize) -> &[X]
     &items[from..to]
 }
 
-#[tactic(auto, using(crate::proofs::ListFacts::of_lists))]
+#[tactic(auto, unfolding(crate::specs::ListBounds::AreLaidOut), using(crate::proofs::ListFacts::of_lists))]
 impl<X> Lists<X> {
     ghost use Rattle.ac_cloud.specs.ListsOf.{lists_of};
 
     /// None yet.
-    #[tactic(auto, unfolding(crate::specs::ListBounds::lists_in))]
+    #[tactic(auto, unfolding(crate::specs::ListBounds::AreLaidOut, crate::specs::ListBounds::lists_in))]
     pub fn new(alloc: Global) -> Result<Lists<X>, AllocError>
         ensures { IfOk result (λ new. lists_of new ≡ []) }
     {
@@ -68,7 +67,7 @@ impl<X: Copy> Lists<X> {
     ghost use Rattle.ac_cloud.specs.ListsOf.{lists_of};
 
     /// Puts a list behind the others.
-    #[tactic(auto, using(crate::proofs::ListFacts::one_more))]
+    #[tactic(auto, unfolding(crate::specs::ListBounds::AreLaidOut), using(crate::proofs::ListFacts::one_more))]
     pub fn push(&mut self, list: &[X]) -> Result<(), AllocError>
         ensures { IfOk result (λ _. lists_of self.new ≡ lists_of self.old ++ list.now ∷ []) }
     {

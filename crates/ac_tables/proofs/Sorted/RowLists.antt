@@ -1,7 +1,7 @@
 -- The rows of each provider, cut out of the sorted rows of a table.
 use Rattle.ac_tables.proofs.Common.{◌≡◌, ◌∙◌, ◌+◌, ◌-◌, ◌<◌, ◌≤◌, ℕ, zero, suc, List, [], ◌∷◌, map, length, get_or, subst, inl, inr, ◌⊎◌, rules, refl, sym, ap, arith, ◌==◌, All, filter, range_with_len, length-map, get_or-map, IsStart, AreStarts, TableRow, map-map}
 use Rattle.std.proofs.lemmas.List.FromFn.{fill_by_all}
-use Rattle.ac_cloud.specs.ListBounds.{AreBounds, lists_in}
+use Rattle.ac_cloud.specs.ListBounds.{AreLaidOut, lists_in}
 use Rattle.ac_cloud.proofs.ListFacts.{lists_size, list_here}
 use Rattle.ac_tables.proofs.Gathered.RowSlices.{start_order, slice_kept}
 
@@ -9,7 +9,8 @@ below_or_at : (s n : ℕ) → s ≤ n → (s ≡ n) ⊎ (s < n)
 below_or_at s n h = search (arith, rules)
 
 module _ {K X : Type 0} (count : ℕ) (rows : List (TableRow K X)) (starts : List ℕ) (are : AreStarts count rows starts) where
-  pub bounds : All (λ (r : TableRow K X). r.place < count) rows → AreBounds (length rows) starts
+  pub bounds : All (λ (r : TableRow K X). r.place < count) rows → AreLaidOut (length rows) starts
+  unfolding AreLaidOut
   bounds inside =
       let size = are.sized in
       record {
