@@ -3,14 +3,14 @@
                [--disks D] [--full] [--groups G] [--order sorted|shuffled|reversed|made] [--seed S] [--quoted]
 make_tables.py FOLDER --shape private [--hosts N] [--traits T] [--kinds KIND..] [--order ..] [--seed S] [--quoted]
 
-Writes the five tables of a cloud of N providers into FOLDER. The same words make the same bytes. Shapes:
+Writes the five tables of a cloud of N providers into FOLDER. The same words make the same bytes. The shapes are:
 flat: hosts without parents; chain: one tree, each provider the child of another; numa: hosts of nine providers, with two NUMA nodes and
 three network functions under each; disk: hosts, and one disk that all of them share; disks: N hosts, and D disks beside them that all of them share
 through one aggregate, with --full each used up; sharing: hosts that all share, in one aggregate together, and by turns in one of G others.
-Providers that have amounts have K classes, in numa the classes of their kind, and a usage of each; each provider has T traits and is in A
-aggregates. The order is that of the rows of all tables, by UUID; shuffled is each table by itself, made is as the cloud grew, with all rows of a
-provider together. With --quoted, texts stand in quotes, as the client prints them. 65536 flat providers with 3 classes, 8 traits and 2 aggregates
-are about 70 MB.
+A provider that has resources has K classes (in numa, the classes of its kind), and a usage of each. Each provider has T traits and is in A
+aggregates. --order is the order of rows in all tables: sorted and reversed go by UUID, shuffled mixes each table by itself, made is as the cloud grew,
+with all rows of a provider together. With --quoted, texts are in quotes, as the client prints them. 65536 flat providers with 3 classes, 8 traits and 2
+aggregates take about 70 MB.
 
 private: an operator's cloud of N hosts (300) in three zones, with names and the client's columns (private.py makes it). Each host has the first T of
 Nova's 53 traits. Kinds of hosts take turns: flat is one provider, numa has two NUMA nodes, nfv has functions of network cards under these, gpu has
@@ -46,7 +46,7 @@ def new_ids(chance, number):
 
 
 def inventory(chance, name):
-    """The numbers of one row, so that a processor or two fit nearly everywhere."""
+    """The numbers of one row. They are chosen so that a VCPU or two fit nearly everywhere."""
     if name == 'VCPU':
         total = chance.choice((4, 8, 16, 32, 64, 128))
         return total, chance.randrange(3), 1, total, 1, chance.choice((1.0, 1.5, 4.0, 16.0))
@@ -65,7 +65,7 @@ class Cloud:
         self.aggregates = new_ids(chance, max(words.providers // 16, words.aggregates))
 
     def add(self, id, root, parent, classes, traits=(), aggregates=()):
-        """One provider, with its further traits and aggregates."""
+        """Adds a provider, with these traits and aggregates beside the random ones."""
         self.rows['providers'].append((id, root, parent))
         for name in classes:
             numbers = inventory(self.chance, name)

@@ -1,11 +1,11 @@
 #!/bin/bash
-# bench/operators.sh [HOSTS..]: the table that docs/PERFORMANCE.md begins with, in Markdown: how long answers take over an operator's cloud of so many
-# hosts (300, 1000, 10000 and 65533, if none is named), and how much memory. The clouds are of the shape `private` of bench/make_tables.py, with 53 traits
-# for each host, NUMA nodes, functions of network cards and GPUs. More than 18000 such hosts don't fit into the tables' limits: these are made without
-# NUMA nodes and what belongs to them, and with 16 traits each.
+# bench/operators.sh [HOSTS..]: makes the table that docs/PERFORMANCE.md begins with, in Markdown: how long answers take over an operator's cloud of
+# these numbers of hosts (300, 1000, 10000 and 65533, if none is named), and how much memory. The clouds are of the shape `private` of
+# bench/make_tables.py, with 53 traits for each host, NUMA nodes, functions of network cards and GPUs. More than 18000 such hosts don't fit into the
+# limits of the tables, so larger clouds have no NUMA nodes or what belongs to them, and 16 traits for each host.
 #
-# Each time is processor time of the program and of the system for it, the least of seven runs; memory is the most that was held at once. The query is that
-# of an ordinary flavor, with `limit=1000`, as Nova asks. The program has to be built before, by ./ac_cli. Where AC_CLI is set, it names the program.
+# Each time is processor time of the program and of the system for it, the least of seven runs; memory is the most that was held at once. The query is
+# that of an ordinary flavor, with `limit=1000`, as Nova asks. Build the program first, by ./ac_cli; AC_CLI may name another one.
 
 set -eu
 export LC_ALL=C
@@ -25,7 +25,7 @@ if [[ -z $program ]]; then
     program=$(dirname "$bench")/out/ac_cli
 fi
 
-# took WORDS..: the least processor time of seven runs, in thousandths of a second. A status of 1 is an answer too.
+# took WORDS..: prints the least processor time of seven runs, in thousandths of a second. A status of 1 is an answer too.
 took() {
     local least='' user system spent
     for _ in 1 2 3 4 5 6 7; do
@@ -37,7 +37,7 @@ took() {
     echo "$least"
 }
 
-# shown MILLISECONDS: in milliseconds, or in seconds from a fifth on
+# shown MILLISECONDS: prints them in milliseconds, or from 200 on in seconds
 shown() {
     if [[ $1 -lt 200 ]]; then
         echo "$1 ms"

@@ -1,5 +1,5 @@
 """The shape `private` of make_tables.py: an operator's cloud. Each of three zones has hosts with NUMA nodes, functions of network cards and GPUs, and
-Ceph for their disks. Columns, names and traits are such as the client would print. About three quarters of everything are used."""
+a Ceph for their disks. Columns, names and traits look as the client would print them. About three quarters of everything are used."""
 import uuid
 from itertools import zip_longest
 from typing import NamedTuple
@@ -54,14 +54,14 @@ class Private:
         return Provider(id, root)
 
     def offer(self, provider, name, total, reserved=0, ratio=1, step=1, percent=None):
-        """An inventory of a provider. So many percent of its capacity are used, in whole steps; chance rounds them up or down."""
+        """Gives a provider an inventory, of whose capacity this percentage is used, in whole steps; chance rounds it up or down."""
         percent = self.chance.choice(PERCENT_USED) if percent is None else percent
         used = ((total - reserved) * ratio // step * percent + self.chance.randrange(100)) // 100 * step
         self.rows['inventories'].append((provider.id, name, float(ratio), 1, total, reserved, 1, total, used))
         self.rows['usages'].append((provider.id, name, used))
 
     def ceph(self, name, hosts, aggregate):
-        """The storage of so many hosts."""
+        """Adds the storage for this number of hosts."""
         self.offer(self.add(name, None, (SHARES,), (aggregate,)), 'DISK_GB', 4000 * max(hosts, 1), reserved=100, percent=75)
 
     def host(self, name, kind, aggregates, disabled):
@@ -82,21 +82,21 @@ class Private:
         self.gpu_hosts += kind == 'gpu'
 
     def processors(self, provider, threads, ratio, dedicated=0):
-        """Processors that instances share, those that belong to one instance each, and memory."""
+        """Gives a provider processors that instances share, processors for one instance each, and memory."""
         self.offer(provider, 'VCPU', threads - dedicated, ratio=ratio)
         if dedicated:
             self.offer(provider, 'PCPU', dedicated)
         self.offer(provider, 'MEMORY_MB', 4096 * threads, reserved=4096, step=512)
 
     def functions(self, host, node, number):
-        """A network card with two ports, each with functions of its own."""
+        """Adds a network card with two ports, each with functions of its own."""
         total = self.chance.choice((8, 16, 32))
         for port, network in enumerate(('DATA', ('PUBLIC', 'STORAGE')[number])):
             made = self.add(f'{host}_0000:{("3b", "af")[number]}:00.{port}', node, ('HW_NIC_SRIOV', f'CUSTOM_PHYSNET_{network}'))
             self.offer(made, 'SRIOV_NET_VF', total)
 
     def gpu(self, host, node, number):
-        """A GPU that instances share, or in every other host with GPUs one that belongs to one instance."""
+        """Adds a GPU that instances share or, in every other host with GPUs, one for a single instance."""
         bus = ('5e', 'd8')[number]
         if self.gpu_hosts % 2:
             self.offer(self.add(f'{host}_0000:{bus}:00.0', node, ('CUSTOM_GPU_A100',)), 'PGPU', 1)

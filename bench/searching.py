@@ -1,9 +1,9 @@
 #!/usr/bin/env python3
-"""bench/searching.py [--runs N] [--wall] [PROVIDERS..]: the table of docs/PERFORMANCE.md, "Searching", made anew in Markdown, with a row for each
-command and a column for each number of hosts (1024, 4096, 16384 and 65536, if none is named); then the two other clouds that are told below it.
+"""bench/searching.py [--runs N] [--wall] [PROVIDERS..]: makes the table in the part "Searching" of docs/PERFORMANCE.md anew, in Markdown. It has a row
+for each command and a column for each number of hosts (1024, 4096, 16384 and 65536, if none is named). Then come the two other clouds of that part.
 
-Each figure is the least of N runs (7, if not said), which go in turn over all commands of a cloud: the processor time of the program and of the system
-for it, or with --wall the wall time. It includes reading the tables, whose rows are shuffled. Where AC_CLI is set, it names the program."""
+Each figure is the least of N runs (7, if not said): the processor time of the program and of the system for it, or with --wall the wall time. Each
+round of runs goes over all commands of a cloud. The time includes reading the tables, whose rows are shuffled. AC_CLI may name another program."""
 from __future__ import annotations
 
 import argparse
@@ -23,7 +23,7 @@ GROUPS = 'resources1=VCPU:2&resources2=MEMORY_MB:512&group_policy=none&limit=100
 NUMA = '&'.join(('resources_A=VCPU:1,MEMORY_MB:512', 'resources_B=VCPU:1,MEMORY_MB:512', 'resources_C=SRIOV_NET_VF:1', 'resources_D=SRIOV_NET_VF:1',
                  'same_subtree=_A,_C', 'same_subtree=_B,_D', 'group_policy=isolate'))
 DISK = 'resources=VCPU:2,DISK_GB:512'
-# What the table says of a command, and its words; LAST stands for the last line of a page of PAGE.
+# What the table calls a command, and the words of that command. LAST stands for the last line of the answer to PAGE.
 LAST = object()
 FLAT = [
     ('`check`, which only reads the tables', ['check']),
@@ -46,7 +46,7 @@ OTHERS = [
 
 
 def program():
-    """The program, which has to be built."""
+    """The program. It must be built already."""
     if 'AC_CLI' in os.environ:
         return os.environ['AC_CLI']
     top = os.path.dirname(BENCH)
@@ -63,7 +63,7 @@ def cloud(room, providers, shape):
 
 
 def run(words, out, wall):
-    """How long a command takes, in seconds. A status of 1 is an answer too."""
+    """Runs a command, and returns how long it takes, in seconds. A status of 1 is an answer too."""
     with open(out, 'wb') as file:
         began = time.monotonic()
         ran = subprocess.Popen(words, stdout=file)

@@ -1,15 +1,17 @@
 #!/bin/bash
-# bench/time.sh [--deep|--disks] [PROVIDERS..]: times the proved program on clouds of so many providers (4096, 16384 and 65536, if none is named): five
-# tables with three resource classes, eight traits and two aggregates each (bench/make_tables.py tells the shapes). Beside `check`, over the
-# same bytes and in the same run: the ported csv alone (bench/csv_alone.rattle), wc, Python's csv module, and a plain Rust program that only
-# splits and counts (bench/anchor, where rustc is there). Then `tokens` and `candidates`, whole and with a limit, from the start and after a
-# token, and `verify`. For the largest number also the rows in order and in reverse, one chain, and hosts that all share in two groups; and fewer
-# hosts, of which each shares in a group of its own too. Then operators' clouds of 300, 1000 and 10000 hosts, with an ordinary flavor and with one that
-# asks for four functions of network cards. With --deep, also searches with several slots, which a search that goes through all
-# lists doesn't end. With --disks, only searches and explanations over hosts that share many disks through one aggregate, each with the processor
-# time that it is to take at the most. The program has to be built before, by ./ac_cli. Where AC_CLI is set, it names the program; where BESIDE is set, it names another one that knows `tokens` by the
-# same command line, which is timed beside it.
-# Each figure is the best of three runs, or that of one which took more than ten seconds: wall time, and the most memory held at once.
+# bench/time.sh [--deep|--disks] [PROVIDERS..]: times the proved program on clouds of these numbers of providers (4096, 16384 and 65536, if none is
+# named). Each cloud is five tables, with three resource classes, eight traits and two aggregates for each provider (bench/make_tables.py has the
+# shapes). Build the program first, by ./ac_cli. The script times:
+# - `check`, and over the same bytes in the same run: the ported csv alone (bench/csv_alone.rattle), wc, Python's csv module, and a plain Rust program
+#   that only splits and counts (bench/anchor, if there is rustc);
+# - `tokens` and `candidates`, without a limit and with one, from the start and after a token, and `verify`;
+# - for the last number also rows in order and in reverse, one chain, and hosts that all share in two groups; then fewer hosts, each of which also
+#   shares in a group of its own;
+# - operators' clouds of 300, 1000 and 10000 hosts, with an ordinary flavor and with one that asks for four functions of network cards.
+# With --deep, it also times searches with several slots, which a search through all lists wouldn't end. With --disks, it only times searches and
+# explanations over hosts that share many disks through one aggregate, and writes beside each the most processor time that it should take.
+# Each figure is the best of three runs, or that of one run if it took more than ten seconds: wall time, and the most memory held at once.
+# AC_CLI may name another program to time. BESIDE may name one that has the same command `tokens`; with --disks it is timed beside this one.
 
 set -eu
 export LC_ALL=C
@@ -34,8 +36,8 @@ if [[ -z $program ]]; then
     program=$(dirname "$bench")/out/ac_cli
 fi
 
-# aim SECONDS COMMAND QUERY: a line for each program, with the least processor time of three runs, or that of one that took more than ten seconds
-# or was ended after sixty, beside the aim
+# aim SECONDS COMMAND QUERY: writes a line for each program, with these seconds beside its processor time. That is the least of three runs, or that of
+# one run if it took more than ten seconds, or was ended after sixty.
 aim() {
     local path beside=${BESIDE-} least status user system took
     [[ $2 != explain ]] || beside=''
@@ -54,7 +56,7 @@ aim() {
     done
 }
 
-# groups NUMBER: a query of so many groups that each ask for some disk
+# groups NUMBER: prints a query with this number of groups, each of which asks for some disk
 groups() {
     local query='group_policy=none' k
     for ((k = 1; k <= $1; k++)); do
@@ -63,7 +65,7 @@ groups() {
     echo "$query"
 }
 
-# full_disks: the searches and explanations over disks that all hosts share
+# full_disks: times the searches and explanations over disks that all hosts share
 full_disks() {
     local two='resources1=VCPU:1&resources2=DISK_GB:1&group_policy=none'
     local three='resources1=VCPU:1&resources2=VCPU:1&resources3=DISK_GB:1&group_policy=none'
@@ -91,7 +93,7 @@ if [[ -z $disks ]] && command -v rustc >"$room/rustc" && rustc -O -o "$room/read
     anchor=$room/reading
 fi
 
-# The ported csv alone, which reads the same bytes into the same records: a crate of its own, made for this run.
+# The ported csv alone, which reads the same bytes into the same records. It is a crate of its own, made for this run.
 ported=''
 alone=$room/alone/crates/csv_alone
 mkdir -p "$alone/src" && cp "$bench/csv_alone.rattle" "$alone/src/main.rt" && echo 'csv_alone: csv' >"$room/alone/crates.txt"
@@ -99,7 +101,7 @@ if [[ -z $disks ]] && (cd "$room/alone" && git init -q && cd "$alone" && rt run)
     ported=$alone/out/csv_alone
 fi
 
-# The interpreter itself: python3 can be a script that looks for it first.
+# The interpreter itself, since python3 may be a script that first looks for it.
 python=$(python3 -c 'import sys; print(sys.executable)')
 read_by_python='
 import csv, sys
@@ -107,7 +109,7 @@ for path in sys.argv[1:]:
     with open(path, newline="") as file:
         print(sum(1 for record in csv.reader(file)))'
 
-# best NAME COMMAND..: a line with the least wall time and the least of the peaks of memory over its runs
+# best NAME COMMAND..: writes a line with the least wall time of the runs of this command, and the least of their peaks of memory
 best() {
     local name=$1 least='' lowest='' began took peak
     shift
@@ -127,8 +129,8 @@ best() {
         "$(wc -l <"$room/out")" "$(wc -c <"$room/out")"
 }
 
-# cloud PROVIDERS ORDER SHAPE [WORDS..]: makes the tables, with further words for that, names them, and times their reading. Of the shape `private`
-# the number is that of the hosts.
+# cloud PROVIDERS ORDER SHAPE [WORDS..]: makes the tables, says what they are, and times how they are read. WORDS go to bench/make_tables.py too. For
+# the shape `private`, the number is that of the hosts.
 cloud() {
     rm -f "$room"/*.csv
     "$python" "$bench/make_tables.py" "$room" --providers "$1" --hosts "$1" --order "$2" --shape "${@:3}"
@@ -140,8 +142,8 @@ cloud() {
     [[ -z $ported ]] || best 'ported csv alone' "$ported" "${files[@]}"
 }
 
-# search QUERY [whole]: times both writers with a limit, from the start and after the last line of that page, and the verdict on that line;
-# with `whole` also without a limit
+# search QUERY [whole]: times both writers with a limit, then `tokens` after the last line of that page, and `verify` of that line; with `whole`, first
+# both writers without a limit
 search() {
     local last
     echo "  $1"

@@ -1,10 +1,10 @@
 #!/usr/bin/env python3
 """tools/draw-cloud.py OUT --providers FILE --inventories FILE [--usages FILE] [--traits FILE] [--aggregates FILE] [--token TOKEN] [--tree UUID]..
 
-Draws a cloud from its tables: writes OUT.dot, and by Graphviz's `dot`, where that is there, OUT.svg and OUT.png. A frame is a tree, an arrow leads
-from a parent to its child, and a dashed one from a provider that shares to the root of each other tree that may use it. Of each class it says how
-much is left of how much. With a token, as `ac_cli tokens` writes it, the providers of that candidate are marked with their slots, counted from 1.
-With --tree only the trees of these providers are drawn. The tables are taken as they are; `ac_cli check` tells their faults."""
+Draws a cloud from its tables. It writes OUT.dot and, if Graphviz's `dot` is installed, OUT.svg and OUT.png. Each frame is a tree. An arrow leads from
+a parent to its child, and a dashed arrow from a sharing provider to the root of each other tree that may use it. A box says how much is left of each
+class. With a token, as `ac_cli tokens` writes it, the providers of that candidate are marked with their slots, counted from 1. With --tree, only the
+trees of these providers are drawn. The tables aren't checked here: `ac_cli check` does that."""
 from __future__ import annotations
 
 import argparse
@@ -44,12 +44,12 @@ def rows(path):
 
 
 def identity(text):
-    """A UUID in the form that all of its forms have in common."""
+    """A UUID in one form, whatever its form was."""
     return str(uuid.UUID(text))
 
 
 def cloud_of(paths):
-    """The providers by UUID, rising."""
+    """The providers by UUID, in ascending order."""
     cloud = {}
     for row in rows(paths['providers']):
         parent = row['parent_provider_uuid']
@@ -69,7 +69,7 @@ def cloud_of(paths):
 
 
 def sharing(cloud):
-    """Who shares with the tree of which other root."""
+    """Pairs of a sharing provider and the root of another tree that it shares with."""
     members = {}
     for one in cloud.values():
         for aggregate in one.aggregates:
@@ -81,7 +81,7 @@ def sharing(cloud):
 
 
 def text(words):
-    """Words as they stand in a label: none breaks a line, and none is taken for markup or, like \\N, for the name of the box."""
+    """Words as they are written in a label: nothing breaks a line, or is taken for markup or, like \\N, for the name of the box."""
     return html.escape(re.sub(r'[\x00-\x1f\x7f]+', ' ', words)).replace('\\', '\\\\')
 
 
@@ -90,7 +90,7 @@ def row_of(words, align='left', size=11):
 
 
 def node(one, slots):
-    """The box of a provider: its name, UUID, what is left, its traits, and the beginning of each aggregate that it is in."""
+    """The box of a provider: its name, its UUID, how much is left of each class, its traits, and how the UUID of each of its aggregates begins."""
     lines = [row_of(f'<b>{text(one.name)}</b>', 'center', 13)] if one.name else []
     lines.append(row_of(one.id, 'center', 9))
     if slots:
@@ -104,7 +104,7 @@ def node(one, slots):
 
 
 def dot(cloud, token=(), trees=()):
-    """The picture in the language of Graphviz."""
+    """The lines of the picture in the language of Graphviz."""
     roots = sorted({cloud[one].root for one in trees} or {one.root for one in cloud.values()})
     drawn = [one for one in cloud.values() if one.root in roots]
     yield 'digraph cloud {'

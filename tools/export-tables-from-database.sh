@@ -1,9 +1,9 @@
 #!/bin/sh
 # tools/export-tables-from-database.sh [--round-ratios] OUTDIR CLIENT [ARG..]: writes the five tables of a cloud, as ac_cli reads them, into
 # OUTDIR, straight from Placement's database. CLIENT ARG.. is the command by which you would open that database: mysql or mariadb, psql, or
-# sqlite3 (docs/EXPORT.md). It is started once, and answers one query for each table in one transaction that only reads, so the tables are of one
-# moment. They have the columns of tools/export-tables.sh. Where the client fails, OUTDIR is as it was and the status is 1.
-# With --round-ratios, allocation ratios are written without an exponent and cut to six decimals, and each that was changed is told.
+# sqlite3 (docs/EXPORT.md). The client is started once. It answers one query for each table, all in one transaction that only reads, so the tables are
+# of one moment. They have the columns of tools/export-tables.sh. If the client fails, OUTDIR stays as it was and the status is 1.
+# With --round-ratios, allocation ratios are written without an exponent and cut to six decimals. A line names each one that this changes.
 
 set -eu
 tool=export-tables-from-database
@@ -11,8 +11,9 @@ usage='tools/export-tables-from-database.sh [--round-ratios] OUTDIR mysql|mariad
 . "$(dirname -- "$0")/exporting.sh"
 tab=$(printf '\t')
 
-# queries HEX RATIO: the five queries. Each row begins with the name of its table, and the last row of all is `end`. HEX is how the database
-# writes the bytes of a text as hexadecimal digits, so that no name of a provider can break a row; RATIO how it writes a float with all its digits.
+# queries HEX RATIO: prints the five queries. Each row of their answers begins with the name of its table, and the last row is `end`. HEX says how the
+# database writes the bytes of a text as hexadecimal digits, so that no name of a provider can break a row. RATIO says how it writes a float with all
+# its digits. In both, `@` stands for the value.
 queries() {
     used='COALESCE((SELECT SUM(a.used) FROM allocations a
             WHERE a.resource_provider_id = i.resource_provider_id AND a.resource_class_id = i.resource_class_id), 0)'
@@ -47,7 +48,7 @@ SELECT 'end';
 X
 }
 
-# ask CLIENT [ARG..]: the rows of all tables, fields parted by tabs, by one call of the client
+# ask CLIENT [ARG..]: prints the rows of all tables, with tabs between fields, by one call of the client
 ask() {
     case ${1##*/} in
     mysql | mariadb)
@@ -78,8 +79,8 @@ ask() {
     esac
 }
 
-# part: the rows on standard input as five tables in the form of the openstack client: texts in quotes, numbers bare, ratios as Python prints a float,
-# which is with the fewest digits that read as the same float.
+# part: splits the rows into five tables in the form of the openstack client: texts in quotes, numbers without, and ratios as Python prints a float,
+# with the fewest digits that read as the same float
 part() {
     awk -F '\t' -v room="$room" '
         function quoted(text) { gsub(/"/, "\"\"", text); return "\"" text "\"" }

@@ -1,9 +1,9 @@
 #!/bin/sh
 # tools/export-tables.sh [--round-ratios] OUTDIR: writes the five tables of a cloud, as ac_cli reads them, into OUTDIR: providers.csv,
 # inventories.csv, usages.csv, traits.csv and aggregates.csv. It asks the openstack client, which finds the cloud by OS_* variables (docs/EXPORT.md).
-# One process of the client makes all lists of a table, by commands on its standard input. Where the client fails, or a provider vanishes
-# in between, nothing is left in OUTDIR and the status is 1: the tables get their names when all of them are whole.
-# With --round-ratios, allocation ratios are written without an exponent and cut to six decimals, and each that was changed is told.
+# One process of the client makes all lists of a table, by commands on its standard input. If the client fails, or a provider vanishes
+# meanwhile, OUTDIR stays as it was and the status is 1: the tables get their names only when all five are complete.
+# With --round-ratios, allocation ratios are written without an exponent and cut to six decimals. A line names each one that this changes.
 
 set -eu
 tool=export-tables
@@ -11,13 +11,13 @@ usage='tools/export-tables.sh [--round-ratios] OUTDIR'
 . "$(dirname -- "$0")/exporting.sh"
 export OS_PLACEMENT_API_VERSION=1.29
 
-# ask FILE: runs the commands on standard input in one process of the client. Its answer goes to that file.
+# ask FILE: runs the commands on standard input in one process of the client, and writes its answer to that file of the room
 ask() {
     openstack >"$room/$1" 2>"$room/said" || stop "the client failed while it listed ${1%.*}"
 }
 
-# join TABLE FIRST: the lists of all providers as one table, with a column for the provider in front. Each list begins with the header,
-# also a list without rows, so that the n-th header belongs to the n-th provider. FIRST is the first column of the list.
+# join TABLE FIRST: joins the lists of all providers into one table, with a column for the provider in front. Each list begins with the header,
+# even if it has no rows. So the n-th header belongs to the n-th provider. FIRST is the name of the list's first column.
 join() {
     awk -v ids="$room/ids" -v first="\"$2\"" '
         BEGIN { while ((getline id < ids) > 0) of[++wanted] = id }
@@ -35,7 +35,7 @@ join() {
     }
 }
 
-# table TABLE FIRST COMMAND: one command for each provider, whose UUID follows the command
+# table TABLE FIRST COMMAND: makes a table by running COMMAND UUID for each provider
 table() {
     sed "s/.*/$3 & -f csv/" "$room/ids" | ask "$1.lists"
     join "$1" "$2"

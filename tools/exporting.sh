@@ -1,6 +1,6 @@
-# tools/exporting.sh: what the two exports share. They read it with `.`, after setting `tool`, their name in what they say, and `usage`,
-# their command line. It takes `--round-ratios` from their words. Both gather the tables in a folder of their own within OUTDIR, `room`. OUTDIR gets
-# them by `hand_over`, when all five are whole; where the export fails before, it is as it was, and the status is 1.
+# tools/exporting.sh: what the two exports share. They read it with `.`, after setting `tool` (their name in messages) and `usage` (their command
+# line). It takes `--round-ratios` from their words. Both exports collect the tables in a folder inside OUTDIR, `room`. When all five are complete,
+# `hand_over` moves them to OUTDIR. If the export fails before that, OUTDIR stays as it was, and the status is 1.
 
 export LC_ALL=C
 rounds=no
@@ -9,7 +9,7 @@ if test "${1-}" = --round-ratios; then
     shift
 fi
 
-# stop WHY: ends the export. What the client said last, in the room's file `said`, is told too.
+# stop WHY: ends the export with this message, and with the last lines that the client wrote, which are in the room's file `said`
 stop() {
     echo "$tool: $1" >&2
     if test -s "$room/said"; then
@@ -24,7 +24,7 @@ wrong_words() {
     exit 2
 }
 
-# begin OUTDIR: the folder, and the room in it
+# begin OUTDIR: makes the folder, and the room in it
 begin() {
     test "${1#-}" = "$1" && test -n "$1" || wrong_words
     mkdir -p -- "$1"
@@ -35,7 +35,7 @@ begin() {
     trap 'exit 1' HUP INT PIPE TERM
 }
 
-# hand_over: the ratios are rounded, where that was asked for, and the five tables get their names
+# hand_over: rounds the ratios if that was asked for, and gives the five tables their names
 hand_over() {
     test $rounds = no || round_ratios
     for name in providers inventories usages traits aggregates; do
@@ -43,8 +43,8 @@ hand_over() {
     done
 }
 
-# round_ratios: the inventories with each ratio written out and cut to six decimals, and a line for each that was changed. A Python float
-# below 0.0001 is written as one digit, perhaps more behind a point, and an exponent.
+# round_ratios: writes each ratio of the inventories without an exponent, cut to six decimals, and a line for each one that this changes. Python writes
+# a float below 0.0001 as one digit, perhaps a point and more digits, and an exponent.
 round_ratios() {
     awk -F , -v OFS=, -v tool="$tool" '
         function digits(ratio,   parts, zeros) {

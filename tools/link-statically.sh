@@ -1,9 +1,9 @@
 #!/bin/sh
-# tools/link-statically.sh [FILE]: links the proved program with a static C library into FILE (out/ac_cli-static, if none is named). That file needs no
-# library of the system that it runs on. It is made of out/ac_cli.o, which the build leaves beside the program, so that has to be built before, by
-# ./ac_cli. It needs `cc` and a static C library (in Debian's and Ubuntu's libc6-dev, and in Fedora's glibc-static).
+# tools/link-statically.sh [FILE]: links the proved program with a static C library, and writes it to FILE (out/ac_cli-static, if none is named). That
+# program needs no library of the system that it runs on. It is made of out/ac_cli.o, which the build leaves beside the program, so run ./ac_cli first.
+# You need `rt`, `cc` and a static C library (package libc6-dev in Debian and Ubuntu, glibc-static in Fedora).
 #
-# The object file is the one that out/ac_cli is made of. The linker and the library are those of this system, in place of the toolchain's.
+# out/ac_cli is made of the same object file. The linker and the C library are those of this system, and not the toolchain's.
 
 set -eu
 root=$(dirname -- "$(dirname -- "$(readlink -f -- "$0")")")

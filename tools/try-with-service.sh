@@ -1,8 +1,8 @@
 #!/bin/sh
-# tools/try-with-service.sh --yes [mariadb|postgresql|sqlite ..]: tries both exports and the program against Debian's packages of Placement, over
-# each of these databases, or all three. It is for root, on a machine of your choice, since it installs packages; without --yes it only says what it
-# would do. Databases and service live in a folder of their own under /tmp, are reached by sockets in it and by a port of 127.0.0.1, and are gone at
-# the end. What is tried stands in tools/try_with_service.py; the program is out/ac_cli, or what AC_CLI names. docs/EXPORT.md tells what it showed.
+# tools/try-with-service.sh --yes [mariadb|postgresql|sqlite ..]: tries both exports and the program with Debian's packages of Placement, over each of
+# these databases (all three, if none is named). It installs packages, so run it as root, on a machine where you may do that. Without --yes it only says
+# what it would do. Databases and service live in a folder under /tmp, use sockets in it and a port of 127.0.0.1, and are gone at the end.
+# tools/try_with_service.py has what is tried. The program is out/ac_cli, or what AC_CLI names. docs/EXPORT.md has the results.
 
 set -eu
 export LC_ALL=C.UTF-8
@@ -23,7 +23,7 @@ missing() {
     done
 }
 
-# run LOG COMMAND..: starts a server
+# run LOG COMMAND..: starts a server, which writes to that file
 run() {
     log=$1
     shift
@@ -31,7 +31,7 @@ run() {
     running="$! $running"
 }
 
-# end: ends what was started, the last one first
+# end: ends the servers that were started, the last one first
 end() {
     for one in $running; do
         kill "$one" 2>/dev/null || :
@@ -40,7 +40,7 @@ end() {
     running=
 }
 
-# until_ok COMMAND..: waits until it succeeds, at most a minute
+# until_ok COMMAND..: waits until the command succeeds, at most a minute
 until_ok() {
     tries=0
     until "$@" >"$room/tried" 2>&1; do
@@ -50,7 +50,7 @@ until_ok() {
     done
 }
 
-# Each of the next three starts a database that is empty, and sets `connection`, as the service names it. `client` is then how its client opens it.
+# Each of the next three functions starts an empty database, and sets `connection`, which is what the service calls that database.
 mariadb_server() {
     set -- --no-defaults --user=root --datadir="$room/mariadb"
     mariadb-install-db "$@" --auth-root-authentication-method=normal --skip-test-db >"$room/install.log" 2>&1
@@ -75,7 +75,7 @@ sqlite_server() {
     connection="sqlite:///$room/placement.db"
 }
 
-# try DATABASE CLIENT [ARG..]: the service over the database of `connection`, and all that is tried
+# try DATABASE CLIENT [ARG..]: starts the service over the database that `connection` names, and tries everything. CLIENT ARG.. opens that database.
 try() {
     database=$1
     shift

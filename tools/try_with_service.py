@@ -1,9 +1,9 @@
 #!/usr/bin/env python3
-"""tools/try_with_service.py URL PROGRAM NAME CLIENT [ARG..]: tries the exports and the program PROGRAM against the service at URL, whose database
-is opened by CLIENT ARG... tools/try-with-service.sh starts that service and calls this. NAME is the name of the database in what is said.
+"""tools/try_with_service.py URL PROGRAM NAME CLIENT [ARG..]: tries the exports and the program PROGRAM with the service at URL, whose database
+CLIENT ARG.. opens. tools/try-with-service.sh starts that service and calls this script. NAME is the database's name in the output.
 
-Clouds are put into the service by its API, exported in both ways, and asked for candidates, of the service and of the program. Last come the
-clouds and queries of docs/DIFFERENCES.md, where the service is to answer as that page says of it. The status is 0 only where all was so."""
+Each cloud is put into the service by its API and exported in both ways. Then service and program are asked the same queries. Last come the clouds
+and queries of docs/DIFFERENCES.md, for which the service must answer as that page says. The status is 0 only if all went as it should."""
 from __future__ import annotations
 
 import csv
@@ -48,7 +48,7 @@ class Service:
         self.url = url
 
     def ask(self, method, path, body=None):
-        """The status, and what came with it: of JSON, or as text."""
+        """The status, and the body: what its JSON says, or else its text."""
         data = None if body is None else json.dumps(body).encode()
         headers = {'X-Auth-Token': 'admin', 'OpenStack-API-Version': f'placement {VERSION}', 'Accept': 'application/json',
                    'Content-Type': 'application/json'}
@@ -73,7 +73,7 @@ class Service:
         return self.ask('GET', '/allocation_candidates?' + query)
 
     def clear(self):
-        """No providers are left."""
+        """Deletes all allocations and providers."""
         left = self.do('GET', '/resource_providers')['resource_providers']
         for provider in left:
             held = self.do('GET', f'/resource_providers/{provider["uuid"]}/allocations')
@@ -87,12 +87,12 @@ class Service:
             left = [provider for provider in left if provider['uuid'] in parents]
 
     def name(self, kind, name):
-        """A name of one's own, to be known before it is used."""
+        """Creates a custom name, which the service has to know before it is used."""
         if name.startswith('CUSTOM_'):
             self.do('PUT', f'/{kind}/{name}')
 
     def fill(self, cloud):
-        """The service has this cloud, and no other provider."""
+        """Puts this cloud into the service, which then has no other provider."""
         self.clear()
         generations = {}
         for row in parents_first(cloud['providers']):
@@ -105,7 +105,7 @@ class Service:
                                                         for name in TABLES[1:]})
 
     def give(self, provider, generation, has):
-        """One provider's inventories, usages, traits and aggregates."""
+        """Gives one provider its inventories, usages, traits and aggregates."""
         path = f'/resource_providers/{provider}'
         for row in has['inventories']:
             self.name('resource_classes', row['resource_class'])
@@ -113,7 +113,7 @@ class Service:
             self.name('traits', row['name'])
         generation = self.put(f'{path}/traits', generation, 'traits', [row['name'] for row in has['traits']])
         generation = self.put(f'{path}/aggregates', generation, 'aggregates', [row['uuid'] for row in has['aggregates']])
-        # More may be used than there is room for: it is taken while the inventories are wide, and then they get their own numbers.
+        # More may be used than there is room for. So it is allocated while the inventories are wide, and then they get their own numbers.
         wide = {'total': GREATEST, 'reserved': 0, 'min_unit': 1, 'max_unit': GREATEST, 'step_size': 1, 'allocation_ratio': 1.0}
         generation = self.put(f'{path}/inventories', generation, 'inventories', {row['resource_class']: wide for row in has['inventories']})
         for used in shares([(row['resource_class'], int(row['usage'])) for row in has['usages']]):
@@ -131,7 +131,7 @@ class Service:
 
 
 def shares(used):
-    """What is used, as that of two consumers where it can be parted."""
+    """What is used, split between two consumers if possible."""
     for part in {name: amount // 2 for name, amount in used}, {name: amount - amount // 2 for name, amount in used}:
         part = {name: amount for name, amount in part.items() if amount}
         if part:
@@ -161,7 +161,7 @@ def of_folder(folder):
 
 
 def drawn(hosts=24, seed=24):
-    """A cloud of hosts, some with NUMA nodes and a network function, and of disks that some of them share. Names and ratios are odd at times."""
+    """A random cloud of hosts, some with NUMA nodes and a network function, and of disks that some of them share. Some names and ratios are unusual."""
     chance = random.Random(seed)
     cloud = {name: [] for name in TABLES}
     aggregates = [str(uuid.UUID(int=chance.getrandbits(128), version=4)) for _ in range(4)]
@@ -198,7 +198,7 @@ def drawn(hosts=24, seed=24):
 
 
 def odd_ratios():
-    """The cloud of tests/client with more ratios, as many as a float has kinds of."""
+    """The cloud of tests/client with more ratios: floats of every kind."""
     cloud = of_folder(os.path.join(ROOT, 'tests', 'client', 'cloud'))
     chance = random.Random(24)
     ratios = ['1.1', '0.1', '0.7', '1.15', '8.2', '0.333333', '1234567.25', '1000000.0', '2000000.0', '0.0001', '0.00012345678', '2.5e-05',
@@ -210,7 +210,7 @@ def odd_ratios():
 
 
 def asked(cloud):
-    """Queries over a cloud, of every parameter. None is of a kind that docs/DIFFERENCES.md names."""
+    """Queries over a cloud, with every parameter. None is of a kind that docs/DIFFERENCES.md names."""
     member, other = sorted({row['uuid'] for row in cloud['aggregates']} | {str(uuid.uuid4())})[:2]
     inner = next((row['uuid'] for row in cloud['providers'] if row['parent_provider_uuid']), cloud['providers'][0]['uuid'])
     numa = 'resources_CPU=VCPU:2,MEMORY_MB:1024&required_CPU=HW_NUMA_ROOT'
@@ -230,7 +230,7 @@ def asked(cloud):
 
 
 def canonical(body):
-    """The candidates without their order, and the summaries."""
+    """The candidates in an order of ours, and the summaries."""
     found = sorted((sorted((provider, sorted(taken['resources'].items())) for provider, taken in one['allocations'].items()),
                     sorted((suffix, sorted(set(providers))) for suffix, providers in one['mappings'].items()))
                    for one in body['allocation_requests'])
@@ -238,7 +238,7 @@ def canonical(body):
 
 
 def names(query):
-    """The names of one's own that a query asks for, each with its kind."""
+    """The custom names that a query asks for, each with its kind."""
     for name, value in urllib.parse.parse_qsl(query):
         kind = 'resource_classes' if name.startswith('resources') else 'traits'
         yield from ((kind, word) for word in re.findall(r'CUSTOM_\w+', value))
@@ -252,12 +252,12 @@ def bare(query):
 
 
 def short(text):
-    """A text with the UUIDs that notation.full writes out."""
+    """A text with short names in place of the UUIDs that notation.full writes out."""
     return re.sub('00000000-0000-0000-0000-0000000000([0a])([0-9a-f])', lambda found: ('P' if found[1] == '0' else 'A') + found[2], text)
 
 
 def told(status, body, query):
-    """What the service answers, as docs/DIFFERENCES.md writes it: a text for each candidate, rising."""
+    """What the service answers, as docs/DIFFERENCES.md writes it: a text for each candidate, in ascending order."""
     if status != 200:
         return [f'status {status}']
     places = bare(query)
@@ -269,7 +269,7 @@ def told(status, body, query):
 
 
 def answers(said):
-    """The answers that such a text of the page admits."""
+    """The answers that such a text of the page allows."""
     spans = re.findall('`([^`]*)`', said)
     if said.startswith('one of '):
         return [*([span] for span in spans), *([[]] if said.endswith('nothing') else [])]
@@ -277,8 +277,8 @@ def answers(said):
 
 
 def differences(database):
-    """The examples of docs/DIFFERENCES.md: a heading, the cloud, a query, what the service is to answer over this database, and which providers
-    its summaries are to lack."""
+    """The examples of docs/DIFFERENCES.md: the heading, the cloud, a query, what the service must answer over this database, and which providers
+    must be missing from its summaries."""
     with open(PAGE, encoding='utf-8') as file:
         page = file.read()
     for part in re.split('^##+ ', page, flags=re.M)[1:]:
@@ -302,7 +302,7 @@ class Trial:
         print(f'{"ok    " if well else "FAILED"} {self.name}: {what}', flush=True)
 
     def run(self, words, **settings):
-        """A command, which knows of no other cloud that the caller may have named by OS_* variables."""
+        """Runs a command without the caller's OS_* variables, which may name another cloud."""
         known = {name: value for name, value in os.environ.items() if not name.startswith('OS_')}
         ran = subprocess.run(words, env={**known, **settings}, cwd=ROOT, stdout=subprocess.PIPE, stderr=subprocess.PIPE, check=False)
         return ran.returncode, ran.stdout.decode(errors='replace'), ran.stderr.decode(errors='replace')
@@ -311,7 +311,7 @@ class Trial:
         return self.run([self.program, command, *words, *(f'--{name}={folder}/{name}.csv' for name in TABLES)])
 
     def export(self, what, folder, rounds):
-        """Both exports give the same tables. They are left in the folder."""
+        """Tries whether both exports give the same tables, which are left in the folder."""
         other = os.path.join(folder, 'client')
         first = self.run(['tools/export-tables-from-database.sh', *rounds, folder, *self.client])
         second = self.run(['tools/export-tables.sh', *rounds, other], OS_AUTH_TYPE='admin_token', OS_ENDPOINT=self.url, OS_TOKEN='admin')
@@ -330,7 +330,7 @@ class Trial:
         self.say(lines[0] == lines[1], f'{what}: {len(lines[0])} lines of rounded ratios, the same by both')
 
     def compare(self, what, folder, queries):
-        """The program over exported tables answers as the service."""
+        """Tries whether the program over exported tables answers as the service does."""
         same, total = 0, 0
         for query in queries:
             status, body = self.service.candidates(query)
@@ -346,7 +346,7 @@ class Trial:
         self.say(same == len(queries), f'{what}: {same} of {len(queries)} queries have the same candidates and summaries, {total} candidates in all')
 
     def cloud(self, what, cloud, *rounds):
-        """The service has this cloud; it is exported, and queries are asked of both."""
+        """Puts this cloud into the service, exports it, and asks both the same queries."""
         self.service.fill(cloud)
         with tempfile.TemporaryDirectory() as folder:
             self.export(what, folder, rounds)
@@ -355,7 +355,7 @@ class Trial:
             self.compare(what, folder, asked(cloud))
 
     def odd(self, what, cloud):
-        """Ratios that aren't read here are exported all the same, as they are and rounded."""
+        """Tries whether ratios that the program doesn't read are exported all the same, as they are and rounded."""
         self.service.fill(cloud)
         for rounds in (), ('--round-ratios',):
             with tempfile.TemporaryDirectory() as folder:
@@ -363,8 +363,9 @@ class Trial:
 
 
     def moving(self, exports=10):
-        """While the service moves what is used from one provider to another and back, each export from the database is of one moment: the column
-        `used` of the inventories, which another query fills, is that of the usages. The client gets its queries slowly, with moves between them."""
+        """Tries whether each export from the database is of one moment, while the service moves an allocation from one provider to another and back.
+        The column `used` of the inventories must agree with the usages, which another query reads. The client gets its queries slowly, with moves
+        between them."""
         self.service.fill({name: read(text) for name, text in tables_of('P1 | | VCPU total 8\nP2 | | VCPU total 8').items()})
         ended = threading.Event()
         moves = []
@@ -384,7 +385,7 @@ class Trial:
             print('       torn:', one)
 
     def state(self, client):
-        """What is used of the two providers, by the inventories and by the usages of one export."""
+        """What is used of the two providers, by the inventories and by the usages of one export; or the client's error."""
         with tempfile.TemporaryDirectory() as folder:
             code, _, err = self.run(['tools/export-tables-from-database.sh', folder, client, *self.client[1:]])
             if code:
@@ -393,7 +394,7 @@ class Trial:
             return tuple(int(row[name]) for table, name in (('inventories', 'used'), ('usages', 'usage')) for row in cloud[table])
 
     def move(self, ended, moves):
-        """One consumer's five processors, now from the one provider and now from the other."""
+        """Moves one consumer's five processors from one provider to the other and back, until it is told to end."""
         consumer = str(uuid.uuid4())
         generation = None
         while not ended.is_set():
@@ -404,7 +405,7 @@ class Trial:
             generation = self.service.do('GET', f'/allocations/{consumer}').get('consumer_generation')
 
     def differ(self):
-        """The service answers as docs/DIFFERENCES.md says of it."""
+        """Tries whether the service answers as docs/DIFFERENCES.md says."""
         filled = None
         for heading, cloud, query, said, lacks in differences(self.name):
             if cloud != filled:

@@ -1,5 +1,5 @@
-//! reading PROVIDERS INVENTORIES: reads both tables, splits them at newlines and commas, and counts. It checks nothing and keeps nothing, so it is
-//! about the least that reading these bytes can cost. Built by `rustc -O` alone.
+//! reading FILE..: reads these tables, splits them at newlines and commas, and counts. It checks nothing and keeps nothing, so its time is about the
+//! least that reading these bytes can take. It is built by `rustc -O` alone.
 use std::process::ExitCode;
 
 struct Counts {
@@ -8,7 +8,7 @@ struct Counts {
     digits: usize,
 }
 
-/// Counts what one table holds. A quoted field with a comma or a newline in it would be split: the tables measured have none.
+/// Counts what one table has. A quoted field with a comma or a newline in it would be split, but the tables that are measured have none.
 fn count(table: &[u8]) -> Counts {
     let mut counts = Counts { records: 0, fields: 0, digits: 0 };
     for line in table.split(|&byte| byte == b'\n').filter(|line| !line.is_empty()) {
