@@ -1,11 +1,11 @@
-"""What the program answers over small clouds: tables, a command line, and what comes of it. The clouds are in the notation of notation.py."""
+"""Cases over small clouds: tables, a command line, and what the program must answer. The clouds are in the notation of notation.py."""
 from __future__ import annotations
 
 from dataclasses import dataclass, field
 
 from notation import HEADERS, full, provider, tables
 
-SOME = None  # any text, if there is one
+SOME = None  # any text that isn't empty
 
 
 @dataclass
@@ -15,10 +15,10 @@ class Case:
     out: str | None = ''
     err: str | None = ''
     status: int = 0
-    tables: dict = field(default_factory=dict)  # contents, or what makes them: written to files, and named by options
-    together: bool = False  # whether one option names the folder of the tables, in place of an option for each
-    has: tuple = ()  # texts that are in the output or on standard error
-    to: str | None = None  # the file that standard output goes to
+    tables: dict = field(default_factory=dict)  # contents by name, or functions that make them; they are written to files, which options name
+    together: bool = False  # whether --tables names their folder, in place of an option for each table
+    has: tuple = ()  # texts that must be in the output or on standard error
+    to: str | None = None  # the file that standard output is written to
     err_to: str | None = None
     given: bytes = b''
     folder: str | None = None
@@ -62,13 +62,13 @@ def by(version):
 
 
 def found(name, cloud, query, *answers, after=None, version=None):
-    """`tokens` gives these assignments."""
+    """`tokens` must give these assignments."""
     words = ['tokens', full(query), *([] if after is None else ['--after', full(after)]), *by(version)]
     return Case(f'tokens: {name}', words, lines(*answers), tables=tables(cloud))
 
 
 def judged(name, cloud, query, token, line, version=None):
-    """`verify` says so of one assignment."""
+    """`verify` must answer this line about one assignment."""
     words = ['verify', full(query), full(token), *by(version)]
     return Case(f'verify: {name}', words, line + '\n', status=0 if line == 'candidate' else 1, tables=tables(cloud))
 
@@ -84,7 +84,7 @@ def counted(name, counts, **changed):
 
 
 def bad_table(line, *, command=('check',), why='', **changed):
-    """The tables of one host with a change are refused by this line."""
+    """The tables of one host, with a change, must be refused with this line."""
     return Case(f'{command[0]}: {line}{why and ", " + why}', list(command), err=line + '\n', status=3,
                 tables={**tables(ONE), **changed})
 
@@ -180,7 +180,7 @@ RULES = [
     judged('the limit is not asked', CHILD, FIVE_AND_FIVE + '&limit=1', 'P2,P1', 'candidate'),
 ]
 
-# Lists of traits of which one each is asked, and traits that are asked one after another: by 1.39 alone.
+# Lists `in:A,B`, of which one trait each must be had, and a repeated `required`: only with 1.39.
 LISTED = 'resources=PGPU:1,VCPU:1&required=in:CUSTOM_A,CUSTOM_X&required=CUSTOM_B'
 NOBODY = 'resources=PGPU:1,VCPU:1&required=in:CUSTOM_X,CUSTOM_Y'
 TWICE = 'resources=VCPU:1&required=CUSTOM_A&required=CUSTOM_A'
@@ -429,7 +429,7 @@ EIGHT = '\n'.join(f'P{n} | {"P1" if n > 1 else ""} | VCPU total 8' for n in rang
 EIGHT_EACH = ','.join(f'P{n}' for n in range(1, 9) for _ in range(8))
 FULL = '\n'.join(f'P{n} | | VCPU total 8, used 8' for n in range(1, 21))
 
-# 64 groups on 20 and on 8 providers: more lists than can be gone through one after another.
+# 64 groups on 20 and on 8 providers: more lists than anyone could go through one by one.
 MANY_GROUPS = [
     found('64 groups, and no room on any of 20 hosts', FULL, SIXTY_FOUR),
     found('64 groups fill 8 providers: the first', EIGHT, SIXTY_FOUR + '&limit=1', EIGHT_EACH),
@@ -441,7 +441,7 @@ SMALL = [*QUANTITIES, *RULES, *LISTS, *PAGES, *TOKENS, *TABLES, *QUERIES, *MANY_
 
 
 def cuts():
-    """The tables of one host, cut off at each byte, and what `tokens` says of them."""
+    """The tables of one host, cut off after each byte, and what `tokens` must say."""
     whole = tables(ONE)
     wide, last = len(HEADERS['inventories']), len(whole['inventories'])
     expected = {

@@ -1,5 +1,5 @@
-"""tools/export-tables-from-database.sh over a file of SQLite with Placement's tables: by the client sqlite3, which is needed, and by a stand-in
-for mysql and psql (tests/client/mysql). tools/try-with-service.sh tries it over the service's own databases."""
+"""Cases for tools/export-tables-from-database.sh, over a SQLite file with Placement's tables. The client sqlite3 is the real one, so it must be
+installed; mysql and psql are a stand-in (tests/client/mysql). tools/try-with-service.sh tries the script over the service's own databases."""
 from __future__ import annotations
 
 from cases import Case
@@ -11,7 +11,7 @@ ROW = '8c1d9a70-6e55-4f8f-8a0e-3f2f2f0a7702'
 
 
 def export(name, script, out, *said, settings='', cloud=CLOUD, before='true'):
-    """The script, where $out is a new folder and $base a file of SQLite with the cloud. What runs before may change the cloud in $CLOUD."""
+    """A case that runs this script. $out is a new folder, and $base a SQLite file with the cloud. `before` may first change the cloud in $CLOUD."""
     begin = f'''out=$(mktemp -d) && trap 'rm -rf "$out" "$CLOUD"' EXIT && export CLOUD=$(mktemp -d) {settings} && cp {cloud}/*.csv "$CLOUD" &&
         {{ {before}
         }} && base=$CLOUD/base && python3 -B {HERE}/client/make_database.py "$CLOUD" "$base" && export PATH={HERE}/client:$PATH && '''
@@ -31,7 +31,7 @@ def rounded(provider, named):
 
 
 def more_ratios(ratios):
-    """Commands that give one provider an inventory with each of these ratios, and no other."""
+    """Commands that give one provider an inventory for each of these ratios, and take all others away."""
     rows = ''.join(f'"{ROW}","R{at}",{ratio},1,1,0,1,1,0\n' for at, ratio in enumerate(ratios))
     return f'''grep resource_class {CLOUD}/inventories.csv >"$CLOUD/inventories.csv"; head -n 1 {CLOUD}/usages.csv >"$CLOUD/usages.csv"
         cat >>"$CLOUD/inventories.csv" <<'X'\n{rows}X\n'''

@@ -1,8 +1,9 @@
 #!/usr/bin/env python3
-"""tests/drawing.py: says where a picture of tools/draw-cloud.py isn't that of its tables, a line each. The status is 0 only where nothing is said.
+"""tests/drawing.py: checks that tools/draw-cloud.py draws what the tables say. It writes a line for each difference; the status is 0 only if there is
+none.
 
-Clouds drawn by chance, and the example, are given to it without `dot`. What stands in the .dot is compared with tests/model.py, which knows
-capacities and sharing by itself. The picture of the example that the pages show is compared with its .dot, and that with the tables."""
+The tool draws random clouds and the example, without `dot`. The .dot is compared with tests/model.py, which works out capacities and sharing by itself.
+The picture of the example on the pages is compared with its .dot, and that .dot with the tables."""
 from __future__ import annotations
 
 import html
@@ -26,7 +27,7 @@ ALONE = "draw-cloud: there is no `dot` on the PATH (Graphviz): only {}.dot is wr
 
 
 def drawn(folder, out, *more):
-    """What the tool says over the tables of a folder, and the .dot."""
+    """What the tool writes about the tables of a folder: its messages, and the .dot."""
     options = [f'--{name}={os.path.join(folder, name)}.csv' for name in TABLES if os.path.exists(os.path.join(folder, name + '.csv'))]
     ran = subprocess.run([sys.executable, '-B', os.path.join(ROOT, 'tools', 'draw-cloud.py'), out, *options, *more], env={'PATH': ''}, check=False,
                          stdout=subprocess.PIPE, stderr=subprocess.STDOUT)
@@ -38,7 +39,7 @@ def drawn(folder, out, *more):
 
 
 def boxes(dot):
-    """The frame in which each provider stands, the lines in its box, and whether it is marked."""
+    """For each provider of the .dot: its frame, the lines in its box, and whether it is marked."""
     found = {}
     for frame, inside in re.findall(r'^  subgraph "cluster_(.*?)" \{\n(.*?)^  \}', dot, re.M | re.S):
         for one, label, rest in re.findall(r'^    "(.*?)" \[label=<(.*?)>([^<>]*)\];$', inside, re.M):
@@ -51,7 +52,7 @@ def arrows(dot):
 
 
 def box(provider, token):
-    """What is to stand in a provider's box."""
+    """What must be in a provider's box."""
     slots = [str(at) for at, name in enumerate(token, 1) if name == provider.name]
     return full(provider.root().name), [
         full(provider.name), *([f'slot {", ".join(slots)}'] if slots else []),
@@ -85,7 +86,7 @@ def by_chance(number):
 
 
 def example():
-    """The picture on the pages."""
+    """Differences in the picture on the pages."""
     with tempfile.TemporaryDirectory() as folder:
         said, dot = drawn(os.path.join(EXAMPLES, 'cloud'), os.path.join(folder, 'cloud'), f'--token={TOKEN}')
     with open(os.path.join(EXAMPLES, 'cloud.dot'), encoding='utf-8') as file:
@@ -105,7 +106,7 @@ def example():
 
 
 def odd_name():
-    """A name may hold anything."""
+    """A difference if a name with odd characters is drawn wrongly."""
     one = '00000000-0000-0000-0000-000000000001'
     with tempfile.TemporaryDirectory() as folder:
         for name, made in tables('P1 | | VCPU total 8').items():
@@ -118,7 +119,7 @@ def odd_name():
 
 
 def refused():
-    """What can't be drawn is told."""
+    """Differences in the messages about what can't be drawn."""
     with tempfile.TemporaryDirectory() as folder:
         out = os.path.join(folder, 'out')
         cloud = os.path.join(EXAMPLES, 'cloud')

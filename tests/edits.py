@@ -1,15 +1,15 @@
 #!/usr/bin/env python3
-"""tests/edits.py [--beside LOG] [--crates FOLDER] [--all] [CRATE..]: makes the must-fail edits of each crate, and says which of them the prover
-lets through.
+"""tests/edits.py [--beside LOG] [--crates FOLDER] [--all] [CRATE..]: tries the must-fail edits of each crate, and names those that the prover lets
+through.
 
-Edits are tried together, as long as they change different functions: the prover says of each function by itself whether it is proved, and a caller
-knows of it only its contract. So an edit is refused if a function whose body it changes isn't proved for a reason of its own. Where an edit changes
-a constant or a definition, lines `refused: FUNCTION` name the functions that it is about. An edit of which none is refused is tried again alone, as
-is each of which no function is known: then the crate has to be refused. Either way the edited text has to be one that the prover can read.
+Edits that change different functions are tried together: the prover judges each function by itself, and of the functions that it calls it knows only
+the contracts. So an edit is refused if a function whose body it changes isn't proved, for a reason of its own. If an edit changes a constant or a
+definition, lines `refused: FUNCTION` in it name the functions that it is about. An edit is tried alone if none of its functions is refused, or if none
+is known: then the prover must refuse the crate. In both cases the prover must be able to read the edited text.
 
-What the crates stand on has to be built below FOLDER, the top of a clone, else in this repository; what `rt check` has kept there is taken up. With
---beside each crate is awaited: LOG is what `rt ci` writes while it proves them, and names their functions. With --all each edit is named, with what
-refused it. The last line is `N passed, M failed`."""
+FOLDER is the top of a clone (by default this repository), below which everything that the crates stand on must be built. What `rt check` has kept there
+is used. With --beside, the script waits for each crate: LOG is what `rt ci` writes while it proves the crates, and also names their functions. With
+--all, the script names each edit and what refused it. The last line is `N passed, M failed`."""
 from __future__ import annotations
 
 import argparse
@@ -35,7 +35,7 @@ def read(path):
 
 
 class Edit:
-    """A must-fail edit: texts to change, each of which stands once in its file."""
+    """A must-fail edit: texts to change, each of which must be in its file exactly once."""
 
     def __init__(self, folder, path):
         self.folder, self.name, self.changes, file, old = folder, os.path.basename(path).removesuffix('.edit'), [], '', ''
@@ -53,7 +53,7 @@ class Edit:
         self.functions = named or self.bodies()
 
     def made(self, texts):
-        """The texts, by their files, with this edit, or None where it can't be made."""
+        """These texts, by their files, after this edit too; None if it can't be made."""
         texts = dict(texts)
         for file, old, new in self.changes:
             text = texts.get(file) or self.text(file)
@@ -67,17 +67,17 @@ class Edit:
         return read(path) if os.path.isfile(path) else ''
 
     def bodies(self):
-        """The functions whose bodies it changes, as patterns of their names, or none where it changes something else too."""
+        """The functions whose bodies it changes, as patterns of their names; none if it changes anything else too."""
         found = {function_at(file, self.text(file), old) for file, old, _ in self.changes}
         return set() if None in found else found
 
     def among(self, names):
-        """Those of the names that are of a function which it changes."""
+        """Those of the names whose functions it changes."""
         return sorted(name for name in names if any(re.match(function, name) for function in self.functions))
 
 
 def function_at(file, text, old):
-    """The function in whose body this text stands, as a pattern of its name, or None. The text is laid out by `rt fmt`."""
+    """The function whose body has this text, as a pattern of its name, or None. It relies on the layout of `rt fmt`."""
     if not file.startswith('src/') or old not in text:
         return None
     lines = text.split('\n')
@@ -98,7 +98,7 @@ def function_at(file, text, old):
 
 
 class Crate:
-    """A crate below the folder, what it stands on, and its edits."""
+    """A crate below a folder, what it stands on, and its edits."""
 
     def __init__(self, top, name, libraries):
         self.name, self.folder, self.libraries = name, os.path.join(top, 'crates', name), libraries
@@ -107,7 +107,7 @@ class Crate:
         self.own = own
 
     def words(self, kit, built):
-        """The command that checks it."""
+        """The command that checks this crate."""
         root = 'src/main.rt' if os.path.exists(os.path.join(self.own, 'src', 'main.rt')) else 'src/lib.rt'
         words = [f'{kit}/bin/rattle', 'check', '--crate-name', self.name, root, '-L', f'dependency={kit}/rlibs', '--links', f'{self.name}=']
         for name in ['std', *self.libraries]:
@@ -118,7 +118,7 @@ class Crate:
 
 
 def check(crate, command, texts, kept, names=()):
-    """What the prover says of the crate with these texts, or of these functions alone, over what it proved before."""
+    """What the prover says about the crate with these texts, or only about these functions. It goes on from what it proved before."""
     with tempfile.TemporaryDirectory(prefix='edit-') as room:
         for part in ('src', 'specs', 'proofs'):
             if os.path.isdir(os.path.join(crate.own, part)):
@@ -137,7 +137,7 @@ def functions(said, crate):
 
 
 def refused(said):
-    """The functions that aren't proved for a reason of their own; none where the prover couldn't read the texts."""
+    """The functions that aren't proved for a reason of their own; none if the prover couldn't read the texts."""
     if UNREAD.search(said) or not re.search(r'^(logic=not-proved|only=)', said, re.M):
         return set()
     lines = [re.match(r'fn \w+::(\S+): (no proof|not proved)(.*)', line) for line in said.splitlines()]
@@ -145,7 +145,7 @@ def refused(said):
 
 
 def rounds(edits):
-    """Lists of edits that may be tried together, since no two change one function, each with the texts that they make."""
+    """Lists of edits to try together, since no two of them change one function; each list with the texts that its edits make."""
     found = []
     for edit in edits:
         for together, texts in found:
@@ -161,8 +161,8 @@ def rounds(edits):
 
 
 def tried(crate, command, known):
-    """For each edit its name, and what refuses it; for one that isn't refused nothing, and what the prover says of it. A check asks of the functions
-    that it changes alone; where none are known yet, the first one proves the others too, and names all."""
+    """For each edit its name, the functions that refuse it (none if it is let through), and what the prover says then. A check only asks about the
+    functions that are changed. If none are known yet, the first check proves all others too, and so names them."""
     with tempfile.TemporaryDirectory(prefix='edits-') as room:
         kept, before = os.path.join(room, 'kept'), os.path.join(crate.folder, 'out', 'incremental')
         if os.path.isdir(before):
@@ -182,7 +182,7 @@ def tried(crate, command, known):
 
 
 def proved(log, name):
-    """Whether rt ci has proved the crate, now or in an earlier run whose proofs it kept, or None where it has ended without."""
+    """Whether `rt ci` has proved the crate, now or in an earlier run whose proofs it kept; None if it has ended without doing so."""
     said = read(log) if os.path.exists(log) else ''
     if re.search(rf'^rt: {name} (proved$|is kept: )', said, re.M):
         return True

@@ -1,4 +1,4 @@
-"""tools/export-tables.sh over a stand-in for the client (tests/client/openstack), which makes its lists from joined tables."""
+"""Cases for tools/export-tables.sh, with a stand-in for the client (tests/client/openstack), which makes its lists from joined tables."""
 from __future__ import annotations
 
 import os
@@ -11,9 +11,9 @@ EXAMPLE = os.path.join(os.path.dirname(HERE), 'examples', 'cloud')
 CHILD = '8c1d9a70-6e55-4f8f-8a0e-3f2f2f0a7702'
 FIVE = 'aggregates.csv\ninventories.csv\nproviders.csv\ntraits.csv\nusages.csv\n'
 SCRIPT = 'tools/export-tables.sh "$out"; echo $?; ls -A "$out"'
-NEEDED = 'dirname ls mkdir rm'  # what the script calls before it asks the client, and the test after it
+NEEDED = 'dirname ls mkdir rm'  # what the script needs before it asks the client, and this test afterwards
 ROUNDING = 'tools/export-tables.sh --round-ratios "$out"; echo $?'
-# ratios as Python prints them, and what becomes of each where they are rounded
+# ratios as Python prints them, and what --round-ratios says about each
 RATIOS = {**dict.fromkeys(('1.1', '16.0', '0.0', '0.333333', '1e+16', '1234567.25', 'inf'), ''), '1e-05': 'written as 0.00001',
           '2.5e-05': 'written as 0.000025', '0.3333333333333333': 'rounded down to 0.333333', '0.30000000000000004': 'rounded down to 0.3',
           '1.9999999999999998': 'rounded down to 1.999999', '0.0001234567': 'rounded down to 0.000123', '9.87654e-05': 'rounded down to 0.000098',
@@ -21,7 +21,7 @@ RATIOS = {**dict.fromkeys(('1.1', '16.0', '0.0', '0.333333', '1e+16', '1234567.2
 
 
 def export(name, script, out, *said, settings='', cloud=CLOUD):
-    """The script, where $out is a new folder and the client is the stand-in."""
+    """A case that runs this script. $out is a new folder, and the client is the stand-in."""
     before = f'''out=$(mktemp -d) && trap 'rm -rf "$out" "$CLOUD"' EXIT && export CLOUD=$(mktemp -d) {settings} && cp {cloud}/*.csv "$CLOUD" &&
         export PATH={HERE}/client:$PATH && '''
     return Case(f'export: {name}', ['sh', '-c', before + script], out, ''.join(line + '\n' for line in said))
@@ -32,7 +32,7 @@ def failed(name, settings, *said):
 
 
 def rounded(provider, named):
-    """What is said of a provider's classes with these ratios."""
+    """The lines about a provider's classes with these ratios."""
     return [f'export-tables: provider {provider}, {name}: the ratio {ratio} is {RATIOS[ratio]}' for name, ratio in named.items() if RATIOS[ratio]]
 
 

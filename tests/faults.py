@@ -1,5 +1,5 @@
-"""The faults of tables, queries and tokens as docs/FORMATS.md tells them, over tables and queries that are made faulty by chance. Nothing is
-taken from the program. What has no fault is accepted: `check` counts the tables, and `tokens` finds nothing among no providers."""
+"""A model of the faults of tables, queries and tokens, as docs/FORMATS.md has them, and cases with random faults. It takes nothing from the program.
+What has no fault must be accepted: `check` then counts the rows, and `tokens` over no providers finds nothing."""
 from __future__ import annotations
 
 import csv
@@ -54,7 +54,7 @@ def is_field(column, text):
 
 
 class Tables:
-    """The five tables, read in their order up to the first fault, which is a line."""
+    """The five tables, read in their order up to the first fault. `fault` is the line of that fault, or None."""
 
     def __init__(self, texts):
         self.parents, self.roots, self.held, self.used, self.pairs = {}, {}, set(), set(), {'traits': set(), 'aggregates': set()}
@@ -137,7 +137,7 @@ P4 | | VCPU total 4 | A | A2''')
 
 
 def spoil(chance, rows):
-    """Changes something of a table in place; the first row is the header."""
+    """Changes something in a table, in place. The first row is the header."""
     header, row = rows[0], chance.choice(rows[1:] or rows)
     at = chance.randrange(len(row)) if row else 0
     change = chance.random()
@@ -185,14 +185,14 @@ def drawn_tables(number_of, seed=1):
 # ---- queries
 
 def parameter(name):
-    """The parameter and the suffix, or the empty text, that a name is."""
+    """The parameter that a name is, and its suffix, which may be empty; None if it is no parameter."""
     if name in PLAIN:
         return name, ''
     return next(((word, name[len(word):]) for word in GROUPED if name == word or name.startswith(word) and is_suffix(name[len(word):])), None)
 
 
 def value(word, text, version):
-    """What the value of a parameter says, or None."""
+    """The items of a parameter's value, or None if it is a bad value."""
     if word == 'required' and version == '1.39' and text.startswith('in:'):
         listed = text.removeprefix('in:').split(',')
         return listed if all(map(is_name, listed)) else None
@@ -214,7 +214,7 @@ def value(word, text, version):
 
 
 def query_fault(text, version):
-    """The line of the first fault, and how many slots there are."""
+    """The first fault, as in its line, or None; and how many slots there are."""
     repeated = ('member_of', 'same_subtree', *(['required'] if version == '1.39' else []))
     if len(text.encode()) > 65536:
         return 'QueryTooLong', 0

@@ -1,7 +1,7 @@
 #!/usr/bin/env python3
-"""tests/growths.py PROGRAM WORDS..: runs the program with these words again and again. Each run is refused one growth of its memory, the first,
-the second and so on, until a run needs no more. Each may answer as the program does with ample memory, or say `out of memory` with status 7 and
-write nothing but a first part of that answer; the first run does the latter. Says what else happened, or how many growths there were."""
+"""tests/growths.py PROGRAM WORDS..: runs the program with these words again and again. In each run one memory allocation (a *growth*) is refused: the
+first, then the second and so on, until a run has no more. A run may answer as with ample memory; or it may say `out of memory` with status 7, after at
+most a first part of that answer. The first run has to do the latter. The script writes what else happened, or how many growths there were."""
 from __future__ import annotations
 
 import os
@@ -16,15 +16,15 @@ MOST = 100000
 
 
 def refuser(folder):
-    """Makes the library that refuses a growth in this folder."""
+    """Makes the library that refuses growths, in this folder."""
     library = os.path.join(folder, 'refuse.so')
     subprocess.run(['cc', '-shared', '-fPIC', '-O', '-o', library, REFUSER], check=True)
     return library
 
 
 def run(words, library, number, mark=0):
-    """What came on both streams, the status, and how many growths were refused: the one of this number, and each from one of the size of the mark
-    up to the next of that size, both of them too."""
+    """Runs these words, and returns what came on both streams, the status, and how many growths were refused. Refused are the one of this number, and
+    all from one of the size `mark` up to the next of that size, both included."""
     read, write = os.pipe()
     ran = subprocess.run(words, capture_output=True, pass_fds=(write,),
                          env={**os.environ, 'LD_PRELOAD': library, 'REFUSE': str(number), 'REFUSE_BETWEEN': str(mark), 'REFUSED': str(write)})
@@ -35,7 +35,7 @@ def run(words, library, number, mark=0):
 
 
 def wrong(number, whole, ran):
-    """How a run that was refused this growth differs from what it may do, or None."""
+    """What a run without this growth did that it may not do, or None."""
     out, err, status, _ = ran
     if (err, status) == MEMORY and whole[0].startswith(out):
         return None

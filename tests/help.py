@@ -1,11 +1,11 @@
 #!/usr/bin/env python3
-"""tests/help.py [--write]: says where the manual page (docs/ac_cli.1) and what shells complete (tools/completions) differ from the texts of help in docs/help,
-a line each. The status is 0 only where nothing is said. That these texts are the program's own is tested by tests/program.py; with --write they are
-first made anew by the built program.
+"""tests/help.py [--write]: compares the manual page (docs/ac_cli.1) and what shells complete (tools/completions) with the texts of help in docs/help.
+It writes a line for each difference; the status is 0 only if there is none. tests/program.py tests that the texts are the program's own. With --write
+the built program first makes them anew.
 
-The manual page has each command and each option of the help, and the statuses of the program's help and no other. bash completes the commands, and
-after a command its options, and no others; it completes folders and files where an option names one. The file for zsh names them all, and zsh reads
-it, where it is there."""
+The manual page must have each command and each option of the help, and exactly the statuses of the program's help. bash must complete exactly the
+commands, and after a command exactly its options; after an option that names a folder or a file, it must complete these. The file for zsh must name
+them all and, if zsh is installed, zsh must be able to read it."""
 from __future__ import annotations
 
 import glob
@@ -32,7 +32,7 @@ def helps():
 
 
 def options(help):
-    """The options that a text of help lists, short ones too."""
+    """The options in a text of help, including the short ones."""
     return {name for line in re.findall(r'^ +(-.*)$', help, re.M) for name in re.findall(r'(?<![\w-])--?[a-z]+\b|(?<![\w-])-V\b', line.split('  ')[0])}
 
 
@@ -45,7 +45,7 @@ def statuses(help):
 
 
 def completed(*words):
-    """What bash completes of the last of these words."""
+    """What bash completes for the last of these words."""
     script = 'source "$0"; COMP_WORDS=(ac_cli "$@"); COMP_CWORD=$#; _ac_cli ac_cli "${COMP_WORDS[-1]}" "${COMP_WORDS[-2]}"; printf "%s\\n" "${COMPREPLY[@]}"'
     ran = subprocess.run(['bash', '-c', script, BASH, *words], cwd=ROOT, capture_output=True, text=True)
     return set(ran.stdout.split()) if not ran.stderr else {ran.stderr}
@@ -95,7 +95,7 @@ def by_zsh(of):
 
 
 def write():
-    """Makes the texts of help, and of the version, anew."""
+    """Writes the texts of help and of the version, as the program prints them."""
     def said(*words):
         return subprocess.run([os.path.join(ROOT, 'out', 'ac_cli'), *words], capture_output=True, text=True, check=True).stdout
 

@@ -1,6 +1,6 @@
-"""Tables, queries and tokens that are made to do harm. Each is answered within two seconds of processor time and 2 GiB of memory, or the program is
-ended by the system, and the case fails. Millions of columns are the exception: `csv` keeps two numbers for each field of a record, so they have twice
-the time and memory."""
+"""Cases with hostile tables, queries and tokens. The program must answer each within two seconds of processor time and 2 GiB of memory; otherwise the
+system ends it, and the case fails. Tables with millions of columns have twice the time and memory, since `csv` keeps two numbers for each field of a
+record."""
 from __future__ import annotations
 
 from cases import Case, lines, tables
@@ -14,26 +14,26 @@ P1 = provider(1)
 
 
 def quoted(size, text='x'):
-    """One quoted field of so many bytes."""
+    """A quoted field with this number of bytes."""
     return '"' + text * ((size - 2) // len(text)) + '"'
 
 
 def filled(front, text, end):
-    """A table of the most bytes: this over and over between the two."""
+    """A table with the most bytes that are allowed: the middle text again and again, between the other two."""
     return front + text * ((MOST_BYTES - len(front) - len(end)) // len(text)) + end
 
 
 def columns(number, table):
-    """The columns of a table behind so many others."""
+    """The columns of a table, after this number of other columns."""
     return ''.join(f'c{n},' for n in range(number)) + HEADERS[table]
 
 
 def wide(number, *ids):
-    """Providers of which each has so many other fields before its own."""
+    """Providers, each with this number of other fields before its own."""
     return columns(number, 'providers') + ''.join(',' * number + f'{id},{id},\n' for id in ids)
 
 
-# What is refused, or accepted with these counts, and by which table.
+# What is refused, or accepted with these counts, by the table that has it.
 TABLES = [
     ('64 MiB in one quoted field', 'providers', lambda: quoted(MOST_BYTES), 'record 1: MissingColumn'),
     ('64 MiB behind a quote that isn\'t closed', 'providers', lambda: quoted(MOST_BYTES + 1)[:-1], 'record 1: MissingColumn'),
@@ -59,7 +59,7 @@ TABLES = [
     ('a ring of 65536', 'providers', lambda: chain(MOST_PROVIDERS, top=provider(MOST_PROVIDERS)), 'record 2: ParentCycle'),
 ]
 
-# One provider with so many classes, and as much used of each, in the other order.
+# One provider with many classes, and a usage of each, in the other order.
 CLASSES = 200000
 OF_MANY_CLASSES = {
     **ONE,
@@ -69,7 +69,7 @@ OF_MANY_CLASSES = {
 
 MILLIONS_OF_COLUMNS = '60 MiB of commas', '64 MiB of commas'
 
-# Queries of 65536 bytes, or nearly, and the line or the answer.
+# Queries of 65536 bytes, or nearly as many, and the line or the answer.
 QUERIES = [
     ('20000 pairs of no parameter', ('a=&' * 20000).ljust(QUERY_BYTES, '&'), 'pair 1: UnknownParameter'),
     ('20000 pairs, of which the first is accepted', ('limit=1&' + 'a=&' * 20000).ljust(QUERY_BYTES, '&'), 'pair 2: UnknownParameter'),
@@ -109,7 +109,7 @@ TOKENS = [
 
 
 def hostile(program):
-    """The cases, run by this program."""
+    """The cases, each of which runs this program."""
     limited = ['sh', '-c', LIMITED.format(1), 'limited', program]
     for name, table, made, says in TABLES:
         counts = ''.join(f'{kind} {count}\n' for kind, count in zip(HEADERS, says)) if isinstance(says, tuple) else ''

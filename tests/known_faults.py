@@ -1,7 +1,8 @@
 #!/usr/bin/env python3
-"""tests/known_faults.py PROGRAM: reads tables that have a fault again and again, each run with another growth of its memory refused. A growth that is
-refused before the fault ends in `out of memory`; one that is refused after it doesn't hide it. So from some growth on all runs tell the fault, and
-from the same one on where all that stands behind the fault is blank, and where the rows before it need no sorting. Says what else happened."""
+"""tests/known_faults.py PROGRAM: checks that a memory allocation (a *growth*) that fails doesn't hide a fault that stands before it. It reads tables
+with a fault again and again, and in each run another growth is refused. If it comes before the fault, the run ends with `out of memory`; if it comes
+after the fault, the run must report the fault. So there is a last growth without which the fault isn't reported. It must be the same if everything
+behind the fault is blank, and if the rows before it are in order already. The script writes what else happened."""
 from __future__ import annotations
 
 import os
@@ -26,7 +27,7 @@ ROWS = {
 NOBODY = provider(RECORDS + 1)
 REPEATED = 'Duplicate'  # the record repeats the one before it
 
-# Records with a fault, by their tables and faults.
+# Tables, faults, and a record with that fault.
 WRONG = [
     ('providers', 'BadUuid', 'x,x,\n'),
     ('providers', REPEATED, None),
@@ -42,23 +43,23 @@ WRONG = [
 
 
 def cases():
-    """The table with the fault, what stands up to it, what stands behind it, and the line that tells it."""
+    """The table with the fault, its rows up to the fault, its rows behind the fault, and the line that reports it."""
     for table, kind, record in WRONG:
         rows = ROWS[table]
         for place in (1 if kind == REPEATED else 0, RECORDS // 2, RECORDS):
-            # The row behind it has a fault too, which comes too late.
+            # The row behind it has a fault too, which comes too late to be reported.
             yield (table, [*rows[:place], record or rows[place - 1]], [*rows[place:], record or rows[0]] if place < RECORDS else [],
                    f'{table}: record {place + 2}: {kind}\n')
 
 
 def too_many():
-    """One provider too many, and behind it others, of which the first is repeated."""
+    """A case with one provider too many; behind it come repeated ones."""
     rows = [f'{id.replace("-", "")},{id.replace("-", "")},\n' for id in ids(MOST_PROVIDERS + 2)]
     yield 'providers', rows[:-1], [rows[0]] + rows[-1:] * 2, f'providers: record {MOST_PROVIDERS + 2}: TooManyProviders\n'
 
 
 def write(folder, table, text):
-    """The words of a check of these tables."""
+    """Writes the tables to files, and returns the words of a `check` of them."""
     words = ['check']
     for name, rows in ROWS.items():
         path = os.path.join(folder, name)
@@ -80,7 +81,7 @@ def growths(words, library):
 
 
 def hidden(words, library, line):
-    """The number of the last growth without which the fault isn't told, or what else happened."""
+    """The number of the last growth without which the fault isn't reported, or what else happened."""
     if run(words, library, 0)[:3] != (b'', line.encode(), 3):
         return f'with ample memory: {run(words, library, 0)[1]!r}'
     for number in range(growths(words, library), 0, -1):

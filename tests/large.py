@@ -1,4 +1,4 @@
-"""Tables and queries at the limits."""
+"""Cases with tables and queries at the limits."""
 from __future__ import annotations
 
 import random
@@ -41,14 +41,14 @@ def vcpu(number):
 
 
 def filled(record, size):
-    """Traits of so many bytes: one record over and over, with a last column that fills up the last of them."""
+    """A table of traits with this number of bytes: one record again and again; the last column of the last record fills it up."""
     head = HEADERS['traits'].strip() + ',note\n'
     times, rest = divmod(size - len(head), len(record))
     return head + record * (times - 1) + record[:-1] + 'x' * rest + '\n'
 
 
 def million(table, row):
-    """A thousand records of each of a thousand providers; UUIDs without hyphens, so that aggregates are within 64 MiB too."""
+    """A thousand records for each of a thousand providers. UUIDs have no hyphens, so that the aggregates too fit into 64 MiB."""
     return HEADERS[table] + ''.join(row(id.replace('-', ''), n) + '\n' for id in ids(1000) for n in range(1000))
 
 
@@ -59,7 +59,7 @@ def check(name, made, counts=None, line=None):
 
 
 def pairs(start, pair, size):
-    """A query of exactly so many bytes, of one pair over and over."""
+    """A query with exactly this number of bytes, from one pair again and again."""
     times = (size - len(start)) // len(pair)
     return (start + pair * times).ljust(size, '&')
 
@@ -69,13 +69,13 @@ def query(name, text, out='', line=''):
 
 
 def explained(name, text, slots, counts, trees, made):
-    """Nothing is found, though these slots all have these counts."""
+    """A case in which there is no candidate, although each of these slots has these counts."""
     told = [f'slot {number} {slot}: {counts}' for number, slot in enumerate(slots, 1)]
     return Case(f'explain: {name}', ['explain', text], ''.join(f'{line}\n' for line in [*told, trees, 'candidates: none']), status=1, tables=made)
 
 
 def hosts(number, functions):
-    """So many hosts, each with so many children, and one function at each child."""
+    """This number of hosts, each with this number of children, and one function below each child."""
     width = functions + 1
     providers, inventories = [HEADERS['providers']], [HEADERS['inventories']]
     for host in range(number):

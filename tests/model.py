@@ -1,5 +1,5 @@
-"""The rules as docs/RULES.md tells them, over small clouds and queries drawn by chance: every list of providers is tried, and nothing is
-taken from the program. A ratio is held in millionths."""
+"""A model of the rules, as docs/RULES.md has them, and cases over small random clouds and queries. It tries every list of providers, and takes nothing
+from the program. Ratios are in millionths."""
 from __future__ import annotations
 
 import itertools
@@ -61,8 +61,8 @@ class Group:
     needs: dict
     required: set
     forbidden: set
-    any_of: list  # lists of traits of which one each is asked, by 1.39 alone
-    rules: list  # whether it forbids, and the aggregates
+    any_of: list  # lists of traits, of which one trait each is asked for; only with 1.39
+    rules: list  # for each `member_of`, whether it forbids, and its aggregates
     tree: str | None
 
     def pairs(self, suffix):
@@ -81,7 +81,7 @@ class Group:
 
 @dataclass
 class Query:
-    groups: dict  # the suffix, or the empty text, and the group
+    groups: dict  # groups by their suffixes; the one without a suffix is under the empty text
     isolate: bool = False
     subtrees: list = field(default_factory=list)
     root_required: set = field(default_factory=set)
@@ -106,7 +106,7 @@ def traits_text(required, forbidden):
 
 
 def meets(group, traits):
-    """Whether each required trait of a group is among these, and one of each of its lists."""
+    """Whether each required trait of a group is among these traits, and at least one trait of each of its lists."""
     return group.required <= traits and all(traits & set(listed) for listed in group.any_of)
 
 
@@ -116,7 +116,7 @@ def available(provider, root, cloud):
 
 
 def broken_by_one(provider, suffix, needs, query, cloud):
-    """The rules of one slot that its provider breaks."""
+    """Which of the first four rules a provider breaks in its slot."""
     group = query.groups[suffix]
     for name, amount in needs.items():
         has = provider.has.get(name)
@@ -132,7 +132,7 @@ def broken_by_one(provider, suffix, needs, query, cloud):
 
 
 def has_room(provider, needs):
-    """Whether a provider of these classes has room for a slot alone."""
+    """Whether a provider, which has these classes, has room for them if nothing else is placed."""
     return all(amount <= has.max_unit and has.used + amount <= has.capacity() for name, amount in needs.items() for has in [provider.has[name]])
 
 
@@ -142,7 +142,7 @@ def takes(root, query):
 
 
 def broken_by_all(placed, query, cloud):
-    """The rules that an assignment breaks as a whole. It is a list of providers, suffixes and amounts."""
+    """Which of the other rules an assignment breaks. It is given as a list of providers, each with the suffix and the amounts of its slot."""
     together = set().union(*(provider.traits for provider, suffix, _ in placed if not suffix))
     if '' in query.groups and not meets(query.groups[''], together):
         yield 'Collective'
@@ -164,14 +164,14 @@ def broken_by_all(placed, query, cloud):
 
 
 def judgement(assignment, query, cloud):
-    """The least number of a rule that is broken, or 0."""
+    """The lowest number of a broken rule, or 0."""
     placed = [(provider, suffix, needs) for provider, (suffix, needs) in zip(assignment, query.slots())]
     broken = [*(rule for one in placed for rule in broken_by_one(*one, query, cloud)), *broken_by_all(placed, query, cloud)]
     return min((RULES.index(rule) + 1 for rule in broken), default=0)
 
 
 def serving(suffix, needs, query, cloud):
-    """The providers that a slot leaves, rule by rule, and at last those that have room for it alone."""
+    """Which providers are left for a slot after each of the first four rules, and then which of them have room for it alone."""
     left = cloud
     for rule in RULES[:4]:
         left = [provider for provider in left if rule not in broken_by_one(provider, suffix, needs, query, cloud)]
@@ -204,7 +204,7 @@ STAGES = 'units', 'traits', 'aggregates', 'tree', 'room'
 
 
 def lacks(root, found, query, cloud):
-    """What a root lacks of a query: the number of a slot, where it is one slot that nobody serves there, and a name; none where it fits."""
+    """What a root lacks: the number of a slot, if one slot asks for what is missing, and the name of what is missing. Both are empty if it fits."""
     if not takes(root, query):
         return '', 'root traits'
     hosts = [provider for provider in cloud if available(provider, root, cloud)]
@@ -265,7 +265,7 @@ def draw_inventory(chance):
 
 
 def fill(inventory, chance):
-    """Uses all of an inventory, or all but one."""
+    """Makes all of an inventory used, or all but one."""
     inventory.used = max(inventory.capacity() - chance.choice((0, 0, 1)), 0)
 
 
@@ -315,7 +315,7 @@ def names(assignment):
 
 
 def drawn(number, seed=1):
-    """So many clouds, each with a query, and what the commands say of it. Every third may be without a candidate."""
+    """Cases over this number of random clouds, each with a query. At least two of three queries have a candidate."""
     chance = random.Random(seed)
     n = 0
     while n < number:
@@ -328,7 +328,8 @@ def drawn(number, seed=1):
 
 
 def asked(name, chance, cloud, query, every, judged):
-    """Every assignment has its judgement. One of them is verified, by preference none that breaks the first rule."""
+    """Cases for each command over a cloud and a query, by the judgement of every assignment. One assignment is verified: rather one that doesn't break
+    rule 1."""
     found = [assignment for assignment, rule in zip(every, judged) if not rule]
     at = chance.randrange(len(every))
     later = [assignment for assignment, rule in zip(every[at + 1:], judged[at + 1:]) if not rule][:2]

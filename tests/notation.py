@@ -1,4 +1,4 @@
-"""Small clouds in a short notation, which docs/RULES.md uses too.
+"""Reads small clouds in a short notation, which docs/RULES.md uses too.
 
 A row is `provider | parent | inventories | traits | aggregates`; cells at the end may be missing. `P1` stands for the UUID
 00000000-0000-0000-0000-000000000001, `A1` for 00000000-0000-0000-0000-0000000000a1, in every text here. An inventory is
@@ -26,7 +26,7 @@ def full(text):
 
 
 def inventory(cell):
-    """The class, the six numbers of a row of inventories, and what is used, or None."""
+    """The class, the six numbers of a row of inventories, and how much is used, or None if that isn't said."""
     name, *numbers = cell.replace(',', ' ').split()
     given = dict(zip(numbers[::2], numbers[1::2]))
     total = given.pop('total')
@@ -47,7 +47,7 @@ def root(parents, of):
 
 
 def tables(cloud):
-    """The five tables of a cloud, by name; usages, traits and aggregates only where there are rows."""
+    """The tables of a cloud, by name. Usages, traits and aggregates are left out if they have no rows."""
     rows = [cells(row) for row in cloud.strip().splitlines()]
     parents = {row[0]: row[1] for row in rows}
     made = {name: [] for name in HEADERS}

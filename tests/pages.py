@@ -1,11 +1,13 @@
 #!/usr/bin/env python3
-"""tests/pages.py [--write]: says where the documents and the tree differ, a line each. The status is 0 only where nothing is said.
+"""tests/pages.py [--write]: checks that the pages agree with the repository. It writes a line for each difference; the status is 0 only if there is
+none.
 
-Links lead to files and headings that are there. Each source, definition or script that a document names is there: anywhere, or with a folder at that
-place below the top or a crate, which is the crate that the part of the document is of; and where something is said to stand `in` a source, it does.
-docs/MAP.md names every source and every definition, and no other file. Each clause that docs/PROMISES.md quotes stands in the sources of its crate,
-and each part of a definition (`name : statement`) in its specs; every public function is named there, and so are all edits of the crate and no other.
-With --write the lists of edits there are first made anew."""
+- Each link leads to a file or a heading that exists.
+- Each source, definition or script that a page names exists. A name without a folder may be anywhere. A name with a folder is looked for at the top and
+  in the crates; in a part of a page that is about one crate, in that crate. If a page says that something is `in` a source, it is.
+- docs/MAP.md names every source and every definition, and no other file.
+- Each clause that docs/PROMISES.md quotes is in the sources of its crate, and each part of a definition (`name : statement`) in its specs. The page
+  names every public function, and exactly the edits of each crate. With --write, the lists of edits are first made anew."""
 from __future__ import annotations
 
 import glob
@@ -33,7 +35,7 @@ def there(path):
 
 
 def tree():
-    """The paths of all files, without what is built."""
+    """The paths of all files, except those that are built."""
     for folder, inner, names in os.walk(ROOT):
         inner[:] = [name for name in inner if name not in ('out', '.git', '__pycache__')]
         yield from (os.path.relpath(os.path.join(folder, name), ROOT) for name in names)
@@ -44,7 +46,7 @@ PAGES = [path for path in FILES if path.endswith('.md')]
 
 
 def parts(page):
-    """The name in the heading of each part that is of a crate, or None, and its text."""
+    """The parts of a page: the crate that the heading names, or None, and the text."""
     found = re.split(r'^## (?:`(\w+)`)?.*$', text(page), flags=re.M)
     return list(zip([None, *found[1::2]], found[::2]))
 
@@ -69,8 +71,8 @@ def links(page):
 
 
 def meant(name, crate):
-    """The files that a document means by this name, in the part of a crate or of none. A folder may be one of the top, of a crate, or of its sources,
-    definitions or proofs."""
+    """The files that a page may mean by this name, in a part about this crate, or about none. A folder may be at the top, in a crate, or in a crate's
+    sources, definitions or proofs."""
     if '/' not in name:
         return [path for path in FILES if os.path.basename(path) == name]
     if crate and re.match(r'(src|specs|proofs)/', name):
@@ -79,7 +81,7 @@ def meant(name, crate):
 
 
 def named(page):
-    """The names of files that aren't there, and what isn't in the source that is named with it."""
+    """Lines about files that don't exist, and about what isn't in the source that a page names for it."""
     for crate, part in parts(page):
         yield from (f'{page}: no {name}' for name in NAMED.findall(part) if not meant(name, crate))
         for name, path in STANDS_IN.findall(part):
@@ -107,18 +109,18 @@ def mapped():
 
 
 def sources(crate):
-    """The sources without the tests, on one line."""
+    """The sources of a crate without its tests, on one line."""
     code = [path for path in sorted(files(crate)) if path.endswith('.rt') and 'tests' not in path]
     return ' '.join(re.sub(r'\s+', ' ', text(f'crates/{crate}/{path}')) for path in code)
 
 
 def definitions(crate):
-    """The definitions, on one line."""
+    """The definitions of a crate, on one line."""
     return ' '.join(re.sub(r'\s+', ' ', text(f'crates/{crate}/{path}')) for path in sorted(files(crate)) if path.endswith('.antt'))
 
 
 def public(crate):
-    """The names of public functions that the crate hands on."""
+    """The names of the public functions that others can call."""
     root = text(f'crates/{crate}/src/lib.rt') if there(f'crates/{crate}/src/lib.rt') else ''
     for path in sorted(files(crate)):
         module = path.split('/')[1].removesuffix('.rt')
@@ -141,7 +143,7 @@ def edits(crate):
 
 
 def write_edits():
-    """Makes the lists of edits anew."""
+    """Writes the lists of edits anew."""
     page = re.split(r'^(?=## )', text(PROMISES), flags=re.M)
     for place, part in enumerate(page):
         crate = re.match(r'## `(\w+)`', part)

@@ -1,8 +1,8 @@
 #!/usr/bin/env python3
 """tests/program.py [--all] [WORD]: runs the built ./ac_cli as a user would, and says which cases went wrong.
 
-With a word, only the cases whose names have it. With --all it names each case, and not only those that went wrong. Where AC_CLI is set, it
-names the program to run. The last line is `N passed, M failed`, and the status is 0 only where M is 0."""
+With a word, it runs only the cases whose names contain it. With --all, it also names the cases that went well. AC_CLI may name another program to run.
+The last line is `N passed, M failed`, and the status is 0 only if M is 0."""
 from __future__ import annotations
 
 import os
@@ -25,7 +25,7 @@ from model import drawn
 from notation import HEADERS, provider
 
 ROOT = os.path.dirname(os.path.dirname(os.path.abspath(__file__)))
-# ./ac_cli looks at every source before it runs the program, so it is called once, and for the commands that the pages show.
+# ./ac_cli looks at every source before it runs the program. So it is called only once, and for the commands that the pages show.
 LAUNCHER = os.path.abspath(os.environ.get('AC_CLI', os.path.join(ROOT, 'ac_cli')))
 PROGRAM = os.path.abspath(os.environ.get('AC_CLI', os.path.join(ROOT, 'out', 'ac_cli')))
 EXAMPLES = os.path.join(ROOT, 'examples')
@@ -55,7 +55,7 @@ def check(*tables):
 
 
 def logic():
-    """The logic of the toolchain, as this names itself."""
+    """The logic of the toolchain, as `rt version` names it."""
     try:
         return re.search(r'logic \w+', subprocess.run(['rt', 'version'], capture_output=True, text=True, check=True).stdout)[0]
     except (OSError, subprocess.CalledProcessError, TypeError):
@@ -76,11 +76,11 @@ def contents(path):
 
 
 def help_text(name):
-    """A text that ./ac_cli answers where there is no program yet."""
+    """A text that ./ac_cli prints while there is no program yet."""
     return contents(os.path.join(ROOT, 'docs', 'help', name + '.txt')).decode()
 
 
-# What the program says by itself, and the launcher without it, to the same words.
+# Words to which the program itself, and the launcher without a program, must answer the same.
 HELP_WORDS = {
     'ac_cli': [['--help'], ['-h'], ['help']],
     'version': [['--version'], ['-V']],
@@ -89,14 +89,14 @@ HELP_WORDS = {
 
 
 def without_program(name, script, out='', err='', status=0):
-    """./ac_cli as it is in a fresh clone, where `rt` can't be called either."""
+    """A case that runs ./ac_cli as in a fresh clone, on a machine without `rt`."""
     made = 'room=$(mktemp -d) && cp -r ac_cli crates.txt "$room" && mkdir "$room/docs" && cp -r docs/help "$room/docs" && cd "$room" || exit'
     called = f'{made}; PATH=/usr/bin:/bin; {script}; status=$?; rm -r "$room"; exit $status'
     return Case(f'without a program: {name}', ['sh', '-c', called], out, err, status)
 
 
 def example_of(name):
-    """The command that a text of help ends with, over the example cloud."""
+    """A case that runs the command at the end of a text of help, over the example cloud."""
     command = help_text(name).rstrip('\n').rpartition('\n')[2].strip()
     called = re.sub('^ac_cli', lambda _: shlex.quote(PROGRAM), command)
     return Case(f'the example in the help: {command}', ['sh', '-c', f'cd examples && {called}'], SOME, status={'verify': 1, 'explain': 1, 'hosts': 1}.get(name, 0))
@@ -195,7 +195,7 @@ NO_ROWS = {**HEADERS, 'inventories': HEADERS['inventories'] + f'{provider(1)},VC
 
 
 def by_folder(*words, status=0):
-    """It answers over a folder as over its five tables, byte for byte."""
+    """The program must answer over a folder as over its five tables, byte for byte."""
     return Case(f'a folder: {words[0]}, as by the five options', [*words, '--tables', CLOUD], lambda: run(Case('', [*words, *EACH_TABLE]))[0], status=status)
 
 
@@ -221,7 +221,7 @@ FOLDERS = [
 
 
 def filled(query, size):
-    """A query of so many bytes: an empty piece between two `&` is no pair."""
+    """This query with `&` behind it, up to this number of bytes. An empty piece between two `&` is no pair."""
     return query + '&' * (size - len(query))
 
 
@@ -254,7 +254,7 @@ def to_nobody(name, words, **made):
     return Case(f'a pipe that nobody reads: {name}', words, err='output: WriteFailed\n', status=6, tables=made, closed=True)
 
 
-# Answers of more than the 65536 bytes that are gathered before they are handed on: so they fail amid what writes them.
+# Answers of more than 65536 bytes, which is how much is gathered before it is written. So writing fails while the answer is being made.
 HOSTS = {'providers': roots(2000), 'inventories': vcpu(2000)}
 LONG_NAMES = '&'.join(f'resources{n}=' + ','.join(f'C{n}_{k}_'.ljust(240, 'C') + ':1' for k in range(4)) for n in range(10, 74)) + '&group_policy=none'
 LONG = (('tokens', 'resources=VCPU:2', HOSTS), ('candidates', 'resources=VCPU:2', HOSTS), ('explain', LONG_NAMES, tables(ONE)), ('hosts', 'resources=VCPU:2', HOSTS))
@@ -278,7 +278,7 @@ DEVICES = [
 
 
 def growing(name, words, cloud='', **more):
-    """Each growth of this run refused in turn, by tests/growths.py."""
+    """A case in which each growth of this run is refused in turn, by tests/growths.py."""
     return Case(f'each growth refused: {name}', ['sh', '-c', 'exec python3 -B tests/growths.py "$@"', 'growths', PROGRAM, *map(full, words)],
                 SOME, tables={**(tables(cloud) if cloud else {}), **more})
 
@@ -310,7 +310,7 @@ GROWTHS = [
 ]
 
 
-# The calls that take memory, each by itself: those of the libraries, and of the program.
+# Each call of the libraries that takes memory, by itself.
 REFUSALS = [Case(f'each growth refused, in the tests of {name}', ['sh', '-c', f'exec python3 -B tests/refusals.py {name}'], SOME)
             for name in ('ac_read_tests', 'ac_search_tests', 'ac_report_tests', 'ac_run_tests')]
 
@@ -318,15 +318,15 @@ KNOWN = Case('a fault is told though a growth behind it is refused', ['sh', '-c'
 
 
 def status_of(text):
-    """The status that comes with a text: an answer, or a fault line."""
+    """The status that goes with an answer or a fault line."""
     if text.endswith('candidates: none\n'):
         return 1
     return next((status for start, status in STATUSES.items() if text.startswith(start)), 0)
 
 
 def shown(page):
-    """The commands that a page shows: a block `sh` with one call of ./ac_cli, and right after it a block `text` or `json` with what it prints; without
-    such a block it prints anything."""
+    """Cases for the commands that a page shows: a block `sh` with one call of ./ac_cli and, right after it, a block `text` or `json` with what it
+    prints. Without such a block it may print anything."""
     path = os.path.join(ROOT, page)
     text = contents(path).decode() if os.path.isfile(path) else ''
     for block in re.finditer(r'^```sh\n(\./ac_cli\b(?:.*\\\n)*.*)\n```\n(?:\n*```(?:text|json)\n((?:.*\n)*?)```$)?', text, re.M):
@@ -336,7 +336,7 @@ def shown(page):
 
 
 def remade(page):
-    """The tables beside a page are those that the command on it makes."""
+    """A case: the tables beside a page must be those that the command on the page makes."""
     folder = os.path.dirname(page)
     words = re.search(rf'^    bench/make_tables\.py {folder} (.*)$', contents(os.path.join(ROOT, page)).decode(), re.M)[1]
     called = f'room=$(mktemp -d) && python3 bench/make_tables.py "$room" {words} && diff -r -x README.md "$room" {folder}; status=$?; rm -r "$room"; exit $status'
@@ -344,8 +344,8 @@ def remade(page):
 
 
 def ruled(page):
-    """The examples of a page: a table in the notation of notation.py, and below it lines with a query and what it gives, or how it is refused.
-    Lines that begin with blanks are of something else."""
+    """Cases for the examples of a page: a table in the notation of notation.py, and below it lines with a query, and with what it gives or how it is
+    refused. Indented lines are about something else."""
     text = contents(os.path.join(ROOT, page)).decode()
     for table in re.finditer(r'^\| provider \|.*\n\|[-|]+\n((?:\|.*\n)+)\n((?:- `.*\n(?:  .*\n)*)+)', text, re.M):
         cloud = '\n'.join(row.strip('|') for row in table[1].splitlines())
@@ -380,11 +380,11 @@ def files(case, folder):
     return ['--tables', folder] if case.together else options
 
 
-# A search over the most providers that there may be takes memory for each, not for each two.
+# A search over the most providers that are allowed takes memory for each of them, and not for each pair of them.
 FEW_BYTES = Case('tokens: the first of 65536 roots, within 512 MiB', ['sh', '-c', 'ulimit -v 524288; exec "$@"', 'limited', PROGRAM, 'tokens', 'resources=VCPU:1&limit=1'],
                  lines('P1'), tables={'providers': lambda: roots(MOST_PROVIDERS), 'inventories': lambda: vcpu(MOST_PROVIDERS)})
 
-# Where the last build left the object file: linked with a static C library, the program answers as ever.
+# If the last build left the object file: the program must answer the same if it is linked with a static C library.
 STATIC = [Case('linked statically, it answers as by itself',
                ['sh', '-c', 'made=$(mktemp) && tools/link-statically.sh "$made" && "$made" candidates "$1" --tables examples/private; status=$?; rm "$made"; exit $status',
                 'linked', 'resources=VCPU:8,DISK_GB:80'],
@@ -395,14 +395,14 @@ DRAWING = Case('a picture of a cloud is that of its tables', ['sh', '-c', 'pytho
 
 
 def reader_gone():
-    """The end of a pipe that nobody reads."""
+    """The writing end of a pipe that nobody reads."""
     read, write = os.pipe()
     os.close(read)
     return os.fdopen(write, 'wb')
 
 
 def run(case, seconds=SECONDS, program=PROGRAM):
-    """Returns what came on standard output and on standard error, and the status."""
+    """Runs a case, and returns what came on standard output and on standard error, and the status."""
     with tempfile.TemporaryDirectory() as folder, open(case.to or os.devnull, 'wb') as to, open(case.err_to or os.devnull, 'wb') as err_to:
         words = case.words if case.words[:1] == ['sh'] else [program, *case.words]
         gone = reader_gone() if case.closed else None
@@ -420,7 +420,7 @@ def differs(what, has, wanted):
 
 
 def wrong(case):
-    """Says how the program differs from the case, or None."""
+    """How the program differs from the case, or None."""
     try:
         out, err, status = run(case)
     except subprocess.TimeoutExpired:

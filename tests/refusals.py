@@ -1,11 +1,11 @@
 #!/usr/bin/env python3
-"""tests/refusals.py CRATE [MODULE]: runs each test of the crate's modules `refusals`, or of those below MODULE, again and again. Each run is refused
-one growth of its memory, the first, the second and so on, until a run needs no more. Such a test makes one call that takes memory: it passes where the
-call answers as it does with ample memory, or says want of memory, and fails where it answers anything else. Says which growth made which test fail, or
-how many growths there were.
+"""tests/refusals.py CRATE [MODULE]: runs each test of the crate's modules `refusals`, or of those below MODULE, again and again. In each run one memory
+allocation (a *growth*) is refused: the first, then the second and so on, until a run has no more. Such a test makes one call that takes memory. It
+passes if the call answers as with ample memory, or says that memory ran out, and fails if the call answers anything else. The script writes which growth
+made which test fail, or how many growths there were.
 
-A test named `.._takes_no_memory_to_go_on` asks for two growths of the size MARK. It is run once more with each growth from the first of them up to the
-second refused: it has to pass, and to have asked for these two alone.
+A test named `.._takes_no_memory_to_go_on` asks for two growths of the size MARK. It is run once more, and each growth from the first of the two up to
+the second is refused. It must pass, and must have asked for no growth between the two.
 
 The tests are those that were proved and built last, crates/CRATE/out/CRATE_tests: `rt ci` leaves them, and `rt test` makes them."""
 from __future__ import annotations
@@ -19,14 +19,14 @@ import tempfile
 
 from growths import MOST, refuser, run
 
-# The size that the tests' own MARK names.
+# The same size as MARK in the tests.
 MARK = 40961
 GOES_ON = '_takes_no_memory_to_go_on'
 ROOT = os.path.dirname(os.path.dirname(os.path.abspath(__file__)))
 
 
 def missing(crate, program):
-    """What is missing for these runs, or None."""
+    """What these runs need and isn't there, or None."""
     if not shutil.which('cc'):
         return 'there is no C compiler, cc, to make tests/refuse.c with'
     if not os.path.isfile(program):
@@ -44,7 +44,7 @@ def tests(program, module):
 
 
 def failed(program, name, library):
-    """The number of the growth without which the test fails, or None, and how many growths it has."""
+    """Why the test fails if one of its growths is refused, or None; and how many growths it has."""
     for number in range(MOST):
         _, err, status, refused = run([program, name], library, number)
         if status != 0:
@@ -55,7 +55,7 @@ def failed(program, name, library):
 
 
 def took(program, name, library):
-    """What a test did where it was to take no memory, or None."""
+    """What a test did that must take no memory, or None if it took none."""
     _, err, status, refused = run([program, name], library, 0, MARK)
     if status != 0:
         return f'{name} fails where each growth between its marks is refused: {err[-300:]!r}'

@@ -1,6 +1,6 @@
-/* Put before a program by LD_PRELOAD, this refuses the growth of memory whose number stands in REFUSE, counted from 1; and each growth from one of
-   the size in REFUSE_BETWEEN up to the next of this size, both of them too. It grants all others, and says on the descriptor in REFUSED how often it
-   has refused, by a byte each time. */
+/* LD_PRELOAD puts this library before a program. It refuses the memory allocation whose number is in REFUSE, counted from 1, and all allocations from
+   one of the size in REFUSE_BETWEEN up to the next of that size, both included. It grants all others. For each one that it refuses, it writes a byte to
+   the descriptor in REFUSED. */
 #include <stddef.h>
 #include <stdlib.h>
 #include <unistd.h>
