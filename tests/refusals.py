@@ -1,8 +1,8 @@
 #!/usr/bin/env python3
 """tests/refusals.py CRATE [MODULE]: runs each test of the crate's modules `refusals`, or of those below MODULE, again and again. In each run one memory
 allocation (a *growth*) is refused: the first, then the second and so on, until a run has no more. Such a test makes one call that takes memory. It
-passes if the call answers as with ample memory, or says that memory ran out, and fails if the call answers anything else. The script writes which growth
-made which test fail, or how many growths there were.
+passes if the call answers as with ample memory, or says that memory ran out, and fails if the call answers anything else. The script writes which
+growth made which test fail, or how many growths there were.
 
 A test named `.._takes_no_memory_to_go_on` asks for two growths of the size MARK. It is run once more, and each growth from the first of the two up to
 the second is refused. It must pass, and must have asked for no growth between the two.
