@@ -2,3 +2,7 @@
 //!
 //! It stands on the rules alone, and searches nothing.
 #![tactic(auto)]
+
+pub mod differing;
+
+pub use differing::{Difference, all_differences, applies};
