@@ -154,10 +154,10 @@ gives_no_resources all asked =
 
 -- ---- Capacities
 
--- The capacity is a whole number before it is rounded, and no multiple of a 64th is the ratio: so binary fractions don't hold the ratio exactly, and in
--- floating point the capacity may be a little less.
+-- The ratio is no whole number of 64ths, so binary fractions don't hold it exactly; and the capacity is a whole number before it is rounded. So in
+-- floating point it may be a little less.
 abbrev pub may_fall_short : InventoryNumbers → Bool
-may_fall_short i = ((i.total - i.reserved) * i.ratio % 1000000 == 0) && not (i.ratio % 15625 == 0)
+may_fall_short i = not (i.ratio % 15625 == 0) && ((i.total - i.reserved) * i.ratio % 1000000 == 0)
 
 -- what slots ask of a class
 abbrev pub total_of : List Slot → List ℕ → ℕ
@@ -174,9 +174,9 @@ abbrev pub takes_last : List Provider → Asked → ℕ → List ℕ × ℕ → 
 takes_last all asked p need =
     may_take_last (inventory_of (provider_at all p) need.0) (used_of (provider_at all p) need.0) need.1 (total_of (slots_of asked) need.0)
 
--- it meets the rules of its slot, and may give the last unit of one of the slot's classes
+-- it may give the last unit of one of its slot's classes, and meets the slot's rules
 abbrev pub gives_last : List Provider → Asked → Placed → Bool
-gives_last all asked x = fits all x && list_any (takes_last all asked x.provider) x.slot.needs
+gives_last all asked x = list_any (takes_last all asked x.provider) x.slot.needs && fits all x
 
 unfoldable pub takes_last_unit : List Provider → Asked → Bool
 takes_last_unit all asked = list_any (λ s. some_provider all asked s (gives_last all asked)) (slot_places asked)

@@ -1,5 +1,5 @@
 //! Capacities that are less in floating point, where a query may take their last unit.
-ghost use Rattle.std.specs.Prelude.{◌≡◌, ◌-◌, ◌<◌, length, map};
+ghost use Rattle.std.specs.Prelude.{◌≡◌, ◌-◌, ◌<◌, ◌&&◌, length, map, nat_le};
 ghost use Rattle.std.specs.List.{list_any};
 ghost use Rattle.ac_base.specs.Names.{class_bytes};
 ghost use Rattle.ac_cloud.specs.Cloud.CloudWorld.{providers_of};
@@ -22,7 +22,7 @@ fn may_fall_short(inventory: &Inventory) -> bool
 {
     let free = u128::from(inventory.total().saturating_sub(inventory.reserved()));
     let millionths = u128::from(inventory.ratio().millionths());
-    free * millionths % 1_000_000 == 0 && millionths % 15_625 != 0
+    millionths % 15_625 != 0 && free * millionths % 1_000_000 == 0
 }
 
 // What is left of an amount after what needs ask of a class; 0 where they ask for more.
@@ -49,7 +49,15 @@ fn without_all(query: &Query, class: &ClassName, amount: u64) -> u64
     left
 }
 
-// Whether what is left of such an inventory suffices for a need, and all slots together ask for all of it.
+// Whether what is left of a class suffices for a need, and all slots together ask for all of it.
+fn takes_all(query: &Query, need: &Need, left: u64) -> bool
+    ensures { result ≡ (nat_le (need_entry need.now).1 left
+        && nat_le left (total_of (slots_of (asked_of query.now)) (need_entry need.now).0)) }
+{
+    u64::from(need.amount()) <= left && without_all(query, need.class(), left) == 0
+}
+
+// Whether that is so of an inventory that may fall short.
 fn takes_last(cloud: &Cloud, query: &Query, ix: u32, need: &Need) -> bool
     requires { ix < length (providers_of cloud.now) }
     ensures { result ≡ takes_last (providers_of cloud.now) (asked_of query.now) ix
@@ -58,11 +66,11 @@ fn takes_last(cloud: &Cloud, query: &Query, ix: u32, need: &Need) -> bool
     let Some(inventory) = cloud.inventory(ix, need.class()) else {
         return false;
     };
+    if !may_fall_short(inventory) {
+        return false;
+    }
     let used = u64::from(cloud.used(ix, need.class()));
-    let left = inventory.capacity().saturating_sub(used);
-    may_fall_short(inventory)
-        && u64::from(need.amount()) <= left
-        && without_all(query, need.class(), left) == 0
+    takes_all(query, need, inventory.capacity().saturating_sub(used))
 }
 
 // Whether a slot has such a need.
@@ -84,7 +92,7 @@ fn gives_last(cloud: &Cloud, query: &Query, s: usize, ix: u32) -> bool
     ensures { result ≡ gives_last (providers_of cloud.now) (asked_of query.now)
         (placed_at (asked_of query.now) s ix) }
 {
-    fits(cloud, query, s, ix) && takes_last_of(cloud, query, s, ix)
+    takes_last_of(cloud, query, s, ix) && fits(cloud, query, s, ix)
 }
 
 // Whether some provider does.
