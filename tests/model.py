@@ -202,7 +202,7 @@ def explanation(found, query, cloud):
         *(provider.traits for suffix, last in served if not suffix for provider in last if available(provider, root, cloud))))]
     told.append(f'trees {len(roots)}: root traits {len(taken)}, each slot {len(whole)}, required traits {len(held)}')
     told.append(f'candidates: {"some" if found else "none"}')
-    told += [differs(words) for words, concerns in zip(headings(), concerned(query, cloud), strict=True) if concerns]
+    told += [difference_line(words) for words, concerns in zip(headings(), concerned(query, cloud), strict=True) if concerns]
     return ''.join(line + '\n' for line in told)
 
 
@@ -219,7 +219,7 @@ def headings():
     return [words_of(heading) for part in parts for heading in re.findall('^### (.*)$', part, re.M)]
 
 
-def differs(words):
+def difference_line(words):
     return f'differs: {words} (docs/DIFFERENCES.md)'
 
 

@@ -23,7 +23,7 @@ from export import exports
 from faults import drawn_queries, drawn_tables
 from hostile import hostile
 from large import LARGE, MOST_PROVIDERS, QUERY_BYTES, roots, vcpu
-from model import differs, drawn, headings, words_of
+from model import difference_line, drawn, headings, words_of
 from notation import HEADERS, provider
 from try_with_service import answers, differences, short, told
 
@@ -377,7 +377,7 @@ def named(heading, cloud, query, said, lacks, others):
     out, _, status = run(Case('', ['candidates', query], tables=cloud))
     if status or (told(200, json.loads(out), query) in answers(said) and not lacks):
         return ''
-    return ''.join(differs(words) + '\n' for words in headings() if words in (words_of(heading), *others))
+    return ''.join(difference_line(words) + '\n' for words in headings() if words in (words_of(heading), *others))
 
 
 def concerned():
