@@ -4,7 +4,9 @@ from __future__ import annotations
 
 import itertools
 import json
+import os
 import random
+import re
 from dataclasses import dataclass, field
 
 from cases import Case, full, lines, tables
@@ -15,6 +17,7 @@ TRAITS = 'CUSTOM_A', 'CUSTOM_B'
 AGGREGATES = 'A1', 'A2'
 SHARES = 'MISC_SHARES_VIA_AGGREGATE'
 SUFFIXES = '1', '10', '2', '_NET', 'a'
+DIFFERENCES = os.path.join(os.path.dirname(os.path.dirname(os.path.abspath(__file__))), 'docs', 'DIFFERENCES.md')
 
 
 @dataclass
@@ -83,6 +86,7 @@ class Group:
 class Query:
     groups: dict  # groups by their suffixes; the one without a suffix is under the empty text
     isolate: bool = False
+    told: bool = True  # whether the policy is told
     subtrees: list = field(default_factory=list)
     root_required: set = field(default_factory=set)
     root_forbidden: set = field(default_factory=set)
@@ -97,7 +101,8 @@ class Query:
         pairs += [('same_subtree', ','.join(listed)) for listed in self.subtrees]
         if self.root_required or self.root_forbidden:
             pairs.append(('root_required', traits_text(self.root_required, self.root_forbidden)))
-        pairs.append(('group_policy', 'isolate' if self.isolate else 'none'))
+        if self.told:
+            pairs.append(('group_policy', 'isolate' if self.isolate else 'none'))
         return '&'.join(f'{name}={value}' for name, value in chance.sample(pairs, len(pairs)))
 
 
@@ -197,7 +202,79 @@ def explanation(found, query, cloud):
         *(provider.traits for suffix, last in served if not suffix for provider in last if available(provider, root, cloud))))]
     told.append(f'trees {len(roots)}: root traits {len(taken)}, each slot {len(whole)}, required traits {len(held)}')
     told.append(f'candidates: {"some" if found else "none"}')
+    told += [difference_line(words) for words, concerns in zip(headings(), concerned(query, cloud), strict=True) if concerns]
     return ''.join(line + '\n' for line in told)
+
+
+def words_of(heading):
+    """What `explain` calls a difference that stands under this heading."""
+    plain = heading.replace('`', '')
+    return plain[0].lower() + plain[1:]
+
+
+def headings():
+    """What it calls those of the first two parts of docs/DIFFERENCES.md, in their order."""
+    with open(DIFFERENCES, encoding='utf-8') as page:
+        parts = re.split('^## ', page.read(), flags=re.M)[1:3]
+    return [words_of(heading) for part in parts for heading in re.findall('^### (.*)$', part, re.M)]
+
+
+def difference_line(words):
+    return f'differs: {words} (docs/DIFFERENCES.md)'
+
+
+def meets_rules(aggregates, group):
+    return all(bool(aggregates & set(listed)) != forbids for forbids, listed in group.rules)
+
+
+def falls_short(has):
+    """Whether the exact capacity is whole before it is rounded, and no 64ths make the ratio."""
+    return (has.total - has.reserved) * has.ratio % 1000000 == 0 and has.ratio * 64 % 1000000 != 0
+
+
+def takes_last(provider, needs, query):
+    """Whether a slot has room for a class whose last unit the query may take, in an inventory that may fall short of it."""
+    for name, amount in needs.items():
+        has = provider.has[name]
+        asked = sum(group.needs.get(name, 0) for group in query.groups.values())
+        if falls_short(has) and amount <= has.capacity() - has.used <= asked:
+            return True
+    return False
+
+
+def concerned(query, cloud):
+    """Whether the service may answer otherwise, for each of these headings."""
+    fitting = [(suffix, needs, query.groups[suffix], [provider for provider in cloud if not list(broken_by_one(provider, suffix, needs, query, cloud))])
+               for suffix, needs in query.slots()]
+    plain = [(needs, group, some) for suffix, needs, group, some in fitting if not suffix]
+    free = [(needs, group, some) for needs, group, some in plain if not group.tree]
+    suffixes = [suffix for suffix in query.groups if suffix]
+    bare = [group for group in query.groups.values() if not group.needs]
+    asking = [group for group in bare if group.required or group.any_of or not all(forbids for forbids, _ in group.rules)]
+
+    def lent(some):
+        return [provider for provider in some if SHARES in provider.traits]
+
+    def beside(needs, aggregates):
+        """Whether a sharing provider outside these aggregates has what a slot asks for, and a root is in them."""
+        return any(root.root() is root and root.aggregates & aggregates for root in cloud) and any(
+            not provider.aggregates & aggregates and not {'Units', 'SlotTraits'} & set(broken_by_one(provider, '', needs, query, cloud)) for provider in lent(cloud))
+
+    yield not (query.told and not query.isolate) and '' in query.groups and any(
+        set(query.groups[suffix].needs) & set(query.groups[''].needs) for suffix in suffixes)
+    yield bool(suffixes and plain) and len(free) == len(plain) and all(lent(some) for _, _, some in plain)
+    yield any(provider.parent and meets_rules(provider.aggregates, group) for _, group, some in free for provider in lent(some))
+    yield any(group not in asking for group in bare)
+    yield any(group.tree for group in asking)
+    yield not query.told and len(suffixes) > 1
+    yield query.isolate and bool(bare) and len(suffixes) > 1
+    yield any(not meets_rules(provider.aggregates, group) and not meets_rules(provider.root().aggregates, group)
+              for _, group, some in plain for provider in some)
+    yield any(forbids and beside(needs, set(listed)) for needs, group, _ in free for forbids, listed in group.rules)
+    yield any(not meets_rules(provider.aggregates, group) for _, group, some in free for provider in lent(some))
+    yield any(group.tree and lent(some) for _, group, some in plain)
+    yield any(takes_last(provider, needs, query) for _, needs, _, some in fitting for provider in some)
+    yield bool(bare) and (any(lent(some) for _, needs, _, some in fitting if not needs) or all(lent(some) for _, needs, _, some in fitting if needs))
 
 
 STAGES = 'units', 'traits', 'aggregates', 'tree', 'room'
@@ -259,9 +336,9 @@ def some(chance, values, most):
 
 
 def draw_inventory(chance):
-    total = chance.choice((2, 4, 8))
+    total = chance.choice((2, 4, 5, 8))
     return Inventory(total, chance.choice((0, 0, 1)), chance.choice((1, 1, 1, 1, 2)), chance.choice((total, total, 3)),
-                     chance.choice((1, 1, 1, 1, 2)), chance.choice((1000000, 1500000, 999999, 2000000)), chance.choice((0, 0, 1, 2)))
+                     chance.choice((1, 1, 1, 1, 2)), chance.choice((1000000, 1500000, 1200000, 999999, 2000000)), chance.choice((0, 0, 1, 2)))
 
 
 def fill(inventory, chance):
@@ -307,7 +384,9 @@ def draw_query(chance):
         else:
             subtrees.append(suffixes)
     root = set(some(chance, TRAITS, 1)) if chance.random() < 0.2 else set()
-    return Query(groups, chance.random() < 0.4, subtrees, root, set(some(chance, TRAITS, 1)) - root if chance.random() < 0.2 else set())
+    isolate = chance.random() < 0.4
+    told = isolate or sum(bool(groups[suffix].needs) for suffix in suffixes) > 1 or chance.random() < 0.6
+    return Query(groups, isolate, told, subtrees, root, set(some(chance, TRAITS, 1)) - root if chance.random() < 0.2 else set())
 
 
 def names(assignment):

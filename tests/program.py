@@ -5,6 +5,7 @@ With a word, it runs only the cases whose names contain it. With --all, it also 
 The last line is `N passed, M failed`, and the status is 0 only if M is 0."""
 from __future__ import annotations
 
+import json
 import os
 import re
 import shlex
@@ -14,6 +15,7 @@ import tempfile
 from concurrent.futures import ThreadPoolExecutor
 
 sys.dont_write_bytecode = True
+sys.path.append(os.path.join(os.path.dirname(os.path.dirname(os.path.abspath(__file__))), 'tools'))
 
 from cases import CHILD, ONE, SHARED, SMALL, SOME, Case, cuts, full, lines, tables
 from database import database_exports
@@ -21,8 +23,9 @@ from export import exports
 from faults import drawn_queries, drawn_tables
 from hostile import hostile
 from large import LARGE, MOST_PROVIDERS, QUERY_BYTES, roots, vcpu
-from model import drawn
+from model import difference_line, drawn, headings, words_of
 from notation import HEADERS, provider
+from try_with_service import answers, differences, short, told
 
 ROOT = os.path.dirname(os.path.dirname(os.path.abspath(__file__)))
 # ./ac_cli looks at every source before it runs the program. So it is called only once, and for the commands that the pages show.
@@ -319,7 +322,7 @@ KNOWN = Case('a fault is told though a growth behind it is refused', ['sh', '-c'
 
 def status_of(text):
     """The status that goes with an answer or a fault line."""
-    if text.endswith('candidates: none\n'):
+    if re.search('^candidates: none$', text, re.M):
         return 1
     return next((status for start, status in STATUSES.items() if text.startswith(start)), 0)
 
@@ -366,6 +369,23 @@ def ruled(page):
             else:
                 after = ['--after', full(names.pop(0))] if ' after `' in line else []
                 yield Case(f'{page}: {line}', ['tokens', *words['tokens'], *after, *version], lines(*names), tables=tables(cloud))
+
+
+def named(heading, cloud, query, said, lacks, others):
+    """What `explain` is to say of a query that stands under a heading of docs/DIFFERENCES.md: nothing where the service answers as the program, or
+    where the query is refused."""
+    out, _, status = run(Case('', ['candidates', query], tables=cloud))
+    if status or (told(200, json.loads(out), query) in answers(said) and not lacks):
+        return ''
+    return ''.join(difference_line(words) + '\n' for words in headings() if words in (words_of(heading), *others))
+
+
+def concerned():
+    """`explain` names the heading that each query of docs/DIFFERENCES.md stands under, where the service answers otherwise, and no other."""
+    for one in differences('mariadb'):
+        heading, cloud, query, *_ = one
+        yield Case(f'docs/DIFFERENCES.md: {heading}: explain {short(query)}', ['sh', '-c', '"$@" 2>/dev/null | grep "^differs: " || true', 'differs', PROGRAM, 'explain', query],
+                   lambda one=one: named(*one), tables=cloud)
 
 
 def files(case, folder):
@@ -451,7 +471,7 @@ def main(*given):
     chance = [*drawn(150), *drawn_tables(200), *drawn_queries(200)]
     linked = STATIC if os.path.isfile(os.path.join(ROOT, 'out', 'ac_cli.o')) and 'AC_CLI' not in os.environ else []
     cases = [PAGES, DRAWING, *linked, *HELP, *WORDS, *FILES, *FOLDERS, *PASTED, *DEVICES, *GROWTHS, KNOWN, *REFUSALS, *SMALL, *pages, remade('examples/private/README.md'),
-             *rules, *exports(), *database_exports(), *chance, *LARGE, *hostile(PROGRAM), FEW_BYTES, *cuts()]
+             *rules, *concerned(), *exports(), *database_exports(), *chance, *LARGE, *hostile(PROGRAM), FEW_BYTES, *cuts()]
     cases = [case for case in cases if all(word in case.name for word in words)]
     failed = 0
     with ThreadPoolExecutor(max_workers=2) as pool:

@@ -277,8 +277,8 @@ def answers(said):
 
 
 def differences(database):
-    """The examples of docs/DIFFERENCES.md: the heading, the cloud, a query, what the service must answer over this database, and which providers
-    must be missing from its summaries."""
+    """The examples of docs/DIFFERENCES.md: the heading, the cloud, a query, what the service must answer over this database, which providers must be
+    missing from its summaries, and what `explain` names beside the heading."""
     with open(PAGE, encoding='utf-8') as file:
         page = file.read()
     for part in re.split('^##+ ', page, flags=re.M)[1:]:
@@ -286,8 +286,8 @@ def differences(database):
             cloud = tables_of('\n'.join(row.strip('|') for row in table[1].splitlines()))
             for one in re.finditer(r'^- `([^`]*)`.*\n((?:  .*\n)+)', table[2], re.M):
                 said = dict(re.findall(r'^  - ([^:]*): (.*)$', one[2], re.M))
-                lacks = re.findall('`(.*?)`', said.get('missing in its summaries', ''))
-                yield part.splitlines()[0], cloud, full(one[1]), said.get(f'the service over {database}', said['the service']), lacks
+                lacks, others = (re.findall('`(.*?)`', said.get(key, '')) for key in ('missing in its summaries', '`explain` also names'))
+                yield part.splitlines()[0], cloud, full(one[1]), said.get(f'the service over {database}', said['the service']), lacks, others
 
 
 class Trial:
@@ -407,7 +407,7 @@ class Trial:
     def differ(self):
         """Tries whether the service answers as docs/DIFFERENCES.md says."""
         filled = None
-        for heading, cloud, query, said, lacks in differences(self.name):
+        for heading, cloud, query, said, lacks, _ in differences(self.name):
             if cloud != filled:
                 self.service.fill({name: read(text) for name, text in cloud.items()})
                 filled = cloud

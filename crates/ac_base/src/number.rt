@@ -118,7 +118,8 @@ impl Ratio {
         }
     }
 
-    pub(crate) fn millionths(self) -> u64
+    /// The ratio in millionths, 0 to 1000000000000.
+    pub fn millionths(self) -> u64
         ensures value { result ≡ self }
         ensures bound { result ≤ greatest_ratio }
     {

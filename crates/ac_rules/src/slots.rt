@@ -46,7 +46,7 @@ pub fn needs_at(query: &Query, s: usize) -> &[Need]
 }
 
 /// Whether a slot is a suffixed group's.
-pub(crate) fn is_suffixed(query: &Query, s: usize) -> bool
+pub fn is_suffixed(query: &Query, s: usize) -> bool
     requires { s < length (slots_of (asked_of query.now)) }
     ensures { result ≡ is_some (slot_at (asked_of query.now) s).suffix }
 {

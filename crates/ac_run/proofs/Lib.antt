@@ -10,3 +10,4 @@ pub mod Attempted
 pub mod Told
 pub mod HandedOn
 pub mod HostsWritten
+pub mod DifferencesWritten

@@ -17,6 +17,7 @@ ghost use Rattle.ac_run.specs.Run.{IsWritten};
 
 use self::host_rows::{hosts_status, hosts_text};
 use crate::asking::Wanted;
+use crate::explanation::differing::push_differences;
 use crate::explanation::{explanation_status, has_candidate, push_explanation};
 use crate::outputs::{push_counts, verdict_status, verdict_text};
 use ac_base::{NoMemory, Sink, push_all};
@@ -138,8 +139,8 @@ fn write_verdict<W: Sink>(
     }
 }
 
-// How far a query comes, and whether it has a candidate.
-#[tactic(auto, unfolding(crate::specs::Explanation::explanation_text))]
+// How far a query comes, whether it has a candidate, and where the service may answer otherwise.
+#[tactic(auto, using(ac_base::proofs::Leaving::appends_both, ac_base::proofs::Leaving::part_of_first, ac_base::proofs::Leaving::part_of_second), unfolding(crate::specs::Explanation::explanation_text))]
 fn write_explanation<W: Sink>(
     alloc: Global,
     cloud: &Cloud,
@@ -160,6 +161,7 @@ fn write_explanation<W: Sink>(
     let trees = tree_counts(alloc, cloud, query)?;
     let found = has_candidate(alloc, cloud, query, &trees)?;
     push_explanation(out, cloud, query, &slots, &trees, found)?;
+    push_differences(out, cloud, query)?;
     Ok(explanation_status(found))
 }
 

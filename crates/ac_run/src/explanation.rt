@@ -12,6 +12,8 @@ ghost use Rattle.ac_rules.specs.Placed.{slot_at};
 ghost use Rattle.ac_run.specs.Explanation.{candidates_line, each_room, explanation_status, has_candidate, need_text, needs_text, room_mark, room_text, slot_counted, slot_end, slot_line, slot_lines, slot_name, trees_line};
 ghost use Rattle.ac_run.specs.Lines.{printed};
 
+pub mod differing;
+
 use crate::pieces::digits::Digits;
 use crate::pieces::push_pieces;
 use ac_base::{NoMemory, Sink, WriteFailed, push_all};

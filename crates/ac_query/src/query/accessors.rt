@@ -70,6 +70,13 @@ impl Query {
         self.limit
     }
 
+    /// The policy, where one is given: whether suffixed groups with resources are to have different providers.
+    pub fn policy(&self) -> Option<bool>
+        ensures { result ≡ (asked_of self.now).policy }
+    {
+        self.policy
+    }
+
     /// Whether suffixed groups with resources are to have different providers.
     pub fn isolate(&self) -> bool
         ensures { result ≡ is_isolated (asked_of self.now) }

@@ -28,7 +28,8 @@ const FOUND: &[Case] = &[
         output: "slot 1 \"_NUMA\": units 4 of 4, traits 2, aggregates 2, tree 2, room 2\n\
                     slot 2 \"_PF\" VCPU:1: units 1 of 4, traits 1, aggregates 1, tree 1, room 1\n\
                     trees 1: root traits 1, each slot 1, required traits 1\n\
-                    candidates: some\n",
+                    candidates: some\n\
+                    differs: when a policy is needed (docs/DIFFERENCES.md)\n",
         ..SOME
     },
     // A group with two classes is one slot; one without a suffix has a slot for each.
@@ -42,7 +43,8 @@ const FOUND: &[Case] = &[
                     slot 2 \"\" VCPU:1: units 1 of 1, traits 1, aggregates 1, tree 1, room 1\n\
                     slot 3 \"_A\" MEMORY_MB:4,VCPU:3: units 1 of 1, traits 1, aggregates 1, tree 1, room 1\n\
                     trees 1: root traits 1, each slot 1, required traits 1\n\
-                    candidates: some\n",
+                    candidates: some\n\
+                    differs: amounts of two groups are mixed up (docs/DIFFERENCES.md)\n",
         ..SOME
     },
 ];
