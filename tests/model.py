@@ -98,7 +98,10 @@ class Query:
         if self.root_required or self.root_forbidden:
             pairs.append(('root_required', traits_text(self.root_required, self.root_forbidden)))
         pairs.append(('group_policy', 'isolate' if self.isolate else 'none'))
-        return '&'.join(f'{name}={value}' for name, value in chance.sample(pairs, len(pairs)))
+        drawn_pairs = chance.sample(pairs, len(pairs))
+        for suffix, group in self.groups.items():  # lists of traits stay in the order of their pairs
+            group.any_of.sort(key=lambda listed: drawn_pairs.index((f'required{suffix}', 'in:' + ','.join(listed))))
+        return '&'.join(f'{name}={value}' for name, value in drawn_pairs)
 
 
 def traits_text(required, forbidden):
@@ -196,8 +199,31 @@ def explanation(found, query, cloud):
     held = [root for root in whole if '' not in query.groups or meets(query.groups[''], set().union(
         *(provider.traits for suffix, last in served if not suffix for provider in last if available(provider, root, cloud))))]
     told.append(f'trees {len(roots)}: root traits {len(taken)}, each slot {len(whole)}, required traits {len(held)}')
+    told += nobody(query, cloud)
     told.append(f'candidates: {"some" if found else "none"}')
     return ''.join(line + '\n' for line in told)
+
+
+def nobody(query, cloud):
+    """A line for each thing that a query asks for and nobody has, or no root."""
+    for _, group in sorted(query.groups.items()):
+        for name in sorted(group.needs):
+            if not any(name in provider.has for provider in cloud):
+                yield f'nobody has {name}'
+        for name in sorted(group.required):
+            if not any(name in provider.traits for provider in cloud):
+                yield f'nobody has {name}'
+        for listed in group.any_of:
+            if not any(set(listed) & provider.traits for provider in cloud):
+                yield f'nobody has one of {",".join(sorted(listed))}'
+        for forbids, aggregates in group.rules:
+            if not forbids and not any(set(aggregates) & provider.aggregates for provider in cloud):
+                yield f'nobody is in member_of={"in:" * (len(aggregates) > 1)}{",".join(aggregates)}'
+        if group.tree and not any(provider.name == group.tree for provider in cloud):
+            yield f'nobody has in_tree={group.tree}'
+    for name in sorted(query.root_required):
+        if not any(name in root.traits for root in cloud if root.root() is root):
+            yield f'no root has {name}'
 
 
 STAGES = 'units', 'traits', 'aggregates', 'tree', 'room'
@@ -342,6 +368,6 @@ def asked(name, chance, cloud, query, every, judged):
     yield Case(f'{name}: tokens', ['tokens', text, *version], lines(*map(names, found)), tables=made)
     yield Case(f'{name}: candidates', ['candidates', text, *version], full(body(found, query, cloud)), tables=made)
     yield Case(f'{name}: candidates after a token', ['candidates', text + '&limit=2', *after, *version], full(body(later, query, cloud)), tables=made)
-    yield Case(f'{name}: explain', ['explain', text, *version], explanation(found, query, cloud), status=0 if found else 1, tables=made)
+    yield Case(f'{name}: explain', ['explain', text, *version], full(explanation(found, query, cloud)), status=0 if found else 1, tables=made)
     yield Case(f'{name}: hosts', ['hosts', text, *version], full(host_rows(found, query, cloud)), status=0 if found else 1, tables=made)
     yield Case(f'{name}: verify', ['verify', text, full(names(every[one])), *version], line, status=1 if rule else 0, tables=made)

@@ -2,3 +2,10 @@
 //!
 //! It stands on the rules alone, and searches nothing.
 #![tactic(auto)]
+
+pub mod missing;
+
+pub use missing::{
+    some_root_has, somebody_has_class, somebody_has_one, somebody_has_trait, somebody_is,
+    somebody_is_in,
+};

@@ -1,4 +1,5 @@
--- The text of an explanation: a line for each slot, one for the trees, and whether there is a candidate.
+-- The text of an explanation: a line for each slot, one for the trees, what nobody has, and whether there is a candidate.
+pub mod Nobody
 use Rattle.std.specs.Prelude.{ℕ, ◌+◌, ◌==◌, Bool, true, false, not, if◌then◌else◌, List, [], ◌∷◌, ◌++◌, get_or, length, codes}
 use Rattle.std.specs.Fmt.{decimal}
 use Rattle.std.specs.List.{flat_map, range_with_len}
@@ -8,6 +9,7 @@ use Rattle.ac_search.specs.Explained.{SlotCounts, SlotTold, TreeCounts, slot_tol
 use Rattle.ac_rules.specs.Pages.{candidates}
 use Rattle.ac_rules.specs.Placed.{slot_at}
 use Rattle.ac_rules.specs.Together.{is_empty}
+use Rattle.ac_run.specs.Explanation.Nobody.{nobody_lines}
 use Rattle.ac_run.specs.Lines.{newline, printed, said}
 
 -- ---- A slot
@@ -74,7 +76,8 @@ candidates_line false = codes "candidates: none\n"
 -- ---- The explanation
 
 unfoldable pub explanation_text : List Provider → Asked → Bool → List ℕ
-explanation_text all asked found = slot_lines all asked ++ (trees_line (tree_counts all asked) ++ candidates_line found)
+explanation_text all asked found =
+    slot_lines all asked ++ (trees_line (tree_counts all asked) ++ (nobody_lines all asked ++ candidates_line found))
 
 abbrev pub explanation_status : Bool → ℕ
 explanation_status true = 0

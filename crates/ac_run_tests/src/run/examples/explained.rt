@@ -1,6 +1,7 @@
 //! Explanations of the smallest clouds: one for each way in which a query finds nothing, with the hand count beside each.
 use super::{Case, NODES, OLD, TOKENS, UNDER_A_NODE, check};
 use crate::run::{ONE, Rows};
+use ac_query::Version;
 use ac_run::Command;
 use std::test::Fail;
 
@@ -110,6 +111,7 @@ const A_SLOT_ALONE: &[Case] = &[
         query: "resources_A=VCPU:2&required_A=CUSTOM_A",
         output: "slot 1 \"_A\" VCPU:2: units 1 of 1, traits 0, aggregates 0, tree 0, room 0\n\
                     trees 1: root traits 1, each slot 0, required traits 0\n\
+                    nobody has CUSTOM_A\n\
                     candidates: none\n",
         ..NONE
     },
@@ -118,6 +120,7 @@ const A_SLOT_ALONE: &[Case] = &[
         query: "resources=VCPU:2&member_of=@a",
         output: "slot 1 \"\" VCPU:2: units 1 of 1, traits 1, aggregates 0, tree 0, room 0\n\
                     trees 1: root traits 1, each slot 0, required traits 0\n\
+                    nobody is in member_of=@a\n\
                     candidates: none\n",
         ..NONE
     },
@@ -158,6 +161,7 @@ const NO_TREE: &[Case] = &[
         query: "resources=VCPU:2&root_required=CUSTOM_R",
         output: "slot 1 \"\" VCPU:2: units 1 of 1, traits 1, aggregates 1, tree 1, room 1\n\
                     trees 1: root traits 0, each slot 0, required traits 0\n\
+                    no root has CUSTOM_R\n\
                     candidates: none\n",
         ..NONE
     },
@@ -222,6 +226,7 @@ const NO_TRAIT: &[Case] = &[
         query: "resources=VCPU:2&required=CUSTOM_A",
         output: "slot 1 \"\" VCPU:2: units 1 of 1, traits 1, aggregates 1, tree 1, room 1\n\
                     trees 1: root traits 1, each slot 1, required traits 0\n\
+                    nobody has CUSTOM_A\n\
                     candidates: none\n",
         ..NONE
     },
@@ -239,6 +244,73 @@ const NO_TRAIT: &[Case] = &[
 #[test]
 fn no_trait(rt: HostRuntime) -> Result<(), Fail> {
     check(&rt, NO_TRAIT)
+}
+
+// The first gives units. Of the second tree the root has a trait, and the child below it a class, a trait and an aggregate.
+const SPREAD: Rows = Rows {
+    providers: "@1,@1,\n@2,@2,\n@3,@2,@2\n",
+    inventories: "@1,VCPU,8,0,1,8,1,1.0\n@3,CUSTOM_X,8,0,1,8,1,1.0\n",
+    traits: "@2,CUSTOM_A\n@3,CUSTOM_C\n",
+    aggregates: "@3,@b\n",
+    ..ONE
+};
+
+// What nobody has stands in a line of its own, group by group, and then what no root has.
+const NOBODY: &[Case] = &[
+    // A class, a trait, one of two traits, one of two aggregates, a UUID, and a trait of the root. What is forbidden isn't missed.
+    Case {
+        query: "resources=VCPU:2,CUSTOM_X:1&required=CUSTOM_A,!CUSTOM_F&required=in:CUSTOM_C,CUSTOM_B&member_of=in:@b,@a&in_tree=@9\
+                    &root_required=CUSTOM_R,!CUSTOM_S",
+        version: Version::V139,
+        output: "slot 1 \"\" CUSTOM_X:1: units 0 of 1, traits 0, aggregates 0, tree 0, room 0\n\
+                    slot 2 \"\" VCPU:2: units 1 of 1, traits 1, aggregates 0, tree 0, room 0\n\
+                    trees 1: root traits 0, each slot 0, required traits 0\n\
+                    nobody has CUSTOM_X\n\
+                    nobody has CUSTOM_A\n\
+                    nobody has one of CUSTOM_B,CUSTOM_C\n\
+                    nobody is in member_of=in:@b,@a\n\
+                    nobody has in_tree=@9\n\
+                    no root has CUSTOM_R\n\
+                    candidates: none\n",
+        ..NONE
+    },
+    // Somebody has each of these, if not the one that gives units; but the trait of the root is that of a child.
+    Case {
+        rows: SPREAD,
+        query: "resources=VCPU:2,CUSTOM_X:1&required=CUSTOM_A&required=in:CUSTOM_B,CUSTOM_C&member_of=in:@a,@b&in_tree=@3&root_required=CUSTOM_C",
+        version: Version::V139,
+        output: "slot 1 \"\" CUSTOM_X:1: units 1 of 3, traits 1, aggregates 1, tree 1, room 1\n\
+                    slot 2 \"\" VCPU:2: units 1 of 3, traits 1, aggregates 0, tree 0, room 0\n\
+                    trees 2: root traits 0, each slot 0, required traits 0\n\
+                    no root has CUSTOM_C\n\
+                    candidates: none\n",
+        ..NONE
+    },
+    // What two groups ask for is told of each.
+    Case {
+        query: "resources_A=VCPU:1&required_A=CUSTOM_A&resources_B=VCPU:1&required_B=CUSTOM_A&in_tree_B=@2&group_policy=none",
+        output: "slot 1 \"_A\" VCPU:1: units 1 of 1, traits 0, aggregates 0, tree 0, room 0\n\
+                    slot 2 \"_B\" VCPU:1: units 1 of 1, traits 0, aggregates 0, tree 0, room 0\n\
+                    trees 1: root traits 1, each slot 0, required traits 0\n\
+                    nobody has CUSTOM_A\n\
+                    nobody has CUSTOM_A\n\
+                    nobody has in_tree=@2\n\
+                    candidates: none\n",
+        ..NONE
+    },
+    // An aggregate that is forbidden isn't missed.
+    Case {
+        query: "resources=VCPU:2&member_of=!@a",
+        output: "slot 1 \"\" VCPU:2: units 1 of 1, traits 1, aggregates 1, tree 1, room 1\n\
+                    trees 1: root traits 1, each slot 1, required traits 1\n\
+                    candidates: some\n",
+        ..SOME
+    },
+];
+
+#[test]
+fn nobody(rt: HostRuntime) -> Result<(), Fail> {
+    check(&rt, NOBODY)
 }
 
 // A tree has a provider for each slot, but not for all slots together.
