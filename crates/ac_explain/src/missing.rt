@@ -1,13 +1,14 @@
 //! What nobody in a cloud has, and no root: each test goes through all providers once, and takes no memory.
-ghost use Rattle.std.specs.Prelude.{◌≡◌, ◌<◌, length, map};
+ghost use Rattle.std.specs.Prelude.{◌≡◌, map};
+ghost use Rattle.std.specs.List.Sorted.{IsStrictlySortedBy};
 ghost use Rattle.ac_base.specs.Names.{class_bytes, trait_bytes};
+ghost use Rattle.ac_base.specs.Texts.{text_cmp};
 ghost use Rattle.ac_cloud.specs.Cloud.CloudWorld.{providers_of};
-ghost use Rattle.ac_cloud.specs.World.{provider_at};
-ghost use Rattle.ac_rules.specs.Own.{has_any};
 ghost use Rattle.ac_explain.specs.Missing.{some_root_has, somebody_has_class, somebody_has_one, somebody_has_trait, somebody_is, somebody_is_in, somebody_is_member};
 
 use ac_base::{ClassName, Id, TraitName};
 use ac_cloud::Cloud;
+use ac_rules::rules::traits::has_any;
 
 /// Whether some provider has an inventory of a class, however much is left of it.
 #[tactic(auto, using(crate::proofs::Providers::providers_more, crate::proofs::Providers::providers_end), unfolding(crate::specs::Missing::somebody_has_class))]
@@ -35,18 +36,10 @@ pub fn somebody_has_trait(cloud: &Cloud, name: &TraitName) -> bool
     false
 }
 
-// Whether a provider has one of these traits.
-fn has_any(cloud: &Cloud, ix: u32, names: &[TraitName]) -> bool
-    requires { ix < length (providers_of cloud.now) }
-    ensures { result ≡ has_any (provider_at (providers_of cloud.now) ix)
-        (map trait_bytes names.now) }
-{
-    names.iter().any(|name| cloud.has_trait(ix, name))
-}
-
-/// Whether some provider has one of these traits.
+/// Whether some provider has one of these traits, which rise.
 #[tactic(auto, using(crate::proofs::Providers::providers_more, crate::proofs::Providers::providers_end), unfolding(crate::specs::Missing::somebody_has_one))]
 pub fn somebody_has_one(cloud: &Cloud, names: &[TraitName]) -> bool
+    requires { IsStrictlySortedBy text_cmp (map trait_bytes names.now) }
     ensures { result ≡ somebody_has_one (providers_of cloud.now) (map trait_bytes names.now) }
 {
     for ix in 0..cloud.len() {
