@@ -5,7 +5,7 @@ from __future__ import annotations
 import itertools
 import json
 import random
-from dataclasses import dataclass, field
+from dataclasses import dataclass, field, replace
 
 from cases import Case, full, lines, tables
 
@@ -201,7 +201,24 @@ def explanation(found, query, cloud):
     told.append(f'trees {len(roots)}: root traits {len(taken)}, each slot {len(whole)}, required traits {len(held)}')
     told += nobody(query, cloud)
     told.append(f'candidates: {"some" if found else "none"}')
+    if not found:
+        told += [f'without {name}: {"some" if has_candidate(other, cloud) else "none"}' for name, other in without(query)]
     return ''.join(line + '\n' for line in told)
+
+
+def has_candidate(query, cloud):
+    return any(not judgement(assignment, query, cloud) for assignment in itertools.product(cloud, repeat=len(list(query.slots()))))
+
+
+def without(query):
+    """The query without each thing that it asks of several slots together, behind the name of that."""
+    for place, listed in enumerate(query.subtrees):
+        yield f'same_subtree={",".join(sorted(listed))}', replace(query, subtrees=query.subtrees[:place] + query.subtrees[place + 1:])
+    if query.isolate:
+        yield 'group_policy=isolate', replace(query, isolate=False)
+    plain = query.groups.get('')
+    if plain and (plain.required or plain.any_of):
+        yield 'required', replace(query, groups={**query.groups, '': replace(plain, required=set(), any_of=[])})
 
 
 def nobody(query, cloud):

@@ -319,7 +319,7 @@ KNOWN = Case('a fault is told though a growth behind it is refused', ['sh', '-c'
 
 def status_of(text):
     """The status that comes with a text: an answer, or a fault line."""
-    if text.endswith('candidates: none\n'):
+    if 'candidates: none\n' in text:
         return 1
     return next((status for start, status in STATUSES.items() if text.startswith(start)), 0)
 

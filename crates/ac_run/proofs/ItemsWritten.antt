@@ -1,17 +1,21 @@
 -- Items of a list, each told by its text: all in order, or the first behind a mark and each further one behind a comma.
 use Rattle.std.proofs.Common.{◌≡◌, ◌∙◌, ℕ, ◌+◌, ◌<◌, List, ◌∷◌, ◌++◌, codes, drop, get_or, length, map, Option, ap, subst, sym}
 use Rattle.std.proofs.lemmas.List.{drop_more}
-use Rattle.std.specs.Prelude.{Result, Ok, Err, OnErr}
+use Rattle.std.specs.Prelude.{Result, Ok, Err, OnErr, OnOk}
 use Rattle.std.specs.Io.KnownBytes.{Appends}
 use Rattle.std.specs.List.{flat_map}
 use Rattle.ac_base.specs.Devices.{TakesPart}
-use Rattle.ac_base.proofs.Leaving.{Leaves, leaves_appends, leaves_takes_part, part_of_second}
+use Rattle.ac_base.proofs.Leaving.{Leaves, appends_both, leaves_appends, leaves_takes_part, part_of_second}
 use Rattle.ac_run.specs.Lines.{listed, marked}
 use Rattle.ac_run.proofs.SlotsWritten.{element_part}
 
 err_weaker : {T E P Q : Type 0} (r : Result T E) → OnErr r P → (P → Q) → OnErr r Q
 err_weaker (Ok x) p f = tt
 err_weaker (Err e) p f = f p
+
+ok_weaker : {T E P Q : Type 0} (r : Result T E) → OnOk r P → (P → Q) → OnOk r Q
+ok_weaker (Ok x) p f = f p
+ok_weaker (Err e) p f = tt
 
 -- the item at a place is the first from there on
 pub item_turn : {X : Type 0} (xs : List X) (i : ℕ) (x : X) → i < length xs → x ≡ get_or xs i x → drop i xs ≡ x ∷ drop (i + 1) xs
@@ -38,8 +42,11 @@ module _ {X : Type 0} (a b c : Option (List ℕ)) (whole : List ℕ) where
     pub listed_written : Appends b c (marked mark text) → Leaves a c whole (listed (codes ",") (map e rest))
     listed_written k = leaves_appends a b c whole (marked mark text) (listed (codes ",") (map e rest)) first k
 
--- ---- two texts, of which the second was left
+-- ---- two texts, one after the other
 
 module _ {T E : Type 0} (r : Result T E) (a b c : Option (List ℕ)) where
   pub part_behind : (x y : List ℕ) {s t : List ℕ} → s ≡ x → t ≡ y → Appends a b s → OnErr r (TakesPart b c t) → OnErr r (TakesPart a c (x ++ y))
   part_behind x y ex ey h k = err_weaker r (subst (λ (l : List ℕ). OnErr r (TakesPart b c l)) ey k) (part_of_second a b c x y (subst (Appends a b) ex h))
+
+  pub written_behind : (x y : List ℕ) {s t : List ℕ} → s ≡ x → t ≡ y → Appends a b s → OnOk r (Appends b c t) → OnOk r (Appends a c (x ++ y))
+  written_behind x y ex ey h k = ok_weaker r (subst (λ (l : List ℕ). OnOk r (Appends b c l)) ey k) (appends_both a b c x y (subst (Appends a b) ex h))

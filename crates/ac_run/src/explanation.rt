@@ -1,6 +1,8 @@
-//! How far a query comes, told without memory: a line for each slot, one for the trees, what nobody has, and whether there is a candidate.
+//! How far a query comes, told without memory: a line for each slot, one for the trees, what nobody has, whether there is a candidate, and
+//! where there is none, whether there would be one without one of the things that are asked of several slots together.
 
 mod nobody;
+mod without;
 
 ghost use Rattle.std.specs.Prelude.{◌≡◌, ◌+◌, ◌<◌, ◌≤◌, ◌++◌, IfOk, OnErr, OnOk, length, map};
 ghost use Rattle.std.specs.Io.KnownBytes.{Appends};
@@ -12,11 +14,13 @@ ghost use Rattle.ac_query.specs.Shown.Queries.{asked_of};
 ghost use Rattle.ac_search.specs.Explained.{slot_told, tree_counts};
 ghost use Rattle.ac_search.specs.Shown.Explained.{slot_counted as counts_shown, slot_shown, trees_counted as trees_shown};
 ghost use Rattle.ac_rules.specs.Placed.{slot_at};
-ghost use Rattle.ac_run.specs.Explanation.{candidates_line, each_room, explanation_status, has_candidate, need_text, needs_text, room_mark, room_text, slot_counted, slot_end, slot_line, slot_lines, slot_name, trees_line};
+ghost use Rattle.ac_run.specs.Explanation.{each_room, explanation_status, need_text, needs_text, room_mark, room_text, slot_counted, slot_end, slot_line, slot_lines, slot_name, trees_line};
+ghost use Rattle.ac_run.specs.Explanation.Candidates.{candidates_line, has_candidate};
 ghost use Rattle.ac_run.specs.Explanation.Nobody.{nobody_lines};
 ghost use Rattle.ac_run.specs.Lines.{printed};
 
 use self::nobody::push_missing;
+pub use self::without::{FoundWithout, find_without, push_without};
 use crate::pieces::digits::Digits;
 use crate::pieces::push_pieces;
 use ac_base::{NoMemory, Sink, WriteFailed, push_all};
@@ -281,7 +285,7 @@ fn push_trees<W: Sink>(out: &mut W, counts: &TreeCounts) -> Result<(), WriteFail
 }
 
 // The line that says whether there is a candidate.
-#[tactic(auto, unfolding(crate::specs::Explanation::candidates_line))]
+#[tactic(auto, unfolding(crate::specs::Explanation::Candidates::candidates_line))]
 fn candidates_line(found: bool) -> &'static [u8]
     ensures { result.now ≡ candidates_line found }
 {
