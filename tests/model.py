@@ -7,7 +7,7 @@ import json
 import os
 import random
 import re
-from dataclasses import dataclass, field
+from dataclasses import dataclass, field, replace
 
 from cases import Case, full, lines, tables
 
@@ -103,7 +103,10 @@ class Query:
             pairs.append(('root_required', traits_text(self.root_required, self.root_forbidden)))
         if self.told:
             pairs.append(('group_policy', 'isolate' if self.isolate else 'none'))
-        return '&'.join(f'{name}={value}' for name, value in chance.sample(pairs, len(pairs)))
+        drawn_pairs = chance.sample(pairs, len(pairs))
+        for suffix, group in self.groups.items():  # lists of traits stay in the order of their pairs
+            group.any_of.sort(key=lambda listed: drawn_pairs.index((f'required{suffix}', 'in:' + ','.join(listed))))
+        return '&'.join(f'{name}={value}' for name, value in drawn_pairs)
 
 
 def traits_text(required, forbidden):
@@ -201,9 +204,49 @@ def explanation(found, query, cloud):
     held = [root for root in whole if '' not in query.groups or meets(query.groups[''], set().union(
         *(provider.traits for suffix, last in served if not suffix for provider in last if available(provider, root, cloud))))]
     told.append(f'trees {len(roots)}: root traits {len(taken)}, each slot {len(whole)}, required traits {len(held)}')
+    told += nobody(query, cloud)
     told.append(f'candidates: {"some" if found else "none"}')
+    if not found:
+        told += [f'without {name}: {"some" if has_candidate(other, cloud) else "none"}' for name, other in without(query)]
     told += [difference_line(words) for words, concerns in zip(headings(), concerned(query, cloud), strict=True) if concerns]
     return ''.join(line + '\n' for line in told)
+
+
+def has_candidate(query, cloud):
+    return any(not judgement(assignment, query, cloud) for assignment in itertools.product(cloud, repeat=len(list(query.slots()))))
+
+
+def without(query):
+    """The query without each thing that it asks of several slots together, behind the name of that."""
+    for place, listed in enumerate(query.subtrees):
+        yield f'same_subtree={",".join(sorted(listed))}', replace(query, subtrees=query.subtrees[:place] + query.subtrees[place + 1:])
+    if query.isolate:
+        yield 'group_policy=isolate', replace(query, isolate=False)
+    plain = query.groups.get('')
+    if plain and (plain.required or plain.any_of):
+        yield 'required', replace(query, groups={**query.groups, '': replace(plain, required=set(), any_of=[])})
+
+
+def nobody(query, cloud):
+    """A line for each thing that a query asks for and nobody has, or no root."""
+    for _, group in sorted(query.groups.items()):
+        for name in sorted(group.needs):
+            if not any(name in provider.has for provider in cloud):
+                yield f'nobody has {name}'
+        for name in sorted(group.required):
+            if not any(name in provider.traits for provider in cloud):
+                yield f'nobody has {name}'
+        for listed in group.any_of:
+            if not any(set(listed) & provider.traits for provider in cloud):
+                yield f'nobody has one of {",".join(sorted(listed))}'
+        for forbids, aggregates in group.rules:
+            if not forbids and not any(set(aggregates) & provider.aggregates for provider in cloud):
+                yield f'nobody is in member_of={"in:" * (len(aggregates) > 1)}{",".join(aggregates)}'
+        if group.tree and not any(provider.name == group.tree for provider in cloud):
+            yield f'nobody has in_tree={group.tree}'
+    for name in sorted(query.root_required):
+        if not any(name in root.traits for root in cloud if root.root() is root):
+            yield f'no root has {name}'
 
 
 def words_of(heading):
@@ -422,6 +465,6 @@ def asked(name, chance, cloud, query, every, judged):
     yield Case(f'{name}: tokens', ['tokens', text, *version], lines(*map(names, found)), tables=made)
     yield Case(f'{name}: candidates', ['candidates', text, *version], full(body(found, query, cloud)), tables=made)
     yield Case(f'{name}: candidates after a token', ['candidates', text + '&limit=2', *after, *version], full(body(later, query, cloud)), tables=made)
-    yield Case(f'{name}: explain', ['explain', text, *version], explanation(found, query, cloud), status=0 if found else 1, tables=made)
+    yield Case(f'{name}: explain', ['explain', text, *version], full(explanation(found, query, cloud)), status=0 if found else 1, tables=made)
     yield Case(f'{name}: hosts', ['hosts', text, *version], full(host_rows(found, query, cloud)), status=0 if found else 1, tables=made)
     yield Case(f'{name}: verify', ['verify', text, full(names(every[one])), *version], line, status=1 if rule else 0, tables=made)

@@ -359,7 +359,7 @@ def ruled(page):
             if ', assignment `' in line:
                 yield Case(f'{page}: {line}', ['verify', *words['verify'], *version], names[1] + '\n', status=status_of(names[1]), tables=tables(cloud))
             elif ' is explained by `' in line:
-                says = ''.join(name + '\n' for name in names)
+                says = ''.join(full(name) + '\n' for name in names)
                 yield Case(f'{page}: {line}', ['explain', full(query), *version], says, status=status_of(says), tables=tables(cloud))
             elif ', hosts `' in line:
                 rows = ''.join(full(name) + '\n' for name in ['root,name,fits,slot,lacks', *names])

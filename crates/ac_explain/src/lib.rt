@@ -4,5 +4,10 @@
 #![tactic(auto)]
 
 pub mod differing;
+pub mod missing;
 
 pub use differing::{Difference, all_differences, applies};
+pub use missing::{
+    some_root_has, somebody_has_class, somebody_has_one, somebody_has_trait, somebody_is,
+    somebody_is_in,
+};

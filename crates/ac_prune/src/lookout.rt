@@ -69,7 +69,7 @@ impl Lookout {
         tests.push(Test::Ahead(Ahead::new(alloc, ledger)?))?;
         tests.push(Test::Trees(Trees::new(alloc, &choices)?))?;
         tests.push(Test::Hosts(Hosts::new(alloc, &choices)?))?;
-        for k in 0..ledger.query.subtrees().min(MOST_FAMILIES) {
+        for k in 0..ledger.query.subtrees().len().min(MOST_FAMILIES) {
             tests.push(Test::Family(Family::new(alloc, &choices, k)?))?;
         }
         Ok(Lookout { tests })

@@ -8,3 +8,4 @@ pub mod Wholes
 pub mod WrittenIds
 pub mod SlotCounts
 pub mod SlotPlaces
+pub mod Relaxed

@@ -2,6 +2,7 @@ pub mod Texts
 pub mod Versions
 pub mod Pairs
 pub mod Asked
+pub mod Without
 pub mod Asks
 pub mod Faults
 pub mod Shown

@@ -1,6 +1,6 @@
 //! Why a query is refused.
 use ac_base::{NoMemory, Suffix};
-use std::alloc::{AllocError, AllocFailed};
+use std::alloc::AllocError;
 
 /// Why a query is refused: the first of these that is found, pair by pair and then of the whole.
 ///
@@ -49,17 +49,6 @@ impl From<AllocError> for QueryFault {
     ghost from_gives = { λ _ e. e ≡ refused };
 
     fn from(_error: AllocError) -> QueryFault {
-        QueryFault::NoMemory
-    }
-}
-
-impl<T: Drop> From<AllocFailed<T>> for QueryFault {
-    ghost use Rattle.std.specs.Prelude.{◌≡◌};
-    ghost use Rattle.ac_query.specs.declared.fault.QueryFault.TheVariants.{NoMemory as refused};
-
-    ghost from_gives = { λ _ e. e ≡ refused };
-
-    fn from(_error: AllocFailed<T>) -> QueryFault {
         QueryFault::NoMemory
     }
 }

@@ -16,6 +16,7 @@ use std::collections::BTreeSet;
 
 mod accessors;
 mod read;
+mod without;
 
 /// What a query asks for: its groups and their slots, and what it asks of the whole.
 #[derive(Drop)]

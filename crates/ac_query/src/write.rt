@@ -1,23 +1,10 @@
 //! The text of a token.
 ghost use Rattle.std.specs.Prelude.{◌≡◌, ◌++◌, IfOk, OnOk};
 ghost use Rattle.std.specs.String.{string_bytes};
-ghost use Rattle.ac_base.specs.Texts.{id_text};
 ghost use Rattle.ac_query.specs.Tokens.{part_text, ids_text};
 
 use ac_base::{Id, NoMemory};
 use std::alloc::Global;
-
-/// Adds an id in written form.
-fn push_id(text: &mut String, id: Id) -> Result<(), NoMemory>
-    ensures { OnOk result (string_bytes text.new ≡ string_bytes text.old ++ id_text id) }
-{
-    let bytes = id.text();
-    match std::str::from_utf8(&bytes) {
-        Ok(written) => text.push_str(written)?,
-        Err(_) => unreachable!(),
-    }
-    Ok(())
-}
 
 /// Adds the part of a token at a place: every part but the first stands behind a comma.
 pub(crate) fn push_part(text: &mut String, place: usize, id: Id) -> Result<(), NoMemory>
@@ -26,7 +13,12 @@ pub(crate) fn push_part(text: &mut String, place: usize, id: Id) -> Result<(), N
     if place > 0 {
         text.push(',')?;
     }
-    push_id(text, id)
+    let bytes = id.text();
+    match std::str::from_utf8(&bytes) {
+        Ok(written) => text.push_str(written)?,
+        Err(_) => unreachable!(),
+    }
+    Ok(())
 }
 
 /// The text of a token: UUIDs in written form, joined by commas.

@@ -354,7 +354,7 @@ fn shown(alloc: Global, query: &Query) -> Result<String, AllocError> {
         let piece = format!(in alloc; " slot {group}")?;
         text.push_str(piece.as_str())?;
         push_needs(alloc, &mut text, query.slot_needs(s))?;
-        for k in 0..query.subtrees() {
+        for k in 0..query.subtrees().len() {
             text.push_str(if query.in_subtree(k, s) {
                 " yes"
             } else {

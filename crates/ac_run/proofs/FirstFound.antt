@@ -8,7 +8,7 @@ use Rattle.ac_rules.specs.Lists.{head_of}
 use Rattle.ac_rules.specs.Pages.{candidates, is_after, rest}
 use Rattle.ac_rules.specs.Together.{is_empty}
 use Rattle.ac_cloud.specs.World.{Provider}
-use Rattle.ac_run.specs.Explanation.{has_candidate}
+use Rattle.ac_run.specs.Explanation.Candidates.{has_candidate}
 
 -- without a token all candidates are left
 rest_of_all : (all : List Provider) (asked : Asked) → rest all asked None ≡ candidates all asked

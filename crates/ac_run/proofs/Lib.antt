@@ -1,6 +1,7 @@
 pub mod DecimalSteps
 pub mod PiecesWritten
 pub mod SlotsWritten
+pub mod ItemsWritten
 pub mod FirstFound
 pub mod Drained
 pub mod FewBytes

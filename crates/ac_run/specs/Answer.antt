@@ -23,7 +23,8 @@ use Rattle.ac_rules.specs.Pages.{page}
 use Rattle.ac_search.specs.Hosts.{fitting}
 use Rattle.ac_report.specs.Texts.{body, lines}
 use Rattle.ac_run.specs.Outputs.{counts, verdict_status, verdict_text}
-use Rattle.ac_run.specs.Explanation.{explanation_status, explanation_text, has_candidate}
+use Rattle.ac_run.specs.Explanation.{explanation_status, explanation_text}
+use Rattle.ac_run.specs.Explanation.Candidates.{has_candidate}
 use Rattle.ac_run.specs.Outputs.HostRows.{hosts_status, hosts_text}
 use Rattle.ac_run.specs.Feeds.{Bytes, too_large}
 use Rattle.ac_run.specs.Lines.{too_large_line, record_line, query_line, token_line, memory_line}

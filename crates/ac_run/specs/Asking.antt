@@ -22,7 +22,7 @@ answer_to wanted.Counts world = written (counts world.sizes) 0
 answer_to (wanted.Body query token) world = page_body world.providers (asked_of query) (option_map ids_of token)
 answer_to (wanted.Lines query token) world = page_lines world.providers (asked_of query) (option_map ids_of token)
 answer_to (wanted.Verdict query token) world = verdict_line world.providers (asked_of query) (Some (ids_of token))
-answer_to (wanted.Explanation query) world = explanation world.providers (asked_of query) None
+answer_to (wanted.Explanation question) world = explanation world.providers (asked_of question.query) None
 answer_to (wanted.Hosts query) world = host_rows world.providers (asked_of query) None
 
 -- the token on which a verdict is wanted has an id for each slot of the query

@@ -1,14 +1,19 @@
--- The text of an explanation: a line for each slot, one for the trees, whether there is a candidate, and where the service may answer otherwise.
+-- The text of an explanation: a line for each slot, one for the trees, what nobody has, whether there is a candidate; where there is none, whether
+-- there would be one without one of the things that are asked of several slots together; and where the service may answer otherwise.
+pub mod Candidates
 pub mod Differing
-use Rattle.std.specs.Prelude.{ℕ, ◌+◌, ◌==◌, Bool, true, false, not, if◌then◌else◌, List, [], ◌∷◌, ◌++◌, get_or, length, codes}
+pub mod Nobody
+pub mod Shown
+use Rattle.std.specs.Prelude.{ℕ, ◌+◌, ◌==◌, Bool, true, false, if◌then◌else◌, List, [], ◌∷◌, ◌++◌, get_or, length, codes}
 use Rattle.std.specs.Fmt.{decimal}
 use Rattle.std.specs.List.{flat_map, range_with_len}
 use Rattle.ac_query.specs.Asked.{Asked, Slot, slots_of}
 use Rattle.ac_cloud.specs.World.{Provider}
 use Rattle.ac_search.specs.Explained.{SlotCounts, SlotTold, TreeCounts, slot_told, tree_counts}
-use Rattle.ac_rules.specs.Pages.{candidates}
 use Rattle.ac_rules.specs.Placed.{slot_at}
 use Rattle.ac_rules.specs.Together.{is_empty}
+use Rattle.ac_run.specs.Explanation.Candidates.{candidates_line, found_without, without_lines}
+use Rattle.ac_run.specs.Explanation.Nobody.{nobody_lines}
 use Rattle.ac_run.specs.Lines.{newline, printed, said}
 use Rattle.ac_run.specs.Explanation.Differing.{differs_lines}
 
@@ -58,7 +63,7 @@ slot_line all number slot told =
 abbrev pub slot_lines : List Provider → Asked → List ℕ
 slot_lines all asked = flat_map (λ s. slot_line all (s + 1) (slot_at asked s) (slot_told all (slot_at asked s))) (range_with_len 0 (length (slots_of asked)))
 
--- ---- The trees, and candidates
+-- ---- The trees
 
 unfoldable pub trees_line : TreeCounts → List ℕ
 trees_line c =
@@ -66,17 +71,15 @@ trees_line c =
     (codes "trees " ∷ decimal c.roots ∷ codes ": root traits " ∷ decimal c.root_traits ∷ codes ", each slot " ∷ decimal c.each_slot
     ∷ codes ", required traits " ∷ decimal c.required_traits ∷ newline ∷ [])
 
-abbrev pub has_candidate : List Provider → Asked → Bool
-has_candidate all asked = not (is_empty (candidates all asked))
-
-unfoldable pub candidates_line : Bool → List ℕ
-candidates_line true = codes "candidates: some\n"
-candidates_line false = codes "candidates: none\n"
-
 -- ---- The explanation
 
+-- how far the query comes, up to whether there is a candidate
+abbrev pub told_text : List Provider → Asked → Bool → List ℕ
+told_text all asked found =
+    slot_lines all asked ++ (trees_line (tree_counts all asked) ++ (nobody_lines all asked ++ candidates_line found))
+
 unfoldable pub explanation_text : List Provider → Asked → Bool → List ℕ
-explanation_text all asked found = (slot_lines all asked ++ (trees_line (tree_counts all asked) ++ candidates_line found)) ++ differs_lines all asked
+explanation_text all asked found = (told_text all asked found ++ without_lines asked (found_without all asked found)) ++ differs_lines all asked
 
 abbrev pub explanation_status : Bool → ℕ
 explanation_status true = 0

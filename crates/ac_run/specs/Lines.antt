@@ -1,5 +1,5 @@
 -- The lines of faults.
-use Rattle.std.specs.Prelude.{ℕ, List, [], ◌∷◌, codes, Option}
+use Rattle.std.specs.Prelude.{ℕ, List, [], ◌∷◌, ◌++◌, codes, Option}
 use Rattle.std.specs.Fmt.{decimal}
 use Rattle.std.specs.Option.{unwrap_or}
 use Rattle.std.specs.List.{flat_map}
@@ -17,6 +17,15 @@ newline = 10 ∷ []
 -- pieces of a text, joined
 abbrev pub said : List (List ℕ) → List ℕ
 said pieces = flat_map (λ piece. piece) pieces
+
+-- a text behind a mark
+unfoldable pub marked : List ℕ → List ℕ → List ℕ
+marked mark text = said (mark ∷ text ∷ [])
+
+-- texts: the first behind a mark, each further one behind a comma
+abbrev pub listed : List ℕ → List (List ℕ) → List ℕ
+listed mark [] = []
+listed mark (text ∷ texts) = marked mark text ++ listed (codes ",") texts
 
 unfoldable pub table_name : Table → List ℕ
 table_name table.Providers = codes "providers"

@@ -17,8 +17,11 @@ ghost use Rattle.ac_run.specs.Run.{IsWritten};
 
 use self::host_rows::{hosts_status, hosts_text};
 use crate::asking::Wanted;
-use crate::explanation::differing::push_differences;
-use crate::explanation::{explanation_status, has_candidate, push_explanation};
+use crate::asking::question::Question;
+use crate::explanation::{
+    explanation_status, find_without, has_candidate, push_differences, push_explanation,
+    push_without,
+};
 use crate::outputs::{push_counts, verdict_status, verdict_text};
 use ac_base::{NoMemory, Sink, push_all};
 use ac_query::{Query, Token};
@@ -139,28 +142,31 @@ fn write_verdict<W: Sink>(
     }
 }
 
-// How far a query comes, whether it has a candidate, and where the service may answer otherwise.
+// How far a query comes, whether it has a candidate, or would have one without one thing, and where the service may answer otherwise.
 #[tactic(auto, using(ac_base::proofs::Leaving::appends_both, ac_base::proofs::Leaving::part_of_first, ac_base::proofs::Leaving::part_of_second), unfolding(crate::specs::Explanation::explanation_text))]
 fn write_explanation<W: Sink>(
     alloc: Global,
     cloud: &Cloud,
-    query: &Query,
+    question: &Question,
     out: &mut W,
 ) -> Result<u8, PageFault>
     ensures few { IfOk result (λ status. status ≤ 1) }
     ensures ok { IfOk result (IsWritten
-        (explanation (providers_of cloud.now) (asked_of query.now) None)
+        (explanation (providers_of cloud.now) (asked_of question.now.query) None)
         (W.taken out.old) (W.taken out.new)) }
     ensures part { OnErr result (TakesPart (W.taken out.old) (W.taken out.new)
-        (explanation (providers_of cloud.now) (asked_of query.now) None).output) }
+        (explanation (providers_of cloud.now) (asked_of question.now.query) None).output) }
     ensures failed { result ≡ Err PageFault.WriteFailed
         → Rises (W.failures out.old) (W.failures out.new) }
     ensures failures { W.failures out.old ≤ W.failures out.new }
 {
+    let query = &question.query;
     let slots = all_slots(alloc, cloud, query)?;
     let trees = tree_counts(alloc, cloud, query)?;
     let found = has_candidate(alloc, cloud, query, &trees)?;
+    let without = find_without(alloc, cloud, question, found)?;
     push_explanation(out, cloud, query, &slots, &trees, found)?;
+    push_without(out, query, &without)?;
     push_differences(out, cloud, query)?;
     Ok(explanation_status(found))
 }
@@ -211,7 +217,7 @@ pub fn write_answer<W: Sink>(
         Wanted::Body(query, token) => write_body(alloc, cloud, query, token, out),
         Wanted::Lines(query, token) => write_lines(alloc, cloud, query, token, out),
         Wanted::Verdict(query, token) => write_verdict(alloc, cloud, query, token, out),
-        Wanted::Explanation(query) => write_explanation(alloc, cloud, query, out),
+        Wanted::Explanation(question) => write_explanation(alloc, cloud, question, out),
         Wanted::Hosts(query) => write_hosts(alloc, cloud, query, out),
     }
 }

@@ -1,4 +1,7 @@
 //! What a job asks: its query, and perhaps a token.
+
+pub mod question;
+
 ghost use Rattle.std.specs.Prelude.{◌≡◌, IfOk, IfErr, IfSome, OnOk, Some, None, is_some, length};
 ghost use Rattle.std.specs.Option.{option_map};
 ghost use Rattle.ac_query.specs.Asked.{slots_of};
@@ -13,7 +16,9 @@ ghost use Rattle.ac_run.specs.Answer.{Says, answer_in, ids_given, past_query, to
 ghost use Rattle.ac_run.specs.Asking.{ExplainsQuery, ExplainsToken, HasIdForEachSlot, IsRefusalOf, answer_to};
 ghost use Rattle.ac_run.specs.Jobs.{ExplainsAsked, ExplainsWanted, task_of};
 
+use self::question::Question;
 use crate::refusal::Refusal;
+use ac_base::NoMemory;
 use ac_query::{Command, Job, Query, QueryFault, Token, TokenFault, Version};
 use std::alloc::Global;
 
@@ -29,7 +34,7 @@ pub enum Wanted {
     /// The verdict on the list that a token names.
     Verdict(Query, Token),
     /// How far a query comes.
-    Explanation(Query),
+    Explanation(Question),
     /// Which roots fit, and what the others lack.
     Hosts(Query),
 }
@@ -84,6 +89,8 @@ fn read_asked(alloc: Global, job: &Job) -> Result<(Query, Option<Token>), Refusa
     ensures given { IfOk result (λ asked. is_some asked.1 ≡ is_some (task_of job.now).token) }
     ensures slots { IfOk result (λ asked. IfSome asked.1 (λ token.
         length (ids_of token) ≡ length (slots_of (asked_of asked.0)))) }
+    ensures read { IfOk result (λ asked. asked_of asked.0
+        ≡ asked_by job.now.version (pairs_of job.now.query.now)) }
     ensures said { IfOk result (λ asked. (say : Says)
         → past_query say (task_of job.now) ≡ say (asked_of asked.0) (option_map ids_of asked.1)) }
     ensures fault { IfErr result (ExplainsAsked (task_of job.now)) }
@@ -121,7 +128,10 @@ pub fn read_wanted(alloc: Global, job: &Job) -> Result<Wanted, Refusal>
         }
         Command::Explain => {
             let (query, _token) = read_asked(alloc, job)?;
-            Ok(Wanted::Explanation(query))
+            match Question::new(alloc, query, job.query, job.version) {
+                Ok(question) => Ok(Wanted::Explanation(question)),
+                Err(NoMemory) => Err(Refusal::NoMemory),
+            }
         }
         Command::Hosts => {
             let (query, _token) = read_asked(alloc, job)?;

@@ -1,4 +1,10 @@
-//! How far a query comes, told without memory: a line for each slot, one for the trees, and whether there is a candidate.
+//! How far a query comes, told without memory: a line for each slot, one for the trees, what nobody has, whether there is a candidate; where there is
+//! none, whether there would be one without one of the things that are asked of several slots together; and where the service may answer otherwise.
+
+mod differing;
+mod nobody;
+mod without;
+
 ghost use Rattle.std.specs.Prelude.{◌≡◌, ◌+◌, ◌<◌, ◌≤◌, ◌++◌, IfOk, OnErr, OnOk, length, map};
 ghost use Rattle.std.specs.Io.KnownBytes.{Appends};
 ghost use Rattle.ac_base.specs.Devices.{Rises, TakesPart};
@@ -9,11 +15,14 @@ ghost use Rattle.ac_query.specs.Shown.Queries.{asked_of};
 ghost use Rattle.ac_search.specs.Explained.{slot_told, tree_counts};
 ghost use Rattle.ac_search.specs.Shown.Explained.{slot_counted as counts_shown, slot_shown, trees_counted as trees_shown};
 ghost use Rattle.ac_rules.specs.Placed.{slot_at};
-ghost use Rattle.ac_run.specs.Explanation.{candidates_line, each_room, explanation_status, has_candidate, need_text, needs_text, room_mark, room_text, slot_counted, slot_end, slot_line, slot_lines, slot_name, trees_line};
+ghost use Rattle.ac_run.specs.Explanation.{each_room, explanation_status, need_text, needs_text, room_mark, room_text, slot_counted, slot_end, slot_line, slot_lines, slot_name, trees_line};
+ghost use Rattle.ac_run.specs.Explanation.Candidates.{candidates_line, has_candidate};
+ghost use Rattle.ac_run.specs.Explanation.Nobody.{nobody_lines};
 ghost use Rattle.ac_run.specs.Lines.{printed};
 
-pub mod differing;
-
+pub use self::differing::push_differences;
+use self::nobody::push_missing;
+pub use self::without::{FoundWithout, find_without, push_without};
 use crate::pieces::digits::Digits;
 use crate::pieces::push_pieces;
 use ac_base::{NoMemory, Sink, WriteFailed, push_all};
@@ -278,7 +287,7 @@ fn push_trees<W: Sink>(out: &mut W, counts: &TreeCounts) -> Result<(), WriteFail
 }
 
 // The line that says whether there is a candidate.
-#[tactic(auto, unfolding(crate::specs::Explanation::candidates_line))]
+#[tactic(auto, unfolding(crate::specs::Explanation::Candidates::candidates_line))]
 fn candidates_line(found: bool) -> &'static [u8]
     ensures { result.now ≡ candidates_line found }
 {
@@ -289,7 +298,7 @@ fn candidates_line(found: bool) -> &'static [u8]
     }
 }
 
-/// Pushes an explanation: the lines of the slots, that of the trees by their counts, and whether a candidate was found.
+/// Pushes an explanation: the lines of the slots, that of the trees by their counts, what nobody has, and whether a candidate was found.
 #[tactic(auto, using(ac_base::proofs::Leaving::appends_both, ac_base::proofs::Leaving::part_of_first, ac_base::proofs::Leaving::part_of_second))]
 pub fn push_explanation<W: Sink>(
     out: &mut W,
@@ -303,15 +312,20 @@ pub fn push_explanation<W: Sink>(
         ≡ map (slot_told (providers_of cloud.now)) (slots_of (asked_of query.now)) }
     ensures ok { OnOk result (Appends (W.taken out.old) (W.taken out.new)
         (slot_lines (providers_of cloud.now) (asked_of query.now)
-        ++ (trees_line (trees_shown trees.now) ++ candidates_line found))) }
+        ++ (trees_line (trees_shown trees.now)
+        ++ (nobody_lines (providers_of cloud.now) (asked_of query.now)
+        ++ candidates_line found)))) }
     ensures part { OnErr result (TakesPart (W.taken out.old) (W.taken out.new)
         (slot_lines (providers_of cloud.now) (asked_of query.now)
-        ++ (trees_line (trees_shown trees.now) ++ candidates_line found))) }
+        ++ (trees_line (trees_shown trees.now)
+        ++ (nobody_lines (providers_of cloud.now) (asked_of query.now)
+        ++ candidates_line found)))) }
     ensures rises { OnErr result (Rises (W.failures out.old) (W.failures out.new)) }
     ensures failures { W.failures out.old ≤ W.failures out.new }
 {
     push_slots(out, cloud, query, slots)?;
     push_trees(out, trees)?;
+    push_missing(out, cloud, query)?;
     push_all(out, candidates_line(found))
 }
 

@@ -3,6 +3,7 @@ ghost use Rattle.std.specs.Prelude.{◌≤◌, OnOk, OnErr};
 ghost use Rattle.std.specs.List.{flat_map};
 ghost use Rattle.std.specs.Io.KnownBytes.{Appends};
 ghost use Rattle.ac_base.specs.Devices.{Rises, TakesPart};
+ghost use Rattle.ac_run.specs.Lines.{marked};
 
 pub mod digits;
 
@@ -21,4 +22,17 @@ pub fn push_pieces<W: Sink>(out: &mut W, pieces: &[&[u8]]) -> Result<(), WriteFa
         push_all(out, piece)?;
     }
     Ok(())
+}
+
+/// Pushes a text behind a mark.
+#[tactic(auto, unfolding(crate::specs::Lines::marked))]
+pub fn push_marked<W: Sink>(out: &mut W, mark: &[u8], text: &[u8]) -> Result<(), WriteFailed>
+    ensures ok { OnOk result (Appends (W.taken out.old) (W.taken out.new)
+        (marked mark.now text.now)) }
+    ensures part { OnErr result (TakesPart (W.taken out.old) (W.taken out.new)
+        (marked mark.now text.now)) }
+    ensures rises { OnErr result (Rises (W.failures out.old) (W.failures out.new)) }
+    ensures failures { W.failures out.old ≤ W.failures out.new }
+{
+    push_pieces(out, &[mark, text])
 }

@@ -26,6 +26,7 @@ use ac_rules::rules::sums::room_at;
 use ac_rules::slots::{count_slots, needs_at};
 pub use classes::{SlotTold, all_slots};
 use required::limit_required;
+pub use required::requires_some;
 use std::alloc::Global;
 
 /// How many providers meet what a slot asks. Each number counts those that meet all that stands before it, too.

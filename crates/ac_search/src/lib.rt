@@ -13,7 +13,9 @@ mod least;
 pub mod walk;
 
 pub use ac_rules::{Plain, Rule, Source, Verdict, verify};
-pub use explaining::{SlotCounts, SlotTold, TreeCounts, all_slots, slot_counts, tree_counts};
+pub use explaining::{
+    SlotCounts, SlotTold, TreeCounts, all_slots, requires_some, slot_counts, tree_counts,
+};
 pub use hosts::fitting_roots;
 pub use lacking::{Lack, Stage, find_lacks};
 pub use walk::Walk;

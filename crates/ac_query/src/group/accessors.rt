@@ -4,7 +4,8 @@ ghost use Rattle.std.specs.List.Sorted.{IsStrictlySortedBy};
 ghost use Rattle.std.specs.Option.{option_map};
 ghost use Rattle.ac_base.specs.Names.{class_bytes, trait_bytes, suffix_bytes};
 ghost use Rattle.ac_base.specs.Texts.{text_cmp};
-ghost use Rattle.ac_query.specs.Shown.Groups.{need_class, need_entry, rule_shown, any_of_shown, suffix_of, group_asked};
+ghost use Rattle.ac_query.specs.Shown.Groups.{need_class, need_entry, rule_shown, any_of_shown, suffix_of, group_asked, group_entry};
+ghost use Rattle.ac_query.specs.Without.{relaxed};
 
 use super::{AggregateRule, AnyOf, Group, Need};
 use ac_base::{ClassName, Id, Suffix, TraitName};
@@ -96,6 +97,35 @@ impl Group {
         ensures { map rule_shown result.now ≡ (group_asked self.now).member_of }
     {
         self.member_of.as_slice()
+    }
+
+    /// The group, which requires no traits if it has no suffix; what it forbids stays.
+    pub(crate) fn relaxed(self) -> Group
+        ensures { group_entry result ≡ relaxed (group_entry self) }
+    {
+        if self.suffix.is_some() {
+            return self;
+        }
+        let Group {
+            suffix,
+            needs,
+            mut required,
+            forbidden,
+            mut any_of,
+            member_of,
+            in_tree,
+        } = self;
+        required.clear();
+        any_of.clear();
+        Group {
+            suffix,
+            needs,
+            required,
+            forbidden,
+            any_of,
+            member_of,
+            in_tree,
+        }
     }
 
     /// The tree that its providers are to be in, by one of its providers.

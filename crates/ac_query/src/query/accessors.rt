@@ -7,6 +7,7 @@ ghost use Rattle.ac_base.specs.Names.{trait_bytes};
 ghost use Rattle.ac_base.specs.Texts.{text_cmp};
 ghost use Rattle.ac_query.specs.Asked.{slots_of, is_isolated, in_subtree};
 ghost use Rattle.ac_query.specs.Faults.{entry_count};
+ghost use Rattle.ac_query.specs.Shown.{suffixes_shown};
 ghost use Rattle.ac_query.specs.Shown.Groups.{need_class, need_entry, group_entry};
 ghost use Rattle.ac_query.specs.Shown.Slots.{slot_group, slot_shown};
 ghost use Rattle.ac_query.specs.Shown.Queries.{asked_of};
@@ -14,7 +15,8 @@ ghost use Rattle.ac_query.specs.Shown.Queries.{asked_of};
 use super::Query;
 use crate::group::{Group, Need};
 use crate::slot::Slot;
-use ac_base::TraitName;
+use ac_base::{Suffix, TraitName};
+use std::collections::BTreeSet;
 use std::slice;
 
 impl Query {
@@ -100,11 +102,12 @@ impl Query {
         self.root_forbidden.as_slice()
     }
 
-    /// How many lists of `same_subtree` there are.
-    pub fn subtrees(&self) -> usize
-        ensures { result ≡ length (asked_of self.now).subtrees }
+    /// The lists of `same_subtree`, each with its suffixes in byte order, each once.
+    pub fn subtrees(&self) -> &[BTreeSet<Suffix>]
+        ensures lists { map suffixes_shown result.now ≡ (asked_of self.now).subtrees }
+        ensures count { length result.now ≡ length (asked_of self.now).subtrees }
     {
-        self.subtrees.len()
+        self.subtrees.as_slice()
     }
 
     /// Whether list `k` of `same_subtree` names the group of a slot.

@@ -4,7 +4,7 @@ ghost use Rattle.std.specs.List.{list_any};
 ghost use Rattle.std.specs.Option.{option_map};
 ghost use Rattle.ac_base.specs.Names.{suffix_bytes};
 ghost use Rattle.ac_query.specs.Texts.{in_order_with};
-ghost use Rattle.ac_query.specs.Faults.{first_fault, has_resources, listed_suffixes, group_condition, suffix_condition, is_of, unknown_suffix, group_without_resources, needs_policy, slot_count, entry_count, is_too_large, asked_conditions};
+ghost use Rattle.ac_query.specs.Faults.{first_fault, has_resources, listed_suffixes, group_condition, suffix_condition, unknown_suffix, group_without_resources, needs_policy, slot_count, entry_count, is_too_large, asked_conditions};
 ghost use Rattle.ac_query.specs.Shown.Faults.{fault_shown};
 ghost use Rattle.ac_query.specs.Shown.{suffixes_shown};
 ghost use Rattle.ac_query.specs.Shown.Draft.{group_drafted, suffixed_shown, plain_shown, draft_asked};
@@ -114,13 +114,6 @@ fn find_bare<'a>(
     None
 }
 
-/// Whether there is a group of this suffix.
-fn has_group(groups: &BTreeMap<Suffix, GroupDraft>, suffix: &Suffix) -> bool
-    ensures { result ≡ list_any (is_of (suffix_bytes suffix.now)) (suffixed_shown groups.now) }
-{
-    groups.contains_key(suffix)
-}
-
 /// The first listed suffix of no group.
 fn find_unknown<'a>(
     groups: &BTreeMap<Suffix, GroupDraft>,
@@ -131,7 +124,7 @@ fn find_unknown<'a>(
         (suffixes_shown listed.now)) }
 {
     for suffix in listed {
-        if !has_group(groups, suffix) {
+        if !groups.contains_key(suffix) {
             return Some(suffix);
         }
     }

@@ -3,7 +3,7 @@ ghost use Rattle.std.specs.Prelude.{◌≡◌, IfOk};
 ghost use Rattle.std.specs.Option.{option_map};
 ghost use Rattle.ac_base.specs.Names.{suffix_bytes};
 ghost use Rattle.ac_query.specs.Texts.{behind};
-ghost use Rattle.ac_query.specs.Pairs.Parameters.{group_of, field_of, plain_parameter, group_parameter, parameter, may_repeat};
+ghost use Rattle.ac_query.specs.Pairs.Parameters.{field_of, plain_parameter, group_parameter, parameter, may_repeat};
 ghost use Rattle.ac_query.specs.Shown.Parameters.{parameter_shown};
 
 use crate::version::Version;
@@ -37,22 +37,8 @@ pub(crate) fn behind<'a>(front: &str, text: &'a str) -> Option<&'a str>
     text.strip_prefix(front)
 }
 
-/// The group that the end of a name says: nothing, or a suffix.
-#[tactic(auto, unfolding(crate::specs::Pairs::Parameters::group_of))]
-fn read_group(alloc: Global, end: &str) -> Result<Option<Option<Suffix>>, NoMemory>
-    ensures { IfOk result (λ group. option_map (option_map suffix_bytes) group ≡ group_of end.now) }
-{
-    if end.is_empty() {
-        return Ok(Some(None));
-    }
-    match Suffix::read(alloc, end.as_bytes())? {
-        Some(suffix) => Ok(Some(Some(suffix))),
-        None => Ok(None),
-    }
-}
-
 /// The field of a group, where the name is its word and perhaps a suffix.
-#[tactic(auto, unfolding(crate::specs::Pairs::Parameters::field_of))]
+#[tactic(auto, unfolding(crate::specs::Pairs::Parameters::field_of, crate::specs::Pairs::Parameters::group_of))]
 fn read_field(
     alloc: Global,
     word: &str,
@@ -65,8 +51,11 @@ fn read_field(
     let Some(end) = behind(word, name) else {
         return Ok(None);
     };
-    match read_group(alloc, end)? {
-        Some(group) => Ok(Some(Parameter::Group(field, group))),
+    if end.is_empty() {
+        return Ok(Some(Parameter::Group(field, None)));
+    }
+    match Suffix::read(alloc, end.as_bytes())? {
+        Some(suffix) => Ok(Some(Parameter::Group(field, Some(suffix)))),
         None => Ok(None),
     }
 }

@@ -18,6 +18,7 @@ use crate::reading::draft::Draft;
 use crate::reading::given::Given;
 use crate::reading::parameter::Parameter;
 use crate::version::Version;
+use ac_base::NoMemory;
 use std::alloc::Global;
 use std::collections::BTreeSet;
 
@@ -30,13 +31,12 @@ fn is_repeat(
     earlier: &mut BTreeSet<String>,
     name: String,
     parameter: &Parameter,
-) -> Result<bool, QueryFault>
+) -> Result<bool, NoMemory>
     ensures repeated { IfOk result (λ again. again
         ≡ is_repeat version (texts_shown earlier.old) (string_bytes name)
         (parameter_shown parameter.now)) }
     ensures earlier { OnOk result (texts_shown earlier.new
         ≡ insert_key text_cmp (texts_shown earlier.old) (string_bytes name)) }
-    ensures fault { IfErr result (λ e. fault_shown e ≡ None) }
 {
     let is_new = earlier.insert(name)?;
     Ok(!parameter.may_repeat(version) && !is_new)

@@ -23,7 +23,7 @@ fn query(rt: HostRuntime) {
         Ok(query) => {
             assert_eq!(rt; query.groups().len(), 1);
             assert_eq!(rt; query.slots().len(), 1);
-            assert_eq!(rt; query.subtrees(), 1);
+            assert_eq!(rt; query.subtrees().len(), 1);
             assert_eq!(rt; query.root_forbidden().len(), 1);
             assert_eq!(rt; query.limit(), Some(7));
         }

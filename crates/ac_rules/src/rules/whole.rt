@@ -173,7 +173,7 @@ impl<'a> Assignment<'a> {
         ensures { result ≡ subtree (providers_of self.now.cloud.now) (asked_of self.now.query.now)
             (assigned_of self.now) }
     {
-        for k in 0..self.query.subtrees() {
+        for k in 0..self.query.subtrees().len() {
             if !self.has_top(k) {
                 return false;
             }

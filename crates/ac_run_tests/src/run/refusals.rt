@@ -99,6 +99,18 @@ fn explanations(rt: HostRuntime) {
         ..TOKENS
     };
     check(&rt, one);
+    let none = Case {
+        command: Command::Explain,
+        query: "resources=VCPU:2&required=CUSTOM_A",
+        output: "slot 1 \"\" VCPU:2: units 1 of 1, traits 1, aggregates 1, tree 1, room 1\n\
+            trees 1: root traits 1, each slot 1, required traits 0\n\
+            nobody has CUSTOM_A\n\
+            candidates: none\n\
+            without required: some\n",
+        status: 1,
+        ..TOKENS
+    };
+    check(&rt, none);
 }
 
 #[test]

@@ -170,8 +170,8 @@ impl<'a> Unsuffixed<'a> {
     }
 }
 
-// Whether a group has no suffix and requires some trait.
-fn requires_some(group: &Group) -> bool
+/// Whether a group has no suffix, and requires some trait or one of a list.
+pub fn requires_some(group: &Group) -> bool
     ensures { result ≡ requires_some (suffix_of group.now) (group_asked group.now) }
 {
     group.suffix().is_none() && !(group.required().is_empty() && group.any_of().is_empty())

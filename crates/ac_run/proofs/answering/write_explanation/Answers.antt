@@ -10,3 +10,6 @@ returns-in_err-trees-clause-part g c = on_err c.from_residual-in_err-trees.resul
 
 pub returns-in_err-found-clause-part : goal.returns-in_err-found-clause-part
 returns-in_err-found-clause-part g c = on_err c.from_residual-in_err-found.result _ (part_none (g.W.Sink.taken c.args.out.now) _)
+
+pub returns-in_err-without-clause-part : goal.returns-in_err-without-clause-part
+returns-in_err-without-clause-part g c = on_err c.from_residual-in_err-without.result _ (part_none (g.W.Sink.taken c.args.out.now) _)

@@ -1,6 +1,7 @@
 //! Explanations of the smallest clouds: one for each way in which a query finds nothing, with the hand count beside each.
 use super::{Case, NODES, OLD, TOKENS, UNDER_A_NODE, check};
 use crate::run::{ONE, Rows};
+use ac_query::Version;
 use ac_run::Command;
 use std::test::Fail;
 
@@ -112,6 +113,7 @@ const A_SLOT_ALONE: &[Case] = &[
         query: "resources_A=VCPU:2&required_A=CUSTOM_A",
         output: "slot 1 \"_A\" VCPU:2: units 1 of 1, traits 0, aggregates 0, tree 0, room 0\n\
                     trees 1: root traits 1, each slot 0, required traits 0\n\
+                    nobody has CUSTOM_A\n\
                     candidates: none\n",
         ..NONE
     },
@@ -120,6 +122,7 @@ const A_SLOT_ALONE: &[Case] = &[
         query: "resources=VCPU:2&member_of=@a",
         output: "slot 1 \"\" VCPU:2: units 1 of 1, traits 1, aggregates 0, tree 0, room 0\n\
                     trees 1: root traits 1, each slot 0, required traits 0\n\
+                    nobody is in member_of=@a\n\
                     candidates: none\n",
         ..NONE
     },
@@ -160,6 +163,7 @@ const NO_TREE: &[Case] = &[
         query: "resources=VCPU:2&root_required=CUSTOM_R",
         output: "slot 1 \"\" VCPU:2: units 1 of 1, traits 1, aggregates 1, tree 1, room 1\n\
                     trees 1: root traits 0, each slot 0, required traits 0\n\
+                    no root has CUSTOM_R\n\
                     candidates: none\n",
         ..NONE
     },
@@ -224,7 +228,9 @@ const NO_TRAIT: &[Case] = &[
         query: "resources=VCPU:2&required=CUSTOM_A",
         output: "slot 1 \"\" VCPU:2: units 1 of 1, traits 1, aggregates 1, tree 1, room 1\n\
                     trees 1: root traits 1, each slot 1, required traits 0\n\
-                    candidates: none\n",
+                    nobody has CUSTOM_A\n\
+                    candidates: none\n\
+                    without required: some\n",
         ..NONE
     },
     // The root has it, and gives no units.
@@ -233,7 +239,8 @@ const NO_TRAIT: &[Case] = &[
         query: "resources=VCPU:1&required=CUSTOM_A,CUSTOM_R",
         output: "slot 1 \"\" VCPU:1: units 2 of 3, traits 2, aggregates 2, tree 2, room 2\n\
                     trees 1: root traits 1, each slot 1, required traits 0\n\
-                    candidates: none\n",
+                    candidates: none\n\
+                    without required: some\n",
         ..NONE
     },
 ];
@@ -241,6 +248,75 @@ const NO_TRAIT: &[Case] = &[
 #[test]
 fn no_trait(rt: HostRuntime) -> Result<(), Fail> {
     check(&rt, NO_TRAIT)
+}
+
+// The first gives units. Of the second tree the root has a trait, and the child below it a class, a trait and an aggregate.
+const SPREAD: Rows = Rows {
+    providers: "@1,@1,\n@2,@2,\n@3,@2,@2\n",
+    inventories: "@1,VCPU,8,0,1,8,1,1.0\n@3,CUSTOM_X,8,0,1,8,1,1.0\n",
+    traits: "@2,CUSTOM_A\n@3,CUSTOM_C\n",
+    aggregates: "@3,@b\n",
+    ..ONE
+};
+
+// What nobody has stands in a line of its own, group by group, and then what no root has.
+const NOBODY: &[Case] = &[
+    // A class, a trait, one of two traits, one of two aggregates, a UUID, and a trait of the root. What is forbidden isn't missed.
+    Case {
+        query: "resources=VCPU:2,CUSTOM_X:1&required=CUSTOM_A,!CUSTOM_F&required=in:CUSTOM_C,CUSTOM_B&member_of=in:@b,@a&in_tree=@9\
+                    &root_required=CUSTOM_R,!CUSTOM_S",
+        version: Version::V139,
+        output: "slot 1 \"\" CUSTOM_X:1: units 0 of 1, traits 0, aggregates 0, tree 0, room 0\n\
+                    slot 2 \"\" VCPU:2: units 1 of 1, traits 1, aggregates 0, tree 0, room 0\n\
+                    trees 1: root traits 0, each slot 0, required traits 0\n\
+                    nobody has CUSTOM_X\n\
+                    nobody has CUSTOM_A\n\
+                    nobody has one of CUSTOM_B,CUSTOM_C\n\
+                    nobody is in member_of=in:@b,@a\n\
+                    nobody has in_tree=@9\n\
+                    no root has CUSTOM_R\n\
+                    candidates: none\n\
+                    without required: none\n",
+        ..NONE
+    },
+    // Somebody has each of these, if not the one that gives units; but the trait of the root is that of a child.
+    Case {
+        rows: SPREAD,
+        query: "resources=VCPU:2,CUSTOM_X:1&required=CUSTOM_A&required=in:CUSTOM_B,CUSTOM_C&member_of=in:@a,@b&in_tree=@3&root_required=CUSTOM_C",
+        version: Version::V139,
+        output: "slot 1 \"\" CUSTOM_X:1: units 1 of 3, traits 1, aggregates 1, tree 1, room 1\n\
+                    slot 2 \"\" VCPU:2: units 1 of 3, traits 1, aggregates 0, tree 0, room 0\n\
+                    trees 2: root traits 0, each slot 0, required traits 0\n\
+                    no root has CUSTOM_C\n\
+                    candidates: none\n\
+                    without required: none\n",
+        ..NONE
+    },
+    // What two groups ask for is told of each.
+    Case {
+        query: "resources_A=VCPU:1&required_A=CUSTOM_A&resources_B=VCPU:1&required_B=CUSTOM_A&in_tree_B=@2&group_policy=none",
+        output: "slot 1 \"_A\" VCPU:1: units 1 of 1, traits 0, aggregates 0, tree 0, room 0\n\
+                    slot 2 \"_B\" VCPU:1: units 1 of 1, traits 0, aggregates 0, tree 0, room 0\n\
+                    trees 1: root traits 1, each slot 0, required traits 0\n\
+                    nobody has CUSTOM_A\n\
+                    nobody has CUSTOM_A\n\
+                    nobody has in_tree=@2\n\
+                    candidates: none\n",
+        ..NONE
+    },
+    // An aggregate that is forbidden isn't missed.
+    Case {
+        query: "resources=VCPU:2&member_of=!@a",
+        output: "slot 1 \"\" VCPU:2: units 1 of 1, traits 1, aggregates 1, tree 1, room 1\n\
+                    trees 1: root traits 1, each slot 1, required traits 1\n\
+                    candidates: some\n",
+        ..SOME
+    },
+];
+
+#[test]
+fn nobody(rt: HostRuntime) -> Result<(), Fail> {
+    check(&rt, NOBODY)
 }
 
 // A tree has a provider for each slot, but not for all slots together.
@@ -251,7 +327,8 @@ const NOT_TOGETHER: &[Case] = &[
         output: "slot 1 \"_A\" VCPU:1: units 1 of 1, traits 1, aggregates 1, tree 1, room 1\n\
                     slot 2 \"_B\" VCPU:1: units 1 of 1, traits 1, aggregates 1, tree 1, room 1\n\
                     trees 1: root traits 1, each slot 1, required traits 1\n\
-                    candidates: none\n",
+                    candidates: none\n\
+                    without group_policy=isolate: some\n",
         ..NONE
     },
     // Five units and five more are more than eight.
@@ -269,7 +346,8 @@ const NOT_TOGETHER: &[Case] = &[
         query: "resources=VCPU:1&required=CUSTOM_A,CUSTOM_B",
         output: "slot 1 \"\" VCPU:1: units 2 of 3, traits 2, aggregates 2, tree 2, room 2\n\
                     trees 1: root traits 1, each slot 1, required traits 1\n\
-                    candidates: none\n",
+                    candidates: none\n\
+                    without required: some\n",
         ..NONE
     },
 ];
@@ -277,6 +355,98 @@ const NOT_TOGETHER: &[Case] = &[
 #[test]
 fn not_together(rt: HostRuntime) -> Result<(), Fail> {
     check(&rt, NOT_TOGETHER)
+}
+
+// Below the first, the second gives units, and the third memory.
+const SIBLINGS: Rows = Rows {
+    providers: "@1,@1,\n@2,@1,@1\n@3,@1,@1\n",
+    inventories: "@2,VCPU,8,0,1,8,1,1.0\n@3,MEMORY_MB,9,0,1,9,1,1.0\n",
+    ..ONE
+};
+
+// What is asked of several slots together is taken away, one thing at a time.
+const WITHOUT: &[Case] = &[
+    // Neither provider is above the other. The suffixes are in byte order.
+    Case {
+        rows: SIBLINGS,
+        query: "resources_A=VCPU:1&resources_B=MEMORY_MB:1&same_subtree=_B,_A&group_policy=none",
+        output: "slot 1 \"_A\" VCPU:1: units 1 of 3, traits 1, aggregates 1, tree 1, room 1\n\
+                    slot 2 \"_B\" MEMORY_MB:1: units 1 of 3, traits 1, aggregates 1, tree 1, room 1\n\
+                    trees 1: root traits 1, each slot 1, required traits 1\n\
+                    candidates: none\n\
+                    without same_subtree=_A,_B: some\n",
+        ..NONE
+    },
+    // The first list is met by the second provider, and the second by none.
+    Case {
+        rows: SIBLINGS,
+        query: "resources_A=VCPU:1&resources_B=MEMORY_MB:1&resources_C=VCPU:1&same_subtree=_C,_A&same_subtree=_A,_B&group_policy=none",
+        output: "slot 1 \"_A\" VCPU:1: units 1 of 3, traits 1, aggregates 1, tree 1, room 1\n\
+                    slot 2 \"_B\" MEMORY_MB:1: units 1 of 3, traits 1, aggregates 1, tree 1, room 1\n\
+                    slot 3 \"_C\" VCPU:1: units 1 of 3, traits 1, aggregates 1, tree 1, room 1\n\
+                    trees 1: root traits 1, each slot 1, required traits 1\n\
+                    candidates: none\n\
+                    without same_subtree=_A,_C: none\n\
+                    without same_subtree=_A,_B: some\n",
+        ..NONE
+    },
+    // Two groups want units of providers of their own, too: no one thing alone stands in the way.
+    Case {
+        rows: SIBLINGS,
+        query: "resources=VCPU:1&required=CUSTOM_A&resources_A=VCPU:1&resources_B=MEMORY_MB:1&resources_C=VCPU:1&same_subtree=_A,_B&group_policy=isolate",
+        output: "slot 1 \"\" VCPU:1: units 1 of 3, traits 1, aggregates 1, tree 1, room 1\n\
+                    slot 2 \"_A\" VCPU:1: units 1 of 3, traits 1, aggregates 1, tree 1, room 1\n\
+                    slot 3 \"_B\" MEMORY_MB:1: units 1 of 3, traits 1, aggregates 1, tree 1, room 1\n\
+                    slot 4 \"_C\" VCPU:1: units 1 of 3, traits 1, aggregates 1, tree 1, room 1\n\
+                    trees 1: root traits 1, each slot 1, required traits 0\n\
+                    nobody has CUSTOM_A\n\
+                    candidates: none\n\
+                    without same_subtree=_A,_B: none\n\
+                    without group_policy=isolate: none\n\
+                    without required: none\n",
+        ..NONE
+    },
+    // A list of which one trait is asked is taken away with what is required.
+    Case {
+        query: "resources=VCPU:1&required=in:CUSTOM_A,CUSTOM_B",
+        version: Version::V139,
+        output: "slot 1 \"\" VCPU:1: units 1 of 1, traits 1, aggregates 1, tree 1, room 1\n\
+                    trees 1: root traits 1, each slot 1, required traits 0\n\
+                    nobody has one of CUSTOM_A,CUSTOM_B\n\
+                    candidates: none\n\
+                    without required: some\n",
+        ..NONE
+    },
+    // What is forbidden stays, and so does what a group with a suffix requires.
+    Case {
+        rows: Rows {
+            traits: "@1,CUSTOM_F\n",
+            ..ONE
+        },
+        query: "resources=VCPU:1&required=CUSTOM_A,!CUSTOM_F",
+        output: "slot 1 \"\" VCPU:1: units 1 of 1, traits 0, aggregates 0, tree 0, room 0\n\
+                    trees 1: root traits 1, each slot 0, required traits 0\n\
+                    nobody has CUSTOM_A\n\
+                    candidates: none\n\
+                    without required: none\n",
+        ..NONE
+    },
+    Case {
+        query: "resources=VCPU:1&required=CUSTOM_A&resources_A=VCPU:1&required_A=CUSTOM_A",
+        output: "slot 1 \"\" VCPU:1: units 1 of 1, traits 1, aggregates 1, tree 1, room 1\n\
+                    slot 2 \"_A\" VCPU:1: units 1 of 1, traits 0, aggregates 0, tree 0, room 0\n\
+                    trees 1: root traits 1, each slot 0, required traits 0\n\
+                    nobody has CUSTOM_A\n\
+                    nobody has CUSTOM_A\n\
+                    candidates: none\n\
+                    without required: none\n",
+        ..NONE
+    },
+];
+
+#[test]
+fn without(rt: HostRuntime) -> Result<(), Fail> {
+    check(&rt, WITHOUT)
 }
 
 // The limit of a query says nothing, and a token that is refused is told.

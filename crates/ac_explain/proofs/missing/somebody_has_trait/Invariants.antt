@@ -1,0 +1,12 @@
+use Rattle.std.proofs.Common.{◌≡◌, drop}
+use Rattle.std.specs.List.{list_any}
+use Rattle.ac_base.specs.Names.{trait_bytes}
+use Rattle.ac_cloud.specs.Cloud.CloudWorld.{providers_of}
+use Rattle.ac_cloud.specs.World.{Provider, has_trait}
+use Rattle.ac_explain.proofs.missing.somebody_has_trait.Given as goal
+
+abbrev pub invariant-loop-ix : goal.invariant-loop-ix
+invariant-loop-ix l =
+    let all = providers_of l.cloud in
+    let test = λ (p : Provider). has_trait p (trait_bytes l.name) in
+    list_any test (drop l.ix all) ≡ list_any test all
