@@ -4,5 +4,5 @@ pub mod anchor;
 pub(crate) mod each;
 pub(crate) mod own;
 pub mod sums;
-pub(crate) mod traits;
+pub mod traits;
 pub(crate) mod whole;

@@ -15,5 +15,5 @@ pub mod walk;
 pub use ac_rules::{Plain, Rule, Source, Verdict, verify};
 pub use explaining::{SlotCounts, SlotTold, TreeCounts, all_slots, slot_counts, tree_counts};
 pub use hosts::fitting_roots;
-pub use lacking::{Lack, Stage, find_lacks};
+pub use lacking::{Lack, Stage, find_lacks, first_failed};
 pub use walk::Walk;

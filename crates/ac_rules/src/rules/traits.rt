@@ -61,7 +61,7 @@ fn has_any_of_few(cloud: &Cloud, ix: u32, names: &[TraitName]) -> bool
 }
 
 /// Whether the provider has one of these traits, which rise: what there is less of is gone through.
-pub(crate) fn has_any(cloud: &Cloud, ix: u32, names: &[TraitName]) -> bool
+pub fn has_any(cloud: &Cloud, ix: u32, names: &[TraitName]) -> bool
     requires provider { ix < length (providers_of cloud.now) }
     requires rising { IsStrictlySortedBy text_cmp (map trait_bytes names.now) }
     ensures { result ≡ has_any (provider_at (providers_of cloud.now) ix)
