@@ -10,3 +10,5 @@ pub mod Attempted
 pub mod Told
 pub mod HandedOn
 pub mod HostsWritten
+pub mod HostFound
+pub mod RowsWritten

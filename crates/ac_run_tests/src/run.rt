@@ -211,27 +211,20 @@ fn run_over<'a>(
 ) -> Result<Left, AllocError>
     requires { HasToken command (option_map (λ token. token.now) token) }
 {
-    run_by(alloc, rows, Version::V136, command, query, token, turns)
-}
-
-// The same, by a version.
-fn run_by<'a>(
-    alloc: Global,
-    rows: &Rows,
-    version: Version,
-    command: Command,
-    query: &'a str,
-    token: Option<&'a str>,
-    turns: Turns,
-) -> Result<Left, AllocError>
-    requires { HasToken command (option_map (λ token. token.now) token) }
-{
-    let texts = texts_of(alloc, rows)?;
     let job = Job {
         command,
         query,
-        version,
+        version: Version::V136,
         token,
+        host: None,
     };
-    run_texts(alloc, &texts, &job, turns)
+    run_job(alloc, rows, &job, turns)
+}
+
+// A run over the tables of these rows.
+fn run_job(alloc: Global, rows: &Rows, job: &Job<'_>, turns: Turns) -> Result<Left, AllocError>
+    requires { HasToken job.now.command (option_map (λ token. token.now) job.now.token) }
+{
+    let texts = texts_of(alloc, rows)?;
+    run_texts(alloc, &texts, job, turns)
 }

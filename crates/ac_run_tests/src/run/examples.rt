@@ -1,14 +1,15 @@
 //! Worked examples, with values worked out by hand.
-use super::{EMPTY, ONE, Rows, alike, expanded, expect_left, run_by};
+use super::{EMPTY, ONE, Rows, alike, expanded, expect_left, run_job};
 use ac_base::Turn;
 use ac_query::Version;
-use ac_run::Command;
+use ac_run::{Command, Job};
 use std::alloc::{AllocError, Global};
 use std::process::Abort;
 use std::test::Fail;
 
 mod explained;
 mod hosts;
+mod why;
 
 // What a run is asked, and what it answers. In all texts `@1` stands for the UUID that ends with 1.
 #[derive(Clone, Copy)]
@@ -18,6 +19,7 @@ struct Case {
     query: &'static str,
     version: Version,
     token: Option<&'static str>,
+    host: Option<&'static str>,
     output: &'static str,
     line: &'static str,
     status: u8,
@@ -30,6 +32,7 @@ const TOKENS: Case = Case {
     query: "resources=VCPU:2",
     version: Version::V136,
     token: None,
+    host: None,
     output: "",
     line: "",
     status: 0,
@@ -56,15 +59,18 @@ fn check_over(rt: &(impl Abort + AllocGlobal), cases: &[Case], turns: &[Turn]) -
             Some(token) => Some(expanded(alloc, token)?),
             None => None,
         };
-        let left = run_by(
-            alloc,
-            &case.rows,
-            case.version,
-            case.command,
-            query.as_str(),
-            token.as_deref(),
-            alike(turns),
-        )?;
+        let host = match case.host {
+            Some(host) => Some(expanded(alloc, host)?),
+            None => None,
+        };
+        let job = Job {
+            command: case.command,
+            query: query.as_str(),
+            version: case.version,
+            token: token.as_deref(),
+            host: host.as_deref(),
+        };
+        let left = run_job(alloc, &case.rows, &job, alike(turns))?;
         let output = expanded(alloc, case.output)?;
         expect_left(rt, &left, output.as_str(), case.line, case.status, place);
     }
