@@ -211,12 +211,37 @@ fn run_over<'a>(
 ) -> Result<Left, AllocError>
     requires { HasToken command (option_map (λ token. token.now) token) }
 {
+    run_by(
+        alloc,
+        rows,
+        Version::V136,
+        command,
+        query,
+        token,
+        None,
+        turns,
+    )
+}
+
+// The same by a version, and for a host.
+fn run_by<'a>(
+    alloc: Global,
+    rows: &Rows,
+    version: Version,
+    command: Command,
+    query: &'a str,
+    token: Option<&'a str>,
+    host: Option<&'a str>,
+    turns: Turns,
+) -> Result<Left, AllocError>
+    requires { HasToken command (option_map (λ token. token.now) token) }
+{
     let job = Job {
         command,
         query,
-        version: Version::V136,
+        version,
         token,
-        host: None,
+        host,
     };
     run_job(alloc, rows, &job, turns)
 }

@@ -1,8 +1,8 @@
 //! Worked examples, with values worked out by hand.
-use super::{EMPTY, ONE, Rows, alike, expanded, expect_left, run_job};
+use super::{EMPTY, ONE, Rows, alike, expanded, expect_left, run_by};
 use ac_base::Turn;
 use ac_query::Version;
-use ac_run::{Command, Job};
+use ac_run::Command;
 use std::alloc::{AllocError, Global};
 use std::process::Abort;
 use std::test::Fail;
@@ -63,14 +63,16 @@ fn check_over(rt: &(impl Abort + AllocGlobal), cases: &[Case], turns: &[Turn]) -
             Some(host) => Some(expanded(alloc, host)?),
             None => None,
         };
-        let job = Job {
-            command: case.command,
-            query: query.as_str(),
-            version: case.version,
-            token: token.as_deref(),
-            host: host.as_deref(),
-        };
-        let left = run_job(alloc, &case.rows, &job, alike(turns))?;
+        let left = run_by(
+            alloc,
+            &case.rows,
+            case.version,
+            case.command,
+            query.as_str(),
+            token.as_deref(),
+            host.as_deref(),
+            alike(turns),
+        )?;
         let output = expanded(alloc, case.output)?;
         expect_left(rt, &left, output.as_str(), case.line, case.status, place);
     }

@@ -1,7 +1,7 @@
 //! Runs with each growth refused in turn: the whole answer, or `out of memory` with status 7 and a first part of it.
-use super::{Left, ONE, ONE_BODY, Rows, SOUND, expanded, expect_left, run_job};
+use super::{Left, ONE, ONE_BODY, Rows, SOUND, expanded, expect_left, run_by};
 use ac_query::Version;
-use ac_run::{Command, Job};
+use ac_run::Command;
 use std::alloc::{AllocError, Global};
 use std::process::Abort;
 
@@ -53,14 +53,16 @@ fn left_by(rt: &(impl Abort + AllocGlobal), case: &Case) -> Result<Left, AllocEr
         Some(host) => Some(expanded(alloc, host)?),
         None => None,
     };
-    let job = Job {
-        command: case.command,
-        query: query.as_str(),
-        version: Version::V136,
-        token: token.as_deref(),
-        host: host.as_deref(),
-    };
-    let left = run_job(alloc, &case.rows, &job, SOUND)?;
+    let left = run_by(
+        alloc,
+        &case.rows,
+        Version::V136,
+        case.command,
+        query.as_str(),
+        token.as_deref(),
+        host.as_deref(),
+        SOUND,
+    )?;
     Ok(left)
 }
 

@@ -371,7 +371,7 @@ const NAMES: &str = "uuid,root_provider_uuid,parent_provider_uuid,name\n\
     @1,@1,,\"a, \"\"b\"\"\"\n@2,@2,,twin\n@3,@3,,twin\n";
 
 // A run over providers of these names, of which the first has eight units.
-fn run_named(alloc: Global, query: &str, host: &str) -> Result<Left, AllocError> {
+fn run_named<'a>(alloc: Global, query: &'a str, host: &'a str) -> Result<Left, AllocError> {
     let mut texts = texts_of(alloc, &ONE)?;
     texts.providers = expanded(alloc, NAMES)?;
     let job = Job {
