@@ -2,6 +2,8 @@
 from the program. Ratios are in millionths."""
 from __future__ import annotations
 
+import csv
+import io
 import itertools
 import json
 import os
@@ -351,6 +353,54 @@ def host_rows(found, query, cloud):
     return ''.join(row + '\n' for row in rows)
 
 
+def detail(provider, suffix, needs, stage, text, query):
+    """Of what a provider fails this test of a slot; lists of traits are in the order of the query's text."""
+    group = query.groups[suffix]
+    if stage == 'units':
+        for name in sorted(needs):
+            has = provider.has.get(name)
+            if not has:
+                return f'{name}: no inventory'
+            if not has.min_unit <= needs[name] <= has.max_unit or needs[name] % has.step_size:
+                return f'{name}:{needs[name]} not within min_unit {has.min_unit}, max_unit {has.max_unit}, step_size {has.step_size}'
+    if stage == 'traits':
+        front = f'required{suffix}=in:'
+        lists = [sorted(set(pair[len(front):].split(','))) for pair in text.split('&') if pair.startswith(front)]
+        missing = [name + ' missing' for name in sorted(group.required - provider.traits)]
+        missing += ['none of ' + ','.join(listed) for listed in lists if not provider.traits & set(listed)]
+        had = [name + ' forbidden' for name in sorted(group.forbidden & provider.traits)]
+        return [*(missing if suffix else ()), *had][0]
+    if stage == 'aggregates':
+        forbids, aggregates = group.rules[0]
+        return f'member_of={"!" * forbids}{"in:" * (len(aggregates) > 1)}{",".join(aggregates)}'
+    if stage == 'tree':
+        return f'in_tree={group.tree}'
+    if stage == 'room':
+        name = next(name for name in sorted(needs) if not has_room(provider, {name: needs[name]}))
+        has = provider.has[name]
+        return f'{name}: {max(has.capacity() - has.used, 0)} of {has.capacity()} left'
+    return ''
+
+
+def why_rows(root, found, text, query, cloud):
+    """How far the query of this text comes in the tree of a root."""
+    rows = [['slot', 'suffix', 'provider', 'name', 'lacks', 'detail']]
+    for number, (suffix, needs) in enumerate(query.slots(), 1):
+        left = list(serving(suffix, needs, query, cloud))
+        for provider in cloud:
+            if available(provider, root, cloud) and (not needs or set(needs) & set(provider.has)):
+                stage = next((stage for stage, some in zip(STAGES, left) if provider not in some), '')
+                rows.append([number, suffix, provider.name, '', stage, detail(provider, suffix, needs, stage, text, query)])
+    missing = [name + ' missing' for name in sorted(query.root_required - root.traits)]
+    had = [name + ' forbidden' for name in sorted(query.root_forbidden & root.traits)]
+    rows.append(['', '', root.name, '', '' if takes(root, query) else 'root traits', [*missing, *had, ''][0]])
+    slot, lack = lacks(root, found, query, cloud)
+    rows.append([slot, '', root.name, '', lack, 'does not fit' if lack else 'fits'])
+    written = io.StringIO()
+    csv.writer(written, lineterminator='\n').writerows(rows)
+    return written.getvalue()
+
+
 def request(assignment, query):
     taken, mappings = {}, {}
     for provider, (suffix, needs) in zip(assignment, query.slots()):
@@ -458,7 +508,10 @@ def asked(name, chance, cloud, query, every, judged):
     rule = chance.choice(sorted(set(judged) - {1}) or [1])
     one = chance.choice([place for place, other in enumerate(judged) if other == rule])
     line = f'no: rule {rule} {RULES[rule - 1]}\n' if rule else 'candidate\n'
-    text, made = full(query.text(chance)), tables('\n'.join(provider.text() for provider in cloud))
+    drawn_text = query.text(chance)
+    host = cloud[at % len(cloud)]
+    why = why_rows(host.root(), found, drawn_text, query, cloud)
+    text, made = full(drawn_text), tables('\n'.join(provider.text() for provider in cloud))
     after = ['--after', full(names(every[at]))]
     older = [] if any(group.any_of for group in query.groups.values()) else [[], ['--microversion', '1.36']]
     version = chance.choice([*older, ['--microversion', '1.39']])
@@ -467,4 +520,5 @@ def asked(name, chance, cloud, query, every, judged):
     yield Case(f'{name}: candidates after a token', ['candidates', text + '&limit=2', *after, *version], full(body(later, query, cloud)), tables=made)
     yield Case(f'{name}: explain', ['explain', text, *version], full(explanation(found, query, cloud)), status=0 if found else 1, tables=made)
     yield Case(f'{name}: hosts', ['hosts', text, *version], full(host_rows(found, query, cloud)), status=0 if found else 1, tables=made)
+    yield Case(f'{name}: why', ['why', text, full(host.name), *version], full(why), status=1 if why.endswith('does not fit\n') else 0, tables=made)
     yield Case(f'{name}: verify', ['verify', text, full(names(every[one])), *version], line, status=1 if rule else 0, tables=made)

@@ -21,7 +21,7 @@ NAMED = re.compile(r'(?<![\w./-])[\w./-]+\.(?:rt|antt|rattle|py|sh|c|rs)\b')
 STANDS_IN = re.compile(r'`(\w+)`,? in `([\w/]+\.rt)`')
 PROMISES = 'docs/PROMISES.md'
 EDITS = re.compile(r'^Edits: .*?(?=\n\n)', re.M | re.S)
-SHORT = {'ALL': ('(providers_of cloud.now)', '(providers_of self.now)', '(providers_of self.now.cloud.now)'),
+SHORT = {'ALL': ('(providers_of cloud.now)', '(providers_of self.now)', '(providers_of self.now.cloud.now)', '(providers_of placed.now.cloud.now)'),
          'ASKED': ('(asked_of query.now)', '(asked_of self.now)', '(asked_of self.now.query.now)')}
 
 

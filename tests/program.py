@@ -37,8 +37,8 @@ INVENTORIES = os.path.join(EXAMPLES, 'inventories.csv')
 CLOUD = os.path.join(EXAMPLES, 'cloud')
 NO_FILE = os.path.join(EXAMPLES, 'no_such_file.csv')
 ONE_HOST = '2b7d9e54-61c8-4f03-8a9d-c4e1b05f3a27\n'
-COMMANDS = 'check', 'candidates', 'tokens', 'verify', 'explain', 'hosts'
-STATUSES = {'no: rule': 1, 'unknown provider': 1, 'query': 4, 'token': 5, 'output': 6, 'out of memory': 7,
+COMMANDS = 'check', 'candidates', 'tokens', 'verify', 'explain', 'hosts', 'why'
+STATUSES = {'no: rule': 1, 'unknown provider': 1, 'query': 4, 'token': 5, 'host:': 5, 'output': 6, 'out of memory': 7,
             **dict.fromkeys(('providers:', 'inventories:', 'usages:', 'traits:', 'aggregates:'), 3)}
 NOT_BUILT = 70
 UNBUILT = "ac_cli: the program isn't built, or is older than its sources; ./ac_cli without words proves and builds it\n"
@@ -102,7 +102,7 @@ def example_of(name):
     """A case that runs the command at the end of a text of help, over the example cloud."""
     command = help_text(name).rstrip('\n').rpartition('\n')[2].strip()
     called = re.sub('^ac_cli', lambda _: shlex.quote(PROGRAM), command)
-    return Case(f'the example in the help: {command}', ['sh', '-c', f'cd examples && {called}'], SOME, status={'verify': 1, 'explain': 1, 'hosts': 1}.get(name, 0))
+    return Case(f'the example in the help: {command}', ['sh', '-c', f'cd examples && {called}'], SOME, status={'verify': 1, 'explain': 1, 'hosts': 1, 'why': 1}.get(name, 0))
 
 
 HELP = [
@@ -136,6 +136,9 @@ WORDS = [
     refused('no query for hosts', over(['hosts'])),
     refused('a token for hosts', over(['hosts', 'resources=VCPU:2', ONE_HOST.strip()])),
     refused('--after for hosts', over(['hosts', 'resources=VCPU:2', '--after', ONE_HOST.strip()]), '--after'),
+    refused('no host for why', over(['why', 'resources=VCPU:2']), '<HOST>', 'Usage: ac_cli why'),
+    refused('two hosts for why', over(['why', 'resources=VCPU:2', ONE_HOST.strip(), ONE_HOST.strip()])),
+    refused('--after for why', over(['why', 'resources=VCPU:2', ONE_HOST.strip(), '--after', ONE_HOST.strip()]), '--after'),
     refused('--after without a token', tokens('resources=VCPU:2') + ['--after']),
     refused('no inventories', ['tokens', 'resources=VCPU:2', '--providers', PROVIDERS], '--inventories <FILE>', 'Usage: ac_cli tokens'),
     refused('no providers', ['check', '--inventories', INVENTORIES], '--providers <FILE>', 'Usage: ac_cli check'),
@@ -272,6 +275,7 @@ DEVICES = [
     to_full('verify', over(['verify', 'resources=VCPU:2', ONE_HOST.strip()])),
     to_full('explain', over(['explain', 'resources=VCPU:2'])),
     to_full('hosts', over(['hosts', 'resources=VCPU:2'])),
+    to_full('why', over(['why', 'resources=VCPU:2', ONE_HOST.strip()])),
     Case('a full device: nothing to write', tokens('resources=DISK_GB:3000'), to='/dev/full'),
     to_nobody('tokens', tokens('resources=VCPU:2')),
     to_nobody('candidates', over(['candidates', 'resources=VCPU:2'])),
@@ -288,6 +292,7 @@ def growing(name, words, cloud='', **more):
 
 OTHERS = [f'--{name}={os.path.join(EXAMPLES, name)}.csv' for name in ('usages', 'traits', 'aggregates')]
 TWO, DISK, FIVES = 'resources=VCPU:2', 'resources=DISK_GB:10,VCPU:1', 'resources1=VCPU:5&resources2=VCPU:5&group_policy=none'
+LACKING = 'resources1=VCPU:2&required1=CUSTOM_A&resources2=VCPU:2&member_of2=in:A1,A2&root_required=CUSTOM_A&group_policy=none'
 GROWTHS = [
     growing('without words', []),
     growing('help', ['--help']),
@@ -307,6 +312,9 @@ GROWTHS = [
     growing('explain, no candidate', ['explain', FIVES], ONE),
     growing('hosts', ['hosts', DISK], SHARED),
     growing('hosts, no candidate', ['hosts', FIVES], ONE),
+    growing('why', ['why', DISK, 'P1'], SHARED),
+    growing('why, with traits and aggregates', ['why', LACKING, 'P1'], ONE),
+    growing('why, an unknown host', ['why', TWO, 'P7'], ONE),
     growing('check of a usage without an inventory', ['check'], ONE, usages=HEADERS['usages'] + f'{provider(1)},MEMORY_MB,1\n'),
     growing('a refused query', ['tokens', 'resources1=VCPU:1&same_subtree=1,2'], ONE),
     growing('a refused token', ['tokens', FIVES, '--after', 'P1'], CHILD),
@@ -322,7 +330,7 @@ KNOWN = Case('a fault is told though a growth behind it is refused', ['sh', '-c'
 
 def status_of(text):
     """The status that goes with an answer or a fault line."""
-    if re.search('^candidates: none$', text, re.M):
+    if re.search('^candidates: none$|,does not fit$', text, re.M):
         return 1
     return next((status for start, status in STATUSES.items() if text.startswith(start)), 0)
 
@@ -364,6 +372,9 @@ def ruled(page):
             elif ', hosts `' in line:
                 rows = ''.join(full(name) + '\n' for name in ['root,name,fits,slot,lacks', *names])
                 yield Case(f'{page}: {line}', ['hosts', full(query), *version], rows, status=0 if ',yes,' in rows else 1, tables=tables(cloud))
+            elif ', host `' in line:
+                rows = ''.join(full(name) + '\n' for name in ['slot,suffix,provider,name,lacks,detail', *names[1:]])
+                yield Case(f'{page}: {line}', ['why', full(query), full(names[0]), *version], rows, status=status_of(rows), tables=tables(cloud))
             elif ' is refused: `' in line:
                 yield Case(f'{page}: {line}', ['tokens', full(query), *version], err=names[0] + '\n', status=status_of(names[0]), tables=tables(cloud))
             else:

@@ -4,7 +4,7 @@
 _ac_cli() {
     local word=$2 before=$3
     local tables='--tables --providers --inventories --usages --traits --aggregates'
-    local commands='check candidates tokens verify explain hosts help'
+    local commands='check candidates tokens verify explain hosts why help'
     COMPREPLY=()
     case $before in
     --tables)
@@ -32,7 +32,7 @@ _ac_cli() {
         case ${COMP_WORDS[1]} in
         check) offered="$tables --help" ;;
         candidates | tokens) offered="$tables --microversion --after --help" ;;
-        verify | explain | hosts) offered="$tables --microversion --help" ;;
+        verify | explain | hosts | why) offered="$tables --microversion --help" ;;
         help) offered=$commands ;;
         esac
     fi

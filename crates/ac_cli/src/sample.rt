@@ -27,6 +27,7 @@ pub fn job() -> Job<'static>
         query: "resources=VCPU:2",
         version: Version::V136,
         token: None,
+        host: None,
     }
 }
 

@@ -1,1 +1,2 @@
+pub mod DetailsWritten
 pub mod Providers

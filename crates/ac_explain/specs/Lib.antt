@@ -1,2 +1,3 @@
+pub mod Details
 pub mod Differing
 pub mod Missing

@@ -24,7 +24,9 @@ pub id_is_text : (n : ℕ) → IsUtf8 (id_text n)
 id_is_text n = IsUtf8-from_ascii _ (hyphenated_ascii lower (to_be_bytes w128 n) (inl refl))
 
 -- ---- one more id behind others
-joined_more : (x : List ℕ) (xs : List (List ℕ)) (y : List ℕ) → join_with_byte 44 (x ∷ xs ++ y ∷ []) ≡ join_with_byte 44 (x ∷ xs) ++ 44 ∷ y
+
+-- one more text behind others
+pub joined_more : (x : List ℕ) (xs : List (List ℕ)) (y : List ℕ) → join_with_byte 44 (x ∷ xs ++ y ∷ []) ≡ join_with_byte 44 (x ∷ xs) ++ 44 ∷ y
 joined_more x [] y = refl
 joined_more x (z ∷ xs) y = ap (λ l. x ++ 44 ∷ l) (joined_more z xs y) ∙ sym (append_assoc x (44 ∷ join_with_byte 44 (z ∷ xs)) (44 ∷ y))
 

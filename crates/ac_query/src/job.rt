@@ -16,9 +16,11 @@ pub enum Command {
     Explain,
     /// Writes at which roots candidates stand, and what the others lack.
     Hosts,
+    /// Writes how far each provider of a host comes, and what it lacks.
+    Why,
 }
 
-/// What is to be done, and for which query, version and token.
+/// What is to be done, and for which query, version, token and host.
 #[derive(Clone, Copy, Debug, PartialEq, Eq)]
 pub struct Job<'a> {
     pub command: Command,
@@ -26,6 +28,9 @@ pub struct Job<'a> {
     pub query: &'a str,
     /// The microversion of the API by which the query is read; `V136` for `Check`, where it says nothing.
     pub version: Version,
-    /// For `Verify` the token to judge, which is there; for `Candidates` and `Tokens` the one to begin after; none for `Check`, `Explain` and `Hosts`.
+    /// For `Verify` the token to judge, which is there; for `Candidates` and `Tokens` the one to begin after; none for `Check`, `Explain`, `Hosts` and `Why`.
     pub token: Option<&'a str>,
+    /// For `Why` a provider of the host that is asked about, by its UUID, or by a name that no other provider has; without one no provider is
+    /// named. None for the others.
+    pub host: Option<&'a str>,
 }

@@ -68,6 +68,7 @@ fn asks(
         query,
         version,
         token,
+        host: None,
     };
     gives(alloc, line, job)
 }
@@ -177,6 +178,27 @@ fn hosts(rt: HostRuntime) -> Result<(), Fail> {
     Ok(())
 }
 
+const WHYS: &[&str] = &[
+    "ac_cli why q h --providers a --inventories b",
+    "ac_cli why --inventories=b q --traits c --providers=a h",
+    "ac_cli why q --tables d -- h",
+];
+
+#[test]
+fn why(rt: HostRuntime) -> Result<(), Fail> {
+    for line in WHYS {
+        let job = Job {
+            command: Command::Why,
+            query: "q",
+            version: Version::V136,
+            token: None,
+            host: Some("h"),
+        };
+        assert!(rt; gives(rt.alloc(), line, job)?, "{line}");
+    }
+    Ok(())
+}
+
 #[test]
 fn versions(rt: HostRuntime) -> Result<(), Fail> {
     let job = Job {
@@ -184,6 +206,7 @@ fn versions(rt: HostRuntime) -> Result<(), Fail> {
         query: "q",
         version: Version::V136,
         token: None,
+        host: None,
     };
     let older = "ac_cli tokens q --microversion 1.36 --providers a --inventories b";
     assert!(rt; gives(rt.alloc(), older, job)?);
@@ -328,6 +351,8 @@ const CALLS_FOR_HELP: &[&str] = &[
     "ac_cli explain --help",
     "ac_cli help hosts",
     "ac_cli hosts --help",
+    "ac_cli help why",
+    "ac_cli why --help",
 ];
 
 // The lines of the statuses, and of the example.
@@ -336,11 +361,11 @@ const BELOW_EACH: &[(&str, &[&str])] = &[
         "ac_cli --help",
         &[
             "  0  the answer is written",
-            "  1  `verify` says no, or `explain` or `hosts` finds no candidate",
+            "  1  `verify` says no, or `explain`, `hosts` or `why` finds no candidate",
             "  2  the command line was refused",
             "  3  a table was refused, or could not be read",
             "  4  the query was refused",
-            "  5  the token was refused",
+            "  5  the token was refused, or the host names no provider",
             "  6  a write failed",
             "  7  out of memory",
             "  ac_cli tokens 'resources=VCPU:2,DISK_GB:20' --tables cloud",
@@ -423,6 +448,20 @@ const BELOW_EACH: &[(&str, &[&str])] = &[
             "  ac_cli hosts 'resources=VCPU:8&required=CUSTOM_ROW_2' --tables cloud",
         ],
     ),
+    (
+        "ac_cli why --help",
+        &[
+            "  0  the query fits at the host",
+            "  1  it doesn't fit there",
+            "  2  the command line was refused",
+            "  3  a table was refused, or could not be read",
+            "  4  the query was refused",
+            "  5  the host names no provider, or several",
+            "  6  a write failed",
+            "  7  out of memory",
+            "  ac_cli why 'resources=VCPU:8&required=CUSTOM_ROW_2' compute-02 --tables cloud",
+        ],
+    ),
 ];
 
 #[test]
@@ -468,6 +507,7 @@ const COMMANDS: &[&str] = &[
     "  verify      Writes whether a token is a candidate for a query, or which rule it breaks",
     "  explain     Writes how many providers and trees meet a query, rule by rule: why nothing is found",
     "  hosts       Writes whether a query fits at each root, and what is missing there (CSV)",
+    "  why         Writes how far each provider of a host comes, and what it lacks (CSV): why not this host",
 ];
 
 #[test]
@@ -505,12 +545,18 @@ const VERIFIED: &[&str] = &[
     "  <TOKEN>  The UUIDs of providers, as `tokens` writes them",
 ];
 
+const ASKED_WHY: &[&str] = &[
+    "  <QUERY>  What is asked for, between '..' since the shell reads & ! and ? otherwise; of a URL, what stands behind its ?",
+    "  <HOST>   A provider of the host: its UUID, or a name that no other provider has",
+];
+
 const WITH_OPTIONS: &[&str] = &[
     "ac_cli help candidates",
     "ac_cli help tokens",
     "ac_cli help verify",
     "ac_cli help explain",
     "ac_cli help hosts",
+    "ac_cli help why",
 ];
 
 #[test]
@@ -522,6 +568,7 @@ fn help_tells_the_options(rt: HostRuntime) -> Result<(), Fail> {
     assert!(rt; tells(rt.alloc(), "ac_cli help candidates", SEARCHES)?);
     assert!(rt; tells(rt.alloc(), "ac_cli help tokens", SEARCHES)?);
     assert!(rt; tells(rt.alloc(), "ac_cli help verify", VERIFIED)?);
+    assert!(rt; tells(rt.alloc(), "ac_cli help why", ASKED_WHY)?);
     Ok(())
 }
 
@@ -555,6 +602,11 @@ const HOSTS_USAGE: &[&str] = &[
     "       ac_cli hosts [OPTIONS] --providers <FILE> --inventories <FILE> <QUERY>",
 ];
 
+const WHY_USAGE: &[&str] = &[
+    "Usage: ac_cli why [OPTIONS] --tables <DIR> <QUERY> <HOST>",
+    "       ac_cli why [OPTIONS] --providers <FILE> --inventories <FILE> <QUERY> <HOST>",
+];
+
 #[test]
 fn help_tells_the_usage(rt: HostRuntime) -> Result<(), Fail> {
     assert!(rt; tells(rt.alloc(), "ac_cli help check", CHECK_USAGE)?);
@@ -563,6 +615,7 @@ fn help_tells_the_usage(rt: HostRuntime) -> Result<(), Fail> {
     assert!(rt; tells(rt.alloc(), "ac_cli help verify", VERIFY_USAGE)?);
     assert!(rt; tells(rt.alloc(), "ac_cli help explain", EXPLAIN_USAGE)?);
     assert!(rt; tells(rt.alloc(), "ac_cli help hosts", HOSTS_USAGE)?);
+    assert!(rt; tells(rt.alloc(), "ac_cli help why", WHY_USAGE)?);
     Ok(())
 }
 
@@ -604,6 +657,10 @@ const OTHER_WORDS: &[&str] = &[
     "ac_cli hosts --providers a --inventories b",
     "ac_cli hosts q t --providers a --inventories b",
     "ac_cli hosts q --providers a --inventories b --after t",
+    "ac_cli why --providers a --inventories b",
+    "ac_cli why q --providers a --inventories b",
+    "ac_cli why q h h --providers a --inventories b",
+    "ac_cli why q h --providers a --inventories b --after t",
 ];
 
 #[test]

@@ -40,6 +40,7 @@ module _ {R : Type 0} (remaining : R → Option (List ℕ)) (failures : R → �
   explains_reading (why.Record t row k) h = absurd h
   explains_reading (why.Query f) h = absurd h
   explains_reading (why.Token f) h = absurd h
+  explains_reading (why.Host f) h = absurd h
   explains_reading why.Output h = absurd h
   explains_reading why.NoMemory h = tt
 
@@ -52,6 +53,7 @@ module _ {R : Type 0} (remaining : R → Option (List ℕ)) (failures : R → �
     explains_tables (why.TooLarge t) h = absurd h
     explains_tables (why.Query f) h = absurd h
     explains_tables (why.Token f) h = absurd h
+    explains_tables (why.Host f) h = absurd h
     explains_tables why.Output h = absurd h
     explains_tables why.NoMemory h = tt
 
@@ -60,9 +62,10 @@ module _ {R : Type 0} (remaining : R → Option (List ℕ)) (failures : R → �
       pub answers : (b : Bytes) → TellBytes remaining from b → answer task b ≡ answer_in task.command task world
       answers b tell = subst (λ b. answer task b ≡ answer_in task.command task world) (told b tell) (in_world task texts world few fine stated)
 
-      pub explains_wanted : (refusal : Refusal) → ExplainsWanted task refusal → ExplainsUnready remaining failures task from to refusal
-      explains_wanted (why.Query f) h = λ b tell. answers b tell ∙ h world
-      explains_wanted (why.Token f) h = λ b tell. answers b tell ∙ h world
+      pub explains_wanted : (refusal : Refusal) → ExplainsWanted task world refusal → ExplainsUnready remaining failures task from to refusal
+      explains_wanted (why.Query f) h = λ b tell. answers b tell ∙ h
+      explains_wanted (why.Token f) h = λ b tell. answers b tell ∙ h
+      explains_wanted (why.Host f) h = λ b tell. answers b tell ∙ h
       explains_wanted why.NoMemory h = tt
       explains_wanted (why.Unreadable t) h = absurd h
       explains_wanted (why.TooLarge t) h = absurd h

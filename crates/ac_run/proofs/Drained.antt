@@ -85,5 +85,6 @@ explains remaining failures old new t rose many (why.TooLarge s) h rises large =
 explains remaining failures old new t rose many (why.Record s row k) h rises large = absurd h
 explains remaining failures old new t rose many (why.Query f) h rises large = absurd h
 explains remaining failures old new t rose many (why.Token f) h rises large = absurd h
+explains remaining failures old new t rose many (why.Host f) h rises large = absurd h
 explains remaining failures old new t rose many why.Output h rises large = absurd h
 explains remaining failures old new t rose many why.NoMemory h rises large = tt

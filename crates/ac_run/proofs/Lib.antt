@@ -12,3 +12,5 @@ pub mod Told
 pub mod HandedOn
 pub mod HostsWritten
 pub mod DifferencesWritten
+pub mod HostFound
+pub mod RowsWritten

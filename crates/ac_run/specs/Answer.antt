@@ -1,12 +1,14 @@
 -- What a run answers: its output, its line on the error sink, and its status.
-use Rattle.std.specs.Prelude.{ℕ, List, [], codes, Option, Some, None}
-use Rattle.std.specs.Option.{option_and_then}
+use Rattle.std.specs.Prelude.{ℕ, List, [], codes, Option, Some, None, Result, Ok, Err}
+use Rattle.std.specs.Option.{option_and_then, unwrap_or}
 use Rattle.ac_tables.specs.Tables.Rows.{records_of}
 use Rattle.ac_tables.specs.Tables.AggregateTable.{aggregate_columns}
 use Rattle.ac_tables.specs.Tables.TraitTable.{trait_columns}
 use Rattle.ac_tables.specs.Tables.UsageTable.{usage_columns}
 use Rattle.ac_tables.specs.Tables.{Tables, records_or_header, tables_fault, world_stated}
 use Rattle.ac_cloud.specs.World.{World, Provider}
+use Rattle.ac_cloud.specs.Cloud.Hosts.{host_of}
+use Rattle.ac_cloud.specs.declared.cloud.naming.HostFault.{HostFault}
 use Rattle.ac_tables.specs.declared.fault.TableFault.{TableFault}
 use Rattle.ac_tables.specs.declared.fault.TableFault.TheVariants as fault
 use Rattle.ac_query.specs.declared.version.Version.{Version}
@@ -20,23 +22,25 @@ use Rattle.ac_query.specs.Pairs.Values.{ids_value}
 use Rattle.ac_query.specs.declared.token.TokenFault.{TokenFault}
 use Rattle.ac_rules.specs.Judge.{judge}
 use Rattle.ac_rules.specs.Pages.{page}
-use Rattle.ac_search.specs.Hosts.{fitting}
+use Rattle.ac_search.specs.Hosts.{fits_at, fitting}
 use Rattle.ac_report.specs.Texts.{body, lines}
 use Rattle.ac_run.specs.Outputs.{counts, verdict_status, verdict_text}
 use Rattle.ac_run.specs.Explanation.{explanation_status, explanation_text}
 use Rattle.ac_run.specs.Explanation.Candidates.{has_candidate}
 use Rattle.ac_run.specs.Outputs.HostRows.{hosts_status, hosts_text}
+use Rattle.ac_run.specs.Outputs.WhyRows.{root_place, why_status, why_text}
 use Rattle.ac_run.specs.Feeds.{Bytes, too_large}
-use Rattle.ac_run.specs.Lines.{too_large_line, record_line, query_line, token_line, memory_line}
+use Rattle.ac_run.specs.Lines.{too_large_line, record_line, query_line, token_line, host_line, memory_line}
 use Rattle.ac_query.specs.declared.job.Command.{Command}
 use Rattle.ac_query.specs.declared.job.Command.TheVariants as command
 
--- what is asked: the query, the version that reads it, and perhaps a token
+-- what is asked: the query, the version that reads it, and perhaps a token or a host
 pub record Task : Type 0 where
   pub command : Command
   pub query : List ℕ
   pub version : Version
   pub token : Option (List ℕ)
+  pub host : Option (List ℕ)
 
 -- what is answered
 pub record Outcome : Type 0 where
@@ -96,6 +100,22 @@ explanation all asked ids = written (explanation_text all asked (has_candidate a
 abbrev pub host_rows : List Provider → Says
 host_rows all asked ids = written (hosts_text all asked) (hosts_status (fitting all asked))
 
+-- how far a query comes in the tree of a provider
+abbrev pub why_not : List Provider → Asked → ℕ → Outcome
+why_not all asked host = written (why_text all asked (root_place all host)) (why_status (fits_at all asked (root_place all host)))
+
+-- what is said of the provider that is named, where one is
+abbrev pub on_host : Result ℕ HostFault → (ℕ → Outcome) → Outcome
+on_host (Ok host) say = say host
+on_host (Err f) say = refused (host_line f) 5
+
+-- the provider that a host names; without a host none is named
+abbrev pub host_found : List Provider → Option (List ℕ) → Result ℕ HostFault
+host_found all host = host_of all (unwrap_or host [])
+
+abbrev pub why_rows : List Provider → Option (List ℕ) → Says
+why_rows all host asked ids = on_host (host_found all host) (λ host. why_not all asked host)
+
 -- what is said, unless the token is refused
 abbrev pub past_token : Says → Option (List ℕ) → Asked → Outcome
 past_token say token asked = told (token_refusal asked token) (λ f. refused (token_line f) 5) (say asked (ids_given token))
@@ -113,6 +133,7 @@ answer_in command.Tokens task world = past_query (page_lines world.providers) ta
 answer_in command.Verify task world = past_query (verdict_line world.providers) task
 answer_in command.Explain task world = past_query (explanation world.providers) task
 answer_in command.Hosts task world = past_query (host_rows world.providers) task
+answer_in command.Why task world = past_query (why_rows world.providers task.host) task
 
 abbrev pub table_refused : TableFault → Outcome
 table_refused (fault.At t row kind) = refused (record_line t row kind) 3

@@ -28,6 +28,7 @@ ExplainsDraining rose many table (why.TooLarge t) = (t ≡ table) × many
 ExplainsDraining rose many table (why.Record t row k) = ⊥
 ExplainsDraining rose many table (why.Query f) = ⊥
 ExplainsDraining rose many table (why.Token f) = ⊥
+ExplainsDraining rose many table (why.Host f) = ⊥
 ExplainsDraining rose many table why.Output = ⊥
 ExplainsDraining rose many table why.NoMemory = ⊤
 
@@ -48,5 +49,6 @@ ExplainsReading remaining failures old new (why.TooLarge t) = (b : Bytes) → Te
 ExplainsReading remaining failures old new (why.Record t row k) = ⊥
 ExplainsReading remaining failures old new (why.Query f) = ⊥
 ExplainsReading remaining failures old new (why.Token f) = ⊥
+ExplainsReading remaining failures old new (why.Host f) = ⊥
 ExplainsReading remaining failures old new why.Output = ⊥
 ExplainsReading remaining failures old new why.NoMemory = ⊤

@@ -9,7 +9,7 @@ use Rattle.ac_run.specs.declared.refusal.Refusal.TheVariants as why
 use Rattle.ac_query.specs.declared.job.Job.{Job}
 
 abbrev pub task_of : Job → Task
-task_of job = record { command = job.command; query = job.query.now; version = job.version; token = option_map (λ token. token.now) job.token }
+task_of job = record { command = job.command; query = job.query.now; version = job.version; token = option_map (λ token. token.now) job.token; host = option_map (λ host. host.now) job.host }
 
 -- why a task's query or token is refused, whatever would be said of them; or memory gave out
 abbrev pub ExplainsAsked : Task → Refusal → Type 0
@@ -19,14 +19,16 @@ ExplainsAsked task why.NoMemory = ⊤
 ExplainsAsked task (why.Unreadable t) = ⊥
 ExplainsAsked task (why.TooLarge t) = ⊥
 ExplainsAsked task (why.Record t row k) = ⊥
+ExplainsAsked task (why.Host f) = ⊥
 ExplainsAsked task why.Output = ⊥
 
--- why a task is refused in every world: its query or its token is; or memory gave out
-abbrev pub ExplainsWanted : Task → Refusal → Type 0
-ExplainsWanted task (why.Query f) = (world : World) → answer_in task.command task world ≡ refused (line_of (why.Query f)) 4
-ExplainsWanted task (why.Token f) = (world : World) → answer_in task.command task world ≡ refused (line_of (why.Token f)) 5
-ExplainsWanted task why.NoMemory = ⊤
-ExplainsWanted task (why.Unreadable t) = ⊥
-ExplainsWanted task (why.TooLarge t) = ⊥
-ExplainsWanted task (why.Record t row k) = ⊥
-ExplainsWanted task why.Output = ⊥
+-- why a task is refused in a world: its query or its token is, or its host names no provider; or memory gave out
+abbrev pub ExplainsWanted : Task → World → Refusal → Type 0
+ExplainsWanted task world (why.Query f) = answer_in task.command task world ≡ refused (line_of (why.Query f)) 4
+ExplainsWanted task world (why.Token f) = answer_in task.command task world ≡ refused (line_of (why.Token f)) 5
+ExplainsWanted task world (why.Host f) = answer_in task.command task world ≡ refused (line_of (why.Host f)) 5
+ExplainsWanted task world why.NoMemory = ⊤
+ExplainsWanted task world (why.Unreadable t) = ⊥
+ExplainsWanted task world (why.TooLarge t) = ⊥
+ExplainsWanted task world (why.Record t row k) = ⊥
+ExplainsWanted task world why.Output = ⊥

@@ -3,6 +3,8 @@ use Rattle.std.specs.Prelude.{ℕ, List, [], ◌∷◌, ◌++◌, codes, Option}
 use Rattle.std.specs.Fmt.{decimal}
 use Rattle.std.specs.Option.{unwrap_or}
 use Rattle.std.specs.List.{flat_map}
+use Rattle.ac_cloud.specs.declared.cloud.naming.HostFault.{HostFault}
+use Rattle.ac_cloud.specs.declared.cloud.naming.HostFault.TheVariants as host
 use Rattle.ac_query.specs.Faults.{Fault, too_long, unknown_parameter, repeated, bad_value, conflict, no_resources, group_without_resources, unknown_suffix, policy_missing, too_many_slots}
 use Rattle.ac_query.specs.declared.token.TokenFault.{TokenFault}
 use Rattle.ac_query.specs.declared.token.TokenFault.TheVariants as token
@@ -98,3 +100,7 @@ unfoldable pub token_line : TokenFault → List ℕ
 token_line token.BadToken = codes "token: BadToken\n"
 token_line token.WrongLength = codes "token: WrongLength\n"
 token_line token.NoMemory = memory_line
+
+unfoldable pub host_line : HostFault → List ℕ
+host_line host.Unknown = codes "host: Unknown\n"
+host_line host.Ambiguous = codes "host: Ambiguous\n"

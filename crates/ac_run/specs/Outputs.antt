@@ -1,5 +1,6 @@
--- The small outputs: the counts of the tables, and the verdict on a list; and the rows of roots.
+-- The small outputs: the counts of the tables, and the verdict on a list; the rows of roots, and those of one root.
 pub mod HostRows
+pub mod WhyRows
 use Rattle.std.specs.Prelude.{ℕ, List, [], ◌∷◌, codes}
 use Rattle.std.specs.Fmt.{decimal}
 use Rattle.ac_cloud.specs.World.{Sizes}

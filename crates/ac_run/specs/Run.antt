@@ -26,6 +26,7 @@ ExplainsTables first (why.Unreadable t) = ⊥
 ExplainsTables first (why.TooLarge t) = ⊥
 ExplainsTables first (why.Query f) = ⊥
 ExplainsTables first (why.Token f) = ⊥
+ExplainsTables first (why.Host f) = ⊥
 ExplainsTables first why.Output = ⊥
 ExplainsTables first why.NoMemory = ⊤
 
@@ -36,6 +37,7 @@ ExplainsUnready remaining failures task from to (why.TooLarge t) = (b : Bytes) �
 ExplainsUnready remaining failures task from to (why.Record t row k) = (b : Bytes) → TellBytes remaining from b → answer task b ≡ refused (line_of (why.Record t row k)) 3
 ExplainsUnready remaining failures task from to (why.Query f) = (b : Bytes) → TellBytes remaining from b → answer task b ≡ refused (line_of (why.Query f)) 4
 ExplainsUnready remaining failures task from to (why.Token f) = (b : Bytes) → TellBytes remaining from b → answer task b ≡ refused (line_of (why.Token f)) 5
+ExplainsUnready remaining failures task from to (why.Host f) = (b : Bytes) → TellBytes remaining from b → answer task b ≡ refused (line_of (why.Host f)) 5
 ExplainsUnready remaining failures task from to why.NoMemory = ⊤
 ExplainsUnready remaining failures task from to why.Output = ⊥
 

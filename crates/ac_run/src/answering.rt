@@ -1,21 +1,24 @@
 //! The answers over a cloud, each written with its status.
 
 mod host_rows;
+mod rows;
+mod why_rows;
 
-ghost use Rattle.std.specs.Prelude.{◌≡◌, ◌≤◌, IfOk, OnErr, Err, Some, None, length};
+ghost use Rattle.std.specs.Prelude.{◌≡◌, ◌<◌, ◌≤◌, IfOk, OnErr, Err, Some, None, length};
 ghost use Rattle.std.specs.Option.{option_map};
 ghost use Rattle.ac_base.specs.Devices.{Rises, TakesPart};
 ghost use Rattle.ac_cloud.specs.Cloud.CloudWorld.{providers_of, world_of};
 ghost use Rattle.ac_query.specs.Asked.{slots_of};
 ghost use Rattle.ac_query.specs.Shown.Queries.{asked_of};
 ghost use Rattle.ac_query.specs.Tokens.{ids_of};
-ghost use Rattle.ac_run.specs.Answer.{explanation, host_rows, page_body, page_lines, verdict_line, written};
-ghost use Rattle.ac_run.specs.Asking.{HasIdForEachSlot, answer_to};
+ghost use Rattle.ac_run.specs.Answer.{explanation, host_rows, page_body, page_lines, verdict_line, why_not, written};
+ghost use Rattle.ac_run.specs.Asking.{HasHost, HasIdForEachSlot, answer_to};
 ghost use Rattle.ac_run.specs.Outputs.{counts};
 ghost use Rattle.ac_report.specs.declared.fault.PageFault.TheVariants as PageFault;
 ghost use Rattle.ac_run.specs.Run.{IsWritten};
 
 use self::host_rows::{hosts_status, hosts_text};
+use self::why_rows::{root_place, why_at};
 use crate::asking::Wanted;
 use crate::asking::question::Question;
 use crate::explanation::{
@@ -195,6 +198,30 @@ fn write_hosts<W: Sink>(
     push_text(out, &text, hosts_status(&fits))
 }
 
+// How far a query comes in the tree of a provider.
+#[tactic(auto, using(ac_base::proofs::Leaving::part_none))]
+fn write_why<W: Sink>(
+    alloc: Global,
+    cloud: &Cloud,
+    query: &Query,
+    host: u32,
+    out: &mut W,
+) -> Result<u8, PageFault>
+    requires { host < length (providers_of cloud.now) }
+    ensures few { IfOk result (λ status. status ≤ 1) }
+    ensures ok { IfOk result (IsWritten
+        (why_not (providers_of cloud.now) (asked_of query.now) host)
+        (W.taken out.old) (W.taken out.new)) }
+    ensures part { OnErr result (TakesPart (W.taken out.old) (W.taken out.new)
+        (why_not (providers_of cloud.now) (asked_of query.now) host).output) }
+    ensures failed { result ≡ Err PageFault.WriteFailed
+        → Rises (W.failures out.old) (W.failures out.new) }
+    ensures failures { W.failures out.old ≤ W.failures out.new }
+{
+    let (text, status) = why_at(alloc, cloud, query, root_place(cloud, host))?;
+    push_text(out, &text, status)
+}
+
 /// Writes what is wanted of a cloud.
 pub fn write_answer<W: Sink>(
     alloc: Global,
@@ -202,7 +229,8 @@ pub fn write_answer<W: Sink>(
     wanted: &Wanted,
     out: &mut W,
 ) -> Result<u8, PageFault>
-    requires { HasIdForEachSlot wanted.now }
+    requires slots { HasIdForEachSlot wanted.now }
+    requires host { HasHost (providers_of cloud.now) wanted.now }
     ensures few { IfOk result (λ status. status ≤ 1) }
     ensures ok { IfOk result (IsWritten (answer_to wanted.now (world_of cloud.now))
         (W.taken out.old) (W.taken out.new)) }
@@ -219,5 +247,6 @@ pub fn write_answer<W: Sink>(
         Wanted::Verdict(query, token) => write_verdict(alloc, cloud, query, token, out),
         Wanted::Explanation(question) => write_explanation(alloc, cloud, question, out),
         Wanted::Hosts(query) => write_hosts(alloc, cloud, query, out),
+        Wanted::Why(query, host) => write_why(alloc, cloud, query, *host, out),
     }
 }

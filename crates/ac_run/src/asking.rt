@@ -1,8 +1,8 @@
-//! What a job asks: its query, and perhaps a token.
+//! What a job asks: its query, and perhaps a token or a host.
 
 pub mod question;
 
-ghost use Rattle.std.specs.Prelude.{◌≡◌, IfOk, IfErr, IfSome, OnOk, Some, None, is_some, length};
+ghost use Rattle.std.specs.Prelude.{◌≡◌, IfOk, IfErr, IfSome, Ok, OnOk, Some, None, is_some, length};
 ghost use Rattle.std.specs.Option.{option_map};
 ghost use Rattle.ac_query.specs.Asked.{slots_of};
 ghost use Rattle.ac_query.specs.Faults.{query_fault};
@@ -11,18 +11,19 @@ ghost use Rattle.ac_query.specs.Laws.Gathered.{asked_by};
 ghost use Rattle.ac_query.specs.Pairs.{pairs_of};
 ghost use Rattle.ac_query.specs.Shown.Queries.{asked_of};
 ghost use Rattle.ac_query.specs.Tokens.{ids_of};
-ghost use Rattle.ac_cloud.specs.World.{World};
-ghost use Rattle.ac_run.specs.Answer.{Says, answer_in, ids_given, past_query, token_refusal};
-ghost use Rattle.ac_run.specs.Asking.{ExplainsQuery, ExplainsToken, HasIdForEachSlot, IsRefusalOf, answer_to};
+ghost use Rattle.ac_cloud.specs.Cloud.CloudWorld.{providers_of, world_of};
+ghost use Rattle.ac_run.specs.Answer.{Says, answer_in, host_found, ids_given, past_query, token_refusal};
+ghost use Rattle.ac_run.specs.Asking.{ExplainsHost, ExplainsQuery, ExplainsToken, HasHost, HasIdForEachSlot, IsRefusalOf, answer_to};
 ghost use Rattle.ac_run.specs.Jobs.{ExplainsAsked, ExplainsWanted, task_of};
 
 use self::question::Question;
 use crate::refusal::Refusal;
 use ac_base::NoMemory;
 use ac_query::{Command, Job, Query, QueryFault, Token, TokenFault, Version};
+use ac_tables::Cloud;
 use std::alloc::Global;
 
-/// What a job wants of a cloud, its query and its token read.
+/// What a job wants of a cloud, its query and its token read, and its host found.
 #[derive(Drop)]
 pub enum Wanted {
     /// How much the tables told.
@@ -37,6 +38,8 @@ pub enum Wanted {
     Explanation(Question),
     /// Which roots fit, and what the others lack.
     Hosts(Query),
+    /// How far a query comes in the tree of a provider, which stands at this place.
+    Why(Query, u32),
 }
 
 // The query of a text, as a version reads it.
@@ -100,14 +103,29 @@ fn read_asked(alloc: Global, job: &Job) -> Result<(Query, Option<Token>), Refusa
     Ok((query, token))
 }
 
-/// What a job wants: its query is read, and then its token.
-#[tactic(auto, using(crate::proofs::WantedSaid::explains_body, crate::proofs::WantedSaid::explains_lines, crate::proofs::WantedSaid::explains_verdict, crate::proofs::WantedSaid::explains_explanation, crate::proofs::WantedSaid::explains_hosts))]
-pub fn read_wanted(alloc: Global, job: &Job) -> Result<Wanted, Refusal>
+// The provider that a host names.
+fn find_host(cloud: &Cloud, host: Option<&str>) -> Result<u32, Refusal>
+    ensures found { IfOk result (λ place. host_found (providers_of cloud.now)
+        (option_map (λ h. h.now) host.entry) ≡ Ok place) }
+    ensures fault { IfErr result (ExplainsHost (host_found (providers_of cloud.now)
+        (option_map (λ h. h.now) host.entry))) }
+{
+    match cloud.host(host.unwrap_or("").as_bytes()) {
+        Ok(place) => Ok(place),
+        Err(fault) => Err(Refusal::Host(fault)),
+    }
+}
+
+/// What a job wants: its query is read, then its token, and its host is looked for.
+#[tactic(auto, using(crate::proofs::WantedSaid::explains_body, crate::proofs::WantedSaid::explains_lines, crate::proofs::WantedSaid::explains_verdict, crate::proofs::WantedSaid::explains_explanation, crate::proofs::WantedSaid::explains_hosts, crate::proofs::WantedSaid::explains_why))]
+pub fn read_wanted(alloc: Global, job: &Job, cloud: &Cloud) -> Result<Wanted, Refusal>
     requires { HasToken job.now.command (option_map (λ token. token.now) job.now.token) }
-    ensures wanted { IfOk result (λ wanted. (world : World)
-        → answer_in job.now.command (task_of job.now) world ≡ answer_to wanted world) }
+    ensures wanted { IfOk result (λ wanted.
+        answer_in job.now.command (task_of job.now) (world_of cloud.now)
+        ≡ answer_to wanted (world_of cloud.now)) }
     ensures slots { IfOk result (λ wanted. HasIdForEachSlot wanted) }
-    ensures fault { IfErr result (ExplainsWanted (task_of job.now)) }
+    ensures host { IfOk result (λ wanted. HasHost (providers_of cloud.now) wanted) }
+    ensures fault { IfErr result (ExplainsWanted (task_of job.now) (world_of cloud.now)) }
 {
     match job.command {
         Command::Check => Ok(Wanted::Counts),
@@ -136,6 +154,13 @@ pub fn read_wanted(alloc: Global, job: &Job) -> Result<Wanted, Refusal>
         Command::Hosts => {
             let (query, _token) = read_asked(alloc, job)?;
             Ok(Wanted::Hosts(query))
+        }
+        Command::Why => {
+            let (query, _token) = read_asked(alloc, job)?;
+            match find_host(cloud, job.host) {
+                Ok(host) => Ok(Wanted::Why(query, host)),
+                Err(refusal) => Err(refusal),
+            }
         }
     }
 }

@@ -3,9 +3,9 @@ ghost use Rattle.std.specs.Prelude.{◌≡◌, IfOk, IfErr, OnOk, None};
 ghost use Rattle.std.specs.Option.{option_map};
 ghost use Rattle.ac_query.specs.Jobs.{HasToken};
 ghost use Rattle.ac_tables.specs.Tables.{tables_fault, world_stated};
-ghost use Rattle.ac_cloud.specs.Cloud.CloudWorld.{world_of};
+ghost use Rattle.ac_cloud.specs.Cloud.CloudWorld.{providers_of, world_of};
 ghost use Rattle.ac_run.specs.Answer.{answer, tables_in};
-ghost use Rattle.ac_run.specs.Asking.{HasIdForEachSlot, answer_to};
+ghost use Rattle.ac_run.specs.Asking.{HasHost, HasIdForEachSlot, answer_to};
 ghost use Rattle.ac_run.specs.Draining.{texts_shown};
 ghost use Rattle.ac_run.specs.Feeds.{Bytes, TellBytes, too_large};
 ghost use Rattle.ac_run.specs.Jobs.{task_of};
@@ -58,7 +58,7 @@ fn read_cloud(alloc: Global, texts: Texts) -> Result<Cloud, Refusal>
     }
 }
 
-/// Reads the tables in their order, then the query, then the token.
+/// Reads the tables in their order, then the query, then the token, and looks for the host.
 pub fn make_ready<R: Feed>(
     alloc: Global,
     job: &Job,
@@ -68,6 +68,7 @@ pub fn make_ready<R: Feed>(
     ensures answer { IfOk result (λ ready. (b : Bytes) → TellBytes R.remaining inputs.old b
         → answer (task_of job.now) b ≡ answer_to ready.wanted (world_of ready.cloud)) }
     ensures slots { IfOk result (λ ready. HasIdForEachSlot ready.wanted) }
+    ensures host { IfOk result (λ ready. HasHost (providers_of ready.cloud) ready.wanted) }
     ensures fault { IfErr result (ExplainsUnready R.remaining R.failures
         (task_of job.now) inputs.old inputs.new) }
 {
@@ -79,7 +80,7 @@ pub fn make_ready<R: Feed>(
         Ok(cloud) => cloud,
         Err(refusal) => return Err(refusal),
     };
-    match read_wanted(alloc, job) {
+    match read_wanted(alloc, job, &cloud) {
         Ok(wanted) => Ok(Ready { cloud, wanted }),
         Err(refusal) => Err(refusal),
     }

@@ -2,6 +2,7 @@
 ghost use Rattle.std.specs.Prelude.{◌≡◌};
 ghost use Rattle.ac_run.specs.Lines.{table_name, kind_name};
 
+use ac_cloud::HostFault;
 use ac_query::{QueryFault, TokenFault};
 use ac_tables::{Table, TableKind};
 
@@ -22,6 +23,8 @@ pub enum Refusal {
     Query(QueryFault),
     /// What is wrong with the token.
     Token(TokenFault),
+    /// Why no provider is named.
+    Host(HostFault),
     /// The output can't be written.
     Output,
     /// A growth was refused.

@@ -9,6 +9,7 @@ use crate::pieces::digits::Digits;
 use crate::pieces::push_pieces;
 use crate::refusal::{Refusal, kind_name, table_name};
 use ac_base::{Sink, WriteFailed, push_all};
+use ac_cloud::HostFault;
 use ac_query::{QueryFault, TokenFault};
 use ac_tables::{Table, TableKind};
 
@@ -105,7 +106,7 @@ fn push_whole<E: Sink>(err: &mut E, text: &[u8]) -> Result<(), WriteFailed>
 }
 
 // The line of a refusal.
-#[tactic(auto, unfolding(crate::specs::Lines::unreadable_line, crate::specs::Lines::too_large_line, crate::specs::Lines::token_line, crate::specs::Lines::memory_line, crate::specs::Lines::output_line))]
+#[tactic(auto, unfolding(crate::specs::Lines::unreadable_line, crate::specs::Lines::too_large_line, crate::specs::Lines::token_line, crate::specs::Lines::host_line, crate::specs::Lines::memory_line, crate::specs::Lines::output_line))]
 fn push_line<E: Sink>(err: &mut E, refusal: &Refusal) -> Result<(), WriteFailed>
     ensures { Pushes result (E.taken err.old) (E.taken err.new) (E.failures err.old)
         (E.failures err.new) (line_of refusal.now) }
@@ -118,6 +119,8 @@ fn push_line<E: Sink>(err: &mut E, refusal: &Refusal) -> Result<(), WriteFailed>
         Refusal::Token(TokenFault::BadToken) => push_whole(err, b"token: BadToken\n"),
         Refusal::Token(TokenFault::WrongLength) => push_whole(err, b"token: WrongLength\n"),
         Refusal::Token(TokenFault::NoMemory) => push_whole(err, b"out of memory\n"),
+        Refusal::Host(HostFault::Unknown) => push_whole(err, b"host: Unknown\n"),
+        Refusal::Host(HostFault::Ambiguous) => push_whole(err, b"host: Ambiguous\n"),
         Refusal::Output => push_whole(err, b"output: WriteFailed\n"),
         Refusal::NoMemory => push_whole(err, b"out of memory\n"),
     }
@@ -129,7 +132,7 @@ fn status_of(refusal: &Refusal) -> u8
     match refusal {
         Refusal::Unreadable(_) | Refusal::TooLarge(_) | Refusal::Record { .. } => 3,
         Refusal::Query(_) => 4,
-        Refusal::Token(_) => 5,
+        Refusal::Token(_) | Refusal::Host(_) => 5,
         Refusal::Output => 6,
         Refusal::NoMemory => 7,
     }

@@ -211,10 +211,19 @@ fn run_over<'a>(
 ) -> Result<Left, AllocError>
     requires { HasToken command (option_map (λ token. token.now) token) }
 {
-    run_by(alloc, rows, Version::V136, command, query, token, turns)
+    run_by(
+        alloc,
+        rows,
+        Version::V136,
+        command,
+        query,
+        token,
+        None,
+        turns,
+    )
 }
 
-// The same, by a version.
+// The same by a version, and for a host.
 fn run_by<'a>(
     alloc: Global,
     rows: &Rows,
@@ -222,16 +231,25 @@ fn run_by<'a>(
     command: Command,
     query: &'a str,
     token: Option<&'a str>,
+    host: Option<&'a str>,
     turns: Turns,
 ) -> Result<Left, AllocError>
     requires { HasToken command (option_map (λ token. token.now) token) }
 {
-    let texts = texts_of(alloc, rows)?;
     let job = Job {
         command,
         query,
         version,
         token,
+        host,
     };
-    run_texts(alloc, &texts, &job, turns)
+    run_job(alloc, rows, &job, turns)
+}
+
+// A run over the tables of these rows.
+fn run_job(alloc: Global, rows: &Rows, job: &Job<'_>, turns: Turns) -> Result<Left, AllocError>
+    requires { HasToken job.now.command (option_map (λ token. token.now) job.now.token) }
+{
+    let texts = texts_of(alloc, rows)?;
+    run_texts(alloc, &texts, job, turns)
 }

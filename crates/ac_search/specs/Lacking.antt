@@ -4,6 +4,7 @@ use Rattle.std.specs.List.{list_any, range_with_len}
 use Rattle.std.specs.Option.{option_map, option_or}
 use Rattle.ac_query.specs.Asked.{Asked, Slot, slots_of}
 use Rattle.ac_cloud.specs.World.{Provider}
+use Rattle.ac_rules.specs.Placed.{Placed}
 use Rattle.ac_rules.specs.Together.{takes_root}
 use Rattle.ac_prune.specs.Ahead.{hosts_of}
 use Rattle.ac_search.specs.Explained.{holds_required, in_slot, meets_units, meets_traits, meets_aggregates, meets_tree, meets_room}
@@ -17,6 +18,15 @@ use Rattle.ac_search.specs.declared.lacking.Lack.TheVariants as lack
 abbrev pub if_failed : {X : Type 0} → Bool → X → Option X → Option X
 if_failed true lacks behind = behind
 if_failed false lacks behind = Some lacks
+
+-- the first of the five tests of a slot that its provider fails
+abbrev pub first_failed : List Provider → Placed → Option Stage
+first_failed all x =
+    if_failed (meets_units all x) Units
+    (if_failed (meets_traits all x) Traits
+    (if_failed (meets_aggregates all x) Aggregates
+    (if_failed (meets_tree all x) Tree
+    (if_failed (meets_room all x) Room None))))
 
 -- the first of the five tests of a slot that none of the providers available in the tree of a root passes
 abbrev pub unreached : List Provider → ℕ → Slot → Option Stage

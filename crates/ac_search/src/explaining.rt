@@ -2,13 +2,11 @@
 //! for each slot, and the traits that the group without a suffix requires.
 
 ghost use Rattle.std.specs.Prelude.{◌≡◌, ◌<◌, ◌^◌, IfOk, [], length, nat_lt};
-ghost use Rattle.ac_cloud.specs.World.{id_at, is_root, provider_at};
+ghost use Rattle.ac_cloud.specs.World.{id_at, is_root};
 ghost use Rattle.ac_cloud.specs.Cloud.CloudWorld.{providers_of};
 ghost use Rattle.ac_query.specs.Asked.{slots_of};
-ghost use Rattle.ac_query.specs.Shown.Groups.{need_entry};
 ghost use Rattle.ac_query.specs.Shown.Queries.{asked_of};
 ghost use Rattle.ac_rules.specs.Placed.{placed_at, slot_at};
-ghost use Rattle.ac_rules.specs.Together.{holds};
 ghost use Rattle.ac_search.specs.Explained.{count_of, meets_units, meets_traits, meets_aggregates, meets_tree, meets_room, slot_counts, tree_counts};
 ghost use Rattle.ac_prune.specs.QuerySearch.{has_room_alone};
 ghost use Rattle.ac_rules.specs.Shown.Assignments.{placed_of};
@@ -20,9 +18,9 @@ pub(crate) mod required;
 use ac_base::NoMemory;
 use ac_cloud::Cloud;
 use ac_prune::{fits_slot, limit, taken_roots};
-use ac_query::{Need, Query};
+use ac_query::Query;
 use ac_rules::Placed;
-use ac_rules::rules::sums::room_at;
+use ac_rules::rules::sums::has_room_of;
 use ac_rules::slots::{count_slots, needs_at};
 pub use classes::{SlotTold, all_slots};
 use required::limit_required;
@@ -56,18 +54,6 @@ pub struct TreeCounts {
     /// Of these, those in whose trees each trait that the group without a suffix requires, and one of each of its lists, is
     /// had by some such provider of one of that group's slots.
     pub required_traits: u32,
-}
-
-// Whether a provider has room for an amount of a class.
-fn has_room_of(cloud: &Cloud, ix: u32, need: &Need) -> bool
-    requires { ix < length (providers_of cloud.now) }
-    ensures { result ≡ holds (provider_at (providers_of cloud.now) ix)
-        (need_entry need.now).0 (need_entry need.now).1 }
-{
-    match room_at(cloud, ix, need.class()) {
-        Some(room) => u64::from(need.amount()) <= room,
-        None => false,
-    }
 }
 
 // Whether a provider has room for what a slot alone asks.

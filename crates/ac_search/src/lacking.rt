@@ -6,10 +6,11 @@ ghost use Rattle.ac_cloud.specs.Cloud.CloudWorld.{providers_of};
 ghost use Rattle.ac_query.specs.Asked.{slots_of};
 ghost use Rattle.ac_query.specs.Shown.Queries.{asked_of};
 ghost use Rattle.ac_rules.specs.Placed.{slot_at};
+ghost use Rattle.ac_rules.specs.Shown.Assignments.{placed_of};
 ghost use Rattle.ac_prune.specs.Trees.Keys.{is_there};
 ghost use Rattle.ac_search.specs.Explained.{holds_required};
 ghost use Rattle.ac_search.specs.Hosts.{fitting};
-ghost use Rattle.ac_search.specs.Lacking.{first_lack, lacks_of};
+ghost use Rattle.ac_search.specs.Lacking.{first_failed, first_lack, lacks_of};
 ghost use Rattle.ac_search.specs.Shown.Lacking.{AreNoted, AreReached, lack_behind, stage_behind, unserved};
 
 use crate::explaining::count_met;
@@ -97,6 +98,14 @@ fn stage_behind(passed: u32) -> Option<Stage>
         4 => Some(Stage::Room),
         _ => None,
     }
+}
+
+/// The first test of its slot that a provider fails.
+pub fn first_failed(placed: &Placed) -> Option<Stage>
+    ensures { result
+        ≡ first_failed (providers_of placed.now.cloud.now) (placed_of placed.now) }
+{
+    stage_behind(count_met(placed))
 }
 
 // What is lacking of a slot where so many of its tests are passed.

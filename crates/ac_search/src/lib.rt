@@ -17,5 +17,5 @@ pub use explaining::{
     SlotCounts, SlotTold, TreeCounts, all_slots, requires_some, slot_counts, tree_counts,
 };
 pub use hosts::fitting_roots;
-pub use lacking::{Lack, Stage, find_lacks};
+pub use lacking::{Lack, Stage, find_lacks, first_failed};
 pub use walk::Walk;

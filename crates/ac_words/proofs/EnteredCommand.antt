@@ -20,7 +20,7 @@ use Rattle.ac_words.specs.Mark.{past_mark}
 use Rattle.ac_words.specs.Words.{HasEntry, IsComplete, name_of, named, program, query_of, token_of}
 use Rattle.ac_query.specs.Jobs.{HasToken}
 use Rattle.ac_query.specs.declared.job.Command.{Command}
-use Rattle.ac_query.specs.declared.job.Command.TheVariants.{Check, Candidates, Tokens, Verify, Explain, Hosts}
+use Rattle.ac_query.specs.declared.job.Command.TheVariants.{Check, Candidates, Tokens, Verify, Explain, Hosts, Why}
 use Rattle.ac_words.proofs.FilledRows.{Filled, HasValue, asks_or_takes, first_free, then_free}
 use Rattle.ac_words.proofs.FilledWalk.{keeps-defaults, keeps-settled, keeps-walk}
 
@@ -191,7 +191,7 @@ abbrev serves : Command → Shape → Bool
 serves command s = bytes_eq s.name (name_of command) && (needs_words command s && list_all asks_or_takes s.rules)
 
 abbrev is_served : Shape → Bool
-is_served s = serves Check s || (serves Candidates s || (serves Tokens s || (serves Verify s || (serves Explain s || serves Hosts s))))
+is_served s = serves Check s || (serves Candidates s || (serves Tokens s || (serves Verify s || (serves Explain s || (serves Hosts s || serves Why s)))))
 
 abbrev ServedOption : Option Shape → Type 0
 ServedOption None = ⊤
@@ -214,6 +214,7 @@ words-given Candidates s words kept n e = (query-entry s words kept n e, tt)
 words-given Tokens s words kept n e = (query-entry s words kept n e, tt)
 words-given Explain s words kept n e = (query-entry s words kept n e, tt)
 words-given Hosts s words kept n e = (query-entry s words kept n e, tt)
+words-given Why s words kept n e = (query-entry s words kept n e, tt)
 words-given Verify s words kept n e =
     let query : needs (codes "query") s ≡ true = grind arith in
     let token : needs (codes "token") s ≡ true = grind arith in
@@ -239,7 +240,10 @@ level-complete s words k e = elim (cases_Bool (serves Check s)) [
         | inl t ↦ command-complete Verify s words t e
         | inr no_verify ↦ elim (cases_Bool (serves Explain s)) [
           | inl t ↦ command-complete Explain s words t e
-          | inr no_explain ↦ command-complete Hosts s words (rw (no_check, no_candidates, no_tokens, no_verify, no_explain) at k) e
+          | inr no_explain ↦ elim (cases_Bool (serves Hosts s)) [
+            | inl t ↦ command-complete Hosts s words t e
+            | inr no_hosts ↦ command-complete Why s words (rw (no_check, no_candidates, no_tokens, no_verify, no_explain, no_hosts) at k) e
+          ]
         ]
       ]
     ]

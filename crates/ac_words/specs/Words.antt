@@ -13,7 +13,7 @@ use Rattle.ac_query.specs.declared.version.Version.{Version}
 use Rattle.ac_query.specs.declared.version.Version.TheVariants.{V136, V139}
 use Rattle.ac_query.specs.Jobs.{HasToken}
 use Rattle.ac_query.specs.declared.job.Command.{Command}
-use Rattle.ac_query.specs.declared.job.Command.TheVariants.{Check, Candidates, Tokens, Verify, Explain, Hosts}
+use Rattle.ac_query.specs.declared.job.Command.TheVariants.{Check, Candidates, Tokens, Verify, Explain, Hosts, Why}
 use Rattle.ac_words.specs.Mark.{past_mark}
 use Rattle.ac_words.specs.declared.words.WordFault.{WordFault}
 use Rattle.ac_words.specs.declared.words.WordFault.TheVariants.{Refused, Help, NoMemory}
@@ -65,6 +65,9 @@ explain_app = with_options (query_app (codes "explain"))
 abbrev pub hosts_app : App
 hosts_app = with_options (query_app (codes "hosts"))
 
+abbrev pub why_app : App
+why_app = with_options (with_rule (query_app (codes "why")) (word_rule (codes "host")))
+
 -- what is told of a command
 abbrev pub app_for : Command → App
 app_for Check = check_app
@@ -73,6 +76,7 @@ app_for Tokens = tokens_app
 app_for Verify = verify_app
 app_for Explain = explain_app
 app_for Hosts = hosts_app
+app_for Why = why_app
 
 -- what has a version, and needs one of its own commands
 abbrev pub as_program : App → App
@@ -80,8 +84,8 @@ as_program app = record app { top = record app.top { has_version = true; subcomm
 
 abbrev pub program : App
 program =
-    with_subcommand (with_subcommand (with_subcommand (with_subcommand (with_subcommand (with_subcommand (as_program (new_app (codes "ac_cli")))
-    check_app.top) candidates_app.top) tokens_app.top) verify_app.top) explain_app.top) hosts_app.top
+    with_subcommand (with_subcommand (with_subcommand (with_subcommand (with_subcommand (with_subcommand (with_subcommand (as_program (new_app (codes "ac_cli")))
+    check_app.top) candidates_app.top) tokens_app.top) verify_app.top) explain_app.top) hosts_app.top) why_app.top
 
 -- ---- what it states of the words
 
@@ -160,6 +164,7 @@ pub record Line : Type 0 where
   pub query : Text
   pub version : Version
   pub token : Option Text
+  pub host : Option Text
   pub providers : Text
   pub inventories : Text
   pub usages : Option Text
@@ -173,19 +178,26 @@ name_of Tokens = codes "tokens"
 name_of Verify = codes "verify"
 name_of Explain = codes "explain"
 name_of Hosts = codes "hosts"
+name_of Why = codes "why"
 
 -- the query of a command, without the path of a URL before it; a check has the empty one
 abbrev pub query_of : Command → List Row → Option Text
 query_of Check rows = Some []
 query_of _ rows = option_map past_mark (first_of (codes "query") rows)
 
--- the token of a command: to be judged, or to begin after; a check, an explanation and the rows of roots have none
+-- the token of a command: to be judged, or to begin after; a check, an explanation and the rows of roots, or of one, have none
 abbrev pub token_of : Command → List Row → Option Text
 token_of Check rows = None
 token_of Explain rows = None
 token_of Hosts rows = None
+token_of Why rows = None
 token_of Verify rows = first_of (codes "token") rows
 token_of _ rows = first_of (codes "after") rows
+
+-- the host that is asked about; only `why` has one
+abbrev pub host_of : Command → List Row → Option Text
+host_of Why rows = first_of (codes "host") rows
+host_of _ rows = None
 
 -- the path of a table: that of its file in the folder, or what its option says
 abbrev pub path_in : Option Text → List Row → Table → Option Text
@@ -201,6 +213,7 @@ pub record IsMadeOf (rows : List Row) (line : Line) : Type 0 where
   pub version : version_of rows ≡ Some line.version
   pub token : token_of line.command rows ≡ line.token
   pub judged : HasToken line.command line.token
+  pub host : host_of line.command rows ≡ line.host
   pub providers : path_given rows Providers ≡ Some line.providers
   pub inventories : path_given rows Inventories ≡ Some line.inventories
   pub usages : path_given rows Usages ≡ line.usages

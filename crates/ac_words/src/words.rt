@@ -22,6 +22,7 @@ pub struct Words {
     query: String,
     version: Version,
     token: Option<String>,
+    host: Option<String>,
     providers: String,
     inventories: String,
     usages: Option<String>,
@@ -37,6 +38,7 @@ impl Model for Words {
       query = string_bytes w.query;
       version = w.version;
       token = option_map string_bytes w.token;
+      host = option_map string_bytes w.host;
       providers = string_bytes w.providers;
       inventories = string_bytes w.inventories;
       usages = option_map string_bytes w.usages;
@@ -52,12 +54,14 @@ impl Words {
         ensures query { result.query.now ≡ self.now.query }
         ensures version { result.version ≡ self.now.version }
         ensures token { option_map (λ token. token.now) result.token ≡ self.now.token }
+        ensures host { option_map (λ host. host.now) result.host ≡ self.now.host }
     {
         Job {
             command: self.command,
             query: self.query.as_str(),
             version: self.version,
             token: self.token.as_deref(),
+            host: self.host.as_deref(),
         }
     }
 

@@ -15,6 +15,7 @@ fn accepted(rt: HostRuntime) {
         query: "q",
         version: Version::V139,
         token: Some("t"),
+        host: None,
     };
     match read_words(rt.alloc(), given.as_slice()) {
         Ok(words) => {

@@ -16,8 +16,8 @@ use ac_query::{AggregateRule, Need};
 impl<'a> Placed<'a> {
     ghost use Rattle.ac_rules.specs.Shown.Assignments.{placed_of};
 
-    // Whether the provider has an inventory of the class whose units admit the amount.
-    fn admits_need(&self, need: &Need) -> bool
+    /// Whether the provider has an inventory of the class whose units admit the amount.
+    pub fn admits_need(&self, need: &Need) -> bool
         ensures { result
             ≡ admits (inventory_of (provider_at (providers_of self.now.cloud.now) self.now.provider)
             (need_entry need.now).0) (need_entry need.now).1 }
@@ -69,9 +69,9 @@ impl<'a> Placed<'a> {
         ids.iter().any(|id| self.counts_in(*id))
     }
 
-    // Whether a rule on aggregates is met.
+    /// Whether a rule on aggregates is met.
     #[tactic(auto, unfolding(crate::specs::Own::meets_rule))]
-    fn meets_rule(&self, rule: &AggregateRule) -> bool
+    pub fn meets_rule(&self, rule: &AggregateRule) -> bool
         ensures { result ≡ meets_rule (providers_of self.now.cloud.now) (placed_of self.now)
             (rule_shown rule.now) }
     {

@@ -30,6 +30,18 @@ pub fn room_at(cloud: &Cloud, ix: u32, class: &ClassName) -> Option<u64>
     Some(unused.min(u64::from(inventory.max_unit())))
 }
 
+/// Whether a provider has room for an amount of a class.
+pub fn has_room_of(cloud: &Cloud, ix: u32, need: &Need) -> bool
+    requires { ix < length (providers_of cloud.now) }
+    ensures { result ≡ holds (provider_at (providers_of cloud.now) ix)
+        (need_entry need.now).0 (need_entry need.now).1 }
+{
+    match room_at(cloud, ix, need.class()) {
+        Some(room) => u64::from(need.amount()) <= room,
+        None => false,
+    }
+}
+
 // What is left of a room after what the needs ask of a class; `None` where it doesn't suffice.
 fn take_needs(needs: &[Need], class: &ClassName, room: u64) -> Option<u64>
     ensures { result ≡ less room (amount_of (map need_entry needs.now) (class_bytes class.now)) }

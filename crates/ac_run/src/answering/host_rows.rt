@@ -1,5 +1,5 @@
 //! Which roots fit, and what the others lack, as `csv` writes it: a header, and a row for each root.
-ghost use Rattle.std.specs.Prelude.{◌≡◌, ◌++◌, ◌∷◌, ◌<◌, ◌≤◌, ℕ, List, [], IfOk, length, map};
+ghost use Rattle.std.specs.Prelude.{◌≡◌, ◌++◌, ◌∷◌, ◌<◌, ◌≤◌, ℕ, List, [], IfOk, length};
 ghost use Rattle.std.specs.List.{list_any};
 ghost use Rattle.ac_base.specs.Texts.{id_text};
 ghost use Rattle.ac_cloud.specs.World.{id_at, provider_at};
@@ -8,77 +8,22 @@ ghost use Rattle.ac_cloud.specs.Cloud.CloudWorld.{providers_of};
 ghost use Rattle.ac_query.specs.Shown.Queries.{asked_of};
 ghost use Rattle.ac_search.specs.Hosts.{fitting};
 ghost use Rattle.ac_search.specs.Lacking.{lacks_of};
-ghost use Rattle.ac_run.specs.Outputs.HostRows.{host_fields, hosts_status, hosts_text, lack_name, slot_shown, stage_name, yes_or_no};
-ghost use Rattle.ac_run.specs.Writing.Digits.{digits_shown};
+ghost use Rattle.ac_run.specs.Outputs.HostRows.{host_fields, hosts_status, hosts_text, yes_or_no};
 ghost use Rattle.ac_run.specs.Writing.Rows.{HasRows};
 
-use crate::pieces::digits::Digits;
+use super::rows::{begin_rows, end_rows, lack_name, slot_digits, write_row};
 use ac_base::NoMemory;
 use ac_query::Query;
 use ac_report::shown_name;
-use ac_search::{Lack, Stage};
+use ac_search::Lack;
 use ac_tables::Cloud;
 use csv::Writer;
 use std::alloc::Global;
-
-// Writes a row behind those that are written.
-fn write_row<'a>(
-    rows: &mut Writer<Vec<u8>>,
-    root: &'a [u8],
-    name: &'a [u8],
-    fits: &'a [u8],
-    slot: &'a [u8],
-    lacks: &'a [u8],
-) -> Result<(), NoMemory>
-    ensures { IfOk result (λ _. (before : List (List (List ℕ))) → HasRows rows.old before
-        → HasRows rows.new (before
-        ++ (root.now ∷ name.now ∷ fits.now ∷ slot.now ∷ lacks.now ∷ []) ∷ [])) }
-{
-    match rows.write_fields(&[root, name, fits, slot, lacks]) {
-        Ok(()) => Ok(()),
-        // A vector refuses a row for want of memory alone.
-        Err(_) => Err(NoMemory),
-    }
-}
 
 fn yes_or_no(fits: bool) -> &'static [u8]
     ensures { result.now ≡ yes_or_no fits }
 {
     if fits { b"yes" } else { b"no" }
-}
-
-fn stage_name(stage: Stage) -> &'static [u8]
-    ensures { result.now ≡ stage_name stage }
-{
-    match stage {
-        Stage::Units => b"units",
-        Stage::Traits => b"traits",
-        Stage::Aggregates => b"aggregates",
-        Stage::Tree => b"tree",
-        Stage::Room => b"room",
-    }
-}
-
-fn lack_name(lacks: Option<Lack>) -> &'static [u8]
-    ensures { result.now ≡ lack_name lacks }
-{
-    match lacks {
-        None => b"",
-        Some(Lack::RootTraits) => b"root traits",
-        Some(Lack::Slot { slot: _, stage }) => stage_name(stage),
-        Some(Lack::RequiredTraits) => b"required traits",
-        Some(Lack::Together) => b"together",
-    }
-}
-
-// The digits of the slot that a root lacks a provider for.
-fn slot_digits(lacks: Option<Lack>) -> Digits
-    ensures { digits_shown result ≡ slot_shown lacks }
-{
-    match lacks {
-        Some(Lack::Slot { slot, stage: _ }) => Digits::of(slot),
-        _ => Digits::none(),
-    }
 }
 
 // Writes the row of a root.
@@ -98,11 +43,13 @@ fn write_root(
     let name = shown_name(alloc, cloud.name(root))?;
     write_row(
         rows,
-        &cloud.id(root).text(),
-        &name,
-        yes_or_no(fits),
-        slot_digits(lacks).as_bytes(),
-        lack_name(lacks),
+        &[
+            &cloud.id(root).text(),
+            &name,
+            yes_or_no(fits),
+            slot_digits(lacks).as_bytes(),
+            lack_name(lacks),
+        ],
     )
 }
 
@@ -120,18 +67,14 @@ pub fn hosts_text(
     ensures { IfOk result (λ text.
         text.items ≡ hosts_text (providers_of cloud.now) (asked_of query.now)) }
 {
-    let mut rows = Writer::from_writer(Vec::new(alloc));
-    write_row(&mut rows, b"root", b"name", b"fits", b"slot", b"lacks")?;
+    let mut rows = begin_rows(alloc, &[b"root", b"name", b"fits", b"slot", b"lacks"])?;
     for root in 0..cloud.len() {
         if cloud.available(root, root) {
             let at = root as usize;
             write_root(alloc, &mut rows, cloud, root, fits[at], lacks[at])?;
         }
     }
-    match rows.into_inner() {
-        Ok(text) => Ok(text),
-        Err(_) => Err(NoMemory),
-    }
+    end_rows(rows)
 }
 
 // Whether some root fits.

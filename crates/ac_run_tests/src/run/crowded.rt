@@ -48,6 +48,7 @@ fn left_of_full_hosts(alloc: Global) -> Result<Left, AllocError> {
         query: query.as_str(),
         version: Version::V136,
         token: None,
+        host: None,
     };
     run_texts(alloc, &texts, &job, SOUND)
 }

@@ -1,9 +1,11 @@
 //! Devices that fail.
 use super::{
-    Left, ONE, ONE_BODY, SOUND, Texts, Turns, alike, expanded, expect_left, run_over, texts_of,
+    Left, ONE, ONE_BODY, SOUND, Texts, Turns, alike, expanded, expect_left, run_job, run_over,
+    texts_of,
 };
 use ac_base::Turn;
-use ac_run::Command;
+use ac_query::Version;
+use ac_run::{Command, Job};
 use ac_tables::Table;
 use std::process::Abort;
 use std::test::Fail;
@@ -228,14 +230,9 @@ fn each_call_of_the_output_fails(rt: HostRuntime) -> Result<(), Fail> {
 }
 
 // Each push of an output fails in turn, where each takes its piece whole, until all have been made; and the one push of a gathered output.
-fn check_pieces(
-    rt: &(impl Abort + AllocGlobal),
-    command: Command,
-    token: Option<&str>,
-    output: &str,
-) -> Result<(), Fail> {
+fn check_pieces(rt: &(impl Abort + AllocGlobal), job: &Job<'_>, output: &str) -> Result<(), Fail> {
     let alloc = rt.alloc();
-    assert!(rt; command != Command::Verify || token.is_some());
+    assert!(rt; job.command != Command::Verify || job.token.is_some());
     let mut turns = Vec::new(alloc);
     let mut taken = 0;
     for call in 0..100 {
@@ -244,7 +241,7 @@ fn check_pieces(
             out: &turns,
             ..SOUND
         };
-        let left = run_over(alloc, &ONE, command, QUERY, token, failing)?;
+        let left = run_job(alloc, &ONE, job, failing)?;
         assert!(rt; left.output.len() > taken || call == 0, "call {call}");
         taken = left.output.len();
         if left.status == 0 {
@@ -261,9 +258,22 @@ fn check_pieces(
         is_gathered: true,
         ..SOUND
     };
-    let left = run_over(alloc, &ONE, command, QUERY, token, gathered)?;
+    let left = run_job(alloc, &ONE, job, gathered)?;
     expect_left(rt, &left, "", "output: WriteFailed\n", 6, taken);
     Ok(())
+}
+
+const COUNTS: Job<'static> = Job {
+    command: Command::Check,
+    query: QUERY,
+    version: Version::V136,
+    token: None,
+    host: None,
+};
+
+// The same with another command.
+fn asked(command: Command) -> Job<'static> {
+    Job { command, ..COUNTS }
 }
 
 // A failed output is told as one, and never as want of memory.
@@ -277,13 +287,28 @@ fn each_whole_piece_of_an_output_fails(rt: HostRuntime) -> Result<(), Fail> {
     let body = expanded(alloc, ONE_BODY)?;
     let line = expanded(alloc, "@1\n")?;
     let one = expanded(alloc, "@1")?;
-    check_pieces(&rt, Command::Check, None, counts)?;
-    check_pieces(&rt, Command::Candidates, None, body.as_str())?;
-    check_pieces(&rt, Command::Tokens, None, line.as_str())?;
-    check_pieces(&rt, Command::Verify, Some(one.as_str()), "candidate\n")?;
-    check_pieces(&rt, Command::Explain, None, explanation)?;
+    check_pieces(&rt, &COUNTS, counts)?;
+    check_pieces(&rt, &asked(Command::Candidates), body.as_str())?;
+    check_pieces(&rt, &asked(Command::Tokens), line.as_str())?;
+    let verdict = Job {
+        command: Command::Verify,
+        token: Some(one.as_str()),
+        ..COUNTS
+    };
+    check_pieces(&rt, &verdict, "candidate\n")?;
+    check_pieces(&rt, &asked(Command::Explain), explanation)?;
     let rows = expanded(alloc, "root,name,fits,slot,lacks\n@1,,yes,,\n")?;
-    check_pieces(&rt, Command::Hosts, None, rows.as_str())
+    check_pieces(&rt, &asked(Command::Hosts), rows.as_str())?;
+    let why = Job {
+        command: Command::Why,
+        host: Some(one.as_str()),
+        ..COUNTS
+    };
+    let rows = expanded(
+        alloc,
+        "slot,suffix,provider,name,lacks,detail\n1,,@1,,,\n,,@1,,,\n,,@1,,,fits\n",
+    )?;
+    check_pieces(&rt, &why, rows.as_str())
 }
 
 // A sink that takes nothing has failed, at its first call and after some bytes: it isn't asked again.

@@ -10,6 +10,7 @@ use std::test::Fail;
 mod differing;
 mod explained;
 mod hosts;
+mod why;
 
 // What a run is asked, and what it answers. In all texts `@1` stands for the UUID that ends with 1.
 #[derive(Clone, Copy)]
@@ -19,6 +20,7 @@ struct Case {
     query: &'static str,
     version: Version,
     token: Option<&'static str>,
+    host: Option<&'static str>,
     output: &'static str,
     line: &'static str,
     status: u8,
@@ -31,6 +33,7 @@ const TOKENS: Case = Case {
     query: "resources=VCPU:2",
     version: Version::V136,
     token: None,
+    host: None,
     output: "",
     line: "",
     status: 0,
@@ -57,6 +60,10 @@ fn check_over(rt: &(impl Abort + AllocGlobal), cases: &[Case], turns: &[Turn]) -
             Some(token) => Some(expanded(alloc, token)?),
             None => None,
         };
+        let host = match case.host {
+            Some(host) => Some(expanded(alloc, host)?),
+            None => None,
+        };
         let left = run_by(
             alloc,
             &case.rows,
@@ -64,6 +71,7 @@ fn check_over(rt: &(impl Abort + AllocGlobal), cases: &[Case], turns: &[Turn]) -
             case.command,
             query.as_str(),
             token.as_deref(),
+            host.as_deref(),
             alike(turns),
         )?;
         let output = expanded(alloc, case.output)?;

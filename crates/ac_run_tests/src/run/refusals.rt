@@ -1,5 +1,6 @@
 //! Runs with each growth refused in turn: the whole answer, or `out of memory` with status 7 and a first part of it.
-use super::{Left, ONE, ONE_BODY, Rows, SOUND, expanded, expect_left, run_over};
+use super::{Left, ONE, ONE_BODY, Rows, SOUND, expanded, expect_left, run_by};
+use ac_query::Version;
 use ac_run::Command;
 use std::alloc::{AllocError, Global};
 use std::process::Abort;
@@ -11,6 +12,7 @@ struct Case {
     command: Command,
     query: &'static str,
     token: Option<&'static str>,
+    host: Option<&'static str>,
     output: &'static str,
     line: &'static str,
     status: u8,
@@ -21,6 +23,7 @@ const TOKENS: Case = Case {
     command: Command::Tokens,
     query: "resources=VCPU:2",
     token: None,
+    host: None,
     output: "@1\n",
     line: "",
     status: 0,
@@ -46,12 +49,18 @@ fn left_by(rt: &(impl Abort + AllocGlobal), case: &Case) -> Result<Left, AllocEr
         Some(token) => Some(expanded(alloc, token)?),
         None => None,
     };
-    let left = run_over(
+    let host = match case.host {
+        Some(host) => Some(expanded(alloc, host)?),
+        None => None,
+    };
+    let left = run_by(
         alloc,
         &case.rows,
+        Version::V136,
         case.command,
         query.as_str(),
         token.as_deref(),
+        host.as_deref(),
         SOUND,
     )?;
     Ok(left)
@@ -121,6 +130,39 @@ fn rows_of_roots(rt: HostRuntime) {
         ..TOKENS
     };
     check(&rt, one);
+}
+
+#[test]
+fn rows_of_a_host(rt: HostRuntime) {
+    let fits = Case {
+        command: Command::Why,
+        host: Some("@1"),
+        output: "slot,suffix,provider,name,lacks,detail\n1,,@1,,,\n,,@1,,,\n,,@1,,,fits\n",
+        ..TOKENS
+    };
+    check(&rt, fits);
+    let lacks = Case {
+        query: "resources1=VCPU:2&member_of1=!in:@a,@b&root_required=CUSTOM_R",
+        rows: Rows {
+            aggregates: "@1,@a\n",
+            ..ONE
+        },
+        output: "slot,suffix,provider,name,lacks,detail\n\
+            1,1,@1,,aggregates,\"member_of=!in:@a,@b\"\n\
+            ,,@1,,root traits,CUSTOM_R missing\n\
+            ,,@1,,root traits,does not fit\n",
+        status: 1,
+        ..fits
+    };
+    check(&rt, lacks);
+    let unknown = Case {
+        host: Some("h"),
+        output: "",
+        line: "host: Unknown\n",
+        status: 5,
+        ..fits
+    };
+    check(&rt, unknown);
 }
 
 #[test]

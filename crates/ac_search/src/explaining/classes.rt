@@ -11,10 +11,11 @@ ghost use Rattle.ac_rules.specs.Together.{holds};
 ghost use Rattle.ac_search.specs.Explained.{class_room, class_rooms, count_of, slot_counts, slot_told};
 ghost use Rattle.ac_search.specs.Shown.Explained.{fitting, slot_counted, slot_shown};
 
-use super::{SlotCounts, has_room_of, meets_rules, slot_counts};
+use super::{SlotCounts, meets_rules, slot_counts};
 use ac_base::NoMemory;
 use ac_cloud::Cloud;
 use ac_query::{Need, Query};
+use ac_rules::rules::sums::has_room_of;
 use ac_rules::slots::{count_slots, needs_at};
 use std::alloc::Global;
 

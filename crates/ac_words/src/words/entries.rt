@@ -1,7 +1,7 @@
 //! What the matches of `clap` hold.
 ghost use Rattle.std.specs.Prelude.{◌≡◌, ◌∷◌, IfErr, IfOk, OnOk, Some, [], is_some, option_map, string_bytes, true};
 ghost use Rattle.clap.specs.Words.{first_of, found_of, rows_of, subcommand_rows_of};
-ghost use Rattle.ac_words.specs.Words.{HasNeeded, IsComplete, IsMadeOf, Says, Tells, name_of, own_faults, query_of, table_kinds, token_of, version_kinds, version_named, version_of};
+ghost use Rattle.ac_words.specs.Words.{HasNeeded, IsComplete, IsMadeOf, Says, Tells, host_of, name_of, own_faults, query_of, table_kinds, token_of, version_kinds, version_named, version_of};
 
 use super::tables::{check_tables, needed_path, path};
 use super::{WordFault, Words, fault_of, grammar};
@@ -47,7 +47,8 @@ fn query(alloc: Global, command: Command, entries: &ArgMatches<'_>) -> Result<St
         | Command::Tokens
         | Command::Verify
         | Command::Explain
-        | Command::Hosts => match entry(entries, "query") {
+        | Command::Hosts
+        | Command::Why => match entry(entries, "query") {
             Some(text) => String::from_str(alloc, past_mark(text)),
             None => unreachable!(),
         },
@@ -107,9 +108,24 @@ fn token(
         ≡ option_map string_bytes copy) }
 {
     match command {
-        Command::Check | Command::Explain | Command::Hosts => Ok(None),
+        Command::Check | Command::Explain | Command::Hosts | Command::Why => Ok(None),
         Command::Candidates | Command::Tokens => copy_entry(alloc, entries, "after"),
         Command::Verify => copy_entry(alloc, entries, "token"),
+    }
+}
+
+// The host of a command.
+fn host(
+    alloc: Global,
+    command: Command,
+    entries: &ArgMatches<'_>,
+) -> Result<Option<String>, AllocError>
+    ensures { IfOk result (λ copy. host_of command (rows_of (found_of entries.now))
+        ≡ option_map string_bytes copy) }
+{
+    match command {
+        Command::Why => copy_entry(alloc, entries, "host"),
+        _ => Ok(None),
     }
 }
 
@@ -126,6 +142,7 @@ fn find_command<'m, 'a>(matches: &'m ArgMatches<'a>) -> (Command, &'m ArgMatches
         Some(("verify", entries)) => (Command::Verify, entries),
         Some(("explain", entries)) => (Command::Explain, entries),
         Some(("hosts", entries)) => (Command::Hosts, entries),
+        Some(("why", entries)) => (Command::Why, entries),
         _ => unreachable!(),
     }
 }
@@ -148,6 +165,7 @@ fn words_with(
         query: query(alloc, command, entries)?,
         version,
         token: token(alloc, command, entries)?,
+        host: host(alloc, command, entries)?,
         providers: needed_path(alloc, entries, Table::Providers)?,
         inventories: needed_path(alloc, entries, Table::Inventories)?,
         usages: path(alloc, entries, Table::Usages)?,

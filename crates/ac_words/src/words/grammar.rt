@@ -2,7 +2,7 @@
 ghost use Rattle.std.specs.Prelude.{◌≡◌, IfOk, false};
 ghost use Rattle.clap.specs.Words.{app_of, rule_of};
 ghost use Rattle.clap.specs.declared.builder.command.Command.TheViews.{out-Command as fields_of};
-ghost use Rattle.ac_words.specs.Words.{app_for, candidates_app, check_app, explain_app, hosts_app, option_rule, program, query_app, search_app, tokens_app, verify_app, with_options, with_tables, word_rule};
+ghost use Rattle.ac_words.specs.Words.{app_for, candidates_app, check_app, explain_app, hosts_app, option_rule, program, query_app, search_app, tokens_app, verify_app, why_app, with_options, with_tables, word_rule};
 
 use super::help;
 use ac_query::Command as Asked;
@@ -237,6 +237,27 @@ fn hosts<'a>(alloc: Global) -> Result<Command<'a>, AllocError>
     add_options(alloc, command)
 }
 
+fn why<'a>(alloc: Global) -> Result<Command<'a>, AllocError>
+    ensures app { IfOk result (λ c. app_of c ≡ why_app) }
+    ensures local { IfOk result (λ c. (fields_of c).has_globals ≡ false) }
+{
+    let command = with_query(
+        alloc,
+        "why",
+        "Writes how far each provider of a host comes, and what it lacks (CSV): why not this host",
+        "ac_cli why [OPTIONS] --tables <DIR> <QUERY> <HOST>\n       \
+         ac_cli why [OPTIONS] --providers <FILE> --inventories <FILE> <QUERY> <HOST>",
+        help::WHY,
+    )?;
+    let command = command.arg(word(
+        alloc,
+        "host",
+        "HOST",
+        "A provider of the host: its UUID, or a name that no other provider has",
+    ))?;
+    add_options(alloc, command)
+}
+
 // A command by itself.
 pub(super) fn command<'a>(alloc: Global, asked: Asked) -> Result<Command<'a>, AllocError>
     ensures { IfOk result (λ c. app_of c ≡ app_for asked) }
@@ -248,6 +269,7 @@ pub(super) fn command<'a>(alloc: Global, asked: Asked) -> Result<Command<'a>, Al
         Asked::Verify => verify(alloc),
         Asked::Explain => explain(alloc),
         Asked::Hosts => hosts(alloc),
+        Asked::Why => why(alloc),
     }
 }
 
@@ -268,5 +290,6 @@ pub(super) fn program<'a>(alloc: Global) -> Result<Command<'a>, AllocError>
     let command = command.subcommand(verify(alloc)?)?;
     let command = command.subcommand(explain(alloc)?)?;
     let command = command.subcommand(hosts(alloc)?)?;
+    let command = command.subcommand(why(alloc)?)?;
     Ok(command)
 }

@@ -19,8 +19,8 @@ macro_rules! below {
 }
 
 pub(super) const PROGRAM: &str = below!(
-    "  0  the answer is written\n  1  `verify` says no, or `explain` or `hosts` finds no candidate\n",
-    "  4  the query was refused\n  5  the token was refused\n",
+    "  0  the answer is written\n  1  `verify` says no, or `explain`, `hosts` or `why` finds no candidate\n",
+    "  4  the query was refused\n  5  the token was refused, or the host names no provider\n",
     "  ac_cli tokens 'resources=VCPU:2,DISK_GB:20' --tables cloud"
 );
 
@@ -58,4 +58,10 @@ pub(super) const HOSTS: &str = below!(
     "  0  the query fits at some root\n  1  it fits at none\n",
     "  4  the query was refused\n",
     "  ac_cli hosts 'resources=VCPU:8&required=CUSTOM_ROW_2' --tables cloud"
+);
+
+pub(super) const WHY: &str = below!(
+    "  0  the query fits at the host\n  1  it doesn't fit there\n",
+    "  4  the query was refused\n  5  the host names no provider, or several\n",
+    "  ac_cli why 'resources=VCPU:8&required=CUSTOM_ROW_2' compute-02 --tables cloud"
 );

@@ -19,7 +19,7 @@ returns-in-Ok-read_wanted-clause-answer g c = λ b tell.
     answers g.R.Feed.remaining g.R.Feed.failures (task_of c.args.job.now) c.args.inputs.now c.read_tables.new.inputs
     (texts_shown c.in-Ok.texts) c.in-Ok.ensures.bytes c.in-Ok.ensures.few (world_of c.in-Ok-read_cloud.cloud) c.in-Ok-read_cloud.ensures.fine
     c.in-Ok-read_cloud.ensures.world b tell
-    ∙ c.in-Ok-read_wanted.ensures.wanted (world_of c.in-Ok-read_cloud.cloud)
+    ∙ c.in-Ok-read_wanted.ensures.wanted
 
 pub returns-in-Err-read_wanted-clause-fault : goal.returns-in-Err-read_wanted-clause-fault
 returns-in-Err-read_wanted-clause-fault g c =

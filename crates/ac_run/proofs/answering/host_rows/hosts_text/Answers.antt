@@ -1,5 +1,6 @@
-use Rattle.std.proofs.Common.{◌≡◌, ◌∙◌, ◌<◌, ℕ, Bool, true, false, List, [], ◌∷◌, length, slice_index_or, None, refl, sym, subst, ap, ap₂, arith}
-use Rattle.std.specs.List.{filter, range_with_len}
+use Rattle.std.proofs.Common.{◌≡◌, ◌∙◌, ◌<◌, ℕ, true, false, ◌∷◌, IfOk, length, map, slice_index_or, None, refl, sym, subst, ap, ap₂, arith}
+use Rattle.std.specs.List.{filter, flat_map, range_with_len}
+use Rattle.csv.specs.Writing.{default_writer, row_text}
 use Rattle.std.proofs.lemmas.List.FromFn.{length-map-range_with_len}
 use Rattle.ac_base.specs.Texts.{id_text}
 use Rattle.ac_cloud.specs.World.{id_at, is_root, provider_at}
@@ -9,22 +10,11 @@ use Rattle.ac_rules.proofs.EachSlot.AnchorLemmas.{available_itself}
 use Rattle.ac_search.specs.Hosts.{fits_at}
 use Rattle.ac_search.specs.Lacking.{lack_at}
 use Rattle.ac_search.proofs.LackingLemmas.{at_place}
-use Rattle.ac_run.specs.Outputs.HostRows.{host_columns, host_fields, host_row}
+use Rattle.ac_run.specs.Outputs.HostRows.{host_columns, host_fields, host_row, hosts_text}
 use Rattle.ac_report.specs.Names.{shown_name}
-use Rattle.ac_run.specs.Writing.Rows.{HasRows}
 use Rattle.ac_run.proofs.HostsWritten.{row_more, row_same}
 use Rattle.ac_run.proofs.answering.host_rows.hosts_text.Goals as goal
 use Rattle.ac_run.proofs.answering.host_rows.hosts_text.Goals.{then-available+in_ok-write_root, else-available}
-
-pub loop-root-init : goal.loop-root-init
-loop-root-init c =
-    let from = c.from_writer-rows.ensures in
-    c.in_ok-write_row.ensures [] (record {
-      setup = from.cfg;
-      fields = from.fields;
-      clean = from.wrote;
-      text = rw (from.wtr, from.empty, c.new.ensures.items) refl;
-    })
 
 pub bounds-fits-at : goal.bounds-fits-at
 bounds-fits-at c =
@@ -57,3 +47,13 @@ loop-root-preserved c =
           let away : roots r ≡ false = sym (available_itself all r) ∙ (sym c.available.ensures ∙ w.if-available.false) in
           rw (w.rows-is, row_same (host_row all asked) roots r away) c.loop-root.invariant
     ]
+
+pub returns : goal.returns
+unfolding hosts_text
+returns c =
+    let all = providers_of c.args.cloud.now in
+    let roots = λ (r : ℕ). is_root all (id_at all r) in
+    let end : c.loop-root.root ≡ length all = omega (arith, c.loop-root.auto.root-end, c.loop-root-test.false, c.len-root-end.ensures) in
+    subst (λ (n : ℕ). IfOk c.end_rows.result
+    (λ text. text.items ≡ flat_map (row_text default_writer) (host_columns ∷ map (host_row all (asked_of c.args.query.now)) (filter roots (range_with_len 0 n))))) end
+    (c.end_rows.ensures _ c.loop-root.invariant)
