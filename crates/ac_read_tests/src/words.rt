@@ -55,12 +55,12 @@ fn gives(alloc: Global, line: &str, job: Job<'_>) -> Result<bool, AllocError> {
 }
 
 // Whether the words are accepted, with this job by 1.36.
-fn asks(
+fn asks<'a>(
     alloc: Global,
     line: &str,
     command: Command,
-    query: &str,
-    token: Option<&str>,
+    query: &'a str,
+    token: Option<&'a str>,
 ) -> Result<bool, AllocError> {
     let version = Version::V136;
     let job = Job {
