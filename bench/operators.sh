@@ -46,8 +46,8 @@ shown() {
     fi
 }
 
-echo '| hosts | providers | tables | `check` | `tokens` | `hosts` | `explain` | memory |'
-echo '|---|---|---|---|---|---|---|---|'
+echo '| hosts | providers | tables | `check` | `tokens` | `hosts` | `why` | `explain` | memory |'
+echo '|---|---|---|---|---|---|---|---|---|'
 [[ $# -gt 0 ]] || set -- 300 1000 10000 65533
 for hosts; do
     kinds=''
@@ -59,8 +59,10 @@ for hosts; do
     bytes=$(cat "$room"/*.csv | wc -c)
     asked=$(took tokens "$query")
     hosted=$(took hosts "$query")
+    asked_why=$(took why "$query" cmp-az1-000)
     explained=$(took explain "$query")
     /usr/bin/time -q -f %M -o "$room/memory" "$program" tokens "$query" --tables "$room" >"$room/out" 2>"$room/err"
-    printf '| %d%s | %d | %d.%d MB | %s | %s | %s | %s | %d MiB |\n' "$hosts" "${kinds:+, without NUMA nodes}" "$providers" $((bytes / 1000000)) \
-        $((bytes / 100000 % 10)) "$(shown "$checked")" "$(shown "$asked")" "$(shown "$hosted")" "$(shown "$explained")" $(($(<"$room/memory") / 1024))
+    printf '| %d%s | %d | %d.%d MB | %s | %s | %s | %s | %s | %d MiB |\n' "$hosts" "${kinds:+, without NUMA nodes}" "$providers" $((bytes / 1000000)) \
+        $((bytes / 100000 % 10)) "$(shown "$checked")" "$(shown "$asked")" "$(shown "$hosted")" "$(shown "$asked_why")" \
+        "$(shown "$explained")" $(($(<"$room/memory") / 1024))
 done
