@@ -79,7 +79,7 @@ told_text all asked found =
     slot_lines all asked ++ (trees_line (tree_counts all asked) ++ (nobody_lines all asked ++ candidates_line found))
 
 unfoldable pub explanation_text : List Provider → Asked → Bool → List ℕ
-explanation_text all asked found = (told_text all asked found ++ without_lines asked (found_without all asked found)) ++ differs_lines all asked
+explanation_text all asked found = told_text all asked found ++ (without_lines asked (found_without all asked found) ++ differs_lines all asked)
 
 abbrev pub explanation_status : Bool → ℕ
 explanation_status true = 0

@@ -22,8 +22,7 @@ use self::why_rows::{root_place, why_at};
 use crate::asking::Wanted;
 use crate::asking::question::Question;
 use crate::explanation::{
-    explanation_status, find_without, has_candidate, push_differences, push_explanation,
-    push_without,
+    explanation_status, find_without, has_candidate, push_explanation, push_reasons,
 };
 use crate::outputs::{push_counts, verdict_status, verdict_text};
 use ac_base::{NoMemory, Sink, push_all};
@@ -169,8 +168,7 @@ fn write_explanation<W: Sink>(
     let found = has_candidate(alloc, cloud, query, &trees)?;
     let without = find_without(alloc, cloud, question, found)?;
     push_explanation(out, cloud, query, &slots, &trees, found)?;
-    push_without(out, query, &without)?;
-    push_differences(out, cloud, query)?;
+    push_reasons(out, cloud, query, &without)?;
     Ok(explanation_status(found))
 }
 

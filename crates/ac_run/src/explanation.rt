@@ -16,13 +16,16 @@ ghost use Rattle.ac_search.specs.Explained.{slot_told, tree_counts};
 ghost use Rattle.ac_search.specs.Shown.Explained.{slot_counted as counts_shown, slot_shown, trees_counted as trees_shown};
 ghost use Rattle.ac_rules.specs.Placed.{slot_at};
 ghost use Rattle.ac_run.specs.Explanation.{each_room, explanation_status, need_text, needs_text, room_mark, room_text, slot_counted, slot_end, slot_line, slot_lines, slot_name, trees_line};
-ghost use Rattle.ac_run.specs.Explanation.Candidates.{candidates_line, has_candidate};
+ghost use Rattle.ac_run.specs.Explanation.Candidates.{candidates_line, has_candidate, without_lines};
+ghost use Rattle.ac_run.specs.Explanation.Differing.{differs_lines};
 ghost use Rattle.ac_run.specs.Explanation.Nobody.{nobody_lines};
+ghost use Rattle.ac_run.specs.Explanation.Shown.{found_shown};
 ghost use Rattle.ac_run.specs.Lines.{printed};
 
-pub use self::differing::push_differences;
+use self::differing::push_differences;
 use self::nobody::push_missing;
-pub use self::without::{FoundWithout, find_without, push_without};
+use self::without::push_without;
+pub use self::without::{FoundWithout, find_without};
 use crate::pieces::digits::Digits;
 use crate::pieces::push_pieces;
 use ac_base::{NoMemory, Sink, WriteFailed, push_all};
@@ -296,6 +299,28 @@ fn candidates_line(found: bool) -> &'static [u8]
     } else {
         b"candidates: none\n"
     }
+}
+
+/// Pushes what stands behind the counts: whether there is a candidate without one thing, and where the service may answer otherwise.
+#[tactic(auto, using(ac_base::proofs::Leaving::appends_both, ac_base::proofs::Leaving::part_of_first, ac_base::proofs::Leaving::part_of_second))]
+pub fn push_reasons<W: Sink>(
+    out: &mut W,
+    cloud: &Cloud,
+    query: &Query,
+    without: &FoundWithout,
+) -> Result<(), WriteFailed>
+    requires { length (found_shown without.now).subtrees ≤ length (asked_of query.now).subtrees }
+    ensures ok { OnOk result (Appends (W.taken out.old) (W.taken out.new)
+        (without_lines (asked_of query.now) (found_shown without.now)
+        ++ differs_lines (providers_of cloud.now) (asked_of query.now))) }
+    ensures part { OnErr result (TakesPart (W.taken out.old) (W.taken out.new)
+        (without_lines (asked_of query.now) (found_shown without.now)
+        ++ differs_lines (providers_of cloud.now) (asked_of query.now))) }
+    ensures rises { OnErr result (Rises (W.failures out.old) (W.failures out.new)) }
+    ensures failures { W.failures out.old ≤ W.failures out.new }
+{
+    push_without(out, query, without)?;
+    push_differences(out, cloud, query)
 }
 
 /// Pushes an explanation: the lines of the slots, that of the trees by their counts, what nobody has, and whether a candidate was found.

@@ -31,13 +31,13 @@ pub returns-in-Hosts-clause-wanted : goal.returns-in-Hosts-clause-wanted
 returns-in-Hosts-clause-wanted c =
     said_hosts (task_of c.args.job.now) (world_of c.args.cloud.now) _ _ c.in_ok-query-in-Hosts.ensures.said c.in-Hosts.is
 
-pub returns-in-Ok-2-clause-wanted : goal.returns-in-Ok-2-clause-wanted
-returns-in-Ok-2-clause-wanted c =
-    said_why (task_of c.args.job.now) (world_of c.args.cloud.now) _ _ c.in_ok-query-in-Why.ensures.said c.in-Ok-2.ensures.found c.in-Why.is
+pub returns-in-Ok-find_host-clause-wanted : goal.returns-in-Ok-find_host-clause-wanted
+returns-in-Ok-find_host-clause-wanted c =
+    said_why (task_of c.args.job.now) (world_of c.args.cloud.now) _ _ c.in_ok-query-in-Why.ensures.said c.in-Ok-find_host.ensures.found c.in-Why.is
 
-pub returns-in-Ok-2-clause-host : goal.returns-in-Ok-2-clause-host
-returns-in-Ok-2-clause-host c = host_within (providers_of c.args.cloud.now) _ _ c.in-Ok-2.ensures.found
+pub returns-in-Ok-find_host-clause-host : goal.returns-in-Ok-find_host-clause-host
+returns-in-Ok-find_host-clause-host c = host_within (providers_of c.args.cloud.now) _ _ c.in-Ok-find_host.ensures.found
 
-pub returns-in-Err-2-clause-fault : goal.returns-in-Err-2-clause-fault
-returns-in-Err-2-clause-fault c =
-    explains_host (task_of c.args.job.now) (world_of c.args.cloud.now) _ _ c.in_ok-query-in-Why.ensures.said c.in-Err-2.refusal c.in-Err-2.ensures.fault c.in-Why.is
+pub returns-clause-fault : goal.returns-clause-fault
+returns-clause-fault c =
+    explains_host (task_of c.args.job.now) (world_of c.args.cloud.now) _ _ c.in_ok-query-in-Why.ensures.said c.in-Err-find_host.refusal c.in-Err-find_host.ensures.fault c.in-Why.is
