@@ -668,7 +668,8 @@ const SUMMARIES: &[Case] = &[
         output: "slot 1 \"1\" VCPU:1: units 1 of 2, traits 1, aggregates 1, tree 1, room 1\n\
                     slot 2 \"2\": units 2 of 2, traits 1, aggregates 1, tree 1, room 1\n\
                     trees 2: root traits 2, each slot 0, required traits 0\n\
-                    candidates: none\n",
+                    candidates: none\n\
+                    without same_subtree=2: none\n",
         ..NONE
     },
 ];

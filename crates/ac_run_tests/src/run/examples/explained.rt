@@ -403,7 +403,8 @@ const WITHOUT: &[Case] = &[
                     candidates: none\n\
                     without same_subtree=_A,_B: none\n\
                     without group_policy=isolate: none\n\
-                    without required: none\n",
+                    without required: none\n\
+                    differs: amounts of two groups are mixed up (docs/DIFFERENCES.md)\n",
         ..NONE
     },
     // A list of which one trait is asked is taken away with what is required.
@@ -439,7 +440,8 @@ const WITHOUT: &[Case] = &[
                     nobody has CUSTOM_A\n\
                     nobody has CUSTOM_A\n\
                     candidates: none\n\
-                    without required: none\n",
+                    without required: none\n\
+                    differs: amounts of two groups are mixed up (docs/DIFFERENCES.md)\n",
         ..NONE
     },
 ];
