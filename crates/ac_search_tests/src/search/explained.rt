@@ -1,5 +1,5 @@
 //! What an explanation counts in small clouds, with the hand count beside each number.
-use ac_example_clouds::{NONE, Rows, cloud_of, query_of};
+use ac_example_clouds::{NONE, Rows, scene_of};
 use ac_rules::slots::count_slots;
 use ac_search::{SlotCounts, TreeCounts, slot_counts, tree_counts};
 use std::alloc::{AllocError, Global};
@@ -30,27 +30,21 @@ fn counts_slot(
     query: &str,
     s: usize,
 ) -> Result<Option<SlotCounts>, AllocError> {
-    let Some(cloud) = cloud_of(alloc, rows)? else {
+    let Some(scene) = scene_of(alloc, rows, query, None)? else {
         return Ok(None);
     };
-    let Some(query) = query_of(alloc, query)? else {
-        return Ok(None);
-    };
-    if s < count_slots(&query) {
-        Ok(Some(slot_counts(&cloud, &query, s)))
+    if s < count_slots(&scene.query) {
+        Ok(Some(slot_counts(&scene.cloud, &scene.query, s)))
     } else {
         Ok(None)
     }
 }
 
 fn counts_trees(alloc: Global, rows: Rows, query: &str) -> Result<Option<TreeCounts>, AllocError> {
-    let Some(cloud) = cloud_of(alloc, rows)? else {
+    let Some(scene) = scene_of(alloc, rows, query, None)? else {
         return Ok(None);
     };
-    let Some(query) = query_of(alloc, query)? else {
-        return Ok(None);
-    };
-    Ok(tree_counts(alloc, &cloud, &query).ok())
+    Ok(tree_counts(alloc, &scene.cloud, &scene.query).ok())
 }
 
 #[test]
