@@ -1,11 +1,9 @@
 //! The names of providers, and which provider a text names.
-use super::limits::repeated;
-use super::{ONE, VCPU, at, told};
-use ac_tables::{Cloud, FromTables, HostFault, Sources, Table, TableFault, TableKind};
-use std::alloc::Global;
+use super::{LIMIT, ONE, VCPU};
+use ac_tables::{Cloud, FromTables, HostFault, Sources, TableFault};
+use std::alloc::{AllocError, Global};
+use std::process::Abort;
 use std::test::Fail;
-
-const LIMIT: usize = 67_108_864;
 
 // Seven providers, not in the order of their UUIDs: two have one name, one has the UUID of another as its name, one the UUID of nobody, and one has none.
 const NAMED: &str = "generation,name,uuid,root_provider_uuid,parent_provider_uuid
@@ -39,145 +37,138 @@ fn has(cloud: &Cloud, place: u32, name: &[u8]) -> bool {
     place < cloud.len() && cloud.name(place) == name
 }
 
-#[test]
-fn names_by_place(rt: HostRuntime) {
-    let Ok(cloud) = cloud_of(rt.alloc(), NAMED.as_bytes()) else {
-        assert!(rt; false, "the table is accepted");
-        return;
-    };
-    assert!(rt; has(&cloud, 0, b"rack 1, \"top\""), "a comma and quotes");
-    assert!(rt; has(&cloud, 1, b"two\nlines"), "a newline");
-    assert!(rt; has(&cloud, 2, b"twin"), "a name");
-    assert!(rt; has(&cloud, 3, b"twin"), "the same name");
-    assert!(rt; has(&cloud, 4, b""), "none");
-    assert!(rt;
-        has(&cloud, 5, b"00000000-0000-0000-0000-000000000001"),
-        "a UUID"
-    );
-    assert!(rt;
-        has(&cloud, 6, b"00000000-0000-0000-0000-0000000000ff"),
-        "a UUID of nobody"
-    );
+static NAMES: [(u32, &[u8], &str); 7] = [
+    (0, b"rack 1, \"top\"", "a comma and quotes"),
+    (1, b"two\nlines", "a newline"),
+    (2, b"twin", "a name"),
+    (3, b"twin", "the same name"),
+    (4, b"", "none"),
+    (5, b"00000000-0000-0000-0000-000000000001", "a UUID"),
+    (
+        6,
+        b"00000000-0000-0000-0000-0000000000ff",
+        "a UUID of nobody",
+    ),
+];
+
+fn shows_names(rt: &impl Abort, cloud: &Cloud) {
+    for (place, name, what) in &NAMES {
+        assert!(rt; has(cloud, *place, name), "{what}");
+    }
     assert!(rt; cloud.len() == 7, "all of them");
 }
 
 #[test]
-fn no_names(rt: HostRuntime) {
-    let Ok(cloud) = cloud_of(rt.alloc(), ONE.as_bytes()) else {
-        assert!(rt; false, "the table is accepted");
-        return;
-    };
-    assert!(rt; has(&cloud, 0, b"") && cloud.len() == 1, "no column");
-    assert!(rt; cloud.host(b"") == Err(HostFault::Unknown), "no host");
+fn names_by_place(rt: HostRuntime) -> Result<(), Fail> {
+    let cloud = cloud_of(rt.alloc(), NAMED.as_bytes())?;
+    shows_names(&rt, &cloud);
+    Ok(())
+}
+
+static HOSTS: [(&[u8], Result<u32, HostFault>); 16] = [
+    (b"00000000-0000-0000-0000-000000000004", Ok(3)),
+    (b"00000000000000000000000000000004", Ok(3)),
+    (b"{00000000-0000-0000-0000-000000000004}", Ok(3)),
+    (b"URN:UUID:00000000-0000-0000-0000-000000000004", Ok(3)),
+    (b"rack 1, \"top\"", Ok(0)),
+    (b"two\nlines", Ok(1)),
+    (b"twin", Err(HostFault::Ambiguous)),
+    (b"", Err(HostFault::Unknown)),
+    (b"twi", Err(HostFault::Unknown)),
+    (b"twin ", Err(HostFault::Unknown)),
+    (b"Twin", Err(HostFault::Unknown)),
+    (b"two", Err(HostFault::Unknown)),
+    (b"00000000-0000-0000-0000-000000000001", Ok(0)),
+    (b"00000000-0000-0000-0000-0000000000ff", Ok(6)),
+    (b"000000000000000000000000000000ff", Err(HostFault::Unknown)),
+    (
+        b"00000000-0000-0000-0000-0000000000fe",
+        Err(HostFault::Unknown),
+    ),
+];
+
+fn finds_hosts(rt: &impl Abort, cloud: &Cloud) {
+    for (number, (text, want)) in HOSTS.iter().enumerate() {
+        assert!(rt; cloud.host(text) == *want, "host {number}");
+    }
 }
 
 #[test]
-fn first_of_two_columns(rt: HostRuntime) {
+fn hosts(rt: HostRuntime) -> Result<(), Fail> {
+    let cloud = cloud_of(rt.alloc(), NAMED.as_bytes())?;
+    finds_hosts(&rt, &cloud);
+    Ok(())
+}
+
+// Whether a table has one provider, of this name, and what the name finds.
+fn names_one(
+    alloc: Global,
+    providers: &[u8],
+    name: &[u8],
+    found: Result<u32, HostFault>,
+) -> Result<bool, TableFault> {
+    let cloud = cloud_of(alloc, providers)?;
+    Ok(cloud.len() == 1 && has(&cloud, 0, name) && cloud.host(name) == found)
+}
+
+#[test]
+fn no_names(rt: HostRuntime) -> Result<(), Fail> {
+    let unknown = Err(HostFault::Unknown);
+    assert!(rt;
+        names_one(rt.alloc(), ONE.as_bytes(), b"", unknown)?,
+        "no column"
+    );
+    Ok(())
+}
+
+#[test]
+fn first_of_two_columns(rt: HostRuntime) -> Result<(), Fail> {
     let text = b"name,uuid,root_provider_uuid,parent_provider_uuid,name
 cmp-1,00000000-0000-0000-0000-000000000001,00000000-0000-0000-0000-000000000001,,cmp-2
 ";
-    let Ok(cloud) = cloud_of(rt.alloc(), text) else {
-        assert!(rt; false, "the table is accepted");
-        return;
-    };
-    assert!(rt; has(&cloud, 0, b"cmp-1"), "the first");
+    assert!(rt; names_one(rt.alloc(), text, b"cmp-1", Ok(0))?, "the first");
+    Ok(())
 }
 
 #[test]
-fn bytes_that_are_no_text(rt: HostRuntime) {
+fn bytes_that_are_no_text(rt: HostRuntime) -> Result<(), Fail> {
     let text = b"name,uuid,root_provider_uuid,parent_provider_uuid
 \xff\x00\x1b[2J\xc3,00000000-0000-0000-0000-000000000001,00000000-0000-0000-0000-000000000001,
 ";
-    let Ok(cloud) = cloud_of(rt.alloc(), text) else {
-        assert!(rt; false, "the table is accepted");
-        return;
-    };
-    assert!(rt; has(&cloud, 0, b"\xff\x00\x1b[2J\xc3"), "each byte");
-    assert!(rt; cloud.host(b"\xff\x00\x1b[2J\xc3") == Ok(0), "the host");
+    let name = b"\xff\x00\x1b[2J\xc3";
+    assert!(rt; names_one(rt.alloc(), text, name, Ok(0))?, "each byte");
+    Ok(())
+}
+
+// The same with a name of so many bytes, in quotes.
+fn names_at_length(alloc: Global, count: usize) -> Result<bool, TableFault> {
+    let name = "n,".repeat(alloc, count / 2)?;
+    let name = name.as_str();
+    let text = format!(in alloc;
+        "name,uuid,root_provider_uuid,parent_provider_uuid\n\"{name}\",00000000-0000-0000-0000-000000000001,00000000-0000-0000-0000-000000000001,\n"
+    )?;
+    names_one(alloc, text.as_bytes(), name.as_bytes(), Ok(0))
 }
 
 #[test]
 fn long_names(rt: HostRuntime) -> Result<(), Fail> {
-    let alloc = rt.alloc();
     for count in [256, 65_536] {
-        let name = repeated(alloc, "n,", count / 2)?;
-        let name = name.as_str();
-        let text = format!(in alloc;
-            "name,uuid,root_provider_uuid,parent_provider_uuid\n\"{name}\",00000000-0000-0000-0000-000000000001,00000000-0000-0000-0000-000000000001,\n"
-        )?;
-        match cloud_of(alloc, text.as_bytes()) {
-            Ok(cloud) => {
-                assert!(rt; has(&cloud, 0, name.as_bytes()), "{count} bytes");
-                assert!(rt; cloud.host(name.as_bytes()) == Ok(0), "{count} bytes");
-            }
-            Err(_) => assert!(rt; false, "the table is accepted"),
-        }
+        assert!(rt; names_at_length(rt.alloc(), count)?, "{count} bytes");
     }
     Ok(())
 }
 
-#[test]
-fn hosts(rt: HostRuntime) {
-    let Ok(cloud) = cloud_of(rt.alloc(), NAMED.as_bytes()) else {
-        assert!(rt; false, "the table is accepted");
-        return;
-    };
-    let cases: [(&[u8], Result<u32, HostFault>); 16] = [
-        (b"00000000-0000-0000-0000-000000000004", Ok(3)),
-        (b"00000000000000000000000000000004", Ok(3)),
-        (b"{00000000-0000-0000-0000-000000000004}", Ok(3)),
-        (b"URN:UUID:00000000-0000-0000-0000-000000000004", Ok(3)),
-        (b"rack 1, \"top\"", Ok(0)),
-        (b"two\nlines", Ok(1)),
-        (b"twin", Err(HostFault::Ambiguous)),
-        (b"", Err(HostFault::Unknown)),
-        (b"twi", Err(HostFault::Unknown)),
-        (b"twin ", Err(HostFault::Unknown)),
-        (b"Twin", Err(HostFault::Unknown)),
-        (b"two", Err(HostFault::Unknown)),
-        (b"00000000-0000-0000-0000-000000000001", Ok(0)),
-        (b"00000000-0000-0000-0000-0000000000ff", Ok(6)),
-        (b"000000000000000000000000000000ff", Err(HostFault::Unknown)),
-        (
-            b"00000000-0000-0000-0000-0000000000fe",
-            Err(HostFault::Unknown),
-        ),
-    ];
-    for (number, (text, want)) in cases.into_iter().enumerate() {
-        assert!(rt; cloud.host(text) == want, "host {number}");
-    }
+fn is_written(alloc: Global, fault: HostFault, want: &str) -> Result<bool, AllocError> {
+    Ok(format!(in alloc; "{fault}")?.as_str() == want)
 }
 
 #[test]
 fn messages(rt: HostRuntime) -> Result<(), Fail> {
-    let alloc = rt.alloc();
-    let unknown = format!(in alloc; "{}", HostFault::Unknown)?;
-    let ambiguous = format!(in alloc; "{}", HostFault::Ambiguous)?;
-    assert!(rt; unknown.as_str() == "host: Unknown", "unknown");
-    assert!(rt; ambiguous.as_str() == "host: Ambiguous", "ambiguous");
-    Ok(())
-}
-
-// A name brings no fault, and hides none.
-#[test]
-fn faults_beside_names(rt: HostRuntime) {
-    let cases = [
-        (
-            "name,uuid,root_provider_uuid,parent_provider_uuid\na,b,00000000-0000-0000-0000-000000000001,00000000-0000-0000-0000-000000000001,",
-            at(Table::Providers, 2, TableKind::Width),
-        ),
-        (
-            "name,uuid,root_provider_uuid,parent_provider_uuid\na,x,00000000-0000-0000-0000-000000000001,",
-            at(Table::Providers, 2, TableKind::BadUuid),
-        ),
-        (
-            "name,uuid,root_provider_uuid,parent_provider_uuid\na,00000000-0000-0000-0000-000000000001,00000000-0000-0000-0000-000000000001,\nb,00000000-0000-0000-0000-000000000001,00000000-0000-0000-0000-000000000001,",
-            at(Table::Providers, 3, TableKind::Duplicate),
-        ),
-        ("name", at(Table::Providers, 1, TableKind::MissingColumn)),
-    ];
-    for (providers, want) in cases {
-        let got = told(rt.alloc(), (providers, VCPU, None, None, None));
-        assert!(rt; got == want, "{providers}");
+    for (fault, want) in [
+        (HostFault::Unknown, "host: Unknown"),
+        (HostFault::Ambiguous, "host: Ambiguous"),
+    ] {
+        assert!(rt; is_written(rt.alloc(), fault, want)?, "{want}");
     }
+    Ok(())
 }
