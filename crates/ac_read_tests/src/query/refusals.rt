@@ -1,11 +1,8 @@
 //! What reads a query or a token, or writes one, run with each of its growths refused in turn: all of it, or want of memory.
-use super::pair;
+use super::{BOTH, pair, two_slots};
 use ac_base::NoMemory;
 use ac_query::{Query, QueryFault, Token, TokenFault, Version};
 use ac_rules::InCloud;
-use std::alloc::Global;
-
-const BOTH: &str = "00000000-0000-0000-0000-000000000001,00000000-0000-0000-0000-000000000002";
 
 #[test]
 fn query(rt: HostRuntime) {
@@ -39,12 +36,6 @@ fn unknown_suffix(rt: HostRuntime) {
         Err(QueryFault::UnknownSuffix(suffix)) => assert_eq!(rt; suffix.text(), "2"),
         Err(fault) => assert!(rt; matches!(fault, QueryFault::NoMemory)),
     }
-}
-
-// A query of two slots, where memory suffices for it.
-fn two_slots(alloc: Global) -> Option<Query> {
-    let text = "resources1=VCPU:5&resources2=VCPU:5&group_policy=none";
-    Query::read(alloc, text, Version::V136).ok()
 }
 
 #[test]
