@@ -159,7 +159,7 @@ def hidden_in(shown, asked):
     roots = [one for one in shown if one.root() is one]
     hosts = [one for one in roots if SHARES not in one.traits] or roots
     traits = set.intersection(*(one.traits for one in hosts)) - asked
-    who = full(hosts[0].name) if len(hosts) == 1 else 'Every root' if SHARES in hosts[0].traits else 'Every host'
+    who = full(hosts[0].name) if len(hosts) == 1 else 'Every root here' if SHARES in hosts[0].traits else 'Every host here'
     return {one.name: traits for one in hosts}, f'{who} also has: {", ".join(sorted(traits))}' if traits else ''
 
 
@@ -312,8 +312,8 @@ def refused():
                 ((*cloud, '--tree=compute-03'), '', 1, 'draw-cloud: there is no provider compute-03\n'),
                 ((*cloud, '--token=x'), '', 1, '`ac_cli check` tells a fault'),
                 (('--tables', os.path.join(folder, 'absent')), '', 1, 'No such file'),
-                (('--tables', folder), '', 2, 'draw-cloud: 31 trees are too many for a picture: name some by --tree, or give a --token; '
-                                              'or draw a square for each host (--hosts)\n'),
+                (('--tables', folder), '', 2, 'draw-cloud: 31 trees are too many for a picture. Name some (--tree), or give a --token, or draw a square for '
+                                              'each: ac_cli hosts QUERY --tables DIR | tools/draw-cloud.py --hosts - --tables DIR\n'),
                 (('--tables', folder, '--tree=one'), '', 1, 'draw-cloud: 2 providers are named one; give the UUID of one\n'),
                 (('--tables', folder, '--tree=two'), '', 0, ''),
                 (('--tables', folder, f'--tree={other}'), '', 0, ''),
@@ -322,6 +322,8 @@ def refused():
                 ((*single, '--tree=two', '--inventories', os.path.join(folder, 'usages.csv')), '', 1, "KeyError('total')"),
                 (('--tables', folder, *single), '', 2, '--tables names all tables\n'),
                 (single, '', 2, 'the tables are missing'),
+                (('--providers', os.devnull, '--inventories', os.devnull), '', 1, "KeyError('uuid')"),
+                (('--providers', '-', '--inventories', os.devnull), HEADERS['providers'], 1, 'draw-cloud: there are no providers\n'),
                 (('--hosts', '-', '--tables', folder, '--tree=two'), '', 2, '--hosts draws no trees\n'),
                 (('--hosts', '-'), 'root,name\n', 1, "KeyError('fits')"),
                 (('--hosts', '-'), hosts_text([('x', '', 'yes', '', '')]), 1, "can't be read"),

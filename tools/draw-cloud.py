@@ -66,9 +66,8 @@ def trees_asked(asked, paths):
     if not roots:
         roots = {one.root for one in cloud.values()}
         if len(roots) > MOST_TREES:
-            print(f'draw-cloud: {len(roots)} trees are too many for a picture: name some by --tree, or give a --token; '
-                  'or draw a square for each host (--hosts)', file=sys.stderr)
-            sys.exit(2)
+            raise NotDrawn(f'{len(roots)} trees are too many for a picture. Name some (--tree), or give a --token, or draw a square for each: '
+                           'ac_cli hosts QUERY --tables DIR | tools/draw-cloud.py --hosts - --tables DIR', 2)
     providers = [one for one in cloud.values() if one.root in roots]
     fill(providers, paths)
     return trees.picture(providers, token, traits_of(asked.query))
@@ -83,8 +82,10 @@ def main():
     asked, paths = words()
     try:
         lines = list(hosts_asked(asked, paths) if asked.hosts else trees_asked(asked, paths))
-    except NotDrawn as why:
-        sys.exit(f'draw-cloud: {why}')
+    except NotDrawn as fault:
+        why, *status = fault.args
+        print(f'draw-cloud: {why}', file=sys.stderr)
+        sys.exit(*status or (1,))
     except UNREADABLE as fault:
         sys.exit(f'draw-cloud: the tables, the token or the hosts can\'t be read ({fault!r}); `ac_cli check` tells a fault of the tables')
     try:

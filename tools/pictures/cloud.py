@@ -18,7 +18,7 @@ csv.field_size_limit(sys.maxsize)
 
 
 class NotDrawn(Exception):
-    """Why nothing can be drawn, in a line."""
+    """Why nothing can be drawn, in a line, and perhaps the status that goes with it."""
 
 
 @dataclass
@@ -59,6 +59,8 @@ def cloud_of(path):
     cloud = {}
     for id, parent, root, name in rows(path, 'uuid', 'parent_provider_uuid', 'root_provider_uuid', 'name', optional=('name',)):
         cloud[identity(id)] = Provider(identity(id), name, None if parent in ('', 'None') else identity(parent), identity(root))
+    if not cloud:
+        raise NotDrawn('there are no providers')
     for one in cloud.values():
         for end in one.root, one.parent or one.root:
             if end not in cloud:

@@ -14,13 +14,11 @@ FITS = 'fits'
 COLOURS = {FITS: '#0072b2', 'root traits': '#000000', 'units': '#bdbdbd', 'traits': '#882255', 'aggregates': '#cc79a7', 'tree': '#7a5c3e',
            'room': '#e69f00', 'required traits': '#b34700', 'together': '#fff14d'}
 OTHER = '#ffffff'
-EDGE = 16
-SIDE = 12
-PITCH = 14
-PER_ROW = 64
-NARROW = 640         # the picture is no narrower
-SIZE = 11
-LINE = 16
+NARROW = 640  # the least width of the picture
+EDGE = 16  # the room around the picture, and between blocks
+PER_ROW = 64  # how many squares stand side by side
+SIDE, PITCH = 12, 14  # of a square, and from one to the next
+SIZE, LINE = 11, 16  # of a text, and from one line to the next
 
 
 @dataclass

@@ -56,12 +56,10 @@ def title(words):
     return f'<title>{escaped(words)}</title>'
 
 
-def text(x, y, words, size, align='start', bold=False, most=1000):
-    """One line, cut where it is too long; its title then has all of it."""
-    shown = cut(words, most)
+def text(x, y, words, size, align='start', bold=False, told=''):
     weight = ' font-weight="bold"' if bold else ''
-    told = title(words) if shown != plain(words) else ''
-    return f'<text x="{number(x)}" y="{number(y)}" font-size="{size}" text-anchor="{align}"{weight}>{told}{html.escape(shown)}</text>'
+    inside = title(told) if told else ''
+    return f'<text x="{number(x)}" y="{number(y)}" font-size="{size}" text-anchor="{align}"{weight}>{inside}{escaped(words)}</text>'
 
 
 def rectangle(kind, x, y, width, height, fill, told='', **more):

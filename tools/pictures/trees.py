@@ -2,20 +2,20 @@
 from __future__ import annotations
 
 import math
-from dataclasses import dataclass, field
+from dataclasses import dataclass
 
 from pictures.cloud import SHARES, sharing
 from pictures.svg import GREY, arrow, cut, document, line, lines_of, natural, rectangle, text, width_of
 
-NARROW, WIDE = 1200, 2000  # a row of frames is at most as wide as a page; of the page, this is the least and the most
-LONGEST = 48         # how many letters of a line stand in a box
-EDGE = 16            # around the picture, and between frames
-PAD = 12             # around the boxes of a frame
-FALL = 28            # between a box and those below it
-LANE = 7             # between two lines side by side
+NARROW, WIDE = 1200, 2000  # the least and the most width of a page, which no row of frames is wider than
+LONGEST = 48  # how many letters of a line stand in a box
+EDGE = 16  # the room around the picture, and between frames
+PAD = 12  # the room around the boxes of a frame
+FALL = 28  # the room between a box and those below it
+STEM = 18  # the room left of boxes in a column
+LANE = 7  # the room between two lines side by side
+NOTE = 10  # the size of what stands below
 DASHES = '5 3'
-STEM = 18            # left of boxes in a column
-NOTE = 10
 SHARED = '#0072b2', '#d55e00', '#009e73', '#cc79a7', '#000000', '#56b4e9', '#e69f00'
 PLAIN = {'fill': 'white', 'stroke': GREY}
 MARKED = {'fill': '#ffe9c9', 'stroke': '#b3470f', 'stroke-width': 3}
@@ -55,7 +55,8 @@ class Box:
         for row in self.rows:
             down += row.height()
             x, align = (self.middle(), 'middle') if row.centred else (self.x + PAD, 'start')
-            yield text(x, down - row.size * 0.35, row.words, row.size, align, row.bold, LONGEST)
+            shown = cut(row.words, LONGEST)
+            yield text(x, down - row.size * 0.35, shown, row.size, align, row.bold, row.words if shown.endswith('…') else '')
         yield '</g>'
 
 
@@ -84,25 +85,20 @@ class Column:
     height: float
 
 
-@dataclass
 class Tree:
-    """The boxes of a tree, and where its frame stands."""
-    root: object
-    boxes: dict
-    x: float = 0
-    y: float = 0
-    below: dict = field(default_factory=dict)
+    """The boxes of a tree, each behind its parent, and where its frame stands."""
 
-    def __post_init__(self):
+    def __init__(self, root, boxes):
+        self.root = root
         children = {}
-        for one in sorted((box.provider for box in self.boxes.values()), key=lambda one: natural(one.label())):
+        for one in sorted((box.provider for box in boxes.values()), key=lambda one: natural(one.label())):
             children.setdefault(one.parent, []).append(one.id)
-        order, waiting = [], [self.root.id]
+        order, waiting = [], [root.id]
         while waiting:
             order.append(waiting.pop())
             waiting += children.get(order[-1], ())
-        self.boxes = {id: self.boxes[id] for id in order}
-        self.widths, self.heights = {}, {}
+        self.boxes = {id: boxes[id] for id in order}
+        self.below, self.widths, self.heights = {}, {}, {}
         for id in reversed(order):
             self.below[id] = list(self.columns(children.get(id, ()), id != self.root.id))
             self.widths[id] = max(self.boxes[id].width, self.row_width(id))
@@ -252,7 +248,7 @@ def left_out(roots, asked):
     there are no others."""
     hosts = [one for one in roots if SHARES not in one.traits] or roots
     traits = set.intersection(*(one.traits for one in hosts)) - asked
-    who = hosts[0].label() if len(hosts) == 1 else 'Every host' if SHARES not in hosts[0].traits else 'Every root'
+    who = hosts[0].label() if len(hosts) == 1 else 'Every host here' if SHARES not in hosts[0].traits else 'Every root here'
     return {one.id for one in hosts}, traits, f'{who} also has: {", ".join(sorted(traits))}' if traits else ''
 
 
