@@ -139,6 +139,9 @@ class Picture:
             rows = [room_of(text) for text in group.iter(SVG + 'text')]
             yield from (f'{said(text)} is outside of its box' for text, row in zip(group.iter(SVG + 'text'), rows) if not place(group.find(SVG + 'rect')).has(row))
             yield from (f'{one} meets {other}' for one, other in zip(rows, rows[1:]) if one.meets(other))
+        for text in self.all.findall(SVG + 'text'):
+            others = [*boxes, *(place(one) for name in ('host', 'legend') for one in self.classed(name)), *map(room_of, set(self.all.findall(SVG + 'text')) - {text})]
+            yield from (f'{said(text)} meets {other}' for other in others if room_of(text).meets(other))
         yield from (f'{said(text)} is outside of the picture' for text in self.all.iter(SVG + 'text') if not self.whole.has(room_of(text)))
         yield from (f'{one} is outside of the picture' for one in frames if not self.whole.has(one))
         widest = max((one.width for one in frames), default=0)
@@ -304,6 +307,7 @@ def refused():
     cloud = ('--tables', os.path.join(EXAMPLES, 'cloud'))
     other = '00000000-0000-0000-0000-000000000001'
     rows = '\n'.join(f'P{at} | | VCPU total 8' for at in range(1, 32))
+    circle, wrong = (HEADERS['providers'] + full(lines) for lines in ('P1,P1,\nP2,P1,P3\nP3,P1,P2\n', 'P1,P2,\nP2,P2,P1\n'))
     with folder_of(rows, {'P1': 'one', 'P2': 'one', 'P3': 'two'}) as folder:
         single = ('--providers', os.path.join(folder, 'providers.csv'))
         for words, given, status, says in (
@@ -324,6 +328,8 @@ def refused():
                 (single, '', 2, 'the tables are missing'),
                 (('--providers', os.devnull, '--inventories', os.devnull), '', 1, "KeyError('uuid')"),
                 (('--providers', '-', '--inventories', os.devnull), HEADERS['providers'], 1, 'draw-cloud: there are no providers\n'),
+                (('--providers', '-', '--inventories', os.path.join(folder, 'inventories.csv')), circle, 1, 'are not below it'),
+                (('--providers', '-', '--inventories', os.devnull), wrong, 1, 'has a wrong root'),
                 (('--hosts', '-', '--tables', folder, '--tree=two'), '', 2, '--hosts draws no trees\n'),
                 (('--hosts', '-'), 'root,name\n', 1, "KeyError('fits')"),
                 (('--hosts', '-'), hosts_text([('x', '', 'yes', '', '')]), 1, "can't be read"),

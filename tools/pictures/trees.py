@@ -4,7 +4,7 @@ from __future__ import annotations
 import math
 from dataclasses import dataclass
 
-from pictures.cloud import SHARES, sharing
+from pictures.cloud import SHARES, NotDrawn, sharing
 from pictures.svg import GREY, arrow, cut, document, line, lines_of, natural, rectangle, text, width_of
 
 NARROW, WIDE = 1200, 2000  # the least and the most width of a page, which no row of frames is wider than
@@ -97,6 +97,8 @@ class Tree:
         while waiting:
             order.append(waiting.pop())
             waiting += children.get(order[-1], ())
+        if len(order) < len(boxes):
+            raise NotDrawn(f'some providers of the tree of {root.label()} are not below it; `ac_cli check` tells a fault of the tables')
         self.boxes = {id: boxes[id] for id in order}
         self.below, self.widths, self.heights = {}, {}, {}
         for id in reversed(order):
