@@ -142,6 +142,12 @@ class Picture:
             rows = [room_of(text) for text in group.iter(SVG + 'text')]
             yield from (f'{said(text)} is outside of its box' for text, row in zip(group.iter(SVG + 'text'), rows) if not place(group.find(SVG + 'rect')).has(row))
             yield from (f'{one} meets {other}' for one, other in zip(rows, rows[1:]) if one.meets(other))
+        for path in self.all.iter(SVG + 'path'):
+            if path.get('marker-end'):
+                points = [tuple(map(float, point.split(','))) for point in re.findall(r'[\d.]+,[\d.]+', path.get('d'))]
+                parts = [Place(min(x, to_x), min(y, to_y), abs(to_x - x), abs(to_y - y)) for (x, y), (to_x, to_y) in zip(points, points[1:])]
+                if any(part.meets(box) for part in parts for box in boxes) or not any(box.has(Place(*points[-1], 0, 0)) for box in boxes):
+                    yield f'an arrow goes through boxes, or to none: {path.get("d")}'
         for text in self.all.findall(SVG + 'text'):
             others = [*boxes, *(place(one) for name in ('host', 'legend') for one in self.classed(name)), *map(room_of, set(self.all.findall(SVG + 'text')) - {text})]
             yield from (f'{said(text)} meets {other}' for other in others if room_of(text).meets(other))
