@@ -2,8 +2,8 @@
 """tests/drawing.py: checks that tools/draw-cloud.py draws what the tables say. It writes a line for each difference; the status is 0 only if there is
 none.
 
-The tool draws random clouds and hosts, and the pictures on the pages. What it draws is read as XML. The boxes of a cloud are compared with tests/model.py,
-which works out capacities and sharing by itself."""
+The tool draws random clouds and hosts. What it draws is read as XML. The boxes of a cloud are compared with tests/model.py, which works out capacities and
+sharing by itself. tests/program.py compares the pictures on the pages."""
 from __future__ import annotations
 
 import contextlib
@@ -27,7 +27,6 @@ from notation import HEADERS, full, tables
 ROOT = os.path.dirname(os.path.dirname(os.path.abspath(__file__)))
 TOOL = os.path.join(ROOT, 'tools', 'draw-cloud.py')
 EXAMPLES = os.path.join(ROOT, 'examples')
-TOKEN = 'e7f31a9c-6b08-4d52-9f47-03a8c5d26e06,3c5e81d7-02a9-4f6b-8e34-b19d6a7f0c02'
 SVG = '{http://www.w3.org/2000/svg}'
 ELEMENTS = {'svg', 'g', 'rect', 'path', 'text', 'title', 'defs', 'marker'}
 LETTER = 0.602
@@ -211,18 +210,6 @@ def by_chance(number):
         yield from (f'drawn {at}: {what}' for what in picture.wrong())
 
 
-def pages():
-    """Differences in the pictures on the pages."""
-    with open(os.path.join(ROOT, 'docs', 'FORMATS.md'), encoding='utf-8') as file:
-        hosts = re.search(r'^(root,name,fits,slot,lacks\n.*?)^```', file.read(), re.M | re.S)[1]
-    for path, words in (('cloud.svg', ('--tables', os.path.join(EXAMPLES, 'cloud'), '--token', TOKEN, '--tree', 'compute-02')),
-                        ('hosts.svg', ('--tables', os.path.join(EXAMPLES, 'private'), '--hosts', '-'))):
-        svg, err, _ = drawn(*words, given=hosts)
-        with open(os.path.join(EXAMPLES, path), encoding='utf-8') as file:
-            if file.read() != svg:
-                yield f'examples/{path} is another picture: {err}'
-
-
 def large():
     """Differences in a picture of as many trees as are drawn unasked: it has rows, and each is about as wide as a page."""
     rows = [f'P{at} | | VCPU total 8 | CUSTOM_A | A1' for at in range(1, 30)] + ['P30 | | DISK_GB total 8 | MISC_SHARES_VIA_AGGREGATE | A1']
@@ -350,6 +337,6 @@ def refused():
 
 
 if __name__ == '__main__':
-    found = [*pages(), *by_chance(40), *large(), *odd_names(), *squares(), *refused()]
+    found = [*by_chance(40), *large(), *odd_names(), *squares(), *refused()]
     print(''.join(line + '\n' for line in found), end='')
     sys.exit(1 if found else 0)
