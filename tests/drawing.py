@@ -2,13 +2,14 @@
 """tests/drawing.py: checks that tools/draw-cloud.py draws what the tables say. It writes a line for each difference; the status is 0 only if there is
 none.
 
-The tool draws random clouds and hosts. What it draws is read as XML. The boxes of a cloud are compared with tests/model.py, which works out capacities and
-sharing by itself. tests/program.py compares the pictures on the pages."""
+The tool draws random clouds and hosts. What it draws is read as XML. The boxes of a cloud are compared with tests/model.py, which works out capacities
+and sharing by itself. tests/program.py compares the pictures on the pages."""
 from __future__ import annotations
 
 import contextlib
 import csv
 import io
+import math
 import os
 import random
 import re
@@ -32,6 +33,7 @@ ELEMENTS = {'svg', 'g', 'rect', 'path', 'text', 'title', 'defs', 'marker'}
 LETTER = 0.602
 PAGE = 2000
 LACKS = 'root traits', 'units', 'traits', 'aggregates', 'tree', 'room', 'required traits', 'together'
+OF_SLOTS = LACKS[1:6]
 ODD = '<b>&amp; \\N\n"x"\x1b é</title><script>alert(1)</script>'
 SHOWN = '<b>&amp; \\N "x" é</title><script>alert(1)</script>'
 
@@ -138,8 +140,9 @@ class Picture:
         frames = self.frames()
         yield from (f'{box} is in no frame' for box in boxes if not any(frame.has(box) for frame in frames))
         for group in self.classed('provider'):
+            box = place(group.find(SVG + 'rect'))
             rows = [room_of(text) for text in group.iter(SVG + 'text')]
-            yield from (f'{said(text)} is outside of its box' for text, row in zip(group.iter(SVG + 'text'), rows) if not place(group.find(SVG + 'rect')).has(row))
+            yield from (f'{row} is outside of its box' for row in rows if not box.has(row))
             yield from (f'{one} meets {other}' for one, other in zip(rows, rows[1:]) if one.meets(other))
         for path in self.all.iter(SVG + 'path'):
             if path.get('marker-end'):
@@ -147,9 +150,10 @@ class Picture:
                 parts = [Place(min(x, to_x), min(y, to_y), abs(to_x - x), abs(to_y - y)) for (x, y), (to_x, to_y) in zip(points, points[1:])]
                 if any(part.meets(box) for part in parts for box in boxes) or not any(box.has(Place(*points[-1], 0, 0)) for box in boxes):
                     yield f'an arrow goes through boxes, or to none: {path.get("d")}'
-        for text in self.all.findall(SVG + 'text'):
-            others = [*boxes, *(place(one) for name in ('host', 'legend') for one in self.classed(name)), *map(room_of, set(self.all.findall(SVG + 'text')) - {text})]
-            yield from (f'{said(text)} meets {other}' for other in others if room_of(text).meets(other))
+        texts = list(map(room_of, self.all.findall(SVG + 'text')))
+        others = [*boxes, *(place(one) for name in ('host', 'legend') for one in self.classed(name))]
+        for at, text in enumerate(texts):
+            yield from (f'{text} meets {other}' for other in (*others, *texts[:at]) if text.meets(other))
         yield from (f'{said(text)} is outside of the picture' for text in self.all.iter(SVG + 'text') if not self.whole.has(room_of(text)))
         yield from (f'{one} is outside of the picture' for one in frames if not self.whole.has(one))
         widest = max((one.width for one in frames), default=0)
@@ -184,7 +188,7 @@ def by_chance(number):
         trees = {one.root().name for one in (*(one for one in cloud if one.name in token), *named)}
         shown = [one for one in cloud if not trees or one.root().name in trees]
         words = [f'--tree={full(one.name)}' for one in named] + ([f'--token={full(",".join(token))}'] if token else [])
-        query = f'--query=/placement/allocation_candidates?required1=in%3A{"%2C".join(asked)}&resources1=VCPU%3A1' if asked else '--query='
+        query = f'--query=/placement/allocation_candidates?required1=in%3A{"%2C".join(sorted(asked))}&resources1=VCPU%3A1' if asked else '--query='
         with folder_of('\n'.join(provider.text() for provider in cloud)) as folder:
             svg, err, status = drawn('--tables', folder, query, *words)
         if status or err:
@@ -247,55 +251,73 @@ def hosts_text(hosts):
         return out.getvalue()
 
 
+def rows_of_hosts(names, chance):
+    """Rows as `ac_cli hosts` writes them, by name: what is lacking there, and for which slot."""
+    kinds = {one: chance.choice(('', '', *LACKS)) for one in names}
+    return {one: (full(one), f'host {ODD} {one[1:]}', 'no' if kind else 'yes', str(chance.randint(1, 12)) if kind in OF_SLOTS else '', kind)
+            for one, kind in kinds.items()}
+
+
+def told(host):
+    """What a square says where the pointer is."""
+    root, name, _, slot, kind = host
+    return f'{name.replace(ODD, SHOWN)} {root}: ' + (f'lacks {kind}' + (f' for slot {slot}' if slot else '') if kind else 'fits')
+
+
+def legend_of(hosts):
+    """The lines that must stand beside the colours."""
+    kinds = Counter(kind for *_, kind in hosts)
+    yield f'fit: {kinds[""]} of {len(hosts)}'
+    for kind in LACKS:
+        slots = Counter(int(slot) for *_, slot, other in hosts if slot and other == kind)
+        if kinds[kind]:
+            yield f'lack {kind}: {kinds[kind]}' + (f' ({", ".join(f"slot {slot}: {slots[slot]}" for slot in sorted(slots))})' if slots else '')
+
+
+def colours_differ(picture, hosts, texts):
+    legend = [(one.get('fill'), next(words for y, words in texts if place(one).meets(Place(0, y - 8, 1000, 8)))) for one in picture.classed('legend')]
+    if [words for _, words in legend] != list(legend_of(hosts)) or len({colour for colour, _ in legend}) != len(legend):
+        yield f'the legend is {legend}, and not {list(legend_of(hosts))}'
+    colours = {words.partition(':')[0].removeprefix('lack ').replace('fit', ''): colour for colour, words in legend}
+    if Counter(one.get('fill') for one in picture.classed('host')) - Counter(colours.get(kind) for *_, kind in hosts):
+        yield 'other colours'
+
+
+def rows_differ(picture, hosts, within, texts):
+    """Those of A1 stand first, then those of A2, then those in no aggregate, each beside a line that says what it is."""
+    groups = {}
+    for name, host in hosts.items():
+        groups.setdefault(min(within.get(name, ['']), key=lambda one: (not one, one)), []).append(host)
+    order = sorted(groups, key=lambda name: (not name, name))
+    heads = [(y, words) for y, words in texts if words.startswith('00000000-') or words == 'in no aggregate']
+    if [words for _, words in heads] != [full(name) or 'in no aggregate' for name in order]:
+        yield f'the rows are {heads}'
+    for (y, _), end, name in zip(heads, [*(y for y, _ in heads[1:]), math.inf], order):
+        found = [one.find(SVG + 'title').text for one in picture.classed('host') if y - 12 < place(one).y < end - 12]
+        if sorted(found) != sorted(map(told, groups[name])):
+            yield f'other squares beside {name}'
+        if f'{sum(not kind for *_, kind in groups[name])} of {len(groups[name])} fit' not in [words for other, words in texts if other == y]:
+            yield f'another count beside {name}'
+
+
 def squares():
     """Differences in pictures of hosts. P1 to P4 are in A1, some of them in A2 too, P5 in A2 alone, and the others in none."""
     chance = random.Random(42)
-    within = {'P1': 'A1', 'P2': 'A2, A1', 'P3': 'A1, A2', 'P4': 'A1', 'P5': 'A2'}
+    within = {'P1': ['A1'], 'P2': ['A2', 'A1'], 'P3': ['A1', 'A2'], 'P4': ['A1'], 'P5': ['A2']}
     for number in 0, 1, 8, 300, 5000:
-        names = [f'P{at}' for at in range(1, number + 1)]
-        kinds = {one: chance.choice(('', '', *LACKS)) for one in names}
-        slots = {one: str(chance.randint(1, 12)) if kinds[one] in LACKS[1:6] else '' for one in names}
-        with folder_of('\n'.join(f'{one} | | | | {within.get(one, "")}' for one in names[:8]) or 'P1 |') as folder:
-            text = hosts_text((full(one), f'host {ODD} {one[1:]}', 'no' if kinds[one] else 'yes', slots[one], kinds[one]) for one in names)
-            svg, err, status = drawn('--hosts', '-', '--tables', folder, '--query', 'resources=VCPU:1&required=<A>', given=text)
-        if status or err:
-            yield f'{number} hosts: {err}'
-            continue
+        hosts = rows_of_hosts([f'P{at}' for at in range(1, number + 1)], chance)
+        with folder_of('\n'.join(f'{one} | | | | {", ".join(names)}' for one, names in within.items())) as folder:
+            svg, err, status = drawn('--hosts', '-', '--tables', folder, '--query', 'resources=VCPU:1&required=<A>', given=hosts_text(hosts.values()))
         picture = Picture(svg)
-        yield from (f'{number} hosts: {what}' for what in picture.wrong())
-        if picture.whole.width > 1400:
-            yield f'{number} hosts: {picture.whole.width} wide'
-        found = [(place(one), one.find(SVG + 'title').text, one.get('fill')) for one in picture.classed('host')]
-        told = {one: f'host {SHOWN} {one[1:]} {full(one)}: ' + (f'lacks {kinds[one]}' + f' for slot {slots[one]}' * bool(slots[one]) if kinds[one] else 'fits') for one in names}
-        if sorted(title for _, title, _ in found) != sorted(told.values()):
-            yield f'{number} hosts: other titles'
         texts = [(float(one.get('y')), said(one)) for one in picture.all.iter(SVG + 'text')]
+        differences = [*picture.wrong(), *colours_differ(picture, hosts.values(), texts), *rows_differ(picture, hosts, within, texts)]
+        if status or err or picture.whole.width > 1400:
+            differences.append(f'it is {picture.whole.width} wide: {err}')
+        if sorted(one.find(SVG + 'title').text for one in picture.classed('host')) != sorted(map(told, hosts.values())):
+            differences.append('other titles')
         if [words for _, words in texts[:1]] != ['resources=VCPU:1&required=<A>']:
-            yield f'{number} hosts: {texts[:1]} is no query'
-        # The legend: a line for each kind, beside its colour.
-        legend = [(one.get('fill'), next(words for y, words in texts if place(one).meets(Place(0, y - 8, 1000, 8)))) for one in picture.classed('legend')]
-        counts, of_slots = Counter(kinds.values()), Counter((kinds[one], slots[one]) for one in names)
-        wanted = [f'fit: {counts[""]} of {number}', *(f'lack {kind}: {counts[kind]}' + ''.join(
-            [' (' + ', '.join(f'slot {slot}: {of_slots[kind, slot]}' for slot in map(str, range(1, 13)) if (kind, slot) in of_slots) + ')'] * (kind in LACKS[1:6]))
-            for kind in LACKS if counts[kind])]
-        if [words for _, words in legend] != wanted or len({colour for colour, _ in legend}) != len(legend):
-            yield f'{number} hosts: the legend is {legend}, and not {wanted}'
-        colours = {words.partition(':')[0].removeprefix('lack '): colour for colour, words in legend}
-        if Counter(colour for *_, colour in found) != Counter({colour: counts[kind if kind != 'fit' else ''] for kind, colour in colours.items()}):
-            yield f'{number} hosts: other colours'
-        # The rows: those of A1 stand first, then those of A2, then those in no aggregate, each beside a line that says what it is.
-        groups = {}
-        for one in names:
-            groups.setdefault(min(filter(None, within.get(one, '').split(', ')), default=''), []).append(one)
-        heads = [(y, words) for y, words in texts if words.startswith('00000000-') or words == 'in no aggregate']
-        order = sorted(groups, key=lambda name: (not name, name))
-        if [words for _, words in heads] != [full(name) or 'in no aggregate' for name in order]:
-            yield f'{number} hosts: the rows are {heads}'
-        for (y, _), end, name in zip(heads, [*(y for y, _ in heads[1:]), 1e9], order):
-            if sorted(title for at, title, _ in found if y - 12 < at.y < end - 12) != sorted(told[one] for one in groups[name]):
-                yield f'{number} hosts: other squares beside {name}'
-            if f'{sum(not kinds[one] for one in groups[name])} of {len(groups[name])} fit' not in [words for other, words in texts if other == y]:
-                yield f'{number} hosts: another count beside {name}'
+            differences.append(f'{texts[:1]} is no query')
+        yield from (f'{number} hosts: {what}' for what in differences)
 
 
 def refused():
