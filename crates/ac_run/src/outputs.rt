@@ -2,10 +2,9 @@
 ghost use Rattle.std.specs.Prelude.{◌≡◌, ◌≤◌};
 ghost use Rattle.ac_cloud.specs.Cloud.CloudWorld.{sizes_of};
 ghost use Rattle.ac_run.specs.Outputs.{broken_line, counts, verdict_status, verdict_text};
-ghost use Rattle.ac_run.specs.Writing.{Pushes};
+ghost use Rattle.ac_answers.specs.Writing.{Pushes};
 
-use crate::pieces::digits::Digits;
-use crate::pieces::push_pieces;
+use ac_answers::{Digits, push_pieces};
 use ac_base::{Sink, WriteFailed};
 use ac_rules::{Rule, Verdict};
 use ac_tables::Counts;
