@@ -26,7 +26,7 @@ pub fn room_at(cloud: &Cloud, ix: u32, class: &ClassName) -> Option<u64>
     let inventory = cloud.inventory(ix, class)?;
     let unused = inventory
         .capacity()
-        .checked_sub(u64::from(cloud.used(ix, class)))?;
+        .checked_sub(cloud.used(ix, class))?;
     Some(unused.min(u64::from(inventory.max_unit())))
 }
 
