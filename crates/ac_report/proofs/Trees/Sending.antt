@@ -39,10 +39,3 @@ begin_members ms n old first e h end rest = (first, subst (λ n. Logs old first 
 pub holdings_listed : (hs : List (List ℕ × UsedInventory)) → IsStrictlySortedBy text_cmp (keys_of hs) → holdings hs ≡ object (listed (map holding hs))
 unfolding holdings holding
 holdings_listed hs h = ap object (gathered_listed (map holding hs) (subst (IsStrictlySortedBy text_cmp) (sym (map-map (λ (m : Named). m.0) holding hs)) h))
-
--- the classes of a provider's entries rise
-pub entries_rise : (cloud : Cloud) (ix : ℕ) → ix < length (providers_of cloud) → IsStrictlySortedBy text_cmp (keys_of (provider_at (providers_of cloud) ix).entries)
-entries_rise cloud ix h =
-    let k = inside cloud ix h in
-    subst (IsStrictlySortedBy text_cmp) (sym (map-map (λ (e : List ℕ × UsedInventory). e.0) entry_pair _) ∙ ap keys_of (inventory_records_here cloud ix k))
-    ((parts cloud).classes_rise ix [] (omega (arith, k, (parts cloud).with_entries)))
