@@ -1,5 +1,5 @@
 -- Trees as they are sent.
-use Rattle.std.proofs.Common.{◌≡◌, ◌∙◌, ◌<◌, ℕ, suc, List, [], ◌∷◌, Some, map, length, refl, sym, ap, subst, arith}
+use Rattle.std.proofs.Common.{◌≡◌, ◌∙◌, ℕ, suc, List, [], ◌∷◌, Some, map, length, refl, sym, ap, subst}
 use Rattle.std.proofs.lemmas.Simd.{map-map}
 use Rattle.std.specs.List.Sorted.{IsStrictlySortedBy}
 use Rattle.std.specs.Map.{keys_of}
@@ -8,11 +8,7 @@ use Rattle.serde_json.specs.Data.{Data, array, object}
 use Rattle.serde_json.specs.Events.{SendsItems, SendsMembers, SendsValue, items_len, members_len}
 use Rattle.serde_json.specs.View.{items_of}
 use Rattle.ac_base.specs.Texts.{text_cmp}
-use Rattle.ac_cloud.proofs.Places.CloudFacts.{inside, inventory_records_here, parts}
-use Rattle.ac_cloud.specs.Cloud.CloudWorld.{providers_of}
-use Rattle.ac_cloud.specs.Cloud.Entries.{entry_pair}
-use Rattle.ac_cloud.specs.World.{UsedInventory, provider_at}
-use Rattle.ac_cloud.specs.declared.cloud.Cloud.{Cloud}
+use Rattle.ac_cloud.specs.World.{UsedInventory}
 use Rattle.ac_report.specs.Parts.{listed}
 use Rattle.ac_report.specs.Trees.{holding, holdings}
 use Rattle.ac_report.proofs.Trees.Gathering.{Named}
