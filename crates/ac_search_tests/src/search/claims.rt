@@ -33,20 +33,6 @@ struct Step<'a> {
     used: u64,
 }
 
-const fn step(
-    query: &'static str,
-    ids: &'static str,
-    answer: Answer,
-    used: u64,
-) -> Step<'static> {
-    Step {
-        query,
-        ids,
-        answer,
-        used,
-    }
-}
-
 // Capacity 2147483647000000.
 const GREATEST: Rows<'static> = Rows {
     providers: "@01,@01,\n",
@@ -61,36 +47,156 @@ const TWO: &str = "resources1=VCPU:3&resources2=VCPU:4&group_policy=none";
 const APART: &str = "resources1=VCPU:3&resources2=VCPU:4&group_policy=isolate";
 
 static IN_ONE: [Step<'static>; 15] = [
-    step(APART, "@01,@01", Answer::Broken(Rule::Isolate), 0),
-    step("resources=VCPU:5", "@01", Answer::Claimed, 5),
-    step("resources=VCPU:4", "@01", Answer::Broken(Rule::Sums), 5),
-    step("resources=VCPU:3", "@01", Answer::Claimed, 8),
-    step("resources=VCPU:3", "@01", Answer::Released, 5),
-    step("resources=VCPU:6", "@01", Answer::NotInUse, 5),
-    step("resources=VCPU:5", "@01", Answer::Released, 0),
-    step("resources=VCPU:5", "@01", Answer::NotInUse, 0),
-    step(TWO, "@01,@01", Answer::Claimed, 7),
-    step(TWO, "@01,@01", Answer::Broken(Rule::Sums), 7),
-    step(APART, "@01,@01", Answer::Released, 0),
-    step(TWO, "@01,@01", Answer::Claimed, 7),
-    step("resources=VCPU:1", "@01", Answer::Released, 6),
-    step(TWO, "@01,@01", Answer::NotInUse, 6),
-    step("resources=DISK_GB:1", "@01", Answer::NotInUse, 6),
+    Step {
+        query: APART,
+        ids: "@01,@01",
+        answer: Answer::Broken(Rule::Isolate),
+        used: 0,
+    },
+    Step {
+        query: "resources=VCPU:5",
+        ids: "@01",
+        answer: Answer::Claimed,
+        used: 5,
+    },
+    Step {
+        query: "resources=VCPU:4",
+        ids: "@01",
+        answer: Answer::Broken(Rule::Sums),
+        used: 5,
+    },
+    Step {
+        query: "resources=VCPU:3",
+        ids: "@01",
+        answer: Answer::Claimed,
+        used: 8,
+    },
+    Step {
+        query: "resources=VCPU:3",
+        ids: "@01",
+        answer: Answer::Released,
+        used: 5,
+    },
+    Step {
+        query: "resources=VCPU:6",
+        ids: "@01",
+        answer: Answer::NotInUse,
+        used: 5,
+    },
+    Step {
+        query: "resources=VCPU:5",
+        ids: "@01",
+        answer: Answer::Released,
+        used: 0,
+    },
+    Step {
+        query: "resources=VCPU:5",
+        ids: "@01",
+        answer: Answer::NotInUse,
+        used: 0,
+    },
+    Step {
+        query: TWO,
+        ids: "@01,@01",
+        answer: Answer::Claimed,
+        used: 7,
+    },
+    Step {
+        query: TWO,
+        ids: "@01,@01",
+        answer: Answer::Broken(Rule::Sums),
+        used: 7,
+    },
+    Step {
+        query: APART,
+        ids: "@01,@01",
+        answer: Answer::Released,
+        used: 0,
+    },
+    Step {
+        query: TWO,
+        ids: "@01,@01",
+        answer: Answer::Claimed,
+        used: 7,
+    },
+    Step {
+        query: "resources=VCPU:1",
+        ids: "@01",
+        answer: Answer::Released,
+        used: 6,
+    },
+    Step {
+        query: TWO,
+        ids: "@01,@01",
+        answer: Answer::NotInUse,
+        used: 6,
+    },
+    Step {
+        query: "resources=DISK_GB:1",
+        ids: "@01",
+        answer: Answer::NotInUse,
+        used: 6,
+    },
 ];
 
 static IN_PAIR: [Step<'static>; 5] = [
-    step(TWO, "@01,@02", Answer::Claimed, 3),
-    step(TWO, "@02,@01", Answer::Claimed, 7),
-    step(TWO, "@01,@02", Answer::Broken(Rule::Sums), 7),
-    step(TWO, "@01,@02", Answer::Released, 4),
-    step("resources=DISK_GB:1", "@02", Answer::Broken(Rule::Units), 4),
+    Step {
+        query: TWO,
+        ids: "@01,@02",
+        answer: Answer::Claimed,
+        used: 3,
+    },
+    Step {
+        query: TWO,
+        ids: "@02,@01",
+        answer: Answer::Claimed,
+        used: 7,
+    },
+    Step {
+        query: TWO,
+        ids: "@01,@02",
+        answer: Answer::Broken(Rule::Sums),
+        used: 7,
+    },
+    Step {
+        query: TWO,
+        ids: "@01,@02",
+        answer: Answer::Released,
+        used: 4,
+    },
+    Step {
+        query: "resources=DISK_GB:1",
+        ids: "@02",
+        answer: Answer::Broken(Rule::Units),
+        used: 4,
+    },
 ];
 
 static IN_GREATEST: [Step<'static>; 4] = [
-    step(ALL, "@01", Answer::Claimed, 2147483647),
-    step(ALL, "@01", Answer::Claimed, 4294967294),
-    step(ALL, "@01", Answer::Claimed, 6442450941),
-    step(ALL, "@01", Answer::Released, 4294967294),
+    Step {
+        query: ALL,
+        ids: "@01",
+        answer: Answer::Claimed,
+        used: 2147483647,
+    },
+    Step {
+        query: ALL,
+        ids: "@01",
+        answer: Answer::Claimed,
+        used: 4294967294,
+    },
+    Step {
+        query: ALL,
+        ids: "@01",
+        answer: Answer::Claimed,
+        used: 6442450941,
+    },
+    Step {
+        query: ALL,
+        ids: "@01",
+        answer: Answer::Released,
+        used: 4294967294,
+    },
 ];
 
 // Claims or releases, as the answer that is wanted says.
