@@ -82,7 +82,7 @@ fn room_text(alloc: Global, placed: &Placed, need: &Need) -> Result<String, NoMe
     };
     let capacity = inventory.capacity();
     let used = placed.cloud.used(placed.provider, need.class());
-    let left = capacity.saturating_sub(u64::from(used));
+    let left = capacity.saturating_sub(used);
     Ok(format!(in alloc; "{class}: {left} of {capacity} left")?)
 }
 

@@ -1,12 +1,10 @@
 use Rattle.std.proofs.Common.{◌≡◌, ◌≤◌, nat_le, length, drop}
 use Rattle.ac_base.specs.Names.{class_bytes}
-use Rattle.ac_cloud.specs.World.{provider_at}
 use Rattle.ac_query.specs.Asked.{slots_of}
 use Rattle.ac_query.specs.Shown.Queries.{asked_of}
-use Rattle.ac_cloud.specs.Cloud.CloudWorld.{providers_of}
 use Rattle.ac_rules.specs.Placed.{placed}
-use Rattle.ac_rules.specs.Together.{sum_on, holds}
-use Rattle.ac_rules.proofs.assignment.Assignment.has_room_for.Given as goal
+use Rattle.ac_rules.specs.Together.{sum_on}
+use Rattle.ac_rules.proofs.assignment.Assignment.suffices.Given as goal
 
 abbrev pub invariant-loop-s : goal.invariant-loop-s
 invariant-loop-s l =
@@ -15,5 +13,5 @@ invariant-loop-s l =
     record {
       within : l.s ≤ length l.self.list.now;
       rest : nat_le (sum_on (placed (drop l.s slots) (drop l.s l.self.list.now)) l.ix class) l.left
-          ≡ holds (provider_at (providers_of l.placed.cloud.now) l.ix) class (sum_on (placed slots l.self.list.now) l.ix class);
+          ≡ nat_le (sum_on (placed slots l.self.list.now) l.ix class) l.room;
     }
