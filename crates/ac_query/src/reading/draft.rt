@@ -2,7 +2,7 @@
 ghost use Rattle.std.specs.Prelude.{◌≡◌, OnOk, IfOk, Some, None};
 ghost use Rattle.std.specs.Option.{option_map};
 ghost use Rattle.ac_base.specs.Names.{suffix_bytes};
-ghost use Rattle.ac_query.specs.Laws.Gathered.{empty_group, nothing, with_part, grown, with_given, with_suffixed};
+ghost use Rattle.ac_query.specs.Laws.Gathered.{nothing, with_part, grown, with_given, with_suffixed};
 ghost use Rattle.ac_query.specs.Shown.Given.{part_shown, given_shown};
 ghost use Rattle.ac_query.specs.Shown.Draft.{group_drafted, entries_shown, draft_shown};
 
@@ -36,23 +36,17 @@ pub(crate) struct Draft {
 }
 
 impl GroupDraft {
-    fn new(alloc: Global) -> GroupDraft
-        ensures { group_drafted result ≡ empty_group }
+    /// A group of one part.
+    fn of(alloc: Global, part: Part) -> Result<GroupDraft, NoMemory>
+        ensures { IfOk result (λ group. group_drafted group ≡ grown None (part_shown part)) }
     {
-        GroupDraft {
+        let mut group = GroupDraft {
             needs: BTreeMap::new(alloc),
             traits: Traits::new(alloc),
             any_of: Vec::new(alloc),
             member_of: Vec::new(alloc),
             in_tree: None,
-        }
-    }
-
-    /// A group of one part.
-    fn of(alloc: Global, part: Part) -> Result<GroupDraft, NoMemory>
-        ensures { IfOk result (λ group. group_drafted group ≡ grown None (part_shown part)) }
-    {
-        let mut group = GroupDraft::new(alloc);
+        };
         group.add(part)?;
         Ok(group)
     }
