@@ -69,6 +69,7 @@ fn asks<'a>(
         version,
         token,
         host: None,
+        detail: false,
     };
     gives(alloc, line, job)
 }
@@ -193,6 +194,7 @@ fn why(rt: HostRuntime) -> Result<(), Fail> {
             version: Version::V136,
             token: None,
             host: Some("h"),
+            detail: false,
         };
         assert!(rt; gives(rt.alloc(), line, job)?, "{line}");
     }
@@ -207,6 +209,7 @@ fn versions(rt: HostRuntime) -> Result<(), Fail> {
         version: Version::V136,
         token: None,
         host: None,
+        detail: false,
     };
     let older = "ac_cli tokens q --microversion 1.36 --providers a --inventories b";
     assert!(rt; gives(rt.alloc(), older, job)?);
