@@ -340,13 +340,14 @@ def status_of(text):
 
 
 def shown(page):
-    """Cases for the commands that a page shows: a block `sh` with one call of ./ac_cli and, right after it, a block `text` or `json` with what it
-    prints. Without such a block it may print anything."""
+    """Cases for the commands that a page shows: a block `sh` with one call of ./ac_cli or of tools/draw-cloud.py and, right after it, a block `text` or
+    `json` with what it prints. Without such a block it may print anything. A picture that it writes to /tmp must be the one in examples."""
     path = os.path.join(ROOT, page)
     text = contents(path).decode() if os.path.isfile(path) else ''
-    for block in re.finditer(r'^```sh\n(\./ac_cli\b(?:.*\\\n)*.*)\n```\n(?:\n*```(?:text|json)\n((?:.*\n)*?)```$)?', text, re.M):
+    for block in re.finditer(r'^```sh\n((?:\./ac_cli|tools/draw-cloud\.py)\b(?:.*\\\n)*.*)\n```\n(?:\n*```(?:text|json)\n((?:.*\n)*?)```$)?', text, re.M):
         command, says = block[1].replace('\\\n', ' '), block[2]
-        called = re.sub(r'^\./ac_cli', lambda _: shlex.quote(LAUNCHER), command)
+        called, pictures = re.subn(r' >/tmp/(\w+\.svg)$', r' | cmp - examples/\1', re.sub(r'^\./ac_cli', lambda _: shlex.quote(LAUNCHER), command))
+        says = '' if pictures else says
         yield Case(f'{page}: {command}', ['sh', '-c', f'exec 2>&1; {called}'], says, status=status_of(says or ''))
 
 

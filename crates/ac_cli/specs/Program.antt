@@ -12,7 +12,7 @@ use Rattle.ac_run.specs.Answer.{Task, answer}
 use Rattle.ac_run.specs.Feeds.{Bytes, FeedRose, TellBytes}
 use Rattle.ac_run.specs.Lines.{memory_line, output_line, unreadable_line}
 use Rattle.ac_run.specs.Run.{FailsOr, IsAnswered, IsRefused, IsUnread}
-use Rattle.ac_run.specs.Writing.{TakesLine}
+use Rattle.ac_answers.specs.Writing.{TakesLine}
 use Rattle.ac_query.specs.declared.job.Command.TheVariants.{Tokens}
 use Rattle.ac_tables.specs.declared.read.FiveTables.{FiveTables}
 use Rattle.ac_cli.specs.Opening.{AreOpened}

@@ -4,3 +4,4 @@ pub mod Places
 pub mod Rising
 pub mod ListFacts
 pub mod InOrder
+pub mod Amounts

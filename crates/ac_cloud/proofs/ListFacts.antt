@@ -1,9 +1,10 @@
 -- Lists that stand one after the other in one list.
-use Rattle.ac_cloud.proofs.Common.{◌≡◌, ◌∙◌, ◌+◌, ◌-◌, ◌<◌, ◌≤◌, ◌++◌, ◌⊎◌, ℕ, zero, suc, List, [], ◌∷◌, map, length, get_or, take, drop, refl, sym, ap, ap₂, inl, inr, rules, arith, range_with_len, sum_by, length-map, length-take-le, get_or_append_left, get_or-map-range_with_len, length-range_with_len, map-map}
+use Rattle.ac_cloud.proofs.Common.{◌≡◌, ◌∙◌, ◌+◌, ◌-◌, ◌<◌, ◌≤◌, ◌++◌, ◌⊎◌, ℕ, zero, suc, List, [], ◌∷◌, map, length, get_or, take, drop, refl, sym, ap, ap₂, inl, inr, ◌≢◌, rules, arith, range_with_len, sum_by, length-map, length-take-le, get_or_append_left, get_or-map-range_with_len, length-range_with_len, map-map}
 use Rattle.std.proofs.lemmas.List.FromFn.{map-range_with_len_more, sum_by-map-range_with_len_more}
-use Rattle.std.proofs.lemmas.List.{drop-append-le, drop-map, take-append-le, take-map}
-use Rattle.std.proofs.Math.Seq.{drop-append_seam, get_or-append_seam, take-length}
-use Rattle.std.proofs.Common.{add-one, length-append, length-drop}
+use Rattle.std.proofs.lemmas.Bool.{cases_lt}
+use Rattle.std.proofs.lemmas.List.{drop-append-le, drop-map, drop-set-add, drop-set-lt, ext_get_or, get_or-drop, get_or-set_other, get_or-set_same, get_or-take, length-set, take-append-le, take-map, take-set-le}
+use Rattle.std.proofs.Math.Seq.{drop-append_seam, get_or-append_seam, take-length, take-set-lt}
+use Rattle.std.proofs.Common.{add-one, length-append, length-drop, set}
 use Rattle.ac_cloud.specs.ListBounds.{AreBounds, list_at, lists_in}
 
 pub map_same : {X Y : Type 0} (f g : X → Y) → ((x : X) → f x ≡ g x) → (xs : List X) → map f xs ≡ map g xs
@@ -108,6 +109,84 @@ module _ {X : Type 0} (items : List X) (starts : List ℕ) (b : AreBounds (lengt
       ∙ map-range_with_len_more (list_at (items ++ list) more) 0 n n (omega arith)
       ∙ ap₂ (λ (l : List (List X)) (x : List X). l ++ x ∷ [])
       (range_same (list_at (items ++ list) more) (list_at items starts) 0 n (λ p low high. same_list p (omega arith))) last_list
+
+-- one item replaced
+module _ {X : Type 0} (items : List X) (starts : List ℕ) (b : AreBounds (length items) starts) where
+  starts_rise : (p n q : ℕ) → p + n ≡ q → q < length starts → get_or starts p 0 ≤ get_or starts q 0
+  starts_rise p zero q e h = let same : p ≡ q = omega (arith, e) in omega (arith, ap (λ (j : ℕ). get_or starts j 0) same)
+  starts_rise p (suc n) q e h =
+      let up = starts_rise (p + 1) n q (omega arith) h in
+      omega (arith, up, b.order p (omega arith))
+
+  abbrev from : ℕ → ℕ
+  from p = get_or starts p 0
+
+  same_before : (p k q : ℕ) (x : X) → q < p → p < length starts → list_at (set items (get_or starts p 0 + k) x) starts q ≡ list_at items starts q
+  same_before p k q x less h =
+      let up : get_or starts q 0 ≤ get_or starts (q + 1) 0 = b.order q (omega arith) in
+      let below : get_or starts (q + 1) 0 ≤ get_or starts p 0 = starts_rise (q + 1) (p - (q + 1)) p (omega arith) h in
+      ap (λ (j : ℕ). take (from (q + 1) - from q) (drop (from q) (set items j x))) (omega (arith, up, below))
+      ∙ ap (take (from (q + 1) - from q)) (drop-set-add (from q) items (from p + k - from q) x)
+      ∙ take-set-le (from (q + 1) - from q) (drop (from q) items) (from p + k - from q) x (omega (arith, up, below))
+
+  same_behind : (p k q : ℕ) (x : X) → p < q → q < length starts → k < get_or starts (p + 1) 0 - get_or starts p 0
+      → list_at (set items (get_or starts p 0 + k) x) starts q ≡ list_at items starts q
+  same_behind p k q x less h inside =
+      let above : get_or starts (p + 1) 0 ≤ get_or starts q 0 = starts_rise (p + 1) (q - (p + 1)) q (omega arith) h in
+      ap (take (from (q + 1) - from q)) (drop-set-lt (from q) items (from p + k) x (omega (arith, above)))
+
+  set_here : (p k : ℕ) (x : X) → k < get_or starts (p + 1) 0 - get_or starts p 0
+      → list_at (set items (get_or starts p 0 + k) x) starts p ≡ set (list_at items starts p) k x
+  set_here p k x inside =
+      ap (take (from (p + 1) - from p)) (drop-set-add (from p) items k x)
+      ∙ take-set-lt (from (p + 1) - from p) (drop (from p) items) k x inside
+
+  -- a place of a list is one of all items
+  pub place_inside : (p k : ℕ) → p < length (lists_in items starts) → k < length (get_or (lists_in items starts) p [])
+      → (k < get_or starts (p + 1) 0 - get_or starts p 0) × (get_or starts p 0 + k < length items)
+  place_inside p k h inside =
+      let some : p + 1 < length starts = omega (arith, lists_size items starts) in
+      let fits = b.inside (p + 1) some in
+      let size = length-take-le (from (p + 1) - from p) (drop (from p) items) (omega (arith, length-drop (from p) items, fits)) in
+      let small : k < get_or starts (p + 1) 0 - get_or starts p 0 = omega (arith, inside, size, ap length (list_here items starts p h)) in
+      (small, omega (arith, small, fits))
+
+  pub item_here : (p k : ℕ) (d : X) → p < length (lists_in items starts) → k < length (get_or (lists_in items starts) p [])
+      → get_or (get_or (lists_in items starts) p []) k d ≡ get_or items (get_or starts p 0 + k) d
+  item_here p k d h inside =
+      ap (λ l. get_or l k d) (list_here items starts p h)
+      ∙ get_or-take (from (p + 1) - from p) (drop (from p) items) k d (place_inside p k h inside).0 ∙ get_or-drop (from p) items k d
+
+  pub lists_set : (p k : ℕ) (x : X) → p < length (lists_in items starts) → k < length (get_or (lists_in items starts) p [])
+      → lists_in (set items (get_or starts p 0 + k) x) starts ≡ set (lists_in items starts) p (set (get_or (lists_in items starts) p []) k x)
+  lists_set p k x h inside =
+      let news = set items (from p + k) x in
+      let some : p + 1 < length starts = omega (arith, lists_size items starts) in
+      let small = (place_inside p k h inside).0 in
+      let size : length (lists_in news starts) ≡ length (set (lists_in items starts) p (set (get_or (lists_in items starts) p []) k x)) =
+      lists_size news starts ∙ sym (lists_size items starts) ∙ sym (length-set (lists_in items starts) p (set (get_or (lists_in items starts) p []) k x)) in
+      ext_get_or [] (lists_in news starts) (set (lists_in items starts) p (set (get_or (lists_in items starts) p []) k x)) size
+      (λ q there.
+      let low : q + 1 < length starts = omega (arith, lists_size news starts) in
+      list_here news starts q there
+      ∙ elim (cases_lt q p) [
+        | inl less ↦
+            let other : q ≢ p = omega arith in
+            same_before p k q x less (omega arith)
+            ∙ sym (get_or-set_other (lists_in items starts) p q (set (get_or (lists_in items starts) p []) k x) [] other ∙ list_here items starts q (omega (arith, lists_size items starts)))
+        | inr more ↦ elim (cases_lt p q) [
+          | inl less ↦
+              let other : q ≢ p = omega arith in
+              same_behind p k q x less (omega arith) small
+              ∙ sym (get_or-set_other (lists_in items starts) p q (set (get_or (lists_in items starts) p []) k x) [] other ∙ list_here items starts q (omega (arith, lists_size items starts)))
+          | inr least ↦
+              let same : q ≡ p = omega arith in
+              ap (list_at news starts) same ∙ set_here p k x small
+              ∙ ap (λ l. set l k x) (sym (list_here items starts p h))
+              ∙ sym (ap (λ (j : ℕ). get_or (set (lists_in items starts) p (set (get_or (lists_in items starts) p []) k x)) j []) same
+              ∙ get_or-set_same (lists_in items starts) p (set (get_or (lists_in items starts) p []) k x) [] h)
+        ]
+      ])
 
 -- what shows that a list was put behind others
 pub ruleset one_more = (bounds_more, lists_more)

@@ -1,4 +1,5 @@
 -- The parts of a cloud, by the places of providers.
+pub mod AmountFacts
 pub mod AnchorFacts
 pub mod AnchorLists
 pub mod AvailableFacts

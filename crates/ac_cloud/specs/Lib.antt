@@ -1,4 +1,5 @@
 pub mod World
+pub mod Amounts
 pub mod Trees
 pub mod Cloud
 pub mod ListBounds

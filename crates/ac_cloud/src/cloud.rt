@@ -18,12 +18,13 @@ ghost use Rattle.ac_cloud.specs.Cloud.CloudParts.{BelongTogether, BelongTogether
 ghost use Rattle.ac_cloud.specs.ListsOf.{lists_of};
 ghost use Rattle.ac_cloud.specs.Cloud.Anchors.{list_items};
 ghost use Rattle.ac_cloud.specs.Cloud.Entries.{entry_pair, entry_value};
+ghost use Rattle.ac_cloud.specs.Amounts.{amount_at, with_amounts};
 ghost use Rattle.ac_cloud.specs.World.{provider_at, id_at, place_of, parent_of, root_of, is_above, entry_in, used_of, has_trait, is_member, shares, is_available_at, anchors_of};
 
 use crate::cloud::ancestry::Visits;
 use crate::cloud::anchors::Anchors;
 use crate::cloud::entry::Entry;
-use crate::cloud::lookups::{find_entry, has_id, has_name};
+use crate::cloud::lookups::{find_entry, find_place, has_id, has_name};
 use crate::cloud::provider_index::Ids;
 use crate::lists::Lists;
 use ac_base::{ClassName, Id, Inventory, TraitName};
@@ -164,7 +165,7 @@ impl Cloud {
     }
 
     /// How much of a class is used of a provider, 0 where it has none.
-    pub fn used(&self, ix: u32, class: &ClassName) -> u32
+    pub fn used(&self, ix: u32, class: &ClassName) -> u64
         requires { ix < length (providers_of self.now) }
         ensures { result ≡ used_of (provider_at (providers_of self.now) ix)
             (class_bytes class.now) }
@@ -172,6 +173,20 @@ impl Cloud {
         match self.find_entry(ix, class) {
             Some(entry) => entry.used(),
             None => 0,
+        }
+    }
+
+    /// Sets how much of a class is used of a provider. Nothing changes where it has none.
+    pub fn set_used(&mut self, ix: u32, class: &ClassName, used: u64)
+        requires { ix < length (providers_of self.old) }
+        ensures providers { providers_of self.new
+            ≡ with_amounts (amount_at ix (class_bytes class.now) used) (providers_of self.old) }
+        ensures sizes { (world_of self.new).sizes ≡ (world_of self.old).sizes }
+        ensures root_lists { root_lists_of self.new ≡ root_lists_of self.old }
+    {
+        let ix = ix as usize;
+        if let Some(place) = find_place(self.entries.of(ix), class) {
+            self.entries.set_used(ix, place, used);
         }
     }
 

@@ -1,5 +1,5 @@
 //! Laws of trees and of clouds. Each function does nothing: its contract is the law.
-ghost use Rattle.ac_cloud.specs.Laws.{ChainIsAbove, CloudInOrder, CloudIsForest, TopIsRoot};
+ghost use Rattle.ac_cloud.specs.Laws.{AmountsAlone, ChainIsAbove, CloudInOrder, CloudIsForest, TopIsRoot};
 
 /// Where a chain of parents ends, it holds just the providers that are above: a list of parents leads to them.
 pub fn chain_is_above()
@@ -20,4 +20,9 @@ pub fn cloud_in_order()
 /// its parents holds just those that are above it.
 pub fn cloud_is_forest()
     ensures { CloudIsForest }
+{}
+
+/// Where other amounts are used, nothing else is changed: neither trees, nor where providers are available, nor what they have.
+pub fn amounts_alone()
+    ensures { AmountsAlone }
 {}

@@ -76,7 +76,7 @@ pub(crate) fn left_of(placed: &Placed, class: &ClassName, inventory: &Inventory)
         (class_bytes class.now) }
 {
     let used = placed.cloud.used(placed.provider, class);
-    inventory.capacity().saturating_sub(u64::from(used))
+    inventory.capacity().saturating_sub(used)
 }
 
 // A class with what is left of its capacity beside what is used, and the capacity.

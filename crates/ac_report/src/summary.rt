@@ -46,7 +46,7 @@ fn send_holding<S: Serializer>(entry: &Entry, out: &mut S) -> Result<(), S::Erro
     out.key("capacity")?;
     out.u64(entry.inventory().capacity())?;
     out.key("used")?;
-    out.u64(u64::from(entry.used()))?;
+    out.u64(entry.used())?;
     out.end_map()
 }
 

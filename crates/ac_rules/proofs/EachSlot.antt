@@ -1,6 +1,8 @@
 -- The rules, tested slot by slot.
 pub mod AnchorLemmas
 pub mod ApartLemmas
+pub mod ClaimLaws
+pub mod ClaimLemmas
 pub mod FullLemmas
 pub mod JudgeLemmas
 pub mod TogetherLemmas

@@ -3,9 +3,11 @@ use Rattle.std.specs.Prelude.{◌≡◌, ◌<◌, ◌+◌, ℕ, true, false, Lis
 use Rattle.std.specs.List.{AllByRecursion}
 use Rattle.ac_query.specs.Asked.{Asked, slots_of, is_isolated}
 use Rattle.ac_cloud.specs.World.{Provider, provider_at, id_at}
+use Rattle.ac_cloud.specs.Laws.{DifferInAmounts}
+use Rattle.ac_rules.specs.Claims.{claimed, released, is_in_use}
 use Rattle.ac_rules.specs.Order.{lex_lt}
 use Rattle.ac_rules.specs.Lists.{IsListBelow, IsRising}
-use Rattle.ac_rules.specs.Placed.{Placed}
+use Rattle.ac_rules.specs.Placed.{Placed, assigned}
 use Rattle.ac_rules.specs.Together.{sum_on, holds, sums, is_set_apart, isolate}
 use Rattle.ac_rules.specs.Judge.{judge, is_candidate, is_open}
 use Rattle.ac_rules.specs.declared.verdict.Verdict.TheVariants.{Candidate}
@@ -70,3 +72,19 @@ StandApart xs = (i j : ℕ) (d : Placed) → i < j → j < length xs
 -- Isolate says this, where the query asks for it.
 abbrev pub IsolateSaysApart : Type 0
 IsolateSaysApart = (asked : Asked) (xs : List Placed) → is_isolated asked ≡ true → (isolate asked xs ≡ true) ↔ StandApart xs
+
+-- Where a list is a candidate after a claim, it was one before, whatever was claimed.
+abbrev pub ClaimsNarrow : Type 0
+ClaimsNarrow = (all : List Provider) (xs : List Placed) (asked : Asked) (list : List ℕ) → is_candidate (claimed all xs) asked list ≡ true → is_candidate all asked list ≡ true
+
+-- What is claimed and released again leaves all as it was.
+abbrev pub ReleaseUndoes : Type 0
+ReleaseUndoes = (all : List Provider) (xs : List Placed) → released (claimed all xs) xs ≡ all
+
+-- A candidate that is claimed is in use.
+abbrev pub ClaimsInUse : Type 0
+ClaimsInUse = (all : List Provider) (asked : Asked) (list : List ℕ) → is_candidate all asked list ≡ true → is_in_use (claimed all (assigned asked list)) (assigned asked list) ≡ true
+
+-- Nothing but used amounts changes.
+abbrev pub ClaimsAlone : Type 0
+ClaimsAlone = (all : List Provider) (xs : List Placed) → DifferInAmounts all (claimed all xs) × DifferInAmounts all (released all xs)

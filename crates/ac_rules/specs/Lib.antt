@@ -6,6 +6,7 @@ pub mod Own
 pub mod Together
 pub mod Room
 pub mod Judge
+pub mod Claims
 pub mod Pages
 pub mod Laws
 pub mod Located

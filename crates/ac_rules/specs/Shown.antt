@@ -3,3 +3,4 @@ pub mod Lists
 pub mod Plain
 pub mod Assignments
 pub mod Odometer
+pub mod Changes

@@ -3,7 +3,7 @@
 ghost use Rattle.std.specs.Prelude.{List};
 ghost use Rattle.ac_query.specs.Asked.{Asked};
 ghost use Rattle.ac_cloud.specs.World.{Provider};
-ghost use Rattle.ac_rules.specs.Laws.{AreInOrder, PrefixOpen, PagesJoin, RestBegins, JudgesCandidates, SumsSayFull, IsolateSaysApart};
+ghost use Rattle.ac_rules.specs.Laws.{ClaimsAlone, ClaimsInUse, ClaimsNarrow, ReleaseUndoes, AreInOrder, PrefixOpen, PagesJoin, RestBegins, JudgesCandidates, SumsSayFull, IsolateSaysApart};
 
 /// Each front of a candidate is open, so a search that leaves what isn't open loses none.
 #[tactic(auto, using(crate::proofs::EachSlot::FrontLemmas::prefix_open))]
@@ -38,4 +38,24 @@ pub fn sums_say_full()
 #[tactic(auto, using(crate::proofs::EachSlot::ApartLemmas::isolate_says_apart))]
 pub fn isolate_says_apart()
     ensures { IsolateSaysApart }
+{}
+
+/// Each candidate after a claim was one before it, whatever the query asks.
+pub fn claims_narrow()
+    ensures { ClaimsNarrow }
+{}
+
+/// What is claimed and released again leaves all as it was.
+pub fn release_undoes()
+    ensures { ReleaseUndoes }
+{}
+
+/// A candidate that is claimed is in use, so it can be released.
+pub fn claims_in_use()
+    ensures { ClaimsInUse }
+{}
+
+/// Claims and releases change used amounts alone: no tree, nor where providers are available, nor what they have.
+pub fn claims_alone()
+    ensures { ClaimsAlone }
 {}

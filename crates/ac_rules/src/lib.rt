@@ -5,6 +5,7 @@
 #![tactic(auto)]
 
 pub mod assignment;
+pub mod claims;
 pub mod judging;
 pub mod laws;
 pub mod located;
@@ -15,6 +16,7 @@ pub mod source;
 pub mod verdict;
 
 pub use assignment::{Assignment, Placed};
+pub use claims::{claim, release};
 pub use judging::verify;
 pub use located::InCloud;
 pub use plain::Plain;

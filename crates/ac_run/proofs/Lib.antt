@@ -1,8 +1,3 @@
-pub mod DecimalSteps
-pub mod PiecesWritten
-pub mod SlotsWritten
-pub mod ItemsWritten
-pub mod FirstFound
 pub mod Drained
 pub mod FewBytes
 pub mod Assignments
@@ -10,7 +5,4 @@ pub mod WantedSaid
 pub mod Attempted
 pub mod Told
 pub mod HandedOn
-pub mod HostsWritten
-pub mod DifferencesWritten
 pub mod HostFound
-pub mod RowsWritten

@@ -25,10 +25,10 @@ use Rattle.ac_rules.specs.Pages.{page}
 use Rattle.ac_search.specs.Hosts.{fits_at, fitting}
 use Rattle.ac_report.specs.Texts.{body, lines}
 use Rattle.ac_run.specs.Outputs.{counts, detailed_text, verdict_status, verdict_text}
-use Rattle.ac_run.specs.Explanation.{explanation_status, explanation_text}
-use Rattle.ac_run.specs.Explanation.Candidates.{has_candidate}
-use Rattle.ac_run.specs.Outputs.HostRows.{hosts_status, hosts_text}
-use Rattle.ac_run.specs.Outputs.WhyRows.{root_place, why_status, why_text}
+use Rattle.ac_answers.specs.Explanation.{explanation_status, explanation_text}
+use Rattle.ac_answers.specs.Explanation.Candidates.{has_candidate}
+use Rattle.ac_answers.specs.HostRows.{hosts_status, hosts_text}
+use Rattle.ac_answers.specs.WhyRows.{root_place, why_status, why_text}
 use Rattle.ac_run.specs.Feeds.{Bytes, too_large}
 use Rattle.ac_run.specs.Lines.{too_large_line, record_line, query_line, token_line, host_line, memory_line}
 use Rattle.ac_query.specs.declared.job.Command.{Command}

@@ -1,11 +1,9 @@
-pub mod Writing
 pub mod Lines
 pub mod Refusals
 pub mod Feeds
 pub mod Draining
 pub mod Asking
 pub mod Outputs
-pub mod Explanation
 pub mod Answer
 pub mod Run
 pub mod Jobs

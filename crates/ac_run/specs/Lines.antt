@@ -1,8 +1,7 @@
 -- The lines of faults.
-use Rattle.std.specs.Prelude.{ℕ, List, [], ◌∷◌, ◌++◌, codes, Option}
+use Rattle.std.specs.Prelude.{ℕ, List, [], ◌∷◌, codes}
 use Rattle.std.specs.Fmt.{decimal}
-use Rattle.std.specs.Option.{unwrap_or}
-use Rattle.std.specs.List.{flat_map}
+use Rattle.ac_answers.specs.Pieces.{newline, printed, said}
 use Rattle.ac_cloud.specs.declared.cloud.naming.HostFault.{HostFault}
 use Rattle.ac_cloud.specs.declared.cloud.naming.HostFault.TheVariants as host
 use Rattle.ac_query.specs.Faults.{Fault, too_long, unknown_parameter, repeated, bad_value, conflict, no_resources, group_without_resources, unknown_suffix, policy_missing, too_many_slots}
@@ -12,22 +11,6 @@ use Rattle.ac_tables.specs.declared.fault.Table.{Table}
 use Rattle.ac_tables.specs.declared.fault.Table.TheVariants as table
 use Rattle.ac_tables.specs.declared.fault.TableKind.{TableKind}
 use Rattle.ac_tables.specs.declared.fault.TableKind.TheVariants as kind
-
-abbrev pub newline : List ℕ
-newline = 10 ∷ []
-
--- pieces of a text, joined
-abbrev pub said : List (List ℕ) → List ℕ
-said pieces = flat_map (λ piece. piece) pieces
-
--- a text behind a mark
-unfoldable pub marked : List ℕ → List ℕ → List ℕ
-marked mark text = said (mark ∷ text ∷ [])
-
--- texts: the first behind a mark, each further one behind a comma
-abbrev pub listed : List ℕ → List (List ℕ) → List ℕ
-listed mark [] = []
-listed mark (text ∷ texts) = marked mark text ++ listed (codes ",") texts
 
 unfoldable pub table_name : Table → List ℕ
 table_name table.Providers = codes "providers"
@@ -73,10 +56,6 @@ pair_line n name = said (codes "query: pair " ∷ decimal n ∷ codes ": " ∷ n
 
 unfoldable pub group_line : List ℕ → List ℕ → List ℕ
 group_line suffix name = said (codes "query: group \"" ∷ suffix ∷ codes "\": " ∷ name ∷ newline ∷ [])
-
--- the suffix as it is printed: the unsuffixed group has the empty text
-abbrev pub printed : Option (List ℕ) → List ℕ
-printed suffix = unwrap_or suffix []
 
 unfoldable pub query_line : Fault → List ℕ
 query_line too_long = codes "query: QueryTooLong\n"

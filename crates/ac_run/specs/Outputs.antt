@@ -1,8 +1,7 @@
--- The small outputs: the counts of the tables, and the verdict on a list; the rows of roots, and those of one root.
-pub mod HostRows
-pub mod WhyRows
+-- The small outputs: the counts of the tables, and the verdict on a list.
 use Rattle.std.specs.Prelude.{ℕ, List, [], ◌∷◌, codes}
 use Rattle.std.specs.Fmt.{decimal}
+use Rattle.ac_answers.specs.Pieces.{newline, said}
 use Rattle.ac_cloud.specs.World.{Provider, Sizes}
 use Rattle.ac_explain.specs.Broken.{broken_detail}
 use Rattle.ac_query.specs.Asked.{Asked}
@@ -10,7 +9,6 @@ use Rattle.ac_rules.specs.declared.verdict.Rule.{Rule}
 use Rattle.ac_rules.specs.declared.verdict.Rule.TheVariants as rule
 use Rattle.ac_rules.specs.declared.verdict.Verdict.{Verdict}
 use Rattle.ac_rules.specs.declared.verdict.Verdict.TheVariants as verdict
-use Rattle.ac_run.specs.Lines.{said, newline}
 
 -- the sizes of what the tables state
 unfoldable pub counts : Sizes → List ℕ

@@ -8,7 +8,7 @@ use Rattle.ac_run.specs.Answer.{Outcome, Task, answer, refused}
 use Rattle.ac_run.specs.Feeds.{Bytes, TellBytes, FeedRose}
 use Rattle.ac_run.specs.Lines.{unreadable_line}
 use Rattle.ac_run.specs.Refusals.{line_of}
-use Rattle.ac_run.specs.Writing.{TakesLine}
+use Rattle.ac_answers.specs.Writing.{TakesLine}
 use Rattle.ac_tables.specs.declared.read.FiveTables.{FiveTables}
 use Rattle.ac_run.specs.declared.refusal.Refusal.{Refusal}
 use Rattle.ac_run.specs.declared.refusal.Refusal.TheVariants as why

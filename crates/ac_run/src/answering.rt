@@ -1,9 +1,5 @@
 //! The answers over a cloud, each written with its status.
 
-mod host_rows;
-mod rows;
-mod why_rows;
-
 ghost use Rattle.std.specs.Prelude.{◌≡◌, ◌<◌, ◌≤◌, IfOk, OnErr, Err, Some, None, length};
 ghost use Rattle.std.specs.List.{All};
 ghost use Rattle.std.specs.Option.{option_map};
@@ -19,16 +15,14 @@ ghost use Rattle.ac_report.specs.declared.fault.PageFault.TheVariants as PageFau
 ghost use Rattle.ac_rules.specs.declared.verdict.Verdict.TheVariants as Verdict;
 ghost use Rattle.ac_run.specs.Run.{IsWritten};
 
-use self::host_rows::{hosts_status, hosts_text};
-use self::why_rows::{root_place, why_at};
 use crate::asking::Wanted;
-use crate::asking::question::Question;
-use crate::explanation::{
-    explanation_status, find_without, has_candidate, push_explanation, push_reasons,
-};
 use crate::outputs::{push_counts, push_detailed, push_verdict, verdict_status};
-use ac_explain::broken_detail;
+use ac_answers::{
+    Question, explanation_status, find_without, has_candidate, hosts_status, hosts_text,
+    push_explanation, push_reasons, root_place, why_at,
+};
 use ac_base::{NoMemory, Sink, push_all};
+use ac_explain::broken_detail;
 use ac_query::{Query, Token};
 use ac_report::{PageFault, write_page, write_tokens};
 use ac_rules::{Assignment, InCloud, Rule, Verdict, verify};
@@ -243,7 +237,7 @@ fn write_verdict<W: Sink>(
 }
 
 // How far a query comes, whether it has a candidate, or would have one without one thing, and where the service may answer otherwise.
-#[tactic(auto, using(ac_base::proofs::Leaving::appends_both, ac_base::proofs::Leaving::part_of_first, ac_base::proofs::Leaving::part_of_second), unfolding(crate::specs::Explanation::explanation_text))]
+#[tactic(auto, using(ac_base::proofs::Leaving::appends_both, ac_base::proofs::Leaving::part_of_first, ac_base::proofs::Leaving::part_of_second), unfolding(ac_answers::specs::Explanation::explanation_text))]
 fn write_explanation<W: Sink>(
     alloc: Global,
     cloud: &Cloud,

@@ -1,7 +1,5 @@
 //! What a job asks: its query, and perhaps a token or a host.
 
-pub mod question;
-
 ghost use Rattle.std.specs.Prelude.{◌≡◌, IfOk, IfErr, IfSome, Ok, OnOk, Some, None, is_some, length};
 ghost use Rattle.std.specs.Option.{option_map};
 ghost use Rattle.ac_query.specs.Asked.{slots_of};
@@ -16,8 +14,8 @@ ghost use Rattle.ac_run.specs.Answer.{Says, answer_in, host_found, ids_given, pa
 ghost use Rattle.ac_run.specs.Asking.{ExplainsHost, ExplainsQuery, ExplainsToken, HasHost, HasIdForEachSlot, IsRefusalOf, answer_to};
 ghost use Rattle.ac_run.specs.Jobs.{ExplainsAsked, ExplainsWanted, task_of};
 
-use self::question::Question;
 use crate::refusal::Refusal;
+use ac_answers::Question;
 use ac_base::NoMemory;
 use ac_query::{Command, Job, Query, QueryFault, Token, TokenFault, Version};
 use ac_tables::Cloud;

@@ -10,7 +10,7 @@ ghost use Rattle.ac_run.specs.Feeds.{Bytes, FeedRose, TellBytes};
 ghost use Rattle.ac_run.specs.Jobs.{task_of};
 ghost use Rattle.ac_run.specs.Lines.{memory_line, output_line};
 ghost use Rattle.ac_run.specs.Run.{FailsOr, IsAnswered, IsRefused, IsTold, IsUnread};
-ghost use Rattle.ac_run.specs.Writing.{TakesLine};
+ghost use Rattle.ac_answers.specs.Writing.{TakesLine};
 
 use crate::answering::write_answer;
 use crate::draining::Inputs;

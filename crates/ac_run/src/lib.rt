@@ -6,10 +6,8 @@
 mod answering;
 mod asking;
 mod draining;
-mod explanation;
 pub mod gathered;
 mod outputs;
-mod pieces;
 mod ready;
 pub mod refusal;
 pub mod running;

@@ -1,12 +1,11 @@
 //! Small outputs, pushed without memory: the counts of the tables, and the verdict on a list.
 ghost use Rattle.std.specs.Prelude.{◌≡◌, ◌≤◌, ◌∷◌, [], codes};
 ghost use Rattle.ac_cloud.specs.Cloud.CloudWorld.{sizes_of};
-ghost use Rattle.ac_run.specs.Outputs.{broken_line, broken_name, counts, verdict_status, verdict_text};
-ghost use Rattle.ac_run.specs.Lines.{newline, said};
-ghost use Rattle.ac_run.specs.Writing.{Pushes};
+ghost use Rattle.ac_run.specs.Outputs.{broken_line, broken_name, counts, detailed_text, verdict_status, verdict_text};
+ghost use Rattle.ac_answers.specs.Pieces.{newline, said};
+ghost use Rattle.ac_answers.specs.Writing.{Pushes};
 
-use crate::pieces::digits::Digits;
-use crate::pieces::push_pieces;
+use ac_answers::{Digits, push_pieces};
 use ac_base::{Sink, WriteFailed, push_all};
 use ac_rules::{Rule, Verdict};
 use ac_tables::Counts;

@@ -14,6 +14,7 @@ use ac_tables::Cloud;
 use std::alloc::{AllocError, Global};
 
 mod candidates;
+mod claims;
 mod explained;
 mod hosts;
 mod refusals;

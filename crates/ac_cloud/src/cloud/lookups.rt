@@ -8,7 +8,7 @@ ghost use Rattle.std.specs.Ordering.{nat_cmp};
 ghost use Rattle.std.specs.Str.{bytes_eq};
 ghost use Rattle.ac_base.specs.Names.{class_bytes, trait_bytes};
 ghost use Rattle.ac_base.specs.Texts.{text_cmp};
-ghost use Rattle.ac_cloud.specs.Cloud.Entries.{entry_class, entry_value, entry_pair};
+ghost use Rattle.ac_cloud.specs.Cloud.Entries.{StandsAlone, entry_class, entry_value, entry_pair};
 ghost use Rattle.ac_cloud.specs.Cloud.Anchors.{shares_by};
 ghost use Rattle.ac_cloud.specs.ListsOf.{lists_of};
 
@@ -17,15 +17,25 @@ use crate::lists::Lists;
 use ac_base::{ClassName, Id, TraitName};
 use std::alloc::{AllocError, Global};
 
+// The place of a class among entries, where it stands there.
+pub(crate) fn find_place(entries: &[Entry], class: &ClassName) -> Option<usize>
+    requires { IsStrictlySortedBy text_cmp (map entry_class entries.now) }
+    ensures { StandsAlone (class_bytes class.now) entries.now result }
+{
+    entries
+        .binary_search_by(|entry| entry.class().cmp(class))
+        .ok()
+}
+
 // The entry of a class.
 pub(crate) fn find_entry<'a>(entries: &'a [Entry], class: &ClassName) -> Option<&'a Entry>
     requires { IsStrictlySortedBy text_cmp (map entry_class entries.now) }
     ensures { option_map entry_value (option_copied result)
         ≡ lookup (bytes_eq (class_bytes class.now)) (map entry_pair entries.now) }
 {
-    match entries.binary_search_by(|entry| entry.class().cmp(class)) {
-        Ok(place) => Some(&entries[place]),
-        Err(_) => None,
+    match find_place(entries, class) {
+        Some(place) => Some(&entries[place]),
+        None => None,
     }
 }
 

@@ -69,7 +69,7 @@ fn takes_last(cloud: &Cloud, query: &Query, ix: u32, need: &Need) -> bool
     if !may_fall_short(inventory) {
         return false;
     }
-    let used = u64::from(cloud.used(ix, need.class()));
+    let used = cloud.used(ix, need.class());
     takes_all(query, need, inventory.capacity().saturating_sub(used))
 }
 

@@ -11,7 +11,8 @@ use Rattle.ac_report.specs.Parts.{listed}
 use Rattle.ac_report.specs.Requests.{allocation_member, allocation_tree, allocations_tree, hosts_tree, mapping_member, mappings_tree, request_tree, resources_tree, sum_member}
 use Rattle.ac_report.specs.Trees.{holding, id_or_null, summary, texts}
 use Rattle.ac_report.proofs.Trees.Gathering.{Named}
-use Rattle.ac_report.proofs.Trees.Sending.{entries_rise, holdings_listed}
+use Rattle.ac_cloud.proofs.InOrder.{entries_rise}
+use Rattle.ac_report.proofs.Trees.Sending.{holdings_listed}
 
 texts_plain : (ts : List (List ℕ)) → has_float (texts ts) ≡ false
 unfolding texts

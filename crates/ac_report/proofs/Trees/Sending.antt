@@ -1,5 +1,5 @@
 -- Trees as they are sent.
-use Rattle.std.proofs.Common.{◌≡◌, ◌∙◌, ◌<◌, ℕ, suc, List, [], ◌∷◌, Some, map, length, refl, sym, ap, subst, arith}
+use Rattle.std.proofs.Common.{◌≡◌, ◌∙◌, ℕ, suc, List, [], ◌∷◌, Some, map, length, refl, sym, ap, subst}
 use Rattle.std.proofs.lemmas.Simd.{map-map}
 use Rattle.std.specs.List.Sorted.{IsStrictlySortedBy}
 use Rattle.std.specs.Map.{keys_of}
@@ -8,11 +8,7 @@ use Rattle.serde_json.specs.Data.{Data, array, object}
 use Rattle.serde_json.specs.Events.{SendsItems, SendsMembers, SendsValue, items_len, members_len}
 use Rattle.serde_json.specs.View.{items_of}
 use Rattle.ac_base.specs.Texts.{text_cmp}
-use Rattle.ac_cloud.proofs.Places.CloudFacts.{inside, inventory_records_here, parts}
-use Rattle.ac_cloud.specs.Cloud.CloudWorld.{providers_of}
-use Rattle.ac_cloud.specs.Cloud.Entries.{entry_pair}
-use Rattle.ac_cloud.specs.World.{UsedInventory, provider_at}
-use Rattle.ac_cloud.specs.declared.cloud.Cloud.{Cloud}
+use Rattle.ac_cloud.specs.World.{UsedInventory}
 use Rattle.ac_report.specs.Parts.{listed}
 use Rattle.ac_report.specs.Trees.{holding, holdings}
 use Rattle.ac_report.proofs.Trees.Gathering.{Named}
@@ -39,10 +35,3 @@ begin_members ms n old first e h end rest = (first, subst (λ n. Logs old first 
 pub holdings_listed : (hs : List (List ℕ × UsedInventory)) → IsStrictlySortedBy text_cmp (keys_of hs) → holdings hs ≡ object (listed (map holding hs))
 unfolding holdings holding
 holdings_listed hs h = ap object (gathered_listed (map holding hs) (subst (IsStrictlySortedBy text_cmp) (sym (map-map (λ (m : Named). m.0) holding hs)) h))
-
--- the classes of a provider's entries rise
-pub entries_rise : (cloud : Cloud) (ix : ℕ) → ix < length (providers_of cloud) → IsStrictlySortedBy text_cmp (keys_of (provider_at (providers_of cloud) ix).entries)
-entries_rise cloud ix h =
-    let k = inside cloud ix h in
-    subst (IsStrictlySortedBy text_cmp) (sym (map-map (λ (e : List ℕ × UsedInventory). e.0) entry_pair _) ∙ ap keys_of (inventory_records_here cloud ix k))
-    ((parts cloud).classes_rise ix [] (omega (arith, k, (parts cloud).with_entries)))

@@ -1,10 +1,11 @@
 //! Sums: what all slots ask of each provider together.
 
-ghost use Rattle.std.specs.Prelude.{◌≡◌, ◌<◌, ◌^◌, length, map};
+ghost use Rattle.std.specs.Prelude.{◌≡◌, ◌<◌, ◌^◌, nat_le, length, map};
 ghost use Rattle.ac_base.specs.Names.{class_bytes};
 ghost use Rattle.ac_cloud.specs.World.{provider_at, used_of};
 ghost use Rattle.ac_cloud.specs.Cloud.CloudWorld.{providers_of};
 ghost use Rattle.ac_query.specs.Shown.Groups.{need_entry};
+ghost use Rattle.ac_rules.specs.Claims.{uses_sums, is_in_use};
 ghost use Rattle.ac_rules.specs.Own.{inventory_of};
 ghost use Rattle.ac_rules.specs.Room.{room_in, less};
 ghost use Rattle.ac_rules.specs.Together.{amount_of, sum_on, holds, holds_sums, sums};
@@ -24,9 +25,7 @@ pub fn room_at(cloud: &Cloud, ix: u32, class: &ClassName) -> Option<u64>
         (used_of (provider_at (providers_of cloud.now) ix) (class_bytes class.now)) }
 {
     let inventory = cloud.inventory(ix, class)?;
-    let unused = inventory
-        .capacity()
-        .checked_sub(u64::from(cloud.used(ix, class)))?;
+    let unused = inventory.capacity().checked_sub(cloud.used(ix, class))?;
     Some(unused.min(u64::from(inventory.max_unit())))
 }
 
@@ -89,18 +88,12 @@ impl<'a> Assignment<'a> {
         sum
     }
 
-    /// Whether the provider of a slot has room for what all slots ask of it of a class.
+    // Whether a room suffices for what all slots ask of a class on a provider.
     #[tactic(auto, using(crate::proofs::PlacedLemmas::placed_more, crate::proofs::PlacedLemmas::placed_end))]
-    pub fn has_room_for(&self, placed: &Placed<'a>, class: &ClassName) -> bool
-        ensures { result ≡ holds
-            (provider_at (providers_of placed.now.cloud.now) placed.now.provider)
-            (class_bytes class.now)
-            (sum_on (assigned_of self.now) placed.now.provider (class_bytes class.now)) }
+    fn suffices(&self, room: u64, ix: u32, class: &ClassName) -> bool
+        ensures { result ≡ nat_le (sum_on (assigned_of self.now) ix (class_bytes class.now)) room }
     {
-        let ix = placed.provider;
-        let Some(mut left) = room_at(placed.cloud, ix, class) else {
-            return false;
-        };
+        let mut left = room;
         for (s, provider) in self.list.iter().enumerate() {
             if *provider != ix {
                 continue;
@@ -111,6 +104,19 @@ impl<'a> Assignment<'a> {
             }
         }
         true
+    }
+
+    /// Whether the provider of a slot has room for what all slots ask of it of a class.
+    pub fn has_room_for(&self, placed: &Placed<'a>, class: &ClassName) -> bool
+        ensures { result ≡ holds
+            (provider_at (providers_of placed.now.cloud.now) placed.now.provider)
+            (class_bytes class.now)
+            (sum_on (assigned_of self.now) placed.now.provider (class_bytes class.now)) }
+    {
+        match room_at(placed.cloud, placed.provider, class) {
+            Some(room) => self.suffices(room, placed.provider, class),
+            None => false,
+        }
     }
 
     /// Whether the provider of a slot has room for what all slots ask of it in the slot's classes.
@@ -130,5 +136,25 @@ impl<'a> Assignment<'a> {
         ensures { result ≡ sums (providers_of self.now.cloud.now) (assigned_of self.now) }
     {
         self.slots().all(|placed| self.has_room_at(&placed))
+    }
+
+    // Whether of the provider of a slot as much is used, in the slot's classes, as all slots ask of it.
+    #[tactic(auto, unfolding(crate::specs::Claims::uses_sums))]
+    fn uses_sums(&self, placed: &Placed<'a>) -> bool
+        ensures { result ≡ uses_sums (providers_of placed.now.cloud.now) (assigned_of self.now)
+            (placed_of placed.now) }
+    {
+        needs_at(placed.query, placed.slot).iter().all(|need| {
+            let used = placed.cloud.used(placed.provider, need.class());
+            self.suffices(used, placed.provider, need.class())
+        })
+    }
+
+    /// Whether of each provider as much is used as all slots ask of it.
+    #[tactic(auto, unfolding(crate::specs::Claims::is_in_use))]
+    pub(crate) fn is_in_use(&self) -> bool
+        ensures { result ≡ is_in_use (providers_of self.now.cloud.now) (assigned_of self.now) }
+    {
+        self.slots().all(|placed| self.uses_sums(&placed))
     }
 }

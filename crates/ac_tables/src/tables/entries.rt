@@ -60,7 +60,7 @@ fn make_entries(
     let mut entries = Vec::new(alloc);
     for row in inventories {
         let used = amount_of(usages.of(row.place as usize), &row.key);
-        entries.push(Entry::new(row.key, row.value, used))?;
+        entries.push(Entry::new(row.key, row.value, u64::from(used)))?;
     }
     Ok(entries)
 }

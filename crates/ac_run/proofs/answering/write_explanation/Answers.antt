@@ -1,5 +1,5 @@
 use Rattle.ac_base.proofs.Leaving.{part_none}
-use Rattle.ac_run.proofs.PiecesWritten.{on_err}
+use Rattle.ac_answers.proofs.PiecesWritten.{on_err}
 use Rattle.ac_run.proofs.answering.write_explanation.Goals as goal
 
 pub returns-in_err-slots-clause-part : goal.returns-in_err-slots-clause-part

@@ -7,7 +7,7 @@ use Rattle.serde_json.specs.Events.{SendsValue}
 use Rattle.ac_base.specs.Texts.{id_text}
 use Rattle.ac_cloud.specs.World.{UsedInventory}
 use Rattle.ac_report.specs.Trees.{holdings, id_or_null, summary, texts}
-use Rattle.ac_report.proofs.Trees.Sending.{entries_rise}
+use Rattle.ac_cloud.proofs.InOrder.{entries_rise}
 use Rattle.ac_report.proofs.summary.SummarySerialize.serialize.Goals as goal
 
 pub send_holdings-requires : goal.send_holdings-requires

@@ -1,0 +1,8 @@
+pub mod DecimalSteps
+pub mod PiecesWritten
+pub mod SlotsWritten
+pub mod ItemsWritten
+pub mod FirstFound
+pub mod HostsWritten
+pub mod DifferencesWritten
+pub mod RowsWritten

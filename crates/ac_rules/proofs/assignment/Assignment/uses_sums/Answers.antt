@@ -1,0 +1,9 @@
+use Rattle.std.proofs.Common.{rules}
+use Rattle.ac_query.specs.Shown.Groups.{need_entry}
+use Rattle.ac_rules.specs.Claims.{uses_sums}
+use Rattle.ac_rules.proofs.ChainLemmas.{all_items}
+use Rattle.ac_rules.proofs.assignment.Assignment.uses_sums.Goals as goal
+
+pub returns : goal.returns
+unfolding uses_sums
+returns c = rw (← c.needs_at.ensures) (all_items need_entry _ _ _ _ _ c.all.ensures.ran c.iter.ensures.rest (λ x b q k. search rules))

@@ -1,0 +1,99 @@
+"""Draws what `ac_cli hosts` writes: a square for each root, in rows by aggregate, in the colour of what is lacking there."""
+from __future__ import annotations
+
+import math
+from collections import Counter
+from dataclasses import dataclass
+
+from pictures.cloud import identity, rows
+from pictures.svg import GREY, document, lines_of, natural, rectangle, text, width_of
+
+COLUMNS = 'root', 'name', 'fits', 'slot', 'lacks'
+FITS = 'fits'
+# What a root may lack, in the order of an explanation. People who see no red or no green can tell these colours apart too.
+COLOURS = {FITS: '#0072b2', 'root traits': '#000000', 'units': '#bdbdbd', 'traits': '#882255', 'aggregates': '#cc79a7', 'tree': '#7a5c3e',
+           'room': '#e69f00', 'required traits': '#b34700', 'together': '#fff14d'}
+OTHER = '#ffffff'
+NARROW = 640  # the least width of the picture
+EDGE = 16  # the room around the picture, and between blocks
+PER_ROW = 64  # how many squares stand side by side
+SIDE, PITCH = 12, 14  # of a square, and from one to the next
+SIZE, LINE = 11, 16  # of a text, and from one line to the next
+
+
+@dataclass
+class Host:
+    """A row of `ac_cli hosts`."""
+    root: str
+    name: str
+    fits: bool
+    slot: str
+    lacks: str
+
+    def kind(self):
+        return FITS if self.fits else self.lacks
+
+    def colour(self):
+        return COLOURS.get(self.kind(), OTHER)
+
+    def told(self):
+        what = 'fits' if self.fits else f'lacks {self.lacks}' + (f' for slot {self.slot}' if self.slot else '')
+        return f'{self.name} {self.root}: {what}' if self.name else f'{self.root}: {what}'
+
+
+def hosts_of(path):
+    """The rows, in the order of names."""
+    found = []
+    for root, name, fits, slot, lacks in rows(path, *COLUMNS):
+        if fits not in ('yes', 'no'):
+            raise ValueError(f'{fits!r} is neither yes nor no')
+        found.append(Host(identity(root), name, fits == 'yes', slot, lacks))
+    return sorted(found, key=lambda host: (natural(host.name), host.root))
+
+
+def blocks_of(hosts, path):
+    """The roots of each aggregate, in the order of their UUIDs. A root in several aggregates stands in the first of them, and those in none come last."""
+    first = {}
+    for one, aggregate in rows(path, 'resource_provider', 'uuid'):
+        one, aggregate = identity(one), identity(aggregate)
+        first[one] = min(first.get(one, aggregate), aggregate)
+    blocks = {}
+    for host in hosts:
+        blocks.setdefault(first.get(host.root, ''), []).append(host)
+    return sorted(blocks.items(), key=lambda block: (not block[0], block[0]))
+
+
+def legend(hosts):
+    """A colour and a line for each kind of lack that there is, and for those that fit."""
+    counts = Counter(host.kind() for host in hosts)
+    yield COLOURS[FITS], f'fit: {counts[FITS]} of {len(hosts)}'
+    known = list(COLOURS)
+    for kind in sorted(set(counts) - {FITS}, key=lambda kind: (known.index(kind) if kind in known else len(known), kind)):
+        slots = Counter(host.slot for host in hosts if host.kind() == kind and host.slot)
+        where = ', '.join(f'slot {slot}: {count}' for slot, count in sorted(slots.items(), key=lambda one: natural(one[0])))
+        yield COLOURS.get(kind, OTHER), f'lack {kind}: {counts[kind]}' + (f' ({where})' if where else '')
+
+
+def picture(hosts, blocks, query=''):
+    """The picture of these roots, below the query."""
+    labels = [(aggregate or 'in no aggregate', f'{sum(host.fits for host in block)} of {len(block)} fit') for aggregate, block in blocks]
+    counts = EDGE + max((width_of(name, SIZE) for name, _ in labels), default=0) + EDGE
+    left = counts + max((width_of(count, SIZE) for _, count in labels), default=0) + EDGE
+    colours = list(legend(hosts))
+    width = max([left + PITCH * min(PER_ROW, max((len(block) for _, block in blocks), default=0)), NARROW,
+                 *(3 * EDGE + width_of(words, SIZE) for _, words in colours)]) + EDGE
+    parts, down = [f'<g stroke="{GREY}" stroke-width="0.5">'], EDGE
+    heads = [(EDGE, down + SIZE + LINE * at, words) for at, words in enumerate(lines_of(query, width - 2 * EDGE, SIZE))]
+    down += LINE * len(heads) + EDGE / 2
+    for colour, words in colours:
+        parts.append(rectangle('legend', EDGE, down, SIDE, SIDE, colour))
+        heads.append((2 * EDGE + SIDE, down + SIZE - 1, words))
+        down += LINE
+    for (name, count), (_, block) in zip(labels, blocks):
+        down += EDGE
+        heads += [(EDGE, down + SIZE - 1, name), (counts, down + SIZE - 1, count)]
+        for at, host in enumerate(block):
+            x, y = left + PITCH * (at % PER_ROW), down + PITCH * (at // PER_ROW)
+            parts.append(rectangle('host', x, y, SIDE, SIDE, host.colour(), host.told()))
+        down += PITCH * math.ceil(len(block) / PER_ROW)
+    return document(width, down + EDGE, [*parts, '</g>', *(text(x, y, words, SIZE) for x, y, words in heads)])
