@@ -39,10 +39,8 @@ fn flag<'a>(alloc: Global, name: &'a str, help: &'a str) -> Arg<'a>
     ensures rule { rule_of result ≡ flag_rule name.entry.now }
     ensures local { result.global ≡ false }
 {
-    Arg::new(alloc, name)
-        .long(name)
-        .action(ArgAction::SetTrue)
-        .help(help)
+    let arg = Arg::new(alloc, name).long(name);
+    arg.action(ArgAction::SetTrue).help(help)
 }
 
 // The option of a table.
@@ -216,11 +214,7 @@ fn verify<'a>(alloc: Global) -> Result<Command<'a>, AllocError>
         "The UUIDs of providers, as `tokens` writes them",
     ))?;
     let command = add_options(alloc, command)?;
-    command.arg(flag(
-        alloc,
-        "detail",
-        "Also says of what a rule is broken",
-    ))
+    command.arg(flag(alloc, "detail", "Also says of what a rule is broken"))
 }
 
 fn explain<'a>(alloc: Global) -> Result<Command<'a>, AllocError>
