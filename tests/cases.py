@@ -73,6 +73,12 @@ def judged(name, cloud, query, token, line, version=None):
     return Case(f'verify: {name}', words, line + '\n', status=0 if line == 'candidate' else 1, tables=tables(cloud))
 
 
+def detailed(name, cloud, query, token, line, version=None):
+    """`verify --detail` must answer this line about one assignment."""
+    words = ['verify', '--detail', full(query), full(token), *by(version)]
+    return Case(f'verify in detail: {name}', words, full(line) + '\n', status=0 if line == 'candidate' else 1, tables=tables(cloud))
+
+
 def page(name, cloud, query, body, after=None):
     words = ['candidates', full(query), *([] if after is None else ['--after', full(after)])]
     return Case(f'candidates: {name}', words, full(body) + '\n', tables=tables(cloud))
@@ -178,6 +184,50 @@ RULES = [
     judged('no inventory of the class', DEVICES, 'resources=PGPU:1', 'P2', 'no: rule 1 Units'),
     judged('within the units and over the capacity', 'P1 | | VCPU total 8, max_unit 9', 'resources=VCPU:9', 'P1', 'no: rule 6 Sums'),
     judged('the limit is not asked', CHILD, FIVE_AND_FIVE + '&limit=1', 'P2,P1', 'candidate'),
+]
+
+TWO_CHILDREN = 'P1\nP2 | P1 | VCPU total 8\nP3 | P1 | VCPU total 8'
+ISOLATED_THREE = 'resources1=VCPU:1&resources2=VCPU:1&resources3=VCPU:1&group_policy=isolate'
+TWO_SUBTREES = 'resources_A=VCPU:1&resources_B=VCPU:1&same_subtree=_A&same_subtree=_B,_A&group_policy=none'
+NOT_WITHIN = 'VCPU:9 not within min_unit 1, max_unit 8, step_size 1'
+DETAILS = [
+    detailed('a candidate', CHILD, FIVE_AND_FIVE, 'P1,P2', 'candidate'),
+    detailed('an unknown provider', CHILD, FIVE_AND_FIVE, 'P1,P7', 'unknown provider'),
+    detailed('the second slot', MEMORY, 'resources=MEMORY_MB:512,VCPU:9', 'P1,P2', f'no: rule 1 Units: slot 2 on P2, {NOT_WITHIN}'),
+    detailed('the first of two slots', CHILD, 'resources1=VCPU:9&resources2=VCPU:9&group_policy=none', 'P2,P1', f'no: rule 1 Units: slot 1 on P2, {NOT_WITHIN}'),
+    detailed('the lowest number, and not the first slot', OLD_PARENT,
+             'resources1=VCPU:1&required1=!CUSTOM_OLD&resources2=VCPU:9&group_policy=none', 'P1,P2', f'no: rule 1 Units: slot 2 on P2, {NOT_WITHIN}'),
+    detailed('no inventory', DEVICES, 'resources=PGPU:1', 'P2', 'no: rule 1 Units: slot 1 on P2, PGPU: no inventory'),
+    detailed('the first trait that is missing', DEVICES, 'resources1=VCPU:1&required1=CUSTOM_A,CUSTOM_Y,CUSTOM_X', 'P2',
+             'no: rule 2 SlotTraits: slot 1 on P2, CUSTOM_X missing'),
+    detailed('a list of traits', DEVICES, 'resources1=VCPU:1&required1=in:CUSTOM_A,CUSTOM_X&required1=in:CUSTOM_Y,CUSTOM_B', 'P2',
+             'no: rule 2 SlotTraits: slot 1 on P2, none of CUSTOM_B,CUSTOM_Y', version='1.39'),
+    detailed('a forbidden trait', OLD_PARENT, 'resources=VCPU:1&required=!CUSTOM_OLD', 'P1', 'no: rule 2 SlotTraits: slot 1 on P1, CUSTOM_OLD forbidden'),
+    detailed('two aggregates', MEMBER, 'resources1=VCPU:1&member_of1=in:A2,A1', 'P2', 'no: rule 3 Aggregates: slot 1 on P2, member_of=in:A2,A1'),
+    detailed('a forbidden aggregate', MEMBER, 'resources=VCPU:1&member_of=!A1', 'P2', 'no: rule 3 Aggregates: slot 1 on P2, member_of=!A1'),
+    detailed('a tree of no table', OLD, 'resources=VCPU:1&in_tree=P8', 'P2', 'no: rule 4 Tree: slot 1 on P2, in_tree=P8'),
+    detailed('the first trait that nobody brings', DEVICES, BOTH + 'CUSTOM_Y,CUSTOM_A,CUSTOM_X', 'P3,P2', 'no: rule 5 Collective: CUSTOM_X missing'),
+    detailed('the list that nobody brings', DEVICES, BOTH + 'in:CUSTOM_A,CUSTOM_X&required=in:CUSTOM_Y,CUSTOM_X', 'P3,P2',
+             'no: rule 5 Collective: none of CUSTOM_X,CUSTOM_Y', version='1.39'),
+    detailed('what is used, and the sum', 'P1 | | VCPU total 8, used 2\nP2 | P1 | VCPU total 8', FIVE_AND_FIVE, 'P1,P1',
+             'no: rule 6 Sums: VCPU on P1, 6 of 8 left, max_unit 8, 10 asked'),
+    detailed('a sum over the greatest amount at once', 'P1 | | VCPU total 100, max_unit 4', THREE_AND_THREE, 'P1,P1',
+             'no: rule 6 Sums: VCPU on P1, 100 of 100 left, max_unit 4, 6 asked'),
+    detailed('more used than there is', 'P1 | | VCPU total 8, used 9', 'resources=VCPU:2', 'P1', 'no: rule 6 Sums: VCPU on P1, 0 of 8 left, max_unit 8, 2 asked'),
+    detailed('the second class of a slot', 'P1 | | VCPU total 8, used 7; MEMORY_MB total 4096', 'resources1=MEMORY_MB:512,VCPU:2', 'P1',
+             'no: rule 6 Sums: VCPU on P1, 1 of 8 left, max_unit 8, 2 asked'),
+    detailed('isolated groups beside the group without suffix', MEMORY, ISOLATED, 'P1,P1,P1', 'no: rule 7 Isolate: slots 2 and 3 on P1'),
+    detailed('the first and the third slot', CHILD, ISOLATED_THREE, 'P1,P2,P1', 'no: rule 7 Isolate: slots 1 and 3 on P1'),
+    detailed('the first two of three slots', CHILD, ISOLATED_THREE, 'P2,P2,P2', 'no: rule 7 Isolate: slots 1 and 2 on P2'),
+    detailed('a list of groups', NUMA, UNDER_NUMA, 'P3,P4', 'no: rule 8 Subtree: same_subtree=_NUMA,_PF'),
+    detailed('the second list of groups', TWO_CHILDREN, TWO_SUBTREES, 'P2,P3', 'no: rule 8 Subtree: same_subtree=_A,_B'),
+    detailed('no tree for both', APART, FIVE_AND_FIVE, 'P1,P3', 'no: rule 9 Anchor: no root gives all of them'),
+    detailed('a forbidden trait of the root', OLD, 'resources=VCPU:1&root_required=!CUSTOM_OLD', 'P2', 'no: rule 9 Anchor: on P1, CUSTOM_OLD forbidden'),
+    detailed('a required trait of the root', OLD, 'resources=VCPU:1&root_required=CUSTOM_OLD,CUSTOM_X', 'P2', 'no: rule 9 Anchor: on P1, CUSTOM_X missing'),
+    detailed('the first root of a sharing provider', SHARED, 'resources=DISK_GB:10&root_required=CUSTOM_X', 'P9', 'no: rule 9 Anchor: on P1, CUSTOM_X missing'),
+    detailed('the root that gives all', SHARED, 'resources=DISK_GB:10,VCPU:1&root_required=CUSTOM_X', 'P9,P3', 'no: rule 9 Anchor: on P3, CUSTOM_X missing'),
+    detailed('a host that is disabled', ONE + ' | COMPUTE_STATUS_DISABLED', 'resources=VCPU:1&root_required=!COMPUTE_STATUS_DISABLED', 'P1',
+             'no: rule 9 Anchor: on P1, COMPUTE_STATUS_DISABLED forbidden: the host is disabled'),
 ]
 
 # Lists `in:A,B`, of which one trait each must be had, and a repeated `required`: only with 1.39.
@@ -437,7 +487,7 @@ MANY_GROUPS = [
     judged('64 groups fill 8 providers', EIGHT, SIXTY_FOUR, EIGHT_EACH, 'candidate'),
 ]
 
-SMALL = [*QUANTITIES, *RULES, *LISTS, *PAGES, *TOKENS, *TABLES, *QUERIES, *MANY_GROUPS]
+SMALL = [*QUANTITIES, *RULES, *DETAILS, *LISTS, *PAGES, *TOKENS, *TABLES, *QUERIES, *MANY_GROUPS]
 
 
 def cuts():

@@ -353,8 +353,21 @@ def host_rows(found, query, cloud):
     return ''.join(row + '\n' for row in rows)
 
 
+def unmet(traits, suffix, text, query):
+    """What a group requires and isn't among these traits; lists of traits are in the order of the query's text."""
+    front = f'required{suffix}=in:'
+    lists = [sorted(set(pair[len(front):].split(','))) for pair in text.split('&') if pair.startswith(front)]
+    missing = [name + ' missing' for name in sorted(query.groups[suffix].required - traits)]
+    return missing + ['none of ' + ','.join(listed) for listed in lists if not traits & set(listed)]
+
+
+def unmet_by_root(root, query):
+    missing = [name + ' missing' for name in sorted(query.root_required - root.traits)]
+    return missing + [name + ' forbidden' for name in sorted(query.root_forbidden & root.traits)]
+
+
 def detail(provider, suffix, needs, stage, text, query):
-    """Of what a provider fails this test of a slot; lists of traits are in the order of the query's text."""
+    """Of what a provider fails this test of a slot."""
     group = query.groups[suffix]
     if stage == 'units':
         for name in sorted(needs):
@@ -364,12 +377,8 @@ def detail(provider, suffix, needs, stage, text, query):
             if not has.min_unit <= needs[name] <= has.max_unit or needs[name] % has.step_size:
                 return f'{name}:{needs[name]} not within min_unit {has.min_unit}, max_unit {has.max_unit}, step_size {has.step_size}'
     if stage == 'traits':
-        front = f'required{suffix}=in:'
-        lists = [sorted(set(pair[len(front):].split(','))) for pair in text.split('&') if pair.startswith(front)]
-        missing = [name + ' missing' for name in sorted(group.required - provider.traits)]
-        missing += ['none of ' + ','.join(listed) for listed in lists if not provider.traits & set(listed)]
         had = [name + ' forbidden' for name in sorted(group.forbidden & provider.traits)]
-        return [*(missing if suffix else ()), *had][0]
+        return [*(unmet(provider.traits, suffix, text, query) if suffix else ()), *had][0]
     if stage == 'aggregates':
         forbids, aggregates = group.rules[0]
         return f'member_of={"!" * forbids}{"in:" * (len(aggregates) > 1)}{",".join(aggregates)}'
@@ -391,14 +400,40 @@ def why_rows(root, found, text, query, cloud):
             if available(provider, root, cloud) and (not needs or set(needs) & set(provider.has)):
                 stage = next((stage for stage, some in zip(STAGES, left) if provider not in some), '')
                 rows.append([number, suffix, provider.name, '', stage, detail(provider, suffix, needs, stage, text, query)])
-    missing = [name + ' missing' for name in sorted(query.root_required - root.traits)]
-    had = [name + ' forbidden' for name in sorted(query.root_forbidden & root.traits)]
-    rows.append(['', '', root.name, '', '' if takes(root, query) else 'root traits', [*missing, *had, ''][0]])
+    rows.append(['', '', root.name, '', '' if takes(root, query) else 'root traits', [*unmet_by_root(root, query), ''][0]])
     slot, lack = lacks(root, found, query, cloud)
     rows.append([slot, '', root.name, '', lack, 'does not fit' if lack else 'fits'])
     written = io.StringIO()
     csv.writer(written, lineterminator='\n').writerows(rows)
     return written.getvalue()
+
+
+def broken_detail(assignment, rule, text, query, cloud):
+    """The first thing by which an assignment breaks this rule, which it does break."""
+    placed = [(number, provider, suffix, needs) for number, (provider, (suffix, needs)) in enumerate(zip(assignment, query.slots()), 1)]
+    if rule in RULES[:4]:
+        number, *one = next(one for one in placed if rule in broken_by_one(*one[1:], query, cloud))
+        return f'slot {number} on {one[0].name}, {detail(*one, STAGES[RULES.index(rule)], text, query)}'
+    if rule == 'Collective':
+        return unmet(set().union(*(provider.traits for _, provider, suffix, _ in placed if not suffix)), '', text, query)[0]
+    if rule == 'Sums':
+        for _, provider, _, needs in placed:
+            for name in sorted(needs):
+                has = provider.has[name]
+                taken = sum(more.get(name, 0) for _, other, _, more in placed if other is provider)
+                if taken > has.max_unit or has.used + taken > has.capacity():
+                    left = max(has.capacity() - has.used, 0)
+                    return f'{name} on {provider.name}, {left} of {has.capacity()} left, max_unit {has.max_unit}, {taken} asked'
+    if rule == 'Isolate':
+        apart = [(number, provider) for number, provider, suffix, needs in placed if suffix and needs]
+        return next(f'slots {one} and {other} on {provider.name}' for (one, provider), (other, same) in itertools.combinations(apart, 2) if same is provider)
+    if rule == 'Subtree':
+        for listed in query.subtrees:
+            near = [provider for _, provider, suffix, _ in placed if suffix in listed]
+            if not any(all(any(top is step for step in other.above()) for other in near) for top in near):
+                return f'same_subtree={",".join(sorted(listed))}'
+    hosts = [root for root in cloud if root.root() is root and all(available(provider, root, cloud) for _, provider, _, _ in placed)]
+    return f'on {hosts[0].name}, {unmet_by_root(hosts[0], query)[0]}' if hosts else 'no root gives all of them'
 
 
 def request(assignment, query):
@@ -522,3 +557,5 @@ def asked(name, chance, cloud, query, every, judged):
     yield Case(f'{name}: hosts', ['hosts', text, *version], full(host_rows(found, query, cloud)), status=0 if found else 1, tables=made)
     yield Case(f'{name}: why', ['why', text, full(host.name), *version], full(why), status=1 if why.endswith('does not fit\n') else 0, tables=made)
     yield Case(f'{name}: verify', ['verify', text, full(names(every[one])), *version], line, status=1 if rule else 0, tables=made)
+    told = f'{line[:-1]}: {broken_detail(every[one], RULES[rule - 1], drawn_text, query, cloud)}\n' if rule else line
+    yield Case(f'{name}: verify, in detail', ['verify', '--detail', text, full(names(every[one])), *version], full(told), status=1 if rule else 0, tables=made)

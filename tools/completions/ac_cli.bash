@@ -32,7 +32,8 @@ _ac_cli() {
         case ${COMP_WORDS[1]} in
         check) offered="$tables --help" ;;
         candidates | tokens) offered="$tables --microversion --after --help" ;;
-        verify | explain | hosts | why) offered="$tables --microversion --help" ;;
+        verify) offered="$tables --microversion --detail --help" ;;
+        explain | hosts | why) offered="$tables --microversion --help" ;;
         help) offered=$commands ;;
         esac
     fi

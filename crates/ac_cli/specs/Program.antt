@@ -1,5 +1,5 @@
 -- How the program ends, and what it leaves on its streams.
-use Rattle.std.specs.Prelude.{◌≡◌, ◌≢◌, ◌<◌, ◌≤◌, ◌⊎◌, ℕ, List, [], ◌∷◌, codes, length, Option, Some, None, Contains}
+use Rattle.std.specs.Prelude.{◌≡◌, ◌≢◌, ◌<◌, ◌≤◌, ◌⊎◌, ℕ, false, List, [], ◌∷◌, codes, length, Option, Some, None, Contains}
 use Rattle.std.specs.Io.KnownBytes.{Appends, Keeps, append_known}
 use Rattle.clap.specs.Words.{IsAmong, Kinds, Row, Text}
 use Rattle.clap.specs.declared.error.kind.ErrorKind.{ErrorKind}
@@ -73,7 +73,7 @@ pub record Ran {R : Type 0} (remaining : R → Option (List ℕ)) (failures : R 
 
 -- the task that a line asks for
 abbrev pub task_asked : Line → Task
-task_asked line = record { command = line.command; query = line.query; version = line.version; token = line.token; host = line.host }
+task_asked line = record { command = line.command; query = line.query; version = line.version; token = line.token; host = line.host; detail = line.detail }
 
 -- The path that is given for a table was refused, which is told.
 pub record IsUnopened (refuses : List ℕ → Type 0) (line : Line) (s : Streams) (given : ℕ) : Type 0 where
@@ -131,7 +131,7 @@ EndsForWords Ends words s given =
 
 -- the task and the tables of a call without words
 abbrev pub sample_task : Task
-sample_task = record { command = Tokens; query = codes "resources=VCPU:2"; version = V136; token = None; host = None }
+sample_task = record { command = Tokens; query = codes "resources=VCPU:2"; version = V136; token = None; host = None; detail = false }
 
 unfoldable pub sample_bytes : Bytes
 sample_bytes = record {

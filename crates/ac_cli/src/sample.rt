@@ -28,6 +28,7 @@ pub fn job() -> Job<'static>
         version: Version::V136,
         token: None,
         host: None,
+        detail: false,
     }
 }
 

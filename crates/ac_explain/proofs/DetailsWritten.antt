@@ -12,7 +12,7 @@ use Rattle.ac_explain.specs.Details.{part_text}
 
 -- ---- what is found, as it is shown
 
-find_shown : {X Y : Type 0} (show : X → Y) (test : Y → Bool) (xs : List X) → find test (map show xs) ≡ option_map show (find (λ x. test (show x)) xs)
+pub find_shown : {X Y : Type 0} (show : X → Y) (test : Y → Bool) (xs : List X) → find test (map show xs) ≡ option_map show (find (λ x. test (show x)) xs)
 find_shown show test [] = refl
 find_shown show test (x ∷ xs) = elim (cases_Bool (test (show x))) [ inl e ↦ rw e refl | inr e ↦ rw e (find_shown show test xs) ]
 
@@ -40,3 +40,22 @@ pub next_behind : (front : List ℕ) (names : List (List ℕ)) (place : ℕ) (na
 next_behind front names place name text within is so =
     ap (λ (l : List ℕ). l ++ part_text place name) so
     ∙ (append_assoc front (join_with_byte 44 (take place names)) (part_text place name) ∙ ap (λ (l : List ℕ). front ++ l) (sym (next_part names place name within is)))
+
+-- names that are still to come, the first at a place
+abbrev pub parts_from : ℕ → List (List ℕ) → List ℕ
+parts_from place [] = []
+parts_from place (name ∷ names) = part_text place name ++ parts_from (place + 1) names
+
+behind_first : (first : List ℕ) (names : List (List ℕ)) (place : ℕ) → 0 < place → join_with_byte 44 (first ∷ names) ≡ first ++ parts_from place names
+behind_first first [] place later = grind (arith, common_steps)
+behind_first first (name ∷ names) place later = grind (arith, common_steps, nat_tests, behind_first name names (place + 1))
+
+pub all_parts : (names : List (List ℕ)) → parts_from 0 names ≡ join_with_byte 44 names
+all_parts [] = refl
+all_parts (name ∷ names) = let later = behind_first name names 1 (omega arith) in grind (arith, common_steps, nat_tests)
+
+pub part_taken : (text more : List ℕ) (names : List (List ℕ)) (place : ℕ) (name whole : List ℕ) (rest : List (List ℕ)) → names ≡ name ∷ rest → more ≡ text ++ part_text place name
+    → text ++ parts_from place names ≡ whole → more ++ parts_from (place + 1) rest ≡ whole
+part_taken text more names place name whole rest is new h =
+    ap (λ (l : List ℕ). l ++ parts_from (place + 1) rest) new
+    ∙ (append_assoc text (part_text place name) (parts_from (place + 1) rest) ∙ (ap (λ (l : List (List ℕ)). text ++ parts_from place l) (sym is) ∙ h))

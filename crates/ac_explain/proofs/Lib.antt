@@ -1,2 +1,3 @@
 pub mod DetailsWritten
+pub mod Places
 pub mod Providers

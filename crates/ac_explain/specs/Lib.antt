@@ -1,3 +1,3 @@
+pub mod Broken
 pub mod Details
-pub mod Differing
 pub mod Missing

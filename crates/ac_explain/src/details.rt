@@ -1,7 +1,9 @@
 //! Of what a provider fails a test of its slot, in words: the first thing in the order in which the query keeps it. Nothing where it
 //! passes the test.
-ghost use Rattle.std.specs.Prelude.{◌≡◌, IfOk, map, string_bytes};
+ghost use Rattle.std.specs.Prelude.{◌≡◌, ◌-◌, IfOk, map, string_bytes};
 ghost use Rattle.std.specs.Option.{option_map};
+ghost use Rattle.ac_base.specs.Names.{class_bytes};
+ghost use Rattle.ac_base.specs.Quantities.{capacity};
 ghost use Rattle.ac_cloud.specs.World.{provider_at, used_of};
 ghost use Rattle.ac_cloud.specs.Cloud.CloudWorld.{providers_of};
 ghost use Rattle.ac_query.specs.Shown.Groups.{need_entry, rule_shown};
@@ -9,18 +11,18 @@ ghost use Rattle.ac_rules.specs.Own.{inventory_of};
 ghost use Rattle.ac_rules.specs.Shown.Assignments.{placed_of};
 ghost use Rattle.ac_explain.specs.Details.{aggregates_detail, first_short, first_unadmitted, first_unmet, forbids_mark, list_mark, none_text, room_detail, room_text, rule_text, tree_detail, units_detail, units_text};
 
-mod traits;
+pub(crate) mod traits;
 
 pub use self::traits::{root_detail, traits_detail};
-use ac_base::{Id, NoMemory};
+use ac_base::{ClassName, Id, Inventory, NoMemory};
 use ac_query::{AggregateRule, Need, write_ids};
 use ac_rules::Placed;
 use ac_rules::rules::sums::has_room_of;
 use ac_rules::slots::{group_at, needs_at};
 use std::alloc::Global;
 
-// A class, and that nothing is told of it.
-fn none_text(alloc: Global, class: &str) -> Result<String, NoMemory>
+/// A class, and that nothing is told of it.
+pub(crate) fn none_text(alloc: Global, class: &str) -> Result<String, NoMemory>
     ensures { IfOk result (λ text. string_bytes text ≡ none_text class.now) }
 {
     Ok(format!(in alloc; "{class}: no inventory")?)
@@ -67,6 +69,16 @@ pub fn units_detail(alloc: Global, placed: &Placed) -> Result<String, NoMemory>
     }
 }
 
+/// What is left of an inventory's capacity beside what is used of its class.
+pub(crate) fn left_of(placed: &Placed, class: &ClassName, inventory: &Inventory) -> u64
+    ensures { result ≡ capacity inventory.now - used_of
+        (provider_at (providers_of placed.now.cloud.now) placed.now.provider)
+        (class_bytes class.now) }
+{
+    let used = placed.cloud.used(placed.provider, class);
+    inventory.capacity().saturating_sub(used)
+}
+
 // A class with what is left of its capacity beside what is used, and the capacity.
 #[tactic(auto, unfolding(crate::specs::Details::room_text))]
 fn room_text(alloc: Global, placed: &Placed, need: &Need) -> Result<String, NoMemory>
@@ -80,9 +92,8 @@ fn room_text(alloc: Global, placed: &Placed, need: &Need) -> Result<String, NoMe
     let Some(inventory) = placed.cloud.inventory(placed.provider, need.class()) else {
         return none_text(alloc, class);
     };
+    let left = left_of(placed, need.class(), inventory);
     let capacity = inventory.capacity();
-    let used = placed.cloud.used(placed.provider, need.class());
-    let left = capacity.saturating_sub(used);
     Ok(format!(in alloc; "{class}: {left} of {capacity} left")?)
 }
 

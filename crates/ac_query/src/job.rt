@@ -20,7 +20,7 @@ pub enum Command {
     Why,
 }
 
-/// What is to be done, and for which query, version, token and host.
+/// What is to be done, for which query, version, token and host, and in how much detail.
 #[derive(Clone, Copy, Debug, PartialEq, Eq)]
 pub struct Job<'a> {
     pub command: Command,
@@ -33,4 +33,6 @@ pub struct Job<'a> {
     /// For `Why` a provider of the host that is asked about, by its UUID, or by a name that no other provider has; without one no provider is
     /// named. None for the others.
     pub host: Option<&'a str>,
+    /// For `Verify` whether it is said of what a rule is broken; `false` for the others.
+    pub detail: bool,
 }

@@ -69,6 +69,7 @@ fn asks<'a>(
         version,
         token,
         host: None,
+        detail: false,
     };
     gives(alloc, line, job)
 }
@@ -144,6 +145,27 @@ fn verify(rt: HostRuntime) -> Result<(), Fail> {
     Ok(())
 }
 
+const DETAILED: &[&str] = &[
+    "ac_cli verify q t --detail --providers a --inventories b",
+    "ac_cli verify --detail q t --tables d",
+];
+
+#[test]
+fn verify_in_detail(rt: HostRuntime) -> Result<(), Fail> {
+    for line in DETAILED {
+        let job = Job {
+            command: Command::Verify,
+            query: "q",
+            version: Version::V136,
+            token: Some("t"),
+            host: None,
+            detail: true,
+        };
+        assert!(rt; gives(rt.alloc(), line, job)?, "{line}");
+    }
+    Ok(())
+}
+
 const EXPLAINS: &[&str] = &[
     "ac_cli explain q --providers a --inventories b",
     "ac_cli explain --inventories=b --traits c --providers=a q",
@@ -193,6 +215,7 @@ fn why(rt: HostRuntime) -> Result<(), Fail> {
             version: Version::V136,
             token: None,
             host: Some("h"),
+            detail: false,
         };
         assert!(rt; gives(rt.alloc(), line, job)?, "{line}");
     }
@@ -207,6 +230,7 @@ fn versions(rt: HostRuntime) -> Result<(), Fail> {
         version: Version::V136,
         token: None,
         host: None,
+        detail: false,
     };
     let older = "ac_cli tokens q --microversion 1.36 --providers a --inventories b";
     assert!(rt; gives(rt.alloc(), older, job)?);
@@ -543,6 +567,7 @@ const SEARCHES: &[&str] = &[
 const VERIFIED: &[&str] = &[
     "  <QUERY>  What is asked for, between '..' since the shell reads & ! and ? otherwise; of a URL, what stands behind its ?",
     "  <TOKEN>  The UUIDs of providers, as `tokens` writes them",
+    "      --detail                  Also says of what a rule is broken",
 ];
 
 const ASKED_WHY: &[&str] = &[

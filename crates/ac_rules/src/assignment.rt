@@ -1,6 +1,6 @@
 //! Providers in slots: one provider in one slot, and a provider for each of the first slots of a query.
 
-ghost use Rattle.std.specs.Prelude.{◌≡◌, ◌-◌, ◌<◌, ◌≤◌, length};
+ghost use Rattle.std.specs.Prelude.{◌≡◌, ◌-◌, ◌<◌, ◌≤◌, length, slice_index};
 ghost use Rattle.std.specs.Iterator.{YieldsFirstBy, at_most};
 ghost use Rattle.std.specs.List.{All};
 ghost use Rattle.ac_cloud.specs.Cloud.CloudWorld.{providers_of};
@@ -39,7 +39,24 @@ pub(crate) struct Slots<'a> {
 }
 
 impl<'a> Assignment<'a> {
-    ghost use Rattle.ac_rules.specs.Shown.Assignments.{assigned_of, all_in, slots_left};
+    ghost use Rattle.ac_rules.specs.Placed.{placed_at};
+    ghost use Rattle.ac_rules.specs.Shown.Assignments.{assigned_of, all_in, placed_of, slots_left};
+
+    /// The slot at a place, with its provider.
+    pub fn slot(&self, s: usize) -> Placed<'a>
+        requires { s < length self.now.list.now }
+        ensures placed { placed_of result
+            ≡ placed_at (asked_of self.now.query.now) s (slice_index self.now.list.now s) }
+        ensures cloud { result.cloud.now ≡ self.now.cloud.now }
+        ensures place { result.slot ≡ s }
+    {
+        Placed {
+            cloud: self.cloud,
+            query: self.query,
+            slot: s,
+            provider: self.list[s],
+        }
+    }
 
     /// Its slots in order, each with its provider.
     #[tactic(auto, using(crate::proofs::PlacedLemmas::placed_whole))]

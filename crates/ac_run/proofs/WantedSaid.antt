@@ -21,7 +21,7 @@ module _ (task : Task) (world : World) where
   says_lines : task.command ≡ command.Tokens → SaysIt (page_lines world.providers)
   says_lines is = ap (λ k. answer_in k task world) is
 
-  says_verdict : task.command ≡ command.Verify → SaysIt (verdict_line world.providers)
+  says_verdict : task.command ≡ command.Verify → SaysIt (verdict_line world.providers task.detail)
   says_verdict is = ap (λ k. answer_in k task world) is
 
   says_explanation : task.command ≡ command.Explain → SaysIt (explanation world.providers)
@@ -53,7 +53,7 @@ module _ (task : Task) (world : World) where
     explains_lines is = explains (page_lines world.providers) (says_lines is) refusal h
 
     pub explains_verdict : task.command ≡ command.Verify → ExplainsWanted task world refusal
-    explains_verdict is = explains (verdict_line world.providers) (says_verdict is) refusal h
+    explains_verdict is = explains (verdict_line world.providers task.detail) (says_verdict is) refusal h
 
     pub explains_explanation : task.command ≡ command.Explain → ExplainsWanted task world refusal
     explains_explanation is = explains (explanation world.providers) (says_explanation is) refusal h
@@ -73,8 +73,8 @@ module _ (task : Task) (world : World) where
     pub said_lines : task.command ≡ command.Tokens → answer_in task.command task world ≡ page_lines world.providers asked ids
     said_lines is = says_lines is ∙ said (page_lines world.providers)
 
-    pub said_verdict : {list : List ℕ} → ids ≡ Some list → task.command ≡ command.Verify → answer_in task.command task world ≡ verdict_line world.providers asked (Some list)
-    said_verdict e is = says_verdict is ∙ said (verdict_line world.providers) ∙ ap (verdict_line world.providers asked) e
+    pub said_verdict : {list : List ℕ} → ids ≡ Some list → task.command ≡ command.Verify → answer_in task.command task world ≡ verdict_line world.providers task.detail asked (Some list)
+    said_verdict e is = says_verdict is ∙ said (verdict_line world.providers task.detail) ∙ ap (verdict_line world.providers task.detail asked) e
 
     pub said_explanation : task.command ≡ command.Explain → answer_in task.command task world ≡ explanation world.providers asked ids
     said_explanation is = says_explanation is ∙ said (explanation world.providers)

@@ -1,5 +1,5 @@
 -- What a run answers: its output, its line on the error sink, and its status.
-use Rattle.std.specs.Prelude.{ℕ, List, [], codes, Option, Some, None, Result, Ok, Err}
+use Rattle.std.specs.Prelude.{ℕ, Bool, true, false, List, [], codes, Option, Some, None, Result, Ok, Err}
 use Rattle.std.specs.Option.{option_and_then, unwrap_or}
 use Rattle.ac_tables.specs.Tables.Rows.{records_of}
 use Rattle.ac_tables.specs.Tables.AggregateTable.{aggregate_columns}
@@ -24,7 +24,7 @@ use Rattle.ac_rules.specs.Judge.{judge}
 use Rattle.ac_rules.specs.Pages.{page}
 use Rattle.ac_search.specs.Hosts.{fits_at, fitting}
 use Rattle.ac_report.specs.Texts.{body, lines}
-use Rattle.ac_run.specs.Outputs.{counts, verdict_status, verdict_text}
+use Rattle.ac_run.specs.Outputs.{counts, detailed_text, verdict_status, verdict_text}
 use Rattle.ac_answers.specs.Explanation.{explanation_status, explanation_text}
 use Rattle.ac_answers.specs.Explanation.Candidates.{has_candidate}
 use Rattle.ac_answers.specs.HostRows.{hosts_status, hosts_text}
@@ -34,13 +34,14 @@ use Rattle.ac_run.specs.Lines.{too_large_line, record_line, query_line, token_li
 use Rattle.ac_query.specs.declared.job.Command.{Command}
 use Rattle.ac_query.specs.declared.job.Command.TheVariants as command
 
--- what is asked: the query, the version that reads it, and perhaps a token or a host
+-- what is asked: the query, the version that reads it, perhaps a token or a host, and whether it is said of what a rule is broken
 pub record Task : Type 0 where
   pub command : Command
   pub query : List ℕ
   pub version : Version
   pub token : Option (List ℕ)
   pub host : Option (List ℕ)
+  pub detail : Bool
 
 -- what is answered
 pub record Outcome : Type 0 where
@@ -63,10 +64,11 @@ told (Some x) say otherwise = say x
 
 -- ---- the outputs
 
--- the verdict on a list of ids
-abbrev pub verdict_on : List Provider → Asked → Option (List ℕ) → Outcome
-verdict_on all asked None = written (codes "unknown provider\n") 1
-verdict_on all asked (Some list) = written (verdict_text (judge all asked list)) (verdict_status (judge all asked list))
+-- the verdict on a list of ids, with the first thing by which a rule is broken where that is asked
+abbrev pub verdict_on : List Provider → Bool → Asked → Option (List ℕ) → Outcome
+verdict_on all detail asked None = written (codes "unknown provider\n") 1
+verdict_on all false asked (Some list) = written (verdict_text (judge all asked list)) (verdict_status (judge all asked list))
+verdict_on all true asked (Some list) = written (detailed_text all asked list (judge all asked list)) (verdict_status (judge all asked list))
 
 -- ---- what is given of a token
 
@@ -91,8 +93,8 @@ page_body all asked ids = written (body all asked (page all asked ids asked.limi
 abbrev pub page_lines : List Provider → Says
 page_lines all asked ids = written (lines all (page all asked ids asked.limit)) 0
 
-abbrev pub verdict_line : List Provider → Says
-verdict_line all asked ids = verdict_on all asked (option_and_then (places_of all) ids)
+abbrev pub verdict_line : List Provider → Bool → Says
+verdict_line all detail asked ids = verdict_on all detail asked (option_and_then (places_of all) ids)
 
 abbrev pub explanation : List Provider → Says
 explanation all asked ids = written (explanation_text all asked (has_candidate all asked)) (explanation_status (has_candidate all asked))
@@ -130,7 +132,7 @@ abbrev pub answer_in : Command → Task → World → Outcome
 answer_in command.Check task world = written (counts world.sizes) 0
 answer_in command.Candidates task world = past_query (page_body world.providers) task
 answer_in command.Tokens task world = past_query (page_lines world.providers) task
-answer_in command.Verify task world = past_query (verdict_line world.providers) task
+answer_in command.Verify task world = past_query (verdict_line world.providers task.detail) task
 answer_in command.Explain task world = past_query (explanation world.providers) task
 answer_in command.Hosts task world = past_query (host_rows world.providers) task
 answer_in command.Why task world = past_query (why_rows world.providers task.host) task

@@ -22,14 +22,14 @@ abbrev pub answer_to : Wanted → World → Outcome
 answer_to wanted.Counts world = written (counts world.sizes) 0
 answer_to (wanted.Body query token) world = page_body world.providers (asked_of query) (option_map ids_of token)
 answer_to (wanted.Lines query token) world = page_lines world.providers (asked_of query) (option_map ids_of token)
-answer_to (wanted.Verdict query token) world = verdict_line world.providers (asked_of query) (Some (ids_of token))
+answer_to (wanted.Verdict query token detail) world = verdict_line world.providers detail (asked_of query) (Some (ids_of token))
 answer_to (wanted.Explanation question) world = explanation world.providers (asked_of question.query) None
 answer_to (wanted.Hosts query) world = host_rows world.providers (asked_of query) None
 answer_to (wanted.Why query host) world = why_not world.providers (asked_of query) host
 
 -- the token on which a verdict is wanted has an id for each slot of the query
 abbrev pub HasIdForEachSlot : Wanted → Type 0
-HasIdForEachSlot (wanted.Verdict query token) = length (ids_of token) ≡ length (slots_of (asked_of query))
+HasIdForEachSlot (wanted.Verdict query token detail) = length (ids_of token) ≡ length (slots_of (asked_of query))
 HasIdForEachSlot _ = ⊤
 
 -- the provider that is asked about is there

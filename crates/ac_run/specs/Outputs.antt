@@ -2,7 +2,9 @@
 use Rattle.std.specs.Prelude.{ℕ, List, [], ◌∷◌, codes}
 use Rattle.std.specs.Fmt.{decimal}
 use Rattle.ac_answers.specs.Pieces.{newline, said}
-use Rattle.ac_cloud.specs.World.{Sizes}
+use Rattle.ac_cloud.specs.World.{Provider, Sizes}
+use Rattle.ac_explain.specs.Broken.{broken_detail}
+use Rattle.ac_query.specs.Asked.{Asked}
 use Rattle.ac_rules.specs.declared.verdict.Rule.{Rule}
 use Rattle.ac_rules.specs.declared.verdict.Rule.TheVariants as rule
 use Rattle.ac_rules.specs.declared.verdict.Verdict.{Verdict}
@@ -16,21 +18,29 @@ counts s =
     ∷ codes "\ntraits " ∷ decimal s.traits ∷ codes "\naggregates " ∷ decimal s.aggregates ∷ newline ∷ [])
 
 -- a rule that is broken, by its number and its name
+unfoldable pub broken_name : Rule → List ℕ
+broken_name rule.Units = codes "no: rule 1 Units"
+broken_name rule.SlotTraits = codes "no: rule 2 SlotTraits"
+broken_name rule.Aggregates = codes "no: rule 3 Aggregates"
+broken_name rule.Tree = codes "no: rule 4 Tree"
+broken_name rule.Collective = codes "no: rule 5 Collective"
+broken_name rule.Sums = codes "no: rule 6 Sums"
+broken_name rule.Isolate = codes "no: rule 7 Isolate"
+broken_name rule.Subtree = codes "no: rule 8 Subtree"
+broken_name rule.Anchor = codes "no: rule 9 Anchor"
+
 unfoldable pub broken_line : Rule → List ℕ
-broken_line rule.Units = codes "no: rule 1 Units\n"
-broken_line rule.SlotTraits = codes "no: rule 2 SlotTraits\n"
-broken_line rule.Aggregates = codes "no: rule 3 Aggregates\n"
-broken_line rule.Tree = codes "no: rule 4 Tree\n"
-broken_line rule.Collective = codes "no: rule 5 Collective\n"
-broken_line rule.Sums = codes "no: rule 6 Sums\n"
-broken_line rule.Isolate = codes "no: rule 7 Isolate\n"
-broken_line rule.Subtree = codes "no: rule 8 Subtree\n"
-broken_line rule.Anchor = codes "no: rule 9 Anchor\n"
+broken_line r = said (broken_name r ∷ newline ∷ [])
 
 -- what is said of a list of providers
 unfoldable pub verdict_text : Verdict → List ℕ
 verdict_text verdict.Candidate = codes "candidate\n"
 verdict_text (verdict.Broken r) = broken_line r
+
+-- the same, with the first thing by which a rule is broken
+unfoldable pub detailed_text : List Provider → Asked → List ℕ → Verdict → List ℕ
+detailed_text all asked list verdict.Candidate = codes "candidate\n"
+detailed_text all asked list (verdict.Broken r) = said (broken_name r ∷ codes ": " ∷ broken_detail all asked list r ∷ newline ∷ [])
 
 abbrev pub verdict_status : Verdict → ℕ
 verdict_status verdict.Candidate = 0

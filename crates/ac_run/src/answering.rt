@@ -1,28 +1,31 @@
 //! The answers over a cloud, each written with its status.
 
 ghost use Rattle.std.specs.Prelude.{◌≡◌, ◌<◌, ◌≤◌, IfOk, OnErr, Err, Some, None, length};
+ghost use Rattle.std.specs.List.{All};
 ghost use Rattle.std.specs.Option.{option_map};
 ghost use Rattle.ac_base.specs.Devices.{Rises, TakesPart};
 ghost use Rattle.ac_cloud.specs.Cloud.CloudWorld.{providers_of, world_of};
 ghost use Rattle.ac_query.specs.Asked.{slots_of};
 ghost use Rattle.ac_query.specs.Shown.Queries.{asked_of};
 ghost use Rattle.ac_query.specs.Tokens.{ids_of};
-ghost use Rattle.ac_run.specs.Answer.{explanation, host_rows, page_body, page_lines, verdict_line, why_not, written};
+ghost use Rattle.ac_run.specs.Answer.{explanation, host_rows, page_body, page_lines, verdict_line, verdict_on, why_not, written};
 ghost use Rattle.ac_run.specs.Asking.{HasHost, HasIdForEachSlot, answer_to};
-ghost use Rattle.ac_run.specs.Outputs.{counts};
+ghost use Rattle.ac_run.specs.Outputs.{counts, detailed_text, verdict_status, verdict_text};
 ghost use Rattle.ac_report.specs.declared.fault.PageFault.TheVariants as PageFault;
+ghost use Rattle.ac_rules.specs.declared.verdict.Verdict.TheVariants as Verdict;
 ghost use Rattle.ac_run.specs.Run.{IsWritten};
 
 use crate::asking::Wanted;
-use crate::outputs::{push_counts, verdict_status, verdict_text};
+use crate::outputs::{push_counts, push_detailed, push_verdict, verdict_status};
 use ac_answers::{
     Question, explanation_status, find_without, has_candidate, hosts_status, hosts_text,
     push_explanation, push_reasons, root_place, why_at,
 };
 use ac_base::{NoMemory, Sink, push_all};
+use ac_explain::broken_detail;
 use ac_query::{Query, Token};
 use ac_report::{PageFault, write_page, write_tokens};
-use ac_rules::{InCloud, verify};
+use ac_rules::{Assignment, InCloud, Rule, Verdict, verify};
 use ac_search::{Walk, all_slots, find_lacks, fitting_roots, tree_counts};
 use ac_tables::Cloud;
 use std::alloc::Global;
@@ -110,29 +113,124 @@ fn write_body<W: Sink>(
     }
 }
 
+// A verdict alone.
+fn write_plain<W: Sink>(verdict: Verdict, out: &mut W) -> Result<u8, PageFault>
+    ensures few { IfOk result (λ status. status ≤ 1) }
+    ensures ok { IfOk result (IsWritten (written (verdict_text verdict) (verdict_status verdict))
+        (W.taken out.old) (W.taken out.new)) }
+    ensures part { OnErr result (TakesPart (W.taken out.old) (W.taken out.new)
+        (written (verdict_text verdict) (verdict_status verdict)).output) }
+    ensures failed { result ≡ Err PageFault.WriteFailed
+        → Rises (W.failures out.old) (W.failures out.new) }
+    ensures failures { W.failures out.old ≤ W.failures out.new }
+{
+    push_verdict(out, verdict)?;
+    Ok(verdict_status(verdict))
+}
+
+// The rule that a list breaks, with the first thing by which it does.
+#[tactic(auto, using(ac_base::proofs::Leaving::part_none), unfolding(crate::specs::Outputs::detailed_text))]
+fn write_broken<W: Sink>(
+    alloc: Global,
+    assignment: &Assignment<'_>,
+    rule: Rule,
+    out: &mut W,
+) -> Result<u8, PageFault>
+    ensures few { IfOk result (λ status. status ≤ 1) }
+    ensures ok { IfOk result (IsWritten (written (detailed_text (providers_of assignment.now.cloud.now)
+        (asked_of assignment.now.query.now) assignment.now.list.now (Verdict.Broken rule)) 1)
+        (W.taken out.old) (W.taken out.new)) }
+    ensures part { OnErr result (TakesPart (W.taken out.old) (W.taken out.new)
+        (written (detailed_text (providers_of assignment.now.cloud.now)
+        (asked_of assignment.now.query.now) assignment.now.list.now (Verdict.Broken rule)) 1).output) }
+    ensures failed { result ≡ Err PageFault.WriteFailed
+        → Rises (W.failures out.old) (W.failures out.new) }
+    ensures failures { W.failures out.old ≤ W.failures out.new }
+{
+    let detail = broken_detail(alloc, assignment, rule)?;
+    push_detailed(out, rule, detail.as_bytes())?;
+    Ok(1)
+}
+
+// A verdict, with the first thing by which a rule is broken.
+#[tactic(auto, unfolding(crate::specs::Outputs::detailed_text, crate::specs::Outputs::verdict_text))]
+fn write_detailed<W: Sink>(
+    alloc: Global,
+    assignment: &Assignment<'_>,
+    verdict: Verdict,
+    out: &mut W,
+) -> Result<u8, PageFault>
+    ensures few { IfOk result (λ status. status ≤ 1) }
+    ensures ok { IfOk result (IsWritten (written (detailed_text (providers_of assignment.now.cloud.now)
+        (asked_of assignment.now.query.now) assignment.now.list.now verdict)
+        (verdict_status verdict))
+        (W.taken out.old) (W.taken out.new)) }
+    ensures part { OnErr result (TakesPart (W.taken out.old) (W.taken out.new)
+        (written (detailed_text (providers_of assignment.now.cloud.now)
+        (asked_of assignment.now.query.now) assignment.now.list.now verdict)
+        (verdict_status verdict)).output) }
+    ensures failed { result ≡ Err PageFault.WriteFailed
+        → Rises (W.failures out.old) (W.failures out.new) }
+    ensures failures { W.failures out.old ≤ W.failures out.new }
+{
+    match verdict {
+        Verdict::Candidate => write_plain(verdict, out),
+        Verdict::Broken(rule) => write_broken(alloc, assignment, rule, out),
+    }
+}
+
+// The verdict on a list, with the first thing by which a rule is broken where that is asked.
+fn write_judged<W: Sink>(
+    alloc: Global,
+    cloud: &Cloud,
+    query: &Query,
+    list: &[u32],
+    detail: bool,
+    out: &mut W,
+) -> Result<u8, PageFault>
+    requires slots { length list.now ≡ length (slots_of (asked_of query.now)) }
+    requires providers { All (λ p. p < length (providers_of cloud.now)) list.now }
+    ensures few { IfOk result (λ status. status ≤ 1) }
+    ensures ok { IfOk result (IsWritten (verdict_on (providers_of cloud.now) detail (asked_of query.now) (Some list.now))
+        (W.taken out.old) (W.taken out.new)) }
+    ensures part { OnErr result (TakesPart (W.taken out.old) (W.taken out.new)
+        (verdict_on (providers_of cloud.now) detail (asked_of query.now) (Some list.now)).output) }
+    ensures failed { result ≡ Err PageFault.WriteFailed
+        → Rises (W.failures out.old) (W.failures out.new) }
+    ensures failures { W.failures out.old ≤ W.failures out.new }
+{
+    let verdict = verify(cloud, query, list);
+    if detail {
+        let assignment = Assignment { cloud, query, list };
+        write_detailed(alloc, &assignment, verdict, out)
+    } else {
+        write_plain(verdict, out)
+    }
+}
+
 // The verdict on the list that a token names.
 fn write_verdict<W: Sink>(
     alloc: Global,
     cloud: &Cloud,
     query: &Query,
     token: &Token,
+    detail: bool,
     out: &mut W,
 ) -> Result<u8, PageFault>
     requires { length (ids_of token.now) ≡ length (slots_of (asked_of query.now)) }
     ensures few { IfOk result (λ status. status ≤ 1) }
-    ensures ok { IfOk result (IsWritten (verdict_line (providers_of cloud.now) (asked_of query.now)
-        (Some (ids_of token.now))) (W.taken out.old) (W.taken out.new)) }
+    ensures ok { IfOk result (IsWritten (verdict_line (providers_of cloud.now) detail (asked_of query.now)
+        (Some (ids_of token.now)))
+        (W.taken out.old) (W.taken out.new)) }
     ensures part { OnErr result (TakesPart (W.taken out.old) (W.taken out.new)
-        (verdict_line (providers_of cloud.now) (asked_of query.now) (Some (ids_of token.now))).output) }
+        (verdict_line (providers_of cloud.now) detail (asked_of query.now)
+        (Some (ids_of token.now))).output) }
     ensures failed { result ≡ Err PageFault.WriteFailed
         → Rises (W.failures out.old) (W.failures out.new) }
     ensures failures { W.failures out.old ≤ W.failures out.new }
 {
     match token.locate(alloc, cloud) {
-        Ok(Some(list)) => {
-            let verdict = verify(cloud, query, &list);
-            push_text(out, verdict_text(verdict), verdict_status(verdict))
-        }
+        Ok(Some(list)) => write_judged(alloc, cloud, query, &list, detail, out),
         Ok(None) => push_text(out, b"unknown provider\n", 1),
         Err(NoMemory) => Err(PageFault::NoMemory),
     }
@@ -236,7 +334,9 @@ pub fn write_answer<W: Sink>(
         Wanted::Counts => write_counts(cloud, out),
         Wanted::Body(query, token) => write_body(alloc, cloud, query, token, out),
         Wanted::Lines(query, token) => write_lines(alloc, cloud, query, token, out),
-        Wanted::Verdict(query, token) => write_verdict(alloc, cloud, query, token, out),
+        Wanted::Verdict(query, token, detail) => {
+            write_verdict(alloc, cloud, query, token, *detail, out)
+        }
         Wanted::Explanation(question) => write_explanation(alloc, cloud, question, out),
         Wanted::Hosts(query) => write_hosts(alloc, cloud, query, out),
         Wanted::Why(query, host) => write_why(alloc, cloud, query, *host, out),

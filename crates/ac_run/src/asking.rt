@@ -30,8 +30,8 @@ pub enum Wanted {
     Body(Query, Option<Token>),
     /// The tokens of a page.
     Lines(Query, Option<Token>),
-    /// The verdict on the list that a token names.
-    Verdict(Query, Token),
+    /// The verdict on the list that a token names, and whether it is said of what a rule is broken.
+    Verdict(Query, Token, bool),
     /// How far a query comes.
     Explanation(Question),
     /// Which roots fit, and what the others lack.
@@ -138,7 +138,7 @@ pub fn read_wanted(alloc: Global, job: &Job, cloud: &Cloud) -> Result<Wanted, Re
         Command::Verify => {
             let (query, token) = read_asked(alloc, job)?;
             match token {
-                Some(token) => Ok(Wanted::Verdict(query, token)),
+                Some(token) => Ok(Wanted::Verdict(query, token, job.detail)),
                 None => unreachable!(),
             }
         }

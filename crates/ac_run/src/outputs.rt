@@ -1,40 +1,64 @@
 //! Small outputs, pushed without memory: the counts of the tables, and the verdict on a list.
-ghost use Rattle.std.specs.Prelude.{◌≡◌, ◌≤◌};
+ghost use Rattle.std.specs.Prelude.{◌≡◌, ◌≤◌, ◌∷◌, [], codes};
 ghost use Rattle.ac_cloud.specs.Cloud.CloudWorld.{sizes_of};
-ghost use Rattle.ac_run.specs.Outputs.{broken_line, counts, verdict_status, verdict_text};
+ghost use Rattle.ac_run.specs.Outputs.{broken_line, broken_name, counts, detailed_text, verdict_status, verdict_text};
+ghost use Rattle.ac_answers.specs.Pieces.{newline, said};
 ghost use Rattle.ac_answers.specs.Writing.{Pushes};
 
 use ac_answers::{Digits, push_pieces};
-use ac_base::{Sink, WriteFailed};
+use ac_base::{Sink, WriteFailed, push_all};
 use ac_rules::{Rule, Verdict};
 use ac_tables::Counts;
 
-#[tactic(auto, unfolding(crate::specs::Outputs::broken_line))]
-fn broken_line(rule: Rule) -> &'static [u8]
-    ensures { result.now ≡ broken_line rule }
+// A rule that is broken, by its number and its name.
+#[tactic(auto, unfolding(crate::specs::Outputs::broken_name))]
+fn broken_name(rule: Rule) -> &'static [u8]
+    ensures { result.now ≡ broken_name rule }
 {
     match rule {
-        Rule::Units => b"no: rule 1 Units\n",
-        Rule::SlotTraits => b"no: rule 2 SlotTraits\n",
-        Rule::Aggregates => b"no: rule 3 Aggregates\n",
-        Rule::Tree => b"no: rule 4 Tree\n",
-        Rule::Collective => b"no: rule 5 Collective\n",
-        Rule::Sums => b"no: rule 6 Sums\n",
-        Rule::Isolate => b"no: rule 7 Isolate\n",
-        Rule::Subtree => b"no: rule 8 Subtree\n",
-        Rule::Anchor => b"no: rule 9 Anchor\n",
+        Rule::Units => b"no: rule 1 Units",
+        Rule::SlotTraits => b"no: rule 2 SlotTraits",
+        Rule::Aggregates => b"no: rule 3 Aggregates",
+        Rule::Tree => b"no: rule 4 Tree",
+        Rule::Collective => b"no: rule 5 Collective",
+        Rule::Sums => b"no: rule 6 Sums",
+        Rule::Isolate => b"no: rule 7 Isolate",
+        Rule::Subtree => b"no: rule 8 Subtree",
+        Rule::Anchor => b"no: rule 9 Anchor",
     }
 }
 
-/// The line that tells a verdict.
+// Pushes the line of a rule that is broken.
+#[tactic(auto, unfolding(crate::specs::Outputs::broken_line))]
+fn push_broken<W: Sink>(out: &mut W, rule: Rule) -> Result<(), WriteFailed>
+    ensures text { Pushes result (W.taken out.old) (W.taken out.new) (W.failures out.old)
+        (W.failures out.new) (broken_line rule) }
+    ensures failures { W.failures out.old ≤ W.failures out.new }
+{
+    push_pieces(out, &[broken_name(rule), b"\n"])
+}
+
+/// Pushes the line that tells a verdict.
 #[tactic(auto, unfolding(crate::specs::Outputs::verdict_text))]
-pub fn verdict_text(verdict: Verdict) -> &'static [u8]
-    ensures { result.now ≡ verdict_text verdict }
+pub fn push_verdict<W: Sink>(out: &mut W, verdict: Verdict) -> Result<(), WriteFailed>
+    ensures text { Pushes result (W.taken out.old) (W.taken out.new) (W.failures out.old)
+        (W.failures out.new) (verdict_text verdict) }
+    ensures failures { W.failures out.old ≤ W.failures out.new }
 {
     match verdict {
-        Verdict::Candidate => b"candidate\n",
-        Verdict::Broken(rule) => broken_line(rule),
+        Verdict::Candidate => push_all(out, b"candidate\n"),
+        Verdict::Broken(rule) => push_broken(out, rule),
     }
+}
+
+/// Pushes the line of a rule that is broken, with the first thing by which it is.
+#[tactic(auto, unfolding(crate::specs::Outputs::detailed_text))]
+pub fn push_detailed<W: Sink>(out: &mut W, rule: Rule, detail: &[u8]) -> Result<(), WriteFailed>
+    ensures text { Pushes result (W.taken out.old) (W.taken out.new) (W.failures out.old)
+        (W.failures out.new) (said (broken_name rule ∷ codes ": " ∷ detail.now ∷ newline ∷ [])) }
+    ensures failures { W.failures out.old ≤ W.failures out.new }
+{
+    push_pieces(out, &[broken_name(rule), b": ", detail, b"\n"])
 }
 
 /// 0 where a list is a candidate, 1 where it breaks a rule.

@@ -219,11 +219,12 @@ fn run_over<'a>(
         query,
         token,
         None,
+        false,
         turns,
     )
 }
 
-// The same by a version, and for a host.
+// The same by a version, for a host, and in detail.
 fn run_by<'a>(
     alloc: Global,
     rows: &Rows,
@@ -232,6 +233,7 @@ fn run_by<'a>(
     query: &'a str,
     token: Option<&'a str>,
     host: Option<&'a str>,
+    detail: bool,
     turns: Turns,
 ) -> Result<Left, AllocError>
     requires { HasToken command (option_map (λ token. token.now) token) }
@@ -242,6 +244,7 @@ fn run_by<'a>(
         version,
         token,
         host,
+        detail,
     };
     run_job(alloc, rows, &job, turns)
 }

@@ -1,6 +1,6 @@
 -- Where `clap` finds no fault in the words of a command, each row that they made has a value.
-use Rattle.std.proofs.Common.{◌≡◌, ◌<◌, ◌++◌, ◌∷◌, [], ℕ, zero, suc, Bool, true, List, Option, Some, None, length, length-append, refl, arith, rules, inl, inr}
-use Rattle.std.specs.Prelude.{◌||◌, ⊤, find, nat_le, nat_lt}
+use Rattle.std.proofs.Common.{◌≡◌, ◌<◌, ◌++◌, ◌∷◌, [], ℕ, zero, suc, Bool, true, false, List, Option, Some, None, length, length-append, refl, arith, rules, inl, inr}
+use Rattle.std.specs.Prelude.{◌||◌, ⊤, find, nat_le, nat_lt, not}
 use Rattle.std.specs.List.{AllByRecursion, list_all}
 use Rattle.std.specs.Str.{bytes_eq}
 use Rattle.std.proofs.lemmas.Bool.{cases_Bool}
@@ -8,7 +8,7 @@ use Rattle.clap.specs.Facts.{unwrap_or_range}
 use Rattle.clap.specs.Faults.{action_fault, use_fault}
 use Rattle.clap.specs.Kinds.{Kinds, or_else, range_kinds}
 use Rattle.clap.specs.Values.{is_request}
-use Rattle.clap.specs.Walk.{Row, Rule, Text, action_of, at_row, more_values, most_values, reading_by, used, used_as, values_or_missing, with_values, without}
+use Rattle.clap.specs.Walk.{Row, Rule, Text, action_of, at_row, is_empty, more_values, most_values, reading_by, used, used_as, values_or_missing, with_values, without}
 use Rattle.clap.specs.declared.builder.value_parser.Reading.{Reading}
 use Rattle.clap.specs.declared.builder.ArgAction.{ArgAction}
 use Rattle.clap.specs.declared.builder.ArgAction.TheVariants.{Set, Append, SetTrue, SetFalse, Count, Help, HelpShort, HelpLong, Version}
@@ -54,9 +54,9 @@ filled-with_values id how source values rows some f =
 
 -- ---- one use of an argument
 
--- an argument that asks for help, or takes one value or more
+-- an argument that asks for help, takes one value or more, or has one where none is given
 abbrev pub asks_or_takes : Rule → Bool
-asks_or_takes a = is_request (action_of a) || nat_le 1 (unwrap_or_range a.range).start_inclusive
+asks_or_takes a = is_request (action_of a) || (nat_le 1 (unwrap_or_range a.range).start_inclusive || not (is_empty a.missing))
 
 abbrev pub KeptOption : Option Rule → Type 0
 KeptOption None = ⊤
@@ -77,6 +77,10 @@ filled-used_as SetTrue id how v vs rows f = filled-with_values id how _ (v ∷ v
 filled-used_as SetFalse id how v vs rows f = filled-with_values id how _ (v ∷ vs) (without id rows) (omega arith) (filled-without id rows f)
 filled-used_as Count id how v vs rows f = filled-with_values id how _ (v ∷ vs) (without id rows) (omega arith) (filled-without id rows f)
 filled-used_as _ id how v vs rows f = f
+
+filled-by : (x : ArgAction) (id : Text) (how : Reading) (values : List Text) (rows : List Row) → is_empty values ≡ false → Filled rows → Filled (used_as x id how values rows)
+filled-by x id how [] rows some f = cc
+filled-by x id how (v ∷ vs) rows some f = filled-used_as x id how v vs rows f
 
 request-fault : (x : ArgAction) (again : Bool) (a : Rule) (values : List Text) (rows : List Row) → is_request x ≡ true
     → action_fault x again a values rows ≡ [] → ⊥
@@ -100,5 +104,8 @@ filled-used again a [] rows k e f =
     let acts = action_fault (action_of a) again a (values_or_missing a []) rows in
     elim (cases_Bool (is_request (action_of a))) [
       | inl t ↦ absurd (request-fault (action_of a) again a (values_or_missing a []) rows t (then_free range acts e))
-      | inr t ↦ absurd (none_given _ (most_values a) (rw t at k) (first_free range acts e))
+      | inr t ↦ elim (cases_Bool (is_empty a.missing)) [
+        | inl none ↦ absurd (none_given _ (most_values a) (grind arith) (first_free range acts e))
+        | inr some ↦ filled-by (action_of a) a.id (reading_by a) a.missing rows some f
+      ]
     ]

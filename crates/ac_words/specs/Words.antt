@@ -1,10 +1,11 @@
 -- The command line: what `clap` is told of it, and what it states of the words.
-use Rattle.std.specs.Prelude.{◌≡◌, ◌≢◌, ◌&&◌, ⊤, List, [], ◌∷◌, ◌++◌, Bool, Option, Some, None, true, codes, is_some, option_map, if◌then◌else◌}
+use Rattle.std.specs.Prelude.{◌≡◌, ◌≢◌, ◌&&◌, ⊤, List, [], ◌∷◌, ◌++◌, Bool, Option, Some, None, true, false, codes, is_some, option_map, if◌then◌else◌}
 use Rattle.std.specs.List.{list_any}
 use Rattle.std.specs.Str.{bytes_eq}
 use Rattle.clap.specs.Kinds.{or_else}
 use Rattle.clap.specs.Walk.{is_empty}
 use Rattle.clap.specs.Words.{App, IsAmong, Kinds, Row, Rule, Text, fault_of, first_of, new_app, new_rule, subcommand_of, takes, with_rule, with_subcommand}
+use Rattle.clap.specs.declared.builder.action.ArgAction.TheVariants.{SetTrue}
 use Rattle.clap.specs.declared.error.kind.ErrorKind.{ErrorKind}
 use Rattle.clap.specs.declared.error.kind.ErrorKind.TheVariants.{ArgumentConflict, DisplayHelp, DisplayVersion, InvalidValue, MissingRequiredArgument}
 use Rattle.ac_tables.specs.declared.fault.Table.{Table}
@@ -28,6 +29,10 @@ word_rule name = record (new_rule name) { required = true; value_names = 1 }
 -- an option `--NAME VALUE`
 abbrev pub option_rule : Text → Rule
 option_rule name = record (new_rule name) { long = Some name; value_names = 1 }
+
+-- an option `--NAME` without a value
+abbrev pub flag_rule : Text → Rule
+flag_rule name = record (new_rule name) { long = Some name; action = Some SetTrue }
 
 -- the options of the tables: of their folder, and of each
 abbrev pub with_tables : App → App
@@ -57,7 +62,7 @@ abbrev pub tokens_app : App
 tokens_app = search_app (codes "tokens")
 
 abbrev pub verify_app : App
-verify_app = with_options (with_rule (query_app (codes "verify")) (word_rule (codes "token")))
+verify_app = with_rule (with_options (with_rule (query_app (codes "verify")) (word_rule (codes "token")))) (flag_rule (codes "detail"))
 
 abbrev pub explain_app : App
 explain_app = with_options (query_app (codes "explain"))
@@ -165,6 +170,7 @@ pub record Line : Type 0 where
   pub version : Version
   pub token : Option Text
   pub host : Option Text
+  pub detail : Bool
   pub providers : Text
   pub inventories : Text
   pub usages : Option Text
@@ -199,6 +205,16 @@ abbrev pub host_of : Command → List Row → Option Text
 host_of Why rows = first_of (codes "host") rows
 host_of _ rows = None
 
+-- an option without a value is given where its entry is this text
+abbrev pub is_set : Option Text → Bool
+is_set None = false
+is_set (Some text) = bytes_eq text (codes "true")
+
+-- whether it is said of what a rule is broken; only `verify` is asked
+abbrev pub detail_of : Command → List Row → Bool
+detail_of Verify rows = is_set (first_of (codes "detail") rows)
+detail_of _ rows = false
+
 -- the path of a table: that of its file in the folder, or what its option says
 abbrev pub path_in : Option Text → List Row → Table → Option Text
 path_in (Some folder) rows table = Some (folder ++ codes "/" ++ table_name table ++ codes ".csv")
@@ -214,6 +230,7 @@ pub record IsMadeOf (rows : List Row) (line : Line) : Type 0 where
   pub token : token_of line.command rows ≡ line.token
   pub judged : HasToken line.command line.token
   pub host : host_of line.command rows ≡ line.host
+  pub detail : detail_of line.command rows ≡ line.detail
   pub providers : path_given rows Providers ≡ Some line.providers
   pub inventories : path_given rows Inventories ≡ Some line.inventories
   pub usages : path_given rows Usages ≡ line.usages

@@ -23,6 +23,7 @@ pub struct Words {
     version: Version,
     token: Option<String>,
     host: Option<String>,
+    detail: bool,
     providers: String,
     inventories: String,
     usages: Option<String>,
@@ -39,6 +40,7 @@ impl Model for Words {
       version = w.version;
       token = option_map string_bytes w.token;
       host = option_map string_bytes w.host;
+      detail = w.detail;
       providers = string_bytes w.providers;
       inventories = string_bytes w.inventories;
       usages = option_map string_bytes w.usages;
@@ -55,6 +57,7 @@ impl Words {
         ensures version { result.version ≡ self.now.version }
         ensures token { option_map (λ token. token.now) result.token ≡ self.now.token }
         ensures host { option_map (λ host. host.now) result.host ≡ self.now.host }
+        ensures detail { result.detail ≡ self.now.detail }
     {
         Job {
             command: self.command,
@@ -62,6 +65,7 @@ impl Words {
             version: self.version,
             token: self.token.as_deref(),
             host: self.host.as_deref(),
+            detail: self.detail,
         }
     }
 

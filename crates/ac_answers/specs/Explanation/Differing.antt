@@ -3,9 +3,9 @@ use Rattle.std.specs.Prelude.{ℕ, List, [], ◌∷◌, codes}
 use Rattle.std.specs.List.{filter, flat_map}
 use Rattle.ac_query.specs.Asked.{Asked}
 use Rattle.ac_cloud.specs.World.{Provider}
-use Rattle.ac_explain.specs.Differing.{all_differences, applies}
-use Rattle.ac_explain.specs.declared.differing.Difference.{Difference}
-use Rattle.ac_explain.specs.declared.differing.Difference.TheVariants as difference
+use Rattle.ac_differences.specs.Differing.{all_differences, applies}
+use Rattle.ac_differences.specs.declared.differing.Difference.{Difference}
+use Rattle.ac_differences.specs.declared.differing.Difference.TheVariants as difference
 use Rattle.ac_answers.specs.Pieces.{said}
 
 -- the heading of docs/DIFFERENCES.md that a difference stands under, its first letter small, and without marks of code

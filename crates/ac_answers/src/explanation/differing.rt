@@ -4,12 +4,12 @@ ghost use Rattle.std.specs.Io.KnownBytes.{Appends};
 ghost use Rattle.ac_base.specs.Devices.{Rises, TakesPart};
 ghost use Rattle.ac_cloud.specs.Cloud.CloudWorld.{providers_of};
 ghost use Rattle.ac_query.specs.Shown.Queries.{asked_of};
-ghost use Rattle.ac_explain.specs.Differing.{applies};
+ghost use Rattle.ac_differences.specs.Differing.{applies};
 ghost use Rattle.ac_answers.specs.Explanation.Differing.{differs_line, differs_lines, heading};
 
 use crate::pieces::push_pieces;
 use ac_base::{Sink, WriteFailed};
-use ac_explain::{Difference, all_differences, applies};
+use ac_differences::{Difference, all_differences, applies};
 use ac_query::Query;
 use ac_tables::Cloud;
 

@@ -17,7 +17,8 @@ use ac_rules::rules::traits::has_any;
 use ac_rules::slots::group_at;
 use std::alloc::Global;
 
-fn missing_text(alloc: Global, name: &TraitName) -> Result<String, NoMemory>
+/// A trait that is missing.
+pub(crate) fn missing_text(alloc: Global, name: &TraitName) -> Result<String, NoMemory>
     ensures { IfOk result (λ text. string_bytes text ≡ missing_text (trait_bytes name.now)) }
 {
     let name = name.text();
@@ -31,27 +32,27 @@ fn forbidden_text(alloc: Global, name: &TraitName) -> Result<String, NoMemory>
     Ok(format!(in alloc; "{name} forbidden")?)
 }
 
-// Adds a name of a list: each but the first stands behind a comma.
-fn push_part(text: &mut String, place: usize, name: &TraitName) -> Result<(), NoMemory>
+/// Adds a name of a list: each but the first stands behind a comma.
+pub(crate) fn push_part(text: &mut String, place: usize, name: &str) -> Result<(), NoMemory>
     ensures { OnOk result (string_bytes text.new
-        ≡ string_bytes text.old ++ part_text place (trait_bytes name.now)) }
+        ≡ string_bytes text.old ++ part_text place name.now) }
 {
     if place > 0 {
         text.push(',')?;
     }
-    text.push_str(name.text())?;
+    text.push_str(name)?;
     Ok(())
 }
 
-// Traits of which one is asked.
+/// Traits of which one is asked.
 #[tactic(auto, unfolding(crate::specs::Details::none_of_text))]
-fn none_of_text(alloc: Global, names: &[TraitName]) -> Result<String, NoMemory>
+pub(crate) fn none_of_text(alloc: Global, names: &[TraitName]) -> Result<String, NoMemory>
     ensures { IfOk result (λ text. string_bytes text
         ≡ none_of_text (map trait_bytes names.now)) }
 {
     let mut text = String::from_str(alloc, "none of ")?;
     for (place, name) in names.iter().enumerate() {
-        push_part(&mut text, place, name)?;
+        push_part(&mut text, place, name.text())?;
     }
     Ok(text)
 }

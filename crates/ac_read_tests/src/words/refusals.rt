@@ -16,6 +16,7 @@ fn accepted(rt: HostRuntime) {
         version: Version::V139,
         token: Some("t"),
         host: None,
+        detail: false,
     };
     match read_words(rt.alloc(), given.as_slice()) {
         Ok(words) => {

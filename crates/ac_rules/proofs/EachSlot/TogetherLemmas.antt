@@ -20,6 +20,11 @@ pub room_skip : (ss : List Slot) (t : List ℕ) (i ix left : ℕ) (c : List ℕ)
     → nat_le (sum_on (placed (drop i ss) (drop i t)) ix c) left ≡ b → nat_le (sum_on (placed (drop (i + 1) ss) (drop (i + 1) t)) ix c) left ≡ b
 room_skip ss t i ix left c b h k other e = let one = ap (λ xs. sum_on xs ix c) (placed_more ss t i no_slot h k) in grind (arith, nat_tests)
 
+-- nor does it add to a sum
+pub sum_skip : (ss : List Slot) (t : List ℕ) (i ix sum all : ℕ) (c : List ℕ) → i < length t → i < length ss → slice_index t i ≢ ix
+    → sum + sum_on (placed (drop i ss) (drop i t)) ix c ≡ all → sum + sum_on (placed (drop (i + 1) ss) (drop (i + 1) t)) ix c ≡ all
+sum_skip ss t i ix sum all c h k other e = let one = ap (λ xs. sum_on xs ix c) (placed_more ss t i no_slot h k) in grind (arith, nat_tests)
+
 -- what a slot of this provider asks is taken
 pub room_take : (ss : List Slot) (t : List ℕ) (i ix left rest : ℕ) (c : List ℕ) (b : Bool) → i < length t → i < length ss → slice_index t i ≡ ix
     → Some rest ≡ less left (amount_of (slice_index_or ss i no_slot).needs c)

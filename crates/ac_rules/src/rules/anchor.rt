@@ -35,8 +35,8 @@ fn takes_some_root(cloud: &Cloud, query: &Query) -> bool
 impl<'a> Assignment<'a> {
     ghost use Rattle.ac_rules.specs.Shown.Assignments.{assigned_of};
 
-    // Whether each provider is available in the tree of a root.
-    fn is_available_at(&self, root: u32) -> bool
+    /// Whether each provider is available in the tree of a root.
+    pub fn is_available_at(&self, root: u32) -> bool
         requires { root < length (providers_of self.now.cloud.now) }
         ensures { result
             ≡ list_all (λ p. is_available_at (providers_of self.now.cloud.now) p root)

@@ -1,6 +1,6 @@
 //! Sums: what all slots ask of each provider together.
 
-ghost use Rattle.std.specs.Prelude.{◌≡◌, ◌<◌, nat_le, length, map};
+ghost use Rattle.std.specs.Prelude.{◌≡◌, ◌<◌, ◌^◌, nat_le, length, map};
 ghost use Rattle.ac_base.specs.Names.{class_bytes};
 ghost use Rattle.ac_cloud.specs.World.{provider_at, used_of};
 ghost use Rattle.ac_cloud.specs.Cloud.CloudWorld.{providers_of};
@@ -11,7 +11,7 @@ ghost use Rattle.ac_rules.specs.Room.{room_in, less};
 ghost use Rattle.ac_rules.specs.Together.{amount_of, sum_on, holds, holds_sums, sums};
 
 use crate::assignment::{Assignment, Placed};
-use crate::slots::needs_at;
+use crate::slots::{count_slots, needs_at};
 use ac_base::ClassName;
 use ac_cloud::Cloud;
 use ac_query::Need;
@@ -54,8 +54,39 @@ fn take_needs(needs: &[Need], class: &ClassName, room: u64) -> Option<u64>
     Some(left)
 }
 
+// What needs ask of a class. A sum of so many amounts may be above 2^64, though not of a query that is accepted.
+fn amount_of(needs: &[Need], class: &ClassName) -> u128
+    ensures amount { result ≡ amount_of (map need_entry needs.now) (class_bytes class.now) }
+    ensures small { result < 2 ^ 96 }
+{
+    let mut amount = 0;
+    for need in needs {
+        if need.class() == class {
+            amount += u128::from(need.amount());
+        }
+    }
+    amount
+}
+
 impl<'a> Assignment<'a> {
     ghost use Rattle.ac_rules.specs.Shown.Assignments.{assigned_of, placed_of};
+
+    /// What all slots ask of a class on a provider.
+    #[tactic(auto, using(crate::proofs::PlacedLemmas::placed_more, crate::proofs::PlacedLemmas::placed_end))]
+    pub fn sum_on(&self, ix: u32, class: &ClassName) -> u128
+        ensures { result ≡ sum_on (assigned_of self.now) ix (class_bytes class.now) }
+    {
+        // Called for what it ensures: there are few slots.
+        let _count = count_slots(self.query);
+        let mut sum = 0;
+        for (s, provider) in self.list.iter().enumerate() {
+            if *provider != ix {
+                continue;
+            }
+            sum += amount_of(needs_at(self.query, s), class);
+        }
+        sum
+    }
 
     // Whether a room suffices for what all slots ask of a class on a provider.
     #[tactic(auto, using(crate::proofs::PlacedLemmas::placed_more, crate::proofs::PlacedLemmas::placed_end))]
@@ -75,8 +106,8 @@ impl<'a> Assignment<'a> {
         true
     }
 
-    // Whether the provider of a slot has room for what all slots ask of it of a class.
-    fn has_room_for(&self, placed: &Placed<'a>, class: &ClassName) -> bool
+    /// Whether the provider of a slot has room for what all slots ask of it of a class.
+    pub fn has_room_for(&self, placed: &Placed<'a>, class: &ClassName) -> bool
         ensures { result ≡ holds
             (provider_at (providers_of placed.now.cloud.now) placed.now.provider)
             (class_bytes class.now)
@@ -88,9 +119,9 @@ impl<'a> Assignment<'a> {
         }
     }
 
-    // Whether the provider of a slot has room for what all slots ask of it in the slot's classes.
+    /// Whether the provider of a slot has room for what all slots ask of it in the slot's classes.
     #[tactic(auto, unfolding(crate::specs::Together::holds_sums))]
-    fn has_room_at(&self, placed: &Placed<'a>) -> bool
+    pub fn has_room_at(&self, placed: &Placed<'a>) -> bool
         ensures { result ≡ holds_sums (providers_of placed.now.cloud.now) (assigned_of self.now)
             (placed_of placed.now) }
     {

@@ -22,9 +22,9 @@ use ac_query::{AnyOf, Group};
 impl<'a> Assignment<'a> {
     ghost use Rattle.ac_rules.specs.Shown.Assignments.{assigned_of};
 
-    // Whether the provider of some unsuffixed slot has a trait.
+    /// Whether the provider of some unsuffixed slot has a trait.
     #[tactic(auto, unfolding(crate::specs::Together::is_brought))]
-    fn is_brought(&self, name: &TraitName) -> bool
+    pub fn is_brought(&self, name: &TraitName) -> bool
         ensures { result ≡ is_brought (providers_of self.now.cloud.now) (assigned_of self.now)
             (trait_bytes name.now) }
     {
@@ -40,8 +40,8 @@ impl<'a> Assignment<'a> {
         names.iter().all(|name| self.is_brought(name))
     }
 
-    // Whether one of these traits, which rise, is brought.
-    fn is_one_brought(&self, names: &[TraitName]) -> bool
+    /// Whether one of these traits, which rise, is brought.
+    pub fn is_one_brought(&self, names: &[TraitName]) -> bool
         requires { IsStrictlySortedBy text_cmp (map trait_bytes names.now) }
         ensures { result ≡ is_one_brought (providers_of self.now.cloud.now) (assigned_of self.now)
             (map trait_bytes names.now) }
@@ -58,8 +58,8 @@ impl<'a> Assignment<'a> {
         lists.iter().all(|list| self.is_one_brought(list.names()))
     }
 
-    // Whether a group is suffixed, or each of its required traits is brought, and of each any-of list one.
-    fn keeps_group(&self, group: &Group) -> bool
+    /// Whether a group is suffixed, or each of its required traits is brought, and of each any-of list one.
+    pub fn keeps_group(&self, group: &Group) -> bool
         ensures { result ≡ (is_some (suffix_of group.now)
             || are_brought (providers_of self.now.cloud.now) (assigned_of self.now)
             (group_asked group.now)) }
@@ -82,9 +82,9 @@ impl<'a> Assignment<'a> {
             .all(|group| self.keeps_group(group))
     }
 
-    // Whether two slots don't both stand apart on one provider.
+    /// Whether two slots don't both stand apart on one provider.
     #[tactic(auto, unfolding(crate::specs::Together::are_apart))]
-    fn are_apart(&self, s: usize, t: usize) -> bool
+    pub fn are_apart(&self, s: usize, t: usize) -> bool
         requires s { s < length self.now.list.now }
         requires t { t < length self.now.list.now }
         ensures { result ≡ are_apart
@@ -151,9 +151,9 @@ impl<'a> Assignment<'a> {
         true
     }
 
-    // Whether one of the providers that a list of `same_subtree` names is above all of them.
+    /// Whether one of the providers that a list of `same_subtree` names is above all of them.
     #[tactic(auto, using(crate::proofs::PlacedLemmas::placed_more, crate::proofs::PlacedLemmas::placed_end))]
-    fn has_top(&self, k: usize) -> bool
+    pub fn has_top(&self, k: usize) -> bool
         requires { k < length (asked_of self.now.query.now).subtrees }
         ensures { result ≡ list_any (λ a. is_top (providers_of self.now.cloud.now)
             (listed (get_or (asked_of self.now.query.now).subtrees k []) (assigned_of self.now)) a)

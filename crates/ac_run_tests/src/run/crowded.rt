@@ -49,6 +49,7 @@ fn left_of_full_hosts(alloc: Global) -> Result<Left, AllocError> {
         version: Version::V136,
         token: None,
         host: None,
+        detail: false,
     };
     run_texts(alloc, &texts, &job, SOUND)
 }

@@ -269,6 +269,7 @@ const COUNTS: Job<'static> = Job {
     version: Version::V136,
     token: None,
     host: None,
+    detail: false,
 };
 
 // The same with another command.

@@ -21,6 +21,7 @@ struct Case {
     version: Version,
     token: Option<&'static str>,
     host: Option<&'static str>,
+    detail: bool,
     output: &'static str,
     line: &'static str,
     status: u8,
@@ -34,6 +35,7 @@ const TOKENS: Case = Case {
     version: Version::V136,
     token: None,
     host: None,
+    detail: false,
     output: "",
     line: "",
     status: 0,
@@ -72,6 +74,7 @@ fn check_over(rt: &(impl Abort + AllocGlobal), cases: &[Case], turns: &[Turn]) -
             query.as_str(),
             token.as_deref(),
             host.as_deref(),
+            case.detail,
             alike(turns),
         )?;
         let output = expanded(alloc, case.output)?;

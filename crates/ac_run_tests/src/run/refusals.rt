@@ -13,6 +13,7 @@ struct Case {
     query: &'static str,
     token: Option<&'static str>,
     host: Option<&'static str>,
+    detail: bool,
     output: &'static str,
     line: &'static str,
     status: u8,
@@ -24,6 +25,7 @@ const TOKENS: Case = Case {
     query: "resources=VCPU:2",
     token: None,
     host: None,
+    detail: false,
     output: "@1\n",
     line: "",
     status: 0,
@@ -61,6 +63,7 @@ fn left_by(rt: &(impl Abort + AllocGlobal), case: &Case) -> Result<Left, AllocEr
         query.as_str(),
         token.as_deref(),
         host.as_deref(),
+        case.detail,
         SOUND,
     )?;
     Ok(left)
@@ -180,6 +183,60 @@ fn verdicts(rt: HostRuntime) {
         ..PAIR
     };
     check(&rt, unknown);
+}
+
+// Lists that break a rule, and of what they do.
+const CROWDED: Case = Case {
+    token: Some("@1,@1"),
+    detail: true,
+    output: "no: rule 6 Sums: VCPU on @1, 8 of 8 left, max_unit 8, 10 asked\n",
+    status: 1,
+    ..PAIR
+};
+
+const DETAILS: &[Case] = &[
+    CROWDED,
+    Case {
+        query: "resources1=VCPU:9&resources2=VCPU:5&group_policy=none",
+        token: Some("@2,@1"),
+        output: "no: rule 1 Units: slot 1 on @2, VCPU:9 not within min_unit 1, max_unit 8, step_size 1\n",
+        ..CROWDED
+    },
+    Case {
+        query: "resources=VCPU:1&required=CUSTOM_X",
+        token: Some("@1"),
+        output: "no: rule 5 Collective: CUSTOM_X missing\n",
+        ..CROWDED
+    },
+    Case {
+        query: "resources1=VCPU:1&resources2=VCPU:1&group_policy=isolate",
+        output: "no: rule 7 Isolate: slots 1 and 2 on @1\n",
+        ..CROWDED
+    },
+    Case {
+        rows: Rows {
+            providers: "@1,@1,\n@2,@1,@1\n@3,@1,@1\n",
+            inventories: "@2,VCPU,8,0,1,8,1,1.0\n@3,VCPU,8,0,1,8,1,1.0\n",
+            ..ONE
+        },
+        query: "resources_A=VCPU:1&resources_B=VCPU:1&same_subtree=_A,_B&group_policy=none",
+        token: Some("@2,@3"),
+        output: "no: rule 8 Subtree: same_subtree=_A,_B\n",
+        ..CROWDED
+    },
+    Case {
+        query: "resources=VCPU:1&root_required=CUSTOM_X",
+        token: Some("@1"),
+        output: "no: rule 9 Anchor: on @1, CUSTOM_X missing\n",
+        ..CROWDED
+    },
+];
+
+#[test]
+fn details_of_verdicts(rt: HostRuntime) {
+    for case in DETAILS {
+        check(&rt, *case);
+    }
 }
 
 #[test]

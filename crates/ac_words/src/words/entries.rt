@@ -1,7 +1,7 @@
 //! What the matches of `clap` hold.
 ghost use Rattle.std.specs.Prelude.{◌≡◌, ◌∷◌, IfErr, IfOk, OnOk, Some, [], is_some, option_map, string_bytes, true};
 ghost use Rattle.clap.specs.Words.{first_of, found_of, rows_of, subcommand_rows_of};
-ghost use Rattle.ac_words.specs.Words.{HasNeeded, IsComplete, IsMadeOf, Says, Tells, host_of, name_of, own_faults, query_of, table_kinds, token_of, version_kinds, version_named, version_of};
+ghost use Rattle.ac_words.specs.Words.{HasNeeded, IsComplete, IsMadeOf, Says, Tells, detail_of, host_of, name_of, own_faults, query_of, table_kinds, token_of, version_kinds, version_named, version_of};
 
 use super::tables::{check_tables, needed_path, path};
 use super::{WordFault, Words, fault_of, grammar};
@@ -129,6 +129,16 @@ fn host(
     }
 }
 
+// Whether it is said of what a rule is broken; only `verify` is asked.
+fn detail(command: Command, entries: &ArgMatches<'_>) -> bool
+    ensures { result ≡ detail_of command (rows_of (found_of entries.now)) }
+{
+    match command {
+        Command::Verify => entry(entries, "detail") == Some("true"),
+        _ => false,
+    }
+}
+
 // The command that was found, and its entries.
 fn find_command<'m, 'a>(matches: &'m ArgMatches<'a>) -> (Command, &'m ArgMatches<'a>)
     requires { IsComplete (subcommand_rows_of matches.now) }
@@ -166,6 +176,7 @@ fn words_with(
         version,
         token: token(alloc, command, entries)?,
         host: host(alloc, command, entries)?,
+        detail: detail(command, entries),
         providers: needed_path(alloc, entries, Table::Providers)?,
         inventories: needed_path(alloc, entries, Table::Inventories)?,
         usages: path(alloc, entries, Table::Usages)?,

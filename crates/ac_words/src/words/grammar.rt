@@ -2,11 +2,11 @@
 ghost use Rattle.std.specs.Prelude.{◌≡◌, IfOk, false};
 ghost use Rattle.clap.specs.Words.{app_of, rule_of};
 ghost use Rattle.clap.specs.declared.builder.command.Command.TheViews.{out-Command as fields_of};
-ghost use Rattle.ac_words.specs.Words.{app_for, candidates_app, check_app, explain_app, hosts_app, option_rule, program, query_app, search_app, tokens_app, verify_app, why_app, with_options, with_tables, word_rule};
+ghost use Rattle.ac_words.specs.Words.{app_for, candidates_app, check_app, explain_app, flag_rule, hosts_app, option_rule, program, query_app, search_app, tokens_app, verify_app, why_app, with_options, with_tables, word_rule};
 
 use super::help;
 use ac_query::Command as Asked;
-use clap::{Arg, Command};
+use clap::{Arg, ArgAction, Command};
 use std::alloc::{AllocError, Global};
 
 // The program's version, and the logic by which it is proved, as `rt version` names it: toolchains of several names have it.
@@ -32,6 +32,15 @@ fn option<'a>(alloc: Global, name: &'a str, shown: &'a str, help: &'a str) -> Ar
         .long(name)
         .value_name(shown)
         .help(help)
+}
+
+// An option without a value.
+fn flag<'a>(alloc: Global, name: &'a str, help: &'a str) -> Arg<'a>
+    ensures rule { rule_of result ≡ flag_rule name.entry.now }
+    ensures local { result.global ≡ false }
+{
+    let arg = Arg::new(alloc, name).long(name);
+    arg.action(ArgAction::SetTrue).help(help)
 }
 
 // The option of a table.
@@ -204,7 +213,8 @@ fn verify<'a>(alloc: Global) -> Result<Command<'a>, AllocError>
         "TOKEN",
         "The UUIDs of providers, as `tokens` writes them",
     ))?;
-    add_options(alloc, command)
+    let command = add_options(alloc, command)?;
+    command.arg(flag(alloc, "detail", "Also says of what a rule is broken"))
 }
 
 fn explain<'a>(alloc: Global) -> Result<Command<'a>, AllocError>

@@ -11,14 +11,14 @@ use Rattle.ac_run.specs.Run.{IsWritten}
 use Rattle.ac_run.proofs.Assignments.{located}
 use Rattle.ac_run.proofs.answering.write_verdict.Goals as goal
 
-pub verify-verdict-requires-clause-slots : goal.verify-verdict-requires-clause-slots
-verify-verdict-requires-clause-slots g c =
+pub write_judged-requires-clause-slots : goal.write_judged-requires-clause-slots
+write_judged-requires-clause-slots g c =
     ap length c.deref.ensures.value
     ∙ ((located (providers_of c.args.cloud.now) (ids_of c.args.token.now) c.in-Ok-Some.list.items (ap (λ found. option_map (λ list. list.items) found) (sym c.in-Ok-Some.field-0-is) ∙ c.in-Ok-Some.ensures)).0
     ∙ c.requires)
 
-pub verify-verdict-requires-clause-providers : goal.verify-verdict-requires-clause-providers
-verify-verdict-requires-clause-providers g c =
+pub write_judged-requires-clause-providers : goal.write_judged-requires-clause-providers
+write_judged-requires-clause-providers g c =
     let all = providers_of c.args.cloud.now in
     subst (All (λ p. p < length all)) (sym c.deref.ensures.value)
     (All-from_recursion (λ p. p < length all) c.in-Ok-Some.list.items (located all (ids_of c.args.token.now) c.in-Ok-Some.list.items (ap (λ found. option_map (λ list. list.items) found) (sym c.in-Ok-Some.field-0-is) ∙ c.in-Ok-Some.ensures)).1)
@@ -27,7 +27,7 @@ pub returns-in-Ok-None-clause-ok : goal.returns-in-Ok-None-clause-ok
 returns-in-Ok-None-clause-ok g c =
     subst
     (λ places. IfOk c.push_text-in-Ok-None.result
-    (IsWritten (verdict_on (providers_of c.args.cloud.now) (asked_of c.args.query.now) places) (g.W.Sink.taken c.args.out.now) (g.W.Sink.taken c.push_text-in-Ok-None.new.out)))
+    (IsWritten (verdict_on (providers_of c.args.cloud.now) c.args.detail (asked_of c.args.query.now) places) (g.W.Sink.taken c.args.out.now) (g.W.Sink.taken c.push_text-in-Ok-None.new.out)))
     (ap (λ found. option_map (λ list. list.items) found) (sym c.in-Ok-None.field-0-is) ∙ c.in-Ok-None.ensures) c.push_text-in-Ok-None.ensures.ok
 
 -- a sink that was not asked has taken nothing of any text
@@ -36,4 +36,4 @@ nothing None bytes = tt
 nothing (Some xs) bytes = ([], bytes, refl, sym (append-nil xs))
 
 pub returns-in-Err-clause-part : goal.returns-in-Err-clause-part
-returns-in-Err-clause-part g c = nothing (g.W.Sink.taken c.args.out.now) (verdict_line (providers_of c.args.cloud.now) (asked_of c.args.query.now) (Some (ids_of c.args.token.now))).output
+returns-in-Err-clause-part g c = nothing (g.W.Sink.taken c.args.out.now) (verdict_line (providers_of c.args.cloud.now) c.args.detail (asked_of c.args.query.now) (Some (ids_of c.args.token.now))).output

@@ -380,6 +380,7 @@ fn run_named<'a>(alloc: Global, query: &'a str, host: &'a str) -> Result<Left, A
         version: Version::V136,
         token: None,
         host: Some(host),
+        detail: false,
     };
     run_texts(alloc, &texts, &job, SOUND)
 }

@@ -4,8 +4,8 @@ use Rattle.std.specs.List.{flat_map}
 use Rattle.ac_base.proofs.Leaving.{Leaves, leaves_start}
 use Rattle.ac_query.specs.Shown.Queries.{asked_of}
 use Rattle.ac_cloud.specs.Cloud.CloudWorld.{providers_of}
-use Rattle.ac_explain.specs.Differing.{all_differences, applies}
-use Rattle.ac_explain.specs.declared.differing.Difference.{Difference}
+use Rattle.ac_differences.specs.Differing.{all_differences, applies}
+use Rattle.ac_differences.specs.declared.differing.Difference.{Difference}
 use Rattle.ac_answers.specs.Explanation.Differing.{differs_line, differs_lines}
 use Rattle.ac_answers.proofs.DifferencesWritten.{each_passing}
 use Rattle.ac_answers.proofs.PiecesWritten.{piece_part, on_err}

@@ -4,8 +4,8 @@ use Rattle.std.specs.List.{flat_map}
 use Rattle.ac_base.proofs.Leaving.{Leaves}
 use Rattle.ac_query.specs.Shown.Queries.{asked_of}
 use Rattle.ac_cloud.specs.Cloud.CloudWorld.{providers_of}
-use Rattle.ac_explain.specs.Differing.{applies}
-use Rattle.ac_explain.specs.declared.differing.Difference.{Difference}
+use Rattle.ac_differences.specs.Differing.{applies}
+use Rattle.ac_differences.specs.declared.differing.Difference.{Difference}
 use Rattle.ac_answers.specs.Explanation.Differing.{differs_line, differs_lines}
 use Rattle.ac_answers.proofs.explanation.differing.push_differences.Given as goal
 

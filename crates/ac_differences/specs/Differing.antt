@@ -1,0 +1,219 @@
+-- Where the running service may answer otherwise than the rules: for each heading of docs/DIFFERENCES.md what has to hold of the query and of the
+-- cloud before it can.
+use Rattle.std.specs.Prelude.{ℕ, ◌+◌, ◌-◌, ◌*◌, ◌%◌, ◌==◌, ◌&&◌, ◌||◌, Bool, true, false, not, nat_le, List, [], ◌∷◌, length, Option, None, Some, if◌then◌else◌}
+use Rattle.std.specs.List.{list_all, list_any, range_with_len}
+use Rattle.std.specs.Option.{is_none, is_some, unwrap_or}
+use Rattle.std.specs.Str.{bytes_eq}
+use Rattle.ac_base.specs.Quantities.{InventoryNumbers, capacity}
+use Rattle.ac_query.specs.Pairs.Values.{AggregateRule}
+use Rattle.ac_query.specs.Asked.{Asked, Group, Slot, slots_of, is_isolated}
+use Rattle.ac_cloud.specs.World.{Provider, provider_at, id_at, parent_of, used_of, is_member, is_root, shares}
+use Rattle.ac_rules.specs.Placed.{Placed, slot_at, placed_at}
+use Rattle.ac_rules.specs.Own.{inventory_of, units_fit, traits_fit, aggregates_fit, tree_fits, root_provider}
+use Rattle.ac_rules.specs.Together.{amount_of, is_empty}
+use Rattle.ac_differences.specs.declared.differing.Difference.{Difference}
+use Rattle.ac_differences.specs.declared.differing.Difference.TheVariants as difference
+
+-- ---- Groups
+
+-- it asks for no resources
+abbrev pub is_bare : Group → Bool
+is_bare g = is_empty g.needs
+
+-- it asks for no resources, no trait and no aggregate: it only forbids, or only names a tree
+abbrev pub only_forbids : Group → Bool
+only_forbids g = is_bare g && is_empty g.required && is_empty g.any_of && list_all (λ rule. rule.forbids) g.member_of
+
+-- it asks for no resources, but for something else, and names a tree
+abbrev pub names_a_tree : Group → Bool
+names_a_tree g = is_bare g && is_some g.in_tree && not (only_forbids g)
+
+-- both ask for one class
+abbrev pub have_common_class : Group → Group → Bool
+have_common_class g h = list_any (λ need. list_any (λ other. bytes_eq need.0 other.0) h.needs) g.needs
+
+-- ---- What the query asks
+
+-- the policy is `none`
+abbrev pub is_policy_none : Asked → Bool
+is_policy_none asked = not (unwrap_or asked.policy true)
+
+-- the group without a suffix and one with a suffix ask for one class
+abbrev pub mixes_classes : Asked → Bool
+mixes_classes asked = list_any (λ g. is_none g.0 && list_any (λ h. is_some h.0 && have_common_class g.1 h.1) asked.groups) asked.groups
+
+-- the places of the slots
+abbrev pub slot_places : Asked → List ℕ
+slot_places asked = range_with_len 0 (length (slots_of asked))
+
+-- the slot at a place is that of a group with a suffix
+abbrev pub is_suffixed : Asked → ℕ → Bool
+is_suffixed asked s = is_some (slot_at asked s).suffix
+
+-- one of the slots before a place is
+abbrev pub has_suffix_before : Asked → ℕ → Bool
+has_suffix_before asked s = list_any (is_suffixed asked) (range_with_len 0 s)
+
+-- there are two groups with suffixes: each has one slot
+abbrev pub has_two_suffixes : Asked → Bool
+has_two_suffixes asked = list_any (λ s. is_suffixed asked s && has_suffix_before asked s) (slot_places asked)
+
+-- the slot at a place asks for no resources
+abbrev pub is_bare_slot : Asked → ℕ → Bool
+is_bare_slot asked s = is_empty (slot_at asked s).needs
+
+-- the slot at a place is one that the service may fill from another tree by sharing: without a suffix, and without `in_tree`
+abbrev pub may_share : Asked → ℕ → Bool
+may_share asked s = is_none (slot_at asked s).suffix && is_none (slot_at asked s).group.in_tree
+
+-- ---- Providers
+
+-- some provider, in the slot at a place, passes a test
+abbrev pub some_provider : List Provider → Asked → ℕ → (Placed → Bool) → Bool
+some_provider all asked s test = list_any (λ p. test (placed_at asked s p)) (range_with_len 0 (length all))
+
+-- the provider meets the rules of its slot alone
+abbrev pub fits : List Provider → Placed → Bool
+fits all x = units_fit all x && traits_fit all x && aggregates_fit all x && tree_fits all x
+
+-- it is a sharing provider, and meets them
+abbrev pub lends : List Provider → Placed → Bool
+lends all x = shares (provider_at all x.provider) && fits all x
+
+-- some sharing provider meets the rules of the slot at a place
+abbrev pub is_lent : List Provider → Asked → ℕ → Bool
+is_lent all asked s = some_provider all asked s (lends all)
+
+-- a provider meets a rule on aggregates by its own alone
+abbrev pub is_met_by : Provider → AggregateRule → Bool
+is_met_by p rule = if rule.forbids then not (list_any (is_member p) rule.ids) else list_any (is_member p) rule.ids
+
+-- each rule of a group
+abbrev pub are_met_by : Provider → Group → Bool
+are_met_by p g = list_all (λ rule. is_met_by p rule) g.member_of
+
+-- ---- Sharing providers
+
+-- there are both groups with a suffix and the one without, and for each slot of that one some sharing provider
+unfoldable pub shares_whole_group : List Provider → Asked → Bool
+shares_whole_group all asked =
+    has_suffix_before asked (length (slots_of asked))
+    && list_any (λ s. not (is_suffixed asked s)) (slot_places asked)
+    && list_all (λ s. is_suffixed asked s || (may_share asked s && is_lent all asked s)) (slot_places asked)
+
+-- a sharing provider below a parent, which meets by itself all rules on aggregates
+abbrev pub lends_from_below : List Provider → Placed → Bool
+lends_from_below all x =
+    lends all x && is_some (parent_of all (id_at all x.provider)) && are_met_by (provider_at all x.provider) x.slot.group
+
+-- a sharing provider that meets the rules on aggregates only by its root
+abbrev pub lends_by_its_root : List Provider → Placed → Bool
+lends_by_its_root all x = lends all x && not (are_met_by (provider_at all x.provider) x.slot.group)
+
+-- a provider that meets the rules on aggregates only together with its root
+abbrev pub fits_with_its_root : List Provider → Placed → Bool
+fits_with_its_root all x =
+    fits all x
+    && not (are_met_by (provider_at all x.provider) x.slot.group)
+    && not (are_met_by (root_provider all (provider_at all x.provider)) x.slot.group)
+
+-- a sharing provider with what is asked, and outside the aggregates of a rule that forbids
+abbrev pub lends_outside : List Provider → AggregateRule → Placed → Bool
+lends_outside all rule x = shares (provider_at all x.provider) && units_fit all x && traits_fit all x && is_met_by (provider_at all x.provider) rule
+
+-- some root is in one of the aggregates
+abbrev pub has_root_in : List Provider → List ℕ → Bool
+has_root_in all ids = list_any (λ r. is_root all (id_at all r) && list_any (is_member (provider_at all r)) ids) (range_with_len 0 (length all))
+
+-- a rule forbids aggregates that some root is in, and a sharing provider isn't
+abbrev pub forbids_a_root : List Provider → Asked → ℕ → AggregateRule → Bool
+forbids_a_root all asked s rule = rule.forbids && has_root_in all rule.ids && some_provider all asked s (lends_outside all rule)
+
+-- a provider, in some slot that the service may fill by sharing, passes a test
+abbrev pub some_sharing : List Provider → Asked → (Placed → Bool) → Bool
+some_sharing all asked test = list_any (λ s. may_share asked s && some_provider all asked s test) (slot_places asked)
+
+unfoldable pub lends_beside_forbidden : List Provider → Asked → Bool
+lends_beside_forbidden all asked =
+    list_any (λ s. may_share asked s && list_any (λ rule. forbids_a_root all asked s rule) (slot_at asked s).group.member_of) (slot_places asked)
+
+unfoldable pub meets_in_halves : List Provider → Asked → Bool
+meets_in_halves all asked = list_any (λ s. not (is_suffixed asked s) && some_provider all asked s (fits_with_its_root all)) (slot_places asked)
+
+-- the group without a suffix names a tree, and a sharing provider of that tree meets the rules of one of its slots
+unfoldable pub lends_in_tree : List Provider → Asked → Bool
+lends_in_tree all asked =
+    list_any (λ s. not (is_suffixed asked s) && is_some (slot_at asked s).group.in_tree && is_lent all asked s) (slot_places asked)
+
+-- there is a group without resources; and some sharing provider meets its rules, or for each slot with resources one does
+unfoldable pub gives_no_resources : List Provider → Asked → Bool
+gives_no_resources all asked =
+    list_any (λ s. is_bare_slot asked s) (slot_places asked)
+    && (list_any (λ s. is_bare_slot asked s && is_lent all asked s) (slot_places asked)
+    || list_all (λ s. is_bare_slot asked s || is_lent all asked s) (slot_places asked))
+
+-- ---- Capacities
+
+-- The ratio is no whole number of 64ths, so binary fractions don't hold it exactly; and the capacity is a whole number before it is rounded. So in
+-- floating point it may be a little less.
+abbrev pub may_fall_short : InventoryNumbers → Bool
+may_fall_short i = not (i.ratio % 15625 == 0) && ((i.total - i.reserved) * i.ratio % 1000000 == 0)
+
+-- what slots ask of a class
+abbrev pub total_of : List Slot → List ℕ → ℕ
+total_of [] class = 0
+total_of (slot ∷ slots) class = amount_of slot.needs class + total_of slots class
+
+-- what is left of such an inventory suffices for an amount, and all slots together ask for all of it
+abbrev pub may_take_last : Option InventoryNumbers → ℕ → ℕ → ℕ → Bool
+may_take_last None used amount total = false
+may_take_last (Some i) used amount total = may_fall_short i && nat_le amount (capacity i - used) && nat_le (capacity i - used) total
+
+-- a need of a slot by which that may be at a provider
+abbrev pub takes_last : List Provider → Asked → ℕ → List ℕ × ℕ → Bool
+takes_last all asked p need =
+    may_take_last (inventory_of (provider_at all p) need.0) (used_of (provider_at all p) need.0) need.1 (total_of (slots_of asked) need.0)
+
+-- it may give the last unit of one of its slot's classes, and meets the slot's rules
+abbrev pub gives_last : List Provider → Asked → Placed → Bool
+gives_last all asked x = list_any (takes_last all asked x.provider) x.slot.needs && fits all x
+
+unfoldable pub takes_last_unit : List Provider → Asked → Bool
+takes_last_unit all asked = list_any (λ s. some_provider all asked s (gives_last all asked)) (slot_places asked)
+
+-- ---- The differences
+
+-- all, in the order of the page
+unfoldable pub all_differences : List Difference
+all_differences =
+    difference.AmountsOfTwoGroups
+    ∷ difference.SharedDiskForOneTree
+    ∷ difference.SharingProviderWithParent
+    ∷ difference.GroupThatOnlyForbids
+    ∷ difference.TreeWithoutResources
+    ∷ difference.PolicyNeeded
+    ∷ difference.IsolateWithoutResources
+    ∷ difference.TwoMemberOf
+    ∷ difference.ForbiddenAggregateOfAnotherTree
+    ∷ difference.MemberOfBelowRoot
+    ∷ difference.InTreeAndSharing
+    ∷ difference.FloatingPoint
+    ∷ difference.TreeOutsideSummaries
+    ∷ []
+
+-- whether one may concern a query over these providers
+unfoldable pub applies : List Provider → Asked → Difference → Bool
+applies all asked difference.AmountsOfTwoGroups = not (is_policy_none asked) && mixes_classes asked
+applies all asked difference.SharedDiskForOneTree = shares_whole_group all asked
+applies all asked difference.SharingProviderWithParent = some_sharing all asked (lends_from_below all)
+applies all asked difference.GroupThatOnlyForbids = list_any (λ g. only_forbids g.1) asked.groups
+applies all asked difference.TreeWithoutResources = list_any (λ g. names_a_tree g.1) asked.groups
+applies all asked difference.PolicyNeeded = is_none asked.policy && has_two_suffixes asked
+applies all asked difference.IsolateWithoutResources =
+    is_isolated asked && has_two_suffixes asked && list_any (λ g. is_bare g.1) asked.groups
+applies all asked difference.TwoMemberOf = meets_in_halves all asked
+applies all asked difference.ForbiddenAggregateOfAnotherTree = lends_beside_forbidden all asked
+applies all asked difference.MemberOfBelowRoot = some_sharing all asked (lends_by_its_root all)
+applies all asked difference.InTreeAndSharing = lends_in_tree all asked
+applies all asked difference.FloatingPoint = takes_last_unit all asked
+applies all asked difference.TreeOutsideSummaries = gives_no_resources all asked
