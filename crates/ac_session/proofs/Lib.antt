@@ -1,3 +1,4 @@
 pub mod Rooms
 pub mod Firsts
 pub mod Passing
+pub mod Leading

@@ -7,7 +7,8 @@ use Rattle.std.proofs.lemmas.Slice.{between_is}
 use Rattle.ac_base.specs.Devices.{PullGives}
 use Rattle.ac_base.specs.declared.device.Pull.{Pull}
 use Rattle.ac_base.specs.declared.device.Pull.TheVariants as pull
-use Rattle.ac_session.specs.Rooms.{Grows}
+use Rattle.ac_session.specs.Rooms.{Grows, held, size_of}
+use Rattle.ac_session.specs.declared.lines.room.Room.{Room}
 use Rattle.std.specs.Io.KnownBytes.{Consumes, Keeps, prepend_known}
 
 -- some were taken from the front
@@ -60,3 +61,6 @@ none_grown pull.Failed old new none same = same
 -- so many bytes came
 pub some_grown : (old new more : List ℕ) (n : ℕ) → new ≡ old ++ more → length more ≡ n → Grows (pull.Got n) old new
 some_grown old new more n same many = (ap (take (length old)) same ∙ take-append_seam old more, ap length same ∙ length-append old more ∙ ap (λ k. length old + k) many)
+
+pub held_inside : (room : Room) → length (held room) ≤ size_of room
+held_inside room = omega (arith, length-take (room.end - room.start) (drop room.start room.bytes.items), room.inside)

@@ -135,6 +135,8 @@ impl<R: Feed> Lines<R> {
             ⊎ IsAtEnd (R.remaining (feed_in self.new)))) }
         ensures unasked { Contains (in_room self.old) newline
             → feed_in self.new ≡ feed_in self.old }
+        ensures same { Contains (in_room self.old) newline
+            → in_room self.new ≡ in_room self.old }
         ensures failures { R.failures (feed_in self.old) ≤ R.failures (feed_in self.new) }
         ensures unbroken { OnOk result (R.breaks (feed_in self.new)
             ≡ R.breaks (feed_in self.old)) }

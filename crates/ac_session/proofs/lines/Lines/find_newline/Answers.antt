@@ -15,6 +15,16 @@ returns-then-not-branch-clause-unasked g c =
     let missed : is_some (position is_newline (in_room c.searching.self)) ≡ false = grind (arith, common_steps) in
     λ has. absurd (passing_found is_newline _ newline refl (subst (λ xs. Contains xs newline) (sym (c.searching.invariant.room has)) has) missed)
 
+pub returns-in_err-read_on-clause-same : goal.returns-in_err-read_on-clause-same
+returns-in_err-read_on-clause-same g c =
+    let missed : is_some (position is_newline (in_room c.searching.self)) ≡ false = grind (arith, common_steps) in
+    λ has. absurd (passing_found is_newline _ newline refl (subst (λ xs. Contains xs newline) (sym (c.searching.invariant.room has)) has) missed)
+
+pub returns-then-not-branch-clause-same : goal.returns-then-not-branch-clause-same
+returns-then-not-branch-clause-same g c =
+    let missed : is_some (position is_newline (in_room c.searching.self)) ≡ false = grind (arith, common_steps) in
+    λ has. absurd (passing_found is_newline _ newline refl (subst (λ xs. Contains xs newline) (sym (c.searching.invariant.room has)) has) missed)
+
 pub searching-preserved : goal.searching-preserved
 searching-preserved g c =
     let missed : is_some (position is_newline (in_room c.searching.self)) ≡ false = grind (arith, common_steps) in
