@@ -2,3 +2,4 @@ pub mod Lines
 pub mod Reading
 pub mod Rooms
 pub mod Finds
+pub mod Questions
