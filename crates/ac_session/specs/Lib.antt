@@ -3,3 +3,4 @@ pub mod Reading
 pub mod Rooms
 pub mod Finds
 pub mod Questions
+pub mod EndLines

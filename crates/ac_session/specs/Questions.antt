@@ -1,11 +1,12 @@
 -- Questions: what the words of a line ask.
-use Rattle.std.specs.Prelude.{ℕ, ◌==◌, Bool, List, [], ◌∷◌, length, codes, Option, Some, None, option_map, if◌then◌else◌}
+use Rattle.std.specs.Prelude.{⊤, ℕ, ◌==◌, Bool, List, [], ◌∷◌, length, codes, Option, Some, None, option_map, if◌then◌else◌}
 use Rattle.std.specs.List.{slice_split}
 use Rattle.std.specs.Str.{bytes_eq, is_utf8}
 use Rattle.ac_query.specs.declared.job.Command.{Command}
 use Rattle.ac_query.specs.declared.job.Command.TheVariants.{Check, Candidates, Tokens, Verify, Explain, Hosts, Why}
 use Rattle.ac_query.specs.declared.version.Version.{Version}
 use Rattle.ac_query.specs.declared.version.Version.TheVariants.{V136}
+use Rattle.ac_query.specs.Jobs.{HasToken}
 use Rattle.ac_session.specs.declared.questions.Question.{Question}
 use Rattle.ac_session.specs.declared.questions.Question.TheVariants as question
 
@@ -118,6 +119,16 @@ asked_in question.Usages = usages
 asked_in question.Nothing = nothing
 asked_in question.Unknown = unknown
 asked_in question.WrongNumber = wrong_number
+
+-- a job of `verify` has the token that it judges
+abbrev pub HasItsToken : Question → Type 0
+HasItsToken (question.Job j) = HasToken j.command (option_map (λ token. token.now) j.token)
+HasItsToken (question.Claim query token) = ⊤
+HasItsToken (question.Release query token) = ⊤
+HasItsToken question.Usages = ⊤
+HasItsToken question.Nothing = ⊤
+HasItsToken question.Unknown = ⊤
+HasItsToken question.WrongNumber = ⊤
 
 -- the words of what stands behind a word and a blank
 abbrev pub words_behind : Option Text → List Text

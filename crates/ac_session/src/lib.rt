@@ -3,5 +3,10 @@
 //! It knows bytes and words, and nothing of tables, searches or answers.
 #![tactic(auto)]
 
+pub mod end_lines;
 pub mod lines;
 pub mod questions;
+
+pub use end_lines::LineFault;
+pub use lines::{Lines, Next};
+pub use questions::{Question, read_question};

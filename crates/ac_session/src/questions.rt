@@ -1,6 +1,7 @@
 //! The question that a line asks.
-ghost use Rattle.std.specs.Prelude.{◌≡◌, ◌∷◌, option_map};
-ghost use Rattle.ac_session.specs.Questions.{asked_by_name, asked_in, asked_of, asks_alone, asks_claim, asks_query, asks_release, asks_search, asks_verify, asks_why, job, one_of, one_or_two_of, two_of, words_behind, words_of};
+ghost use Rattle.std.specs.Prelude.{◌≡◌, ◌∷◌, None, option_map};
+ghost use Rattle.ac_query.specs.Jobs.{HasToken};
+ghost use Rattle.ac_session.specs.Questions.{HasItsToken, asked_by_name, asked_in, asked_of, asks_alone, asks_claim, asks_query, asks_release, asks_search, asks_verify, asks_why, job, one_of, one_or_two_of, two_of, words_behind, words_of};
 
 use ac_query::{Command, Job, Version};
 
@@ -74,8 +75,10 @@ fn one_or_two_words(rest: Option<&str>) -> Option<(&str, Option<&str>)>
 // What the words behind a name ask, where there is to be none.
 #[tactic(auto, using(crate::proofs::Cuts::not_alone))]
 fn alone<'a>(question: Question<'a>, rest: Option<&str>) -> Question<'a>
-    ensures { asked_in result ≡ asks_alone (words_behind (option_map (λ t. t.now) rest.entry))
-        (asked_in question.entry) }
+    requires { HasItsToken question }
+    ensures asked { asked_in result ≡ asks_alone
+        (words_behind (option_map (λ t. t.now) rest.entry)) (asked_in question.entry) }
+    ensures token { HasItsToken result }
 {
     match rest {
         None => question,
@@ -91,8 +94,10 @@ fn job<'a>(
     token: Option<&'a str>,
     host: Option<&'a str>,
 ) -> Question<'a>
-    ensures { asked_in result ≡ job command query.now version
+    requires { HasToken command (option_map (λ t. t.now) token) }
+    ensures asked { asked_in result ≡ job command query.now version
         (option_map (λ t. t.now) token.entry) (option_map (λ t. t.now) host.entry) }
+    ensures token { HasItsToken result }
 {
     Question::Job(Job {
         command,
@@ -105,8 +110,10 @@ fn job<'a>(
 
 // A search over a query, perhaps from a token on.
 fn search<'a>(command: Command, version: Version, rest: Option<&'a str>) -> Question<'a>
-    ensures { asked_in result ≡ asks_search command version
+    requires { HasToken command None }
+    ensures asked { asked_in result ≡ asks_search command version
         (words_behind (option_map (λ t. t.now) rest.entry)) }
+    ensures token { HasItsToken result }
 {
     match one_or_two_words(rest) {
         Some((query, token)) => job(command, query, version, token, None),
@@ -116,8 +123,10 @@ fn search<'a>(command: Command, version: Version, rest: Option<&'a str>) -> Ques
 
 // A job over a query alone.
 fn over_query<'a>(command: Command, version: Version, rest: Option<&'a str>) -> Question<'a>
-    ensures { asked_in result ≡ asks_query command version
+    requires { HasToken command None }
+    ensures asked { asked_in result ≡ asks_query command version
         (words_behind (option_map (λ t. t.now) rest.entry)) }
+    ensures token { HasItsToken result }
 {
     match one_word(rest) {
         Some(query) => job(command, query, version, None, None),
@@ -127,8 +136,9 @@ fn over_query<'a>(command: Command, version: Version, rest: Option<&'a str>) -> 
 
 // Whether a token fits a query.
 fn verify(version: Version, rest: Option<&str>) -> Question<'_>
-    ensures { asked_in result ≡ asks_verify version
+    ensures asked { asked_in result ≡ asks_verify version
         (words_behind (option_map (λ t. t.now) rest.entry)) }
+    ensures token { HasItsToken result }
 {
     match two_words(rest) {
         Some((query, token)) => job(Command::Verify, query, version, Some(token), None),
@@ -138,8 +148,9 @@ fn verify(version: Version, rest: Option<&str>) -> Question<'_>
 
 // What the providers of a host lack for a query.
 fn why(version: Version, rest: Option<&str>) -> Question<'_>
-    ensures { asked_in result ≡ asks_why version
+    ensures asked { asked_in result ≡ asks_why version
         (words_behind (option_map (λ t. t.now) rest.entry)) }
+    ensures token { HasItsToken result }
 {
     match two_words(rest) {
         Some((query, host)) => job(Command::Why, query, version, None, Some(host)),
@@ -149,7 +160,8 @@ fn why(version: Version, rest: Option<&str>) -> Question<'_>
 
 // A claim of what a token names.
 fn claim(rest: Option<&str>) -> Question<'_>
-    ensures { asked_in result ≡ asks_claim (words_behind (option_map (λ t. t.now) rest.entry)) }
+    ensures asked { asked_in result ≡ asks_claim (words_behind (option_map (λ t. t.now) rest.entry)) }
+    ensures token { HasItsToken result }
 {
     match two_words(rest) {
         Some((query, token)) => Question::Claim { query, token },
@@ -159,7 +171,8 @@ fn claim(rest: Option<&str>) -> Question<'_>
 
 // A release of what a token names.
 fn release(rest: Option<&str>) -> Question<'_>
-    ensures { asked_in result ≡ asks_release (words_behind (option_map (λ t. t.now) rest.entry)) }
+    ensures asked { asked_in result ≡ asks_release (words_behind (option_map (λ t. t.now) rest.entry)) }
+    ensures token { HasItsToken result }
 {
     match two_words(rest) {
         Some((query, token)) => Question::Release { query, token },
@@ -169,8 +182,9 @@ fn release(rest: Option<&str>) -> Question<'_>
 
 // What the words behind a name ask.
 fn question_by_name<'a>(version: Version, name: &str, rest: Option<&'a str>) -> Question<'a>
-    ensures { asked_in result ≡ asked_by_name version name.now
+    ensures asked { asked_in result ≡ asked_by_name version name.now
         (words_behind (option_map (λ t. t.now) rest.entry)) }
+    ensures token { HasItsToken result }
 {
     match name {
         "check" => alone(job(Command::Check, "", Version::V136, None, None), rest),
@@ -189,7 +203,8 @@ fn question_by_name<'a>(version: Version, name: &str, rest: Option<&'a str>) -> 
 
 /// What a line asks, its query read by a version.
 pub fn read_question(line: &[u8], version: Version) -> Question<'_>
-    ensures { asked_in result ≡ asked_of version line.now }
+    ensures asked { asked_in result ≡ asked_of version line.now }
+    ensures token { HasItsToken result }
 {
     if line.is_empty() {
         return Question::Nothing;
