@@ -35,8 +35,7 @@ passes_on (Some u) None room n h missed some = absurd h
 passes_on (Some u) (Some r) room n h missed some =
     let all = place_is_missed is_newline room missed in
     let none = after_missed is_newline room all in
-    let same : behind_line room ++ r ≡ r = ap (λ l. l ++ r) none in
-    (
+    let same : behind_line room ++ r ≡ r = ap (λ l. l ++ r) none in (
       ap behind_line same ∙ sym (after_later is_newline room r all) ∙ h.0,
       omega (arith, h.1, ap (λ l. length (first_line l)) same, before_size is_newline r, before_size is_newline (room ++ r), place_later is_newline room r all),
     )

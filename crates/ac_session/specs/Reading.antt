@@ -31,13 +31,10 @@ given_by next.Failed = None
 pub record GoesOn {R : Type 0} (remaining : R → Option (List ℕ)) (failed broke : R → ℕ) (old : Lines R) (given : Option Given) (new : Lines R) : Type 0 where
   -- a line and its newline are gone (a part of the line, if it has 18446744073709551615 bytes or more)
   pub behind : given ≢ None → IfSome (left remaining old) (λ bytes. length (first_line bytes) < last_count → left remaining new ≡ Some (behind_line bytes))
-
   -- a failure loses no byte of a line that isn't too long
   pub kept : given ≡ None → IfSome (left remaining old) (λ bytes. length (first_line bytes) ≤ most_bytes → left remaining new ≡ Some bytes)
-
   -- the feed isn't asked where a whole line is in the room
   pub unasked : Contains (in_room old) newline → feed_in new ≡ feed_in old
-
   pub failures : failed (feed_in old) ≤ failed (feed_in new)
   pub unbroken : given ≢ None → broke (feed_in new) ≡ broke (feed_in old)
   pub rises : given ≡ None → Rises (failed (feed_in old)) (failed (feed_in new))
