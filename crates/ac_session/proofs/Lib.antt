@@ -3,3 +3,4 @@ pub mod Firsts
 pub mod Passing
 pub mod Leading
 pub mod Cuts
+pub mod Written

@@ -2,8 +2,7 @@
 use Rattle.std.proofs.Common.{◌≡◌, ◌∙◌, ℕ, ◌+◌, ◌<◌, ◌≤◌, List, [], ◌++◌, length, Option, Some, None, IfSome, is_some, position, true, false, refl, sym, ap, arith}
 use Rattle.std.specs.Io.KnownBytes.{IsAtEnd, Keeps, prepend_known}
 use Rattle.std.specs.Prelude.{⊤}
-use Rattle.ac_base.specs.Devices.{last_count}
-use Rattle.ac_session.specs.Lines.{behind_line, first_line, is_newline}
+use Rattle.ac_session.specs.Lines.{behind_line, first_line, is_newline, most_passed}
 use Rattle.ac_session.proofs.Firsts.{after_in_front, after_later, after_missed, before_size, place_is_found, place_is_missed, place_later}
 
 -- at least so many bytes of the first line were passed over, and not its newline
@@ -14,7 +13,7 @@ Passes (Some old) (Some new) n = (behind_line new ≡ behind_line old) × (n + l
 
 -- what is behind the line, where the line is short enough
 abbrev pub IsBehind : Option (List ℕ) → Option (List ℕ) → Type 0
-IsBehind old new = IfSome old (λ bytes. length (first_line bytes) < last_count → new ≡ Some (behind_line bytes))
+IsBehind old new = IfSome old (λ bytes. length (first_line bytes) < most_passed → new ≡ Some (behind_line bytes))
 
 pub passes_start : (a : Option (List ℕ)) → Passes a a 0
 passes_start None = tt
@@ -55,7 +54,7 @@ passes_end (Some u) (Some r) room n h none end =
     λ short. ap Some (empty ∙ sym (ap behind_line empty) ∙ h.0)
 
 -- as many were passed over as no short line has
-pub passes_all : (a b : Option (List ℕ)) (n : ℕ) → Passes a b n → last_count ≤ n → IsBehind a b
+pub passes_all : (a b : Option (List ℕ)) (n : ℕ) → Passes a b n → most_passed ≤ n → IsBehind a b
 passes_all None b n h many = tt
 passes_all (Some u) None n h many = absurd h
 passes_all (Some u) (Some v) n h many = λ short. absurd (omega (arith, h.1))

@@ -4,3 +4,4 @@ pub mod Rooms
 pub mod Finds
 pub mod Questions
 pub mod EndLines
+pub mod Laws

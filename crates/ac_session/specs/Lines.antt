@@ -7,6 +7,10 @@ use Rattle.std.specs.Io.BufRead.{strip_last}
 abbrev pub most_bytes : ℕ
 most_bytes = 131072
 
+-- a line with fewer bytes is passed over whole
+abbrev pub most_passed : ℕ
+most_passed = 18446744073709551615
+
 -- the byte that ends a line
 abbrev pub newline : ℕ
 newline = 10

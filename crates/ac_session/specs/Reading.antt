@@ -1,8 +1,8 @@
 -- What a reader of lines still has, and what a call gives and does.
 use Rattle.std.specs.Prelude.{◌≡◌, ◌≢◌, ℕ, ◌<◌, ◌≤◌, List, length, Option, Some, None, Contains, IfSome}
 use Rattle.std.specs.Io.KnownBytes.{prepend_known}
-use Rattle.ac_base.specs.Devices.{IsGivenUp, Rises, last_count}
-use Rattle.ac_session.specs.Lines.{Given, line, too_long, end, behind_line, first_line, most_bytes, newline, without_return}
+use Rattle.ac_base.specs.Devices.{IsGivenUp, Rises}
+use Rattle.ac_session.specs.Lines.{Given, line, too_long, end, behind_line, first_line, most_bytes, most_passed, newline, without_return}
 use Rattle.ac_session.specs.Rooms.{held}
 use Rattle.ac_session.specs.declared.lines.Lines.{Lines}
 use Rattle.ac_session.specs.declared.lines.Next.{Next}
@@ -30,7 +30,7 @@ given_by next.Failed = None
 -- what a call does, by what its answer gives
 pub record GoesOn {R : Type 0} (remaining : R → Option (List ℕ)) (failed broke : R → ℕ) (old : Lines R) (given : Option Given) (new : Lines R) : Type 0 where
   -- a line and its newline are gone (a part of the line, if it has 18446744073709551615 bytes or more)
-  pub behind : given ≢ None → IfSome (left remaining old) (λ bytes. length (first_line bytes) < last_count → left remaining new ≡ Some (behind_line bytes))
+  pub behind : given ≢ None → IfSome (left remaining old) (λ bytes. length (first_line bytes) < most_passed → left remaining new ≡ Some (behind_line bytes))
   -- a failure loses no byte of a line that isn't too long
   pub kept : given ≡ None → IfSome (left remaining old) (λ bytes. length (first_line bytes) ≤ most_bytes → left remaining new ≡ Some bytes)
   -- the feed isn't asked where a whole line is in the room

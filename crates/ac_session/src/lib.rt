@@ -4,6 +4,7 @@
 #![tactic(auto)]
 
 pub mod end_lines;
+pub mod laws;
 pub mod lines;
 pub mod questions;
 

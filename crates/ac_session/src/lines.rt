@@ -4,8 +4,8 @@ ghost use Rattle.std.specs.Borrow.{sem};
 ghost use Rattle.std.specs.List.{position_or_len};
 ghost use Rattle.std.specs.Io.BufRead.{Rests};
 ghost use Rattle.std.specs.Io.KnownBytes.{IsAtEnd, Keeps};
-ghost use Rattle.ac_base.specs.Devices.{IsGivenUp, Rises, last_count};
-ghost use Rattle.ac_session.specs.Lines.{behind_line, first_line, given_first, is_newline, most_bytes, newline, without_return};
+ghost use Rattle.ac_base.specs.Devices.{IsGivenUp, Rises};
+ghost use Rattle.ac_session.specs.Lines.{behind_line, first_line, given_first, is_newline, most_passed, newline, without_return};
 ghost use Rattle.ac_session.specs.Rooms.{size_of, taken};
 
 mod room;
@@ -184,7 +184,7 @@ impl<R: Feed> Lines<R> {
     fn pass_over(&mut self) -> Result<(), GivenUp>
         requires { 0 < length (in_room self.old) }
         ensures behind { OnOk result (IfSome (left R.remaining self.old)
-            (λ bytes. length (first_line bytes) < last_count
+            (λ bytes. length (first_line bytes) < most_passed
             → left R.remaining self.new ≡ Some (behind_line bytes))) }
         ensures failures { R.failures (feed_in self.old) ≤ R.failures (feed_in self.new) }
         ensures unbroken { OnOk result (R.breaks (feed_in self.new)
@@ -244,7 +244,8 @@ impl<R: Feed> Lines<R> {
     pub fn next(&mut self) -> Next<'_>
         ensures given { IfSome (left R.remaining self.old) (λ bytes.
             IfSome (given_by result) (λ given. given ≡ given_first bytes)) }
-        ensures* goes_on { sem 𝓛 (Rests (lines-row R.row) self.entry (GoesOn R.remaining R.failures R.breaks self.old (given_by result))) }
+        ensures* goes_on { sem 𝓛 (Rests (lines-row R.row) self.entry
+            (GoesOn R.remaining R.failures R.breaks self.old (given_by result))) }
     {
         match self.advance() {
             Ok(Found::Line(count)) => Next::Line(self.line(count)),

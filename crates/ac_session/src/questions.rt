@@ -160,7 +160,8 @@ fn why(version: Version, rest: Option<&str>) -> Question<'_>
 
 // A claim of what a token names.
 fn claim(rest: Option<&str>) -> Question<'_>
-    ensures asked { asked_in result ≡ asks_claim (words_behind (option_map (λ t. t.now) rest.entry)) }
+    ensures asked { asked_in result ≡ asks_claim
+        (words_behind (option_map (λ t. t.now) rest.entry)) }
     ensures token { HasItsToken result }
 {
     match two_words(rest) {
@@ -171,7 +172,8 @@ fn claim(rest: Option<&str>) -> Question<'_>
 
 // A release of what a token names.
 fn release(rest: Option<&str>) -> Question<'_>
-    ensures asked { asked_in result ≡ asks_release (words_behind (option_map (λ t. t.now) rest.entry)) }
+    ensures asked { asked_in result ≡ asks_release
+        (words_behind (option_map (λ t. t.now) rest.entry)) }
     ensures token { HasItsToken result }
 {
     match two_words(rest) {
