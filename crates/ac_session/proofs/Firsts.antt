@@ -1,6 +1,6 @@
 -- The first element that passes a test: where a list was searched in part, or goes on.
-use Rattle.std.proofs.Common.{◌≡◌, ◌∙◌, ℕ, zero, suc, ◌+◌, ◌-◌, ◌<◌, ◌≤◌, Bool, true, false, not, cond, eqb, ltb, List, [], ◌∷◌, ◌++◌, take, drop, get_or, length, Option, Some, None, Contains, is_some, position, refl, sym, ap, arith, length-append, length-drop, length-take, option_map}
-use Rattle.std.specs.List.{position_or_len, prefix_len, before_first, after_first}
+use Rattle.std.proofs.Common.{◌≡◌, ◌∙◌, ℕ, zero, suc, ◌+◌, ◌<◌, ◌≤◌, Bool, true, false, not, cond, eqb, ltb, List, [], ◌∷◌, ◌++◌, take, drop, get_or, length, Some, None, Contains, is_some, position, refl, sym, ap, arith, length-drop, length-take, option_map}
+use Rattle.std.specs.List.{position_or_len, before_first, after_first}
 use Rattle.std.proofs.lemmas.Bool.Decides.{nat_tests}
 use Rattle.std.proofs.lemmas.Grind.{common_steps}
 use Rattle.std.proofs.lemmas.List.{take-append-drop, drop-append-le, drop_all, drop-drop, drop_at, take-append-le, take_all}

@@ -1,11 +1,11 @@
 -- What stands first in the bytes that are left, by what is in the room.
-use Rattle.std.proofs.Common.{◌≡◌, ◌∙◌, ℕ, ◌+◌, ◌<◌, ◌≤◌, ◌==◌, false, true, eqb, ltb, List, [], ◌++◌, length, take, drop, Option, Some, None, Contains, IfSome, is_some, position, refl, sym, ap, arith, length-append, if◌then◌else◌, ◌⊎◌, inl, inr, Result, Ok, Err, IsErr}
+use Rattle.std.proofs.Common.{◌≡◌, ◌∙◌, ℕ, ◌+◌, ◌<◌, ◌≤◌, false, true, eqb, ltb, List, ◌++◌, length, take, drop, Option, Some, None, Contains, IfSome, is_some, position, refl, sym, ap, arith, length-append, if◌then◌else◌, ◌⊎◌, inl, inr, Result, Ok, Err, IsErr}
 use Rattle.std.specs.Io.KnownBytes.{IsAtEnd, Keeps, prepend_known}
 use Rattle.std.proofs.lemmas.Bool.Decides.{nat_tests}
 use Rattle.std.proofs.lemmas.List.{append-nil, drop_all, take-take, take_all}
 use Rattle.std.specs.List.{position_or_len}
 use Rattle.ac_base.specs.Devices.{IsGivenUp, Rises, one_more}
-use Rattle.ac_session.specs.Lines.{Given, line, too_long, end, behind_line, first_line, given_first, is_newline, most_bytes, newline, without_return}
+use Rattle.ac_session.specs.Lines.{line, too_long, end, behind_line, first_line, given_first, is_newline, most_bytes, newline, without_return}
 use Rattle.ac_session.specs.Finds.{given_of}
 use Rattle.ac_session.specs.declared.lines.Found.{Found}
 use Rattle.ac_session.specs.declared.lines.GivenUp.{GivenUp}

@@ -1,5 +1,5 @@
 -- What the law says.
-use Rattle.std.specs.Prelude.{◌≡◌, ℕ, List, ◌∷◌, ◌++◌, All, false}
+use Rattle.std.specs.Prelude.{◌≡◌, List, ◌∷◌, ◌++◌, All, false}
 use Rattle.std.specs.List.{join_with_byte}
 use Rattle.ac_session.specs.Lines.{behind_line, first_line, is_newline, newline}
 use Rattle.ac_session.specs.Questions.{Text, is_blank, words_of}

@@ -2,7 +2,7 @@
 use Rattle.std.specs.Prelude.{◌≡◌, ◌≢◌, ℕ, ◌<◌, ◌≤◌, List, length, Option, Some, None, Contains, IfSome}
 use Rattle.std.specs.Io.KnownBytes.{prepend_known}
 use Rattle.ac_base.specs.Devices.{IsGivenUp, Rises}
-use Rattle.ac_session.specs.Lines.{Given, line, too_long, end, behind_line, first_line, most_bytes, most_passed, newline, without_return}
+use Rattle.ac_session.specs.Lines.{Given, line, too_long, end, behind_line, first_line, most_bytes, most_passed, newline}
 use Rattle.ac_session.specs.Rooms.{held}
 use Rattle.ac_session.specs.declared.lines.Lines.{Lines}
 use Rattle.ac_session.specs.declared.lines.Next.{Next}

@@ -1,4 +1,4 @@
-use Rattle.std.proofs.Common.{◌∙◌, ◌++◌, ap, arith, drop, length-drop, length-take, take}
+use Rattle.std.proofs.Common.{◌∙◌, ◌++◌, ap, arith, drop, length-take, take}
 use Rattle.ac_session.proofs.Rooms.{came, left_grown, left_stays, none_grown, none_pulled, some_grown, stays}
 use Rattle.ac_session.proofs.lines.room.Room.fill.Goals as goal
 
