@@ -1,0 +1,6 @@
+pub mod Rooms
+pub mod Firsts
+pub mod Passing
+pub mod Leading
+pub mod Cuts
+pub mod Written

@@ -1,0 +1,7 @@
+pub mod Lines
+pub mod Reading
+pub mod Rooms
+pub mod Finds
+pub mod Questions
+pub mod EndLines
+pub mod Laws

@@ -1,0 +1,136 @@
+-- Questions: what the words of a line ask.
+use Rattle.std.specs.Prelude.{⊤, ℕ, ◌==◌, Bool, false, List, [], ◌∷◌, length, codes, Option, Some, None, option_map, if◌then◌else◌}
+use Rattle.std.specs.List.{slice_split}
+use Rattle.std.specs.Str.{bytes_eq, is_utf8}
+use Rattle.ac_query.specs.declared.job.Command.{Command}
+use Rattle.ac_query.specs.declared.job.Command.TheVariants.{Check, Candidates, Tokens, Verify, Explain, Hosts, Why}
+use Rattle.ac_query.specs.declared.version.Version.{Version}
+use Rattle.ac_query.specs.declared.version.Version.TheVariants.{V136}
+use Rattle.ac_query.specs.Jobs.{HasToken}
+use Rattle.ac_session.specs.declared.questions.Question.{Question}
+use Rattle.ac_session.specs.declared.questions.Question.TheVariants as question
+
+abbrev pub Text : Type 0
+Text = List ℕ
+
+-- ---- words
+
+abbrev pub is_blank : ℕ → Bool
+is_blank byte = byte == 32
+
+-- the words of a line: what stands between its blanks, and may be empty
+abbrev pub words_of : Text → List Text
+words_of line = slice_split is_blank line
+
+-- the word, where there is one alone
+abbrev pub one_of : List Text → Option Text
+one_of (word ∷ []) = Some word
+one_of words = None
+
+-- the two words, where there are two
+abbrev pub two_of : List Text → Option (Text × Text)
+two_of (first ∷ second ∷ []) = Some (first, second)
+two_of words = None
+
+-- the first word, and the second if there is one, where there are no more
+abbrev pub one_or_two_of : List Text → Option (Text × Option Text)
+one_or_two_of (first ∷ []) = Some (first, None)
+one_or_two_of (first ∷ second ∷ []) = Some (first, Some second)
+one_or_two_of words = None
+
+-- ---- what they ask
+
+-- what is asked: a job (its command, query, version, token and host, and whether details are asked), or something of the session itself
+pub data Asked : Type 0 where
+  job : Command → Text → Version → Option Text → Option Text → Bool → Asked
+  claim : Text → Text → Asked
+  release : Text → Text → Asked
+  usages : Asked
+  nothing : Asked
+  unknown : Asked
+  wrong_number : Asked
+
+-- what words ask, unless their number is wrong
+abbrev pub asks : {A : Type 0} → Option A → (A → Asked) → Asked
+asks None ask = wrong_number
+asks (Some words) ask = ask words
+
+-- no word
+abbrev pub asks_alone : List Text → Asked → Asked
+asks_alone [] asked = asked
+asks_alone (word ∷ words) asked = wrong_number
+
+-- a query, perhaps with the token to begin after
+abbrev pub asks_search : Command → Version → List Text → Asked
+asks_search command version words = asks (one_or_two_of words) (λ p. job command p.0 version p.1 None false)
+
+-- a query alone
+abbrev pub asks_query : Command → Version → List Text → Asked
+asks_query command version words = asks (one_of words) (λ query. job command query version None None false)
+
+-- a query, and a token to judge
+abbrev pub asks_verify : Version → List Text → Asked
+asks_verify version words = asks (two_of words) (λ p. job Verify p.0 version (Some p.1) None false)
+
+-- a query, and a host
+abbrev pub asks_why : Version → List Text → Asked
+asks_why version words = asks (two_of words) (λ p. job Why p.0 version None (Some p.1) false)
+
+-- a query, and a token of what is taken
+abbrev pub asks_claim : List Text → Asked
+asks_claim words = asks (two_of words) (λ p. claim p.0 p.1)
+
+-- a query, and a token of what is given back
+abbrev pub asks_release : List Text → Asked
+asks_release words = asks (two_of words) (λ p. release p.0 p.1)
+
+-- what the words behind a name ask
+abbrev pub asked_by_name : Version → Text → List Text → Asked
+asked_by_name version name words =
+    if bytes_eq name (codes "check") then asks_alone words (job Check [] V136 None None false)
+    else if bytes_eq name (codes "candidates") then asks_search Candidates version words
+    else if bytes_eq name (codes "tokens") then asks_search Tokens version words
+    else if bytes_eq name (codes "verify") then asks_verify version words
+    else if bytes_eq name (codes "explain") then asks_query Explain version words
+    else if bytes_eq name (codes "hosts") then asks_query Hosts version words
+    else if bytes_eq name (codes "why") then asks_why version words
+    else if bytes_eq name (codes "claim") then asks_claim words
+    else if bytes_eq name (codes "release") then asks_release words
+    else if bytes_eq name (codes "usages") then asks_alone words usages
+    else unknown
+
+abbrev pub asked_by_words : Version → List Text → Asked
+asked_by_words version [] = unknown
+asked_by_words version (name ∷ words) = asked_by_name version name words
+
+-- what a line asks; one that isn't UTF-8 is no command
+abbrev pub asked_of : Version → Text → Asked
+asked_of version line =
+    if length line == 0 then nothing else if is_utf8 line then asked_by_words version (words_of line) else unknown
+
+-- ---- what is read
+
+-- what a question asks
+abbrev pub asked_in : Question → Asked
+asked_in (question.Job j) = job j.command j.query.now j.version (option_map (λ token. token.now) j.token) (option_map (λ host. host.now) j.host) j.detail
+asked_in (question.Claim query token) = claim query.now token.now
+asked_in (question.Release query token) = release query.now token.now
+asked_in question.Usages = usages
+asked_in question.Nothing = nothing
+asked_in question.Unknown = unknown
+asked_in question.WrongNumber = wrong_number
+
+-- a job of `verify` has the token that it judges
+abbrev pub HasItsToken : Question → Type 0
+HasItsToken (question.Job j) = HasToken j.command (option_map (λ token. token.now) j.token)
+HasItsToken (question.Claim query token) = ⊤
+HasItsToken (question.Release query token) = ⊤
+HasItsToken question.Usages = ⊤
+HasItsToken question.Nothing = ⊤
+HasItsToken question.Unknown = ⊤
+HasItsToken question.WrongNumber = ⊤
+
+-- the words of what stands behind a word and a blank
+abbrev pub words_behind : Option Text → List Text
+words_behind None = []
+words_behind (Some text) = words_of text

@@ -1,0 +1,222 @@
+//! The question that a line asks.
+ghost use Rattle.std.specs.Prelude.{◌≡◌, ◌∷◌, None, false, option_map};
+ghost use Rattle.ac_query.specs.Jobs.{HasToken};
+ghost use Rattle.ac_session.specs.Questions.{HasItsToken, asked_by_name, asked_in, asked_of, asks_alone, asks_claim, asks_query, asks_release, asks_search, asks_verify, asks_why, job, one_of, one_or_two_of, two_of, words_behind, words_of};
+
+use ac_query::{Command, Job, Version};
+
+/// What a line asks.
+#[derive(Clone, Copy, Debug, PartialEq, Eq)]
+pub enum Question<'a> {
+    /// What the command of that name does.
+    Job(Job<'a>),
+    /// To take what a token names.
+    Claim { query: &'a str, token: &'a str },
+    /// To give it back.
+    Release { query: &'a str, token: &'a str },
+    /// The used amounts.
+    Usages,
+    /// Nothing: the line is empty.
+    Nothing,
+    /// Its first word is no command, or it isn't UTF-8.
+    Unknown,
+    /// Behind the name of a command stand too few words, or too many.
+    WrongNumber,
+}
+
+// The first word of a text, and what stands behind the blank after it.
+#[tactic(auto, using(crate::proofs::Cuts::words_cut, crate::proofs::Cuts::words_whole))]
+fn cut(text: &str) -> (&str, Option<&str>)
+    ensures { words_of text.now
+        ≡ result.0.now ∷ words_behind (option_map (λ t. t.now) result.1) }
+{
+    match text.split_once(' ') {
+        Some((word, rest)) => (word, Some(rest)),
+        None => (text, None),
+    }
+}
+
+// The word of a rest, where it is one alone.
+#[tactic(auto, using(crate::proofs::Cuts::two_words_at_least))]
+fn one_word(rest: Option<&str>) -> Option<&str>
+    ensures { option_map (λ t. t.now) result
+        ≡ one_of (words_behind (option_map (λ t. t.now) rest.entry)) }
+{
+    match cut(rest?) {
+        (word, None) => Some(word),
+        (_, Some(_)) => None,
+    }
+}
+
+// The two words of a rest, where they are two.
+fn two_words(rest: Option<&str>) -> Option<(&str, &str)>
+    ensures { option_map (λ p. (p.0.now, p.1.now)) result
+        ≡ two_of (words_behind (option_map (λ t. t.now) rest.entry)) }
+{
+    let (first, rest) = cut(rest?);
+    let second = one_word(rest)?;
+    Some((first, second))
+}
+
+// The first word of a rest, and the second if it has one, where there are no more.
+#[tactic(auto, using(crate::proofs::Cuts::not_one_behind))]
+fn one_or_two_words(rest: Option<&str>) -> Option<(&str, Option<&str>)>
+    ensures { option_map (λ p. (p.0.now, option_map (λ t. t.now) p.1)) result
+        ≡ one_or_two_of (words_behind (option_map (λ t. t.now) rest.entry)) }
+{
+    let (first, rest) = cut(rest?);
+    if rest.is_none() {
+        return Some((first, None));
+    }
+    let second = one_word(rest)?;
+    Some((first, Some(second)))
+}
+
+// What the words behind a name ask, where there is to be none.
+#[tactic(auto, using(crate::proofs::Cuts::not_alone))]
+fn alone<'a>(question: Question<'a>, rest: Option<&str>) -> Question<'a>
+    requires { HasItsToken question }
+    ensures asked { asked_in result ≡ asks_alone
+        (words_behind (option_map (λ t. t.now) rest.entry)) (asked_in question.entry) }
+    ensures token { HasItsToken result }
+{
+    match rest {
+        None => question,
+        Some(_) => Question::WrongNumber,
+    }
+}
+
+// A job of a command over a query, without details.
+fn job<'a>(
+    command: Command,
+    query: &'a str,
+    version: Version,
+    token: Option<&'a str>,
+    host: Option<&'a str>,
+) -> Question<'a>
+    requires { HasToken command (option_map (λ t. t.now) token) }
+    ensures asked { asked_in result ≡ job command query.now version
+        (option_map (λ t. t.now) token.entry) (option_map (λ t. t.now) host.entry) false }
+    ensures token { HasItsToken result }
+{
+    Question::Job(Job {
+        command,
+        query,
+        version,
+        token,
+        host,
+        detail: false,
+    })
+}
+
+// A search over a query, perhaps from a token on.
+fn search<'a>(command: Command, version: Version, rest: Option<&'a str>) -> Question<'a>
+    requires { HasToken command None }
+    ensures asked { asked_in result ≡ asks_search command version
+        (words_behind (option_map (λ t. t.now) rest.entry)) }
+    ensures token { HasItsToken result }
+{
+    match one_or_two_words(rest) {
+        Some((query, token)) => job(command, query, version, token, None),
+        None => Question::WrongNumber,
+    }
+}
+
+// A job over a query alone.
+fn over_query<'a>(command: Command, version: Version, rest: Option<&'a str>) -> Question<'a>
+    requires { HasToken command None }
+    ensures asked { asked_in result ≡ asks_query command version
+        (words_behind (option_map (λ t. t.now) rest.entry)) }
+    ensures token { HasItsToken result }
+{
+    match one_word(rest) {
+        Some(query) => job(command, query, version, None, None),
+        None => Question::WrongNumber,
+    }
+}
+
+// Whether a token fits a query.
+fn verify(version: Version, rest: Option<&str>) -> Question<'_>
+    ensures asked { asked_in result ≡ asks_verify version
+        (words_behind (option_map (λ t. t.now) rest.entry)) }
+    ensures token { HasItsToken result }
+{
+    match two_words(rest) {
+        Some((query, token)) => job(Command::Verify, query, version, Some(token), None),
+        None => Question::WrongNumber,
+    }
+}
+
+// What the providers of a host lack for a query.
+fn why(version: Version, rest: Option<&str>) -> Question<'_>
+    ensures asked { asked_in result ≡ asks_why version
+        (words_behind (option_map (λ t. t.now) rest.entry)) }
+    ensures token { HasItsToken result }
+{
+    match two_words(rest) {
+        Some((query, host)) => job(Command::Why, query, version, None, Some(host)),
+        None => Question::WrongNumber,
+    }
+}
+
+// A claim of what a token names.
+fn claim(rest: Option<&str>) -> Question<'_>
+    ensures asked { asked_in result ≡ asks_claim
+        (words_behind (option_map (λ t. t.now) rest.entry)) }
+    ensures token { HasItsToken result }
+{
+    match two_words(rest) {
+        Some((query, token)) => Question::Claim { query, token },
+        None => Question::WrongNumber,
+    }
+}
+
+// A release of what a token names.
+fn release(rest: Option<&str>) -> Question<'_>
+    ensures asked { asked_in result ≡ asks_release
+        (words_behind (option_map (λ t. t.now) rest.entry)) }
+    ensures token { HasItsToken result }
+{
+    match two_words(rest) {
+        Some((query, token)) => Question::Release { query, token },
+        None => Question::WrongNumber,
+    }
+}
+
+// What the words behind a name ask.
+fn question_by_name<'a>(version: Version, name: &str, rest: Option<&'a str>) -> Question<'a>
+    ensures asked { asked_in result ≡ asked_by_name version name.now
+        (words_behind (option_map (λ t. t.now) rest.entry)) }
+    ensures token { HasItsToken result }
+{
+    match name {
+        "check" => alone(job(Command::Check, "", Version::V136, None, None), rest),
+        "candidates" => search(Command::Candidates, version, rest),
+        "tokens" => search(Command::Tokens, version, rest),
+        "verify" => verify(version, rest),
+        "explain" => over_query(Command::Explain, version, rest),
+        "hosts" => over_query(Command::Hosts, version, rest),
+        "why" => why(version, rest),
+        "claim" => claim(rest),
+        "release" => release(rest),
+        "usages" => alone(Question::Usages, rest),
+        _ => Question::Unknown,
+    }
+}
+
+/// What a line asks, its query read by a version.
+pub fn read_question(line: &[u8], version: Version) -> Question<'_>
+    ensures asked { asked_in result ≡ asked_of version line.now }
+    ensures token { HasItsToken result }
+{
+    if line.is_empty() {
+        return Question::Nothing;
+    }
+    match std::str::from_utf8(line) {
+        Ok(text) => {
+            let (name, rest) = cut(text);
+            question_by_name(version, name, rest)
+        }
+        Err(_) => Question::Unknown,
+    }
+}

@@ -1,0 +1,9 @@
+//! What no clause says of sessions, shown over their public calls.
+#![tactic(auto)]
+
+#[cfg(test)]
+mod lines;
+#[cfg(test)]
+mod questions;
+#[cfg(test)]
+mod refusals;
