@@ -263,6 +263,10 @@ fn takes_what_is_claimed_and_gives_back_what_is_released(rt: HostRuntime) -> Res
     let alloc = rt.alloc();
     assert_eq!(rt; count_agreeing(alloc, ONE, &IN_ONE)?, 15, "one provider");
     assert_eq!(rt; count_agreeing(alloc, PAIR, &IN_PAIR)?, 5, "two providers");
-    assert_eq!(rt; count_agreeing(alloc, GREATEST, &IN_GREATEST)?, 4, "past 31 bits");
+    assert_eq!(rt;
+        count_agreeing(alloc, GREATEST, &IN_GREATEST)?,
+        4,
+        "past 31 bits"
+    );
     Ok(())
 }
