@@ -1,12 +1,10 @@
-//! What no clause says of quantities, devices, tables, queries and command lines, shown over their public calls: worked values, each fault,
-//! growths that are refused.
+//! What no clause says of quantities, devices, queries and command lines, shown over their public calls: worked values, each fault, growths that are
+//! refused.
 #![tactic(auto)]
 
 #[cfg(test)]
 mod base;
 #[cfg(test)]
 mod query;
-#[cfg(test)]
-mod tables;
 #[cfg(test)]
 mod words;

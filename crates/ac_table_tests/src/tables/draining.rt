@@ -1,5 +1,5 @@
 //! Feeds that fail, are interrupted, or give too much: how often they are asked.
-use super::LIMIT;
+use super::{LIMIT, drains};
 use ac_base::{Feed, FromRead, MemFeed, Pull, Turn};
 use ac_tables::{ReadFault, drain};
 use std::io::{self, Read};
@@ -30,15 +30,13 @@ fn asks_nothing_after_the_last_interrupted_call(rt: HostRuntime) {
 fn a_byte_sets_the_count_of_interrupted_calls_back(rt: HostRuntime) {
     let mut turns = [Turn::Again; 2001];
     turns[1000] = Turn::Up(1);
-    let mut feed = MemFeed::new(b"abc", &turns);
-    match drain(rt.alloc(), &mut feed) {
-        Ok(bytes) => assert!(rt; bytes.as_slice() == b"abc".as_slice(), "all bytes"),
-        Err(_) => assert!(rt; false, "no fault"),
-    }
+    assert!(rt; drains(rt.alloc(), &turns) == Ok(true), "all bytes");
     let mut turns = [Turn::Again; 2002];
     turns[1000] = Turn::Up(1);
-    let mut feed = MemFeed::new(b"abc", &turns);
-    assert!(rt; drain(rt.alloc(), &mut feed) == Err(ReadFault::Unreadable));
+    assert!(rt;
+        drains(rt.alloc(), &turns) == Err(ReadFault::Unreadable),
+        "one too many"
+    );
 }
 
 // A reader of so many bytes, which counts the calls after its last.
