@@ -16,7 +16,7 @@ ghost use Rattle.ac_rules.specs.declared.verdict.Verdict.TheVariants as Verdict;
 ghost use Rattle.ac_run.specs.Run.{IsWritten};
 
 use crate::asking::Wanted;
-use crate::outputs::{push_counts, push_detailed, push_verdict, verdict_status};
+use crate::outputs::{detailed_line, push_counts, push_verdict, verdict_status};
 use ac_answers::{
     Question, explanation_status, find_without, has_candidate, hosts_status, hosts_text,
     push_explanation, push_reasons, root_place, why_at,
@@ -148,8 +148,8 @@ fn write_broken<W: Sink>(
     ensures failures { W.failures out.old ≤ W.failures out.new }
 {
     let detail = broken_detail(alloc, assignment, rule)?;
-    push_detailed(out, rule, detail.as_bytes())?;
-    Ok(1)
+    let line = detailed_line(alloc, rule, &detail)?;
+    push_text(out, line.as_bytes(), 1)
 }
 
 // A verdict, with the first thing by which a rule is broken.

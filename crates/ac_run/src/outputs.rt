@@ -1,30 +1,31 @@
-//! Small outputs, pushed without memory: the counts of the tables, and the verdict on a list.
-ghost use Rattle.std.specs.Prelude.{◌≡◌, ◌≤◌, ◌∷◌, [], codes};
+//! Small outputs: the counts of the tables, and the verdict on a list. But for the line with a detail they take no memory.
+ghost use Rattle.std.specs.Prelude.{◌≡◌, ◌≤◌, ◌∷◌, [], IfOk, codes, string_bytes};
 ghost use Rattle.ac_cloud.specs.Cloud.CloudWorld.{sizes_of};
-ghost use Rattle.ac_run.specs.Outputs.{broken_line, broken_name, counts, detailed_text, verdict_status, verdict_text};
+ghost use Rattle.ac_run.specs.Outputs.{broken_line, broken_name, counts, verdict_status, verdict_text};
 ghost use Rattle.ac_answers.specs.Pieces.{newline, said};
 ghost use Rattle.ac_answers.specs.Writing.{Pushes};
 
 use ac_answers::{Digits, push_pieces};
-use ac_base::{Sink, WriteFailed, push_all};
+use ac_base::{NoMemory, Sink, WriteFailed, push_all};
 use ac_rules::{Rule, Verdict};
 use ac_tables::Counts;
+use std::alloc::Global;
 
 // A rule that is broken, by its number and its name.
 #[tactic(auto, unfolding(crate::specs::Outputs::broken_name))]
-fn broken_name(rule: Rule) -> &'static [u8]
+fn broken_name(rule: Rule) -> &'static str
     ensures { result.now ≡ broken_name rule }
 {
     match rule {
-        Rule::Units => b"no: rule 1 Units",
-        Rule::SlotTraits => b"no: rule 2 SlotTraits",
-        Rule::Aggregates => b"no: rule 3 Aggregates",
-        Rule::Tree => b"no: rule 4 Tree",
-        Rule::Collective => b"no: rule 5 Collective",
-        Rule::Sums => b"no: rule 6 Sums",
-        Rule::Isolate => b"no: rule 7 Isolate",
-        Rule::Subtree => b"no: rule 8 Subtree",
-        Rule::Anchor => b"no: rule 9 Anchor",
+        Rule::Units => "no: rule 1 Units",
+        Rule::SlotTraits => "no: rule 2 SlotTraits",
+        Rule::Aggregates => "no: rule 3 Aggregates",
+        Rule::Tree => "no: rule 4 Tree",
+        Rule::Collective => "no: rule 5 Collective",
+        Rule::Sums => "no: rule 6 Sums",
+        Rule::Isolate => "no: rule 7 Isolate",
+        Rule::Subtree => "no: rule 8 Subtree",
+        Rule::Anchor => "no: rule 9 Anchor",
     }
 }
 
@@ -35,7 +36,7 @@ fn push_broken<W: Sink>(out: &mut W, rule: Rule) -> Result<(), WriteFailed>
         (W.failures out.new) (broken_line rule) }
     ensures failures { W.failures out.old ≤ W.failures out.new }
 {
-    push_pieces(out, &[broken_name(rule), b"\n"])
+    push_pieces(out, &[broken_name(rule).as_bytes(), b"\n"])
 }
 
 /// Pushes the line that tells a verdict.
@@ -51,14 +52,13 @@ pub fn push_verdict<W: Sink>(out: &mut W, verdict: Verdict) -> Result<(), WriteF
     }
 }
 
-/// Pushes the line of a rule that is broken, with the first thing by which it is.
-#[tactic(auto, unfolding(crate::specs::Outputs::detailed_text))]
-pub fn push_detailed<W: Sink>(out: &mut W, rule: Rule, detail: &[u8]) -> Result<(), WriteFailed>
-    ensures text { Pushes result (W.taken out.old) (W.taken out.new) (W.failures out.old)
-        (W.failures out.new) (said (broken_name rule ∷ codes ": " ∷ detail.now ∷ newline ∷ [])) }
-    ensures failures { W.failures out.old ≤ W.failures out.new }
+/// The line of a rule that is broken, with the first thing by which it is.
+pub fn detailed_line(alloc: Global, rule: Rule, detail: &str) -> Result<String, NoMemory>
+    ensures { IfOk result (λ line. string_bytes line
+        ≡ said (broken_name rule ∷ codes ": " ∷ detail.now ∷ newline ∷ [])) }
 {
-    push_pieces(out, &[broken_name(rule), b": ", detail, b"\n"])
+    let name = broken_name(rule);
+    Ok(format!(in alloc; "{name}: {detail}\n")?)
 }
 
 /// 0 where a list is a candidate, 1 where it breaks a rule.

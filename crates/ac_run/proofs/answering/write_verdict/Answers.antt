@@ -26,9 +26,9 @@ write_judged-requires-clause-providers g c =
 pub returns-in-Ok-None-clause-ok : goal.returns-in-Ok-None-clause-ok
 returns-in-Ok-None-clause-ok g c =
     subst
-    (λ places. IfOk c.push_text-in-Ok-None.result
-    (IsWritten (verdict_on (providers_of c.args.cloud.now) c.args.detail (asked_of c.args.query.now) places) (g.W.Sink.taken c.args.out.now) (g.W.Sink.taken c.push_text-in-Ok-None.new.out)))
-    (ap (λ found. option_map (λ list. list.items) found) (sym c.in-Ok-None.field-0-is) ∙ c.in-Ok-None.ensures) c.push_text-in-Ok-None.ensures.ok
+    (λ places. IfOk c.push_text.result
+    (IsWritten (verdict_on (providers_of c.args.cloud.now) c.args.detail (asked_of c.args.query.now) places) (g.W.Sink.taken c.args.out.now) (g.W.Sink.taken c.push_text.new.out)))
+    (ap (λ found. option_map (λ list. list.items) found) (sym c.in-Ok-None.field-0-is) ∙ c.in-Ok-None.ensures) c.push_text.ensures.ok
 
 -- a sink that was not asked has taken nothing of any text
 nothing : (taken : Option (List ℕ)) (bytes : List ℕ) → TakesPart taken taken bytes
