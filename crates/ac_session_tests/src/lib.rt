@@ -5,5 +5,3 @@
 mod lines;
 #[cfg(test)]
 mod questions;
-#[cfg(test)]
-mod refusals;

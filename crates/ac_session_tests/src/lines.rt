@@ -4,6 +4,8 @@ use ac_session::{Lines, Next};
 use std::alloc::{AllocError, Global};
 use std::test::Fail;
 
+mod refusals;
+
 // A line in brackets, or its length where it is long.
 fn shown(alloc: Global, line: &[u8]) -> Result<String, AllocError> {
     if line.len() > 20 {
