@@ -8,5 +8,5 @@ returns-in-Ok g c =
       from = c.in-Ok.inputs;
       to = c.ran.new.inputs;
       files = c.in-Ok.ensures.files;
-      ran = ran_same _ _ _ _ _ _ _ _ (same_task c.job.ensures.command c.job.ensures.query c.job.ensures.version c.job.ensures.token c.job.ensures.host) c.ran.ensures;
+      ran = ran_same _ _ _ _ _ _ _ _ (same_task c.job.ensures.command c.job.ensures.query c.job.ensures.version c.job.ensures.token c.job.ensures.host c.job.ensures.detail) c.ran.ensures;
     })
