@@ -1,6 +1,7 @@
 pub mod Drained
 pub mod FewBytes
 pub mod Assignments
+pub mod Written
 pub mod WantedSaid
 pub mod Attempted
 pub mod Told

@@ -6,4 +6,5 @@ pub mod Asking
 pub mod Outputs
 pub mod Answer
 pub mod Run
+pub mod Outcomes
 pub mod Jobs

@@ -13,6 +13,7 @@ ghost use Rattle.ac_run.specs.Asking.{HasHost, HasIdForEachSlot, answer_to};
 ghost use Rattle.ac_run.specs.Outputs.{counts, detailed_text, verdict_status, verdict_text};
 ghost use Rattle.ac_report.specs.declared.fault.PageFault.TheVariants as PageFault;
 ghost use Rattle.ac_rules.specs.declared.verdict.Verdict.TheVariants as Verdict;
+ghost use Rattle.ac_run.specs.Outcomes.{Writes};
 ghost use Rattle.ac_run.specs.Run.{IsWritten};
 
 use crate::asking::Wanted;
@@ -33,14 +34,8 @@ use std::alloc::Global;
 // A text that is at hand, with its status.
 fn push_text<W: Sink>(out: &mut W, text: &[u8], status: u8) -> Result<u8, PageFault>
     requires { status ≤ 1 }
-    ensures few { IfOk result (λ status. status ≤ 1) }
-    ensures ok { IfOk result (IsWritten (written text.now status) (W.taken out.old)
-        (W.taken out.new)) }
-    ensures part { OnErr result (TakesPart (W.taken out.old) (W.taken out.new)
-        (written text.now status).output) }
-    ensures failed { result ≡ Err PageFault.WriteFailed
-        → Rises (W.failures out.old) (W.failures out.new) }
-    ensures failures { W.failures out.old ≤ W.failures out.new }
+    ensures { Writes (written text.now status) result (W.taken out.old) (W.taken out.new)
+        (W.failures out.old) (W.failures out.new) }
 {
     push_all(out, text)?;
     Ok(status)
@@ -48,14 +43,8 @@ fn push_text<W: Sink>(out: &mut W, text: &[u8], status: u8) -> Result<u8, PageFa
 
 // How much the tables told.
 fn write_counts<W: Sink>(cloud: &Cloud, out: &mut W) -> Result<u8, PageFault>
-    ensures few { IfOk result (λ status. status ≤ 1) }
-    ensures ok { IfOk result (IsWritten (written (counts (world_of cloud.now).sizes) 0)
-        (W.taken out.old) (W.taken out.new)) }
-    ensures part { OnErr result (TakesPart (W.taken out.old) (W.taken out.new)
-        (written (counts (world_of cloud.now).sizes) 0).output) }
-    ensures failed { result ≡ Err PageFault.WriteFailed
-        → Rises (W.failures out.old) (W.failures out.new) }
-    ensures failures { W.failures out.old ≤ W.failures out.new }
+    ensures { Writes (written (counts (world_of cloud.now).sizes) 0) result (W.taken out.old)
+        (W.taken out.new) (W.failures out.old) (W.failures out.new) }
 {
     push_counts(out, &cloud.counts())?;
     Ok(0)
@@ -69,14 +58,9 @@ fn write_lines<W: Sink>(
     token: &Option<Token>,
     out: &mut W,
 ) -> Result<u8, PageFault>
-    ensures few { IfOk result (λ status. status ≤ 1) }
-    ensures ok { IfOk result (IsWritten (page_lines (providers_of cloud.now) (asked_of query.now)
-        (option_map ids_of token.now)) (W.taken out.old) (W.taken out.new)) }
-    ensures part { OnErr result (TakesPart (W.taken out.old) (W.taken out.new)
-        (page_lines (providers_of cloud.now) (asked_of query.now) (option_map ids_of token.now)).output) }
-    ensures failed { result ≡ Err PageFault.WriteFailed
-        → Rises (W.failures out.old) (W.failures out.new) }
-    ensures failures { W.failures out.old ≤ W.failures out.new }
+    ensures { Writes (page_lines (providers_of cloud.now) (asked_of query.now)
+        (option_map ids_of token.now)) result (W.taken out.old) (W.taken out.new)
+        (W.failures out.old) (W.failures out.new) }
 {
     let Ok(mut source) = Walk::new(alloc, cloud, query, token.as_ref()) else {
         return Err(PageFault::NoMemory);
@@ -95,14 +79,9 @@ fn write_body<W: Sink>(
     token: &Option<Token>,
     out: &mut W,
 ) -> Result<u8, PageFault>
-    ensures few { IfOk result (λ status. status ≤ 1) }
-    ensures ok { IfOk result (IsWritten (page_body (providers_of cloud.now) (asked_of query.now)
-        (option_map ids_of token.now)) (W.taken out.old) (W.taken out.new)) }
-    ensures part { OnErr result (TakesPart (W.taken out.old) (W.taken out.new)
-        (page_body (providers_of cloud.now) (asked_of query.now) (option_map ids_of token.now)).output) }
-    ensures failed { result ≡ Err PageFault.WriteFailed
-        → Rises (W.failures out.old) (W.failures out.new) }
-    ensures failures { W.failures out.old ≤ W.failures out.new }
+    ensures { Writes (page_body (providers_of cloud.now) (asked_of query.now)
+        (option_map ids_of token.now)) result (W.taken out.old) (W.taken out.new)
+        (W.failures out.old) (W.failures out.new) }
 {
     let Ok(mut source) = Walk::new(alloc, cloud, query, token.as_ref()) else {
         return Err(PageFault::NoMemory);
@@ -115,37 +94,24 @@ fn write_body<W: Sink>(
 
 // A verdict alone.
 fn write_plain<W: Sink>(verdict: Verdict, out: &mut W) -> Result<u8, PageFault>
-    ensures few { IfOk result (λ status. status ≤ 1) }
-    ensures ok { IfOk result (IsWritten (written (verdict_text verdict) (verdict_status verdict))
-        (W.taken out.old) (W.taken out.new)) }
-    ensures part { OnErr result (TakesPart (W.taken out.old) (W.taken out.new)
-        (written (verdict_text verdict) (verdict_status verdict)).output) }
-    ensures failed { result ≡ Err PageFault.WriteFailed
-        → Rises (W.failures out.old) (W.failures out.new) }
-    ensures failures { W.failures out.old ≤ W.failures out.new }
+    ensures { Writes (written (verdict_text verdict) (verdict_status verdict)) result
+        (W.taken out.old) (W.taken out.new) (W.failures out.old) (W.failures out.new) }
 {
     push_verdict(out, verdict)?;
     Ok(verdict_status(verdict))
 }
 
 // The rule that a list breaks, with the first thing by which it does.
-#[tactic(auto, using(ac_base::proofs::Leaving::part_none), unfolding(crate::specs::Outputs::detailed_text))]
+#[tactic(auto, unfolding(crate::specs::Outputs::detailed_text))]
 fn write_broken<W: Sink>(
     alloc: Global,
     assignment: &Assignment<'_>,
     rule: Rule,
     out: &mut W,
 ) -> Result<u8, PageFault>
-    ensures few { IfOk result (λ status. status ≤ 1) }
-    ensures ok { IfOk result (IsWritten (written (detailed_text (providers_of assignment.now.cloud.now)
-        (asked_of assignment.now.query.now) assignment.now.list.now (Verdict.Broken rule)) 1)
-        (W.taken out.old) (W.taken out.new)) }
-    ensures part { OnErr result (TakesPart (W.taken out.old) (W.taken out.new)
-        (written (detailed_text (providers_of assignment.now.cloud.now)
-        (asked_of assignment.now.query.now) assignment.now.list.now (Verdict.Broken rule)) 1).output) }
-    ensures failed { result ≡ Err PageFault.WriteFailed
-        → Rises (W.failures out.old) (W.failures out.new) }
-    ensures failures { W.failures out.old ≤ W.failures out.new }
+    ensures { Writes (written (detailed_text (providers_of assignment.now.cloud.now)
+        (asked_of assignment.now.query.now) assignment.now.list.now (Verdict.Broken rule)) 1) result
+        (W.taken out.old) (W.taken out.new) (W.failures out.old) (W.failures out.new) }
 {
     let detail = broken_detail(alloc, assignment, rule)?;
     let line = detailed_line(alloc, rule, &detail)?;
@@ -160,18 +126,10 @@ fn write_detailed<W: Sink>(
     verdict: Verdict,
     out: &mut W,
 ) -> Result<u8, PageFault>
-    ensures few { IfOk result (λ status. status ≤ 1) }
-    ensures ok { IfOk result (IsWritten (written (detailed_text (providers_of assignment.now.cloud.now)
+    ensures { Writes (written (detailed_text (providers_of assignment.now.cloud.now)
         (asked_of assignment.now.query.now) assignment.now.list.now verdict)
-        (verdict_status verdict))
-        (W.taken out.old) (W.taken out.new)) }
-    ensures part { OnErr result (TakesPart (W.taken out.old) (W.taken out.new)
-        (written (detailed_text (providers_of assignment.now.cloud.now)
-        (asked_of assignment.now.query.now) assignment.now.list.now verdict)
-        (verdict_status verdict)).output) }
-    ensures failed { result ≡ Err PageFault.WriteFailed
-        → Rises (W.failures out.old) (W.failures out.new) }
-    ensures failures { W.failures out.old ≤ W.failures out.new }
+        (verdict_status verdict)) result (W.taken out.old) (W.taken out.new) (W.failures out.old)
+        (W.failures out.new) }
 {
     match verdict {
         Verdict::Candidate => write_plain(verdict, out),
@@ -190,14 +148,9 @@ fn write_judged<W: Sink>(
 ) -> Result<u8, PageFault>
     requires slots { length list.now ≡ length (slots_of (asked_of query.now)) }
     requires providers { All (λ p. p < length (providers_of cloud.now)) list.now }
-    ensures few { IfOk result (λ status. status ≤ 1) }
-    ensures ok { IfOk result (IsWritten (verdict_on (providers_of cloud.now) detail (asked_of query.now) (Some list.now))
-        (W.taken out.old) (W.taken out.new)) }
-    ensures part { OnErr result (TakesPart (W.taken out.old) (W.taken out.new)
-        (verdict_on (providers_of cloud.now) detail (asked_of query.now) (Some list.now)).output) }
-    ensures failed { result ≡ Err PageFault.WriteFailed
-        → Rises (W.failures out.old) (W.failures out.new) }
-    ensures failures { W.failures out.old ≤ W.failures out.new }
+    ensures { Writes (verdict_on (providers_of cloud.now) detail (asked_of query.now)
+        (Some list.now)) result (W.taken out.old) (W.taken out.new) (W.failures out.old)
+        (W.failures out.new) }
 {
     let verdict = verify(cloud, query, list);
     if detail {
@@ -218,16 +171,9 @@ fn write_verdict<W: Sink>(
     out: &mut W,
 ) -> Result<u8, PageFault>
     requires { length (ids_of token.now) ≡ length (slots_of (asked_of query.now)) }
-    ensures few { IfOk result (λ status. status ≤ 1) }
-    ensures ok { IfOk result (IsWritten (verdict_line (providers_of cloud.now) detail (asked_of query.now)
-        (Some (ids_of token.now)))
-        (W.taken out.old) (W.taken out.new)) }
-    ensures part { OnErr result (TakesPart (W.taken out.old) (W.taken out.new)
-        (verdict_line (providers_of cloud.now) detail (asked_of query.now)
-        (Some (ids_of token.now))).output) }
-    ensures failed { result ≡ Err PageFault.WriteFailed
-        → Rises (W.failures out.old) (W.failures out.new) }
-    ensures failures { W.failures out.old ≤ W.failures out.new }
+    ensures { Writes (verdict_line (providers_of cloud.now) detail (asked_of query.now)
+        (Some (ids_of token.now))) result (W.taken out.old) (W.taken out.new) (W.failures out.old)
+        (W.failures out.new) }
 {
     match token.locate(alloc, cloud) {
         Ok(Some(list)) => write_judged(alloc, cloud, query, &list, detail, out),
@@ -244,15 +190,8 @@ fn write_explanation<W: Sink>(
     question: &Question,
     out: &mut W,
 ) -> Result<u8, PageFault>
-    ensures few { IfOk result (λ status. status ≤ 1) }
-    ensures ok { IfOk result (IsWritten
-        (explanation (providers_of cloud.now) (asked_of question.now.query) None)
-        (W.taken out.old) (W.taken out.new)) }
-    ensures part { OnErr result (TakesPart (W.taken out.old) (W.taken out.new)
-        (explanation (providers_of cloud.now) (asked_of question.now.query) None).output) }
-    ensures failed { result ≡ Err PageFault.WriteFailed
-        → Rises (W.failures out.old) (W.failures out.new) }
-    ensures failures { W.failures out.old ≤ W.failures out.new }
+    ensures { Writes (explanation (providers_of cloud.now) (asked_of question.now.query) None)
+        result (W.taken out.old) (W.taken out.new) (W.failures out.old) (W.failures out.new) }
 {
     let query = &question.query;
     let slots = all_slots(alloc, cloud, query)?;
@@ -265,22 +204,14 @@ fn write_explanation<W: Sink>(
 }
 
 // Which roots fit, and what the others lack.
-#[tactic(auto, using(ac_base::proofs::Leaving::part_none))]
 fn write_hosts<W: Sink>(
     alloc: Global,
     cloud: &Cloud,
     query: &Query,
     out: &mut W,
 ) -> Result<u8, PageFault>
-    ensures few { IfOk result (λ status. status ≤ 1) }
-    ensures ok { IfOk result (IsWritten
-        (host_rows (providers_of cloud.now) (asked_of query.now) None)
-        (W.taken out.old) (W.taken out.new)) }
-    ensures part { OnErr result (TakesPart (W.taken out.old) (W.taken out.new)
-        (host_rows (providers_of cloud.now) (asked_of query.now) None).output) }
-    ensures failed { result ≡ Err PageFault.WriteFailed
-        → Rises (W.failures out.old) (W.failures out.new) }
-    ensures failures { W.failures out.old ≤ W.failures out.new }
+    ensures { Writes (host_rows (providers_of cloud.now) (asked_of query.now) None) result
+        (W.taken out.old) (W.taken out.new) (W.failures out.old) (W.failures out.new) }
 {
     let fits = fitting_roots(alloc, cloud, query)?;
     let lacks = find_lacks(alloc, cloud, query, &fits)?;
@@ -289,7 +220,6 @@ fn write_hosts<W: Sink>(
 }
 
 // How far a query comes in the tree of a provider.
-#[tactic(auto, using(ac_base::proofs::Leaving::part_none))]
 fn write_why<W: Sink>(
     alloc: Global,
     cloud: &Cloud,
@@ -298,15 +228,8 @@ fn write_why<W: Sink>(
     out: &mut W,
 ) -> Result<u8, PageFault>
     requires { host < length (providers_of cloud.now) }
-    ensures few { IfOk result (λ status. status ≤ 1) }
-    ensures ok { IfOk result (IsWritten
-        (why_not (providers_of cloud.now) (asked_of query.now) host)
-        (W.taken out.old) (W.taken out.new)) }
-    ensures part { OnErr result (TakesPart (W.taken out.old) (W.taken out.new)
-        (why_not (providers_of cloud.now) (asked_of query.now) host).output) }
-    ensures failed { result ≡ Err PageFault.WriteFailed
-        → Rises (W.failures out.old) (W.failures out.new) }
-    ensures failures { W.failures out.old ≤ W.failures out.new }
+    ensures { Writes (why_not (providers_of cloud.now) (asked_of query.now) host) result
+        (W.taken out.old) (W.taken out.new) (W.failures out.old) (W.failures out.new) }
 {
     let (text, status) = why_at(alloc, cloud, query, root_place(cloud, host))?;
     push_text(out, &text, status)
