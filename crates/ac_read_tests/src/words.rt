@@ -46,292 +46,275 @@ fn has_line(text: &str, line: &str) -> bool {
 }
 
 // Whether the words are accepted, with this job.
-fn gives(alloc: Global, line: &str, job: Job<'_>) -> Result<bool, AllocError> {
+fn gives(alloc: Global, line: &str, job: &Job<'_>) -> Result<bool, AllocError> {
     let words = words_of(alloc, line)?;
     Ok(match read_words(alloc, words.as_slice()) {
-        Ok(words) => words.job() == job,
+        Ok(words) => words.job() == *job,
         Err(_fault) => false,
     })
 }
 
-// Whether the words are accepted, with this job by 1.36.
-fn asks<'a>(
-    alloc: Global,
-    line: &str,
-    command: Command,
-    query: &'a str,
-    token: Option<&'a str>,
-) -> Result<bool, AllocError> {
-    let version = Version::V136;
-    let job = Job {
-        command,
-        query,
-        version,
-        token,
-        host: None,
-    };
-    gives(alloc, line, job)
-}
+const CHECK: Job<'static> = Job {
+    command: Command::Check,
+    query: "",
+    version: Version::V136,
+    token: None,
+    host: None,
+};
 
-const CHECKS: &[&str] = &[
-    "ac_cli check --providers a --inventories b",
-    "any/name check --inventories=b --traits c --providers=a",
-    "ac_cli check --tables d",
+const CANDIDATES: Job<'static> = Job {
+    command: Command::Candidates,
+    query: "q",
+    ..CHECK
+};
+
+const CANDIDATES_AFTER: Job<'static> = Job {
+    token: Some("t"),
+    ..CANDIDATES
+};
+
+const TOKENS: Job<'static> = Job {
+    command: Command::Tokens,
+    ..CANDIDATES
+};
+
+const TOKENS_OF_TWO: Job<'static> = Job {
+    query: "resources=VCPU:2",
+    ..TOKENS
+};
+
+const VERIFY: Job<'static> = Job {
+    command: Command::Verify,
+    ..CANDIDATES_AFTER
+};
+
+const EXPLAIN: Job<'static> = Job {
+    command: Command::Explain,
+    ..CANDIDATES
+};
+
+const HOSTS: Job<'static> = Job {
+    command: Command::Hosts,
+    ..CANDIDATES
+};
+
+const WHY: Job<'static> = Job {
+    command: Command::Why,
+    host: Some("h"),
+    ..CANDIDATES
+};
+
+// Lines, and the job that each asks for.
+static JOBS: [(&str, Job<'static>); 46] = [
+    ("ac_cli check --providers a --inventories b", CHECK),
+    (
+        "any/name check --inventories=b --traits c --providers=a",
+        CHECK,
+    ),
+    ("ac_cli check --tables d", CHECK),
+    (
+        "ac_cli candidates q --providers a --inventories b",
+        CANDIDATES,
+    ),
+    (
+        "ac_cli candidates q --providers a --inventories b --after t",
+        CANDIDATES_AFTER,
+    ),
+    (
+        "ac_cli candidates --after=t --usages c --inventories b --providers a q",
+        CANDIDATES_AFTER,
+    ),
+    ("ac_cli candidates --tables d --after t q", CANDIDATES_AFTER),
+    (
+        "ac_cli tokens resources=VCPU:2 --providers a --inventories b",
+        TOKENS_OF_TWO,
+    ),
+    (
+        "ac_cli tokens --inventories=b --providers=a resources=VCPU:2",
+        TOKENS_OF_TWO,
+    ),
+    (
+        "ac_cli tokens --providers a --inventories b -- resources=VCPU:2",
+        TOKENS_OF_TWO,
+    ),
+    ("ac_cli tokens --tables=d resources=VCPU:2", TOKENS_OF_TWO),
+    (
+        "ac_cli tokens --after t q --providers a --inventories b",
+        Job {
+            token: Some("t"),
+            ..TOKENS
+        },
+    ),
+    ("ac_cli verify q t --providers a --inventories b", VERIFY),
+    ("ac_cli verify --inventories b q --providers a t", VERIFY),
+    (
+        "ac_cli verify --aggregates=c --providers a --inventories b q -- t",
+        VERIFY,
+    ),
+    ("ac_cli verify q --tables d t", VERIFY),
+    ("ac_cli explain q --providers a --inventories b", EXPLAIN),
+    (
+        "ac_cli explain --inventories=b --traits c --providers=a q",
+        EXPLAIN,
+    ),
+    ("ac_cli explain q --tables d", EXPLAIN),
+    ("ac_cli hosts q --providers a --inventories b", HOSTS),
+    (
+        "ac_cli hosts --inventories=b --traits c --providers=a q",
+        HOSTS,
+    ),
+    ("ac_cli hosts q --tables d", HOSTS),
+    ("ac_cli why q h --providers a --inventories b", WHY),
+    (
+        "ac_cli why --inventories=b q --traits c --providers=a h",
+        WHY,
+    ),
+    ("ac_cli why q --tables d -- h", WHY),
+    (
+        "ac_cli tokens q --microversion 1.36 --providers a --inventories b",
+        TOKENS,
+    ),
+    (
+        "ac_cli tokens --microversion=1.39 q --providers a --inventories b",
+        Job {
+            version: Version::V139,
+            ..TOKENS
+        },
+    ),
+    (
+        "ac_cli candidates q --providers a --inventories b --microversion 1.39",
+        Job {
+            version: Version::V139,
+            ..CANDIDATES
+        },
+    ),
+    (
+        "ac_cli verify q t --providers a --microversion 1.39 --inventories b",
+        Job {
+            version: Version::V139,
+            ..VERIFY
+        },
+    ),
+    // Between two blanks stands an empty word.
+    (
+        "ac_cli tokens  --providers a --inventories b",
+        Job {
+            query: "",
+            ..TOKENS
+        },
+    ),
+    (
+        "ac_cli candidates q --after  --providers a --inventories b",
+        Job {
+            token: Some(""),
+            ..CANDIDATES
+        },
+    ),
+    (
+        "ac_cli tokens q --after= --providers a --inventories b",
+        Job {
+            token: Some(""),
+            ..TOKENS
+        },
+    ),
+    (
+        "ac_cli verify   --providers a --inventories b",
+        Job {
+            query: "",
+            token: Some(""),
+            ..VERIFY
+        },
+    ),
+    // A word that begins with `-` is no option after `--`, nor after `=`.
+    (
+        "ac_cli tokens --providers a --inventories b -- -q",
+        Job {
+            query: "-q",
+            ..TOKENS
+        },
+    ),
+    (
+        "ac_cli tokens --after=-t --providers a --inventories b q",
+        Job {
+            token: Some("-t"),
+            ..TOKENS
+        },
+    ),
+    (
+        "ac_cli verify --providers a --inventories b -- -q -t",
+        Job {
+            query: "-q",
+            token: Some("-t"),
+            ..VERIFY
+        },
+    ),
+    // Of the URL that the log of the service has, the query is what stands behind the `?`.
+    (
+        "ac_cli tokens /placement/allocation_candidates?resources=VCPU:2 --tables d",
+        TOKENS_OF_TWO,
+    ),
+    (
+        "ac_cli tokens http://controller:8778/allocation_candidates?resources=VCPU:2 --tables d",
+        TOKENS_OF_TWO,
+    ),
+    ("ac_cli tokens ?resources=VCPU:2 --tables d", TOKENS_OF_TWO),
+    // What stands before the first mark is dropped, where neither `=` nor `&` stands before it.
+    (
+        "ac_cli tokens a?b?c --tables d",
+        Job {
+            query: "b?c",
+            ..TOKENS
+        },
+    ),
+    (
+        "ac_cli tokens a? --tables d",
+        Job {
+            query: "",
+            ..TOKENS
+        },
+    ),
+    (
+        "ac_cli tokens a%3Fb --tables d",
+        Job {
+            query: "a%3Fb",
+            ..TOKENS
+        },
+    ),
+    (
+        "ac_cli tokens a=b?c --tables d",
+        Job {
+            query: "a=b?c",
+            ..TOKENS
+        },
+    ),
+    (
+        "ac_cli tokens a&b?c --tables d",
+        Job {
+            query: "a&b?c",
+            ..TOKENS
+        },
+    ),
+    (
+        "ac_cli tokens a?b=c&d=e?f --tables d",
+        Job {
+            query: "b=c&d=e?f",
+            ..TOKENS
+        },
+    ),
+    (
+        "ac_cli verify a?q b?t --tables d",
+        Job {
+            token: Some("b?t"),
+            ..VERIFY
+        },
+    ),
 ];
 
 #[test]
-fn check(rt: HostRuntime) -> Result<(), Fail> {
-    for line in CHECKS {
-        assert!(rt; asks(rt.alloc(), line, Command::Check, "", None)?, "{line}");
-    }
-    Ok(())
-}
-
-const AFTER: &[&str] = &[
-    "ac_cli candidates q --providers a --inventories b --after t",
-    "ac_cli candidates --after=t --usages c --inventories b --providers a q",
-    "ac_cli candidates --tables d --after t q",
-];
-
-#[test]
-fn candidates(rt: HostRuntime) -> Result<(), Fail> {
-    let plain = "ac_cli candidates q --providers a --inventories b";
-    assert!(rt; asks(rt.alloc(), plain, Command::Candidates, "q", None)?);
-    for line in AFTER {
-        assert!(rt;
-            asks(rt.alloc(), line, Command::Candidates, "q", Some("t"))?,
-            "{line}"
-        );
-    }
-    Ok(())
-}
-
-const TOKENS: &[&str] = &[
-    "ac_cli tokens resources=VCPU:2 --providers a --inventories b",
-    "ac_cli tokens --inventories=b --providers=a resources=VCPU:2",
-    "ac_cli tokens --providers a --inventories b -- resources=VCPU:2",
-    "ac_cli tokens --tables=d resources=VCPU:2",
-];
-
-#[test]
-fn tokens(rt: HostRuntime) -> Result<(), Fail> {
-    for line in TOKENS {
-        assert!(rt;
-            asks(rt.alloc(), line, Command::Tokens, "resources=VCPU:2", None)?,
-            "{line}"
-        );
-    }
-    let after = "ac_cli tokens --after t q --providers a --inventories b";
-    assert!(rt; asks(rt.alloc(), after, Command::Tokens, "q", Some("t"))?);
-    Ok(())
-}
-
-const VERIFIES: &[&str] = &[
-    "ac_cli verify q t --providers a --inventories b",
-    "ac_cli verify --inventories b q --providers a t",
-    "ac_cli verify --aggregates=c --providers a --inventories b q -- t",
-    "ac_cli verify q --tables d t",
-];
-
-#[test]
-fn verify(rt: HostRuntime) -> Result<(), Fail> {
-    for line in VERIFIES {
-        assert!(rt;
-            asks(rt.alloc(), line, Command::Verify, "q", Some("t"))?,
-            "{line}"
-        );
-    }
-    Ok(())
-}
-
-const EXPLAINS: &[&str] = &[
-    "ac_cli explain q --providers a --inventories b",
-    "ac_cli explain --inventories=b --traits c --providers=a q",
-    "ac_cli explain q --tables d",
-];
-
-#[test]
-fn explain(rt: HostRuntime) -> Result<(), Fail> {
-    for line in EXPLAINS {
-        assert!(rt;
-            asks(rt.alloc(), line, Command::Explain, "q", None)?,
-            "{line}"
-        );
-    }
-    Ok(())
-}
-
-const FITS: &[&str] = &[
-    "ac_cli hosts q --providers a --inventories b",
-    "ac_cli hosts --inventories=b --traits c --providers=a q",
-    "ac_cli hosts q --tables d",
-];
-
-#[test]
-fn hosts(rt: HostRuntime) -> Result<(), Fail> {
-    for line in FITS {
-        assert!(rt;
-            asks(rt.alloc(), line, Command::Hosts, "q", None)?,
-            "{line}"
-        );
-    }
-    Ok(())
-}
-
-const WHYS: &[&str] = &[
-    "ac_cli why q h --providers a --inventories b",
-    "ac_cli why --inventories=b q --traits c --providers=a h",
-    "ac_cli why q --tables d -- h",
-];
-
-#[test]
-fn why(rt: HostRuntime) -> Result<(), Fail> {
-    for line in WHYS {
-        let job = Job {
-            command: Command::Why,
-            query: "q",
-            version: Version::V136,
-            token: None,
-            host: Some("h"),
-        };
+fn jobs(rt: HostRuntime) -> Result<(), Fail> {
+    for (line, job) in &JOBS {
         assert!(rt; gives(rt.alloc(), line, job)?, "{line}");
     }
-    Ok(())
-}
-
-#[test]
-fn versions(rt: HostRuntime) -> Result<(), Fail> {
-    let job = Job {
-        command: Command::Tokens,
-        query: "q",
-        version: Version::V136,
-        token: None,
-        host: None,
-    };
-    let older = "ac_cli tokens q --microversion 1.36 --providers a --inventories b";
-    assert!(rt; gives(rt.alloc(), older, job)?);
-    let version = Version::V139;
-    let newer = "ac_cli tokens --microversion=1.39 q --providers a --inventories b";
-    assert!(rt; gives(rt.alloc(), newer, Job { version, ..job })?);
-    let command = Command::Candidates;
-    let newer = "ac_cli candidates q --providers a --inventories b --microversion 1.39";
-    assert!(rt;
-        gives(
-            rt.alloc(),
-            newer,
-            Job {
-                command,
-                version,
-                ..job
-            }
-        )?
-    );
-    let command = Command::Verify;
-    let token = Some("t");
-    let newer = "ac_cli verify q t --providers a --microversion 1.39 --inventories b";
-    assert!(rt;
-        gives(
-            rt.alloc(),
-            newer,
-            Job {
-                command,
-                version,
-                token,
-                ..job
-            }
-        )?
-    );
-    Ok(())
-}
-
-const OTHER_VERSIONS: &[&str] = &[
-    "ac_cli tokens q --providers a --inventories b --microversion 1.40",
-    "ac_cli candidates q --providers a --inventories b --microversion 1.35",
-    "ac_cli verify q t --providers a --inventories b --microversion=1.390",
-    "ac_cli tokens q --providers a --inventories b --microversion=",
-];
-
-#[test]
-fn other_versions_are_refused(rt: HostRuntime) -> Result<(), Fail> {
-    for line in OTHER_VERSIONS {
-        assert!(rt; refusal(rt.alloc(), line)?.is_some(), "{line}");
-    }
-    match refusal(
-        rt.alloc(),
-        "ac_cli tokens q --providers a --inventories b --microversion 1.40",
-    )? {
-        Some(text) => {
-            let told =
-                "error: invalid value '1.40' for '--microversion <VERSION>': it is 1.36 or 1.39";
-            assert!(rt; has_line(text.as_str(), told));
-            for other in TOKENS_USAGE {
-                assert!(rt; has_line(text.as_str(), other), "{other}");
-            }
-        }
-        None => assert!(rt; false),
-    }
-    Ok(())
-}
-
-// Between two blanks stands an empty word.
-#[test]
-fn empty_words(rt: HostRuntime) -> Result<(), Fail> {
-    let query = "ac_cli tokens  --providers a --inventories b";
-    assert!(rt; asks(rt.alloc(), query, Command::Tokens, "", None)?);
-    let after = "ac_cli candidates q --after  --providers a --inventories b";
-    assert!(rt; asks(rt.alloc(), after, Command::Candidates, "q", Some(""))?);
-    let joined = "ac_cli tokens q --after= --providers a --inventories b";
-    assert!(rt; asks(rt.alloc(), joined, Command::Tokens, "q", Some(""))?);
-    let both = "ac_cli verify   --providers a --inventories b";
-    assert!(rt; asks(rt.alloc(), both, Command::Verify, "", Some(""))?);
-    Ok(())
-}
-
-// A word that begins with `-` is no option after `--`, nor after `=`.
-#[test]
-fn words_with_a_hyphen(rt: HostRuntime) -> Result<(), Fail> {
-    let query = "ac_cli tokens --providers a --inventories b -- -q";
-    assert!(rt; asks(rt.alloc(), query, Command::Tokens, "-q", None)?);
-    let after = "ac_cli tokens --after=-t --providers a --inventories b q";
-    assert!(rt; asks(rt.alloc(), after, Command::Tokens, "q", Some("-t"))?);
-    let both = "ac_cli verify --providers a --inventories b -- -q -t";
-    assert!(rt; asks(rt.alloc(), both, Command::Verify, "-q", Some("-t"))?);
-    Ok(())
-}
-
-// Of the URL that the log of the service has, the query is what stands behind the `?`.
-const PASTED: &[&str] = &[
-    "ac_cli tokens /placement/allocation_candidates?resources=VCPU:2 --tables d",
-    "ac_cli tokens http://controller:8778/allocation_candidates?resources=VCPU:2 --tables d",
-    "ac_cli tokens ?resources=VCPU:2 --tables d",
-];
-
-// What stands before the first mark is dropped, where neither `=` nor `&` stands before it.
-const MARKED: &[(&str, &str)] = &[
-    ("ac_cli tokens a?b?c --tables d", "b?c"),
-    ("ac_cli tokens a? --tables d", ""),
-    ("ac_cli tokens a%3Fb --tables d", "a%3Fb"),
-    ("ac_cli tokens a=b?c --tables d", "a=b?c"),
-    ("ac_cli tokens a&b?c --tables d", "a&b?c"),
-    ("ac_cli tokens a?b=c&d=e?f --tables d", "b=c&d=e?f"),
-];
-
-#[test]
-fn pasted(rt: HostRuntime) -> Result<(), Fail> {
-    for line in PASTED {
-        assert!(rt;
-            asks(rt.alloc(), line, Command::Tokens, "resources=VCPU:2", None)?,
-            "{line}"
-        );
-    }
-    for (line, query) in MARKED {
-        assert!(rt;
-            asks(rt.alloc(), line, Command::Tokens, query, None)?,
-            "{line}"
-        );
-    }
-    let token = "ac_cli verify a?q b?t --tables d";
-    assert!(rt; asks(rt.alloc(), token, Command::Verify, "q", Some("b?t"))?);
     Ok(())
 }
 
@@ -472,21 +455,24 @@ fn help_is_answered(rt: HostRuntime) -> Result<(), Fail> {
     Ok(())
 }
 
-// Below the heading stand these lines of statuses and no other.
+// Whether these lines of statuses, and an example, stand below the heading, and no other.
+fn has_below(text: &str, told: &[&str]) -> bool {
+    let below = text.lines().skip_while(|other| *other != "Exit status:");
+    let shown = below.filter(|other| other.starts_with("  ")).count();
+    shown == told.len() && told.iter().all(|other| has_line(text, other))
+}
+
+fn tells_below(alloc: Global, line: &str, told: &[&str]) -> Result<bool, AllocError> {
+    Ok(match help(alloc, line)? {
+        Some(text) => has_below(text.as_str(), told),
+        None => false,
+    })
+}
+
 #[test]
 fn help_tells_statuses_and_an_example(rt: HostRuntime) -> Result<(), Fail> {
     for (line, told) in BELOW_EACH {
-        match help(rt.alloc(), line)? {
-            Some(text) => {
-                for other in *told {
-                    assert!(rt; has_line(text.as_str(), other), "{line}: {other}");
-                }
-                let below = text.lines().skip_while(|other| *other != "Exit status:");
-                let shown = below.filter(|other| other.starts_with("  ")).count();
-                assert_eq!(rt; shown, told.len(), "{line}");
-            }
-            None => assert!(rt; false, "{line}"),
-        }
+        assert!(rt; tells_below(rt.alloc(), line, told)?, "{line}");
     }
     Ok(())
 }
@@ -509,12 +495,6 @@ const COMMANDS: &[&str] = &[
     "  hosts       Writes whether a query fits at each root, and what is missing there (CSV)",
     "  why         Writes how far each provider of a host comes, and what it lacks (CSV): why not this host",
 ];
-
-#[test]
-fn help_tells_the_commands(rt: HostRuntime) -> Result<(), Fail> {
-    assert!(rt; tells(rt.alloc(), "ac_cli --help", COMMANDS)?);
-    Ok(())
-}
 
 const TABLES: &[&str] = &[
     "      --tables <DIR>        The five tables of an export, in one folder: providers.csv, inventories.csv, usages.csv, traits.csv, aggregates.csv",
@@ -549,28 +529,6 @@ const ASKED_WHY: &[&str] = &[
     "  <QUERY>  What is asked for, between '..' since the shell reads & ! and ? otherwise; of a URL, what stands behind its ?",
     "  <HOST>   A provider of the host: its UUID, or a name that no other provider has",
 ];
-
-const WITH_OPTIONS: &[&str] = &[
-    "ac_cli help candidates",
-    "ac_cli help tokens",
-    "ac_cli help verify",
-    "ac_cli help explain",
-    "ac_cli help hosts",
-    "ac_cli help why",
-];
-
-#[test]
-fn help_tells_the_options(rt: HostRuntime) -> Result<(), Fail> {
-    for line in WITH_OPTIONS {
-        assert!(rt; tells(rt.alloc(), line, OPTIONS)?, "{line}");
-    }
-    assert!(rt; tells(rt.alloc(), "ac_cli help check", TABLES)?);
-    assert!(rt; tells(rt.alloc(), "ac_cli help candidates", SEARCHES)?);
-    assert!(rt; tells(rt.alloc(), "ac_cli help tokens", SEARCHES)?);
-    assert!(rt; tells(rt.alloc(), "ac_cli help verify", VERIFIED)?);
-    assert!(rt; tells(rt.alloc(), "ac_cli help why", ASKED_WHY)?);
-    Ok(())
-}
 
 const CHECK_USAGE: &[&str] = &[
     "Usage: ac_cli check --tables <DIR>",
@@ -607,15 +565,34 @@ const WHY_USAGE: &[&str] = &[
     "       ac_cli why [OPTIONS] --providers <FILE> --inventories <FILE> <QUERY> <HOST>",
 ];
 
+// Calls for help, and lines that it has.
+static HELPS: [(&str, &[&str]); 19] = [
+    ("ac_cli --help", COMMANDS),
+    ("ac_cli help check", TABLES),
+    ("ac_cli help candidates", OPTIONS),
+    ("ac_cli help tokens", OPTIONS),
+    ("ac_cli help verify", OPTIONS),
+    ("ac_cli help explain", OPTIONS),
+    ("ac_cli help hosts", OPTIONS),
+    ("ac_cli help why", OPTIONS),
+    ("ac_cli help candidates", SEARCHES),
+    ("ac_cli help tokens", SEARCHES),
+    ("ac_cli help verify", VERIFIED),
+    ("ac_cli help why", ASKED_WHY),
+    ("ac_cli help check", CHECK_USAGE),
+    ("ac_cli help candidates", CANDIDATES_USAGE),
+    ("ac_cli help tokens", TOKENS_USAGE),
+    ("ac_cli help verify", VERIFY_USAGE),
+    ("ac_cli help explain", EXPLAIN_USAGE),
+    ("ac_cli help hosts", HOSTS_USAGE),
+    ("ac_cli help why", WHY_USAGE),
+];
+
 #[test]
-fn help_tells_the_usage(rt: HostRuntime) -> Result<(), Fail> {
-    assert!(rt; tells(rt.alloc(), "ac_cli help check", CHECK_USAGE)?);
-    assert!(rt; tells(rt.alloc(), "ac_cli help candidates", CANDIDATES_USAGE)?);
-    assert!(rt; tells(rt.alloc(), "ac_cli help tokens", TOKENS_USAGE)?);
-    assert!(rt; tells(rt.alloc(), "ac_cli help verify", VERIFY_USAGE)?);
-    assert!(rt; tells(rt.alloc(), "ac_cli help explain", EXPLAIN_USAGE)?);
-    assert!(rt; tells(rt.alloc(), "ac_cli help hosts", HOSTS_USAGE)?);
-    assert!(rt; tells(rt.alloc(), "ac_cli help why", WHY_USAGE)?);
+fn help_tells_commands_options_and_usage(rt: HostRuntime) -> Result<(), Fail> {
+    for (line, told) in &HELPS {
+        assert!(rt; tells(rt.alloc(), line, told)?, "{line}");
+    }
     Ok(())
 }
 
@@ -661,6 +638,10 @@ const OTHER_WORDS: &[&str] = &[
     "ac_cli why q --providers a --inventories b",
     "ac_cli why q h h --providers a --inventories b",
     "ac_cli why q h --providers a --inventories b --after t",
+    "ac_cli tokens q --providers a --inventories b --microversion 1.40",
+    "ac_cli candidates q --providers a --inventories b --microversion 1.35",
+    "ac_cli verify q t --providers a --inventories b --microversion=1.390",
+    "ac_cli tokens q --providers a --inventories b --microversion=",
 ];
 
 #[test]
