@@ -1,4 +1,6 @@
 //! Small clouds and large ones, and the first fault of tables.
+ghost use Rattle.std.specs.Prelude.{◌≤◌, length, IfOk};
+
 use ac_base::{ClassName, Id, MemFeed, NoMemory, TraitName, Turn};
 use ac_tables::{
     Cloud, Counts, FromTables, ReadFault, Sources, Table, TableFault, TableKind, drain,
@@ -15,39 +17,43 @@ mod refusals;
 
 const LIMIT: usize = 67_108_864;
 
-// The first fault of some tables, whether the rest is there or not.
-fn told(
-    alloc: Global,
-    tables: (&str, &str, Option<&str>, Option<&str>, Option<&str>),
-) -> Option<TableFault> {
-    match read(alloc, tables) {
-        Ok(_) => None,
-        Err(fault) => Some(fault),
+// The texts of the five tables; where one is absent, it is a header alone.
+type Tables<'a> = (
+    &'a str,
+    &'a str,
+    Option<&'a str>,
+    Option<&'a str>,
+    Option<&'a str>,
+);
+
+// The first fault of some tables.
+fn told(alloc: Global, tables: Tables) -> Option<TableFault> {
+    read(alloc, tables).err()
+}
+
+// The bytes of a table, where they aren't too many.
+fn bytes_of(text: &str) -> Result<&[u8], TableFault>
+    ensures { IfOk result (λ bytes. length bytes.now ≤ 67108864) }
+{
+    let bytes = text.as_bytes();
+    if bytes.len() > LIMIT {
+        Err(TableFault::NoMemory)
+    } else {
+        Ok(bytes)
     }
 }
 
-fn read(
-    alloc: Global,
-    tables: (&str, &str, Option<&str>, Option<&str>, Option<&str>),
-) -> Result<Cloud, TableFault> {
+fn read(alloc: Global, tables: Tables) -> Result<Cloud, TableFault> {
     let (providers, inventories, usages, traits, aggregates) = tables;
     let usages = usages.unwrap_or("resource_provider,resource_class,usage");
     let traits = traits.unwrap_or("resource_provider,name");
     let aggregates = aggregates.unwrap_or("resource_provider,uuid");
-    if providers.len() > LIMIT
-        || inventories.len() > LIMIT
-        || usages.len() > LIMIT
-        || traits.len() > LIMIT
-        || aggregates.len() > LIMIT
-    {
-        return Err(TableFault::NoMemory);
-    }
     let src = Sources {
-        providers: providers.as_bytes(),
-        inventories: inventories.as_bytes(),
-        usages: Some(usages.as_bytes()),
-        traits: Some(traits.as_bytes()),
-        aggregates: Some(aggregates.as_bytes()),
+        providers: bytes_of(providers)?,
+        inventories: bytes_of(inventories)?,
+        usages: Some(bytes_of(usages)?),
+        traits: Some(bytes_of(traits)?),
+        aggregates: Some(bytes_of(aggregates)?),
     };
     Cloud::read(alloc, &src)
 }

@@ -2,16 +2,22 @@
 use super::{LIMIT, drains};
 use ac_base::{Feed, FromRead, MemFeed, Pull, Turn};
 use ac_tables::{ReadFault, drain};
+use std::alloc::Global;
 use std::io::{self, Read};
+
+// Why draining three bytes by these turns fails, and what the feed answers then.
+fn fails(alloc: Global, turns: &[Turn]) -> (Option<ReadFault>, Pull) {
+    let mut feed = MemFeed::new(b"abc", turns);
+    let fault = drain(alloc, &mut feed).err();
+    let mut buf = [0; 4];
+    (fault, feed.pull(&mut buf))
+}
 
 // Nothing is asked of a feed after a failure: the turn behind it is still there.
 #[test]
 fn asks_nothing_after_a_failure(rt: HostRuntime) {
-    let turns = [Turn::Up(1), Turn::Failed, Turn::Again];
-    let mut feed = MemFeed::new(b"abc", &turns);
-    assert!(rt; drain(rt.alloc(), &mut feed) == Err(ReadFault::Unreadable));
-    let mut buf = [0; 4];
-    assert_eq!(rt; feed.pull(&mut buf), Pull::Again);
+    let left = fails(rt.alloc(), &[Turn::Up(1), Turn::Failed, Turn::Again]);
+    assert!(rt; left == (Some(ReadFault::Unreadable), Pull::Again));
 }
 
 // Nor after one interrupted call too many.
@@ -19,10 +25,8 @@ fn asks_nothing_after_a_failure(rt: HostRuntime) {
 fn asks_nothing_after_the_last_interrupted_call(rt: HostRuntime) {
     let mut turns = [Turn::Again; 1002];
     turns[1001] = Turn::Failed;
-    let mut feed = MemFeed::new(b"abc", &turns);
-    assert!(rt; drain(rt.alloc(), &mut feed) == Err(ReadFault::Unreadable));
-    let mut buf = [0; 4];
-    assert_eq!(rt; feed.pull(&mut buf), Pull::Failed);
+    let left = fails(rt.alloc(), &turns);
+    assert!(rt; left == (Some(ReadFault::Unreadable), Pull::Failed));
 }
 
 // A thousand interrupted calls, a byte, and a thousand more; then one more than that.
@@ -57,14 +61,17 @@ impl Read for Ending {
     }
 }
 
+// Whether so many bytes are drained, and how often the reader is called after its last.
+fn drains_of(alloc: Global, left: usize) -> (bool, u32) {
+    let mut reader = Ending { left, late: 0 };
+    let is_drained = drain(alloc, &mut FromRead::new(&mut reader)).is_ok();
+    (is_drained, reader.late)
+}
+
 // The end is asked for once. Where one byte more came than a table may have, nothing is.
 #[test]
 fn asks_nothing_past_the_limit(rt: HostRuntime) {
-    for (left, late) in [(0, 1), (3, 1), (LIMIT + 1, 0)] {
-        let mut reader = Ending { left, late: 0 };
-        let mut feed = FromRead::new(&mut reader);
-        let drained = drain(rt.alloc(), &mut feed);
-        assert!(rt; drained.is_ok() == (late == 1), "{left} bytes");
-        assert_eq!(rt; reader.late, late, "{left} bytes");
+    for (left, want) in [(0, (true, 1)), (3, (true, 1)), (LIMIT + 1, (false, 0))] {
+        assert!(rt; drains_of(rt.alloc(), left) == want, "{left} bytes");
     }
 }
