@@ -2,8 +2,7 @@
 -- looks for, and where nothing is to be found.
 use Rattle.std.specs.Prelude.{◌≡◌, ℕ, ◌<◌, ◌≤◌, Bool, false, not, List, [], ◌∷◌, ◌++◌, slice_index_or}
 use Rattle.std.specs.List.{filter}
-use Rattle.ac_rules.specs.Order.{lex_lt}
-use Rattle.ac_rules.specs.Lists.{all_lists, IsListBelow}
+use Rattle.ac_rules.specs.Lists.{all_lists, IsListBelow, lex_lt}
 
 -- The numbers are below `count`, and there are `width` slots. A slot has some of the numbers as its choices. Some lists
 -- are open, and some lists of a number for each slot are wanted.

@@ -5,8 +5,7 @@ use Rattle.ac_query.specs.Asked.{Asked, slots_of, is_isolated}
 use Rattle.ac_cloud.specs.World.{Provider, provider_at, id_at}
 use Rattle.ac_cloud.specs.Laws.{DifferInAmounts}
 use Rattle.ac_rules.specs.Claims.{claimed, released, is_in_use}
-use Rattle.ac_rules.specs.Order.{lex_lt}
-use Rattle.ac_rules.specs.Lists.{IsListBelow, IsRising}
+use Rattle.ac_rules.specs.Lists.{IsListBelow, IsRising, lex_lt}
 use Rattle.ac_rules.specs.Placed.{Placed, assigned}
 use Rattle.ac_rules.specs.Together.{sum_on, holds, sums, is_set_apart, isolate}
 use Rattle.ac_rules.specs.Judge.{judge, is_candidate, is_open}

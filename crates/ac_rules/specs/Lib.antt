@@ -1,5 +1,4 @@
 pub mod Shown
-pub mod Order
 pub mod Lists
 pub mod Placed
 pub mod Own

@@ -1,7 +1,13 @@
--- Lists of numbers: all of them, in order, and the first of some.
-use Rattle.std.specs.Prelude.{◌≡◌, ◌<◌, ℕ, zero, suc, true, List, [], ◌∷◌, map, length, Option, Some, None, ⊤}
+-- Lists of numbers: their order, all of them, and the first of some.
+use Rattle.std.specs.Prelude.{◌≡◌, ◌<◌, ◌&&◌, ◌||◌, ◌==◌, nat_lt, ℕ, zero, suc, Bool, true, false, List, [], ◌∷◌, map, length, Option, Some, None, ⊤}
 use Rattle.std.specs.List.{flat_map, range_with_len, All, AllByRecursion}
-use Rattle.ac_rules.specs.Order.{lex_lt}
+
+-- one list is before another, item by item; a front of a list is before it
+abbrev pub lex_lt : List ℕ → List ℕ → Bool
+lex_lt [] [] = false
+lex_lt [] (y ∷ ys) = true
+lex_lt (x ∷ xs) [] = false
+lex_lt (x ∷ xs) (y ∷ ys) = nat_lt x y || ((x == y) && lex_lt xs ys)
 
 -- the first item, and those behind it
 abbrev pub head_of : {X : Type 0} → List X → Option X

@@ -3,8 +3,7 @@ use Rattle.std.specs.Prelude.{ℕ, Bool, true, List, map, length, take, Option, 
 use Rattle.std.specs.List.{filter}
 use Rattle.ac_query.specs.Asked.{Asked, slots_of}
 use Rattle.ac_cloud.specs.World.{Provider, id_at}
-use Rattle.ac_rules.specs.Order.{lex_lt}
-use Rattle.ac_rules.specs.Lists.{all_lists}
+use Rattle.ac_rules.specs.Lists.{all_lists, lex_lt}
 use Rattle.ac_rules.specs.Judge.{is_candidate}
 
 -- of all lists of one provider for each slot, those that are candidates

@@ -3,7 +3,7 @@ use Rattle.std.specs.Prelude.{ℕ, ◌+◌, ◌&&◌, ◌==◌, zero, suc, Bool,
 use Rattle.ac_query.specs.Asked.{Asked, slots_of}
 use Rattle.ac_cloud.specs.World.{Provider, id_at}
 use Rattle.ac_rules.specs.Judge.{is_open}
-use Rattle.ac_rules.specs.Order.{lex_lt}
+use Rattle.ac_rules.specs.Lists.{lex_lt}
 use Rattle.ac_rules.specs.Pages.{ids_of}
 use Rattle.ac_search.specs.Search.{below, is_up_to}
 

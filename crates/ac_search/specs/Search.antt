@@ -2,7 +2,7 @@
 pub mod Steps
 use Rattle.std.specs.Prelude.{◌≡◌, ℕ, ◌+◌, ◌-◌, ◌*◌, ◌<◌, ◌≤◌, zero, suc, Bool, true, false, not, ◌&&◌, nat_lt, cond, if◌then◌else◌, List, [], ◌∷◌, ◌++◌, map, length, take, slice_index, Option, None, Some}
 use Rattle.std.specs.List.{filter, flat_map, range_with_len, AllByRecursion}
-use Rattle.ac_rules.specs.Order.{lex_lt}
+use Rattle.ac_rules.specs.Lists.{lex_lt}
 use Rattle.ac_prune.specs.Search.{Search, sought, choices_at, next_at}
 
 -- ---- What lies between two lists

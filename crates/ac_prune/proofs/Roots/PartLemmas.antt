@@ -12,8 +12,7 @@ use Rattle.ac_query.specs.Asked.{Asked, Slot, slots_of, lists_suffix}
 use Rattle.ac_cloud.specs.Trees.{chain}
 use Rattle.ac_cloud.specs.World.{Provider, id_at, parent_of, is_above}
 use Rattle.ac_rules.specs.Laws.{AreInOrder}
-use Rattle.ac_rules.specs.Lists.{IsListBelow}
-use Rattle.ac_rules.specs.Order.{lex_lt}
+use Rattle.ac_rules.specs.Lists.{IsListBelow, lex_lt}
 use Rattle.ac_rules.specs.Placed.{Placed, placed, slot_at, no_slot, assigned}
 use Rattle.ac_rules.specs.Together.{listed, is_top, subtree}
 use Rattle.ac_rules.specs.Judge.{tests, all_hold, is_candidate}

@@ -4,8 +4,7 @@ use Rattle.std.specs.List.{AllPairs, AllByRecursion as Each}
 use Rattle.std.proofs.lemmas.Bool.{not-true, not_from_false, false_from_ne_true, false≢true}
 use Rattle.std.proofs.lemmas.List.{get_or_past}
 use Rattle.std.proofs.lemmas.List.Elements.{recursion_from_All}
-use Rattle.ac_rules.specs.Order.{lex_lt}
-use Rattle.ac_rules.specs.Lists.{IsRising}
+use Rattle.ac_rules.specs.Lists.{IsRising, lex_lt}
 use Rattle.ac_prune.specs.Search.{Search, sought, IsDead, choices_at, next_at}
 use Rattle.ac_rules.proofs.Elements.{Among, each_filter, each_weaker, among_filter}
 use Rattle.ac_rules.proofs.SlotLemmas.{each_at}

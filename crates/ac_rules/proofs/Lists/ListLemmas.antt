@@ -4,8 +4,7 @@ use Rattle.std.specs.List.{flat_map, filter, range_with_len, AllByRecursion as E
 use Rattle.std.proofs.lemmas.Bool.{cases_Bool, cases_lt}
 use Rattle.std.proofs.lemmas.Bool.Decides.{nat_tests}
 use Rattle.std.proofs.lemmas.List.Elements.{All-nil, All-cons, All-head, All-tail}
-use Rattle.ac_rules.specs.Order.{lex_lt}
-use Rattle.ac_rules.specs.Lists.{all_lists, IsListBelow, IsRising}
+use Rattle.ac_rules.specs.Lists.{all_lists, IsListBelow, IsRising, lex_lt}
 use Rattle.ac_rules.proofs.Elements.{Among, each_append, each_map, each_weaker, each_all, among_map, among_flat_map, each_filter}
 
 -- the lists of ls, each behind a number of ps

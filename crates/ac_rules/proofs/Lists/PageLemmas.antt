@@ -5,8 +5,7 @@ use Rattle.std.specs.List.{filter, AllByRecursion as Each}
 use Rattle.std.proofs.lemmas.List.Elements.{recursion_from_All}
 use Rattle.ac_query.specs.Asked.{Asked, slots_of}
 use Rattle.ac_cloud.specs.World.{Provider, id_at}
-use Rattle.ac_rules.specs.Order.{lex_lt}
-use Rattle.ac_rules.specs.Lists.{IsListBelow, IsRising}
+use Rattle.ac_rules.specs.Lists.{IsListBelow, IsRising, lex_lt}
 use Rattle.ac_rules.specs.Pages.{candidates, ids_of, is_after, rest, cut}
 use Rattle.ac_rules.specs.Laws.{AreInOrder, PagesJoin, both_limits, IsLeastAfter, RestBegins}
 use Rattle.ac_rules.proofs.Elements.{Among, among_right, filter_twice, filter_agree, filter_all, each_weaker, each_all, each_both, each_among, each_map}

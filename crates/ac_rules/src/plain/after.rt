@@ -3,7 +3,7 @@
 ghost use Rattle.std.specs.Prelude.{◌≡◌, ◌<◌, length};
 ghost use Rattle.std.specs.List.{All};
 ghost use Rattle.ac_cloud.specs.Cloud.CloudWorld.{providers_of};
-ghost use Rattle.ac_rules.specs.Order.{lex_lt};
+ghost use Rattle.ac_rules.specs.Lists.{lex_lt};
 ghost use Rattle.ac_rules.specs.Pages.{ids_of};
 
 use ac_base::Id;

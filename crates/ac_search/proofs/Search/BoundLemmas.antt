@@ -5,8 +5,7 @@ use Rattle.std.proofs.lemmas.Bool.{cases_Bool, cases_lt, cases_eq, false_from_ne
 use Rattle.std.proofs.lemmas.Bool.Decides.{nat_tests}
 use Rattle.std.proofs.lemmas.List.{get_or_past, get_or_push}
 use Rattle.std.proofs.lemmas.List.Elements.{All-from_recursion, recursion_from_All, All-from_get_or}
-use Rattle.ac_rules.specs.Order.{lex_lt}
-use Rattle.ac_rules.specs.Lists.{IsListBelow, IsRising}
+use Rattle.ac_rules.specs.Lists.{IsListBelow, IsRising, lex_lt}
 use Rattle.ac_prune.specs.Search.{Search, IsDead, AllDead, sought, choices_at, next_at}
 use Rattle.ac_search.specs.Search.{from, left_from, next_front, Enters, IsSound}
 use Rattle.ac_rules.proofs.Elements.{Among, each_weaker, each_append, each_among, filter_agree, filter_none}

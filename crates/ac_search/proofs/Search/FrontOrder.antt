@@ -2,7 +2,7 @@
 use Rattle.std.proofs.Common.{◌≡◌, ℕ, zero, suc, true, false, List, [], ◌∷◌, ◌++◌, inl, inr, length, take, refl, sym, ap, ◌∙◌, subst, nat_lt, arith, append-nil}
 use Rattle.std.proofs.lemmas.Bool.{cases_Bool, true_from_ne_false, false_from_ne_true, false≢true}
 use Rattle.std.proofs.lemmas.Bool.Decides.{nat_tests}
-use Rattle.ac_rules.specs.Order.{lex_lt}
+use Rattle.ac_rules.specs.Lists.{lex_lt}
 use Rattle.ac_rules.proofs.Lists.OrderLemmas.{lex_nil, lex_trans, lex_total, lex_asym}
 
 pub lex_append : (q u w : List ℕ) → lex_lt (q ++ u) (q ++ w) ≡ lex_lt u w

@@ -4,7 +4,7 @@ use Rattle.std.specs.List.{flat_map, range_with_len, AllByRecursion as Each}
 use Rattle.std.proofs.lemmas.Bool.{cases_Bool}
 use Rattle.ac_query.specs.Asked.{Asked, slots_of}
 use Rattle.ac_cloud.specs.World.{Provider}
-use Rattle.ac_rules.specs.Order.{lex_lt}
+use Rattle.ac_rules.specs.Lists.{lex_lt}
 use Rattle.ac_rules.specs.Judge.{is_open}
 use Rattle.ac_rules.specs.Laws.{AreInOrder}
 use Rattle.ac_search.specs.Search.{below, is_up_to, is_between, between}

@@ -4,7 +4,7 @@ use Rattle.std.specs.List.{AllByRecursion as Each}
 use Rattle.std.proofs.lemmas.Bool.{cases_order}
 use Rattle.std.proofs.lemmas.Bool.Decides.{nat_tests}
 use Rattle.ac_cloud.specs.World.{Provider, id_at}
-use Rattle.ac_rules.specs.Order.{lex_lt}
+use Rattle.ac_rules.specs.Lists.{lex_lt}
 use Rattle.ac_rules.specs.Pages.{ids_of}
 use Rattle.ac_rules.specs.Laws.{AreInOrder}
 use Rattle.ac_search.specs.Between.{rank_of, is_known, least_after}

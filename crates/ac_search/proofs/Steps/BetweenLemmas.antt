@@ -4,7 +4,7 @@ use Rattle.std.specs.List.{filter}
 use Rattle.std.proofs.lemmas.Bool.{not_from_false, not-true, false_from_ne_true, false≢true}
 use Rattle.std.proofs.lemmas.List.{take-append-le}
 use Rattle.std.proofs.Math.Nat.{mul-le-mul_left}
-use Rattle.ac_rules.specs.Order.{lex_lt}
+use Rattle.ac_rules.specs.Lists.{lex_lt}
 use Rattle.ac_prune.specs.Search.{Search, next_at}
 use Rattle.ac_search.specs.Search.{all_shorter, next_front, is_up_to, is_between, between, is_met, met, IsSound}
 use Rattle.ac_rules.proofs.Elements.{each_weaker, count_less}

@@ -11,7 +11,7 @@ use Rattle.ac_base.specs.Devices.{last_count, one_more, Rises}
 use Rattle.ac_query.specs.Shown.Queries.{asked_of}
 use Rattle.ac_cloud.specs.Cloud.CloudWorld.{providers_of}
 use Rattle.ac_cloud.proofs.InOrder.{cloud_in_order}
-use Rattle.ac_rules.specs.Order.{lex_lt}
+use Rattle.ac_rules.specs.Lists.{lex_lt}
 use Rattle.ac_prune.specs.Search.{Search, choices_at, next_at}
 use Rattle.ac_search.specs.Search.{all_shorter, from, between}
 use Rattle.ac_search.specs.Shown.Walk.{cloud_in, query_in, token_in, given_in, changed, search_in, place_in, path_in, front_in, left_of, IsSame, Tries}

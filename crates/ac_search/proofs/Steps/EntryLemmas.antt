@@ -5,7 +5,7 @@ use Rattle.std.proofs.Math.Seq.{take-suc}
 use Rattle.std.proofs.lemmas.Bool.{cases_Bool, cases_lt, lt-ltb, le-ltb, false≢true}
 use Rattle.std.proofs.lemmas.Bool.Decides.{nat_tests}
 use Rattle.std.proofs.lemmas.List.{get_or_default, get_or_push}
-use Rattle.ac_rules.specs.Order.{lex_lt}
+use Rattle.ac_rules.specs.Lists.{lex_lt}
 use Rattle.ac_prune.specs.Search.{Search, sought, choices_at, next_at}
 use Rattle.ac_search.specs.Search.{next_front, least_at, HasAt, IsStart, Enters, IsSound}
 use Rattle.ac_rules.proofs.Elements.{Among, each_weaker}

@@ -5,7 +5,7 @@ use Rattle.std.proofs.lemmas.Bool.{cases_Bool, cases_lt, false≢true}
 use Rattle.std.proofs.lemmas.List.{get_or_push}
 use Rattle.std.proofs.Math.ListN.{get_or-append}
 use Rattle.std.proofs.Math.Nat.{mul-le-mul_left}
-use Rattle.ac_rules.specs.Order.{lex_lt}
+use Rattle.ac_rules.specs.Lists.{lex_lt}
 use Rattle.ac_prune.specs.Search.{Search, sought, choices_at, next_at}
 use Rattle.ac_search.specs.Search.{all_shorter, next_front, from, left_from, is_met, met, behind, Enters, IsSound}
 use Rattle.ac_rules.proofs.Elements.{each_all, count_less, count_more, filter_all}

@@ -2,7 +2,7 @@
 use Rattle.std.specs.Prelude.{◌≡◌, ℕ, ◌+◌, ◌<◌, ◌≤◌, min, suc, true, false, List, [], ◌∷◌, length, Option, None, Some}
 use Rattle.ac_base.specs.Devices.{last_count, one_more}
 use Rattle.ac_prune.specs.Search.{next_at}
-use Rattle.ac_rules.specs.Order.{lex_lt}
+use Rattle.ac_rules.specs.Lists.{lex_lt}
 use Rattle.ac_search.specs.Shown.Walk.{search_in, place_in, slot_in, front_in, path_in, left_of, changed, IsSame, Tries}
 use Rattle.ac_search.specs.declared.walk.Walk.{Walk}
 use Rattle.ac_search.specs.declared.walk.Step.{Step}
