@@ -9,7 +9,7 @@ set -eu
 root=$(dirname -- "$(dirname -- "$(readlink -f -- "$0")")")
 object=$root/out/ac_cli.o
 if ! test -f "$object"; then
-    echo "link-statically: there is no out/ac_cli.o; rm -f out/ac_cli, then ./ac_cli, which builds both" >&2
+    echo "link-statically: there is no out/ac_cli.o; rm -f out/ac_cli, then AC_CLI_ANEW=yes ./ac_cli, which builds both" >&2
     exit 70
 fi
 kit=$(dirname -- "$(rt doc)")
