@@ -3,7 +3,11 @@ use Rattle.std.specs.Prelude.{◌≡◌, ℕ, ◌+◌, ◌≤◌, List, ◌++◌
 use Rattle.std.specs.Io.KnownBytes.{Appends}
 use Rattle.ac_cloud.specs.World.{World}
 use Rattle.ac_query.specs.declared.version.Version.{Version}
+use Rattle.ac_run.specs.Answer.{Outcome, refused}
 use Rattle.ac_run.specs.Lines.{memory_line, output_line}
+use Rattle.ac_run.specs.Refusals.{line_of, status_of}
+use Rattle.ac_run.specs.declared.refusal.Refusal.{Refusal}
+use Rattle.ac_run.specs.declared.refusal.Refusal.TheVariants as why
 use Rattle.ac_session.specs.Sessions.{questions_line}
 use Rattle.ac_session.specs.Turns.{lines_in, session_text}
 use Rattle.ac_session.specs.declared.session.Stop.{Stop}
@@ -18,6 +22,10 @@ pub record Stands (version : Version) (first : World) (questions : List ℕ) (be
   pub taken : Appends before after written
   pub text : session_text version first (lines_in questions) ≡ written ++ session_text version world (lines_in rest)
   pub fewer : length rest + turns ≤ length questions
+
+-- an outcome is this refusal; of want of memory nothing is said
+abbrev pub IsRefusal : Refusal → Outcome → Type 0
+IsRefusal refusal o = (refusal ≡ why.NoMemory → ⊥) → o ≡ refused (line_of refusal) (status_of refusal)
 
 -- the line that tells why a session stopped, and its status
 abbrev pub stop_line : Stop → List ℕ

@@ -1,5 +1,5 @@
 //! A session: questions from a feed, each answered whole before the next is read.
-ghost use Rattle.std.specs.Prelude.{◌≡◌, ◌≢◌, ◌≤◌, ◌<◌, ◌⊎◌, ℕ, List, ◌∷◌, [], Contains, Err, IfSome, Ok, OnErr, OnOk, Option, Some, length};
+ghost use Rattle.std.specs.Prelude.{◌≡◌, ◌≢◌, ◌≤◌, ◌<◌, ◌⊎◌, ℕ, List, ◌∷◌, [], Contains, Err, Ok, OnErr, OnOk, Option, Some, length};
 ghost use Rattle.std.specs.Io.KnownBytes.{Appends, Keeps, append_known};
 ghost use Rattle.ac_answers.specs.Writing.{TakesLine};
 ghost use Rattle.ac_base.specs.Devices.{Rises};
@@ -9,7 +9,7 @@ ghost use Rattle.ac_report.specs.declared.fault.PageFault.TheVariants as PageFau
 ghost use Rattle.ac_run.specs.Feeds.{Bytes, FeedRose, TellBytes};
 ghost use Rattle.ac_run.specs.Lines.{memory_line, output_line};
 ghost use Rattle.ac_run.specs.Run.{FailsOr, IsAnswered, IsRefused, IsUnread};
-ghost use Rattle.ac_session.specs.Lines.{most_passed};
+ghost use Rattle.ac_session.specs.Lines.{Given, most_passed};
 ghost use Rattle.ac_session.specs.Reading.{feed_in, given_by, left};
 ghost use Rattle.ac_session.specs.Sessions.{AreUnread, session_answer};
 ghost use Rattle.ac_session.specs.Standing.{Stands, stop_line, stop_status};
@@ -59,12 +59,12 @@ fn hand_on<W: Sink + Drop>(
     next: Next<'_>,
     out: W,
 ) -> (Result<(), PageFault>, W)
-    ensures ok { IfSome (given_by next) (λ given. OnOk result.0 (Appends (W.taken out)
-        (W.taken result.1) (turn_of version (world_of cloud.old) given).text)) }
-    ensures world { IfSome (given_by next) (λ given. OnOk result.0 (world_of cloud.new
-        ≡ (turn_of version (world_of cloud.old) given).world)) }
-    ensures part { IfSome (given_by next) (λ given. IsFirstPart (append_known (W.taken out)
-        (turn_of version (world_of cloud.old) given).text) (W.taken result.1)) }
+    ensures ok { (given : Given) → given_by next ≡ Some given → OnOk result.0 (Appends (W.taken out)
+        (W.taken result.1) (turn_of version (world_of cloud.old) given).text) }
+    ensures world { (given : Given) → given_by next ≡ Some given → OnOk result.0 (world_of cloud.new
+        ≡ (turn_of version (world_of cloud.old) given).world) }
+    ensures part { (given : Given) → given_by next ≡ Some given → IsFirstPart (append_known (W.taken out)
+        (turn_of version (world_of cloud.old) given).text) (W.taken result.1) }
     ensures failed { result.0 ≡ Err PageFault.WriteFailed
         → Rises (W.failures out) (W.failures result.1) }
     ensures failures { W.failures out ≤ W.failures result.1 }

@@ -14,6 +14,7 @@ ghost use Rattle.ac_report.specs.declared.fault.PageFault.TheVariants as PageFau
 ghost use Rattle.ac_run.specs.Answer.{Says, answer_in, past_query};
 ghost use Rattle.ac_run.specs.Jobs.{ExplainsAsked, task_of};
 ghost use Rattle.ac_session.specs.Questions.{HasItsToken, asked_in};
+ghost use Rattle.ac_session.specs.Lines.{Given};
 ghost use Rattle.ac_session.specs.Reading.{given_by};
 ghost use Rattle.ac_session.specs.Turns.{answer_text, assignment_task, claim_said, claim_turn, places_named, release_said, release_turn, turn_asked, turn_of};
 ghost use Rattle.ac_session.specs.UsageRows.{usage_rows};
@@ -242,12 +243,12 @@ pub fn answer_next<W: Sink>(
     next: Next<'_>,
     out: &mut W,
 ) -> Result<(), PageFault>
-    ensures ok { IfSome (given_by next) (λ given. OnOk result (Appends
-        (W.taken out.old) (W.taken out.new) (turn_of version (world_of cloud.old) given).text)) }
-    ensures world { IfSome (given_by next) (λ given. OnOk result (world_of cloud.new
-        ≡ (turn_of version (world_of cloud.old) given).world)) }
-    ensures part { IfSome (given_by next) (λ given. OnErr result (TakesPart
-        (W.taken out.old) (W.taken out.new) (turn_of version (world_of cloud.old) given).text)) }
+    ensures ok { (given : Given) → given_by next ≡ Some given → OnOk result (Appends
+        (W.taken out.old) (W.taken out.new) (turn_of version (world_of cloud.old) given).text) }
+    ensures world { (given : Given) → given_by next ≡ Some given → OnOk result (world_of cloud.new
+        ≡ (turn_of version (world_of cloud.old) given).world) }
+    ensures part { (given : Given) → given_by next ≡ Some given → OnErr result (TakesPart
+        (W.taken out.old) (W.taken out.new) (turn_of version (world_of cloud.old) given).text) }
     ensures failed { result ≡ Err PageFault.WriteFailed
         → Rises (W.failures out.old) (W.failures out.new) }
     ensures failures { W.failures out.old ≤ W.failures out.new }
