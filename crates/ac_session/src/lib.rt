@@ -8,13 +8,12 @@ mod endings;
 pub mod laws;
 pub mod lines;
 pub mod questions;
-pub mod session;
-pub mod turns;
+mod session;
+mod turns;
 mod usages;
 
 pub use end_lines::LineFault;
 pub use lines::{Lines, Next};
 pub use questions::{Question, read_question};
 pub use session::run_session;
-pub use turns::answer_question;
 pub use usages::write_usages;

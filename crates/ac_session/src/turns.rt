@@ -202,8 +202,8 @@ fn answer_usages<W: Sink>(alloc: Global, cloud: &Cloud, out: &mut W) -> Result<(
     end_answer(out, status)
 }
 
-/// Answers a question, and changes the cloud where it is a claim or a release.
-pub fn answer_question<W: Sink>(
+// Answers a question, and changes the cloud where it is a claim or a release.
+fn answer_question<W: Sink>(
     alloc: Global,
     cloud: &mut Cloud,
     version: Version,
@@ -236,7 +236,7 @@ pub fn answer_question<W: Sink>(
 
 /// Answers what a reader of lines gave. A failure gives nothing, and nothing is answered.
 #[tactic(auto, unfolding(crate::specs::Turns::turn_of))]
-pub fn answer_next<W: Sink>(
+pub(crate) fn answer_next<W: Sink>(
     alloc: Global,
     cloud: &mut Cloud,
     version: Version,
