@@ -18,7 +18,7 @@ pub use answering::write_answer;
 pub use asking::{Wanted, read_asked, read_wanted};
 pub use draining::Inputs;
 pub use gathered::run_gathered;
-pub use outputs::{push_verdict, verdict_status};
+pub use outputs::push_verdict;
 pub use ready::read_inputs;
 pub use refusal::Refusal;
 pub use running::run;
