@@ -60,7 +60,7 @@ module _ {R : Type 0} (remaining : R → Option (List ℕ)) (failures : R → �
     -- and state this world
     pub is_stated : (world : World) → tables_fault (tables_in texts) ≡ None → world ≡ world_stated (tables_in texts)
         → (b : Bytes) → TellBytes remaining from b → IsStated b world
-    is_stated world fine stated b tell = subst (λ b. IsStated b world) (told b tell) (record { few = few; fine = fine; world = stated })
+    is_stated world fine stated b tell = subst (λ b. IsStated b world) (told b tell) (record { few = few; fine = fine; states = stated })
 
 -- ---- why there is no answer
 
@@ -78,7 +78,7 @@ module _ {R : Type 0} (remaining : R → Option (List ℕ)) (failures : R → �
   -- the tables state this world
   module _ (world : World) (stated : (b : Bytes) → TellBytes remaining from b → IsStated b world) where
     pub answers : (b : Bytes) → TellBytes remaining from b → answer task b ≡ answer_in task.command task world
-    answers b tell = let s = stated b tell in in_world task b world s.few s.fine s.world
+    answers b tell = let s = stated b tell in in_world task b world s.few s.fine s.states
 
     pub explains_wanted : (refusal : Refusal) → ExplainsWanted task world refusal → ExplainsUnready remaining failures task from to refusal
     explains_wanted (why.Query f) h = λ b tell. answers b tell ∙ h

@@ -36,7 +36,7 @@ ExplainsTables first why.NoMemory = ⊤
 pub record IsStated (b : Bytes) (world : World) : Type 0 where
   pub few : too_large b ≡ None
   pub fine : tables_fault (tables_in b) ≡ None
-  pub world : world ≡ world_stated (tables_in b)
+  pub states : world ≡ world_stated (tables_in b)
 
 -- why the tables of feeds state no world: a feed failed, a table has too many bytes, or the tables have a fault; or memory gave out
 abbrev pub ExplainsInputs : {R : Type 0} → (R → Option (List ℕ)) → (R → ℕ) → FiveTables R → FiveTables R → Refusal → Type 0

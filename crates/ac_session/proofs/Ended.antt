@@ -38,7 +38,7 @@ module _ (version : Version) (b : Bytes) (questions : List ℕ) where
 
   pub in_world : (world : World) → IsStated b world → session_answer version b questions ≡ written (session_text version world (lines_in questions)) 0
   unfolding session_answer session_over
-  in_world world stated = rw (stated.few, stated.fine, stated.world) refl
+  in_world world stated = rw (stated.few, stated.fine, stated.states) refl
 
 -- ---- statuses
 
