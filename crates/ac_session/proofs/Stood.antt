@@ -155,8 +155,8 @@ module _ (version : Version) (first : World) (questions : List ℕ) (a : Option 
 
 -- what a reader gave, where it is neither the end nor a failure
 pub given_there : (n : Next) → (n ≡ next.End → ⊥) → (n ≡ next.Failed → ⊥) → (given : Given) × (given_by n ≡ Some given) × (given ≡ end → ⊥)
-given_there (next.Line bytes) more fine = (line bytes.now, (refl, λ e. cc))
-given_there next.TooLong more fine = (too_long, (refl, λ e. cc))
+given_there (next.Line bytes) more fine = (line bytes.now, refl, λ e. cc)
+given_there next.TooLong more fine = (too_long, refl, λ e. cc)
 given_there next.End more fine = absurd (more refl)
 given_there next.Failed more fine = absurd (fine refl)
 
