@@ -4,3 +4,4 @@ pub mod Passing
 pub mod Leading
 pub mod Cuts
 pub mod Written
+pub mod UsagesWritten

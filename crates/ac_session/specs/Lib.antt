@@ -4,4 +4,5 @@ pub mod Rooms
 pub mod Finds
 pub mod Questions
 pub mod EndLines
+pub mod UsageRows
 pub mod Laws

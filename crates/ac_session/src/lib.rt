@@ -7,7 +7,9 @@ pub mod end_lines;
 pub mod laws;
 pub mod lines;
 pub mod questions;
+pub mod usages;
 
 pub use end_lines::LineFault;
 pub use lines::{Lines, Next};
 pub use questions::{Question, read_question};
+pub use usages::write_usages;
