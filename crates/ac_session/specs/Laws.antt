@@ -1,13 +1,14 @@
 -- What the laws say.
-use Rattle.std.specs.Prelude.{◌≡◌, ⊤, ℕ, List, ◌∷◌, ◌++◌, All, false, true}
+use Rattle.std.specs.Prelude.{◌≡◌, ⊤, ℕ, List, ◌∷◌, ◌++◌, All, false, true, codes}
 use Rattle.std.specs.List.{join_with_byte}
 use Rattle.ac_cloud.specs.World.{World}
 use Rattle.ac_query.specs.Asked.{Asked as Query}
 use Rattle.ac_query.specs.declared.version.Version.{Version}
 use Rattle.ac_rules.specs.Judge.{is_candidate}
+use Rattle.ac_run.specs.Answer.{past_query, written}
 use Rattle.ac_session.specs.Lines.{behind_line, first_line, is_newline, newline}
 use Rattle.ac_session.specs.Questions.{Asked, Text, job, claim, release, usages, nothing, unknown, wrong_number, is_blank, words_of}
-use Rattle.ac_session.specs.Turns.{claim_turn, turn_asked}
+use Rattle.ac_session.specs.Turns.{answers, assignment_task, claim_line, claim_turn, release_turn, turn_asked}
 
 -- no byte of a text is a blank
 abbrev pub LacksBlanks : Text → Type 0
@@ -41,3 +42,9 @@ AskingLeavesAll = (version : Version) (world : World) (asked : Asked) → OnlyAs
 abbrev pub ClaimTurnsNarrow : Type 0
 ClaimTurnsNarrow = (version : Version) (query token : Text) (world : World) (asked : Query) (list : List ℕ)
     → is_candidate (claim_turn version query token world).world.providers asked list ≡ true → is_candidate world.providers asked list ≡ true
+
+-- What was claimed, the same words release: the world is as it was before the claim.
+abbrev pub ReleaseTurnUndoes : Type 0
+ReleaseTurnUndoes = (version : Version) (query token : Text) (world : World)
+    → past_query (claim_line world.providers) (assignment_task version query token) ≡ written (codes "claimed\n") 0
+    → release_turn version query token (claim_turn version query token world).world ≡ answers world (written (codes "released\n") 0)

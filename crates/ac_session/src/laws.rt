@@ -1,5 +1,5 @@
 //! Laws of the definitions. Each function does nothing: its contract is the law.
-ghost use Rattle.ac_session.specs.Laws.{AskingLeavesAll, ClaimTurnsNarrow, ReadsBack};
+ghost use Rattle.ac_session.specs.Laws.{AskingLeavesAll, ClaimTurnsNarrow, ReadsBack, ReleaseTurnUndoes};
 
 /// What is written as a line of words is read as these words, and what is written behind it is left.
 #[tactic(auto, using(crate::proofs::Written::reads_back))]
@@ -15,4 +15,9 @@ pub fn asking_leaves_all()
 /// Each candidate behind a claim was one before it, whatever was claimed.
 pub fn claim_turns_narrow()
     ensures { ClaimTurnsNarrow }
+{}
+
+/// What was claimed, the same words release: the world is as it was before the claim.
+pub fn release_turn_undoes()
+    ensures { ReleaseTurnUndoes }
 {}
