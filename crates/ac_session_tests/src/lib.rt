@@ -5,3 +5,7 @@
 mod lines;
 #[cfg(test)]
 mod questions;
+#[cfg(test)]
+mod sessions;
+#[cfg(test)]
+mod usages;
