@@ -82,9 +82,9 @@ pub record RanSession {R Q : Type 0} (remaining : R → Option (List ℕ)) (fail
     (version : Version) (from to : FiveTables R) (first last : Q) (s : Streams) (given : ℕ) : Type 0 where
   pub written : given ≡ 0 → (b : Bytes) → TellBytes remaining from b → (q : List ℕ) → asked first ≡ Some q → length q < most_passed
       → IsAnswered (session_answer version b q) s.out_old s.out_new s.err_old s.err_new given
-  pub tables : given ≡ 3 → ((failed : Option Table) × FailsOr (λ t. IsUnread (FeedRose failures from to t) t s.err_old s.err_new s.err_before s.err_after)
+  pub unread : given ≡ 3 → AreUnread (Rises (fails first) (fails last)) s.err_old s.err_new s.err_before s.err_after
+      ⊎ ((failed : Option Table) × FailsOr (λ t. IsUnread (FeedRose failures from to t) t s.err_old s.err_new s.err_before s.err_after)
       ((b : Bytes) → TellBytes remaining from b → (q : List ℕ) → IsRefused (session_answer version b q) s.err_old s.err_new s.err_before s.err_after given) failed)
-      ⊎ AreUnread (Rises (fails first) (fails last)) s.err_old s.err_new s.err_before s.err_after
   pub output : given ≡ 6 → Rises s.out_before s.out_after × IsLine s output_line
   pub memory : given ≡ 7 → IsLine s memory_line
   pub part : (b : Bytes) → TellBytes remaining from b → (q : List ℕ) → asked first ≡ Some q → length q < most_passed
