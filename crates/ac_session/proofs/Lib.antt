@@ -4,3 +4,6 @@ pub mod Passing
 pub mod Leading
 pub mod Cuts
 pub mod Written
+pub mod Turned
+pub mod Stood
+pub mod Ended

@@ -1,8 +1,14 @@
--- What the law says.
-use Rattle.std.specs.Prelude.{◌≡◌, List, ◌∷◌, ◌++◌, All, false}
+-- What the laws say.
+use Rattle.std.specs.Prelude.{◌≡◌, ⊤, ℕ, List, ◌∷◌, ◌++◌, All, false, true, codes}
 use Rattle.std.specs.List.{join_with_byte}
+use Rattle.ac_cloud.specs.World.{World}
+use Rattle.ac_query.specs.Asked.{Asked as Query}
+use Rattle.ac_query.specs.declared.version.Version.{Version}
+use Rattle.ac_rules.specs.Judge.{is_candidate}
+use Rattle.ac_run.specs.Answer.{past_query, written}
 use Rattle.ac_session.specs.Lines.{behind_line, first_line, is_newline, newline}
-use Rattle.ac_session.specs.Questions.{Text, is_blank, words_of}
+use Rattle.ac_session.specs.Questions.{Asked, Text, job, claim, release, usages, nothing, unknown, wrong_number, is_blank, words_of}
+use Rattle.ac_session.specs.Turns.{answers, assignment_task, claim_line, claim_turn, release_turn, turn_asked}
 
 -- no byte of a text is a blank
 abbrev pub LacksBlanks : Text → Type 0
@@ -17,3 +23,28 @@ pub record ReadsBack : Type 0 where
   pub words : (first : Text) (others : List Text) → All LacksBlanks (first ∷ others) → words_of (join_with_byte 32 (first ∷ others)) ≡ first ∷ others
   pub line : (text rest : Text) → LacksNewlines text → first_line (text ++ newline ∷ rest) ≡ text
   pub behind : (text rest : Text) → LacksNewlines text → behind_line (text ++ newline ∷ rest) ≡ rest
+
+-- what is asked is neither a claim nor a release
+abbrev pub OnlyAsks : Asked → Type 0
+OnlyAsks (job command query version token host detail) = ⊤
+OnlyAsks (claim query token) = ⊥
+OnlyAsks (release query token) = ⊥
+OnlyAsks usages = ⊤
+OnlyAsks nothing = ⊤
+OnlyAsks unknown = ⊤
+OnlyAsks wrong_number = ⊤
+
+-- What only asks leaves the world as it was.
+abbrev pub AskingLeavesAll : Type 0
+AskingLeavesAll = (version : Version) (world : World) (asked : Asked) → OnlyAsks asked → (turn_asked version world asked).world ≡ world
+
+-- Each candidate behind a claim was one before it, whatever was claimed.
+abbrev pub ClaimTurnsNarrow : Type 0
+ClaimTurnsNarrow = (version : Version) (query token : Text) (world : World) (asked : Query) (list : List ℕ)
+    → is_candidate (claim_turn version query token world).world.providers asked list ≡ true → is_candidate world.providers asked list ≡ true
+
+-- What was claimed, the same words release: the world is as it was before the claim.
+abbrev pub ReleaseTurnUndoes : Type 0
+ReleaseTurnUndoes = (version : Version) (query token : Text) (world : World)
+    → past_query (claim_line world.providers) (assignment_task version query token) ≡ written (codes "claimed\n") 0
+    → release_turn version query token (claim_turn version query token world).world ≡ answers world (written (codes "released\n") 0)

@@ -4,4 +4,8 @@ pub mod Rooms
 pub mod Finds
 pub mod Questions
 pub mod EndLines
+pub mod UsageRows
+pub mod Turns
+pub mod Sessions
+pub mod Standing
 pub mod Laws

@@ -5,3 +5,5 @@
 mod lines;
 #[cfg(test)]
 mod questions;
+#[cfg(test)]
+mod sessions;

@@ -1,0 +1,93 @@
+-- What claims and releases do, by what is said of them.
+use Rattle.std.proofs.Common.{◌≡◌, ◌∙◌, ℕ, ◌==◌, Bool, true, false, List, [], Option, Some, None, refl, sym, ap, ap₂, subst}
+use Rattle.std.specs.Prelude.{Result, Ok, Err, OnOk}
+use Rattle.std.specs.Option.{unwrap_or}
+use Rattle.ac_cloud.specs.World.{Provider, World}
+use Rattle.ac_query.specs.Asked.{Asked}
+use Rattle.ac_query.specs.Laws.Gathered.{asked_by}
+use Rattle.ac_query.specs.Pairs.{pairs_of}
+use Rattle.ac_query.specs.declared.version.Version.{Version}
+use Rattle.ac_rules.specs.Placed.{Placed, assigned}
+use Rattle.ac_rules.specs.declared.verdict.Verdict.{Verdict}
+use Rattle.ac_rules.specs.declared.verdict.Verdict.TheVariants as verdict
+use Rattle.ac_run.specs.Answer.{Outcome, Says, Task, answer_in, past_query}
+use Rattle.ac_run.specs.Jobs.{ExplainsAsked, ExplainsWanted}
+use Rattle.ac_run.specs.Refusals.{line_of, status_of}
+use Rattle.ac_run.specs.declared.refusal.Refusal.{Refusal}
+use Rattle.ac_run.specs.declared.refusal.Refusal.TheVariants as why
+use Rattle.ac_session.specs.Standing.{IsRefusal}
+use Rattle.ac_session.specs.Turns.{claim_of, claim_said, places_named, placed_by, release_said, unknown_provider, world_after}
+
+pub ok_then : {T E : Type 0} (r : Result T E) (P Q : Type 0) → (P → Q) → OnOk r P → OnOk r Q
+ok_then (Ok x) P Q f h = f h
+ok_then (Err e) P Q f h = tt
+
+-- ---- refusals
+
+pub asked_refused : (task : Task) (refusal : Refusal) → ExplainsAsked task refusal → (say : Says) → IsRefusal refusal (past_query say task)
+asked_refused task (why.Query f) h say = λ told. h say
+asked_refused task (why.Token f) h say = λ told. h say
+asked_refused task why.NoMemory h say = λ told. absurd (told refl)
+asked_refused task (why.Unreadable t) h say = absurd h
+asked_refused task (why.TooLarge t) h say = absurd h
+asked_refused task (why.Record t row k) h say = absurd h
+asked_refused task (why.Host f) h say = absurd h
+asked_refused task why.Output h say = absurd h
+
+pub wanted_refused : (task : Task) (world : World) (refusal : Refusal) → ExplainsWanted task world refusal → IsRefusal refusal (answer_in task.command task world)
+wanted_refused task world (why.Query f) h = λ told. h
+wanted_refused task world (why.Token f) h = λ told. h
+wanted_refused task world (why.Host f) h = λ told. h
+wanted_refused task world why.NoMemory h = λ told. absurd (told refl)
+wanted_refused task world (why.Unreadable t) h = absurd h
+wanted_refused task world (why.TooLarge t) h = absurd h
+wanted_refused task world (why.Record t row k) h = absurd h
+wanted_refused task world why.Output h = absurd h
+
+refused_status : (refusal : Refusal) → (status_of refusal == 0) ≡ false
+refused_status (why.Unreadable t) = refl
+refused_status (why.TooLarge t) = refl
+refused_status (why.Record t row k) = refl
+refused_status (why.Query f) = refl
+refused_status (why.Token f) = refl
+refused_status (why.Host f) = refl
+refused_status why.Output = refl
+refused_status why.NoMemory = refl
+
+-- nothing changes where the status isn't 0
+module _ (world : World) (all : List Provider) where
+  unchanged : (status : ℕ) → (status == 0) ≡ false → world_after world status all ≡ world
+  unchanged status e = ap (λ b. if b then record world { providers = all } else world) e
+
+  pub refused_world : (refusal : Refusal) (o : Outcome) → IsRefusal refusal o → (refusal ≡ why.NoMemory → ⊥) → world ≡ world_after world o.status all
+  refused_world refusal o is told = sym (ap (λ o. world_after world o.status all) (is told) ∙ unchanged (status_of refusal) (refused_status refusal))
+
+  pub unknown_world : (o : Outcome) → o ≡ unknown_provider → world ≡ world_after world o.status all
+  unknown_world o is = sym (ap (λ o. world_after world o.status all) is)
+
+-- two worlds with the same providers and sizes
+same_world : (a b : World) → a.providers ≡ b.providers → a.sizes ≡ b.sizes → a ≡ b
+same_world a b p s = ap₂ (λ providers sizes. record { providers = providers; sizes = sizes }) p s
+
+-- the world behind a claim that was judged, and behind a release
+module _ (old new : World) (all : List Provider) (sizes : new.sizes ≡ old.sizes) where
+  pub claimed_world : (o : Outcome) (v : Verdict) → o ≡ claim_said v → (v ≡ verdict.Candidate → new.providers ≡ all) → ((v ≡ verdict.Candidate → ⊥) → new ≡ old)
+      → new ≡ world_after old o.status all
+  claimed_world o v is made otherwise = by v made otherwise ∙ sym (ap (λ o. world_after old o.status all) is)
+    where
+      by : (v : Verdict) → (v ≡ verdict.Candidate → new.providers ≡ all) → ((v ≡ verdict.Candidate → ⊥) → new ≡ old) → new ≡ world_after old (claim_said v).status all
+      by verdict.Candidate made otherwise = same_world new (record old { providers = all }) (made refl) sizes
+      by (verdict.Broken rule) made otherwise = otherwise (λ e. cc)
+
+  pub released_world : (o : Outcome) (in_use : Bool) → o ≡ release_said in_use → (in_use ≡ true → new.providers ≡ all) → (in_use ≡ false → new ≡ old)
+      → new ≡ world_after old o.status all
+  released_world o in_use is made otherwise = by in_use made otherwise ∙ sym (ap (λ o. world_after old o.status all) is)
+    where
+      by : (b : Bool) → (b ≡ true → new.providers ≡ all) → (b ≡ false → new ≡ old) → new ≡ world_after old (release_said b).status all
+      by true made otherwise = same_world new (record old { providers = all }) (made refl) sizes
+      by false made otherwise = otherwise refl
+
+-- the slots and their providers, as they were read
+pub placed_read : (version : Version) (all : List Provider) (query token : List ℕ) (asked : Asked) (list : List ℕ) → asked ≡ asked_by version (pairs_of query)
+    → Some list ≡ places_named all token → assigned asked list ≡ placed_by version all query token
+placed_read version all query token asked list e f = ap₂ assigned e (ap (λ found. unwrap_or found []) f)
