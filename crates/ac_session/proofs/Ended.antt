@@ -58,6 +58,12 @@ stop_ends stop.Questions = (1, omega arith, refl)
 stop_ends stop.Output = (2, omega arith, refl)
 stop_ends stop.NoMemory = (3, omega arith, refl)
 
+-- a session that stops with another status than 7 does so by a device
+pub stops_by_device : (s : Stop) (P Q : Type 0) → (s ≡ stop.Questions → P) → (s ≡ stop.Output → Q) → (stop_status s ≡ 7 → ⊥) → (P → ⊥) → (Q → ⊥) → ⊥
+stops_by_device stop.Questions P Q unread unwritten seven p q = p (unread refl)
+stops_by_device stop.Output P Q unread unwritten seven p q = q (unwritten refl)
+stops_by_device stop.NoMemory P Q unread unwritten seven p q = seven refl
+
 -- ---- no world was stated
 
 module _ {R : Type 0} (remaining : R → Option (List ℕ)) (failures : R → ℕ) (version : Version) (from to : FiveTables R)

@@ -4,6 +4,7 @@ pub mod Passing
 pub mod Leading
 pub mod Cuts
 pub mod Written
+pub mod Refused
 pub mod Turned
 pub mod Stood
 pub mod Ended

@@ -1,5 +1,5 @@
 -- A session between its questions: how it goes on, and what is known where it ends.
-use Rattle.std.proofs.Common.{◌≡◌, ◌∙◌, ℕ, ◌+◌, ◌<◌, ◌≤◌, Bool, true, false, List, [], ◌∷◌, ◌++◌, map, length, take, eqb, ltb, Option, Some, None, is_some, position, refl, sym, ap, ap₂, subst, append-nil, append_assoc, arith, length-drop, length-take}
+use Rattle.std.proofs.Common.{◌≡◌, ◌∙◌, ℕ, ◌+◌, ◌<◌, ◌≤◌, Bool, true, false, List, [], ◌∷◌, ◌++◌, map, length, take, eqb, ltb, Option, Some, None, is_some, position, refl, sym, ap, ap₂, subst, append-nil, append_assoc, arith, length-drop, if◌then◌else◌, IfSome, ◌≢◌}
 use Rattle.std.specs.List.{position_or_len, slice_split}
 use Rattle.std.specs.Io.KnownBytes.{Appends, append_known}
 use Rattle.std.proofs.lemmas.Bool.Decides.{nat_tests}
@@ -9,9 +9,12 @@ use Rattle.ac_base.proofs.Leaving.{appends_both}
 use Rattle.ac_base.specs.Gathered.{IsFirstPart}
 use Rattle.ac_cloud.specs.World.{World}
 use Rattle.ac_query.specs.declared.version.Version.{Version}
-use Rattle.ac_session.proofs.Firsts.{after_missed, before_missed, place_inside}
+use Rattle.ac_session.proofs.Firsts.{after_missed, before_missed, before_size, place_inside}
 use Rattle.ac_session.specs.Lines.{Given, line, too_long, end, behind_line, first_line, given_first, is_newline, most_bytes, most_passed, without_return}
+use Rattle.ac_session.specs.Reading.{given_by}
 use Rattle.ac_session.specs.Standing.{Stands}
+use Rattle.ac_session.specs.declared.lines.Next.{Next}
+use Rattle.ac_session.specs.declared.lines.Next.TheVariants as next
 use Rattle.ac_session.specs.Turns.{given_line, lines_in, session_text, turn_of}
 
 -- ---- the first line of a text
@@ -150,16 +153,45 @@ module _ (version : Version) (first : World) (questions : List ℕ) (a : Option 
   pub too_many : most_passed ≤ turns → length questions < most_passed → ⊥
   too_many many few = omega (arith, stood.fewer)
 
--- what is left stands behind the line that was answered
-pub stands_one : (version : Version) (world after : World) (questions : List ℕ) (given : Given) (a remains c : Option (List ℕ)) → given ≡ given_first questions → (given ≡ end → ⊥)
-    → remains ≡ Some (behind_line questions) → Appends a c (turn_of version world given).text → after ≡ (turn_of version world given).world
-    → Stands version world questions a after remains c 1
-stands_one version world after questions given a remains c first isnt left taken on =
-    let some = some_bytes questions given first isnt in record {
-      rest = behind_line questions;
-      left = left;
-      written = (turn_of version world given).text;
-      taken = taken;
-      text = one_turn version world after questions given first some on;
-      fewer = omega (arith, length-drop (position_or_len is_newline questions + 1) questions);
-    }
+-- what a reader gave, where it is neither the end nor a failure
+pub given_there : (n : Next) → (n ≡ next.End → ⊥) → (n ≡ next.Failed → ⊥) → (given : Given) × (given_by n ≡ Some given) × (given ≡ end → ⊥)
+given_there (next.Line bytes) more fine = (line bytes.now, refl, λ e. cc)
+given_there next.TooLong more fine = (too_long, refl, λ e. cc)
+given_there next.End more fine = absurd (more refl)
+given_there next.Failed more fine = absurd (fine refl)
+
+-- the end was given of nothing
+pub end_given : (version : Version) (world : World) (a old : Option (List ℕ)) (q : List ℕ) → old ≡ Some q → IfSome old (λ bytes. end ≡ given_first bytes)
+    → Appends a a (session_text version world (lines_in q))
+end_given version world a old q e h = none_added a _ (nothing_left version world q (at_end q (subst (λ (known : Option (List ℕ)). IfSome known (λ bytes. end ≡ given_first bytes)) e h)))
+
+-- a line was given of these questions
+module _ (version : Version) (world : World) (q : List ℕ) (a c old : Option (List ℕ)) (told : Option Given) (given : Given) (is : told ≡ Some given) (isnt : given ≡ end → ⊥) (known : old ≡ Some q)
+    (gives : IfSome old (λ bytes. IfSome told (λ given. given ≡ given_first bytes))) where
+  is_first : given ≡ given_first q
+  is_first =
+      subst (λ (g : Option Given). IfSome g (λ given. given ≡ given_first q)) is
+      (subst (λ (b : Option (List ℕ)). IfSome b (λ bytes. IfSome told (λ given. given ≡ given_first bytes))) known gives)
+
+  -- a part of its answer is a part of all answers
+  pub line_part : IsFirstPart (append_known a (turn_of version world given).text) c → IsFirstPart (append_known a (session_text version world (lines_in q))) c
+  line_part h =
+      subst (λ (text : List ℕ). IsFirstPart (append_known a text) c)
+      (sym (one_turn version world (turn_of version world given).world q given is_first (some_bytes q given is_first isnt) refl))
+      (first_of_first a c (turn_of version world given).text (session_text version (turn_of version world given).world (lines_in (behind_line q))) h)
+
+  -- and then what is behind it is left
+  pub line_stands : (after : World) (remains : Option (List ℕ)) → (told ≢ None → IfSome old (λ bytes. length (first_line bytes) < most_passed → remains ≡ Some (behind_line bytes)))
+      → length q < most_passed → Appends a c (turn_of version world given).text → after ≡ (turn_of version world given).world → Stands version world q a after remains c 1
+  line_stands after remains behind few taken on =
+      let some = some_bytes q given is_first isnt in
+      let short : length (first_line q) < most_passed = omega (arith, before_size is_newline q, place_inside is_newline q) in
+      let left = subst (λ (b : Option (List ℕ)). IfSome b (λ bytes. length (first_line bytes) < most_passed → remains ≡ Some (behind_line bytes))) known (behind (λ none. let both : Some given ≡ None = sym is ∙ none in cc)) in
+      record {
+        rest = behind_line q;
+        left = left short;
+        written = (turn_of version world given).text;
+        taken = taken;
+        text = one_turn version world after q given is_first some on;
+        fewer = omega (arith, length-drop (position_or_len is_newline q + 1) q);
+      }

@@ -1,13 +1,19 @@
 -- What claims and releases do, by what is said of them.
-use Rattle.std.proofs.Common.{◌≡◌, ◌∙◌, ℕ, ◌==◌, Bool, true, false, List, [], Option, Some, None, refl, sym, ap, ap₂, subst}
-use Rattle.std.specs.Prelude.{Result, Ok, Err, OnOk}
-use Rattle.std.specs.Option.{unwrap_or}
+use Rattle.std.proofs.Common.{◌≡◌, ◌∙◌, ℕ, ◌<◌, ◌==◌, length, if◌then◌else◌, Bool, true, false, List, [], Option, Some, None, refl, sym, ap, ap₂, subst}
+use Rattle.std.specs.List.{All}
+use Rattle.std.specs.Option.{IfSome, option_map, unwrap_or}
+use Rattle.std.proofs.lemmas.List.Elements.{All-from_recursion}
 use Rattle.ac_cloud.specs.World.{Provider, World}
 use Rattle.ac_query.specs.Asked.{Asked}
 use Rattle.ac_query.specs.Laws.Gathered.{asked_by}
 use Rattle.ac_query.specs.Pairs.{pairs_of}
 use Rattle.ac_query.specs.declared.version.Version.{Version}
+use Rattle.ac_query.specs.Pairs.Values.{ids_value}
+use Rattle.ac_rules.specs.Claims.{is_in_use}
+use Rattle.ac_rules.specs.Judge.{judge}
+use Rattle.ac_rules.specs.Located.{places_of}
 use Rattle.ac_rules.specs.Placed.{Placed, assigned}
+use Rattle.ac_run.proofs.Assignments.{located}
 use Rattle.ac_rules.specs.declared.verdict.Verdict.{Verdict}
 use Rattle.ac_rules.specs.declared.verdict.Verdict.TheVariants as verdict
 use Rattle.ac_run.specs.Answer.{Outcome, Says, Task, answer_in, past_query}
@@ -16,11 +22,7 @@ use Rattle.ac_run.specs.Refusals.{line_of, status_of}
 use Rattle.ac_run.specs.declared.refusal.Refusal.{Refusal}
 use Rattle.ac_run.specs.declared.refusal.Refusal.TheVariants as why
 use Rattle.ac_session.specs.Standing.{IsRefusal}
-use Rattle.ac_session.specs.Turns.{claim_of, claim_said, places_named, placed_by, release_said, unknown_provider, world_after}
-
-pub ok_then : {T E : Type 0} (r : Result T E) (P Q : Type 0) → (P → Q) → OnOk r P → OnOk r Q
-ok_then (Ok x) P Q f h = f h
-ok_then (Err e) P Q f h = tt
+use Rattle.ac_session.specs.Turns.{claim_line, claim_of, claim_said, places_named, placed_by, release_line, release_of, release_said, unknown_provider, world_after}
 
 -- ---- refusals
 
@@ -91,3 +93,29 @@ module _ (old new : World) (all : List Provider) (sizes : new.sizes ≡ old.size
 pub placed_read : (version : Version) (all : List Provider) (query token : List ℕ) (asked : Asked) (list : List ℕ) → asked ≡ asked_by version (pairs_of query)
     → Some list ≡ places_named all token → assigned asked list ≡ placed_by version all query token
 placed_read version all query token asked list e f = ap₂ assigned e (ap (λ found. unwrap_or found []) f)
+
+-- ---- what is said of a list that was read
+
+module _ (all : List Provider) (asked : Asked) (token : List ℕ) (o : Outcome) where
+  pub claim_outcome : (list : List ℕ) (v : Verdict) → o ≡ claim_line all asked (ids_value token) → Some list ≡ places_named all token → v ≡ judge all asked list → o ≡ claim_said v
+  claim_outcome list v h l e = h ∙ ap (claim_of all asked) (sym l) ∙ ap claim_said (sym e)
+
+  pub claim_unknown : o ≡ claim_line all asked (ids_value token) → None ≡ places_named all token → o ≡ unknown_provider
+  claim_unknown h l = h ∙ ap (claim_of all asked) (sym l)
+
+  pub release_outcome : (list : List ℕ) (in_use : Bool) → o ≡ release_line all asked (ids_value token) → Some list ≡ places_named all token → in_use ≡ is_in_use all (assigned asked list)
+      → o ≡ release_said in_use
+  release_outcome list in_use h l e = h ∙ ap (release_of all asked) (sym l) ∙ ap release_said (sym e)
+
+  pub release_unknown : o ≡ release_line all asked (ids_value token) → None ≡ places_named all token → o ≡ unknown_provider
+  release_unknown h l = h ∙ ap (release_of all asked) (sym l)
+
+-- the places that were found are providers, one for each id
+module _ {V : Type 0} (items : V → List ℕ) (all : List Provider) (ids : List ℕ) where
+  pub list_slots : (n : ℕ) (list : Option V) → option_map items list ≡ places_of all ids → length ids ≡ n → IfSome list (λ l. length (items l) ≡ n)
+  list_slots n None h e = tt
+  list_slots n (Some l) h e = (located all ids (items l) h).0 ∙ e
+
+  pub list_providers : (list : Option V) → option_map items list ≡ places_of all ids → IfSome list (λ l. All (λ p. p < length all) (items l))
+  list_providers None h = tt
+  list_providers (Some l) h = All-from_recursion (λ p. p < length all) (items l) (located all ids (items l) h).1

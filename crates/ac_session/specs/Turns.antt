@@ -16,7 +16,7 @@ use Rattle.ac_rules.specs.Placed.{Placed, assigned}
 use Rattle.ac_rules.specs.declared.verdict.Verdict.{Verdict}
 use Rattle.ac_rules.specs.declared.verdict.Verdict.TheVariants as verdict
 use Rattle.ac_run.specs.Answer.{Outcome, Says, Task, answer_in, past_query, refused, written}
-use Rattle.ac_run.specs.Outputs.{broken_line}
+use Rattle.ac_run.specs.Outputs.{verdict_text}
 use Rattle.ac_session.specs.EndLines.{end_line, fault_line, fault_status}
 use Rattle.ac_session.specs.Lines.{Given, line, too_long, end, is_newline, most_bytes, without_return}
 use Rattle.ac_session.specs.Questions.{Asked, job, claim, release, usages, nothing, unknown, wrong_number, asked_of}
@@ -73,10 +73,10 @@ placed_by version all query token = assigned (asked_by version (pairs_of query))
 abbrev pub unknown_provider : Outcome
 unknown_provider = written (codes "unknown provider\n") 1
 
--- what a claim says by the verdict: `claimed`, or the rule that is broken
+-- what a claim says by the verdict: `claimed`, or the rule that is broken as `verify` tells it
 abbrev pub claim_said : Verdict → Outcome
 claim_said verdict.Candidate = written (codes "claimed\n") 0
-claim_said (verdict.Broken rule) = written (broken_line rule) 1
+claim_said (verdict.Broken rule) = written (verdict_text (verdict.Broken rule)) 1
 
 -- what a release says by whether all is in use
 abbrev pub release_said : Bool → Outcome

@@ -3,7 +3,8 @@ ghost use Rattle.std.specs.Prelude.{◌≡◌, ◌≤◌, [], OnErr, OnOk, Err};
 ghost use Rattle.std.specs.Io.KnownBytes.{Appends};
 ghost use Rattle.ac_base.specs.Devices.{Rises, TakesPart};
 ghost use Rattle.ac_report.specs.declared.fault.PageFault.TheVariants as PageFault;
-ghost use Rattle.ac_run.specs.Answer.{Outcome, written};
+ghost use Rattle.ac_run.specs.Answer.{Outcome, refused, written};
+ghost use Rattle.ac_run.specs.Refusals.{line_of, status_of};
 ghost use Rattle.ac_run.specs.declared.refusal.Refusal.TheVariants as Refusal;
 ghost use Rattle.ac_session.specs.EndLines.{end_line, mark_of};
 ghost use Rattle.ac_session.specs.Standing.{IsRefusal};
@@ -57,8 +58,22 @@ fn push_mark<W: Sink>(out: &mut W, status: u8) -> Result<(), PageFault>
     Ok(())
 }
 
+// The line of a refusal behind its mark.
+fn push_refusal<W: Sink>(out: &mut W, refusal: &Refusal) -> Result<(), PageFault>
+    ensures ok { OnOk result (Appends (W.taken out.old) (W.taken out.new)
+        (answer_text (refused (line_of refusal.now) (status_of refusal.now)))) }
+    ensures part { OnErr result (TakesPart (W.taken out.old) (W.taken out.new)
+        (answer_text (refused (line_of refusal.now) (status_of refusal.now)))) }
+    ensures failed { result ≡ Err PageFault.WriteFailed
+        → Rises (W.failures out.old) (W.failures out.new) }
+    ensures failures { W.failures out.old ≤ W.failures out.new }
+{
+    push_mark(out, status_of(refusal))?;
+    push_line(out, refusal)?;
+    Ok(())
+}
+
 /// The line of a refusal, in place of an answer; want of memory ends the session instead.
-#[tactic(auto, using(ac_base::proofs::Leaving::appends_both, ac_base::proofs::Leaving::part_of_first, ac_base::proofs::Leaving::part_of_second, ac_base::proofs::Leaving::part_none))]
 pub(crate) fn write_refusal<W: Sink>(out: &mut W, refusal: &Refusal) -> Result<(), PageFault>
     ensures ok { (o : Outcome) → IsRefusal refusal.now o
         → OnOk result (Appends (W.taken out.old) (W.taken out.new) (answer_text o)) }
@@ -69,12 +84,10 @@ pub(crate) fn write_refusal<W: Sink>(out: &mut W, refusal: &Refusal) -> Result<(
         → Rises (W.failures out.old) (W.failures out.new) }
     ensures failures { W.failures out.old ≤ W.failures out.new }
 {
-    if let Refusal::NoMemory = refusal {
-        return Err(PageFault::NoMemory);
+    match refusal {
+        Refusal::NoMemory => Err(PageFault::NoMemory),
+        _ => push_refusal(out, refusal),
     }
-    push_mark(out, status_of(refusal))?;
-    push_line(out, refusal)?;
-    Ok(())
 }
 
 /// The line of a line that asks nothing, in place of an answer.

@@ -11,7 +11,8 @@ ghost use Rattle.ac_query.specs.Pairs.{pairs_of};
 ghost use Rattle.ac_query.specs.Pairs.Values.{ids_value};
 ghost use Rattle.ac_query.specs.Shown.Queries.{asked_of as shown};
 ghost use Rattle.ac_report.specs.declared.fault.PageFault.TheVariants as PageFault;
-ghost use Rattle.ac_run.specs.Answer.{Says, answer_in, past_query};
+ghost use Rattle.ac_run.specs.Answer.{Says, answer_in, past_query, written};
+ghost use Rattle.ac_run.specs.Outputs.{verdict_text};
 ghost use Rattle.ac_run.specs.Jobs.{ExplainsAsked, task_of};
 ghost use Rattle.ac_session.specs.Questions.{HasItsToken, asked_in};
 ghost use Rattle.ac_session.specs.Lines.{Given};
@@ -58,12 +59,12 @@ fn answer_job<W: Sink>(
 }
 
 // The query of a claim or a release, and the places of the providers that its token names, where each is there.
-fn read_assignment(
+fn read_assignment<'a>(
     alloc: Global,
     cloud: &Cloud,
     version: Version,
-    query: &str,
-    token: &str,
+    query: &'a str,
+    token: &'a str,
 ) -> Result<(Query, Option<Vec<u32>>), Refusal>
     ensures asked { IfOk result (λ read. shown read.0 ≡ asked_by version (pairs_of query.now)) }
     ensures list { IfOk result (λ read. option_map (λ list. list.items) read.1
@@ -86,14 +87,29 @@ fn read_assignment(
         host: None,
         detail: false,
     };
-    match read_asked(alloc, &job) {
-        Ok((query, Some(token))) => match token.locate(alloc, cloud) {
-            Ok(list) => Ok((query, list)),
-            Err(NoMemory) => Err(Refusal::NoMemory),
-        },
-        Ok((_, None)) => unreachable!(),
-        Err(refusal) => Err(refusal),
+    let (query, token) = read_asked(alloc, &job)?;
+    let Some(token) = token else {
+        unreachable!();
+    };
+    match token.locate(alloc, cloud) {
+        Ok(list) => Ok((query, list)),
+        Err(NoMemory) => Err(Refusal::NoMemory),
     }
+}
+
+// The rule that a list breaks, as `verify` tells it.
+#[tactic(auto, using(ac_base::proofs::Leaving::appends_both, ac_base::proofs::Leaving::part_of_first, ac_base::proofs::Leaving::part_of_second))]
+fn write_verdict<W: Sink>(verdict: Verdict, out: &mut W) -> Result<(), PageFault>
+    ensures ok { OnOk result (Appends (W.taken out.old) (W.taken out.new)
+        (answer_text (written (verdict_text verdict) 1))) }
+    ensures part { OnErr result (TakesPart (W.taken out.old) (W.taken out.new)
+        (answer_text (written (verdict_text verdict) 1))) }
+    ensures failed { result ≡ Err PageFault.WriteFailed
+        → Rises (W.failures out.old) (W.failures out.new) }
+    ensures failures { W.failures out.old ≤ W.failures out.new }
+{
+    push_verdict(out, verdict)?;
+    end_answer(out, 1)
 }
 
 // What a claim says by the verdict.
@@ -106,11 +122,10 @@ fn write_claimed<W: Sink>(verdict: Verdict, out: &mut W) -> Result<(), PageFault
         → Rises (W.failures out.old) (W.failures out.new) }
     ensures failures { W.failures out.old ≤ W.failures out.new }
 {
-    if let Verdict::Candidate = verdict {
-        return write_said(out, b"claimed\n", 0);
+    match verdict {
+        Verdict::Candidate => write_said(out, b"claimed\n", 0),
+        Verdict::Broken(_) => write_verdict(verdict, out),
     }
-    push_verdict(out, verdict)?;
-    end_answer(out, 1)
 }
 
 // What a release says by whether all is in use.
@@ -149,13 +164,16 @@ fn answer_claim<W: Sink>(
         → Rises (W.failures out.old) (W.failures out.new) }
     ensures failures { W.failures out.old ≤ W.failures out.new }
 {
-    match read_assignment(alloc, cloud, version, query, token) {
-        Ok((query, Some(list))) => {
+    let (query, list) = match read_assignment(alloc, cloud, version, query, token) {
+        Ok(read) => read,
+        Err(refusal) => return write_refusal(out, &refusal),
+    };
+    match list {
+        Some(list) => {
             let verdict = claim(cloud, &query, &list);
             write_claimed(verdict, out)
         }
-        Ok((_, None)) => write_said(out, b"unknown provider\n", 1),
-        Err(refusal) => write_refusal(out, &refusal),
+        None => write_said(out, b"unknown provider\n", 1),
     }
 }
 
@@ -178,13 +196,16 @@ fn answer_release<W: Sink>(
         → Rises (W.failures out.old) (W.failures out.new) }
     ensures failures { W.failures out.old ≤ W.failures out.new }
 {
-    match read_assignment(alloc, cloud, version, query, token) {
-        Ok((query, Some(list))) => {
+    let (query, list) = match read_assignment(alloc, cloud, version, query, token) {
+        Ok(read) => read,
+        Err(refusal) => return write_refusal(out, &refusal),
+    };
+    match list {
+        Some(list) => {
             let in_use = release(cloud, &query, &list);
             write_released(in_use, out)
         }
-        Ok((_, None)) => write_said(out, b"unknown provider\n", 1),
-        Err(refusal) => write_refusal(out, &refusal),
+        None => write_said(out, b"unknown provider\n", 1),
     }
 }
 
@@ -212,11 +233,11 @@ fn answer_question<W: Sink>(
 ) -> Result<(), PageFault>
     requires { HasItsToken question }
     ensures ok { OnOk result (Appends (W.taken out.old) (W.taken out.new)
-        (turn_asked version (world_of cloud.old) (asked_in question)).text) }
+        (turn_asked version (world_of cloud.old) (asked_in question.entry)).text) }
     ensures world { OnOk result (world_of cloud.new
-        ≡ (turn_asked version (world_of cloud.old) (asked_in question)).world) }
+        ≡ (turn_asked version (world_of cloud.old) (asked_in question.entry)).world) }
     ensures part { OnErr result (TakesPart (W.taken out.old) (W.taken out.new)
-        (turn_asked version (world_of cloud.old) (asked_in question)).text) }
+        (turn_asked version (world_of cloud.old) (asked_in question.entry)).text) }
     ensures failed { result ≡ Err PageFault.WriteFailed
         → Rises (W.failures out.old) (W.failures out.new) }
     ensures failures { W.failures out.old ≤ W.failures out.new }
@@ -243,11 +264,11 @@ pub(crate) fn answer_next<W: Sink>(
     next: Next<'_>,
     out: &mut W,
 ) -> Result<(), PageFault>
-    ensures ok { (given : Given) → given_by next ≡ Some given → OnOk result (Appends
+    ensures ok { (given : Given) → given_by next.entry ≡ Some given → OnOk result (Appends
         (W.taken out.old) (W.taken out.new) (turn_of version (world_of cloud.old) given).text) }
-    ensures world { (given : Given) → given_by next ≡ Some given → OnOk result (world_of cloud.new
+    ensures world { (given : Given) → given_by next.entry ≡ Some given → OnOk result (world_of cloud.new
         ≡ (turn_of version (world_of cloud.old) given).world) }
-    ensures part { (given : Given) → given_by next ≡ Some given → OnErr result (TakesPart
+    ensures part { (given : Given) → given_by next.entry ≡ Some given → OnErr result (TakesPart
         (W.taken out.old) (W.taken out.new) (turn_of version (world_of cloud.old) given).text) }
     ensures failed { result ≡ Err PageFault.WriteFailed
         → Rises (W.failures out.old) (W.failures out.new) }
