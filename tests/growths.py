@@ -1,7 +1,8 @@
 #!/usr/bin/env python3
 """tests/growths.py PROGRAM WORDS..: runs the program with these words again and again. In each run one memory allocation (a *growth*) is refused: the
 first, then the second and so on, until a run has no more. A run may answer as with ample memory; or it may say `out of memory` with status 7, after at
-most a first part of that answer. The first run has to do the latter. The script writes what else happened, or how many growths there were."""
+most a first part of that answer. The first run has to do the latter. The script writes what else happened, or how many growths there were. Each run is given
+what stands on standard input."""
 from __future__ import annotations
 
 import os
@@ -22,11 +23,11 @@ def refuser(folder):
     return library
 
 
-def run(words, library, number, mark=0):
-    """Runs these words, and returns what came on both streams, the status, and how many growths were refused. Refused are the one of this number, and
-    all from one of the size `mark` up to the next of that size, both included."""
+def run(words, library, number, mark=0, given=b''):
+    """Runs these words, with this on standard input. It returns what came on both streams, the status, and how many growths were refused. Refused are the
+    one of this number, and all from one of the size `mark` up to the next of that size, both included."""
     read, write = os.pipe()
-    ran = subprocess.run(words, capture_output=True, pass_fds=(write,),
+    ran = subprocess.run(words, input=given, capture_output=True, pass_fds=(write,),
                          env={**os.environ, 'LD_PRELOAD': library, 'REFUSE': str(number), 'REFUSE_BETWEEN': str(mark), 'REFUSED': str(write)})
     os.close(write)
     refused = len(os.read(read, MOST))
@@ -50,9 +51,10 @@ def main(*words):
         return 1
     with tempfile.TemporaryDirectory() as folder:
         library = refuser(folder)
-        whole = run(words, library, 0)
+        given = b'' if sys.stdin.isatty() else sys.stdin.buffer.read()
+        whole = run(words, library, 0, given=given)
         for number in range(1, MOST):
-            ran = run(words, library, number)
+            ran = run(words, library, number, given=given)
             if not ran[3]:
                 break
             why = wrong(number, whole, ran)

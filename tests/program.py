@@ -39,7 +39,7 @@ INVENTORIES = os.path.join(EXAMPLES, 'inventories.csv')
 CLOUD = os.path.join(EXAMPLES, 'cloud')
 NO_FILE = os.path.join(EXAMPLES, 'no_such_file.csv')
 ONE_HOST = '2b7d9e54-61c8-4f03-8a9d-c4e1b05f3a27\n'
-COMMANDS = 'check', 'candidates', 'tokens', 'verify', 'explain', 'hosts', 'why'
+COMMANDS = 'check', 'candidates', 'tokens', 'verify', 'explain', 'hosts', 'why', 'session'
 STATUSES = {'no: rule': 1, 'unknown provider': 1, 'query': 4, 'token': 5, 'host:': 5, 'output': 6, 'out of memory': 7,
             **dict.fromkeys(('providers:', 'inventories:', 'usages:', 'traits:', 'aggregates:'), 3)}
 NOT_BUILT = 70
@@ -145,6 +145,10 @@ WORDS = [
     refused('no host for why', over(['why', 'resources=VCPU:2']), '<HOST>', 'Usage: ac_cli why'),
     refused('two hosts for why', over(['why', 'resources=VCPU:2', ONE_HOST.strip(), ONE_HOST.strip()])),
     refused('--after for why', over(['why', 'resources=VCPU:2', ONE_HOST.strip(), '--after', ONE_HOST.strip()]), '--after'),
+    refused('a query for a session', over(['session', 'resources=VCPU:2'])),
+    refused('--after for a session', over(['session', '--after', ONE_HOST.strip()]), '--after'),
+    refused('no tables for a session', ['session'], '--providers <FILE>\n  --inventories <FILE>', 'Usage: ac_cli session', '--tables <DIR>'),
+    refused('a later microversion for a session', over(['session', '--microversion', '1.40']), "invalid value '1.40'", 'Usage: ac_cli session'),
     refused('--after without a token', tokens('resources=VCPU:2') + ['--after']),
     refused('no inventories', ['tokens', 'resources=VCPU:2', '--providers', PROVIDERS], '--inventories <FILE>', 'Usage: ac_cli tokens'),
     refused('no providers', ['check', '--inventories', INVENTORIES], '--providers <FILE>', 'Usage: ac_cli check'),
@@ -193,6 +197,13 @@ FILES = [
     Case('a path of more than 255 bytes', check('./' * 150 + 'providers.csv', 'inventories.csv'), EXAMPLE_COUNTS, folder=EXAMPLES),
     unreadable('a path that ends in a blank, of a file that ends in none', check(PROVIDERS + ' '), 'providers'),
     Case('a path that ends in a blank', ['sh', '-c', BLANK, 'blank', PROGRAM, PROVIDERS, INVENTORIES], EXAMPLE_COUNTS),
+    Case('a session without questions', over(['session'])),
+    Case('a session reads its queries by the version that is named', over(['session', '--microversion', '1.39']), ONE_HOST + '= 0\n',
+         given=b'tokens resources=VCPU:12&required=!CUSTOM_A&required=!CUSTOM_B\n'),
+    Case('a session by the version that is the default', over(['session']), '= 4 query: pair 3: Repeated\n',
+         given=b'tokens resources=VCPU:12&required=!CUSTOM_A&required=!CUSTOM_B\n'),
+    Case('a folder for the questions', ['sh', '-c', 'exec "$1" session --tables examples/cloud < examples', 'session', PROGRAM], err='questions: Unreadable\n', status=3),
+    unreadable('no file of providers for a session', over(['session'], NO_FILE), 'providers'),
     Case('a refused query in two groups of faults', tokens('limit=0&colour=red'), err='query: pair 1: BadValue\n', status=4),
 ]
 
@@ -290,10 +301,10 @@ DEVICES = [
 ]
 
 
-def growing(name, words, cloud='', **more):
+def growing(name, words, cloud='', given='', **more):
     """A case in which each growth of this run is refused in turn, by tests/growths.py."""
     return Case(f'each growth refused: {name}', ['sh', '-c', 'exec python3 -B tests/growths.py "$@"', 'growths', PROGRAM, *map(full, words)],
-                SOME, tables={**(tables(cloud) if cloud else {}), **more})
+                SOME, tables={**(tables(cloud) if cloud else {}), **more}, given=full(given).encode())
 
 
 OTHERS = [f'--{name}={os.path.join(EXAMPLES, name)}.csv' for name in ('usages', 'traits', 'aggregates')]
@@ -322,6 +333,8 @@ GROWTHS = [
     growing('why', ['why', DISK, 'P1'], SHARED),
     growing('why, with traits and aggregates', ['why', LACKING, 'P1'], ONE),
     growing('why, an unknown host', ['why', TWO, 'P7'], ONE),
+    growing('a session', ['session'], SHARED, f'tokens {DISK}\nclaim {DISK} P9,P1\nusages\nverify {DISK} P9,P7\nrelease {DISK} P9,P1\nother\n'),
+    growing('a session without questions', ['session', '--tables', CLOUD]),
     growing('check of a usage without an inventory', ['check'], ONE, usages=HEADERS['usages'] + f'{provider(1)},MEMORY_MB,1\n'),
     growing('a refused query', ['tokens', 'resources1=VCPU:1&same_subtree=1,2'], ONE),
     growing('a refused token', ['tokens', FIVES, '--after', 'P1'], CHILD),

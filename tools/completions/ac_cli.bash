@@ -4,7 +4,7 @@
 _ac_cli() {
     local word=$2 before=$3
     local tables='--tables --providers --inventories --usages --traits --aggregates'
-    local commands='check candidates tokens verify explain hosts why help'
+    local commands='check candidates tokens verify explain hosts why session help'
     COMPREPLY=()
     case $before in
     --tables)
@@ -33,7 +33,7 @@ _ac_cli() {
         check) offered="$tables --help" ;;
         candidates | tokens) offered="$tables --microversion --after --help" ;;
         verify) offered="$tables --microversion --detail --help" ;;
-        explain | hosts | why) offered="$tables --microversion --help" ;;
+        explain | hosts | why | session) offered="$tables --microversion --help" ;;
         help) offered=$commands ;;
         esac
     fi

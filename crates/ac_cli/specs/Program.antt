@@ -7,16 +7,22 @@ use Rattle.clap.specs.declared.error.kind.ErrorKind.TheVariants.{DisplayHelp, Di
 use Rattle.ac_base.specs.Devices.{Rises, TakesPart}
 use Rattle.ac_base.specs.Gathered.{IsFirstPart}
 use Rattle.ac_tables.specs.declared.fault.Table.{Table}
+use Rattle.ac_query.specs.declared.version.Version.{Version}
 use Rattle.ac_query.specs.declared.version.Version.TheVariants.{V136}
 use Rattle.ac_run.specs.Answer.{Task, answer}
 use Rattle.ac_run.specs.Feeds.{Bytes, FeedRose, TellBytes}
 use Rattle.ac_run.specs.Lines.{memory_line, output_line, unreadable_line}
 use Rattle.ac_run.specs.Run.{FailsOr, IsAnswered, IsRefused, IsUnread}
 use Rattle.ac_answers.specs.Writing.{TakesLine}
+use Rattle.ac_query.specs.declared.job.Command.{Command}
 use Rattle.ac_query.specs.declared.job.Command.TheVariants.{Tokens}
+use Rattle.ac_session.specs.Lines.{most_passed}
+use Rattle.ac_session.specs.Sessions.{AreUnread, session_answer}
 use Rattle.ac_tables.specs.declared.read.FiveTables.{FiveTables}
 use Rattle.ac_cli.specs.Opening.{AreOpened}
 use Rattle.ac_words.specs.Words.{Line, Says, faults, named, path_of}
+use Rattle.ac_words.specs.declared.words.Call.{Call}
+use Rattle.ac_words.specs.declared.words.Call.TheVariants.{Job, Session}
 
 -- ---- the streams
 
@@ -69,11 +75,40 @@ pub record Ran {R : Type 0} (remaining : R → Option (List ℕ)) (failures : R 
   pub part : 6 ≤ given → (b : Bytes) → TellBytes remaining from b → IsFirstPart (append_known s.out_old (answer task b).output) s.out_new
   pub status : Contains (0 ∷ 1 ∷ 3 ∷ 4 ∷ 5 ∷ 6 ∷ 7 ∷ []) given
 
+-- ---- a session
+
+-- What each status of a session says, over feeds of tables and of questions that were these before and after.
+pub record RanSession {R Q : Type 0} (remaining : R → Option (List ℕ)) (failures : R → ℕ) (asked : Q → Option (List ℕ)) (fails : Q → ℕ)
+    (version : Version) (from to : FiveTables R) (first last : Q) (s : Streams) (given : ℕ) : Type 0 where
+  pub written : given ≡ 0 → (b : Bytes) → TellBytes remaining from b → (q : List ℕ) → asked first ≡ Some q → length q < most_passed
+      → IsAnswered (session_answer version b q) s.out_old s.out_new s.err_old s.err_new given
+  pub unread : given ≡ 3 → AreUnread (Rises (fails first) (fails last)) s.err_old s.err_new s.err_before s.err_after
+      ⊎ ((failed : Option Table) × FailsOr (λ t. IsUnread (FeedRose failures from to t) t s.err_old s.err_new s.err_before s.err_after)
+      ((b : Bytes) → TellBytes remaining from b → (q : List ℕ) → IsRefused (session_answer version b q) s.err_old s.err_new s.err_before s.err_after given) failed)
+  pub output : given ≡ 6 → Rises s.out_before s.out_after × IsLine s output_line
+  pub memory : given ≡ 7 → IsLine s memory_line
+  pub part : (b : Bytes) → TellBytes remaining from b → (q : List ℕ) → asked first ≡ Some q → length q < most_passed
+      → IsFirstPart (append_known s.out_old (session_answer version b q).output) s.out_new
+  pub status : Contains (0 ∷ 3 ∷ 6 ∷ 7 ∷ []) given
+
+-- a session was held over feeds of tables that were these before and after, with these questions
+abbrev pub HeldSession : {R Q : Type 0} → (R → Option (List ℕ)) → (R → ℕ) → (Q → Option (List ℕ)) → (Q → ℕ)
+    → Version → FiveTables R → FiveTables R → Q → Streams → ℕ → Type 0
+HeldSession {R} {Q} remaining failures asked fails version from to questions s given =
+    (last : Q) × RanSession remaining failures asked fails version from to questions last s given
+
 -- ---- words that were accepted
 
--- the task that a line asks for
-abbrev pub task_asked : Line → Task
-task_asked line = record { command = line.command; query = line.query; version = line.version; token = line.token; host = line.host; detail = line.detail }
+-- the task that a line asks for, with its command
+abbrev pub task_asked : Line → Command → Task
+task_asked line command = record { command = command; query = line.query; version = line.version; token = line.token; host = line.host; detail = line.detail }
+
+-- what a line calls for was done over feeds of tables that were these before and after: a job was run, or a session was held
+abbrev pub RanCall : {R Q : Type 0} → (R → Option (List ℕ)) → (R → ℕ) → (Q → Option (List ℕ)) → (Q → ℕ)
+    → Call → Line → FiveTables R → FiveTables R → Q → Streams → ℕ → Type 0
+RanCall remaining failures asked fails (Job command) line from to questions s given = Ran remaining failures (task_asked line command) from to s given
+RanCall remaining failures asked fails Session line from to questions s given =
+    HeldSession remaining failures asked fails line.version from to questions s given
 
 -- The path that is given for a table was refused, which is told.
 pub record IsUnopened (refuses : List ℕ → Type 0) (line : Line) (s : Streams) (given : ℕ) : Type 0 where
@@ -83,15 +118,18 @@ pub record IsUnopened (refuses : List ℕ → Type 0) (line : Line) (s : Streams
   pub refused : refuses path
   pub told : IsTold s (unreadable_line table) 3 given
 
--- What a line asks for was run over what was opened at its paths.
-pub record RanOpened {R : Type 0} (opens : List ℕ → R → Type 0) (remaining : R → Option (List ℕ)) (failures : R → ℕ) (line : Line) (s : Streams) (given : ℕ) : Type 0 where
+-- What a line calls for was done over what was opened at its paths.
+pub record RanOpened {R Q : Type 0} (opens : List ℕ → R → Type 0) (remaining : R → Option (List ℕ)) (failures : R → ℕ)
+    (asked : Q → Option (List ℕ)) (fails : Q → ℕ) (questions : Q) (line : Line) (s : Streams) (given : ℕ) : Type 0 where
   pub from : FiveTables R
   pub to : FiveTables R
   pub files : AreOpened opens line from
-  pub ran : Ran remaining failures (task_asked line) from to s given
+  pub ran : RanCall remaining failures asked fails line.call line from to questions s given
 
-abbrev pub EndsForLine : {R : Type 0} → (List ℕ → R → Type 0) → (List ℕ → Type 0) → (R → Option (List ℕ)) → (R → ℕ) → Line → Streams → ℕ → Type 0
-EndsForLine opens refuses remaining failures line s given = IsUnopened refuses line s given ⊎ RanOpened opens remaining failures line s given
+abbrev pub EndsForLine : {R Q : Type 0} → (List ℕ → R → Type 0) → (List ℕ → Type 0) → (R → Option (List ℕ)) → (R → ℕ) → (Q → Option (List ℕ)) → (Q → ℕ)
+    → Q → Line → Streams → ℕ → Type 0
+EndsForLine opens refuses remaining failures asked fails questions line s given =
+    IsUnopened refuses line s given ⊎ RanOpened opens remaining failures asked fails questions line s given
 
 -- ---- all words
 

@@ -6,14 +6,16 @@ mod opening;
 mod program;
 mod sample;
 
-use ac_base::ToWrite;
+use ac_base::{FromRead, ToWrite};
 pub use ac_run::{Command, Inputs, Job, run};
-pub use ac_words::{WordFault, Words, read_words};
+pub use ac_session::{Lines, run_session};
+pub use ac_words::{Call, WordFault, Words, read_words};
 use std::process::ExitCode;
 
 fn main(rt: HostRuntime) -> ExitCode {
     let (status, _out) = program::answer(
         &rt,
+        FromRead::new(rt.stdin()),
         ToWrite::new(rt.stdout()),
         &mut ToWrite::new(rt.stderr()),
     );

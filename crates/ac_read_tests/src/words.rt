@@ -49,7 +49,7 @@ fn has_line(text: &str, line: &str) -> bool {
 fn gives(alloc: Global, line: &str, job: Job<'_>) -> Result<bool, AllocError> {
     let words = words_of(alloc, line)?;
     Ok(match read_words(alloc, words.as_slice()) {
-        Ok(words) => words.job() == job,
+        Ok(words) => words.job() == Some(job),
         Err(_fault) => false,
     })
 }
@@ -222,6 +222,31 @@ fn why(rt: HostRuntime) -> Result<(), Fail> {
     Ok(())
 }
 
+// Whether the words ask for a session whose queries are read by this version.
+fn is_session(alloc: Global, line: &str, version: Version) -> Result<bool, AllocError> {
+    let words = words_of(alloc, line)?;
+    Ok(match read_words(alloc, words.as_slice()) {
+        Ok(words) => words.job().is_none() && words.version() == version,
+        Err(_fault) => false,
+    })
+}
+
+const SESSIONS: &[&str] = &[
+    "ac_cli session --providers a --inventories b",
+    "ac_cli session --inventories=b --traits c --providers=a",
+    "ac_cli session --microversion 1.36 --tables d",
+];
+
+#[test]
+fn session(rt: HostRuntime) -> Result<(), Fail> {
+    for line in SESSIONS {
+        assert!(rt; is_session(rt.alloc(), line, Version::V136)?, "{line}");
+    }
+    let newer = "ac_cli session --tables d --microversion 1.39";
+    assert!(rt; is_session(rt.alloc(), newer, Version::V139)?);
+    Ok(())
+}
+
 #[test]
 fn versions(rt: HostRuntime) -> Result<(), Fail> {
     let job = Job {
@@ -377,6 +402,8 @@ const CALLS_FOR_HELP: &[&str] = &[
     "ac_cli hosts --help",
     "ac_cli help why",
     "ac_cli why --help",
+    "ac_cli help session",
+    "ac_cli session --help",
 ];
 
 // The lines of the statuses, and of the example.
@@ -387,7 +414,7 @@ const BELOW_EACH: &[(&str, &[&str])] = &[
             "  0  the answer is written",
             "  1  `verify` says no, or `explain`, `hosts` or `why` finds no candidate",
             "  2  the command line was refused",
-            "  3  a table was refused, or could not be read",
+            "  3  a table was refused, or a table or the questions could not be read",
             "  4  the query was refused",
             "  5  the token was refused, or the host names no provider",
             "  6  a write failed",
@@ -486,6 +513,17 @@ const BELOW_EACH: &[(&str, &[&str])] = &[
             "  ac_cli why 'resources=VCPU:8&required=CUSTOM_ROW_2' compute-02 --tables cloud",
         ],
     ),
+    (
+        "ac_cli session --help",
+        &[
+            "  0  the questions are at their end",
+            "  2  the command line was refused",
+            "  3  a table was refused, or a table or the questions could not be read",
+            "  6  a write failed",
+            "  7  out of memory",
+            "  ac_cli session --tables cloud < questions",
+        ],
+    ),
 ];
 
 #[test]
@@ -532,6 +570,7 @@ const COMMANDS: &[&str] = &[
     "  explain     Writes how many providers and trees meet a query, rule by rule: why nothing is found",
     "  hosts       Writes whether a query fits at each root, and what is missing there (CSV)",
     "  why         Writes how far each provider of a host comes, and what it lacks (CSV): why not this host",
+    "  session     Answers questions from standard input, one a line, and takes and gives back placements",
 ];
 
 #[test]
@@ -582,6 +621,7 @@ const WITH_OPTIONS: &[&str] = &[
     "ac_cli help explain",
     "ac_cli help hosts",
     "ac_cli help why",
+    "ac_cli help session",
 ];
 
 #[test]
@@ -632,6 +672,11 @@ const WHY_USAGE: &[&str] = &[
     "       ac_cli why [OPTIONS] --providers <FILE> --inventories <FILE> <QUERY> <HOST>",
 ];
 
+const SESSION_USAGE: &[&str] = &[
+    "Usage: ac_cli session [OPTIONS] --tables <DIR>",
+    "       ac_cli session [OPTIONS] --providers <FILE> --inventories <FILE>",
+];
+
 #[test]
 fn help_tells_the_usage(rt: HostRuntime) -> Result<(), Fail> {
     assert!(rt; tells(rt.alloc(), "ac_cli help check", CHECK_USAGE)?);
@@ -641,6 +686,7 @@ fn help_tells_the_usage(rt: HostRuntime) -> Result<(), Fail> {
     assert!(rt; tells(rt.alloc(), "ac_cli help explain", EXPLAIN_USAGE)?);
     assert!(rt; tells(rt.alloc(), "ac_cli help hosts", HOSTS_USAGE)?);
     assert!(rt; tells(rt.alloc(), "ac_cli help why", WHY_USAGE)?);
+    assert!(rt; tells(rt.alloc(), "ac_cli help session", SESSION_USAGE)?);
     Ok(())
 }
 
@@ -686,6 +732,10 @@ const OTHER_WORDS: &[&str] = &[
     "ac_cli why q --providers a --inventories b",
     "ac_cli why q h h --providers a --inventories b",
     "ac_cli why q h --providers a --inventories b --after t",
+    "ac_cli session",
+    "ac_cli session q --providers a --inventories b",
+    "ac_cli session --tables d --after t",
+    "ac_cli session --tables d --microversion 1.40",
 ];
 
 #[test]

@@ -17,9 +17,9 @@ use Rattle.clap.specs.Walk.{Held, Names, Outcome, Row, Rule, Step, Text, Waiting
 use Rattle.clap.proofs.SimpleLemmas.{is_nil}
 use Rattle.clap.proofs.OnLiterals.{clap_on_literals}
 use Rattle.ac_words.specs.Mark.{past_mark}
-use Rattle.ac_words.specs.Words.{HasEntry, IsComplete, name_of, named, program, query_of, token_of}
-use Rattle.ac_query.specs.Jobs.{HasToken}
-use Rattle.ac_query.specs.declared.job.Command.{Command}
+use Rattle.ac_words.specs.Words.{HasEntry, HasItsToken, IsComplete, name_of, named, program, query_of, token_of}
+use Rattle.ac_words.specs.declared.words.Call.{Call}
+use Rattle.ac_words.specs.declared.words.Call.TheVariants.{Job, Session}
 use Rattle.ac_query.specs.declared.job.Command.TheVariants.{Check, Candidates, Tokens, Verify, Explain, Hosts, Why}
 use Rattle.ac_words.proofs.FilledRows.{Filled, HasValue, asks_or_takes, first_free, then_free}
 use Rattle.ac_words.proofs.FilledWalk.{keeps-defaults, keeps-settled, keeps-walk}
@@ -181,17 +181,20 @@ abbrev is_help : Shape → Bool
 is_help s = bytes_eq s.name (codes "help") && is_empty s.aliases
 
 -- it needs the words of a command
-abbrev needs_words : Command → Shape → Bool
-needs_words Check s = true
-needs_words Verify s = needs (codes "query") s && needs (codes "token") s
-needs_words _ s = needs (codes "query") s
+abbrev needs_words : Call → Shape → Bool
+needs_words Session s = true
+needs_words (Job Check) s = true
+needs_words (Job Verify) s = needs (codes "query") s && needs (codes "token") s
+needs_words (Job _) s = needs (codes "query") s
 
 -- it is a command of the program, which needs each entry that the command has to have
-abbrev serves : Command → Shape → Bool
-serves command s = bytes_eq s.name (name_of command) && (needs_words command s && list_all asks_or_takes s.rules)
+abbrev serves : Call → Shape → Bool
+serves call s = bytes_eq s.name (name_of call) && (needs_words call s && list_all asks_or_takes s.rules)
 
 abbrev is_served : Shape → Bool
-is_served s = serves Check s || (serves Candidates s || (serves Tokens s || (serves Verify s || (serves Explain s || (serves Hosts s || serves Why s)))))
+is_served s =
+    serves (Job Check) s || (serves (Job Candidates) s || (serves (Job Tokens) s || (serves (Job Verify) s
+    || (serves (Job Explain) s || (serves (Job Hosts) s || (serves (Job Why) s || serves Session s))))))
 
 abbrev ServedOption : Option Shape → Type 0
 ServedOption None = ⊤
@@ -206,43 +209,48 @@ query-entry s words kept n e = by_word (first_of (codes "query") (rows_after s.r
     by_word (Some text) h = refl
     by_word None h = h
 
-words-given : (command : Command) (s : Shape) (words : List Text) → list_all asks_or_takes s.rules ≡ true → needs_words command s ≡ true
+words-given : (call : Call) (s : Shape) (words : List Text) → list_all asks_or_takes s.rules ≡ true → needs_words call s ≡ true
     → level_fault s [] nothing_held words false [] ≡ []
-    → (is_some (query_of command (rows_after s.rules [] words)) ≡ true) × HasToken command (token_of command (rows_after s.rules [] words))
-words-given Check s words kept n e = (refl, tt)
-words-given Candidates s words kept n e = (query-entry s words kept n e, tt)
-words-given Tokens s words kept n e = (query-entry s words kept n e, tt)
-words-given Explain s words kept n e = (query-entry s words kept n e, tt)
-words-given Hosts s words kept n e = (query-entry s words kept n e, tt)
-words-given Why s words kept n e = (query-entry s words kept n e, tt)
-words-given Verify s words kept n e =
+    → (is_some (query_of call (rows_after s.rules [] words)) ≡ true) × HasItsToken call (token_of call (rows_after s.rules [] words))
+words-given Session s words kept n e = (refl, tt)
+words-given (Job Check) s words kept n e = (refl, tt)
+words-given (Job Candidates) s words kept n e = (query-entry s words kept n e, tt)
+words-given (Job Tokens) s words kept n e = (query-entry s words kept n e, tt)
+words-given (Job Explain) s words kept n e = (query-entry s words kept n e, tt)
+words-given (Job Hosts) s words kept n e = (query-entry s words kept n e, tt)
+words-given (Job Why) s words kept n e = (query-entry s words kept n e, tt)
+words-given (Job Verify) s words kept n e =
     let query : needs (codes "query") s ≡ true = grind arith in
     let token : needs (codes "token") s ≡ true = grind arith in
     (query-entry s words kept query e, level-entry s words (codes "token") kept token e)
 
-command-complete : (command : Command) (s : Shape) (words : List Text) → serves command s ≡ true
+call-complete : (call : Call) (s : Shape) (words : List Text) → serves call s ≡ true
     → level_fault s [] nothing_held words false [] ≡ [] → IsComplete (Some (rows_at s words))
-command-complete command s words k e =
-    let name : bytes_eq s.name (name_of command) ≡ true = grind arith in
+call-complete call s words k e =
+    let name : bytes_eq s.name (name_of call) ≡ true = grind arith in
     let kept : list_all asks_or_takes s.rules ≡ true = grind arith in
-    let given : needs_words command s ≡ true = grind arith in
-    (command, (bytes_eq-Decides s.name (name_of command)).0 name, words-given command s words kept given e)
+    let given : needs_words call s ≡ true = grind arith in
+    (call, (bytes_eq-Decides s.name (name_of call)).0 name, words-given call s words kept given e)
 
 level-complete : (s : Shape) (words : List Text) → is_served s ≡ true → level_fault s [] nothing_held words false [] ≡ []
     → IsComplete (Some (rows_at s words))
-level-complete s words k e = elim (cases_Bool (serves Check s)) [
-  | inl t ↦ command-complete Check s words t e
-  | inr no_check ↦ elim (cases_Bool (serves Candidates s)) [
-    | inl t ↦ command-complete Candidates s words t e
-    | inr no_candidates ↦ elim (cases_Bool (serves Tokens s)) [
-      | inl t ↦ command-complete Tokens s words t e
-      | inr no_tokens ↦ elim (cases_Bool (serves Verify s)) [
-        | inl t ↦ command-complete Verify s words t e
-        | inr no_verify ↦ elim (cases_Bool (serves Explain s)) [
-          | inl t ↦ command-complete Explain s words t e
-          | inr no_explain ↦ elim (cases_Bool (serves Hosts s)) [
-            | inl t ↦ command-complete Hosts s words t e
-            | inr no_hosts ↦ command-complete Why s words (rw (no_check, no_candidates, no_tokens, no_verify, no_explain, no_hosts) at k) e
+level-complete s words k e = elim (cases_Bool (serves (Job Check) s)) [
+  | inl t ↦ call-complete (Job Check) s words t e
+  | inr no_check ↦ elim (cases_Bool (serves (Job Candidates) s)) [
+    | inl t ↦ call-complete (Job Candidates) s words t e
+    | inr no_candidates ↦ elim (cases_Bool (serves (Job Tokens) s)) [
+      | inl t ↦ call-complete (Job Tokens) s words t e
+      | inr no_tokens ↦ elim (cases_Bool (serves (Job Verify) s)) [
+        | inl t ↦ call-complete (Job Verify) s words t e
+        | inr no_verify ↦ elim (cases_Bool (serves (Job Explain) s)) [
+          | inl t ↦ call-complete (Job Explain) s words t e
+          | inr no_explain ↦ elim (cases_Bool (serves (Job Hosts) s)) [
+            | inl t ↦ call-complete (Job Hosts) s words t e
+            | inr no_hosts ↦ elim (cases_Bool (serves (Job Why) s)) [
+              | inl t ↦ call-complete (Job Why) s words t e
+              | inr no_why ↦
+                  call-complete Session s words (rw (no_check, no_candidates, no_tokens, no_verify, no_explain, no_hosts, no_why) at k) e
+            ]
           ]
         ]
       ]

@@ -13,9 +13,10 @@ use Rattle.ac_tables.specs.declared.fault.Table.TheVariants.{Providers, Inventor
 use Rattle.ac_query.specs.declared.version.Version.{Version}
 use Rattle.ac_query.specs.declared.version.Version.TheVariants.{V136, V139}
 use Rattle.ac_query.specs.Jobs.{HasToken}
-use Rattle.ac_query.specs.declared.job.Command.{Command}
 use Rattle.ac_query.specs.declared.job.Command.TheVariants.{Check, Candidates, Tokens, Verify, Explain, Hosts, Why}
 use Rattle.ac_words.specs.Mark.{past_mark}
+use Rattle.ac_words.specs.declared.words.Call.{Call}
+use Rattle.ac_words.specs.declared.words.Call.TheVariants.{Job, Session}
 use Rattle.ac_words.specs.declared.words.WordFault.{WordFault}
 use Rattle.ac_words.specs.declared.words.WordFault.TheVariants.{Refused, Help, NoMemory}
 use Rattle.ac_words.specs.declared.words.WordFault.TheVariants as fault
@@ -41,7 +42,7 @@ with_tables app =
     (option_rule (codes "tables"))) (option_rule (codes "providers"))) (option_rule (codes "inventories")))
     (option_rule (codes "usages"))) (option_rule (codes "traits"))) (option_rule (codes "aggregates"))
 
--- the options of a command with a query: those of the tables, and the version
+-- the options of a command with queries: those of the tables, and the version
 abbrev pub with_options : App → App
 with_options app = with_rule (with_tables app) (option_rule (codes "microversion"))
 
@@ -73,15 +74,20 @@ hosts_app = with_options (query_app (codes "hosts"))
 abbrev pub why_app : App
 why_app = with_options (with_rule (query_app (codes "why")) (word_rule (codes "host")))
 
+-- a session, which reads its queries later
+abbrev pub session_app : App
+session_app = with_options (new_app (codes "session"))
+
 -- what is told of a command
-abbrev pub app_for : Command → App
-app_for Check = check_app
-app_for Candidates = candidates_app
-app_for Tokens = tokens_app
-app_for Verify = verify_app
-app_for Explain = explain_app
-app_for Hosts = hosts_app
-app_for Why = why_app
+abbrev pub app_for : Call → App
+app_for (Job Check) = check_app
+app_for (Job Candidates) = candidates_app
+app_for (Job Tokens) = tokens_app
+app_for (Job Verify) = verify_app
+app_for (Job Explain) = explain_app
+app_for (Job Hosts) = hosts_app
+app_for (Job Why) = why_app
+app_for Session = session_app
 
 -- what has a version, and needs one of its own commands
 abbrev pub as_program : App → App
@@ -89,8 +95,9 @@ as_program app = record app { top = record app.top { has_version = true; subcomm
 
 abbrev pub program : App
 program =
-    with_subcommand (with_subcommand (with_subcommand (with_subcommand (with_subcommand (with_subcommand (with_subcommand (as_program (new_app (codes "ac_cli")))
-    check_app.top) candidates_app.top) tokens_app.top) verify_app.top) explain_app.top) hosts_app.top) why_app.top
+    with_subcommand (with_subcommand (with_subcommand (with_subcommand (with_subcommand (with_subcommand (with_subcommand (with_subcommand
+    (as_program (new_app (codes "ac_cli"))) check_app.top) candidates_app.top) tokens_app.top) verify_app.top) explain_app.top) hosts_app.top)
+    why_app.top) session_app.top
 
 -- ---- what it states of the words
 
@@ -165,7 +172,7 @@ faults words = or_else (fault_of program words) (own_faults (named words))
 
 -- what the words of a command line ask for
 pub record Line : Type 0 where
-  pub command : Command
+  pub call : Call
   pub query : Text
   pub version : Version
   pub token : Option Text
@@ -177,32 +184,40 @@ pub record Line : Type 0 where
   pub traits : Option Text
   pub aggregates : Option Text
 
-abbrev pub name_of : Command → Text
-name_of Check = codes "check"
-name_of Candidates = codes "candidates"
-name_of Tokens = codes "tokens"
-name_of Verify = codes "verify"
-name_of Explain = codes "explain"
-name_of Hosts = codes "hosts"
-name_of Why = codes "why"
+abbrev pub name_of : Call → Text
+name_of (Job Check) = codes "check"
+name_of (Job Candidates) = codes "candidates"
+name_of (Job Tokens) = codes "tokens"
+name_of (Job Verify) = codes "verify"
+name_of (Job Explain) = codes "explain"
+name_of (Job Hosts) = codes "hosts"
+name_of (Job Why) = codes "why"
+name_of Session = codes "session"
 
--- the query of a command, without the path of a URL before it; a check has the empty one
-abbrev pub query_of : Command → List Row → Option Text
-query_of Check rows = Some []
-query_of _ rows = option_map past_mark (first_of (codes "query") rows)
+-- the query of a command, without the path of a URL before it; a check and a session have the empty one
+abbrev pub query_of : Call → List Row → Option Text
+query_of Session rows = Some []
+query_of (Job Check) rows = Some []
+query_of (Job _) rows = option_map past_mark (first_of (codes "query") rows)
 
--- the token of a command: to be judged, or to begin after; a check, an explanation and the rows of roots, or of one, have none
-abbrev pub token_of : Command → List Row → Option Text
-token_of Check rows = None
-token_of Explain rows = None
-token_of Hosts rows = None
-token_of Why rows = None
-token_of Verify rows = first_of (codes "token") rows
-token_of _ rows = first_of (codes "after") rows
+-- the token of a command: to be judged, or to begin after; a check, an explanation, the rows of roots, or of one, and a session have none
+abbrev pub token_of : Call → List Row → Option Text
+token_of Session rows = None
+token_of (Job Check) rows = None
+token_of (Job Explain) rows = None
+token_of (Job Hosts) rows = None
+token_of (Job Why) rows = None
+token_of (Job Verify) rows = first_of (codes "token") rows
+token_of (Job _) rows = first_of (codes "after") rows
+
+-- a token is there to be judged
+abbrev pub HasItsToken : Call → Option Text → Type 0
+HasItsToken (Job command) token = HasToken command token
+HasItsToken Session token = ⊤
 
 -- the host that is asked about; only `why` has one
-abbrev pub host_of : Command → List Row → Option Text
-host_of Why rows = first_of (codes "host") rows
+abbrev pub host_of : Call → List Row → Option Text
+host_of (Job Why) rows = first_of (codes "host") rows
 host_of _ rows = None
 
 -- an option without a value is given where its entry is this text
@@ -211,8 +226,8 @@ is_set None = false
 is_set (Some text) = bytes_eq text (codes "true")
 
 -- whether it is said of what a rule is broken; only `verify` is asked
-abbrev pub detail_of : Command → List Row → Bool
-detail_of Verify rows = is_set (first_of (codes "detail") rows)
+abbrev pub detail_of : Call → List Row → Bool
+detail_of (Job Verify) rows = is_set (first_of (codes "detail") rows)
 detail_of _ rows = false
 
 -- the path of a table: that of its file in the folder, or what its option says
@@ -225,12 +240,12 @@ path_given rows table = path_in (folder_of rows) rows table
 
 -- the line has these entries
 pub record IsMadeOf (rows : List Row) (line : Line) : Type 0 where
-  pub query : query_of line.command rows ≡ Some line.query
+  pub query : query_of line.call rows ≡ Some line.query
   pub version : version_of rows ≡ Some line.version
-  pub token : token_of line.command rows ≡ line.token
-  pub judged : HasToken line.command line.token
-  pub host : host_of line.command rows ≡ line.host
-  pub detail : detail_of line.command rows ≡ line.detail
+  pub token : token_of line.call rows ≡ line.token
+  pub judged : HasItsToken line.call line.token
+  pub host : host_of line.call rows ≡ line.host
+  pub detail : detail_of line.call rows ≡ line.detail
   pub providers : path_given rows Providers ≡ Some line.providers
   pub inventories : path_given rows Inventories ≡ Some line.inventories
   pub usages : path_given rows Usages ≡ line.usages
@@ -240,19 +255,19 @@ pub record IsMadeOf (rows : List Row) (line : Line) : Type 0 where
 -- the line is the command that `clap` found, with its entries
 abbrev pub Says : Option (Text × List Row) → Line → Type 0
 Says None line = ⊥
-Says (Some p) line = (p.0 ≡ name_of line.command) × IsMadeOf p.1 line
+Says (Some p) line = (p.0 ≡ name_of line.call) × IsMadeOf p.1 line
 
 abbrev pub HasEntry : Text → List Row → Type 0
 HasEntry name rows = is_some (first_of name rows) ≡ true
 
 -- the entries that a command needs
-abbrev pub HasNeeded : Command → List Row → Type 0
-HasNeeded command rows = (is_some (query_of command rows) ≡ true) × HasToken command (token_of command rows)
+abbrev pub HasNeeded : Call → List Row → Type 0
+HasNeeded call rows = (is_some (query_of call rows) ≡ true) × HasItsToken call (token_of call rows)
 
 -- `clap` found a command of the program with all the entries that it needs
 abbrev pub IsComplete : Option (Text × List Row) → Type 0
 IsComplete None = ⊥
-IsComplete (Some p) = (command : Command) × (p.0 ≡ name_of command) × HasNeeded command p.1
+IsComplete (Some p) = (call : Call) × (p.0 ≡ name_of call) × HasNeeded call p.1
 
 abbrev pub path_of : Line → Table → Option Text
 path_of line Providers = Some line.providers

@@ -6,4 +6,4 @@ pub mod mark;
 pub mod words;
 
 pub use mark::past_mark;
-pub use words::{WordFault, Words, read_words};
+pub use words::{Call, WordFault, Words, read_words};

@@ -1,7 +1,8 @@
 //! The words of a command line, read by `clap`.
-ghost use Rattle.std.specs.Prelude.{◌≡◌, IfErr, IfOk, IsTrue, OnOk, Some, [], map, option_map, string_bytes};
+ghost use Rattle.std.specs.Prelude.{◌≡◌, IfErr, IfNone, IfOk, IfSome, IsTrue, OnOk, Some, [], map, option_map, string_bytes};
 ghost use Rattle.ac_words.specs.Words.{Line, Says, Tells, faults, is_taken, named, path_of};
 ghost use Rattle.clap.specs.Words.{HasKind, Kinds};
+ghost use Rattle.ac_words.specs.declared.words.Call.TheVariants.{Job as job, Session as session};
 ghost use Rattle.ac_words.specs.declared.words.WordFault.TheVariants.{NoMemory};
 
 mod entries;
@@ -15,10 +16,19 @@ use clap::error::ErrorKind;
 use std::alloc::{AllocError, Global};
 use std::marker::Model;
 
+/// What a command line calls for.
+#[derive(Clone, Copy, Debug, PartialEq, Eq)]
+pub enum Call {
+    /// A job, by its command.
+    Job(Command),
+    /// A session, whose questions are read later.
+    Session,
+}
+
 /// The words of a command line that was accepted.
 #[derive(Debug, Drop)]
 pub struct Words {
-    command: Command,
+    call: Call,
     query: String,
     version: Version,
     token: Option<String>,
@@ -35,7 +45,7 @@ impl Model for Words {
     ghost Value = { Line };
 
     ghost view = { λ w. record {
-      command = w.command;
+      call = w.call;
       query = string_bytes w.query;
       version = w.version;
       token = option_map string_bytes w.token;
@@ -50,23 +60,36 @@ impl Model for Words {
 }
 
 impl Words {
-    /// What the words ask for.
-    pub fn job(&self) -> Job<'_>
-        ensures command { result.command ≡ self.now.command }
-        ensures query { result.query.now ≡ self.now.query }
-        ensures version { result.version ≡ self.now.version }
-        ensures token { option_map (λ token. token.now) result.token ≡ self.now.token }
-        ensures host { option_map (λ host. host.now) result.host ≡ self.now.host }
-        ensures detail { result.detail ≡ self.now.detail }
+    /// The job that the words ask for; none where they ask for a session.
+    pub fn job(&self) -> Option<Job<'_>>
+        ensures command { IfSome result (λ asked. self.now.call ≡ job asked.command) }
+        ensures query { IfSome result (λ asked. asked.query.now ≡ self.now.query) }
+        ensures version { IfSome result (λ asked. asked.version ≡ self.now.version) }
+        ensures token { IfSome result (λ asked.
+            option_map (λ token. token.now) asked.token ≡ self.now.token) }
+        ensures host { IfSome result (λ asked.
+            option_map (λ host. host.now) asked.host ≡ self.now.host) }
+        ensures detail { IfSome result (λ asked. asked.detail ≡ self.now.detail) }
+        ensures none { IfNone result (self.now.call ≡ session) }
     {
-        Job {
-            command: self.command,
-            query: self.query.as_str(),
-            version: self.version,
-            token: self.token.as_deref(),
-            host: self.host.as_deref(),
-            detail: self.detail,
+        match self.call {
+            Call::Job(command) => Some(Job {
+                command,
+                query: self.query.as_str(),
+                version: self.version,
+                token: self.token.as_deref(),
+                host: self.host.as_deref(),
+                detail: self.detail,
+            }),
+            Call::Session => None,
         }
+    }
+
+    /// The version that reads queries.
+    pub fn version(&self) -> Version
+        ensures { result ≡ self.now.version }
+    {
+        self.version
     }
 
     /// The path of a table's file, where one was given.

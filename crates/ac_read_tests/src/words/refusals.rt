@@ -20,9 +20,25 @@ fn accepted(rt: HostRuntime) {
     };
     match read_words(rt.alloc(), given.as_slice()) {
         Ok(words) => {
-            assert!(rt; words.job() == job);
+            assert!(rt; words.job() == Some(job));
             assert_eq!(rt; words.path(Table::Providers), Some("a"));
             assert_eq!(rt; words.path(Table::Inventories), Some("b"));
+        }
+        Err(fault) => assert!(rt; matches!(fault, WordFault::NoMemory)),
+    }
+}
+
+#[test]
+fn session(rt: HostRuntime) {
+    let line = "ac_cli session --microversion 1.39 --tables a";
+    let Ok(given) = words_of(rt.alloc(), line) else {
+        return;
+    };
+    match read_words(rt.alloc(), given.as_slice()) {
+        Ok(words) => {
+            assert!(rt; words.job().is_none());
+            assert!(rt; words.version() == Version::V139);
+            assert_eq!(rt; words.path(Table::Usages), Some("a/usages.csv"));
         }
         Err(fault) => assert!(rt; matches!(fault, WordFault::NoMemory)),
     }

@@ -4,7 +4,7 @@ ghost use Rattle.clap.specs.Words.{first_of, found_of, rows_of, subcommand_rows_
 ghost use Rattle.ac_words.specs.Words.{HasNeeded, IsComplete, IsMadeOf, Says, Tells, detail_of, host_of, name_of, own_faults, query_of, table_kinds, token_of, version_kinds, version_named, version_of};
 
 use super::tables::{check_tables, needed_path, path};
-use super::{WordFault, Words, fault_of, grammar};
+use super::{Call, WordFault, Words, fault_of, grammar};
 use crate::mark::past_mark;
 use ac_query::{Command, Version};
 use ac_tables::Table;
@@ -36,19 +36,21 @@ pub(super) fn copy_entry(
 }
 
 // The query of a command.
-fn query(alloc: Global, command: Command, entries: &ArgMatches<'_>) -> Result<String, AllocError>
-    requires { is_some (query_of command (rows_of (found_of entries.now))) ≡ true }
-    ensures { IfOk result (λ text. query_of command (rows_of (found_of entries.now))
+fn query(alloc: Global, call: Call, entries: &ArgMatches<'_>) -> Result<String, AllocError>
+    requires { is_some (query_of call (rows_of (found_of entries.now))) ≡ true }
+    ensures { IfOk result (λ text. query_of call (rows_of (found_of entries.now))
         ≡ Some (string_bytes text)) }
 {
-    match command {
-        Command::Check => Ok(String::new(alloc)),
-        Command::Candidates
-        | Command::Tokens
-        | Command::Verify
-        | Command::Explain
-        | Command::Hosts
-        | Command::Why => match entry(entries, "query") {
+    match call {
+        Call::Session | Call::Job(Command::Check) => Ok(String::new(alloc)),
+        Call::Job(
+            Command::Candidates
+            | Command::Tokens
+            | Command::Verify
+            | Command::Explain
+            | Command::Hosts
+            | Command::Why,
+        ) => match entry(entries, "query") {
             Some(text) => String::from_str(alloc, past_mark(text)),
             None => unreachable!(),
         },
@@ -69,18 +71,18 @@ fn version_named(text: Option<&str>) -> Option<Version>
 // What the user is told of a fault that isn't `clap`'s own, with the usage of the command.
 pub(super) fn refusal(
     alloc: Global,
-    command: Command,
+    call: Call,
     kind: ErrorKind,
     message: &str,
 ) -> Result<WordFault, AllocError>
     ensures { IfOk result (Tells (kind ∷ [])) }
 {
-    let error = grammar::command(alloc, command)?.error(kind, message)?;
+    let error = grammar::command(alloc, call)?.error(kind, message)?;
     fault_of(alloc, &error)
 }
 
 // The version that reads the query.
-fn version(alloc: Global, command: Command, entries: &ArgMatches<'_>) -> Result<Version, WordFault>
+fn version(alloc: Global, call: Call, entries: &ArgMatches<'_>) -> Result<Version, WordFault>
     ensures version { IfOk result (λ v. version_of (rows_of (found_of entries.now)) ≡ Some v) }
     ensures fault { IfErr result (Tells (version_kinds
         (version_of (rows_of (found_of entries.now))))) }
@@ -93,66 +95,60 @@ fn version(alloc: Global, command: Command, entries: &ArgMatches<'_>) -> Result<
             let message = format!(in alloc;
                 "invalid value '{text}' for '--microversion <VERSION>': it is 1.36 or 1.39"
             )?;
-            Err(refusal(alloc, command, ErrorKind::InvalidValue, message.as_str())?)
+            Err(refusal(alloc, call, ErrorKind::InvalidValue, message.as_str())?)
         }
     }
 }
 
 // The token of a command.
-fn token(
-    alloc: Global,
-    command: Command,
-    entries: &ArgMatches<'_>,
-) -> Result<Option<String>, AllocError>
-    ensures { IfOk result (λ copy. token_of command (rows_of (found_of entries.now))
+fn token(alloc: Global, call: Call, entries: &ArgMatches<'_>) -> Result<Option<String>, AllocError>
+    ensures { IfOk result (λ copy. token_of call (rows_of (found_of entries.now))
         ≡ option_map string_bytes copy) }
 {
-    match command {
-        Command::Check | Command::Explain | Command::Hosts | Command::Why => Ok(None),
-        Command::Candidates | Command::Tokens => copy_entry(alloc, entries, "after"),
-        Command::Verify => copy_entry(alloc, entries, "token"),
+    match call {
+        Call::Session
+        | Call::Job(Command::Check | Command::Explain | Command::Hosts | Command::Why) => Ok(None),
+        Call::Job(Command::Candidates | Command::Tokens) => copy_entry(alloc, entries, "after"),
+        Call::Job(Command::Verify) => copy_entry(alloc, entries, "token"),
     }
 }
 
 // The host of a command.
-fn host(
-    alloc: Global,
-    command: Command,
-    entries: &ArgMatches<'_>,
-) -> Result<Option<String>, AllocError>
-    ensures { IfOk result (λ copy. host_of command (rows_of (found_of entries.now))
+fn host(alloc: Global, call: Call, entries: &ArgMatches<'_>) -> Result<Option<String>, AllocError>
+    ensures { IfOk result (λ copy. host_of call (rows_of (found_of entries.now))
         ≡ option_map string_bytes copy) }
 {
-    match command {
-        Command::Why => copy_entry(alloc, entries, "host"),
+    match call {
+        Call::Job(Command::Why) => copy_entry(alloc, entries, "host"),
         _ => Ok(None),
     }
 }
 
 // Whether it is said of what a rule is broken; only `verify` is asked.
-fn detail(command: Command, entries: &ArgMatches<'_>) -> bool
-    ensures { result ≡ detail_of command (rows_of (found_of entries.now)) }
+fn detail(call: Call, entries: &ArgMatches<'_>) -> bool
+    ensures { result ≡ detail_of call (rows_of (found_of entries.now)) }
 {
-    match command {
-        Command::Verify => entry(entries, "detail") == Some("true"),
+    match call {
+        Call::Job(Command::Verify) => entry(entries, "detail") == Some("true"),
         _ => false,
     }
 }
 
 // The command that was found, and its entries.
-fn find_command<'m, 'a>(matches: &'m ArgMatches<'a>) -> (Command, &'m ArgMatches<'a>)
+fn find_command<'m, 'a>(matches: &'m ArgMatches<'a>) -> (Call, &'m ArgMatches<'a>)
     requires { IsComplete (subcommand_rows_of matches.now) }
     ensures { subcommand_rows_of matches.now
         ≡ Some (name_of result.0, rows_of (found_of result.1.now)) }
 {
     match matches.subcommand() {
-        Some(("check", entries)) => (Command::Check, entries),
-        Some(("candidates", entries)) => (Command::Candidates, entries),
-        Some(("tokens", entries)) => (Command::Tokens, entries),
-        Some(("verify", entries)) => (Command::Verify, entries),
-        Some(("explain", entries)) => (Command::Explain, entries),
-        Some(("hosts", entries)) => (Command::Hosts, entries),
-        Some(("why", entries)) => (Command::Why, entries),
+        Some(("check", entries)) => (Call::Job(Command::Check), entries),
+        Some(("candidates", entries)) => (Call::Job(Command::Candidates), entries),
+        Some(("tokens", entries)) => (Call::Job(Command::Tokens), entries),
+        Some(("verify", entries)) => (Call::Job(Command::Verify), entries),
+        Some(("explain", entries)) => (Call::Job(Command::Explain), entries),
+        Some(("hosts", entries)) => (Call::Job(Command::Hosts), entries),
+        Some(("why", entries)) => (Call::Job(Command::Why), entries),
+        Some(("session", entries)) => (Call::Session, entries),
         _ => unreachable!(),
     }
 }
@@ -160,23 +156,23 @@ fn find_command<'m, 'a>(matches: &'m ArgMatches<'a>) -> (Command, &'m ArgMatches
 // The words of a command with these entries.
 fn words_with(
     alloc: Global,
-    command: Command,
+    call: Call,
     version: Version,
     entries: &ArgMatches<'_>,
 ) -> Result<Words, AllocError>
-    requires needed { HasNeeded command (rows_of (found_of entries.now)) }
+    requires needed { HasNeeded call (rows_of (found_of entries.now)) }
     requires version { version_of (rows_of (found_of entries.now)) ≡ Some version }
     requires tables { table_kinds (rows_of (found_of entries.now)) ≡ [] }
-    ensures { IfOk result (λ words. (words.command ≡ command)
+    ensures { IfOk result (λ words. (words.call ≡ call)
         × IsMadeOf (rows_of (found_of entries.now)) words) }
 {
     Ok(Words {
-        command,
-        query: query(alloc, command, entries)?,
+        call,
+        query: query(alloc, call, entries)?,
         version,
-        token: token(alloc, command, entries)?,
-        host: host(alloc, command, entries)?,
-        detail: detail(command, entries),
+        token: token(alloc, call, entries)?,
+        host: host(alloc, call, entries)?,
+        detail: detail(call, entries),
         providers: needed_path(alloc, entries, Table::Providers)?,
         inventories: needed_path(alloc, entries, Table::Inventories)?,
         usages: path(alloc, entries, Table::Usages)?,
@@ -192,8 +188,8 @@ pub(super) fn words_of(alloc: Global, matches: &ArgMatches<'_>) -> Result<Words,
     ensures ok { OnOk result (own_faults (subcommand_rows_of matches.now) ≡ []) }
     ensures fault { IfErr result (Tells (own_faults (subcommand_rows_of matches.now))) }
 {
-    let (command, entries) = find_command(matches);
-    let version = version(alloc, command, entries)?;
-    check_tables(alloc, command, entries)?;
-    Ok(words_with(alloc, command, version, entries)?)
+    let (call, entries) = find_command(matches);
+    let version = version(alloc, call, entries)?;
+    check_tables(alloc, call, entries)?;
+    Ok(words_with(alloc, call, version, entries)?)
 }

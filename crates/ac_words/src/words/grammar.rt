@@ -2,9 +2,9 @@
 ghost use Rattle.std.specs.Prelude.{◌≡◌, IfOk, false};
 ghost use Rattle.clap.specs.Words.{app_of, rule_of};
 ghost use Rattle.clap.specs.declared.builder.command.Command.TheViews.{out-Command as fields_of};
-ghost use Rattle.ac_words.specs.Words.{app_for, candidates_app, check_app, explain_app, flag_rule, hosts_app, option_rule, program, query_app, search_app, tokens_app, verify_app, why_app, with_options, with_tables, word_rule};
+ghost use Rattle.ac_words.specs.Words.{app_for, candidates_app, check_app, explain_app, flag_rule, hosts_app, option_rule, program, query_app, search_app, session_app, tokens_app, verify_app, why_app, with_options, with_tables, word_rule};
 
-use super::help;
+use super::{Call, help};
 use ac_query::Command as Asked;
 use clap::{Arg, ArgAction, Command};
 use std::alloc::{AllocError, Global};
@@ -92,7 +92,7 @@ fn add_tables<'a>(alloc: Global, command: Command<'a>) -> Result<Command<'a>, Al
     Ok(command)
 }
 
-// Adds the options of a command with a query: those of the tables, and the version.
+// Adds the options of a command with queries: those of the tables, and the version.
 fn add_options<'a>(alloc: Global, command: Command<'a>) -> Result<Command<'a>, AllocError>
     ensures app { IfOk result (λ c. app_of c ≡ with_options (app_of command.entry)) }
     ensures local { (fields_of command.entry).has_globals ≡ false
@@ -268,18 +268,35 @@ fn why<'a>(alloc: Global) -> Result<Command<'a>, AllocError>
     add_options(alloc, command)
 }
 
-// A command by itself.
-pub(super) fn command<'a>(alloc: Global, asked: Asked) -> Result<Command<'a>, AllocError>
-    ensures { IfOk result (λ c. app_of c ≡ app_for asked) }
+fn session<'a>(alloc: Global) -> Result<Command<'a>, AllocError>
+    ensures app { IfOk result (λ c. app_of c ≡ session_app) }
+    ensures local { IfOk result (λ c. (fields_of c).has_globals ≡ false) }
 {
-    match asked {
-        Asked::Check => check(alloc),
-        Asked::Candidates => candidates(alloc),
-        Asked::Tokens => tokens(alloc),
-        Asked::Verify => verify(alloc),
-        Asked::Explain => explain(alloc),
-        Asked::Hosts => hosts(alloc),
-        Asked::Why => why(alloc),
+    let command = Command::new(alloc, "session")
+        .about(
+            "Answers questions from standard input, one a line, and takes and gives back placements",
+        )
+        .override_usage(
+            "ac_cli session [OPTIONS] --tables <DIR>\n       \
+             ac_cli session [OPTIONS] --providers <FILE> --inventories <FILE>",
+        )
+        .after_help(help::SESSION);
+    add_options(alloc, command)
+}
+
+// A command by itself.
+pub(super) fn command<'a>(alloc: Global, call: Call) -> Result<Command<'a>, AllocError>
+    ensures { IfOk result (λ c. app_of c ≡ app_for call) }
+{
+    match call {
+        Call::Job(Asked::Check) => check(alloc),
+        Call::Job(Asked::Candidates) => candidates(alloc),
+        Call::Job(Asked::Tokens) => tokens(alloc),
+        Call::Job(Asked::Verify) => verify(alloc),
+        Call::Job(Asked::Explain) => explain(alloc),
+        Call::Job(Asked::Hosts) => hosts(alloc),
+        Call::Job(Asked::Why) => why(alloc),
+        Call::Session => session(alloc),
     }
 }
 
@@ -301,5 +318,6 @@ pub(super) fn program<'a>(alloc: Global) -> Result<Command<'a>, AllocError>
     let command = command.subcommand(explain(alloc)?)?;
     let command = command.subcommand(hosts(alloc)?)?;
     let command = command.subcommand(why(alloc)?)?;
+    let command = command.subcommand(session(alloc)?)?;
     Ok(command)
 }

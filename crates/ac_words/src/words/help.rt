@@ -3,11 +3,19 @@
 // The statuses of answers and refusals, among those that every command has, then the example.
 macro_rules! below {
     ($answers:literal, $refusals:literal, $example:literal) => {
+        below!(
+            $answers,
+            "  3  a table was refused, or could not be read\n",
+            $refusals,
+            $example
+        )
+    };
+    ($answers:literal, $tables:literal, $refusals:literal, $example:literal) => {
         concat!(
             "Exit status:\n",
             $answers,
             "  2  the command line was refused\n",
-            "  3  a table was refused, or could not be read\n",
+            $tables,
             $refusals,
             "  6  a write failed\n",
             "  7  out of memory\n",
@@ -20,6 +28,7 @@ macro_rules! below {
 
 pub(super) const PROGRAM: &str = below!(
     "  0  the answer is written\n  1  `verify` says no, or `explain`, `hosts` or `why` finds no candidate\n",
+    "  3  a table was refused, or a table or the questions could not be read\n",
     "  4  the query was refused\n  5  the token was refused, or the host names no provider\n",
     "  ac_cli tokens 'resources=VCPU:2,DISK_GB:20' --tables cloud"
 );
@@ -64,4 +73,11 @@ pub(super) const WHY: &str = below!(
     "  0  the query fits at the host\n  1  it doesn't fit there\n",
     "  4  the query was refused\n  5  the host names no provider, or several\n",
     "  ac_cli why 'resources=VCPU:8&required=CUSTOM_ROW_2' compute-02 --tables cloud"
+);
+
+pub(super) const SESSION: &str = below!(
+    "  0  the questions are at their end\n",
+    "  3  a table was refused, or a table or the questions could not be read\n",
+    "",
+    "  ac_cli session --tables cloud < questions"
 );

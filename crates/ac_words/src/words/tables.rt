@@ -5,9 +5,8 @@ ghost use Rattle.clap.specs.Words.{found_of, rows_of};
 ghost use Rattle.ac_words.specs.Words.{Tells, all_tables, has_option, path_given, table_kinds, table_name};
 ghost use Rattle.clap.specs.declared.error.kind.ErrorKind.TheVariants.{ArgumentConflict, MissingRequiredArgument};
 
-use super::WordFault;
 use super::entries::{copy_entry, entry, refusal};
-use ac_query::Command;
+use super::{Call, WordFault};
 use ac_tables::Table;
 use clap::ArgMatches;
 use clap::error::ErrorKind;
@@ -68,25 +67,20 @@ fn option_lines(
 // What the user is told of options beside the folder.
 fn options_beside_the_folder(
     alloc: Global,
-    command: Command,
+    call: Call,
     entries: &ArgMatches<'_>,
 ) -> Result<WordFault, AllocError>
     ensures { IfOk result (Tells (ArgumentConflict ∷ [])) }
 {
     let beside = option_lines(alloc, entries, &ALL_TABLES, true)?;
     let message = format!(in alloc; "the argument '--tables <DIR>' cannot be used with:{beside}")?;
-    refusal(
-        alloc,
-        command,
-        ErrorKind::ArgumentConflict,
-        message.as_str(),
-    )
+    refusal(alloc, call, ErrorKind::ArgumentConflict, message.as_str())
 }
 
 // What the user is told of needed options that are missing.
 fn missing_options(
     alloc: Global,
-    command: Command,
+    call: Call,
     entries: &ArgMatches<'_>,
 ) -> Result<WordFault, AllocError>
     ensures { IfOk result (Tells (MissingRequiredArgument ∷ [])) }
@@ -98,7 +92,7 @@ fn missing_options(
     )?;
     refusal(
         alloc,
-        command,
+        call,
         ErrorKind::MissingRequiredArgument,
         message.as_str(),
     )
@@ -107,7 +101,7 @@ fn missing_options(
 // Looks whether the tables are named as they should be: by their folder alone, or by options of which two are needed.
 pub(super) fn check_tables(
     alloc: Global,
-    command: Command,
+    call: Call,
     entries: &ArgMatches<'_>,
 ) -> Result<(), WordFault>
     ensures ok { OnOk result (table_kinds (rows_of (found_of entries.now)) ≡ []) }
@@ -115,10 +109,10 @@ pub(super) fn check_tables(
 {
     if entry(entries, "tables").is_some() {
         if has_some_option(entries) {
-            return Err(options_beside_the_folder(alloc, command, entries)?);
+            return Err(options_beside_the_folder(alloc, call, entries)?);
         }
     } else if !(has_option(entries, Table::Providers) && has_option(entries, Table::Inventories)) {
-        return Err(missing_options(alloc, command, entries)?);
+        return Err(missing_options(alloc, call, entries)?);
     }
     Ok(())
 }
