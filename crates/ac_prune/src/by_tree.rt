@@ -1,6 +1,6 @@
 //! Places by tree, or by part of the forest, of which the next one of a tree is found by binary search.
 
-ghost use Rattle.std.specs.Prelude.{◌≡◌, ◌+◌, ◌*◌, ◌<◌, ◌≤◌, ◌^◌, ◌++◌, ◌||◌, ℕ, List, [], true, false, length, map, IfOk, MatchOption, slice_index, slice_index_or};
+ghost use Rattle.std.specs.Prelude.{◌≡◌, ◌+◌, ◌-◌, ◌*◌, ◌<◌, ◌≤◌, ◌^◌, ◌++◌, ◌||◌, ℕ, List, [], true, false, length, map, IfOk, MatchOption, slice_index, slice_index_or};
 ghost use Rattle.std.specs.List.{All, list_any};
 ghost use Rattle.ac_cloud.specs.Cloud.CloudWorld.{providers_of};
 ghost use Rattle.ac_cloud.specs.World.{Provider, is_available_at};
@@ -17,6 +17,8 @@ use std::alloc::Global;
 pub(crate) struct Places {
     // A tree, or a part, and a place in it as one number; rising.
     keys: Vec<u64>,
+    // Where to look first: by tree, or part, the first key under it or a later one. What is found there is checked.
+    first: Vec<usize>,
     // How many choices there are.
     pub(crate) count: usize,
     ghost rising: { (i j : ℕ) → i ≤ j → j < length keys.items → slice_index keys.items i ≤ slice_index keys.items j },
@@ -77,12 +79,33 @@ fn push_choice(
     }
 }
 
-// The least of some numbers from a bound on; the greatest of all where there is none.
-fn least_from(numbers: &[u64], bound: u64) -> u64
+// Whether of some numbers those before a place are below a bound, and the one at the place isn't.
+fn begins_at(numbers: &[u64], bound: u64, at: usize) -> bool
+    ensures within { result ≡ true → at ≤ length numbers.now }
+    ensures below { result ≡ true → 0 < at → slice_index numbers.now (at - 1) < bound }
+    ensures above { result ≡ true → at < length numbers.now → bound ≤ slice_index numbers.now at }
+{
+    if at > numbers.len() {
+        return false;
+    }
+    if at > 0 && numbers[at - 1] >= bound {
+        return false;
+    }
+    at == numbers.len() || numbers[at] >= bound
+}
+
+// The least of some numbers from a bound on; the greatest of all where there is none. It may stand at a place that is guessed.
+fn least_from(numbers: &[u64], bound: u64, guess: usize) -> u64
     requires { (i j : ℕ) → i ≤ j → j < length numbers.now
         → slice_index numbers.now i ≤ slice_index numbers.now j }
     ensures { IsLeastFrom numbers.now bound result }
 {
+    if begins_at(numbers, bound, guess) {
+        if guess < numbers.len() {
+            return numbers[guess];
+        }
+        return u64::MAX;
+    }
     match numbers.binary_search(&bound) {
         Ok(_) => bound,
         Err(at) if at < numbers.len() => numbers[at],
@@ -90,19 +113,66 @@ fn least_from(numbers: &[u64], bound: u64) -> u64
     }
 }
 
+// The tree, or the part, of a key.
+fn tree_of(key: u64) -> usize {
+    (key >> 32) as usize
+}
+
+// By tree, or part, where the keys under it or a later one begin, up to the last that has some.
+fn first_keys(alloc: Global, keys: &[u64]) -> Result<Vec<usize>, NoMemory> {
+    let trees = match keys.last() {
+        Some(key) => tree_of(*key).saturating_add(1),
+        None => 0,
+    };
+    let mut first = vec![in alloc; keys.len(); trees]?;
+    for i in 0..keys.len() {
+        let at = keys.len() - 1 - i;
+        let tree = tree_of(keys[at]);
+        if tree < first.len() {
+            first[tree] = at;
+        }
+    }
+    for i in 1..trees {
+        let tree = trees - 1 - i;
+        if tree + 1 < first.len() && first[tree] == keys.len() {
+            first[tree] = first[tree + 1];
+        }
+    }
+    Ok(first)
+}
+
 impl Places {
     ghost use Rattle.ac_prune.specs.Trees.{IsByPart};
 
     // The places of so many choices, by their keys in any order.
-    fn of_keys(keys: Vec<u64>, count: usize) -> Places
+    fn of_keys(alloc: Global, keys: Vec<u64>, count: usize) -> Result<Places, NoMemory>
         requires { count ≤ 65536 }
-        ensures count { result.count ≡ count }
-        ensures kept { (x : ℕ) → is_there keys.items x ≡ true
-            → is_there result.keys.items x ≡ true }
+        ensures count { IfOk result (λ places. places.count ≡ count) }
+        ensures kept { IfOk result (λ places. (x : ℕ) → is_there keys.items x ≡ true
+            → is_there places.keys.items x ≡ true) }
     {
         let mut keys = keys;
         keys.sort_unstable();
-        Places { keys, count }
+        let first = first_keys(alloc, &keys)?;
+        Ok(Places { keys, first, count })
+    }
+
+    // Where the keys under a tree, or a part, or a later one begin.
+    fn first_of(&self, tree: usize) -> usize {
+        match self.first.get(tree) {
+            Some(at) => *at,
+            None => self.keys.len(),
+        }
+    }
+
+    // Where the least key from one on may stand: first of those under its tree, or behind them.
+    fn guess(&self, tree: u32, bound: u64) -> usize {
+        let first = self.first_of(tree as usize);
+        if begins_at(&self.keys, bound, first) {
+            first
+        } else {
+            self.first_of(tree as usize + 1)
+        }
     }
 
     /// The places of some choices by their parts of the forest, a number for each provider.
@@ -115,7 +185,8 @@ impl Places {
         for (place, ix) in choices.iter().enumerate() {
             keys.push(key(parts[*ix as usize], place))?;
         }
-        Ok(Places::of_keys(keys, choices.len()))
+        let places = Places::of_keys(alloc, keys, choices.len())?;
+        Ok(places)
     }
 
     /// The least place from one on in a tree, or in a part; past the end where there is none.
@@ -123,7 +194,8 @@ impl Places {
         requires { from ≤ self.now.count }
         ensures { IsNextIn self.now.keys.items self.now.count tree from result }
     {
-        let least = least_from(&self.keys, key(tree, from)) - key(tree, 0);
+        let bound = key(tree, from);
+        let least = least_from(&self.keys, bound, self.guess(tree, bound)) - key(tree, 0);
         least.min(self.count as u64) as usize
     }
 }
@@ -148,8 +220,9 @@ impl ByTree {
         for (place, ix) in choices.iter().enumerate() {
             push_choice(&mut keys, cloud, *ix, place, most)?;
         }
+        let places = Places::of_keys(alloc, keys, choices.len())?;
         Ok(ByTree {
-            places: Places::of_keys(keys, choices.len()),
+            places,
             wide: cloud.len(),
         })
     }

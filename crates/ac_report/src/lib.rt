@@ -4,6 +4,7 @@
 #![tactic(auto)]
 
 pub mod fault;
+mod id_texts;
 mod ids;
 pub mod laws;
 pub mod lines;

@@ -18,7 +18,7 @@ pub use Rattle.ac_cloud.specs.ListsOf.{lists_of}
 pub use Rattle.ac_tables.specs.Reader.ProviderLaws.{name_bytes, provider_shown}
 pub use Rattle.ac_base.proofs.Small.{eq_turned}
 pub use Rattle.ac_tables.specs.Reader.RecordLaws.{lone_checks, same_place}
-pub use Rattle.ac_tables.specs.Reader.TableRows.{AreStarts, AreTiesRising, IsKeyed, IsLeast, IsLeastBelow, IsLeastRepeat, IsReadSoFar, IsStart, IsTable, row_cmp, row_lt, row_shown, row_ties, is_past, sooner}
+pub use Rattle.ac_tables.specs.Reader.TableRows.{AreStarts, AreTiesRising, IsKeyed, IsLeast, IsLeastBelow, IsLeastRepeat, IsReadSoFar, IsStart, IsTable, row_cmp, row_lt, row_shown, row_ties, is_past, sooner, whole_lt, IsPartSorted, IsRun}
 pub use Rattle.ac_base.specs.Sorted.{TextMap, map_of, rising, is_one_of}
 pub use Rattle.ac_tables.specs.Tables.{Tables, aggregates_of, amounts_of, gathered, inventories_of, names_of, records_or_header, with_used}
 pub use Rattle.ac_tables.specs.Tables.AggregateTable.{AggregateRecord, aggregates_said}

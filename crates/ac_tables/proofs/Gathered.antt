@@ -6,6 +6,7 @@ pub mod JoinedFault
 pub mod ProviderRows
 pub mod RowOrder
 pub mod RowPlaces
+pub mod RowRuns
 pub mod RowSlices
 pub mod RowsLeft
 pub mod RowsRead

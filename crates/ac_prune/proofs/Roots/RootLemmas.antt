@@ -1,6 +1,6 @@
 -- What is counted for all roots: a root at which a candidate stands stays marked.
 use Rattle.std.proofs.Common.{◌≡◌, ◌∙◌, ℕ, ◌+◌, ◌/◌, ◌<◌, ◌≤◌, zero, suc, Bool, true, false, ◌&&◌, List, [], ◌∷◌, ◌++◌, length, map, Result, Ok, Err, refl, sym, ap, ap₂, subst, arith, nat_le, slice_index, slice_index_or}
-use Rattle.std.specs.Prelude.{◌==◌, if◌then◌else◌, min, take, IfOk}
+use Rattle.std.specs.Prelude.{if◌then◌else◌, min, take, IfOk}
 use Rattle.std.specs.List.{All, list_all, list_any, range_with_len, AllByRecursion as Each}
 use Rattle.std.specs.Global.{Vec}
 use Rattle.std.proofs.lemmas.Slice.Eq.{bytes_eq-Decides}
@@ -11,7 +11,7 @@ use Rattle.std.proofs.lemmas.List.Elements.{All-from_recursion}
 use Rattle.std.proofs.lemmas.List.FromFn.{length-range_with_len, get_or-range_with_len}
 use Rattle.std.proofs.lemmas.Bool.Decides.{nat_tests}
 use Rattle.ac_query.specs.Asked.{Asked, Slot, slots_of}
-use Rattle.ac_cloud.specs.World.{Provider, provider_at, is_available_at, anchors_of}
+use Rattle.ac_cloud.specs.World.{Provider, provider_at, is_available_at}
 use Rattle.ac_prune.specs.Marks.{stand_at, stand_at_marked}
 use Rattle.ac_prune.specs.Search.{IsDead}
 use Rattle.ac_rules.specs.Placed.{Placed, placed, slot_at, no_slot, assigned}

@@ -4,7 +4,7 @@ use Rattle.std.specs.List.{All, list_any}
 use Rattle.std.specs.Ordering.{nat_cmp, ordering_then, is_lt, is_eq}
 use Rattle.std.specs.declared.cmp.Ordering.{Ordering}
 use Rattle.ac_tables.specs.Tables.Checks.{Row, Check, first_failing}
-use Rattle.std.specs.List.Sorted.{IsPermutation, IsSortedBy, IsStrictlySortedBy}
+use Rattle.std.specs.List.Sorted.{IsPermutation, IsSortedBy, IsSortedWithin, IsStrictlySortedBy}
 use Rattle.ac_tables.specs.declared.fault.TableKind.{TableKind}
 use Rattle.ac_tables.specs.declared.fault.RecordFault.{RecordFault}
 use Rattle.ac_tables.specs.declared.fault.RecordFault.TheVariants as record_fault
@@ -21,6 +21,24 @@ row_lt cmp a b = is_lt (row_cmp cmp a b)
 -- two rows are of one provider and key
 abbrev pub row_ties : {K X : Type 0} → (K → K → Ordering) → TableRow K X → TableRow K X → Bool
 row_ties cmp a b = is_eq (row_cmp cmp a b)
+
+-- rows go by provider and key, and those that tie by their records
+abbrev pub whole_lt : {K X : Type 0} → (K → K → Ordering) → TableRow K X → TableRow K X → Bool
+whole_lt cmp a b = is_lt (ordering_then (row_cmp cmp a b) (nat_cmp a.number b.number))
+
+-- the rows from one place up to another are of one provider
+abbrev pub IsRun : {K X : Type 0} → List (TableRow K X) → ℕ → ℕ → Type 0
+IsRun {K} {X} rows from end = (k : ℕ) (d : TableRow K X) → from ≤ k → k < end → (slice_index_or rows k d).place ≡ (slice_index_or rows from d).place
+
+-- The same rows, of which those from one place up to another are put in order; the others stay where they are. If the former were of one provider,
+-- they are.
+pub record IsPartSorted {K X : Type 0} (cmp : K → K → Ordering) (from end : ℕ) (before after : List (TableRow K X)) : Type 0 where
+  pub same : IsPermutation before after
+  pub below : (k : ℕ) (d : TableRow K X) → k < from → slice_index_or after k d ≡ slice_index_or before k d
+  pub above : (k : ℕ) (d : TableRow K X) → end ≤ k → slice_index_or after k d ≡ slice_index_or before k d
+  pub places : (p : ℕ) (d : TableRow K X) → ((k : ℕ) → from ≤ k → k < end → (slice_index_or before k d).place ≡ p)
+      → (k : ℕ) → from ≤ k → k < end → (slice_index_or after k d).place ≡ p
+  pub sorted : IsSortedWithin (whole_lt cmp) after from end
 
 -- neighbours that tie stand in the order of their numbers
 abbrev pub AreTiesRising : {X : Type 0} → (X → X → Bool) → (X → ℕ) → List X → Type 0

@@ -2,6 +2,7 @@
 ghost use Rattle.std.specs.Prelude.{◌≡◌, true, Some, IfOk, IfSome};
 ghost use Rattle.std.specs.Option.{is_none};
 ghost use Rattle.csv.specs.Records.{fields_of};
+ghost use Rattle.ac_base.specs.Texts.{id_value};
 ghost use Rattle.ac_tables.specs.Reader.ColumnPlaces.{place_in, provider_places};
 ghost use Rattle.ac_tables.specs.Tables.Columns.{column, text_in, text_or_none};
 ghost use Rattle.ac_tables.specs.Tables.ProviderTable.{says_none, parent_name, name_name, parent_value, is_bad_parent, ProviderRecord, is_at, provider_said, provider_field_checks, provider_record_checks, provider_columns};
@@ -12,7 +13,7 @@ use crate::fault::{RecordFault, Table, TableKind};
 use crate::reader::header::{column_at, find_column};
 use crate::reader::record::{Record, Seen};
 use crate::reader::records::text_at;
-use ac_base::Id;
+use ac_base::{Id, Names};
 use csv::ByteRecord;
 use std::alloc::{AllocError, Global};
 
@@ -57,6 +58,17 @@ fn read_parent(header: &ByteRecord, place: usize, row: &ByteRecord) -> Option<Op
     }
     let id = Id::read(text)?;
     Some(Some(id))
+}
+
+// The root that a record names: mostly its own id, or the root of the record before.
+fn read_root(names: &mut Names, own: &[u8], id: Id, text: &[u8]) -> Option<Id>
+    requires { id_value own.now ≡ Some id }
+    ensures { result ≡ id_value text.now }
+{
+    if text == own {
+        return Some(id);
+    }
+    names.id(text)
 }
 
 // What a record names beside its own id.
@@ -156,7 +168,7 @@ impl Record for ProviderTable {
     #[tactic(auto, unfolding(crate::specs::Reader::ColumnPlaces::provider_places, crate::specs::Tables::ProviderTable::provider_said, crate::specs::Tables::ProviderTable::provider_field_checks))]
     fn read(
         alloc: Global,
-        _seen: &mut Seen,
+        seen: &mut Seen,
         _beside: &(),
         header: &ByteRecord,
         columns: ProviderColumns,
@@ -165,10 +177,12 @@ impl Record for ProviderTable {
         if row.len() != header.len() {
             return Err(RecordFault::Kind(TableKind::Width));
         }
-        let Some(id) = Id::read(text_at(row, columns.id)) else {
+        let own = text_at(row, columns.id);
+        let Some(id) = Id::read(own) else {
             return Err(RecordFault::Kind(TableKind::BadUuid));
         };
-        let Some(root) = Id::read(text_at(row, columns.root)) else {
+        let root = text_at(row, columns.root);
+        let Some(root) = read_root(&mut seen.names, own, id, root) else {
             return Err(RecordFault::Kind(TableKind::BadUuid));
         };
         let Some(parent) = read_parent(header, columns.parent, row) else {

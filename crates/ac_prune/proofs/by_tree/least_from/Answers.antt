@@ -1,9 +1,48 @@
-use Rattle.std.proofs.Common.{◌≡◌, ◌∙◌, inl, inr, sym, arith, get_or}
+use Rattle.std.proofs.Common.{◌≡◌, ◌∙◌, ◌-◌, ◌<◌, ◌≤◌, ◌^◌, ℕ, List, length, inl, inr, sym, arith, get_or, slice_index}
 use Rattle.std.proofs.lemmas.Bool.{cases_lt}
 use Rattle.std.proofs.lemmas.List.{get_or_default}
 use Rattle.std.proofs.lemmas.List.Sorted.{searched}
+use Rattle.ac_prune.specs.Trees.Keys.{IsLeastFrom}
 use Rattle.ac_prune.proofs.Roots.TreeLemmas.{there_at, at_there}
 use Rattle.ac_prune.proofs.by_tree.least_from.Goals as goal
+
+-- where the numbers before a place are below a bound, and the one at the place isn't
+module _ (numbers : List ℕ) (bound at : ℕ) (rising : (i j : ℕ) → i ≤ j → j < length numbers → slice_index numbers i ≤ slice_index numbers j) (below : 0 < at → slice_index numbers (at - 1) < bound) where
+  not_before : (k : ℕ) → k < at → at ≤ length numbers → slice_index numbers k < bound
+  not_before k less within = omega (arith, rising k (at - 1) (omega (arith, less)) (omega (arith, less, within)), below (omega (arith, less)))
+
+  found_here : (at < length numbers) → bound ≤ slice_index numbers at → IsLeastFrom numbers bound (slice_index numbers at)
+  found_here inside up = record {
+    above = up;
+    least = λ x there h.
+        let m = there_at numbers x there in
+        let is : get_or numbers m.0 0 ≡ x = sym (get_or_default numbers m.0 x 0 m.1) ∙ m.2 in
+        elim (cases_lt m.0 at) [
+          | inl l ↦ absurd (omega (arith, not_before m.0 l (omega (arith, inside)), is, h))
+          | inr g ↦ omega (arith, rising at m.0 (omega (arith, g)) m.1, is)
+        ];
+    there = λ _. at_there numbers (get_or numbers at 0) (at, inside, get_or_default numbers at (get_or numbers at 0) 0 inside);
+  }
+
+  found_nowhere : at ≡ length numbers → bound < 2 ^ 64 → IsLeastFrom numbers bound (2 ^ 64 - 1)
+  found_nowhere end fits = record {
+    above = omega (arith, fits);
+    least = λ x there h.
+        let m = there_at numbers x there in
+        let is : get_or numbers m.0 0 ≡ x = sym (get_or_default numbers m.0 x 0 m.1) ∙ m.2 in
+        absurd (omega (arith, not_before m.0 (omega (arith, m.1, end)) (omega (arith, end)), is, h));
+    there = λ h. absurd (omega (arith, h));
+  }
+
+pub returns-then-guess-numbers : goal.returns-then-guess-numbers
+returns-then-guess-numbers c =
+    let here = c.begins_at.ensures in
+    found_here c.args.numbers.now c.args.bound c.args.guess c.requires (here.below c.if-begins_at.true) c.if-guess-numbers.true (here.above c.if-begins_at.true c.if-guess-numbers.true)
+
+pub returns-then-begins_at : goal.returns-then-begins_at
+returns-then-begins_at c =
+    let here = c.begins_at.ensures in
+    found_nowhere c.args.numbers.now c.args.bound c.args.guess c.requires (here.below c.if-begins_at.true) (omega (arith, here.within c.if-begins_at.true, c.if-guess-numbers.false)) c.ranges.bound.fits
 
 pub returns-in-Ok : goal.returns-in-Ok
 returns-in-Ok c =

@@ -20,8 +20,8 @@ loop-place-preserved c = λ i r h low here.
 pub returns : goal.returns
 returns c = record {
   wide = c.len.ensures;
-  count = c.of_keys.ensures.count;
+  count = c.in_ok-places.ensures.count;
   placed = λ i r h low here.
-      under_more c.loop-place.keys.items c.of_keys.result.keys.items (length (providers_of c.args.cloud.now)) r i c.of_keys.ensures.kept
+      under_more c.loop-place.keys.items c.in_ok-places.places.keys.items (length (providers_of c.args.cloud.now)) r i c.in_ok-places.ensures.kept
       (c.loop-place.invariant i r (omega (arith, h, c.loop-place.auto.place-end, c.loop-place-test.false)) low here);
 }

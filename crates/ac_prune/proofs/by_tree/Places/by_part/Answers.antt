@@ -16,6 +16,6 @@ loop-place-preserved c = λ i h.
 
 pub returns : goal.returns
 returns c = record {
-  count = omega (arith, c.of_keys.ensures.count);
-  placed = λ i h. c.of_keys.ensures.kept _ (c.loop-place.invariant i (omega (arith, h, c.of_keys.ensures.count, c.loop-place.auto.place-end, c.loop-place-test.false)));
+  count = omega (arith, c.in_ok-places.ensures.count);
+  placed = λ i h. c.in_ok-places.ensures.kept _ (c.loop-place.invariant i (omega (arith, h, c.in_ok-places.ensures.count, c.loop-place.auto.place-end, c.loop-place-test.false)));
 }

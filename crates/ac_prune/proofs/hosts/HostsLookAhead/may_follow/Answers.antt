@@ -1,4 +1,4 @@
-use Rattle.std.proofs.Common.{◌≡◌, ◌∙◌, ◌∷◌, ◌++◌, [], sym, ap, length}
+use Rattle.std.proofs.Common.{◌∙◌, ◌∷◌, ◌++◌, [], sym, ap, length}
 use Rattle.ac_prune.specs.Left.Accounts.{providers_in, asked_in}
 use Rattle.ac_prune.proofs.Roots.RootLemmas.{root_dead}
 use Rattle.ac_prune.proofs.hosts.HostsLookAhead.may_follow.Goals as goal
