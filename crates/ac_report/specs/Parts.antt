@@ -1,6 +1,6 @@
--- The members of an object, and what is still to be put in, as private clauses speak of them; and all ids in written form.
-use Rattle.std.specs.Prelude.{ℕ, List, [], ◌∷◌, map, length}
-use Rattle.std.specs.List.{fold, range_with_len}
+-- The members of an object, and what is still to be put in, as private clauses speak of them.
+use Rattle.std.specs.Prelude.{ℕ, List, [], ◌∷◌}
+use Rattle.std.specs.List.{fold}
 use Rattle.serde_json.specs.Data.{Data, object, Members, no_members, member, put}
 use Rattle.ac_report.specs.Trees.{provider_text, summary}
 use Rattle.ac_cloud.specs.World.{Provider}
@@ -13,10 +13,6 @@ gathered_onto done ms = fold (λ done m. put m.0 m.1 done) done ms
 abbrev pub listed : List (List ℕ × Data) → Members
 listed [] = no_members
 listed (m ∷ ms) = member m.0 m.1 (listed ms)
-
--- the written forms of the ids of all providers
-abbrev pub provider_texts : List Provider → List (List ℕ)
-provider_texts all = map (provider_text all) (range_with_len 0 (length all))
 
 -- an object of one member: a provider's id, and its summary
 unfoldable pub named_summary : List Provider → ℕ → Data

@@ -4,7 +4,6 @@
 #![tactic(auto)]
 
 pub mod fault;
-mod id_texts;
 mod ids;
 pub mod laws;
 pub mod lines;

@@ -4,18 +4,15 @@ ghost use Rattle.std.specs.List.{All};
 ghost use Rattle.std.specs.Io.KnownBytes.{Appends};
 ghost use Rattle.ac_base.specs.Devices.{Rises, TakesPart};
 ghost use Rattle.ac_query.specs.Shown.Queries.{asked_of};
-ghost use Rattle.ac_base.specs.Texts.{id_text};
 ghost use Rattle.ac_query.specs.Tokens.{ids_text, part_text};
 ghost use Rattle.ac_rules.specs.Pages.{cut, ids_of};
 ghost use Rattle.ac_cloud.specs.Cloud.CloudWorld.{providers_of};
 ghost use Rattle.ac_report.specs.Texts.{line, lines};
 ghost use Rattle.ac_report.specs.Outcomes.{Reads, Writes, one_less};
 ghost use Rattle.ac_report.specs.Pages.{IsAssignment, LosesSome, TakesWhole, behind};
-ghost use Rattle.ac_report.specs.Parts.{provider_texts};
 
 use crate::fault::PageFault;
-use crate::id_texts::all_texts;
-use ac_base::{NoMemory, Sink, push_all};
+use ac_base::{Id, NoMemory, Sink, push_all};
 use ac_cloud::Cloud;
 use ac_query::Query;
 use ac_rules::Source;
@@ -48,49 +45,36 @@ pub(crate) fn push_piece<W: Sink>(out: &mut W, text: &[u8]) -> Result<(), PageFa
     Ok(())
 }
 
-// Adds the written id at a place of a token: every one but the first stands behind a comma.
-fn put_part(text: &mut Vec<u8>, place: usize, written: &[u8]) -> Result<(), NoMemory>
-    ensures { OnOk result ((id : ℕ) → written.now ≡ id_text id
-        → text.new.items ≡ text.old.items ++ part_text place id) }
+// Adds the id at a place of a token: every one but the first stands behind a comma.
+fn put_part(text: &mut Vec<u8>, place: usize, id: Id) -> Result<(), NoMemory>
+    ensures { OnOk result (text.new.items ≡ text.old.items ++ part_text place id) }
 {
     if place > 0 {
         text.push(b',')?;
     }
-    text.extend_from_slice(written)?;
+    text.extend_from_slice(&id.text())?;
     Ok(())
 }
 
 // Adds the ids of a list, joined by commas.
-fn put_ids(
-    text: &mut Vec<u8>,
-    cloud: &Cloud,
-    texts: &[[u8; 36]],
-    list: &[u32],
-) -> Result<(), NoMemory>
-    requires texts { texts.now ≡ provider_texts (providers_of cloud.now) }
-    requires list { All (λ ix. ix < length (providers_of cloud.now)) list.now }
+fn put_ids(text: &mut Vec<u8>, cloud: &Cloud, list: &[u32]) -> Result<(), NoMemory>
+    requires { All (λ ix. ix < length (providers_of cloud.now)) list.now }
     ensures { OnOk result (text.new.items ≡ text.old.items
         ++ ids_text (ids_of (providers_of cloud.now) list.now)) }
 {
     for (place, ix) in list.iter().enumerate() {
-        put_part(text, place, &texts[*ix as usize])?;
+        put_part(text, place, cloud.id(*ix))?;
     }
     Ok(())
 }
 
 // Makes a text the line of a list.
-fn put_line(
-    text: &mut Vec<u8>,
-    cloud: &Cloud,
-    texts: &[[u8; 36]],
-    list: &[u32],
-) -> Result<(), NoMemory>
-    requires texts { texts.now ≡ provider_texts (providers_of cloud.now) }
-    requires list { All (λ ix. ix < length (providers_of cloud.now)) list.now }
+fn put_line(text: &mut Vec<u8>, cloud: &Cloud, list: &[u32]) -> Result<(), NoMemory>
+    requires { All (λ ix. ix < length (providers_of cloud.now)) list.now }
     ensures { OnOk result (text.new.items ≡ line (providers_of cloud.now) list.now) }
 {
     text.clear();
-    put_ids(text, cloud, texts, list)?;
+    put_ids(text, cloud, list)?;
     text.push(b'\n')?;
     Ok(())
 }
@@ -99,13 +83,11 @@ fn put_line(
 fn write_lines<S: Source, W: Sink>(
     alloc: Global,
     cloud: &Cloud,
-    texts: &[[u8; 36]],
     query: &Query,
     source: &mut S,
     out: &mut W,
 ) -> Result<u32, PageFault>
-    requires texts { texts.now ≡ provider_texts (providers_of cloud.now) }
-    requires lists { All (IsAssignment (providers_of cloud.now) (asked_of query.now))
+    requires { All (IsAssignment (providers_of cloud.now) (asked_of query.now))
         (S.left source.old) }
     ensures reads { Reads (asked_of query.now).limit 0 result (S.left source.old)
         (S.left source.new) }
@@ -119,7 +101,7 @@ fn write_lines<S: Source, W: Sink>(
     'lists: while !is_over(wanted) {
         match source.next() {
             None => return Ok(count),
-            Some(list) => put_line(&mut text, cloud, texts, list)?,
+            Some(list) => put_line(&mut text, cloud, list)?,
         }
         push_piece(out, &text)?;
         wanted = one_less(wanted);
@@ -131,7 +113,6 @@ fn write_lines<S: Source, W: Sink>(
 /// Writes a line for each list that is left, at most as many as the query's limit, and answers how many, at most 4294967295.
 ///
 /// The next list is taken only once the line of the one before is pushed whole.
-#[tactic(auto, using(ac_base::proofs::Leaving::part_none))]
 pub fn write_tokens<S: Source, W: Sink>(
     alloc: Global,
     cloud: &Cloud,
@@ -158,6 +139,5 @@ pub fn write_tokens<S: Source, W: Sink>(
         (cut (asked_of query.now).limit (S.left source.old)) (W.taken out.old) (W.taken out.new) }
     ensures failures { W.failures out.old ≤ W.failures out.new }
 {
-    let texts = all_texts(alloc, cloud)?;
-    write_lines(alloc, cloud, &texts, query, source, out)
+    write_lines(alloc, cloud, query, source, out)
 }
