@@ -5,3 +5,4 @@ pub mod Leading
 pub mod Cuts
 pub mod Written
 pub mod UsagesWritten
+pub mod UsagesBack

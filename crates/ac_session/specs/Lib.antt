@@ -5,4 +5,5 @@ pub mod Finds
 pub mod Questions
 pub mod EndLines
 pub mod UsageRows
+pub mod UsagesBack
 pub mod Laws
