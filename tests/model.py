@@ -11,7 +11,8 @@ import random
 import re
 from dataclasses import dataclass, field, replace
 
-from cases import Case, full, lines, tables
+from cases import GREATEST, Case, full, lines, tables
+from notation import HEADERS
 
 RULES = 'Units', 'SlotTraits', 'Aggregates', 'Tree', 'Collective', 'Sums', 'Isolate', 'Subtree', 'Anchor'
 CLASSES = 'DISK_GB', 'MEMORY_MB', 'VCPU'
@@ -436,13 +437,55 @@ def broken_detail(assignment, rule, text, query, cloud):
     return f'on {hosts[0].name}, {unmet_by_root(hosts[0], query)[0]}' if hosts else 'no root gives all of them'
 
 
-def request(assignment, query):
-    taken, mappings = {}, {}
-    for provider, (suffix, needs) in zip(assignment, query.slots()):
-        mappings.setdefault(suffix, set()).add(provider.name)
+def taken_by(assignment, query):
+    """What an assignment takes: providers, by their names, and of each how much of each class."""
+    taken = {}
+    for provider, (_, needs) in zip(assignment, query.slots()):
+        amounts = taken.setdefault(provider.name, {})
         for name, amount in needs.items():
-            resources = taken.setdefault(provider.name, {'resources': {}})['resources']
-            resources[name] = resources.get(name, 0) + amount
+            amounts[name] = amounts.get(name, 0) + amount
+    return taken
+
+
+def change(assignment, query, cloud, sign):
+    """Adds what an assignment takes to what is used, or with -1 takes it off."""
+    for name, amounts in taken_by(assignment, query).items():
+        has = next(provider.has for provider in cloud if provider.name == name)
+        for kind, amount in amounts.items():
+            has[kind].used += sign * amount
+
+
+def claim(assignment, query, cloud):
+    """What a session answers to a claim, and its status. What is claimed is used afterwards."""
+    rule = judgement(assignment, query, cloud)
+    if rule:
+        return f'no: rule {rule} {RULES[rule - 1]}\n', 1
+    change(assignment, query, cloud, 1)
+    return 'claimed\n', 0
+
+
+def release(assignment, query, cloud):
+    """The same of a release. No rule is asked."""
+    had = {provider.name: {name: has.used for name, has in provider.has.items()} for provider in cloud}
+    if any(had[name].get(kind, 0) < amount for name, amounts in taken_by(assignment, query).items() for kind, amount in amounts.items()):
+        return 'not in use\n', 1
+    change(assignment, query, cloud, -1)
+    return 'released\n', 0
+
+
+def usage_rows(cloud):
+    """The table of usages, and the status."""
+    rows = [(provider.name, name, provider.has[name].used) for provider in cloud for name in sorted(provider.has) if provider.has[name].used]
+    if any(used > GREATEST for *_, used in rows):
+        return 'too much in use to be written\n', 1
+    return HEADERS['usages'] + ''.join(f'{name},{kind},{used}\n' for name, kind, used in rows), 0
+
+
+def request(assignment, query):
+    mappings = {}
+    for provider, (suffix, _) in zip(assignment, query.slots()):
+        mappings.setdefault(suffix, set()).add(provider.name)
+    taken = {name: {'resources': amounts} for name, amounts in taken_by(assignment, query).items() if amounts}
     return {'allocations': taken, 'mappings': {suffix: sorted(names) for suffix, names in mappings.items()}}
 
 

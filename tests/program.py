@@ -9,6 +9,7 @@ import json
 import os
 import re
 import shlex
+import shutil
 import subprocess
 import sys
 import tempfile
@@ -25,6 +26,7 @@ from hostile import hostile
 from large import LARGE, MOST_PROVIDERS, QUERY_BYTES, roots, vcpu
 from model import difference_line, drawn, headings, words_of
 from notation import HEADERS, provider
+from sessions import sessions, untried
 from try_with_service import answers, differences, short, told
 
 ROOT = os.path.dirname(os.path.dirname(os.path.abspath(__file__)))
@@ -41,6 +43,7 @@ COMMANDS = 'check', 'candidates', 'tokens', 'verify', 'explain', 'hosts', 'why',
 STATUSES = {'no: rule': 1, 'unknown provider': 1, 'query': 4, 'token': 5, 'host:': 5, 'output': 6, 'out of memory': 7,
             **dict.fromkeys(('providers:', 'inventories:', 'usages:', 'traits:', 'aggregates:'), 3)}
 NOT_BUILT = 70
+SHELLS = [shell for shell in ('bash', 'dash', 'zsh') if shutil.which(shell)]
 UNBUILT = "ac_cli: the program isn't built, or is older than its sources; ./ac_cli without words proves and builds it\n"
 SECONDS = 60
 
@@ -352,16 +355,20 @@ def status_of(text):
     return next((status for start, status in STATUSES.items() if text.startswith(start)), 0)
 
 
-def shown(page):
-    """Cases for the commands that a page shows: a block `sh` with one call of ./ac_cli or of tools/draw-cloud.py and, right after it, a block `text` or
-    `json` with what it prints. Without such a block it may print anything. A picture that it writes to /tmp must be the one in examples."""
+def shown(page, shells=('sh',)):
+    """Cases for the commands that a page shows: a block `sh` with one call of ./ac_cli, of tools/draw-cloud.py or of examples/scheduler.py, perhaps with
+    lines that it is given up to END, and, right after it, a block `text` or `json` with what it prints. Without such a block it may print anything. A
+    picture that it writes to /tmp must be the one in examples. Each of these shells must read it."""
     path = os.path.join(ROOT, page)
     text = contents(path).decode() if os.path.isfile(path) else ''
-    for block in re.finditer(r'^```sh\n((?:\./ac_cli|tools/draw-cloud\.py)\b(?:.*\\\n)*.*)\n```\n(?:\n*```(?:text|json)\n((?:.*\n)*?)```$)?', text, re.M):
-        command, says = block[1].replace('\\\n', ' '), block[2]
+    for block in re.finditer(r'^```sh\n((?:\./ac_cli|tools/draw-cloud\.py|examples/scheduler\.py)\b(?:.*\\\n)*.*?( <<\'END\'\n(?:.*\n)*?END)?)\n```\n'
+                             r'(?:\n*```(?:text|json)\n((?:.*\n)*?)```$)?', text, re.M):
+        command, lines_given, says = block[1].replace('\\\n', ' '), block[2], block[3]
         called, pictures = re.subn(r' >/tmp/(\w+\.svg)$', r' | cmp - examples/\1', re.sub(r'^\./ac_cli', lambda _: shlex.quote(LAUNCHER), command))
         says = '' if pictures else says
-        yield Case(f'{page}: {command}', ['sh', '-c', f'exec 2>&1; {called}'], says, status=status_of(says or ''))
+        for shell in shells:
+            name = f'{page}: {command.splitlines()[0]}' + ('' if shell == 'sh' else f', by {shell}')
+            yield Case(name, ['sh', '-c', 'exec "$0" -c "$1"', shell, f'exec 2>&1; {called}\n'], says, status=0 if lines_given else status_of(says or ''))
 
 
 def remade(page):
@@ -497,10 +504,11 @@ def main(*given):
         return 1
     pages = [case for page in ('README.md', 'examples/README.md', 'examples/private/README.md', 'docs/NO-VALID-HOST.md', 'docs/RULES.md', 'docs/FORMATS.md', 'docs/EXPORT.md')
              for case in shown(page)]
+    pages += shown('docs/SESSION.md', SHELLS)
     chance = [*drawn(150), *drawn_tables(200), *drawn_queries(200)]
     linked = STATIC if os.path.isfile(os.path.join(ROOT, 'out', 'ac_cli.o')) and 'AC_CLI' not in os.environ else []
     cases = [PAGES, DRAWING, *linked, *HELP, *WORDS, *FILES, *FOLDERS, *PASTED, *DEVICES, *GROWTHS, KNOWN, *REFUSALS, *SMALL, *pages, remade('examples/private/README.md'),
-             *rules, *concerned(), *exports(), *database_exports(), *chance, *LARGE, *hostile(PROGRAM), FEW_BYTES, *cuts()]
+             *rules, *concerned(), *exports(), *database_exports(), *sessions(PROGRAM), *chance, *LARGE, *hostile(PROGRAM), FEW_BYTES, *cuts()]
     cases = [case for case in cases if all(word in case.name for word in words)]
     failed = 0
     with ThreadPoolExecutor(max_workers=2) as pool:
@@ -508,6 +516,8 @@ def main(*given):
             failed += why is not None
             if why or '--all' in given:
                 print(f'FAILED {case.name}: {why}' if why else f'ok     {case.name}', flush=True)
+    for what in untried():
+        print(f'not tried: {what}')
     print(f'{len(cases) - failed} passed, {failed} failed')
     return 1 if failed else 0
 

@@ -45,7 +45,7 @@ pub fn end_rows(rows: Writer<Vec<u8>>) -> Result<Vec<u8>, NoMemory>
 }
 
 /// The name of a test of a slot.
-pub fn stage_name(stage: Stage) -> &'static [u8]
+pub(crate) fn stage_name(stage: Stage) -> &'static [u8]
     ensures { result.now ≡ stage_name stage }
 {
     match stage {
@@ -58,7 +58,7 @@ pub fn stage_name(stage: Stage) -> &'static [u8]
 }
 
 /// The name of what a root lacks.
-pub fn lack_name(lacks: Option<Lack>) -> &'static [u8]
+pub(crate) fn lack_name(lacks: Option<Lack>) -> &'static [u8]
     ensures { result.now ≡ lack_name lacks }
 {
     match lacks {
@@ -71,7 +71,7 @@ pub fn lack_name(lacks: Option<Lack>) -> &'static [u8]
 }
 
 /// The digits of the slot that a root lacks a provider for.
-pub fn slot_digits(lacks: Option<Lack>) -> Digits
+pub(crate) fn slot_digits(lacks: Option<Lack>) -> Digits
     ensures { digits_shown result ≡ slot_shown lacks }
 {
     match lacks {

@@ -8,3 +8,4 @@ pub mod Refused
 pub mod Turned
 pub mod Stood
 pub mod Ended
+pub mod UsagesWritten

@@ -9,8 +9,9 @@ use Rattle.ac_query.specs.Laws.Gathered.{asked_by}
 use Rattle.ac_query.specs.Pairs.{pairs_of}
 use Rattle.ac_query.specs.declared.version.Version.{Version}
 use Rattle.ac_query.specs.Pairs.Values.{ids_value}
-use Rattle.ac_rules.specs.Claims.{is_in_use}
-use Rattle.ac_rules.specs.Judge.{judge}
+use Rattle.ac_rules.proofs.EachSlot.ClaimLaws.{claims_narrow}
+use Rattle.ac_rules.specs.Claims.{claimed, is_in_use}
+use Rattle.ac_rules.specs.Judge.{is_candidate, judge}
 use Rattle.ac_rules.specs.Located.{places_of}
 use Rattle.ac_rules.specs.Placed.{Placed, assigned}
 use Rattle.ac_run.proofs.Assignments.{located}
@@ -21,8 +22,10 @@ use Rattle.ac_run.specs.Jobs.{ExplainsAsked, ExplainsWanted}
 use Rattle.ac_run.specs.Refusals.{line_of, status_of}
 use Rattle.ac_run.specs.declared.refusal.Refusal.{Refusal}
 use Rattle.ac_run.specs.declared.refusal.Refusal.TheVariants as why
+use Rattle.ac_session.specs.Laws.{AskingLeavesAll, ClaimTurnsNarrow}
+use Rattle.ac_session.specs.Questions.{claim, job, nothing, release, unknown, usages, wrong_number}
 use Rattle.ac_session.specs.Standing.{IsRefusal}
-use Rattle.ac_session.specs.Turns.{claim_line, claim_of, claim_said, places_named, placed_by, release_line, release_of, release_said, unknown_provider, world_after}
+use Rattle.ac_session.specs.Turns.{assignment_task, claim_line, claim_of, claim_said, claim_turn, places_named, placed_by, release_line, release_of, release_said, unknown_provider, world_after}
 
 -- ---- refusals
 
@@ -119,3 +122,27 @@ module _ {V : Type 0} (items : V → List ℕ) (all : List Provider) (ids : List
   pub list_providers : (list : Option V) → option_map items list ≡ places_of all ids → IfSome list (λ l. All (λ p. p < length all) (items l))
   list_providers None h = tt
   list_providers (Some l) h = All-from_recursion (λ p. p < length all) (items l) (located all ids (items l) h).1
+
+-- ---- laws
+
+pub asking_leaves_all : AskingLeavesAll
+asking_leaves_all version world (job command query by token host detail) h = refl
+asking_leaves_all version world (claim query token) h = absurd h
+asking_leaves_all version world (release query token) h = absurd h
+asking_leaves_all version world usages h = refl
+asking_leaves_all version world nothing h = refl
+asking_leaves_all version world unknown h = refl
+asking_leaves_all version world wrong_number h = refl
+
+narrowed : (world : World) (status : ℕ) (xs : List Placed) (asked : Asked) (list : List ℕ)
+    → is_candidate (world_after world status (claimed world.providers xs)).providers asked list ≡ true → is_candidate world.providers asked list ≡ true
+narrowed world status xs asked list = by (status == 0)
+  where
+    by : (b : Bool) → is_candidate (if b then record world { providers = claimed world.providers xs } else world).providers asked list ≡ true → is_candidate world.providers asked list ≡ true
+    by true h = claims_narrow world.providers xs asked list h
+    by false h = h
+
+pub claim_turns_narrow : ClaimTurnsNarrow
+unfolding claim_turn
+claim_turns_narrow version query token world asked list h =
+    narrowed world (past_query (claim_line world.providers) (assignment_task version query token)).status (placed_by version world.providers query token) asked list h

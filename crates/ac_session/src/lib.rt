@@ -10,7 +10,7 @@ pub mod lines;
 pub mod questions;
 mod session;
 mod turns;
-mod usages;
+pub mod usages;
 
 pub use end_lines::LineFault;
 pub use lines::{Lines, Next};

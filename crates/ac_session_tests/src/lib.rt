@@ -7,3 +7,5 @@ mod lines;
 mod questions;
 #[cfg(test)]
 mod sessions;
+#[cfg(test)]
+mod usages;

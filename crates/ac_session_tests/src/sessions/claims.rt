@@ -44,6 +44,10 @@ const TURNS: &[(&str, &str)] = &[
     ),
     ("why resources=VCPU:1 h\n", "= 5 host: Unknown\n"),
     ("tokens resources=VCPU:9\n", "= 0\n"),
+    (
+        "usages\n",
+        "resource_provider,resource_class,usage\n@1,VCPU,8\n= 0\n",
+    ),
 ];
 
 #[test]

@@ -21,8 +21,8 @@ fn check(rt: &(impl Abort + AllocGlobal), questions: &str, answers: &str) {
 fn claims_and_releases(rt: HostRuntime) {
     check(
         &rt,
-        "claim resources=VCPU:5 @1\ntokens resources=VCPU:5\nrelease resources=VCPU:5 @1\n",
-        "claimed\n= 0\n@2\n= 0\nreleased\n= 0\n",
+        "claim resources=VCPU:5 @1\ntokens resources=VCPU:5\nusages\nrelease resources=VCPU:5 @1\n",
+        "claimed\n= 0\n@2\n= 0\nresource_provider,resource_class,usage\n@1,VCPU,8\n= 0\nreleased\n= 0\n",
     );
 }
 

@@ -1,0 +1,445 @@
+#!/usr/bin/env python3
+"""tests/sessions.py waits PROGRAM [NUMBER]: a driver that writes one question, and waits for the end of its answer before it writes the next: this
+number of them (10000, if not said). It must not hang.
+
+tests/sessions.py trace PROGRAM [NUMBER]: a trace of this number of questions (300), with claims and releases, over examples/private. Each answer must be
+what a process of its own answers over the tables as the session has written them before (`usages`).
+
+tests/sessions.py spread PROGRAM: the command that docs/SESSION.md has for GNU parallel must answer as one session does.
+
+Each writes what went wrong, and then ends with status 1. tests/program.py calls them, and takes from here the cases of sessions: what lines answer,
+random sessions by the model, and input and output that fail."""
+from __future__ import annotations
+
+import csv
+import io
+import itertools
+import os
+import random
+import re
+import shlex
+import shutil
+import subprocess
+import sys
+import tempfile
+
+from cases import CHILD, ONE, Case, full, lines, tables
+from model import (RULES, body, claim, draw_cloud, draw_query, explanation, has_candidate, host_rows, judgement, names, release,
+                   usage_rows, why_rows)
+from notation import HEADERS
+
+ROOT = os.path.dirname(os.path.dirname(os.path.abspath(__file__)))
+PRIVATE = os.path.join(ROOT, 'examples', 'private')
+TWO = 'resources=VCPU:2'
+# The most bytes of a line.
+MOST = 131072
+COUNTS = 'providers 1\ninventories 1\nusages 0\ntraits 0\naggregates 0\n'
+UNKNOWN, NUMBER, LONG = (f'session: {fault}' for fault in ('unknown command', 'wrong number of words', 'line too long'))
+
+
+# ---- What lines answer
+
+def ended(output, status, fault=''):
+    """An answer of a session: what is written, and the line that ends it."""
+    return f'{output}= {status}{fault and " " + fault}\n'
+
+
+def session(name, given, out, *words, made=None, **more):
+    """A case in which a session is given these lines, or bytes."""
+    given = given if isinstance(given, bytes) else full(given).encode()
+    return Case(f'session: {name}', ['session', *words], full(out), given=given, tables=tables(ONE) if made is None else made, **more)
+
+
+# Lines, one behind another, and what each of them answers.
+FAULTS = [
+    ('nonsense', ended('', 2, UNKNOWN)),
+    ('Check', ended('', 2, UNKNOWN)),
+    (' check', ended('', 2, UNKNOWN)),
+    ('check\t', ended('', 2, UNKNOWN)),
+    ('session', ended('', 2, UNKNOWN)),
+    ('--help', ended('', 2, UNKNOWN)),
+    ('check ', ended('', 2, NUMBER)),
+    ('check x', ended('', 2, NUMBER)),
+    *((command, ended('', 2, NUMBER)) for command in ('candidates', 'tokens', 'verify', 'explain', 'hosts', 'why', 'claim', 'release')),
+    *((f'{command} {TWO}', ended('', 2, NUMBER)) for command in ('verify', 'why', 'claim', 'release')),
+    *((f'{command} {TWO} P1', ended('', 2, NUMBER)) for command in ('explain', 'hosts')),
+    *((f'{command} {TWO} P1 P1', ended('', 2, NUMBER)) for command in ('candidates', 'tokens', 'verify', 'why', 'claim', 'release')),
+    ('usages all', ended('', 2, NUMBER)),
+    (f'verify --detail {TWO} P1', ended('', 2, NUMBER)),
+    (f'tokens {TWO} ', ended('', 5, 'token: BadToken')),
+    (f'tokens  {TWO}', ended('', 4, 'query: NoResources')),
+    ('tokens ', ended('', 4, 'query: NoResources')),
+    (f'tokens /placement/allocation_candidates?{TWO}', ended('', 4, 'query: pair 1: UnknownParameter')),
+    *((f'{command} resources=VCPU P1', ended('', 4, 'query: pair 1: BadValue')) for command in ('tokens', 'verify', 'claim', 'release', 'why')),
+    *((f'{command} {TWO} P1,', ended('', 5, 'token: BadToken')) for command in ('candidates', 'tokens', 'verify', 'claim', 'release')),
+    *((f'{command} {TWO} P1,P7', ended('', 5, 'token: WrongLength')) for command in ('candidates', 'tokens', 'verify', 'claim', 'release')),
+    *((f'{command} {TWO} P7', ended('unknown provider\n', 1)) for command in ('verify', 'claim', 'release')),
+    (f'why {TWO} P7', ended('', 5, 'host: Unknown')),
+    ('tokens resources=VCPU:2&required=in:CUSTOM_A', ended('', 4, 'query: pair 2: BadValue')),
+    ('claim resources=VCPU:9 P1', ended('no: rule 1 Units\n', 1)),
+    ('claim resources=DISK_GB:1 P1', ended('no: rule 1 Units\n', 1)),
+    (f'release {TWO} P1', ended('not in use\n', 1)),
+    ('release resources=DISK_GB:1 P1', ended('not in use\n', 1)),
+    ('usages', ended(HEADERS['usages'], 0)),
+    (f'tokens {TWO}', ended('P1\n', 0)),
+    ('tokens resources=VCPU:9', ended('', 0)),
+    ('check', ended(COUNTS, 0)),
+]
+
+FIVE, THREE = 'resources=VCPU:5', 'resources1=VCPU:3&resources2=VCPU:3&group_policy=none'
+PLACED = [
+    (f'claim {FIVE} P1', ended('claimed\n', 0)),
+    (f'claim {FIVE} P1', ended('no: rule 6 Sums\n', 1)),
+    (f'verify {FIVE} P1', ended('no: rule 6 Sums\n', 1)),
+    (f'tokens {FIVE}', ended('P2\n', 0)),
+    ('usages', ended(HEADERS['usages'] + 'P1,VCPU,5\n', 0)),
+    ('check', ended('providers 2\ninventories 2\nusages 0\ntraits 0\naggregates 0\n', 0)),
+    # The amounts of two slots of one provider count together, in a claim and in a release.
+    (f'claim {THREE} P1,P1', ended('no: rule 6 Sums\n', 1)),
+    (f'claim {THREE} P2,P2', ended('claimed\n', 0)),
+    ('usages', ended(HEADERS['usages'] + 'P1,VCPU,5\nP2,VCPU,6\n', 0)),
+    (f'release {THREE} P1,P1', ended('not in use\n', 1)),
+    (f'release {THREE} P1,P2', ended('released\n', 0)),
+    ('usages', ended(HEADERS['usages'] + 'P1,VCPU,2\nP2,VCPU,3\n', 0)),
+    # No rule is asked in a release.
+    (f'release {THREE.replace("none", "isolate").replace(":3", ":1")} P1,P1', ended('released\n', 0)),
+    ('usages', ended(HEADERS['usages'] + 'P2,VCPU,3\n', 0)),
+    (f'release {TWO}&required=CUSTOM_A P2', ended('released\n', 0)),
+    (f'hosts resources=VCPU:8', ended('root,name,fits,slot,lacks\nP1,,yes,,\n', 0)),
+]
+
+# One inventory of which more may be used than a table can state.
+GREAT = tables('P1 | | VCPU total 2147483647, allocation_ratio 4.0')
+ALL = 'resources=VCPU:2147483647'
+TOO_MUCH = [
+    (f'claim {ALL} P1', ended('claimed\n', 0)),
+    ('usages', ended(HEADERS['usages'] + 'P1,VCPU,2147483647\n', 0)),
+    ('claim resources=VCPU:1 P1', ended('claimed\n', 0)),
+    ('usages', ended('too much in use to be written\n', 1)),
+    (f'claim {ALL} P1', ended('claimed\n', 0)),
+    (f'release {ALL} P1', ended('released\n', 0)),
+    ('release resources=VCPU:1 P1', ended('released\n', 0)),
+    ('usages', ended(HEADERS['usages'] + 'P1,VCPU,2147483647\n', 0)),
+]
+
+
+def behind(name, asked, end='\n', **more):
+    """A session that is given these lines, each with this at its end."""
+    return session(name, ''.join(line + end for line, _ in asked), ''.join(answer for _, answer in asked), **more)
+
+
+def long_line(size, end='\n'):
+    """A line of so many bytes, and what it answers: up to MOST it is refused as a question. Behind it, `check` is answered."""
+    line = 'tokens '.ljust(size - len(end) + 1, 'a').encode()
+    answer = ended('', 4, 'query: QueryTooLong') if size <= MOST else ended('', 2, LONG)
+    return session(f'a line of {size} bytes', line + end.encode() + b'check\n', answer + ended(COUNTS, 0))
+
+
+ENDS = [
+    behind('what lines answer', FAULTS),
+    behind('the same, with carriage returns', FAULTS[:6] + FAULTS[7:], '\r\n'),
+    behind('claims and releases', PLACED, made=tables(CHILD)),
+    behind('more in use than a table can state', TOO_MUCH, made=GREAT),
+    session('no question at all', b'', ''),
+    session('empty lines ask nothing', b'\n\r\n\ncheck\n\n', ended(COUNTS, 0)),
+    session('no newline at the end', b'check\ncheck', 2 * ended(COUNTS, 0)),
+    session('no newline at the end, and a carriage return', b'check\r', ended(COUNTS, 0)),
+    session('a carriage return in a line', b'check\rcheck\n', ended('', 2, UNKNOWN)),
+    session('cut off in a line', full(f'tokens {TWO}\nclaim {TWO} P1').encode()[:-1], ended('P1\n', 0) + ended('', 5, 'token: BadToken')),
+    session('cut off in a line, behind a whole word', f'claim {TWO}', ended('', 2, NUMBER)),
+    session('a line that is no UTF-8', b'check \xff\n\xff\ntokens resources=VCPU:2\xff\ncheck\n', 3 * ended('', 2, UNKNOWN) + ended(COUNTS, 0)),
+    session('zeros in a line', b'check\0\n\0\ncheck\n', 2 * ended('', 2, UNKNOWN) + ended(COUNTS, 0)),
+    *(long_line(size, end) for size in (MOST - 1, MOST, MOST + 1, MOST + 2, 8 * MOST) for end in ('\n', '\r\n')),
+    session('a refused table', b'check\n', '', made={**tables(ONE), 'providers': 'uuid\n'}, err='providers: record 1: MissingColumn\n', status=3),
+    session('a full device', b'check\n', '', err='output: WriteFailed\n', status=6, to='/dev/full'),
+    session('a full device, and nothing to write', b'\n', '', to='/dev/full'),
+    session('a pipe that nobody reads', b'check\n', '', err='output: WriteFailed\n', status=6, closed=True),
+]
+
+
+# ---- Random sessions
+
+def answer(command, asked, assignment, cloud):
+    """What a job answers over a cloud, and its status. A query is asked with its text."""
+    query, text = asked
+    every = list(itertools.product(cloud, repeat=len(list(query.slots()))))
+    judged = [judgement(one, query, cloud) for one in every]
+    found = [one for one, rule in zip(every, judged) if not rule]
+    none = 0 if found else 1
+    if command == 'tokens':
+        return lines(*map(names, found)), 0
+    if command == 'candidates':
+        return body(found, query, cloud), 0
+    if command == 'tokens after':
+        return lines(*map(names, (one for one in found if every.index(one) > every.index(assignment)))), 0
+    if command == 'verify':
+        rule = judged[every.index(assignment)]
+        return f'no: rule {rule} {RULES[rule - 1]}\n' if rule else 'candidate\n', 1 if rule else 0
+    if command == 'explain':
+        return explanation(found, query, cloud), none
+    if command == 'hosts':
+        return host_rows(found, query, cloud), none
+    rows = why_rows(assignment[0].root(), found, text, query, cloud)
+    return rows, 1 if rows.endswith('does not fit\n') else 0
+
+
+def line_of(command, text, assignment):
+    """The line that asks this."""
+    second = {'verify': names(assignment), 'tokens after': names(assignment), 'why': assignment[0].name}.get(command)
+    return ' '.join([command.split()[0], text, *([] if second is None else [second])])
+
+
+def draw_asked(chance, cloud, most=800):
+    """A query with its text, of few enough lists of providers. Mostly it has a candidate."""
+    while True:
+        query = draw_query(chance)
+        if len(cloud) ** len(list(query.slots())) <= most and (has_candidate(query, cloud) or chance.random() < 0.05):
+            return query, query.text(chance)
+
+
+def draw_assignment(chance, query, cloud):
+    """A list of providers for the slots of a query: mostly a candidate, where there is one."""
+    every = list(itertools.product(cloud, repeat=len(list(query.slots()))))
+    found = [one for one in every if not judgement(one, query, cloud)]
+    return chance.choice(found if found and chance.random() < 0.85 else every)
+
+
+JOBS = 'tokens', 'tokens after', 'candidates', 'verify', 'explain', 'hosts', 'why'
+KINDS = 'job', 'job', 'claim', 'claim', 'claim', 'release', 'release', 'usages', 'fault'
+
+
+def draw_turn(chance, cloud, queries, claimed):
+    """A line, and what it answers. Claims and releases change the cloud."""
+    kind, asked = chance.choice(KINDS), chance.choice(queries)
+    if kind == 'usages':
+        return 'usages', ended(*usage_rows(cloud))
+    if kind == 'fault':
+        return chance.choice([*FAULTS[:40], ('', '')])
+    if kind == 'release' and claimed and chance.random() < 0.7:
+        asked, assignment = claimed.pop(chance.randrange(len(claimed)))
+    else:
+        assignment = draw_assignment(chance, asked[0], cloud)
+    if kind == 'job':
+        command = chance.choice(JOBS)
+        return line_of(command, asked[1], assignment), ended(*answer(command, asked, assignment, cloud))
+    said = (claim if kind == 'claim' else release)(assignment, asked[0], cloud)
+    if said[0] == 'claimed\n':
+        claimed.append((asked, assignment))
+    return f'{kind} {asked[1]} {names(assignment)}', ended(*said)
+
+
+def drawn_sessions(number, turns=14, seed=5):
+    """This number of sessions, each over a random cloud with a few queries."""
+    chance = random.Random(seed)
+    for n in range(number):
+        cloud = draw_cloud(chance)
+        made = tables('\n'.join(one.text() for one in cloud))
+        queries, claimed = [draw_asked(chance, cloud) for _ in range(3)], []
+        later = any(group.any_of for query, _ in queries for group in query.groups.values())
+        words = ['--microversion', '1.39'] if later or chance.random() < 0.5 else []
+        drawn = [draw_turn(chance, cloud, queries, claimed) for _ in range(turns)]
+        yield session(f'drawn {n}', ''.join(line + '\n' for line, _ in drawn), ''.join(said for _, said in drawn), *words, made=made)
+
+
+# ---- Drivers
+
+class Driver:
+    """A session that is asked one question after another."""
+
+    def __init__(self, program, folder):
+        self.ran = subprocess.Popen([program, 'session', '--tables', folder], stdin=subprocess.PIPE, stdout=subprocess.PIPE)
+
+    def ask(self, line):
+        """The answer to a line, and the line behind it, without its newline."""
+        self.ran.stdin.write(line.encode() + b'\n')
+        self.ran.stdin.flush()
+        told = []
+        for said in iter(self.ran.stdout.readline, b''):
+            if said.startswith(b'= '):
+                return b''.join(told).decode(), said[:-1].decode()
+            told.append(said)
+        raise EOFError(f'no answer to {line}: {b"".join(told)!r}')
+
+    def end(self):
+        self.ran.stdin.close()
+        return self.ran.wait()
+
+
+def waits(program, number=10000):
+    """What a driver that waits for each answer found wrong."""
+    driver = Driver(program, PRIVATE)
+    asked = 'tokens resources=VCPU:8&limit=1', 'claim resources=VCPU:8 ', 'check', 'nonsense', 'release resources=VCPU:8 '
+    wanted = '= 0', '= 0', '= 0', '= 2 ' + UNKNOWN, '= 0'
+    token = ''
+    for n in range(number):
+        line = asked[n % len(asked)]
+        told, end = driver.ask(line + token if line.endswith(' ') else line)
+        if end != wanted[n % len(asked)]:
+            return f'question {n}, {line}: {told}{end}'
+        token = told.strip() if line.startswith('tokens') else token
+    status = driver.end()
+    return f'it ended with status {status}' if status else None
+
+
+# Flavors, and what each takes of the providers that a token names, slot by slot.
+FLAVORS = [
+    ('resources=VCPU:8,MEMORY_MB:4096,DISK_GB:80&root_required=!COMPUTE_STATUS_DISABLED', [{'DISK_GB': 80}, {'MEMORY_MB': 4096}, {'VCPU': 8}]),
+    ('resources=VCPU:2,MEMORY_MB:1024', [{'MEMORY_MB': 1024}, {'VCPU': 2}]),
+    ('resources1=PCPU:2,MEMORY_MB:2048&resources2=PCPU:2,MEMORY_MB:2048&group_policy=isolate', [{'PCPU': 2, 'MEMORY_MB': 2048}, {'PCPU': 2, 'MEMORY_MB': 2048}]),
+    ('resources1=PCPU:1&resources2=PCPU:1&group_policy=none', [{'PCPU': 1}, {'PCPU': 1}]),
+    ('resources_NET=SRIOV_NET_VF:1&required_NET=CUSTOM_PHYSNET_DATA', [{'SRIOV_NET_VF': 1}]),
+    ('resources=VGPU:1&resources_DISK=DISK_GB:1500&group_policy=none', [{'VGPU': 1}, {'DISK_GB': 1500}]),
+]
+
+
+def rows_of(table):
+    """A table of usages: how much of each provider's classes is used, where something is."""
+    return {(row['resource_provider'], row['resource_class']): int(row['usage']) for row in csv.DictReader(io.StringIO(table)) if int(row['usage'])}
+
+
+def used_then(used, slots, token, sign):
+    """What is used after a claim, or with -1 after a release."""
+    used = dict(used)
+    for id, amounts in zip(token.split(','), slots):
+        for name, amount in amounts.items():
+            used[id, name] = used.get((id, name), 0) + sign * amount
+    return {key: amount for key, amount in used.items() if amount}
+
+
+class Trace:
+    """A session beside processes of their own, each over tables with the usages that the session wrote last."""
+
+    def __init__(self, program, folder, chance):
+        for name in HEADERS:
+            shutil.copy(os.path.join(PRIVATE, name + '.csv'), folder)
+        self.program, self.folder, self.chance = program, folder, chance
+        self.driver = Driver(program, folder)
+        self.claimed, self.tokens = [], {}
+        with open(os.path.join(PRIVATE, 'usages.csv'), encoding='ascii') as file:
+            self.used = rows_of(file.read())
+        self.write()
+
+    def write(self):
+        """Writes the table of usages as the session has it, which must be what is expected."""
+        table, end = self.driver.ask('usages')
+        with open(os.path.join(self.folder, 'usages.csv'), 'w', encoding='ascii') as file:
+            file.write(table)
+        if end != '= 0' or rows_of(table) != self.used:
+            raise ValueError('the session has other usages')
+
+    def alone(self, *words):
+        """What a process of its own answers, as a session would write it."""
+        ran = subprocess.run([self.program, *words, '--tables', self.folder], capture_output=True, text=True, check=False)
+        return ran.stdout, f'= {ran.returncode}' + (ran.stderr and ' ' + ran.stderr[:-1])
+
+    def asks(self, *words):
+        """Asks a job, and compares. Both answers are the same."""
+        told = self.driver.ask(' '.join(words))
+        after = [words[0], words[1], '--after', *words[2:]] if words[0] in ('tokens', 'candidates') and len(words) > 2 else words
+        alone = self.alone(*after)
+        if told != alone:
+            raise ValueError(f'{told!r}, and not {alone!r}')
+        return told[0]
+
+    def claims(self, flavor, slots, token):
+        """Claims a token. A process of its own says `candidate` where the session says `claimed`, and else the same."""
+        alone = self.alone('verify', flavor, token)
+        told = self.driver.ask(f'claim {flavor} {token}')
+        if told != (alone[0].replace('candidate', 'claimed'), alone[1]):
+            raise ValueError(f'{told!r}, and not {alone!r}')
+        if told[1] == '= 0':
+            self.used = used_then(self.used, slots, token, 1)
+            self.claimed.append((flavor, slots, token))
+            self.write()
+
+    def releases(self, flavor, slots, token):
+        """Releases a token."""
+        then = used_then(self.used, slots, token, -1)
+        wanted = ('not in use\n', '= 1') if any(amount < 0 for amount in then.values()) else ('released\n', '= 0')
+        told = self.driver.ask(f'release {flavor} {token}')
+        if told != wanted:
+            raise ValueError(f'{told!r}, and not {wanted!r}')
+        if told[1] == '= 0':
+            self.used = then
+            self.write()
+
+    def turn(self):
+        """One question of the trace."""
+        flavor, slots = self.chance.choice(FLAVORS)
+        kind = self.chance.choice(('tokens', 'tokens', 'claim', 'claim', 'claim', 'release', 'release', 'hosts', 'explain', 'candidates', 'after', 'check'))
+        token = self.tokens.get(flavor)
+        if kind == 'check':
+            self.asks('check')
+        elif kind in ('hosts', 'explain'):
+            self.asks(kind, flavor)
+        elif kind == 'candidates':
+            self.asks(kind, flavor + '&limit=3')
+        elif kind == 'tokens' or not token:
+            found = self.asks('tokens', flavor + '&limit=40').split()
+            if found:
+                self.tokens[flavor] = self.chance.choice(found)
+        elif kind == 'after':
+            self.asks('tokens', flavor + '&limit=2', token)
+        elif kind == 'claim':
+            self.claims(flavor, slots, token)
+        elif self.claimed and self.chance.random() < 0.8:
+            self.releases(*self.claimed.pop(self.chance.randrange(len(self.claimed))))
+        else:
+            self.releases(flavor, slots, token)
+
+
+def traced(program, number=300, seed=11):
+    """What a trace found wrong."""
+    with tempfile.TemporaryDirectory() as folder:
+        trace = Trace(program, folder, random.Random(seed))
+        for n in range(number):
+            try:
+                trace.turn()
+            except ValueError as error:
+                return f'question {n}: {error}'
+        status = trace.driver.end()
+    return f'it ended with status {status}' if status else None
+
+
+# ---- The command that docs/SESSION.md has for GNU parallel
+
+def spread(program, number=3500):
+    """What several sessions answered otherwise than one."""
+    with open(os.path.join(ROOT, 'docs', 'SESSION.md'), encoding='utf-8') as page:
+        command = re.search('^    (parallel .*) <questions >answers$', page.read(), re.M)[1]
+    asked = [f'tokens resources=VCPU:{n % 40 + 1}&limit={n % 3 + 1}\n' for n in range(number)]
+    told = [subprocess.run(words, shell=isinstance(words, str), cwd=ROOT, input=''.join(asked), capture_output=True, text=True, check=True).stdout
+            for words in ([program, 'session', '--tables', PRIVATE], re.sub(r'\./ac_cli', lambda _: shlex.quote(program), command))]
+    return None if told[0] == told[1] and told[0].count('\n= ') >= number - 1 else f'{told[1][:300]!r}, and not {told[0][:300]!r}'
+
+
+# ---- All cases
+
+def sessions(program):
+    """The cases, some of which run this program by themselves."""
+    this = ['sh', '-c', 'exec python3 -B tests/sessions.py "$@"', 'sessions']
+    yield from ENDS
+    yield from drawn_sessions(60)
+    yield Case('session: 100000 questions within 64 MiB', ['sh', '-c', 'ulimit -v 65536; yes check | head -n 100000 | "$0" session --tables examples/private | grep -c "^= 0$"', program],
+               '100000\n')
+    yield Case('session: 10000 questions, each after the answer to the one before', [*this, 'waits', program])
+    yield Case('session: each answer is that of a process of its own', [*this, 'trace', program])
+    if shutil.which('parallel'):
+        yield Case('docs/SESSION.md: the command by GNU parallel', [*this, 'spread', program])
+
+
+def untried():
+    """What isn't tried here, and why."""
+    if not shutil.which('parallel'):
+        yield 'docs/SESSION.md: the command by GNU parallel, which isn\'t installed'
+
+
+def main(mode, program, *number):
+    why = {'waits': waits, 'trace': traced, 'spread': spread}[mode](program, *map(int, number))
+    if why:
+        print(why)
+    return 1 if why else 0
+
+
+if __name__ == '__main__':
+    sys.exit(main(*sys.argv[1:]))
