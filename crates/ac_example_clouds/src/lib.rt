@@ -1,7 +1,7 @@
 //! Small clouds and queries, of which tests make examples.
 #![tactic(auto)]
 
-use ac_query::{Query, Version};
+use ac_query::{Query, Token, Version};
 use ac_tables::{Cloud, FromTables, Sources};
 use std::alloc::{AllocError, Global};
 
@@ -70,10 +70,47 @@ pub fn cloud_of(alloc: Global, rows: Rows) -> Result<Option<Cloud>, AllocError> 
 /// A query as 1.39 reads it: what 1.36 accepts, both read alike.
 pub fn query_of(alloc: Global, text: &str) -> Result<Option<Query>, AllocError> {
     let text = expanded(alloc, text)?;
-    match Query::read(alloc, text.as_str(), Version::V139) {
-        Ok(query) => Ok(Some(query)),
-        Err(_) => Ok(None),
+    Ok(Query::read(alloc, text.as_str(), Version::V139).ok())
+}
+
+fn token_of(alloc: Global, query: &Query, ids: &str) -> Result<Option<Token>, AllocError> {
+    let ids = expanded(alloc, ids)?;
+    Ok(Token::read(alloc, ids.as_str(), query).ok())
+}
+
+/// A cloud, and a query of its candidates behind a token, if there is one.
+#[derive(Drop)]
+pub struct Scene {
+    pub cloud: Cloud,
+    pub query: Query,
+    pub token: Option<Token>,
+}
+
+/// The scene of rows, a query and a token, where all of them are accepted.
+pub fn scene_of(
+    alloc: Global,
+    rows: Rows,
+    query: &str,
+    after: Option<&str>,
+) -> Result<Option<Scene>, AllocError> {
+    let Some(cloud) = cloud_of(alloc, rows)? else {
+        return Ok(None);
+    };
+    let Some(query) = query_of(alloc, query)? else {
+        return Ok(None);
+    };
+    let token = match after {
+        Some(ids) => token_of(alloc, &query, ids)?,
+        None => None,
+    };
+    if after.is_some() && token.is_none() {
+        return Ok(None);
     }
+    Ok(Some(Scene {
+        cloud,
+        query,
+        token,
+    }))
 }
 
 /// Headers alone.

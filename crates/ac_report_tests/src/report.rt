@@ -6,8 +6,8 @@ ghost use Rattle.ac_query.specs.Shown.Queries.{asked_of};
 ghost use Rattle.ac_cloud.specs.Cloud.CloudWorld.{providers_of};
 ghost use Rattle.ac_report.specs.Pages.{IsAssignment};
 
-use ac_base::{MemSink, Turn};
-use ac_example_clouds::{NONE, ONE, PAIR, Rows, cloud_of, expanded, query_of};
+use ac_base::{MemSink, Sink, Turn};
+use ac_example_clouds::{NONE, ONE, PAIR, Rows, cloud_of, expanded, scene_of};
 use ac_query::Query;
 use ac_report::{PageFault, request_text, summary_text, write_page, write_tokens};
 use ac_rules::Source;
@@ -46,8 +46,7 @@ const OVERUSED: Rows<'static> = Rows {
 // Why a case isn't one.
 #[derive(Debug, Drop)]
 enum Unfit {
-    Tables,
-    Query,
+    Scene,
     Lists,
     NoMemory,
 }
@@ -112,12 +111,55 @@ enum Writer {
     Tokens,
 }
 
+fn write_by<S: Source, W: Sink>(
+    alloc: Global,
+    writer: Writer,
+    cloud: &Cloud,
+    query: &Query,
+    source: &mut S,
+    out: &mut W,
+) -> Result<u32, PageFault>
+    requires { All (IsAssignment (providers_of cloud.now) (asked_of query.now))
+        (S.left source.old) }
+{
+    match writer {
+        Writer::Page => write_page(alloc, cloud, query, source, out),
+        Writer::Tokens => write_tokens(alloc, cloud, query, source, out),
+    }
+}
+
 // What a writer answers, what its sink takes, and how often it asks the source.
 #[derive(Debug, PartialEq, Drop)]
 struct Written {
     answer: Result<u32, PageFault>,
     text: String,
     calls: u32,
+}
+
+fn write_lists(
+    alloc: Global,
+    writer: Writer,
+    cloud: &Cloud,
+    query: &Query,
+    lists: &[&[u32]],
+    turns: &[Turn],
+) -> Result<Written, Unfit>
+    requires { All (IsAssignment (providers_of cloud.now) (asked_of query.now))
+        (map (λ list. list.now) lists.now) }
+{
+    let mut source = Lists {
+        lists,
+        at: 0,
+        calls: 0,
+    };
+    let mut out = MemSink::new(vec![in alloc; 0; 4096]?, turns);
+    let answer = write_by(alloc, writer, cloud, query, &mut source, &mut out);
+    let text = String::from_utf8_lossy(alloc, out.taken())?;
+    Ok(Written {
+        answer,
+        text,
+        calls: source.calls,
+    })
 }
 
 fn run_writer(
@@ -128,286 +170,280 @@ fn run_writer(
     lists: &[&[u32]],
     turns: &[Turn],
 ) -> Result<Written, Unfit> {
-    let cloud = cloud_of(alloc, rows)?.ok_or(Unfit::Tables)?;
-    let query = query_of(alloc, query)?.ok_or(Unfit::Query)?;
-    if !are_assignments(&cloud, &query, lists) {
-        return Err(Unfit::Lists);
+    let scene = scene_of(alloc, rows, query, None)?.ok_or(Unfit::Scene)?;
+    if are_assignments(&scene.cloud, &scene.query, lists) {
+        write_lists(alloc, writer, &scene.cloud, &scene.query, lists, turns)
+    } else {
+        Err(Unfit::Lists)
     }
-    let mut source = Lists {
-        lists,
-        at: 0,
-        calls: 0,
-    };
-    let mut out = MemSink::new(vec![in alloc; 0; 4096]?, turns);
-    let answer = match writer {
-        Writer::Page => write_page(alloc, &cloud, &query, &mut source, &mut out),
-        Writer::Tokens => write_tokens(alloc, &cloud, &query, &mut source, &mut out),
-    };
-    let text = String::from_utf8_lossy(alloc, out.taken())?;
-    Ok(Written {
-        answer,
-        text,
-        calls: source.calls,
-    })
+}
+
+// A writer's answer, text and calls of the source, where the sink answers by turns.
+#[derive(Clone, Copy)]
+struct Case<'a> {
+    writer: Writer,
+    rows: Rows<'a>,
+    query: &'a str,
+    lists: &'a [&'a [u32]],
+    turns: &'a [Turn],
+    answer: Result<u32, PageFault>,
+    text: &'a str,
+    calls: u32,
+}
+
+fn is_met(alloc: Global, case: &Case) -> Result<bool, Unfit> {
+    let text = expanded(alloc, case.text)?;
+    let written = run_writer(
+        alloc,
+        case.writer,
+        case.rows,
+        case.query,
+        case.lists,
+        case.turns,
+    )?;
+    let (answer, calls) = (case.answer, case.calls);
+    Ok(
+        written
+            == Written {
+                answer,
+                text,
+                calls,
+            },
+    )
 }
 
 // The body of the only list on one provider.
 const BODY: &str =
     "{\"allocation_requests\":[{\"allocations\":{\"@01\":{\"resources\":{\"VCPU\":2}}},\"mappings\":{\"\":[\"@01\"]}}],\"provider_summaries\":{\"@01\":{\"parent_provider_uuid\":null,\"resources\":{\"VCPU\":{\"capacity\":8,\"used\":0}},\"root_provider_uuid\":\"@01\",\"traits\":[]}}}\n";
 
-#[test]
-fn bodies(rt: HostRuntime) -> Result<(), Fail> {
-    let alloc = rt.alloc();
-    let cases: [(Rows, &str, &[&[u32]], &str, u32, u32); 3] = [
-        (ONE, "resources=VCPU:2", &[&[0]], BODY, 1, 2),
-        (
-            NONE,
-            "resources=VCPU:2",
-            &[],
-            "{\"allocation_requests\":[],\"provider_summaries\":{}}\n",
-            0,
-            1,
-        ),
-        (
-            SHARED,
-            "resources=DISK_GB:10,VCPU:1&limit=1",
-            &[&[4, 0], &[4, 2]],
-            "{\"allocation_requests\":[{\"allocations\":{\"@01\":{\"resources\":{\"VCPU\":1}},\"@09\":{\"resources\":{\"DISK_GB\":10}}},\"mappings\":{\"\":[\"@01\",\"@09\"]}}],\"provider_summaries\":{\"@01\":{\"parent_provider_uuid\":null,\"resources\":{\"VCPU\":{\"capacity\":8,\"used\":0}},\"root_provider_uuid\":\"@01\",\"traits\":[]},\"@02\":{\"parent_provider_uuid\":\"@01\",\"resources\":{},\"root_provider_uuid\":\"@01\",\"traits\":[]},\"@09\":{\"parent_provider_uuid\":null,\"resources\":{\"DISK_GB\":{\"capacity\":100,\"used\":0}},\"root_provider_uuid\":\"@09\",\"traits\":[\"MISC_SHARES_VIA_AGGREGATE\"]}}}\n",
-            1,
-            1,
-        ),
-    ];
-    for (rows, query, lists, want, count, calls) in cases {
-        let page = run_writer(alloc, Writer::Page, rows, query, lists, &[])?;
-        let text = expanded(alloc, want)?;
-        assert_eq!(rt;
-            page,
-            Written {
-                answer: Ok(count),
-                text,
-                calls
-            },
-            "{query}"
-        );
-    }
-    Ok(())
-}
+const PAGE: Case<'static> = Case {
+    writer: Writer::Page,
+    rows: ONE,
+    query: "resources=VCPU:2",
+    lists: &[&[0]],
+    turns: &[],
+    answer: Ok(1),
+    text: BODY,
+    calls: 2,
+};
+
+const TOKENS: Case<'static> = Case {
+    writer: Writer::Tokens,
+    text: "@01\n",
+    ..PAGE
+};
+
+const FAILS: Result<u32, PageFault> = Err(PageFault::WriteFailed);
+
+const LIMITED: &str = "resources=VCPU:2&limit=1";
+
+const FIVES: &str = "resources1=VCPU:5&resources2=VCPU:5&group_policy=none";
+
+const ZERO: &[u32] = &[0];
+
+const THOUSAND: &[&[u32]] = &[ZERO; 1000];
+
+static CASES: [Case<'static>; 13] = [
+    PAGE,
+    Case {
+        rows: NONE,
+        lists: &[],
+        answer: Ok(0),
+        text: "{\"allocation_requests\":[],\"provider_summaries\":{}}\n",
+        calls: 1,
+        ..PAGE
+    },
+    Case {
+        rows: SHARED,
+        query: "resources=DISK_GB:10,VCPU:1&limit=1",
+        lists: &[&[4, 0], &[4, 2]],
+        text: "{\"allocation_requests\":[{\"allocations\":{\"@01\":{\"resources\":{\"VCPU\":1}},\"@09\":{\"resources\":{\"DISK_GB\":10}}},\"mappings\":{\"\":[\"@01\",\"@09\"]}}],\"provider_summaries\":{\"@01\":{\"parent_provider_uuid\":null,\"resources\":{\"VCPU\":{\"capacity\":8,\"used\":0}},\"root_provider_uuid\":\"@01\",\"traits\":[]},\"@02\":{\"parent_provider_uuid\":\"@01\",\"resources\":{},\"root_provider_uuid\":\"@01\",\"traits\":[]},\"@09\":{\"parent_provider_uuid\":null,\"resources\":{\"DISK_GB\":{\"capacity\":100,\"used\":0}},\"root_provider_uuid\":\"@09\",\"traits\":[\"MISC_SHARES_VIA_AGGREGATE\"]}}}\n",
+        calls: 1,
+        ..PAGE
+    },
+    Case {
+        rows: PAIR,
+        query: FIVES,
+        lists: &[&[0, 1], &[1, 0]],
+        answer: Ok(2),
+        text: "@01,@02\n@02,@01\n",
+        calls: 3,
+        ..TOKENS
+    },
+    Case {
+        rows: SHARED,
+        query: "resources=DISK_GB:10,VCPU:1&limit=1",
+        lists: &[&[4, 0], &[4, 2]],
+        text: "@09,@01\n",
+        calls: 1,
+        ..TOKENS
+    },
+    Case {
+        rows: NONE,
+        query: FIVES,
+        lists: &[],
+        answer: Ok(0),
+        text: "",
+        calls: 1,
+        ..TOKENS
+    },
+    Case {
+        lists: &[&[0], &[0]],
+        turns: &[Turn::Up(10), Turn::Failed],
+        answer: FAILS,
+        text: "{\"allocati",
+        calls: 0,
+        ..PAGE
+    },
+    // The second line stops in the middle, and the next list isn't asked for.
+    Case {
+        lists: &[&[0], &[0]],
+        turns: &[Turn::Up(37), Turn::Up(1), Turn::Failed],
+        answer: FAILS,
+        text: "@01\n0",
+        ..TOKENS
+    },
+    Case {
+        turns: &[Turn::Again; 1000],
+        ..TOKENS
+    },
+    Case {
+        turns: &[Turn::Again; 1001],
+        answer: FAILS,
+        text: "",
+        calls: 1,
+        ..TOKENS
+    },
+    // A list is asked for only when the text of the one before has been pushed whole.
+    Case {
+        query: LIMITED,
+        lists: THOUSAND,
+        calls: 1,
+        ..PAGE
+    },
+    Case {
+        query: LIMITED,
+        lists: THOUSAND,
+        calls: 1,
+        ..TOKENS
+    },
+    // The sink stops inside the second request.
+    Case {
+        lists: THOUSAND,
+        turns: &[
+            Turn::Up(24),
+            Turn::Up(1000),
+            Turn::Up(1),
+            Turn::Up(5),
+            Turn::Failed,
+        ],
+        answer: FAILS,
+        text: "{\"allocation_requests\":[{\"allocations\":{\"@01\":{\"resources\":{\"VCPU\":2}}},\"mappings\":{\"\":[\"@01\"]}},{\"all",
+        ..PAGE
+    },
+];
 
 #[test]
-fn lines(rt: HostRuntime) -> Result<(), Fail> {
-    let alloc = rt.alloc();
-    let pair = "resources1=VCPU:5&resources2=VCPU:5&group_policy=none";
-    let shared = "resources=DISK_GB:10,VCPU:1&limit=1";
-    let cases: [(Rows, &str, &[&[u32]], &str, u32, u32); 3] = [
-        (PAIR, pair, &[&[0, 1], &[1, 0]], "@01,@02\n@02,@01\n", 2, 3),
-        (SHARED, shared, &[&[4, 0], &[4, 2]], "@09,@01\n", 1, 1),
-        (NONE, pair, &[], "", 0, 1),
-    ];
-    for (rows, query, lists, want, count, calls) in cases {
-        let page = run_writer(alloc, Writer::Tokens, rows, query, lists, &[])?;
-        let text = expanded(alloc, want)?;
-        assert_eq!(rt;
-            page,
-            Written {
-                answer: Ok(count),
-                text,
-                calls
-            },
-            "{query}"
-        );
+fn bodies_and_lines(rt: HostRuntime) -> Result<(), Fail> {
+    for (number, case) in CASES.iter().enumerate() {
+        assert!(rt; is_met(rt.alloc(), case)?, "case {number}: {}", case.query);
     }
     Ok(())
 }
 
 fn request_of(alloc: Global, rows: Rows, query: &str, list: &[u32]) -> Result<String, Unfit> {
-    let cloud = cloud_of(alloc, rows)?.ok_or(Unfit::Tables)?;
-    let query = query_of(alloc, query)?.ok_or(Unfit::Query)?;
-    if !is_assignment(&cloud, &query, list) {
+    let scene = scene_of(alloc, rows, query, None)?.ok_or(Unfit::Scene)?;
+    if !is_assignment(&scene.cloud, &scene.query, list) {
         return Err(Unfit::Lists);
     }
-    request_text(alloc, &cloud, &query, list)
+    request_text(alloc, &scene.cloud, &scene.query, list)
         .ok()
         .ok_or(Unfit::NoMemory)
 }
 
+static REQUESTS: [(Rows<'static>, &'static str, &'static [u32], &'static str); 5] = [
+    (
+        ONE,
+        "resources=VCPU:2",
+        &[0],
+        "{\"allocations\":{\"@01\":{\"resources\":{\"VCPU\":2}}},\"mappings\":{\"\":[\"@01\"]}}",
+    ),
+    // equal allocations, and other mappings
+    (
+        PAIR,
+        FIVES,
+        &[0, 1],
+        "{\"allocations\":{\"@01\":{\"resources\":{\"VCPU\":5}},\"@02\":{\"resources\":{\"VCPU\":5}}},\"mappings\":{\"1\":[\"@01\"],\"2\":[\"@02\"]}}",
+    ),
+    (
+        PAIR,
+        FIVES,
+        &[1, 0],
+        "{\"allocations\":{\"@01\":{\"resources\":{\"VCPU\":5}},\"@02\":{\"resources\":{\"VCPU\":5}}},\"mappings\":{\"1\":[\"@02\"],\"2\":[\"@01\"]}}",
+    ),
+    // a sum over three groups
+    (
+        PAIR,
+        "resources=VCPU:1&resources1=VCPU:2&resources2=VCPU:4&group_policy=none",
+        &[1, 1, 1],
+        "{\"allocations\":{\"@02\":{\"resources\":{\"VCPU\":7}}},\"mappings\":{\"\":[\"@02\"],\"1\":[\"@02\"],\"2\":[\"@02\"]}}",
+    ),
+    // a group without resources
+    (
+        NUMA,
+        "resources_PF=VCPU:1&required_NUMA=HW_NUMA_ROOT&same_subtree=_NUMA,_PF",
+        &[1, 3],
+        "{\"allocations\":{\"@04\":{\"resources\":{\"VCPU\":1}}},\"mappings\":{\"_NUMA\":[\"@02\"],\"_PF\":[\"@04\"]}}",
+    ),
+];
+
+fn is_expanded(alloc: Global, text: &str, want: &str) -> Result<bool, AllocError> {
+    Ok(expanded(alloc, want)?.as_str() == text)
+}
+
 #[test]
 fn requests(rt: HostRuntime) -> Result<(), Fail> {
-    let alloc = rt.alloc();
-    let pair = "resources1=VCPU:5&resources2=VCPU:5&group_policy=none";
-    let cases: [(Rows, &str, &[u32], &str); 5] = [
-        (
-            ONE,
-            "resources=VCPU:2",
-            &[0],
-            "{\"allocations\":{\"@01\":{\"resources\":{\"VCPU\":2}}},\"mappings\":{\"\":[\"@01\"]}}",
-        ),
-        // equal allocations, and other mappings
-        (
-            PAIR,
-            pair,
-            &[0, 1],
-            "{\"allocations\":{\"@01\":{\"resources\":{\"VCPU\":5}},\"@02\":{\"resources\":{\"VCPU\":5}}},\"mappings\":{\"1\":[\"@01\"],\"2\":[\"@02\"]}}",
-        ),
-        (
-            PAIR,
-            pair,
-            &[1, 0],
-            "{\"allocations\":{\"@01\":{\"resources\":{\"VCPU\":5}},\"@02\":{\"resources\":{\"VCPU\":5}}},\"mappings\":{\"1\":[\"@02\"],\"2\":[\"@01\"]}}",
-        ),
-        // a sum over three groups
-        (
-            PAIR,
-            "resources=VCPU:1&resources1=VCPU:2&resources2=VCPU:4&group_policy=none",
-            &[1, 1, 1],
-            "{\"allocations\":{\"@02\":{\"resources\":{\"VCPU\":7}}},\"mappings\":{\"\":[\"@02\"],\"1\":[\"@02\"],\"2\":[\"@02\"]}}",
-        ),
-        // a group without resources
-        (
-            NUMA,
-            "resources_PF=VCPU:1&required_NUMA=HW_NUMA_ROOT&same_subtree=_NUMA,_PF",
-            &[1, 3],
-            "{\"allocations\":{\"@04\":{\"resources\":{\"VCPU\":1}}},\"mappings\":{\"_NUMA\":[\"@02\"],\"_PF\":[\"@04\"]}}",
-        ),
-    ];
-    for (rows, query, list, want) in cases {
-        let text = request_of(alloc, rows, query, list)?;
-        assert_eq!(rt; text, expanded(alloc, want)?, "{query}");
+    for (number, (rows, query, list, want)) in REQUESTS.iter().enumerate() {
+        let text = request_of(rt.alloc(), *rows, query, list)?;
+        assert!(rt;
+            is_expanded(rt.alloc(), text.as_str(), want)?,
+            "case {number}: {text}"
+        );
     }
     Ok(())
 }
 
 fn summary_of(alloc: Global, rows: Rows, ix: u32) -> Result<String, Unfit> {
-    let cloud = cloud_of(alloc, rows)?.ok_or(Unfit::Tables)?;
+    let cloud = cloud_of(alloc, rows)?.ok_or(Unfit::Scene)?;
     if cloud.len() <= ix {
         return Err(Unfit::Lists);
     }
     summary_text(alloc, &cloud, ix).ok().ok_or(Unfit::NoMemory)
 }
 
+static SUMMARIES: [(Rows<'static>, u32, &'static str); 3] = [
+    (
+        OVERUSED,
+        0,
+        "{\"parent_provider_uuid\":null,\"resources\":{\"VCPU\":{\"capacity\":8,\"used\":9}},\"root_provider_uuid\":\"@01\",\"traits\":[]}",
+    ),
+    (
+        NUMA,
+        1,
+        "{\"parent_provider_uuid\":\"@01\",\"resources\":{},\"root_provider_uuid\":\"@01\",\"traits\":[\"HW_NUMA_ROOT\"]}",
+    ),
+    (
+        NUMA,
+        3,
+        "{\"parent_provider_uuid\":\"@02\",\"resources\":{\"VCPU\":{\"capacity\":4,\"used\":0}},\"root_provider_uuid\":\"@01\",\"traits\":[]}",
+    ),
+];
+
 #[test]
 fn summaries(rt: HostRuntime) -> Result<(), Fail> {
-    let alloc = rt.alloc();
-    for (rows, ix, want) in [
-        (
-            OVERUSED,
-            0,
-            "{\"parent_provider_uuid\":null,\"resources\":{\"VCPU\":{\"capacity\":8,\"used\":9}},\"root_provider_uuid\":\"@01\",\"traits\":[]}",
-        ),
-        (
-            NUMA,
-            1,
-            "{\"parent_provider_uuid\":\"@01\",\"resources\":{},\"root_provider_uuid\":\"@01\",\"traits\":[\"HW_NUMA_ROOT\"]}",
-        ),
-        (
-            NUMA,
-            3,
-            "{\"parent_provider_uuid\":\"@02\",\"resources\":{\"VCPU\":{\"capacity\":4,\"used\":0}},\"root_provider_uuid\":\"@01\",\"traits\":[]}",
-        ),
-    ] {
-        let text = summary_of(alloc, rows, ix)?;
-        assert_eq!(rt; text, expanded(alloc, want)?);
+    for (rows, ix, want) in &SUMMARIES {
+        let text = summary_of(rt.alloc(), *rows, *ix)?;
+        assert!(rt; is_expanded(rt.alloc(), text.as_str(), want)?, "{text}");
     }
-    Ok(())
-}
-
-#[test]
-fn failing_sinks(rt: HostRuntime) -> Result<(), Fail> {
-    let alloc = rt.alloc();
-    let one = "resources=VCPU:2";
-    let lists: &[&[u32]] = &[&[0], &[0]];
-    let fails = Err(PageFault::WriteFailed);
-
-    let page = run_writer(
-        alloc,
-        Writer::Page,
-        ONE,
-        one,
-        lists,
-        &[Turn::Up(10), Turn::Failed],
-    )?;
-    assert!(rt; page.answer == fails && page.text.as_str() == "{\"allocati" && page.calls == 0);
-
-    // The second line stops in the middle, and the next list isn't asked for.
-    let turns = [Turn::Up(37), Turn::Up(1), Turn::Failed];
-    let tokens = run_writer(alloc, Writer::Tokens, ONE, one, lists, &turns)?;
-    let text = expanded(alloc, "@01\n0")?;
-    assert_eq!(rt;
-        tokens,
-        Written {
-            answer: fails,
-            text,
-            calls: 2
-        }
-    );
-
-    let borne = run_writer(
-        alloc,
-        Writer::Tokens,
-        ONE,
-        one,
-        &[&[0]],
-        &[Turn::Again; 1000],
-    )?;
-    let text = expanded(alloc, "@01\n")?;
-    assert_eq!(rt;
-        borne,
-        Written {
-            answer: Ok(1),
-            text,
-            calls: 2
-        }
-    );
-    let interrupted = run_writer(
-        alloc,
-        Writer::Tokens,
-        ONE,
-        one,
-        &[&[0]],
-        &[Turn::Again; 1001],
-    )?;
-    let text = String::new(alloc);
-    assert_eq!(rt;
-        interrupted,
-        Written {
-            answer: fails,
-            text,
-            calls: 1
-        }
-    );
-    Ok(())
-}
-
-// A list is asked for only when the text of the one before has been pushed whole.
-#[test]
-fn lists_are_taken_one_at_a_time(rt: HostRuntime) -> Result<(), Fail> {
-    let alloc = rt.alloc();
-    let zero: &[u32] = &[0];
-    let lists = [zero; 1000];
-    for writer in [Writer::Page, Writer::Tokens] {
-        let limited = "resources=VCPU:2&limit=1";
-        let first = run_writer(alloc, writer, ONE, limited, &lists, &[])?;
-        assert!(rt; first.answer == Ok(1) && first.calls == 1);
-    }
-
-    // The sink stops inside the second request.
-    let turns = [
-        Turn::Up(24),
-        Turn::Up(1000),
-        Turn::Up(1),
-        Turn::Up(5),
-        Turn::Failed,
-    ];
-    let page = run_writer(alloc, Writer::Page, ONE, "resources=VCPU:2", &lists, &turns)?;
-    let start = BODY.split("],\"provider_summaries\"").next().unwrap_or("");
-    let mut text = expanded(alloc, start)?;
-    text.push_str(",{\"all")?;
-    assert_eq!(rt;
-        page,
-        Written {
-            answer: Err(PageFault::WriteFailed),
-            text,
-            calls: 2
-        }
-    );
     Ok(())
 }

@@ -200,59 +200,94 @@ fn run_texts(alloc: Global, texts: &Texts, job: &Job<'_>, turns: Turns) -> Resul
     })
 }
 
-// A run by 1.36 over the tables of these rows.
-fn run_over<'a>(
-    alloc: Global,
-    rows: &Rows,
-    command: Command,
-    query: &'a str,
-    token: Option<&'a str>,
-    turns: Turns,
-) -> Result<Left, AllocError>
-    requires { HasToken command (option_map (λ token. token.now) token) }
-{
-    run_by(
-        alloc,
-        rows,
-        Version::V136,
-        command,
-        query,
-        token,
-        None,
-        false,
-        turns,
-    )
-}
-
-// The same by a version, for a host, and in detail.
-fn run_by<'a>(
-    alloc: Global,
-    rows: &Rows,
-    version: Version,
-    command: Command,
-    query: &'a str,
-    token: Option<&'a str>,
-    host: Option<&'a str>,
-    detail: bool,
-    turns: Turns,
-) -> Result<Left, AllocError>
-    requires { HasToken command (option_map (λ token. token.now) token) }
-{
-    let job = Job {
-        command,
-        query,
-        version,
-        token,
-        host,
-        detail,
-    };
-    run_job(alloc, rows, &job, turns)
-}
-
 // A run over the tables of these rows.
-fn run_job(alloc: Global, rows: &Rows, job: &Job<'_>, turns: Turns) -> Result<Left, AllocError>
+fn run_over(alloc: Global, rows: &Rows, job: &Job<'_>, turns: Turns) -> Result<Left, AllocError>
     requires { HasToken job.now.command (option_map (λ token. token.now) job.now.token) }
 {
     let texts = texts_of(alloc, rows)?;
     run_texts(alloc, &texts, job, turns)
+}
+
+// What a run is asked, and what it answers. In all texts `@1` stands for the UUID that ends with 1.
+#[derive(Clone, Copy)]
+struct Case {
+    rows: Rows,
+    command: Command,
+    query: &'static str,
+    version: Version,
+    token: Option<&'static str>,
+    host: Option<&'static str>,
+    detail: bool,
+    output: &'static str,
+    line: &'static str,
+    status: u8,
+}
+
+// The tokens of no candidate.
+const TOKENS: Case = Case {
+    rows: ONE,
+    command: Command::Tokens,
+    query: "resources=VCPU:2",
+    version: Version::V136,
+    token: None,
+    host: None,
+    detail: false,
+    output: "",
+    line: "",
+    status: 0,
+};
+
+// What a case asks, written out.
+#[derive(Drop)]
+struct Words {
+    query: String,
+    token: Option<String>,
+    host: Option<String>,
+}
+
+fn written_out(alloc: Global, text: Option<&str>) -> Result<Option<String>, AllocError> {
+    match text {
+        Some(text) => Ok(Some(expanded(alloc, text)?)),
+        None => Ok(None),
+    }
+}
+
+fn words_of(alloc: Global, case: &Case) -> Result<Words, AllocError> {
+    Ok(Words {
+        query: expanded(alloc, case.query)?,
+        token: written_out(alloc, case.token)?,
+        host: written_out(alloc, case.host)?,
+    })
+}
+
+fn job_of<'a>(case: &Case, words: &'a Words) -> Job<'a> {
+    Job {
+        command: case.command,
+        query: words.query.as_str(),
+        version: case.version,
+        token: words.token.as_deref(),
+        host: words.host.as_deref(),
+        detail: case.detail,
+    }
+}
+
+// What a run of a case leaves.
+fn left_by(rt: &(impl Abort + AllocGlobal), case: &Case, turns: Turns) -> Result<Left, AllocError> {
+    let words = words_of(rt.alloc(), case)?;
+    let job = job_of(case, &words);
+    assert!(rt; job.command != Command::Verify || job.token.is_some());
+    run_over(rt.alloc(), &case.rows, &job, turns)
+}
+
+// A run of a case answers so; the number says which one it is.
+fn check_case(
+    rt: &(impl Abort + AllocGlobal),
+    case: &Case,
+    turns: Turns,
+    number: usize,
+) -> Result<(), AllocError> {
+    let left = left_by(rt, case, turns)?;
+    let output = expanded(rt.alloc(), case.output)?;
+    expect_left(rt, &left, output.as_str(), case.line, case.status, number);
+    Ok(())
 }

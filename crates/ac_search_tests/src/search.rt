@@ -4,8 +4,8 @@ ghost use Rattle.std.specs.List.{All};
 ghost use Rattle.ac_cloud.specs.Cloud.CloudWorld.{providers_of};
 
 use ac_base::Id;
-use ac_example_clouds::{Rows, cloud_of, expanded, query_of};
-use ac_query::{Query, Token};
+use ac_example_clouds::{Rows, Scene, expanded, scene_of};
+use ac_query::Query;
 use ac_rules::rules::anchor::takes_root;
 use ac_rules::slots::count_slots;
 use ac_rules::{Plain, Source, Verdict, verify};
@@ -20,6 +20,9 @@ mod hosts;
 mod refusals;
 mod tight;
 mod tries;
+
+// Two groups, of which each asks for five.
+const FIVES: &str = "resources1=VCPU:5&resources2=VCPU:5&group_policy=none";
 
 // The places of ids; an unknown one is left out.
 fn places(alloc: Global, cloud: &Cloud, ids: &str) -> Result<Vec<u32>, AllocError>
@@ -44,18 +47,15 @@ fn verdict_of(
     query: &str,
     ids: &str,
 ) -> Result<Option<Verdict>, AllocError> {
-    let Some(cloud) = cloud_of(alloc, rows)? else {
-        return Ok(None);
-    };
-    let Some(query) = query_of(alloc, query)? else {
+    let Some(scene) = scene_of(alloc, rows, query, None)? else {
         return Ok(None);
     };
     let ids = expanded(alloc, ids)?;
-    let list = places(alloc, &cloud, ids.as_str())?;
-    if list.len() != count_slots(&query) {
+    let list = places(alloc, &scene.cloud, ids.as_str())?;
+    if list.len() != count_slots(&scene.query) {
         return Ok(None);
     }
-    Ok(Some(verify(&cloud, &query, list.as_slice())))
+    Ok(Some(verify(&scene.cloud, &scene.query, list.as_slice())))
 }
 
 // The last two digits of each id of a list.
@@ -97,13 +97,6 @@ fn written<S: Source>(
     Ok(text)
 }
 
-fn token_of(alloc: Global, query: &Query, ids: Option<&str>) -> Result<Option<Token>, AllocError> {
-    let Some(ids) = ids else {
-        return Ok(None);
-    };
-    Ok(Token::read(alloc, expanded(alloc, ids)?.as_str(), query).ok())
-}
-
 // Whether a provider is available in the tree of a root.
 fn is_there(cloud: &Cloud, ix: u32, root: u32) -> bool {
     ix < cloud.len() && root < cloud.len() && cloud.available(ix, root)
@@ -121,7 +114,8 @@ fn mark_roots(cloud: &Cloud, query: &Query, list: &[u32], marks: &mut [bool]) {
 }
 
 // Whether the roots that fit are those at which the lists of a plain source stand, where these end in time.
-fn hosts_agree(alloc: Global, cloud: &Cloud, query: &Query, most: u32) -> Result<bool, AllocError> {
+fn hosts_agree(alloc: Global, scene: &Scene, most: u32) -> Result<bool, AllocError> {
+    let (cloud, query) = (&scene.cloud, &scene.query);
     let Ok(fits) = fitting_roots(alloc, cloud, query) else {
         return Ok(false);
     };
@@ -139,34 +133,36 @@ fn hosts_agree(alloc: Global, cloud: &Cloud, query: &Query, most: u32) -> Result
 }
 
 // All that a plain source gives, or nothing where memory is short.
-fn given_plainly(
-    alloc: Global,
-    cloud: &Cloud,
-    query: &Query,
-    token: Option<&Token>,
-    most: u32,
-) -> Result<String, AllocError> {
-    let Ok(mut plain) = Plain::new(alloc, cloud, query, token) else {
-        return Ok(String::new(alloc));
-    };
-    written(alloc, cloud, &mut plain, most)
+fn given_plainly(alloc: Global, scene: &Scene, most: u32) -> Result<String, AllocError> {
+    match Plain::new(alloc, &scene.cloud, &scene.query, scene.token.as_ref()) {
+        Ok(mut plain) => written(alloc, &scene.cloud, &mut plain, most),
+        Err(_) => Ok(String::new(alloc)),
+    }
 }
 
 // All that a walk gives, or nothing where memory is short.
-fn given_by_walk(
-    alloc: Global,
-    cloud: &Cloud,
-    query: &Query,
-    token: Option<&Token>,
-    most: u32,
-) -> Result<String, AllocError> {
-    let Ok(mut walk) = Walk::new(alloc, cloud, query, token) else {
-        return Ok(String::new(alloc));
-    };
-    written(alloc, cloud, &mut walk, most)
+fn given_by_walk(alloc: Global, scene: &Scene, most: u32) -> Result<String, AllocError> {
+    match Walk::new(alloc, &scene.cloud, &scene.query, scene.token.as_ref()) {
+        Ok(mut walk) => written(alloc, &scene.cloud, &mut walk, most),
+        Err(_) => Ok(String::new(alloc)),
+    }
+}
+
+fn walk_gives(alloc: Global, scene: &Scene, want: &str, most: u32) -> Result<bool, AllocError> {
+    Ok(given_by_walk(alloc, scene, most)?.as_str() == want)
 }
 
 // What a plain source gives, and a walk too: nothing where they differ, or where the roots that fit are others.
+fn given_by_both(alloc: Global, scene: &Scene, most: u32) -> Result<String, AllocError> {
+    let text = given_plainly(alloc, scene, most)?;
+    if walk_gives(alloc, scene, text.as_str(), most)? && hosts_agree(alloc, scene, most)? {
+        Ok(text)
+    } else {
+        Ok(String::new(alloc))
+    }
+}
+
+// The same where tables, query and token are accepted, else nothing.
 fn gives(
     alloc: Global,
     rows: Rows,
@@ -174,25 +170,8 @@ fn gives(
     after: Option<&str>,
     most: u32,
 ) -> Result<String, AllocError> {
-    let text = String::new(alloc);
-    let Some(cloud) = cloud_of(alloc, rows)? else {
-        return Ok(text);
-    };
-    let Some(query) = query_of(alloc, query)? else {
-        return Ok(text);
-    };
-    let token = token_of(alloc, &query, after)?;
-    if after.is_some() && token.is_none() {
-        return Ok(text);
-    }
-    if !hosts_agree(alloc, &cloud, &query, most)? {
-        return Ok(text);
-    }
-    let first = given_plainly(alloc, &cloud, &query, token.as_ref(), most)?;
-    let second = given_by_walk(alloc, &cloud, &query, token.as_ref(), most)?;
-    if first.as_str() == second.as_str() {
-        Ok(first)
-    } else {
-        Ok(text)
+    match scene_of(alloc, rows, query, after)? {
+        Some(scene) => given_by_both(alloc, &scene, most),
+        None => Ok(String::new(alloc)),
     }
 }

@@ -1,12 +1,19 @@
 //! Texts and writers, run with each of their growths refused in turn: all of the text, or want of memory and a first part of it.
-use super::{BODY, Writer, is_assignment, run_writer};
+use super::{BODY, Writer, Written, is_assignment, is_expanded, run_writer};
 use ac_base::NoMemory;
-use ac_example_clouds::{ONE, cloud_of, expanded, query_of};
+use ac_example_clouds::{ONE, cloud_of, expanded, scene_of};
 use ac_report::{PageFault, request_text, shown_name, summary_text};
 use std::alloc::Global;
 use std::process::Abort;
 
-// What a writer left of two lists: the whole text, or a first part of it.
+// Whether a writer told of all lists and left the whole text, or left a first part of it for want of memory.
+fn is_part(page: &Written, lists: usize, whole: &str) -> bool {
+    match page.answer {
+        Ok(count) => count as usize == lists && page.text.as_str() == whole,
+        Err(fault) => fault == PageFault::NoMemory && whole.starts_with(page.text.as_str()),
+    }
+}
+
 fn check_writer(rt: &(impl Abort + AllocGlobal), writer: Writer, lists: &[&[u32]], want: &str) {
     let alloc = rt.alloc();
     let Ok(page) = run_writer(alloc, writer, ONE, "resources=VCPU:2", lists, &[]) else {
@@ -15,13 +22,7 @@ fn check_writer(rt: &(impl Abort + AllocGlobal), writer: Writer, lists: &[&[u32]
     let Ok(whole) = expanded(alloc, want) else {
         return;
     };
-    match page.answer {
-        Ok(count) => assert!(rt; count as usize == lists.len() && page.text == whole),
-        Err(fault) => {
-            assert_eq!(rt; fault, PageFault::NoMemory);
-            assert!(rt; whole.as_str().starts_with(page.text.as_str()));
-        }
-    }
+    assert!(rt; is_part(&page, lists.len(), whole.as_str()));
 }
 
 #[test]
@@ -42,32 +43,28 @@ fn name(rt: HostRuntime) {
     }
 }
 
-fn is_text(alloc: Global, text: &str, want: &str) -> bool {
-    match expanded(alloc, want) {
-        Ok(want) => text == want.as_str(),
-        Err(_) => true,
+// Whether a text is the wanted one, if memory isn't short.
+fn is_text(alloc: Global, told: Result<String, NoMemory>, want: &str) -> bool {
+    match told {
+        Ok(text) => is_expanded(alloc, text.as_str(), want).unwrap_or(true),
+        Err(NoMemory) => true,
     }
 }
 
 #[test]
 fn request(rt: HostRuntime) {
     let alloc = rt.alloc();
-    let Ok(Some(cloud)) = cloud_of(alloc, ONE) else {
-        return;
-    };
-    let Ok(Some(query)) = query_of(alloc, "resources=VCPU:2") else {
+    let Ok(Some(scene)) = scene_of(alloc, ONE, "resources=VCPU:2", None) else {
         return;
     };
     let list: &[u32] = &[0];
-    if !is_assignment(&cloud, &query, list) {
+    if !is_assignment(&scene.cloud, &scene.query, list) {
         return;
     }
     let want =
         "{\"allocations\":{\"@01\":{\"resources\":{\"VCPU\":2}}},\"mappings\":{\"\":[\"@01\"]}}";
-    match request_text(alloc, &cloud, &query, list) {
-        Ok(text) => assert!(rt; is_text(alloc, text.as_str(), want)),
-        Err(fault) => assert_eq!(rt; fault, NoMemory),
-    }
+    let told = request_text(alloc, &scene.cloud, &scene.query, list);
+    assert!(rt; is_text(alloc, told, want));
 }
 
 #[test]
@@ -81,8 +78,6 @@ fn summary(rt: HostRuntime) {
     }
     let want =
         "{\"parent_provider_uuid\":null,\"resources\":{\"VCPU\":{\"capacity\":8,\"used\":0}},\"root_provider_uuid\":\"@01\",\"traits\":[]}";
-    match summary_text(alloc, &cloud, 0) {
-        Ok(text) => assert!(rt; is_text(alloc, text.as_str(), want)),
-        Err(fault) => assert_eq!(rt; fault, NoMemory),
-    }
+    let told = summary_text(alloc, &cloud, 0);
+    assert!(rt; is_text(alloc, told, want));
 }

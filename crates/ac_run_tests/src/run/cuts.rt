@@ -1,6 +1,6 @@
 //! The tables of one provider, cut off after each byte.
-use super::{ONE, SOUND, Turns, expanded, expect_left, run_over};
-use ac_run::Command;
+use super::{Case, SOUND, TOKENS, Turns, check_case};
+use std::alloc::AllocError;
 use std::process::Abort;
 use std::test::Fail;
 
@@ -44,21 +44,16 @@ fn check(
     steps: &[Step],
     length: usize,
     turns: Turns,
-) -> Result<(), Fail> {
-    let alloc = rt.alloc();
+) -> Result<(), AllocError> {
     let (_, output, line) = step_at(steps, length);
-    let left = run_over(
-        alloc,
-        &ONE,
-        Command::Tokens,
-        "resources=VCPU:2",
-        None,
-        turns,
-    )?;
-    let output = expanded(alloc, output)?;
     let status = if line.is_empty() { 0 } else { 3 };
-    expect_left(rt, &left, output.as_str(), line, status, length);
-    Ok(())
+    let case = Case {
+        output,
+        line,
+        status,
+        ..TOKENS
+    };
+    check_case(rt, &case, turns, length)
 }
 
 #[test]

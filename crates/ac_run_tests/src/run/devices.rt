@@ -1,132 +1,242 @@
 //! Devices that fail.
 use super::{
-    Left, ONE, ONE_BODY, SOUND, Texts, Turns, alike, expanded, expect_left, run_job, run_over,
-    texts_of,
+    Case, Left, ONE, ONE_BODY, SOUND, TOKENS, Texts, Turns, alike, check_case, expanded,
+    expect_left, left_by, texts_of,
 };
 use ac_base::Turn;
-use ac_query::Version;
-use ac_run::{Command, Job};
+use ac_run::Command;
 use ac_tables::Table;
+use std::alloc::AllocError;
 use std::process::Abort;
 use std::test::Fail;
 
-const QUERY: &str = "resources=VCPU:2";
+const CANDIDATES: Case = Case {
+    command: Command::Candidates,
+    ..TOKENS
+};
 
-#[test]
-fn a_feed_that_fails_is_not_at_its_end(rt: HostRuntime) -> Result<(), Fail> {
-    for is_gathered in [false, true] {
-        let turns = Turns {
+const ONE_TOKEN: Case = Case {
+    output: "@1\n",
+    ..TOKENS
+};
+
+const FAILED_OUTPUT: Case = Case {
+    line: "output: WriteFailed\n",
+    status: 6,
+    ..TOKENS
+};
+
+const FAILED_BODY: Case = Case {
+    command: Command::Candidates,
+    ..FAILED_OUTPUT
+};
+
+const FAILED_TABLE: Case = Case {
+    line: "inventories: Unreadable\n",
+    status: 3,
+    ..TOKENS
+};
+
+const FAILED: &[Turn] = &[Turn::Failed];
+
+const AGAIN: &[Turn] = &[Turn::Again; 1000];
+
+const ONCE_MORE: &[Turn] = &[Turn::Again; 1001];
+
+const GATHERED: Turns<'static> = Turns {
+    is_gathered: true,
+    ..SOUND
+};
+
+// Devices that fail, and what a run over them leaves.
+static FAILING: [(Turns<'static>, Case); 16] = [
+    // A feed that fails is not at its end.
+    (
+        Turns {
             inventories: &[Turn::Up(20), Turn::Failed],
-            is_gathered,
             ..SOUND
-        };
-        let left = run_over(rt.alloc(), &ONE, Command::Tokens, QUERY, None, turns)?;
-        expect_left(&rt, &left, "", "inventories: Unreadable\n", 3, 0);
+        },
+        FAILED_TABLE,
+    ),
+    (
+        Turns {
+            inventories: &[Turn::Up(20), Turn::Failed],
+            ..GATHERED
+        },
+        FAILED_TABLE,
+    ),
+    // A sink that fails keeps what it took.
+    (
+        Turns {
+            out: &[Turn::Up(10), Turn::Failed],
+            ..SOUND
+        },
+        Case {
+            output: "{\"allocati",
+            ..FAILED_BODY
+        },
+    ),
+    // An error sink that fails leaves the status.
+    (
+        Turns {
+            err: &[Turn::Up(5), Turn::Failed],
+            ..SOUND
+        },
+        Case {
+            query: "",
+            line: "query",
+            status: 4,
+            ..TOKENS
+        },
+    ),
+    // A thousand interrupted calls in a row are borne, by a feed and by a sink, and one more is a failure.
+    (
+        Turns {
+            providers: AGAIN,
+            out: AGAIN,
+            ..SOUND
+        },
+        ONE_TOKEN,
+    ),
+    (
+        Turns {
+            providers: ONCE_MORE,
+            ..SOUND
+        },
+        Case {
+            line: "providers: Unreadable\n",
+            ..FAILED_TABLE
+        },
+    ),
+    (
+        Turns {
+            out: ONCE_MORE,
+            ..SOUND
+        },
+        FAILED_OUTPUT,
+    ),
+    // The same where the output is gathered: it is pushed at the end, and its failure is told once.
+    (
+        Turns {
+            out: AGAIN,
+            ..GATHERED
+        },
+        ONE_TOKEN,
+    ),
+    (
+        Turns {
+            out: ONCE_MORE,
+            ..GATHERED
+        },
+        FAILED_OUTPUT,
+    ),
+    // A sink that takes nothing has failed, at its first call and after some bytes: it isn't asked again.
+    (
+        Turns {
+            out: &[Turn::Up(0)],
+            ..SOUND
+        },
+        FAILED_BODY,
+    ),
+    (
+        Turns {
+            out: &[Turn::Up(0)],
+            ..GATHERED
+        },
+        FAILED_BODY,
+    ),
+    (
+        Turns {
+            out: &[Turn::Up(5), Turn::Up(0)],
+            ..SOUND
+        },
+        Case {
+            output: "{\"all",
+            ..FAILED_BODY
+        },
+    ),
+    (
+        Turns {
+            out: &[Turn::Up(5), Turn::Up(0)],
+            ..GATHERED
+        },
+        Case {
+            output: "{\"all",
+            ..FAILED_BODY
+        },
+    ),
+    // An error sink that fails at its first call is left empty, and the status is what it would have been.
+    (
+        Turns {
+            err: FAILED,
+            ..SOUND
+        },
+        Case {
+            query: "",
+            status: 4,
+            ..TOKENS
+        },
+    ),
+    (
+        Turns {
+            providers: FAILED,
+            err: FAILED,
+            ..SOUND
+        },
+        Case {
+            status: 3,
+            ..TOKENS
+        },
+    ),
+    (
+        Turns {
+            out: FAILED,
+            err: FAILED,
+            ..SOUND
+        },
+        Case {
+            status: 6,
+            ..TOKENS
+        },
+    ),
+];
+
+#[test]
+fn devices_that_fail(rt: HostRuntime) -> Result<(), Fail> {
+    for (number, (turns, case)) in FAILING.iter().enumerate() {
+        check_case(&rt, case, *turns, number)?;
     }
-    Ok(())
-}
-
-#[test]
-fn a_sink_that_fails_keeps_what_it_took(rt: HostRuntime) -> Result<(), Fail> {
-    let turns = Turns {
-        out: &[Turn::Up(10), Turn::Failed],
-        ..SOUND
-    };
-    let left = run_over(rt.alloc(), &ONE, Command::Candidates, QUERY, None, turns)?;
-    expect_left(&rt, &left, "{\"allocati", "output: WriteFailed\n", 6, 0);
-    Ok(())
-}
-
-#[test]
-fn an_error_sink_that_fails_leaves_the_status(rt: HostRuntime) -> Result<(), Fail> {
-    let turns = Turns {
-        err: &[Turn::Up(5), Turn::Failed],
-        ..SOUND
-    };
-    let left = run_over(rt.alloc(), &ONE, Command::Tokens, "", None, turns)?;
-    expect_left(&rt, &left, "", "query", 4, 0);
-    Ok(())
-}
-
-// A thousand interrupted calls in a row are borne, by a feed and by a sink, and one more is a failure.
-#[test]
-fn patience(rt: HostRuntime) -> Result<(), Fail> {
-    let alloc = rt.alloc();
-    let again = [Turn::Again; 1000];
-    let once_more = [Turn::Again; 1001];
-    let borne = Turns {
-        providers: &again,
-        out: &again,
-        ..SOUND
-    };
-    let left = run_over(alloc, &ONE, Command::Tokens, QUERY, None, borne)?;
-    expect_left(&rt, &left, expanded(alloc, "@1\n")?.as_str(), "", 0, 0);
-
-    let feed = Turns {
-        providers: &once_more,
-        ..SOUND
-    };
-    let left = run_over(alloc, &ONE, Command::Tokens, QUERY, None, feed)?;
-    expect_left(&rt, &left, "", "providers: Unreadable\n", 3, 1);
-
-    let sink = Turns {
-        out: &once_more,
-        ..SOUND
-    };
-    let left = run_over(alloc, &ONE, Command::Tokens, QUERY, None, sink)?;
-    expect_left(&rt, &left, "", "output: WriteFailed\n", 6, 2);
-    Ok(())
-}
-
-// The same where the output is gathered: it is pushed at the end, and its failure is told once.
-#[test]
-fn patience_of_a_gathered_output(rt: HostRuntime) -> Result<(), Fail> {
-    let alloc = rt.alloc();
-    let again = [Turn::Again; 1000];
-    let borne = Turns {
-        out: &again,
-        is_gathered: true,
-        ..SOUND
-    };
-    let left = run_over(alloc, &ONE, Command::Tokens, QUERY, None, borne)?;
-    expect_left(&rt, &left, expanded(alloc, "@1\n")?.as_str(), "", 0, 0);
-
-    let once_more = [Turn::Again; 1001];
-    let sink = Turns {
-        out: &once_more,
-        is_gathered: true,
-        ..SOUND
-    };
-    let left = run_over(alloc, &ONE, Command::Tokens, QUERY, None, sink)?;
-    expect_left(&rt, &left, "", "output: WriteFailed\n", 6, 1);
     Ok(())
 }
 
 // Interrupted calls are counted in a row: where a byte has moved, a thousand more are borne, and not one beyond.
 #[test]
 fn a_byte_sets_the_count_of_interrupted_calls_back(rt: HostRuntime) -> Result<(), Fail> {
-    let alloc = rt.alloc();
     let mut again = [Turn::Again; 2001];
     again[1000] = Turn::Up(1);
-    let left = run_over(alloc, &ONE, Command::Tokens, QUERY, None, alike(&again))?;
-    expect_left(&rt, &left, expanded(alloc, "@1\n")?.as_str(), "", 0, 0);
+    check_case(&rt, &ONE_TOKEN, alike(&again), 0)?;
 
     let mut once_more = [Turn::Again; 2002];
     once_more[1000] = Turn::Up(1);
-    let feed = Turns {
-        traits: &once_more,
-        ..SOUND
+    let feed = Case {
+        line: "traits: Unreadable\n",
+        ..FAILED_TABLE
     };
-    let left = run_over(alloc, &ONE, Command::Tokens, QUERY, None, feed)?;
-    expect_left(&rt, &left, "", "traits: Unreadable\n", 3, 1);
-
-    let sink = Turns {
-        out: &once_more,
-        ..SOUND
+    check_case(&rt, &feed, feed_of(Table::Traits, &once_more), 1)?;
+    let sink = Case {
+        output: "0",
+        ..FAILED_OUTPUT
     };
-    let left = run_over(alloc, &ONE, Command::Tokens, QUERY, None, sink)?;
-    expect_left(&rt, &left, "0", "output: WriteFailed\n", 6, 2);
+    check_case(&rt, &sink, out_of(&once_more), 2)?;
     Ok(())
+}
+
+// The output goes by these turns.
+fn out_of<'a>(turns: &'a [Turn]) -> Turns<'a> {
+    Turns {
+        out: turns,
+        ..SOUND
+    }
 }
 
 // One table's feed goes by these turns.
@@ -165,33 +275,56 @@ fn size_of(texts: &Texts, table: Table) -> usize {
     }
 }
 
+const COUNTS: Case = Case {
+    command: Command::Check,
+    output: "providers 1\ninventories 1\nusages 0\ntraits 0\naggregates 0\n",
+    ..TOKENS
+};
+
+const UNASKED: Case = Case {
+    query: "",
+    ..COUNTS
+};
+
 // Each call of one feed fails in turn, where each gives a byte: the one that would tell the end, too.
-fn check_feed(rt: &(impl Abort + AllocGlobal), table: Table, line: &str) -> Result<(), Fail> {
+fn check_feed(
+    rt: &(impl Abort + AllocGlobal),
+    table: Table,
+    line: &'static str,
+) -> Result<(), AllocError> {
     let alloc = rt.alloc();
+    let case = Case {
+        output: "",
+        line,
+        status: 3,
+        ..UNASKED
+    };
     let texts = texts_of(alloc, &ONE)?;
     let mut turns = Vec::new(alloc);
     for call in 0..=size_of(&texts, table) {
         turns.push(Turn::Failed)?;
-        let failing = feed_of(table, &turns);
-        let left = run_over(alloc, &ONE, Command::Check, "", None, failing)?;
-        expect_left(rt, &left, "", line, 3, call);
+        check_case(rt, &case, feed_of(table, &turns), call)?;
         let _failed = turns.pop();
         turns.push(Turn::Up(1))?;
     }
     turns.push(Turn::Failed)?;
-    let never = feed_of(table, &turns);
-    let left = run_over(alloc, &ONE, Command::Check, "", None, never)?;
+    let left = left_by(rt, &UNASKED, feed_of(table, &turns))?;
     assert_eq!(rt; left.status, 0);
     Ok(())
 }
 
 #[test]
 fn each_call_of_a_feed_fails(rt: HostRuntime) -> Result<(), Fail> {
-    check_feed(&rt, Table::Providers, "providers: Unreadable\n")?;
-    check_feed(&rt, Table::Inventories, "inventories: Unreadable\n")?;
-    check_feed(&rt, Table::Usages, "usages: Unreadable\n")?;
-    check_feed(&rt, Table::Traits, "traits: Unreadable\n")?;
-    check_feed(&rt, Table::Aggregates, "aggregates: Unreadable\n")
+    for (table, line) in [
+        (Table::Providers, "providers: Unreadable\n"),
+        (Table::Inventories, "inventories: Unreadable\n"),
+        (Table::Usages, "usages: Unreadable\n"),
+        (Table::Traits, "traits: Unreadable\n"),
+        (Table::Aggregates, "aggregates: Unreadable\n"),
+    ] {
+        check_feed(&rt, table, line)?;
+    }
+    Ok(())
 }
 
 // A run whose output failed: it has taken so much of the body.
@@ -201,6 +334,11 @@ fn expect_part(rt: &impl Abort, left: &Left, body: &str, call: usize) {
     assert_eq!(rt; left.status, 6);
 }
 
+const BODY: Case = Case {
+    output: ONE_BODY,
+    ..CANDIDATES
+};
+
 // Each call of the output fails in turn, where each takes a byte: it has taken one byte a call before.
 #[test]
 fn each_call_of_the_output_fails(rt: HostRuntime) -> Result<(), Fail> {
@@ -209,151 +347,90 @@ fn each_call_of_the_output_fails(rt: HostRuntime) -> Result<(), Fail> {
     let mut turns = Vec::new(alloc);
     for call in 0..body.len() {
         turns.push(Turn::Failed)?;
-        let failing = Turns {
-            out: &turns,
-            ..SOUND
-        };
-        let left = run_over(alloc, &ONE, Command::Candidates, QUERY, None, failing)?;
+        let left = left_by(&rt, &BODY, out_of(&turns))?;
         assert_eq!(rt; left.output.len(), call);
         expect_part(&rt, &left, body.as_str(), call);
         let _failed = turns.pop();
         turns.push(Turn::Up(1))?;
     }
     turns.push(Turn::Failed)?;
-    let never = Turns {
-        out: &turns,
-        ..SOUND
-    };
-    let left = run_over(alloc, &ONE, Command::Candidates, QUERY, None, never)?;
-    expect_left(&rt, &left, body.as_str(), "", 0, body.len());
+    check_case(&rt, &BODY, out_of(&turns), body.len())?;
     Ok(())
 }
 
-// Each push of an output fails in turn, where each takes its piece whole, until all have been made; and the one push of a gathered output.
-fn check_pieces(rt: &(impl Abort + AllocGlobal), job: &Job<'_>, output: &str) -> Result<(), Fail> {
+// Each push of an output fails in turn, where each takes its piece whole, until all have been made.
+fn check_pushes(rt: &(impl Abort + AllocGlobal), case: &Case) -> Result<(), AllocError> {
     let alloc = rt.alloc();
-    assert!(rt; job.command != Command::Verify || job.token.is_some());
+    let output = expanded(alloc, case.output)?;
     let mut turns = Vec::new(alloc);
     let mut taken = 0;
     for call in 0..100 {
         turns.push(Turn::Failed)?;
-        let failing = Turns {
-            out: &turns,
-            ..SOUND
-        };
-        let left = run_job(alloc, &ONE, job, failing)?;
+        let left = left_by(rt, case, out_of(&turns))?;
         assert!(rt; left.output.len() > taken || call == 0, "call {call}");
         taken = left.output.len();
         if left.status == 0 {
             break;
         }
-        expect_part(rt, &left, output, call);
+        expect_part(rt, &left, output.as_str(), call);
         let _failed = turns.pop();
         turns.push(Turn::Up(usize::MAX))?;
     }
     assert_eq!(rt; taken, output.len());
-
-    let gathered = Turns {
-        out: &[Turn::Failed],
-        is_gathered: true,
-        ..SOUND
-    };
-    let left = run_job(alloc, &ONE, job, gathered)?;
-    expect_left(rt, &left, "", "output: WriteFailed\n", 6, taken);
     Ok(())
 }
 
-const COUNTS: Job<'static> = Job {
-    command: Command::Check,
-    query: QUERY,
-    version: Version::V136,
-    token: None,
-    host: None,
-    detail: false,
-};
-
-// The same with another command.
-fn asked(command: Command) -> Job<'static> {
-    Job { command, ..COUNTS }
+// The one push of a gathered output fails.
+fn check_gathered(rt: &(impl Abort + AllocGlobal), case: &Case) -> Result<(), AllocError> {
+    let failed = Case {
+        output: "",
+        line: "output: WriteFailed\n",
+        status: 6,
+        ..*case
+    };
+    let turns = Turns {
+        out: FAILED,
+        ..GATHERED
+    };
+    check_case(rt, &failed, turns, 0)
 }
+
+static PIECES: [Case; 7] = [
+    COUNTS,
+    BODY,
+    ONE_TOKEN,
+    Case {
+        command: Command::Verify,
+        token: Some("@1"),
+        output: "candidate\n",
+        ..TOKENS
+    },
+    Case {
+        command: Command::Explain,
+        output: "slot 1 \"\" VCPU:2: units 1 of 1, traits 1, aggregates 1, tree 1, room 1\n\
+            trees 1: root traits 1, each slot 1, required traits 1\n\
+            candidates: some\n",
+        ..TOKENS
+    },
+    Case {
+        command: Command::Hosts,
+        output: "root,name,fits,slot,lacks\n@1,,yes,,\n",
+        ..TOKENS
+    },
+    Case {
+        command: Command::Why,
+        host: Some("@1"),
+        output: "slot,suffix,provider,name,lacks,detail\n1,,@1,,,\n,,@1,,,\n,,@1,,,fits\n",
+        ..TOKENS
+    },
+];
 
 // A failed output is told as one, and never as want of memory.
 #[test]
 fn each_whole_piece_of_an_output_fails(rt: HostRuntime) -> Result<(), Fail> {
-    let alloc = rt.alloc();
-    let counts = "providers 1\ninventories 1\nusages 0\ntraits 0\naggregates 0\n";
-    let explanation = "slot 1 \"\" VCPU:2: units 1 of 1, traits 1, aggregates 1, tree 1, room 1\n\
-        trees 1: root traits 1, each slot 1, required traits 1\n\
-        candidates: some\n";
-    let body = expanded(alloc, ONE_BODY)?;
-    let line = expanded(alloc, "@1\n")?;
-    let one = expanded(alloc, "@1")?;
-    check_pieces(&rt, &COUNTS, counts)?;
-    check_pieces(&rt, &asked(Command::Candidates), body.as_str())?;
-    check_pieces(&rt, &asked(Command::Tokens), line.as_str())?;
-    let verdict = Job {
-        command: Command::Verify,
-        token: Some(one.as_str()),
-        ..COUNTS
-    };
-    check_pieces(&rt, &verdict, "candidate\n")?;
-    check_pieces(&rt, &asked(Command::Explain), explanation)?;
-    let rows = expanded(alloc, "root,name,fits,slot,lacks\n@1,,yes,,\n")?;
-    check_pieces(&rt, &asked(Command::Hosts), rows.as_str())?;
-    let why = Job {
-        command: Command::Why,
-        host: Some(one.as_str()),
-        ..COUNTS
-    };
-    let rows = expanded(
-        alloc,
-        "slot,suffix,provider,name,lacks,detail\n1,,@1,,,\n,,@1,,,\n,,@1,,,fits\n",
-    )?;
-    check_pieces(&rt, &why, rows.as_str())
-}
-
-// A sink that takes nothing has failed, at its first call and after some bytes: it isn't asked again.
-#[test]
-fn a_sink_that_takes_nothing_has_failed(rt: HostRuntime) -> Result<(), Fail> {
-    let alloc = rt.alloc();
-    for is_gathered in [false, true] {
-        let at_once = Turns {
-            out: &[Turn::Up(0)],
-            is_gathered,
-            ..SOUND
-        };
-        let left = run_over(alloc, &ONE, Command::Candidates, QUERY, None, at_once)?;
-        expect_left(&rt, &left, "", "output: WriteFailed\n", 6, 0);
-        let later = Turns {
-            out: &[Turn::Up(5), Turn::Up(0)],
-            is_gathered,
-            ..SOUND
-        };
-        let left = run_over(alloc, &ONE, Command::Candidates, QUERY, None, later)?;
-        expect_left(&rt, &left, "{\"all", "output: WriteFailed\n", 6, 1);
-    }
-    Ok(())
-}
-
-// An error sink that fails at its first call is left empty, and the status is what it would have been.
-#[test]
-fn an_error_sink_that_takes_nothing_leaves_the_status(rt: HostRuntime) -> Result<(), Fail> {
-    let alloc = rt.alloc();
-    let failed: &[Turn] = &[Turn::Failed];
-    let sound: &[Turn] = &[];
-    for (feed, out, query, status) in [
-        (sound, sound, "", 4),
-        (failed, sound, QUERY, 3),
-        (sound, failed, QUERY, 6),
-    ] {
-        let turns = Turns {
-            providers: feed,
-            out,
-            err: failed,
-            ..SOUND
-        };
-        let left = run_over(alloc, &ONE, Command::Tokens, query, None, turns)?;
-        expect_left(&rt, &left, "", "", status, usize::from(status));
+    for case in &PIECES {
+        check_pushes(&rt, case)?;
+        check_gathered(&rt, case)?;
     }
     Ok(())
 }

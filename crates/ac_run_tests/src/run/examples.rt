@@ -1,5 +1,5 @@
 //! Worked examples, with values worked out by hand.
-use super::{EMPTY, ONE, Rows, alike, expanded, expect_left, run_by};
+use super::{Case, EMPTY, ONE, Rows, TOKENS, alike, check_case};
 use ac_base::Turn;
 use ac_query::Version;
 use ac_run::Command;
@@ -11,35 +11,6 @@ mod differing;
 mod explained;
 mod hosts;
 mod why;
-
-// What a run is asked, and what it answers. In all texts `@1` stands for the UUID that ends with 1.
-#[derive(Clone, Copy)]
-struct Case {
-    rows: Rows,
-    command: Command,
-    query: &'static str,
-    version: Version,
-    token: Option<&'static str>,
-    host: Option<&'static str>,
-    detail: bool,
-    output: &'static str,
-    line: &'static str,
-    status: u8,
-}
-
-// The tokens of no candidate.
-const TOKENS: Case = Case {
-    rows: ONE,
-    command: Command::Tokens,
-    query: "resources=VCPU:2",
-    version: Version::V136,
-    token: None,
-    host: None,
-    detail: false,
-    output: "",
-    line: "",
-    status: 0,
-};
 
 const BODY: Case = Case {
     command: Command::Candidates,
@@ -54,31 +25,8 @@ const VERDICT: Case = Case {
 
 // Each case answers so over devices that all go by these turns.
 fn check_over(rt: &(impl Abort + AllocGlobal), cases: &[Case], turns: &[Turn]) -> Result<(), Fail> {
-    let alloc = rt.alloc();
     for (place, case) in cases.iter().enumerate() {
-        assert!(rt; case.command != Command::Verify || case.token.is_some());
-        let query = expanded(alloc, case.query)?;
-        let token = match case.token {
-            Some(token) => Some(expanded(alloc, token)?),
-            None => None,
-        };
-        let host = match case.host {
-            Some(host) => Some(expanded(alloc, host)?),
-            None => None,
-        };
-        let left = run_by(
-            alloc,
-            &case.rows,
-            case.version,
-            case.command,
-            query.as_str(),
-            token.as_deref(),
-            host.as_deref(),
-            case.detail,
-            alike(turns),
-        )?;
-        let output = expanded(alloc, case.output)?;
-        expect_left(rt, &left, output.as_str(), case.line, case.status, place);
+        check_case(rt, case, alike(turns), place)?;
     }
     Ok(())
 }

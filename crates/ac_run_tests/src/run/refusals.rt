@@ -1,34 +1,11 @@
 //! Runs with each growth refused in turn: the whole answer, or `out of memory` with status 7 and a first part of it.
-use super::{Left, ONE, ONE_BODY, Rows, SOUND, expanded, expect_left, run_by};
-use ac_query::Version;
+use super::{Case, ONE, ONE_BODY, Rows, SOUND, TOKENS, expanded, expect_left, left_by};
 use ac_run::Command;
-use std::alloc::{AllocError, Global};
 use std::process::Abort;
 
-// What a run is asked, and what it answers where memory suffices.
-#[derive(Clone, Copy)]
-struct Case {
-    rows: Rows,
-    command: Command,
-    query: &'static str,
-    token: Option<&'static str>,
-    host: Option<&'static str>,
-    detail: bool,
-    output: &'static str,
-    line: &'static str,
-    status: u8,
-}
-
-const TOKENS: Case = Case {
-    rows: ONE,
-    command: Command::Tokens,
-    query: "resources=VCPU:2",
-    token: None,
-    host: None,
-    detail: false,
+const ONE_TOKEN: Case = Case {
     output: "@1\n",
-    line: "",
-    status: 0,
+    ..TOKENS
 };
 
 // A parent and its child, with eight units each, and a group for each.
@@ -43,37 +20,11 @@ const PAIR: Case = Case {
     ..TOKENS
 };
 
-fn left_by(rt: &(impl Abort + AllocGlobal), case: &Case) -> Result<Left, AllocError> {
-    let alloc = rt.alloc();
-    assert!(rt; case.command != Command::Verify || case.token.is_some());
-    let query = expanded(alloc, case.query)?;
-    let token = match case.token {
-        Some(token) => Some(expanded(alloc, token)?),
-        None => None,
-    };
-    let host = match case.host {
-        Some(host) => Some(expanded(alloc, host)?),
-        None => None,
-    };
-    let left = run_by(
-        alloc,
-        &case.rows,
-        Version::V136,
-        case.command,
-        query.as_str(),
-        token.as_deref(),
-        host.as_deref(),
-        case.detail,
-        SOUND,
-    )?;
-    Ok(left)
-}
-
-fn check(rt: &(impl Abort + AllocGlobal), case: Case) {
+fn check(rt: &(impl Abort + AllocGlobal), case: &Case) {
     let Ok(output) = expanded(rt.alloc(), case.output) else {
         return;
     };
-    let Ok(left) = left_by(rt, &case) else {
+    let Ok(left) = left_by(rt, case, SOUND) else {
         return;
     };
     if left.status == 7 {
@@ -84,34 +35,40 @@ fn check(rt: &(impl Abort + AllocGlobal), case: Case) {
     }
 }
 
-#[test]
-fn answers_of_one_provider(rt: HostRuntime) {
-    check(&rt, TOKENS);
-    let body = Case {
+fn check_all(rt: &(impl Abort + AllocGlobal), cases: &[Case]) {
+    for case in cases {
+        check(rt, case);
+    }
+}
+
+static ANSWERS_OF_ONE_PROVIDER: [Case; 3] = [
+    ONE_TOKEN,
+    Case {
         command: Command::Candidates,
         output: ONE_BODY,
         ..TOKENS
-    };
-    check(&rt, body);
-    let counts = Case {
+    },
+    Case {
         command: Command::Check,
         output: "providers 1\ninventories 1\nusages 0\ntraits 0\naggregates 0\n",
         ..TOKENS
-    };
-    check(&rt, counts);
-}
+    },
+];
 
 #[test]
-fn explanations(rt: HostRuntime) {
-    let one = Case {
+fn answers_of_one_provider(rt: HostRuntime) {
+    check_all(&rt, &ANSWERS_OF_ONE_PROVIDER);
+}
+
+static EXPLANATIONS: [Case; 2] = [
+    Case {
         command: Command::Explain,
         output: "slot 1 \"\" VCPU:2: units 1 of 1, traits 1, aggregates 1, tree 1, room 1\n\
             trees 1: root traits 1, each slot 1, required traits 1\n\
             candidates: some\n",
         ..TOKENS
-    };
-    check(&rt, one);
-    let none = Case {
+    },
+    Case {
         command: Command::Explain,
         query: "resources=VCPU:2&required=CUSTOM_A",
         output: "slot 1 \"\" VCPU:2: units 1 of 1, traits 1, aggregates 1, tree 1, room 1\n\
@@ -121,30 +78,35 @@ fn explanations(rt: HostRuntime) {
             without required: some\n",
         status: 1,
         ..TOKENS
-    };
-    check(&rt, none);
+    },
+];
+
+#[test]
+fn explanations(rt: HostRuntime) {
+    check_all(&rt, &EXPLANATIONS);
 }
+
+static ROWS_OF_ROOTS: [Case; 1] = [Case {
+    command: Command::Hosts,
+    output: "root,name,fits,slot,lacks\n@1,,yes,,\n",
+    ..TOKENS
+}];
 
 #[test]
 fn rows_of_roots(rt: HostRuntime) {
-    let one = Case {
-        command: Command::Hosts,
-        output: "root,name,fits,slot,lacks\n@1,,yes,,\n",
-        ..TOKENS
-    };
-    check(&rt, one);
+    check_all(&rt, &ROWS_OF_ROOTS);
 }
 
-#[test]
-fn rows_of_a_host(rt: HostRuntime) {
-    let fits = Case {
-        command: Command::Why,
-        host: Some("@1"),
-        output: "slot,suffix,provider,name,lacks,detail\n1,,@1,,,\n,,@1,,,\n,,@1,,,fits\n",
-        ..TOKENS
-    };
-    check(&rt, fits);
-    let lacks = Case {
+const FITS: Case = Case {
+    command: Command::Why,
+    host: Some("@1"),
+    output: "slot,suffix,provider,name,lacks,detail\n1,,@1,,,\n,,@1,,,\n,,@1,,,fits\n",
+    ..TOKENS
+};
+
+static ROWS_OF_A_HOST: [Case; 3] = [
+    FITS,
+    Case {
         query: "resources1=VCPU:2&member_of1=!in:@a,@b&root_required=CUSTOM_R",
         rows: Rows {
             aggregates: "@1,@a\n",
@@ -155,34 +117,39 @@ fn rows_of_a_host(rt: HostRuntime) {
             ,,@1,,root traits,CUSTOM_R missing\n\
             ,,@1,,root traits,does not fit\n",
         status: 1,
-        ..fits
-    };
-    check(&rt, lacks);
-    let unknown = Case {
+        ..FITS
+    },
+    Case {
         host: Some("h"),
         output: "",
         line: "host: Unknown\n",
         status: 5,
-        ..fits
-    };
-    check(&rt, unknown);
-}
+        ..FITS
+    },
+];
 
 #[test]
-fn verdicts(rt: HostRuntime) {
-    let candidate = Case {
+fn rows_of_a_host(rt: HostRuntime) {
+    check_all(&rt, &ROWS_OF_A_HOST);
+}
+
+static VERDICTS: [Case; 2] = [
+    Case {
         token: Some("@1,@2"),
         output: "candidate\n",
         ..PAIR
-    };
-    check(&rt, candidate);
-    let unknown = Case {
+    },
+    Case {
         token: Some("@1,@7"),
         output: "unknown provider\n",
         status: 1,
         ..PAIR
-    };
-    check(&rt, unknown);
+    },
+];
+
+#[test]
+fn verdicts(rt: HostRuntime) {
+    check_all(&rt, &VERDICTS);
 }
 
 // Lists that break a rule, and of what they do.
@@ -194,7 +161,7 @@ const CROWDED: Case = Case {
     ..PAIR
 };
 
-const DETAILS: &[Case] = &[
+static DETAILS: [Case; 6] = [
     CROWDED,
     Case {
         query: "resources1=VCPU:9&resources2=VCPU:5&group_policy=none",
@@ -234,14 +201,11 @@ const DETAILS: &[Case] = &[
 
 #[test]
 fn details_of_verdicts(rt: HostRuntime) {
-    for case in DETAILS {
-        check(&rt, *case);
-    }
+    check_all(&rt, &DETAILS);
 }
 
-#[test]
-fn faults(rt: HostRuntime) {
-    let usage = Case {
+static FAULTS: [Case; 3] = [
+    Case {
         rows: Rows {
             usages: "@1,MEMORY_MB,1\n",
             ..ONE
@@ -251,23 +215,25 @@ fn faults(rt: HostRuntime) {
         line: "usages: record 2: NoInventory\n",
         status: 3,
         ..TOKENS
-    };
-    check(&rt, usage);
-    let suffix = Case {
+    },
+    Case {
         query: "resources1=VCPU:1&same_subtree=1,2",
         output: "",
         line: "query: group \"2\": UnknownSuffix\n",
         status: 4,
         ..TOKENS
-    };
-    check(&rt, suffix);
-    let token = Case {
+    },
+    Case {
         command: Command::Tokens,
         token: Some("@1"),
         output: "",
         line: "token: WrongLength\n",
         status: 5,
         ..PAIR
-    };
-    check(&rt, token);
+    },
+];
+
+#[test]
+fn faults(rt: HostRuntime) {
+    check_all(&rt, &FAULTS);
 }

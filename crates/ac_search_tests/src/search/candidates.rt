@@ -1,5 +1,5 @@
 //! The candidates of queries in small clouds, by both sources, and verdicts on one list.
-use super::{gives, verdict_of};
+use super::{FIVES, gives, verdict_of};
 use ac_example_clouds::{NONE, ONE, PAIR, Rows};
 use ac_rules::{Rule, Verdict};
 use std::test::Fail;
@@ -152,447 +152,285 @@ const EVEN: Rows<'static> = Rows {
     ..NONE
 };
 
-// What both sources give: the ends of the ids of each list, and a point where `None` comes twice.
-#[derive(Clone, Copy)]
-struct Case<'a> {
-    rows: Rows<'a>,
-    query: &'a str,
-    after: Option<&'a str>,
-    want: &'a str,
-}
+// The token, and what both sources give: the ends of the ids of each list, and a point where `None` comes twice.
+type Case = (
+    Rows<'static>,
+    &'static str,
+    Option<&'static str>,
+    &'static str,
+);
 
-static CASES: [Case<'static>; 43] = [
-    Case {
-        rows: ONE,
-        query: "resources=VCPU:2",
-        after: None,
-        want: "01 /.",
-    },
-    Case {
-        rows: PRINTED,
-        query: "resources=VCPU:2",
-        after: None,
-        want: "01 /.",
-    },
-    Case {
-        rows: NONE,
-        query: "resources=VCPU:2",
-        after: None,
-        want: ".",
-    },
-    Case {
-        rows: HALVES,
-        query: "resources=VCPU:3",
-        after: None,
-        want: "01 /.",
-    },
-    Case {
-        rows: HALVES,
-        query: "resources=VCPU:4",
-        after: None,
-        want: ".",
-    },
-    Case {
-        rows: GREATEST,
-        query: "resources=VCPU:2147483647",
-        after: None,
-        want: "01 /.",
-    },
-    Case {
-        rows: GREATEST_RATIO,
-        query: "resources=VCPU:2147483647",
-        after: None,
-        want: "01 /.",
-    },
-    Case {
-        rows: ALMOST_TWO,
-        query: "resources=VCPU:2",
-        after: None,
-        want: ".",
-    },
-    Case {
-        rows: TWO_HOSTS,
-        query: "resources=VCPU:1,MEMORY_MB:512",
-        after: None,
-        want: "01 01 /.",
-    },
-    Case {
-        rows: OVERUSED,
-        query: "resources=VCPU:2",
-        after: None,
-        want: ".",
-    },
-    Case {
-        rows: PAIR,
-        query: "resources1=VCPU:5&resources2=VCPU:5&group_policy=none",
-        after: None,
-        want: "01 02 /02 01 /.",
-    },
-    Case {
-        rows: PAIR,
-        query: "resources1=VCPU:5&resources2=VCPU:5&group_policy=none",
-        after: Some("@01,@07"),
-        want: "02 01 /.",
-    },
-    Case {
-        rows: PAIR,
-        query: "resources1=VCPU:5&resources2=VCPU:5&group_policy=none",
-        after: Some("@01,@02"),
-        want: "02 01 /.",
-    },
-    Case {
-        rows: PAIR,
-        query: "resources1=VCPU:5&resources2=VCPU:5&group_policy=none",
-        after: Some("@02,@01"),
-        want: ".",
-    },
-    Case {
-        rows: PAIR,
-        query: "resources1=VCPU:5&resources2=VCPU:5&group_policy=none",
-        after: Some("@07,@07"),
-        want: ".",
-    },
-    Case {
-        rows: NARROW,
-        query: "resources1=VCPU:3&resources2=VCPU:3&group_policy=none",
-        after: None,
-        want: ".",
-    },
-    Case {
-        rows: USED,
-        query: "resources=VCPU:1",
-        after: None,
-        want: "01 /.",
-    },
-    Case {
-        rows: USED,
-        query: "resources=VCPU:2",
-        after: None,
-        want: ".",
-    },
-    Case {
-        rows: OVERUSED,
-        query: "resources=VCPU:1",
-        after: None,
-        want: ".",
-    },
-    Case {
-        rows: STRANGERS,
-        query: "resources1=VCPU:5&resources2=VCPU:5&group_policy=none",
-        after: None,
-        want: ".",
-    },
-    Case {
-        rows: EVEN,
-        query: "resources=VCPU:4",
-        after: None,
-        want: "01 /.",
-    },
-    Case {
-        rows: EVEN,
-        query: "resources=VCPU:1",
-        after: None,
-        want: ".",
-    },
-    Case {
-        rows: EVEN,
-        query: "resources=VCPU:3",
-        after: None,
-        want: ".",
-    },
-    Case {
-        rows: SHARED,
-        query: "resources=DISK_GB:10",
-        after: None,
-        want: "09 /.",
-    },
-    Case {
-        rows: SHARED,
-        query: "resources=DISK_GB:10,VCPU:1",
-        after: None,
-        want: "09 01 /09 03 /.",
-    },
-    Case {
-        rows: SHARED,
-        query: "resources=DISK_GB:10,VCPU:1",
-        after: Some("@09,@01"),
-        want: "09 03 /.",
-    },
-    Case {
-        rows: ALONE,
-        query: "resources=DISK_GB:10",
-        after: None,
-        want: "09 /.",
-    },
-    Case {
-        rows: SHARED_SSD,
-        query: "resources=DISK_GB:10,VCPU:1&required=CUSTOM_SSD",
-        after: None,
-        want: "09 01 /09 03 /.",
-    },
-    Case {
-        rows: SHARED_X,
-        query: "resources=DISK_GB:10&root_required=CUSTOM_X",
-        after: None,
-        want: "09 /.",
-    },
-    Case {
-        rows: SHARED_X,
-        query: "resources=DISK_GB:10,VCPU:1&root_required=CUSTOM_X",
-        after: None,
-        want: "09 03 /.",
-    },
-    Case {
-        rows: SHARED_X,
-        query: "resources=DISK_GB:10&root_required=CUSTOM_Y",
-        after: None,
-        want: ".",
-    },
-    Case {
-        rows: SHARED_X,
-        query: "resources=DISK_GB:10,VCPU:1&root_required=CUSTOM_Y",
-        after: None,
-        want: ".",
-    },
-    Case {
-        rows: SIBLINGS,
-        query: "resources=VCPU:1,PGPU:1&required=CUSTOM_A,CUSTOM_B",
-        after: None,
-        want: "03 02 /.",
-    },
-    Case {
-        rows: CHILD,
-        query: "resources=VCPU:1&member_of=@a1",
-        after: None,
-        want: "02 /.",
-    },
-    Case {
-        rows: CHILD,
-        query: "resources1=VCPU:1&member_of1=@a1",
-        after: None,
-        want: ".",
-    },
-    Case {
-        rows: CHILD,
-        query: "resources=VCPU:1&member_of=!@a1",
-        after: None,
-        want: ".",
-    },
-    Case {
-        rows: MEMORY,
-        query: "resources=MEMORY_MB:512&resources1=VCPU:1&resources2=VCPU:1&group_policy=isolate",
-        after: None,
-        want: "01 01 02 /01 02 01 /.",
-    },
-    Case {
-        rows: NUMA,
-        query: "resources_PF=VCPU:1&required_NUMA=HW_NUMA_ROOT&same_subtree=_NUMA,_PF",
-        after: None,
-        want: "02 04 /.",
-    },
-    Case {
-        rows: NUMA,
-        query: "resources_PF=VCPU:1&required_NUMA=!CUSTOM_X&same_subtree=_NUMA,_PF&group_policy=isolate",
-        after: None,
-        want: "01 04 /02 04 /04 04 /.",
-    },
-    Case {
-        rows: MARKED,
-        query: "resources=VCPU:1&root_required=!CUSTOM_OLD",
-        after: None,
-        want: "03 /.",
-    },
-    Case {
-        rows: MARKED,
-        query: "resources=VCPU:1&in_tree=@01",
-        after: None,
-        want: "02 /.",
-    },
-    Case {
-        rows: MARKED,
-        query: "resources=VCPU:1&in_tree=@08",
-        after: None,
-        want: ".",
-    },
-    Case {
-        rows: MARKED,
-        query: "resources=VCPU:1&required=!CUSTOM_OLD",
-        after: None,
-        want: "02 /03 /.",
-    },
+static CASES: [Case; 43] = [
+    (ONE, "resources=VCPU:2", None, "01 /."),
+    (PRINTED, "resources=VCPU:2", None, "01 /."),
+    (NONE, "resources=VCPU:2", None, "."),
+    (HALVES, "resources=VCPU:3", None, "01 /."),
+    (HALVES, "resources=VCPU:4", None, "."),
+    (GREATEST, "resources=VCPU:2147483647", None, "01 /."),
+    (GREATEST_RATIO, "resources=VCPU:2147483647", None, "01 /."),
+    (ALMOST_TWO, "resources=VCPU:2", None, "."),
+    (
+        TWO_HOSTS,
+        "resources=VCPU:1,MEMORY_MB:512",
+        None,
+        "01 01 /.",
+    ),
+    (OVERUSED, "resources=VCPU:2", None, "."),
+    (PAIR, FIVES, None, "01 02 /02 01 /."),
+    (PAIR, FIVES, Some("@01,@07"), "02 01 /."),
+    (PAIR, FIVES, Some("@01,@02"), "02 01 /."),
+    (PAIR, FIVES, Some("@02,@01"), "."),
+    (PAIR, FIVES, Some("@07,@07"), "."),
+    (
+        NARROW,
+        "resources1=VCPU:3&resources2=VCPU:3&group_policy=none",
+        None,
+        ".",
+    ),
+    (USED, "resources=VCPU:1", None, "01 /."),
+    (USED, "resources=VCPU:2", None, "."),
+    (OVERUSED, "resources=VCPU:1", None, "."),
+    (STRANGERS, FIVES, None, "."),
+    (EVEN, "resources=VCPU:4", None, "01 /."),
+    (EVEN, "resources=VCPU:1", None, "."),
+    (EVEN, "resources=VCPU:3", None, "."),
+    (SHARED, "resources=DISK_GB:10", None, "09 /."),
+    (
+        SHARED,
+        "resources=DISK_GB:10,VCPU:1",
+        None,
+        "09 01 /09 03 /.",
+    ),
+    (
+        SHARED,
+        "resources=DISK_GB:10,VCPU:1",
+        Some("@09,@01"),
+        "09 03 /.",
+    ),
+    (ALONE, "resources=DISK_GB:10", None, "09 /."),
+    (
+        SHARED_SSD,
+        "resources=DISK_GB:10,VCPU:1&required=CUSTOM_SSD",
+        None,
+        "09 01 /09 03 /.",
+    ),
+    (
+        SHARED_X,
+        "resources=DISK_GB:10&root_required=CUSTOM_X",
+        None,
+        "09 /.",
+    ),
+    (
+        SHARED_X,
+        "resources=DISK_GB:10,VCPU:1&root_required=CUSTOM_X",
+        None,
+        "09 03 /.",
+    ),
+    (
+        SHARED_X,
+        "resources=DISK_GB:10&root_required=CUSTOM_Y",
+        None,
+        ".",
+    ),
+    (
+        SHARED_X,
+        "resources=DISK_GB:10,VCPU:1&root_required=CUSTOM_Y",
+        None,
+        ".",
+    ),
+    (
+        SIBLINGS,
+        "resources=VCPU:1,PGPU:1&required=CUSTOM_A,CUSTOM_B",
+        None,
+        "03 02 /.",
+    ),
+    (CHILD, "resources=VCPU:1&member_of=@a1", None, "02 /."),
+    (CHILD, "resources1=VCPU:1&member_of1=@a1", None, "."),
+    (CHILD, "resources=VCPU:1&member_of=!@a1", None, "."),
+    (
+        MEMORY,
+        "resources=MEMORY_MB:512&resources1=VCPU:1&resources2=VCPU:1&group_policy=isolate",
+        None,
+        "01 01 02 /01 02 01 /.",
+    ),
+    (
+        NUMA,
+        "resources_PF=VCPU:1&required_NUMA=HW_NUMA_ROOT&same_subtree=_NUMA,_PF",
+        None,
+        "02 04 /.",
+    ),
+    (
+        NUMA,
+        "resources_PF=VCPU:1&required_NUMA=!CUSTOM_X&same_subtree=_NUMA,_PF&group_policy=isolate",
+        None,
+        "01 04 /02 04 /04 04 /.",
+    ),
+    (
+        MARKED,
+        "resources=VCPU:1&root_required=!CUSTOM_OLD",
+        None,
+        "03 /.",
+    ),
+    (MARKED, "resources=VCPU:1&in_tree=@01", None, "02 /."),
+    (MARKED, "resources=VCPU:1&in_tree=@08", None, "."),
+    (
+        MARKED,
+        "resources=VCPU:1&required=!CUSTOM_OLD",
+        None,
+        "02 /03 /.",
+    ),
 ];
 
 // Lists of traits of which one each is asked, and traits that are asked one after another.
-static LISTED: [Case<'static>; 8] = [
-    Case {
-        rows: SIBLINGS,
-        query: "resources=PGPU:1,VCPU:1&required=in:CUSTOM_A,CUSTOM_X&required=CUSTOM_B",
-        after: None,
-        want: "03 02 /.",
-    },
-    Case {
-        rows: SIBLINGS,
-        query: "resources=PGPU:1,VCPU:1&required=in:CUSTOM_X,CUSTOM_Y",
-        after: None,
-        want: ".",
-    },
-    Case {
-        rows: SIBLINGS,
-        query: "resources=PGPU:1,VCPU:1&required=in:CUSTOM_A,CUSTOM_X&required=in:CUSTOM_B,CUSTOM_Y",
-        after: None,
-        want: "03 02 /.",
-    },
-    Case {
-        rows: SIBLINGS,
-        query: "resources=PGPU:1,VCPU:1&required=in:CUSTOM_A,CUSTOM_B&required=in:CUSTOM_Y",
-        after: None,
-        want: ".",
-    },
-    Case {
-        rows: SIBLINGS,
-        query: "resources1=VCPU:1&required1=in:CUSTOM_A,CUSTOM_B",
-        after: None,
-        want: "02 /.",
-    },
-    Case {
-        rows: SIBLINGS,
-        query: "resources1=VCPU:1&required1=in:CUSTOM_B",
-        after: None,
-        want: ".",
-    },
-    Case {
-        rows: SIBLINGS,
-        query: "resources1=VCPU:1&required1=in:CUSTOM_A&required1=in:CUSTOM_B",
-        after: None,
-        want: ".",
-    },
-    Case {
-        rows: SIBLINGS,
-        query: "resources=VCPU:1&required=CUSTOM_A&required=!CUSTOM_A",
-        after: None,
-        want: ".",
-    },
+static LISTED: [Case; 8] = [
+    (
+        SIBLINGS,
+        "resources=PGPU:1,VCPU:1&required=in:CUSTOM_A,CUSTOM_X&required=CUSTOM_B",
+        None,
+        "03 02 /.",
+    ),
+    (
+        SIBLINGS,
+        "resources=PGPU:1,VCPU:1&required=in:CUSTOM_X,CUSTOM_Y",
+        None,
+        ".",
+    ),
+    (
+        SIBLINGS,
+        "resources=PGPU:1,VCPU:1&required=in:CUSTOM_A,CUSTOM_X&required=in:CUSTOM_B,CUSTOM_Y",
+        None,
+        "03 02 /.",
+    ),
+    (
+        SIBLINGS,
+        "resources=PGPU:1,VCPU:1&required=in:CUSTOM_A,CUSTOM_B&required=in:CUSTOM_Y",
+        None,
+        ".",
+    ),
+    (
+        SIBLINGS,
+        "resources1=VCPU:1&required1=in:CUSTOM_A,CUSTOM_B",
+        None,
+        "02 /.",
+    ),
+    (
+        SIBLINGS,
+        "resources1=VCPU:1&required1=in:CUSTOM_B",
+        None,
+        ".",
+    ),
+    (
+        SIBLINGS,
+        "resources1=VCPU:1&required1=in:CUSTOM_A&required1=in:CUSTOM_B",
+        None,
+        ".",
+    ),
+    (
+        SIBLINGS,
+        "resources=VCPU:1&required=CUSTOM_A&required=!CUSTOM_A",
+        None,
+        ".",
+    ),
 ];
 
 #[test]
 fn both_sources_give_the_candidates(rt: HostRuntime) -> Result<(), Fail> {
-    for case in &CASES {
-        let got = gives(rt.alloc(), case.rows, case.query, case.after, 9)?;
-        assert_eq!(rt; got.as_str(), case.want, "{}", case.query);
+    for (rows, query, after, want) in &CASES {
+        let got = gives(rt.alloc(), *rows, query, *after, 9)?;
+        assert_eq!(rt; got.as_str(), *want, "{query}");
     }
     Ok(())
 }
 
 #[test]
 fn both_sources_ask_for_one_trait_of_a_list(rt: HostRuntime) -> Result<(), Fail> {
-    for case in &LISTED {
-        let got = gives(rt.alloc(), case.rows, case.query, case.after, 9)?;
-        assert_eq!(rt; got.as_str(), case.want, "{}", case.query);
+    for (rows, query, after, want) in &LISTED {
+        let got = gives(rt.alloc(), *rows, query, *after, 9)?;
+        assert_eq!(rt; got.as_str(), *want, "{query}");
     }
     Ok(())
 }
 
 // The verdict on the list of some ids.
-#[derive(Clone, Copy)]
-struct Judged<'a> {
-    rows: Rows<'a>,
-    query: &'a str,
-    ids: &'a str,
-    verdict: Verdict,
-}
+type Judged = (Rows<'static>, &'static str, &'static str, Verdict);
 
-static JUDGED: [Judged<'static>; 14] = [
-    Judged {
-        rows: PAIR,
-        query: "resources1=VCPU:5&resources2=VCPU:5&group_policy=none",
-        ids: "@01,@01",
-        verdict: Verdict::Broken(Rule::Sums),
-    },
-    Judged {
-        rows: PAIR,
-        query: "resources1=VCPU:5&resources2=VCPU:5&group_policy=none",
-        ids: "@01,@02",
-        verdict: Verdict::Candidate,
-    },
-    Judged {
-        rows: CHILD,
-        query: "resources1=VCPU:1&member_of1=@a1",
-        ids: "@02",
-        verdict: Verdict::Broken(Rule::Aggregates),
-    },
-    Judged {
-        rows: MEMORY,
-        query: "resources=MEMORY_MB:512&resources1=VCPU:1&resources2=VCPU:1&group_policy=isolate",
-        ids: "@01,@01,@01",
-        verdict: Verdict::Broken(Rule::Isolate),
-    },
-    Judged {
-        rows: NUMA,
-        query: "resources_PF=VCPU:1&required_NUMA=HW_NUMA_ROOT&same_subtree=_NUMA,_PF",
-        ids: "@03,@04",
-        verdict: Verdict::Broken(Rule::Subtree),
-    },
-    Judged {
-        rows: STRANGERS,
-        query: "resources1=VCPU:5&resources2=VCPU:5&group_policy=none",
-        ids: "@01,@03",
-        verdict: Verdict::Broken(Rule::Anchor),
-    },
-    Judged {
-        rows: EVEN,
-        query: "resources=VCPU:1",
-        ids: "@01",
-        verdict: Verdict::Broken(Rule::Units),
-    },
-    Judged {
-        rows: EVEN,
-        query: "resources=VCPU:3",
-        ids: "@01",
-        verdict: Verdict::Broken(Rule::Units),
-    },
-    Judged {
-        rows: OLD_PAIR,
-        query: "resources1=VCPU:1&required1=!CUSTOM_OLD",
-        ids: "@01",
-        verdict: Verdict::Broken(Rule::SlotTraits),
-    },
-    Judged {
-        rows: OLD_PAIR,
-        query: "resources1=VCPU:1&required1=!CUSTOM_OLD&resources2=VCPU:9&group_policy=none",
-        ids: "@01,@02",
-        verdict: Verdict::Broken(Rule::Units),
-    },
-    Judged {
-        rows: MARKED,
-        query: "resources=VCPU:1&in_tree=@08",
-        ids: "@02",
-        verdict: Verdict::Broken(Rule::Tree),
-    },
-    Judged {
-        rows: SIBLINGS,
-        query: "resources=VCPU:1,PGPU:1&required=CUSTOM_A,CUSTOM_X",
-        ids: "@03,@02",
-        verdict: Verdict::Broken(Rule::Collective),
-    },
-    Judged {
-        rows: SIBLINGS,
-        query: "resources=VCPU:1,PGPU:1&required=in:CUSTOM_X,CUSTOM_Y",
-        ids: "@03,@02",
-        verdict: Verdict::Broken(Rule::Collective),
-    },
-    Judged {
-        rows: SIBLINGS,
-        query: "resources1=VCPU:1&required1=in:CUSTOM_B",
-        ids: "@02",
-        verdict: Verdict::Broken(Rule::SlotTraits),
-    },
+static JUDGED: [Judged; 14] = [
+    (PAIR, FIVES, "@01,@01", Verdict::Broken(Rule::Sums)),
+    (PAIR, FIVES, "@01,@02", Verdict::Candidate),
+    (
+        CHILD,
+        "resources1=VCPU:1&member_of1=@a1",
+        "@02",
+        Verdict::Broken(Rule::Aggregates),
+    ),
+    (
+        MEMORY,
+        "resources=MEMORY_MB:512&resources1=VCPU:1&resources2=VCPU:1&group_policy=isolate",
+        "@01,@01,@01",
+        Verdict::Broken(Rule::Isolate),
+    ),
+    (
+        NUMA,
+        "resources_PF=VCPU:1&required_NUMA=HW_NUMA_ROOT&same_subtree=_NUMA,_PF",
+        "@03,@04",
+        Verdict::Broken(Rule::Subtree),
+    ),
+    (STRANGERS, FIVES, "@01,@03", Verdict::Broken(Rule::Anchor)),
+    (
+        EVEN,
+        "resources=VCPU:1",
+        "@01",
+        Verdict::Broken(Rule::Units),
+    ),
+    (
+        EVEN,
+        "resources=VCPU:3",
+        "@01",
+        Verdict::Broken(Rule::Units),
+    ),
+    (
+        OLD_PAIR,
+        "resources1=VCPU:1&required1=!CUSTOM_OLD",
+        "@01",
+        Verdict::Broken(Rule::SlotTraits),
+    ),
+    (
+        OLD_PAIR,
+        "resources1=VCPU:1&required1=!CUSTOM_OLD&resources2=VCPU:9&group_policy=none",
+        "@01,@02",
+        Verdict::Broken(Rule::Units),
+    ),
+    (
+        MARKED,
+        "resources=VCPU:1&in_tree=@08",
+        "@02",
+        Verdict::Broken(Rule::Tree),
+    ),
+    (
+        SIBLINGS,
+        "resources=VCPU:1,PGPU:1&required=CUSTOM_A,CUSTOM_X",
+        "@03,@02",
+        Verdict::Broken(Rule::Collective),
+    ),
+    (
+        SIBLINGS,
+        "resources=VCPU:1,PGPU:1&required=in:CUSTOM_X,CUSTOM_Y",
+        "@03,@02",
+        Verdict::Broken(Rule::Collective),
+    ),
+    (
+        SIBLINGS,
+        "resources1=VCPU:1&required1=in:CUSTOM_B",
+        "@02",
+        Verdict::Broken(Rule::SlotTraits),
+    ),
 ];
 
 #[test]
 fn tells_the_first_rule_that_is_broken(rt: HostRuntime) -> Result<(), Fail> {
-    for case in &JUDGED {
-        let got = verdict_of(rt.alloc(), case.rows, case.query, case.ids)?;
-        assert!(rt; got == Some(case.verdict), "{} {}", case.query, case.ids);
+    for (rows, query, ids, verdict) in &JUDGED {
+        let got = verdict_of(rt.alloc(), *rows, query, ids)?;
+        assert!(rt; got == Some(*verdict), "{query} {ids}");
     }
     Ok(())
 }

@@ -1,28 +1,17 @@
 //! What takes memory, made with each of its growths refused in turn: all candidates, the counts of trees, or want of memory. What a source gives
 //! takes none, so it is given with all growths refused too.
+use super::FIVES;
 use ac_base::NoMemory;
-use ac_example_clouds::{NONE, PAIR, Rows, cloud_of, query_of};
-use ac_query::{Query, Token};
+use ac_example_clouds::{NONE, PAIR, Rows, Scene, scene_of};
 use ac_rules::{Plain, Source};
 use ac_search::{SlotCounts, TreeCounts, Walk, all_slots, fitting_roots, tree_counts};
-use ac_tables::Cloud;
 use std::alloc::{AllocError, Global};
 use std::process::Abort;
 
-// The cloud, the query and a token before all candidates.
-fn given(alloc: Global) -> Result<Option<(Cloud, Query, Token)>, AllocError> {
-    let Some(cloud) = cloud_of(alloc, PAIR)? else {
-        return Ok(None);
-    };
-    let text = "resources1=VCPU:5&resources2=VCPU:5&group_policy=none";
-    let Some(query) = query_of(alloc, text)? else {
-        return Ok(None);
-    };
+// A token before all candidates.
+fn given(alloc: Global) -> Result<Option<Scene>, AllocError> {
     let nil = "00000000000000000000000000000000,00000000000000000000000000000000";
-    match Token::read(alloc, nil, &query) {
-        Ok(token) => Ok(Some((cloud, query, token))),
-        Err(_) => Ok(None),
-    }
+    scene_of(alloc, PAIR, FIVES, Some(nil))
 }
 
 fn gives_both<S: Source>(rt: &impl Abort, source: &mut S) {
@@ -52,10 +41,10 @@ fn mark(alloc: Global) -> Result<Vec<u8>, AllocError> {
 
 #[test]
 fn plain(rt: HostRuntime) {
-    let Ok(Some((cloud, query, token))) = given(rt.alloc()) else {
+    let Ok(Some(scene)) = given(rt.alloc()) else {
         return;
     };
-    match Plain::new(rt.alloc(), &cloud, &query, Some(&token)) {
+    match Plain::new(rt.alloc(), &scene.cloud, &scene.query, scene.token.as_ref()) {
         Ok(mut plain) => gives_both(&rt, &mut plain),
         Err(fault) => assert_eq!(rt; fault, NoMemory),
     }
@@ -63,10 +52,10 @@ fn plain(rt: HostRuntime) {
 
 #[test]
 fn walk(rt: HostRuntime) {
-    let Ok(Some((cloud, query, token))) = given(rt.alloc()) else {
+    let Ok(Some(scene)) = given(rt.alloc()) else {
         return;
     };
-    match Walk::new(rt.alloc(), &cloud, &query, Some(&token)) {
+    match Walk::new(rt.alloc(), &scene.cloud, &scene.query, scene.token.as_ref()) {
         Ok(mut walk) => gives_both(&rt, &mut walk),
         Err(fault) => assert_eq!(rt; fault, NoMemory),
     }
@@ -74,10 +63,11 @@ fn walk(rt: HostRuntime) {
 
 #[test]
 fn plain_takes_no_memory_to_go_on(rt: HostRuntime) {
-    let Ok(Some((cloud, query, token))) = given(rt.alloc()) else {
+    let Ok(Some(scene)) = given(rt.alloc()) else {
         return;
     };
-    let Ok(mut plain) = Plain::new(rt.alloc(), &cloud, &query, Some(&token)) else {
+    let Ok(mut plain) = Plain::new(rt.alloc(), &scene.cloud, &scene.query, scene.token.as_ref())
+    else {
         return;
     };
     let _first = mark(rt.alloc());
@@ -87,10 +77,11 @@ fn plain_takes_no_memory_to_go_on(rt: HostRuntime) {
 
 #[test]
 fn walk_takes_no_memory_to_go_on(rt: HostRuntime) {
-    let Ok(Some((cloud, query, token))) = given(rt.alloc()) else {
+    let Ok(Some(scene)) = given(rt.alloc()) else {
         return;
     };
-    let Ok(mut walk) = Walk::new(rt.alloc(), &cloud, &query, Some(&token)) else {
+    let Ok(mut walk) = Walk::new(rt.alloc(), &scene.cloud, &scene.query, scene.token.as_ref())
+    else {
         return;
     };
     let _first = mark(rt.alloc());
@@ -100,7 +91,7 @@ fn walk_takes_no_memory_to_go_on(rt: HostRuntime) {
 
 #[test]
 fn counts(rt: HostRuntime) {
-    let Ok(Some((cloud, query, _token))) = given(rt.alloc()) else {
+    let Ok(Some(scene)) = given(rt.alloc()) else {
         return;
     };
     // Both slots fit 01 and 02, which are one tree.
@@ -110,7 +101,7 @@ fn counts(rt: HostRuntime) {
         each_slot: 1,
         required_traits: 1,
     };
-    match tree_counts(rt.alloc(), &cloud, &query) {
+    match tree_counts(rt.alloc(), &scene.cloud, &scene.query) {
         Ok(counts) => assert_eq!(rt; counts, want),
         Err(fault) => assert_eq!(rt; fault, NoMemory),
     }
@@ -118,11 +109,11 @@ fn counts(rt: HostRuntime) {
 
 #[test]
 fn hosts(rt: HostRuntime) {
-    let Ok(Some((cloud, query, _token))) = given(rt.alloc()) else {
+    let Ok(Some(scene)) = given(rt.alloc()) else {
         return;
     };
     // Both slots fit 01 and 02, which are one tree.
-    match fitting_roots(rt.alloc(), &cloud, &query) {
+    match fitting_roots(rt.alloc(), &scene.cloud, &scene.query) {
         Ok(fits) => assert_eq!(rt; fits.iter().filter(|fit| **fit).count(), 1),
         Err(fault) => assert_eq!(rt; fault, NoMemory),
     }
@@ -130,11 +121,8 @@ fn hosts(rt: HostRuntime) {
 
 #[test]
 fn counts_of_required_traits(rt: HostRuntime) {
-    let Ok(Some(cloud)) = cloud_of(rt.alloc(), PAIR) else {
-        return;
-    };
-    let text = "resources=VCPU:5&required=in:CUSTOM_A,CUSTOM_B";
-    let Ok(Some(query)) = query_of(rt.alloc(), text) else {
+    let query = "resources=VCPU:5&required=in:CUSTOM_A,CUSTOM_B";
+    let Ok(Some(scene)) = scene_of(rt.alloc(), PAIR, query, None) else {
         return;
     };
     // Nobody has a trait.
@@ -144,7 +132,7 @@ fn counts_of_required_traits(rt: HostRuntime) {
         each_slot: 1,
         required_traits: 0,
     };
-    match tree_counts(rt.alloc(), &cloud, &query) {
+    match tree_counts(rt.alloc(), &scene.cloud, &scene.query) {
         Ok(counts) => assert_eq!(rt; counts, want),
         Err(fault) => assert_eq!(rt; fault, NoMemory),
     }
@@ -152,10 +140,8 @@ fn counts_of_required_traits(rt: HostRuntime) {
 
 #[test]
 fn slots_by_class(rt: HostRuntime) {
-    let Ok(Some(cloud)) = cloud_of(rt.alloc(), FULL) else {
-        return;
-    };
-    let Ok(Some(query)) = query_of(rt.alloc(), "resources1=DISK_GB:5,VCPU:5") else {
+    let query = "resources1=DISK_GB:5,VCPU:5";
+    let Ok(Some(scene)) = scene_of(rt.alloc(), FULL, query, None) else {
         return;
     };
     // The provider has no disk left.
@@ -166,7 +152,7 @@ fn slots_by_class(rt: HostRuntime) {
         tree: 1,
         room: 0,
     };
-    match all_slots(rt.alloc(), &cloud, &query) {
+    match all_slots(rt.alloc(), &scene.cloud, &scene.query) {
         Ok(told) => {
             let Some(first) = told.first() else {
                 assert!(rt; false, "a slot");

@@ -118,49 +118,97 @@ fn push_query(text: &mut String, dice: &mut Dice) -> Result<(), AllocError> {
     })
 }
 
-// Whether both sources give the same in one such cloud.
-fn agree(alloc: Global, dice: &mut Dice, odds: &Odds) -> Result<bool, AllocError> {
-    let mut providers = String::new(alloc);
-    push_providers(&mut providers, alloc, dice)?;
-    let mut inventories = String::new(alloc);
-    let mut usages = String::new(alloc);
-    let mut traits = String::new(alloc);
-    let mut aggregates = String::new(alloc);
-    for ix in 1..=PROVIDERS {
-        for name in ["VCPU", "DISK_GB", "SRIOV_NET_VF"] {
-            if dice.once_in(2) {
-                let total = dice.roll(3).saturating_add(1);
-                push_row(&mut inventories, "@,", ix, 0)?;
-                inventories.push_str(name)?;
-                push_row(&mut inventories, ",#,0,1,3,1,1.0\n", ix, total)?;
-                if dice.once_in(odds.full) {
-                    push_row(&mut usages, "@,", ix, 0)?;
-                    usages.push_str(name)?;
-                    push_row(&mut usages, ",#\n", ix, total)?;
-                }
-            }
-        }
-        if dice.once_in(odds.sharing) {
-            push_row(&mut traits, "@,MISC_SHARES_VIA_AGGREGATE\n", ix, 0)?;
-        }
-        if dice.once_in(odds.member) {
-            push_row(&mut aggregates, "@,", ix, 0)?;
-            aggregates.push_str("@9")?;
-            push_digit(&mut aggregates, dice.roll(odds.aggregates))?;
-            aggregates.push('\n')?;
+// The rows of such a cloud, and its query.
+#[derive(Drop)]
+struct Tight {
+    providers: String,
+    inventories: String,
+    usages: String,
+    traits: String,
+    aggregates: String,
+    query: String,
+}
+
+fn nothing(alloc: Global) -> Tight {
+    Tight {
+        providers: String::new(alloc),
+        inventories: String::new(alloc),
+        usages: String::new(alloc),
+        traits: String::new(alloc),
+        aggregates: String::new(alloc),
+        query: String::new(alloc),
+    }
+}
+
+fn push_stock(
+    tight: &mut Tight,
+    dice: &mut Dice,
+    odds: &Odds,
+    ix: u64,
+    name: &str,
+) -> Result<(), AllocError> {
+    let total = dice.roll(3).saturating_add(1);
+    push_row(&mut tight.inventories, "@,", ix, 0)?;
+    tight.inventories.push_str(name)?;
+    push_row(&mut tight.inventories, ",#,0,1,3,1,1.0\n", ix, total)?;
+    if dice.once_in(odds.full) {
+        push_row(&mut tight.usages, "@,", ix, 0)?;
+        tight.usages.push_str(name)?;
+        push_row(&mut tight.usages, ",#\n", ix, total)?;
+    }
+    Ok(())
+}
+
+fn push_member(text: &mut String, ix: u64, aggregate: u64) -> Result<(), AllocError> {
+    push_row(text, "@,", ix, 0)?;
+    text.push_str("@9")?;
+    push_digit(text, aggregate)?;
+    text.push('\n')
+}
+
+// What a provider has.
+fn push_provider(
+    tight: &mut Tight,
+    dice: &mut Dice,
+    odds: &Odds,
+    ix: u64,
+) -> Result<(), AllocError> {
+    for name in ["VCPU", "DISK_GB", "SRIOV_NET_VF"] {
+        if dice.once_in(2) {
+            push_stock(tight, dice, odds, ix, name)?;
         }
     }
-    let mut query = String::new(alloc);
-    push_query(&mut query, dice)?;
+    if dice.once_in(odds.sharing) {
+        push_row(&mut tight.traits, "@,MISC_SHARES_VIA_AGGREGATE\n", ix, 0)?;
+    }
+    if dice.once_in(odds.member) {
+        push_member(&mut tight.aggregates, ix, dice.roll(odds.aggregates))?;
+    }
+    Ok(())
+}
+
+fn thrown(alloc: Global, dice: &mut Dice, odds: &Odds) -> Result<Tight, AllocError> {
+    let mut tight = nothing(alloc);
+    push_providers(&mut tight.providers, alloc, dice)?;
+    for ix in 1..=PROVIDERS {
+        push_provider(&mut tight, dice, odds, ix)?;
+    }
+    push_query(&mut tight.query, dice)?;
+    Ok(tight)
+}
+
+// Whether both sources give the same in one such cloud.
+fn agree(alloc: Global, dice: &mut Dice, odds: &Odds) -> Result<bool, AllocError> {
+    let tight = thrown(alloc, dice, odds)?;
     let rows = Rows {
-        providers: providers.as_str(),
-        inventories: inventories.as_str(),
-        usages: usages.as_str(),
-        traits: traits.as_str(),
-        aggregates: aggregates.as_str(),
+        providers: tight.providers.as_str(),
+        inventories: tight.inventories.as_str(),
+        usages: tight.usages.as_str(),
+        traits: tight.traits.as_str(),
+        aggregates: tight.aggregates.as_str(),
         ..NONE
     };
-    let text = gives(alloc, rows, query.as_str(), None, 2000)?;
+    let text = gives(alloc, rows, tight.query.as_str(), None, 2000)?;
     Ok(!text.as_str().is_empty())
 }
 

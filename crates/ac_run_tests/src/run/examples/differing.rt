@@ -1,6 +1,6 @@
 //! Where the running service may answer otherwise: for each difference the smallest cloud that it concerns, and beside it one that it doesn't.
-use super::{Case, TOKENS, check};
-use crate::run::{ONE, Rows};
+use super::check;
+use crate::run::{Case, ONE, Rows, TOKENS};
 use ac_run::Command;
 use std::test::Fail;
 

@@ -1,6 +1,6 @@
 //! Explanations of the smallest clouds: one for each way in which a query finds nothing, with the hand count beside each.
-use super::{Case, NODES, OLD, TOKENS, UNDER_A_NODE, check};
-use crate::run::{ONE, Rows};
+use super::{NODES, OLD, UNDER_A_NODE, check};
+use crate::run::{Case, ONE, Rows, TOKENS};
 use ac_query::Version;
 use ac_run::Command;
 use std::test::Fail;

@@ -1,6 +1,6 @@
 //! Which roots of small clouds fit, and what the others lack: the rows are told by hand.
-use super::{Case, TOKENS, check};
-use crate::run::{EMPTY, ONE, Rows};
+use super::check;
+use crate::run::{Case, EMPTY, ONE, Rows, TOKENS};
 use ac_run::Command;
 use std::test::Fail;
 

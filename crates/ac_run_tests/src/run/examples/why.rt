@@ -1,6 +1,8 @@
 //! How far a query comes in the tree of a host: the rows are told by hand.
-use super::{Case, TOKENS, check};
-use crate::run::{EMPTY, Left, ONE, Rows, SOUND, expanded, expect_left, run_texts, texts_of};
+use super::check;
+use crate::run::{
+    Case, EMPTY, Left, ONE, Rows, SOUND, TOKENS, expanded, expect_left, run_texts, texts_of,
+};
 use ac_query::Version;
 use ac_run::{Command, Job};
 use std::alloc::{AllocError, Global};
@@ -385,24 +387,29 @@ fn run_named<'a>(alloc: Global, query: &'a str, host: &'a str) -> Result<Left, A
     run_texts(alloc, &texts, &job, SOUND)
 }
 
-#[test]
-fn names(rt: HostRuntime) -> Result<(), Fail> {
-    let alloc = rt.alloc();
-    let query = "resources=VCPU:9";
-    let rows = expanded(
-        alloc,
+// The query, the host, and what is left: output, line and status.
+static NAMED: [(&str, &str, &str, &str, u8); 4] = [
+    (
+        "resources=VCPU:9",
+        "a, \"b\"",
         "slot,suffix,provider,name,lacks,detail\n\
         1,,@1,\"a, \"\"b\"\"\",units,\"VCPU:9 not within min_unit 1, max_unit 8, step_size 1\"\n\
         ,,@1,\"a, \"\"b\"\"\",,\n\
         1,,@1,\"a, \"\"b\"\"\",units,does not fit\n",
-    )?;
-    let left = run_named(alloc, query, "a, \"b\"")?;
-    expect_left(&rt, &left, rows.as_str(), "", 1, 0);
-    let left = run_named(alloc, query, "twin")?;
-    expect_left(&rt, &left, "", "host: Ambiguous\n", 5, 1);
-    let left = run_named(alloc, query, "Twin")?;
-    expect_left(&rt, &left, "", "host: Unknown\n", 5, 2);
-    let left = run_named(alloc, "resources=VCPU", "twin")?;
-    expect_left(&rt, &left, "", "query: pair 1: BadValue\n", 4, 3);
+        "",
+        1,
+    ),
+    ("resources=VCPU:9", "twin", "", "host: Ambiguous\n", 5),
+    ("resources=VCPU:9", "Twin", "", "host: Unknown\n", 5),
+    ("resources=VCPU", "twin", "", "query: pair 1: BadValue\n", 4),
+];
+
+#[test]
+fn names(rt: HostRuntime) -> Result<(), Fail> {
+    for (number, (query, host, output, line, status)) in NAMED.iter().enumerate() {
+        let left = run_named(rt.alloc(), query, host)?;
+        let output = expanded(rt.alloc(), output)?;
+        expect_left(&rt, &left, output.as_str(), line, *status, number);
+    }
     Ok(())
 }
