@@ -9,7 +9,7 @@ use Rattle.ac_run.specs.Answer.{Task, answer, answer_in, answer_over, refused, t
 use Rattle.ac_run.specs.Draining.{ExplainsReading}
 use Rattle.ac_run.specs.Feeds.{Bytes, TellBytes, too_large}
 use Rattle.ac_run.specs.Jobs.{ExplainsWanted}
-use Rattle.ac_run.specs.Lines.{record_line, too_large_line}
+use Rattle.ac_run.specs.Lines.{too_large_line}
 use Rattle.ac_run.specs.Run.{ExplainsInputs, ExplainsTables, ExplainsUnready, IsStated}
 use Rattle.ac_tables.specs.declared.read.FiveTables.{FiveTables}
 use Rattle.ac_run.specs.declared.refusal.Refusal.{Refusal}

@@ -6,7 +6,7 @@ use Rattle.ac_answers.specs.Writing.{TakesLine}
 use Rattle.ac_base.specs.Devices.{Rises}
 use Rattle.ac_cloud.specs.World.{World}
 use Rattle.ac_query.specs.declared.version.Version.{Version}
-use Rattle.ac_run.specs.Answer.{Outcome, refused, table_refused, tables_in, written}
+use Rattle.ac_run.specs.Answer.{refused, table_refused, tables_in, written}
 use Rattle.ac_run.specs.Feeds.{Bytes, FeedRose, TellBytes, too_large}
 use Rattle.ac_run.specs.Lines.{too_large_line}
 use Rattle.ac_run.specs.Refusals.{line_of, status_of}
@@ -19,7 +19,7 @@ use Rattle.ac_session.specs.Standing.{stop_status}
 use Rattle.ac_session.specs.Turns.{lines_in, session_text}
 use Rattle.ac_session.specs.declared.session.Stop.{Stop}
 use Rattle.ac_session.specs.declared.session.Stop.TheVariants as stop
-use Rattle.ac_tables.specs.Tables.{tables_fault, world_stated}
+use Rattle.ac_tables.specs.Tables.{tables_fault}
 use Rattle.ac_tables.specs.declared.fault.Table.{Table}
 use Rattle.ac_tables.specs.declared.fault.TableFault.{TableFault}
 use Rattle.ac_tables.specs.declared.fault.TableFault.TheVariants as fault

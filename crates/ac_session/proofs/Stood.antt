@@ -1,6 +1,6 @@
 -- A session between its questions: how it goes on, and what is known where it ends.
-use Rattle.std.proofs.Common.{◌≡◌, ◌∙◌, ℕ, ◌+◌, ◌<◌, ◌≤◌, Bool, true, false, List, [], ◌∷◌, ◌++◌, map, length, take, eqb, ltb, Option, Some, None, is_some, position, refl, sym, ap, ap₂, subst, append-nil, append_assoc, arith, length-drop, if◌then◌else◌, IfSome, ◌≢◌}
-use Rattle.std.specs.List.{position_or_len, slice_split}
+use Rattle.std.proofs.Common.{◌≡◌, ◌∙◌, ℕ, ◌+◌, ◌<◌, ◌≤◌, Bool, true, false, List, [], ◌∷◌, ◌++◌, map, length, eqb, ltb, Option, Some, None, refl, sym, ap, subst, append-nil, append_assoc, arith, length-drop, if◌then◌else◌, IfSome, ◌≢◌}
+use Rattle.std.specs.List.{position_or_len}
 use Rattle.std.specs.Io.KnownBytes.{Appends, append_known}
 use Rattle.std.proofs.lemmas.Bool.Decides.{nat_tests}
 use Rattle.std.proofs.lemmas.List.Splits.{slice_split_first, slice_split_none}

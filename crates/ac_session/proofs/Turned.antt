@@ -1,5 +1,5 @@
 -- What claims and releases do, by what is said of them.
-use Rattle.std.proofs.Common.{◌≡◌, ◌∙◌, ℕ, ◌<◌, ◌==◌, length, if◌then◌else◌, Bool, true, false, List, [], Option, Some, None, refl, sym, ap, ap₂, subst}
+use Rattle.std.proofs.Common.{◌≡◌, ◌∙◌, ℕ, ◌<◌, ◌==◌, length, if◌then◌else◌, Bool, true, false, List, [], Option, Some, None, refl, sym, ap, ap₂}
 use Rattle.std.specs.List.{All}
 use Rattle.std.specs.Option.{IfSome, option_map, unwrap_or}
 use Rattle.std.proofs.lemmas.List.Elements.{All-from_recursion}
@@ -19,7 +19,7 @@ use Rattle.ac_rules.specs.declared.verdict.Verdict.{Verdict}
 use Rattle.ac_rules.specs.declared.verdict.Verdict.TheVariants as verdict
 use Rattle.ac_run.specs.Answer.{Outcome, Says, Task, answer_in, past_query}
 use Rattle.ac_run.specs.Jobs.{ExplainsAsked, ExplainsWanted}
-use Rattle.ac_run.specs.Refusals.{line_of, status_of}
+use Rattle.ac_run.specs.Refusals.{status_of}
 use Rattle.ac_run.specs.declared.refusal.Refusal.{Refusal}
 use Rattle.ac_run.specs.declared.refusal.Refusal.TheVariants as why
 use Rattle.ac_session.specs.Laws.{AskingLeavesAll, ClaimTurnsNarrow}

@@ -27,6 +27,7 @@ fn expanded(alloc: Global, text: &str) -> Result<String, AllocError> {
 #[derive(Clone, Copy)]
 struct Turns<'a> {
     providers: &'a [Turn],
+    others: &'a [Turn],
     questions: &'a [Turn],
     out: &'a [Turn],
     err: &'a [Turn],
@@ -34,6 +35,7 @@ struct Turns<'a> {
 
 const SOUND: Turns<'static> = Turns {
     providers: &[],
+    others: &[],
     questions: &[],
     out: &[],
     err: &[],
@@ -54,23 +56,28 @@ fn text_of(alloc: Global, bytes: &[u8]) -> Result<String, AllocError> {
     }
 }
 
-// A session over the three tables.
-fn run_over(
-    alloc: Global,
-    providers: &[u8],
-    questions: &[u8],
-    turns: Turns,
-) -> Result<Left, AllocError> {
-    let inventories = expanded(alloc, INVENTORIES)?;
-    let usages = expanded(alloc, USAGES)?;
+// The texts of the tables and of the questions.
+#[derive(Drop)]
+struct Texts {
+    providers: String,
+    inventories: String,
+    usages: String,
+    questions: String,
+}
+
+// A session over three tables.
+fn run_texts(alloc: Global, texts: &Texts, turns: Turns) -> Result<Left, AllocError> {
     let mut inputs = Inputs {
-        providers: MemFeed::new(providers, turns.providers),
-        inventories: MemFeed::new(inventories.as_bytes(), &[]),
-        usages: Some(MemFeed::new(usages.as_bytes(), &[])),
+        providers: MemFeed::new(texts.providers.as_bytes(), turns.providers),
+        inventories: MemFeed::new(texts.inventories.as_bytes(), turns.others),
+        usages: Some(MemFeed::new(texts.usages.as_bytes(), turns.others)),
         traits: None,
         aggregates: None,
     };
-    let Ok(mut lines) = Lines::new(alloc, MemFeed::new(questions, turns.questions)) else {
+    let Ok(mut lines) = Lines::new(
+        alloc,
+        MemFeed::new(texts.questions.as_bytes(), turns.questions),
+    ) else {
         return Err(AllocError);
     };
     let out = MemSink::new(vec![in alloc; 0u8; 4000]?, turns.out);
@@ -83,11 +90,25 @@ fn run_over(
     })
 }
 
+// A session over these providers and questions.
+fn run_over(
+    alloc: Global,
+    providers: &str,
+    questions: &str,
+    turns: Turns,
+) -> Result<Left, AllocError> {
+    let texts = Texts {
+        providers: expanded(alloc, providers)?,
+        inventories: expanded(alloc, INVENTORIES)?,
+        usages: expanded(alloc, USAGES)?,
+        questions: expanded(alloc, questions)?,
+    };
+    run_texts(alloc, &texts, turns)
+}
+
 // A session over these questions.
 fn run_lines(alloc: Global, questions: &str, turns: Turns) -> Result<Left, AllocError> {
-    let providers = expanded(alloc, PROVIDERS)?;
-    let questions = expanded(alloc, questions)?;
-    run_over(alloc, providers.as_bytes(), questions.as_bytes(), turns)
+    run_over(alloc, PROVIDERS, questions, turns)
 }
 
 // What a session is to leave.

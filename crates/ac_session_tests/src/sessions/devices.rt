@@ -1,5 +1,5 @@
 //! Devices of a session that fail.
-use super::{PROVIDERS, SOUND, Turns, expanded, expect_left, run_lines, run_over};
+use super::{SOUND, Turns, expect_left, run_lines, run_over};
 use ac_base::Turn;
 use std::test::Fail;
 
@@ -56,9 +56,12 @@ fn tables_that_are_refused(rt: HostRuntime) -> Result<(), Fail> {
     };
     let left = run_lines(rt.alloc(), "check\n", turns)?;
     expect_left(&rt, &left, "", "providers: Unreadable\n", 3);
-    let one = expanded(rt.alloc(), PROVIDERS)?;
-    let (front, _) = one.as_bytes().split_at(45);
-    let left = run_over(rt.alloc(), front, b"check\n", SOUND)?;
+    let left = run_over(
+        rt.alloc(),
+        "uuid,root_provider_uuid,parent_provider_uuid\n",
+        "check\n",
+        SOUND,
+    )?;
     expect_left(
         &rt,
         &left,

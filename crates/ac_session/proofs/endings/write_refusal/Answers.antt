@@ -1,4 +1,4 @@
-use Rattle.std.proofs.Common.{arith, sym, subst, List, ℕ}
+use Rattle.std.proofs.Common.{arith, sym, subst}
 use Rattle.std.specs.Prelude.{OnErr, OnOk}
 use Rattle.std.specs.Io.KnownBytes.{Appends}
 use Rattle.ac_base.proofs.Leaving.{part_none}
