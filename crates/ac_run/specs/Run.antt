@@ -4,8 +4,10 @@ use Rattle.std.specs.Io.KnownBytes.{Appends}
 use Rattle.ac_tables.specs.declared.fault.Table.{Table}
 use Rattle.ac_tables.specs.declared.fault.TableFault.{TableFault}
 use Rattle.ac_tables.specs.declared.fault.TableFault.TheVariants as fault
-use Rattle.ac_run.specs.Answer.{Outcome, Task, answer, refused}
-use Rattle.ac_run.specs.Feeds.{Bytes, TellBytes, FeedRose}
+use Rattle.ac_tables.specs.Tables.{tables_fault, world_stated}
+use Rattle.ac_cloud.specs.World.{World}
+use Rattle.ac_run.specs.Answer.{Outcome, Task, answer, refused, tables_in}
+use Rattle.ac_run.specs.Feeds.{Bytes, TellBytes, FeedRose, too_large}
 use Rattle.ac_run.specs.Lines.{unreadable_line}
 use Rattle.ac_run.specs.Refusals.{line_of}
 use Rattle.ac_answers.specs.Writing.{TakesLine}
@@ -29,6 +31,24 @@ ExplainsTables first (why.Token f) = ⊥
 ExplainsTables first (why.Host f) = ⊥
 ExplainsTables first why.Output = ⊥
 ExplainsTables first why.NoMemory = ⊤
+
+-- the tables of these bytes are few enough and have no fault, and they state this world
+pub record IsStated (b : Bytes) (world : World) : Type 0 where
+  pub few : too_large b ≡ None
+  pub fine : tables_fault (tables_in b) ≡ None
+  pub states : world ≡ world_stated (tables_in b)
+
+-- why the tables of feeds state no world: a feed failed, a table has too many bytes, or the tables have a fault; or memory gave out
+abbrev pub ExplainsInputs : {R : Type 0} → (R → Option (List ℕ)) → (R → ℕ) → FiveTables R → FiveTables R → Refusal → Type 0
+ExplainsInputs remaining failures from to (why.Unreadable t) = FeedRose failures from to t
+ExplainsInputs remaining failures from to (why.TooLarge t) = (b : Bytes) → TellBytes remaining from b → too_large b ≡ Some t
+ExplainsInputs remaining failures from to (why.Record t row k) =
+    (b : Bytes) → TellBytes remaining from b → (too_large b ≡ None) × (tables_fault (tables_in b) ≡ Some (fault.At t row k))
+ExplainsInputs remaining failures from to (why.Query f) = ⊥
+ExplainsInputs remaining failures from to (why.Token f) = ⊥
+ExplainsInputs remaining failures from to (why.Host f) = ⊥
+ExplainsInputs remaining failures from to why.Output = ⊥
+ExplainsInputs remaining failures from to why.NoMemory = ⊤
 
 -- why a run ended before its output: a feed failed, or the answer is this very refusal; or memory gave out
 abbrev pub ExplainsUnready : {R : Type 0} → (R → Option (List ℕ)) → (R → ℕ) → Task → FiveTables R → FiveTables R → Refusal → Type 0

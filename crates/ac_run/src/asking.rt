@@ -85,8 +85,10 @@ fn read_token(alloc: Global, text: Option<&str>, query: &Query) -> Result<Option
     }
 }
 
-// The query of a job, then its token.
-fn read_asked(alloc: Global, job: &Job) -> Result<(Query, Option<Token>), Refusal>
+/// The query of a job, then its token.
+pub fn read_asked(alloc: Global, job: &Job) -> Result<(Query, Option<Token>), Refusal>
+    ensures ids { IfOk result (λ asked. option_map ids_of asked.1
+        ≡ ids_given (task_of job.now).token) }
     ensures given { IfOk result (λ asked. is_some asked.1 ≡ is_some (task_of job.now).token) }
     ensures slots { IfOk result (λ asked. IfSome asked.1 (λ token.
         length (ids_of token) ≡ length (slots_of (asked_of asked.0)))) }

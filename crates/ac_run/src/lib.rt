@@ -14,8 +14,12 @@ pub mod running;
 pub mod telling;
 
 pub use ac_query::{Command, Job};
+pub use answering::write_answer;
+pub use asking::{Wanted, read_asked, read_wanted};
 pub use draining::Inputs;
 pub use gathered::run_gathered;
+pub use outputs::push_verdict;
+pub use ready::read_inputs;
 pub use refusal::Refusal;
 pub use running::run;
-pub use telling::tell;
+pub use telling::{push_line, status_of, tell};

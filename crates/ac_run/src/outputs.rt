@@ -53,7 +53,7 @@ pub fn push_verdict<W: Sink>(out: &mut W, verdict: Verdict) -> Result<(), WriteF
 }
 
 /// The line of a rule that is broken, with the first thing by which it is.
-pub fn detailed_line(alloc: Global, rule: Rule, detail: &str) -> Result<String, NoMemory>
+pub(crate) fn detailed_line(alloc: Global, rule: Rule, detail: &str) -> Result<String, NoMemory>
     ensures { IfOk result (λ line. string_bytes line
         ≡ said (broken_name rule ∷ codes ": " ∷ detail.now ∷ newline ∷ [])) }
 {
@@ -62,7 +62,7 @@ pub fn detailed_line(alloc: Global, rule: Rule, detail: &str) -> Result<String, 
 }
 
 /// 0 where a list is a candidate, 1 where it breaks a rule.
-pub fn verdict_status(verdict: Verdict) -> u8
+pub(crate) fn verdict_status(verdict: Verdict) -> u8
     ensures said { result ≡ verdict_status verdict }
     ensures few { result ≤ 1 }
 {
@@ -74,7 +74,7 @@ pub fn verdict_status(verdict: Verdict) -> u8
 
 /// Pushes how much the tables told, a line for each.
 #[tactic(auto, unfolding(crate::specs::Outputs::counts))]
-pub fn push_counts<W: Sink>(out: &mut W, counted: &Counts) -> Result<(), WriteFailed>
+pub(crate) fn push_counts<W: Sink>(out: &mut W, counted: &Counts) -> Result<(), WriteFailed>
     ensures text { Pushes result (W.taken out.old) (W.taken out.new) (W.failures out.old)
         (W.failures out.new) (counts (sizes_of counted.now)) }
     ensures failures { W.failures out.old ≤ W.failures out.new }

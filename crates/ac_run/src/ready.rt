@@ -9,7 +9,7 @@ ghost use Rattle.ac_run.specs.Asking.{HasHost, HasIdForEachSlot, answer_to};
 ghost use Rattle.ac_run.specs.Draining.{texts_shown};
 ghost use Rattle.ac_run.specs.Feeds.{Bytes, TellBytes, too_large};
 ghost use Rattle.ac_run.specs.Jobs.{task_of};
-ghost use Rattle.ac_run.specs.Run.{ExplainsTables, ExplainsUnready};
+ghost use Rattle.ac_run.specs.Run.{ExplainsInputs, ExplainsTables, ExplainsUnready, IsStated};
 
 use crate::asking::{Wanted, read_wanted};
 use crate::draining::{Inputs, Texts, read_tables};
@@ -58,6 +58,19 @@ fn read_cloud(alloc: Global, texts: Texts) -> Result<Cloud, Refusal>
     }
 }
 
+/// Reads the tables in their order: the cloud that they state.
+pub fn read_inputs<R: Feed>(alloc: Global, inputs: &mut Inputs<R>) -> Result<Cloud, Refusal>
+    ensures stated { IfOk result (λ cloud. (b : Bytes) → TellBytes R.remaining inputs.old b
+        → IsStated b (world_of cloud)) }
+    ensures fault { IfErr result (ExplainsInputs R.remaining R.failures inputs.old inputs.new) }
+{
+    let texts = match read_tables(alloc, inputs) {
+        Ok(texts) => texts,
+        Err(refusal) => return Err(refusal),
+    };
+    read_cloud(alloc, texts)
+}
+
 /// Reads the tables in their order, then the query, then the token, and looks for the host.
 pub fn make_ready<R: Feed>(
     alloc: Global,
@@ -72,11 +85,7 @@ pub fn make_ready<R: Feed>(
     ensures fault { IfErr result (ExplainsUnready R.remaining R.failures
         (task_of job.now) inputs.old inputs.new) }
 {
-    let texts = match read_tables(alloc, inputs) {
-        Ok(texts) => texts,
-        Err(refusal) => return Err(refusal),
-    };
-    let cloud = match read_cloud(alloc, texts) {
+    let cloud = match read_inputs(alloc, inputs) {
         Ok(cloud) => cloud,
         Err(refusal) => return Err(refusal),
     };

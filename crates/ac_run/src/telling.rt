@@ -1,5 +1,5 @@
 //! The lines of refusals, pushed piece by piece: they take no memory.
-ghost use Rattle.std.specs.Prelude.{◌≡◌};
+ghost use Rattle.std.specs.Prelude.{◌≡◌, ◌≤◌};
 ghost use Rattle.ac_query.specs.Shown.Faults.{fault_shown};
 ghost use Rattle.ac_run.specs.Lines.{pair_line, group_line, record_line};
 ghost use Rattle.ac_run.specs.Refusals.{line_of, line_of_query, status_of};
@@ -20,8 +20,9 @@ fn push_record_line<E: Sink>(
     row: u32,
     kind: TableKind,
 ) -> Result<(), WriteFailed>
-    ensures { Pushes result (E.taken err.old) (E.taken err.new) (E.failures err.old)
+    ensures text { Pushes result (E.taken err.old) (E.taken err.new) (E.failures err.old)
         (E.failures err.new) (record_line table row kind) }
+    ensures failures { E.failures err.old ≤ E.failures err.new }
 {
     push_pieces(
         err,
@@ -39,8 +40,9 @@ fn push_record_line<E: Sink>(
 // The line of what is wrong with a pair.
 #[tactic(auto, unfolding(crate::specs::Lines::pair_line))]
 fn push_pair_line<E: Sink>(err: &mut E, number: u32, name: &[u8]) -> Result<(), WriteFailed>
-    ensures { Pushes result (E.taken err.old) (E.taken err.new) (E.failures err.old)
+    ensures text { Pushes result (E.taken err.old) (E.taken err.new) (E.failures err.old)
         (E.failures err.new) (pair_line number name.now) }
+    ensures failures { E.failures err.old ≤ E.failures err.new }
 {
     push_pieces(
         err,
@@ -57,8 +59,9 @@ fn push_pair_line<E: Sink>(err: &mut E, number: u32, name: &[u8]) -> Result<(), 
 // The line of what is wrong with a group.
 #[tactic(auto, unfolding(crate::specs::Lines::group_line))]
 fn push_group_line<E: Sink>(err: &mut E, suffix: &[u8], name: &[u8]) -> Result<(), WriteFailed>
-    ensures { Pushes result (E.taken err.old) (E.taken err.new) (E.failures err.old)
+    ensures text { Pushes result (E.taken err.old) (E.taken err.new) (E.failures err.old)
         (E.failures err.new) (group_line suffix.now name.now) }
+    ensures failures { E.failures err.old ≤ E.failures err.new }
 {
     push_pieces(err, &[b"query: group \"", suffix, b"\": ", name, b"\n"])
 }
@@ -66,8 +69,9 @@ fn push_group_line<E: Sink>(err: &mut E, suffix: &[u8], name: &[u8]) -> Result<(
 // The line of a fault of a query.
 #[tactic(auto, unfolding(crate::specs::Lines::query_line, crate::specs::Lines::memory_line))]
 fn push_query_line<E: Sink>(err: &mut E, fault: &QueryFault) -> Result<(), WriteFailed>
-    ensures { Pushes result (E.taken err.old) (E.taken err.new) (E.failures err.old)
+    ensures text { Pushes result (E.taken err.old) (E.taken err.new) (E.failures err.old)
         (E.failures err.new) (line_of_query (fault_shown fault.now)) }
+    ensures failures { E.failures err.old ≤ E.failures err.new }
 {
     match fault {
         QueryFault::QueryTooLong => push_whole(err, b"query: QueryTooLong\n"),
@@ -95,8 +99,9 @@ fn push_query_line<E: Sink>(err: &mut E, fault: &QueryFault) -> Result<(), Write
 
 // A text that is at hand.
 fn push_whole<E: Sink>(err: &mut E, text: &[u8]) -> Result<(), WriteFailed>
-    ensures { Pushes result (E.taken err.old) (E.taken err.new) (E.failures err.old)
+    ensures text { Pushes result (E.taken err.old) (E.taken err.new) (E.failures err.old)
         (E.failures err.new) text.now }
+    ensures failures { E.failures err.old ≤ E.failures err.new }
 {
     match push_all(err, text) {
         Ok(()) => Ok(()),
@@ -104,11 +109,12 @@ fn push_whole<E: Sink>(err: &mut E, text: &[u8]) -> Result<(), WriteFailed>
     }
 }
 
-// The line of a refusal.
+/// Pushes the line of a refusal.
 #[tactic(auto, unfolding(crate::specs::Lines::unreadable_line, crate::specs::Lines::too_large_line, crate::specs::Lines::token_line, crate::specs::Lines::host_line, crate::specs::Lines::memory_line, crate::specs::Lines::output_line))]
-fn push_line<E: Sink>(err: &mut E, refusal: &Refusal) -> Result<(), WriteFailed>
-    ensures { Pushes result (E.taken err.old) (E.taken err.new) (E.failures err.old)
+pub fn push_line<E: Sink>(err: &mut E, refusal: &Refusal) -> Result<(), WriteFailed>
+    ensures text { Pushes result (E.taken err.old) (E.taken err.new) (E.failures err.old)
         (E.failures err.new) (line_of refusal.now) }
+    ensures failures { E.failures err.old ≤ E.failures err.new }
 {
     match refusal {
         Refusal::Unreadable(table) => push_pieces(err, &[table_name(*table), b": Unreadable\n"]),
@@ -125,7 +131,8 @@ fn push_line<E: Sink>(err: &mut E, refusal: &Refusal) -> Result<(), WriteFailed>
     }
 }
 
-fn status_of(refusal: &Refusal) -> u8
+/// The status of a refusal.
+pub fn status_of(refusal: &Refusal) -> u8
     ensures { result ≡ status_of refusal.now }
 {
     match refusal {

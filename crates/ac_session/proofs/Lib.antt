@@ -4,5 +4,8 @@ pub mod Passing
 pub mod Leading
 pub mod Cuts
 pub mod Written
+pub mod Refused
+pub mod Turned
+pub mod Stood
+pub mod Ended
 pub mod UsagesWritten
-pub mod UsagesBack

@@ -12,6 +12,10 @@ behind_status line = if length line == 0 then 10 ∷ [] else 32 ∷ line
 abbrev pub end_line : ℕ → List ℕ → List ℕ
 end_line status line = codes "= " ++ (decimal status ++ behind_status line)
 
+-- what stands before the line of a fault
+abbrev pub mark_of : ℕ → List ℕ
+mark_of status = codes "= " ++ (decimal status ++ 32 ∷ [])
+
 -- what is wrong with a line that asks nothing
 abbrev pub fault_line : LineFault → List ℕ
 fault_line fault.UnknownCommand = codes "session: unknown command\n"

@@ -1,8 +1,25 @@
--- What the law says.
-use Rattle.std.specs.Prelude.{◌≡◌, List, ◌∷◌, ◌++◌, All, false}
+-- What the laws say.
+use Rattle.std.specs.Prelude.{◌≡◌, ◌<◌, ⊤, ℕ, List, ◌∷◌, ◌++◌, All, false, true, codes, length}
 use Rattle.std.specs.List.{join_with_byte}
+use Rattle.std.specs.List.Sorted.{IsStrictlySortedBy}
+use Rattle.std.specs.Map.{keys_of, lookup}
+use Rattle.std.specs.Option.{unwrap_or}
+use Rattle.std.specs.Str.{bytes_eq}
+use Rattle.ac_base.specs.Texts.{text_cmp}
+use Rattle.ac_cloud.specs.Laws.{AreProviders}
+use Rattle.ac_cloud.specs.World.{Provider, World, id_at, provider_at, used_of}
+use Rattle.ac_query.specs.Asked.{Asked as Query}
+use Rattle.ac_query.specs.declared.version.Version.{Version}
+use Rattle.ac_rules.specs.Judge.{is_candidate}
+use Rattle.ac_run.specs.Answer.{past_query, written}
 use Rattle.ac_session.specs.Lines.{behind_line, first_line, is_newline, newline}
-use Rattle.ac_session.specs.Questions.{Text, is_blank, words_of}
+use Rattle.ac_session.specs.Questions.{Asked, Text, job, claim, release, usages, nothing, unknown, wrong_number, is_blank, words_of}
+use Rattle.ac_session.specs.Turns.{answers, assignment_task, claim_line, claim_turn, release_turn, turn_asked}
+use Rattle.ac_session.specs.UsageRows.{usages_fit, usages_text}
+use Rattle.ac_tables.specs.Tables.{amounts_of}
+use Rattle.ac_tables.specs.Tables.Checks.{Row}
+use Rattle.ac_tables.specs.Tables.Rows.{records_of}
+use Rattle.ac_tables.specs.Tables.UsageTable.{usages_said}
 
 -- no byte of a text is a blank
 abbrev pub LacksBlanks : Text → Type 0
@@ -17,3 +34,42 @@ pub record ReadsBack : Type 0 where
   pub words : (first : Text) (others : List Text) → All LacksBlanks (first ∷ others) → words_of (join_with_byte 32 (first ∷ others)) ≡ first ∷ others
   pub line : (text rest : Text) → LacksNewlines text → first_line (text ++ newline ∷ rest) ≡ text
   pub behind : (text rest : Text) → LacksNewlines text → behind_line (text ++ newline ∷ rest) ≡ rest
+
+-- what is asked is neither a claim nor a release
+abbrev pub OnlyAsks : Asked → Type 0
+OnlyAsks (job command query version token host detail) = ⊤
+OnlyAsks (claim query token) = ⊥
+OnlyAsks (release query token) = ⊥
+OnlyAsks usages = ⊤
+OnlyAsks nothing = ⊤
+OnlyAsks unknown = ⊤
+OnlyAsks wrong_number = ⊤
+
+-- What only asks leaves the world as it was.
+abbrev pub AskingLeavesAll : Type 0
+AskingLeavesAll = (version : Version) (world : World) (asked : Asked) → OnlyAsks asked → (turn_asked version world asked).world ≡ world
+
+-- Each candidate behind a claim was one before it, whatever was claimed.
+abbrev pub ClaimTurnsNarrow : Type 0
+ClaimTurnsNarrow = (version : Version) (query token : Text) (world : World) (asked : Query) (list : List ℕ)
+    → is_candidate (claim_turn version query token world).world.providers asked list ≡ true → is_candidate world.providers asked list ≡ true
+
+-- What was claimed, the same words release: the world is as it was before the claim.
+abbrev pub ReleaseTurnUndoes : Type 0
+ReleaseTurnUndoes = (version : Version) (query token : Text) (world : World)
+    → past_query (claim_line world.providers) (assignment_task version query token) ≡ written (codes "claimed\n") 0
+    → release_turn version query token (claim_turn version query token world).world ≡ answers world (written (codes "released\n") 0)
+
+-- how much of a class of a provider a table of usages states: nothing where no row is about it
+abbrev pub amount_stated : List Row → ℕ → List ℕ → ℕ
+amount_stated rows id class = unwrap_or (lookup (bytes_eq class) (amounts_of (usages_said rows) id)) 0
+
+-- the classes of each provider stand in order, each once
+abbrev pub HaveClassesInOrder : List Provider → Type 0
+HaveClassesInOrder all = (ix : ℕ) → ix < length all → IsStrictlySortedBy text_cmp (keys_of (provider_at all ix).entries)
+
+-- The table of usages that is written, read back, states of each class of each provider how much is used.
+abbrev pub UsagesReadBack : Type 0
+UsagesReadBack =
+    (all : List Provider) → AreProviders all → HaveClassesInOrder all → usages_fit all ≡ true
+    → (ix : ℕ) (class : List ℕ) → ix < length all → amount_stated (records_of (usages_text all)) (id_at all ix) class ≡ used_of (provider_at all ix) class

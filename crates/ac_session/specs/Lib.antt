@@ -5,5 +5,7 @@ pub mod Finds
 pub mod Questions
 pub mod EndLines
 pub mod UsageRows
-pub mod UsagesBack
+pub mod Turns
+pub mod Sessions
+pub mod Standing
 pub mod Laws

@@ -1,15 +1,19 @@
-//! The front of a session: lines from a feed, and the question that a line asks.
+//! A session: questions come line by line, and each is answered over the tables as they stand then.
 //!
-//! It knows bytes and words, and nothing of tables, searches or answers.
+//! It knows feeds and sinks, and nothing of command lines or files.
 #![tactic(auto)]
 
 pub mod end_lines;
+mod endings;
 pub mod laws;
 pub mod lines;
 pub mod questions;
+mod session;
+mod turns;
 pub mod usages;
 
 pub use end_lines::LineFault;
 pub use lines::{Lines, Next};
 pub use questions::{Question, read_question};
+pub use session::run_session;
 pub use usages::write_usages;

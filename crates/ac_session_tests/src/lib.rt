@@ -6,4 +6,6 @@ mod lines;
 #[cfg(test)]
 mod questions;
 #[cfg(test)]
+mod sessions;
+#[cfg(test)]
 mod usages;

@@ -1,6 +1,5 @@
 -- The table of usages, written and read back.
-use Rattle.std.proofs.lemmas.Grind.{common_steps}
-use Rattle.std.proofs.Common.{◌≡◌, ◌∙◌, ◌<◌, ◌≤◌, ◌+◌, ◌-◌, ◌*◌, ◌/◌, ◌%◌, ◌^◌, ◌==◌, ℕ, zero, suc, Bool, ◌&&◌, true, false, List, [], ◌∷◌, ◌++◌, map, length, get_or, reverse, Option, Some, None, Less, if◌then◌else◌, nat_le, refl, sym, ap, ap₂, subst, arith, inl, inr, append-nil, append_assoc, length-append}
+use Rattle.std.proofs.Common.{◌≡◌, ◌∙◌, ◌<◌, ◌≤◌, ◌+◌, ◌/◌, ◌%◌, ◌^◌, ◌==◌, ℕ, zero, suc, Bool, ◌&&◌, true, false, List, [], ◌∷◌, ◌++◌, map, length, reverse, Option, Some, None, Less, if◌then◌else◌, nat_le, refl, sym, ap, ap₂, arith, inl, inr, append-nil, length-append}
 use Rattle.std.specs.Cmp.Lexicographic.{bytes_decides}
 use Rattle.std.specs.Fmt.{decimal}
 use Rattle.std.specs.List.{AllByRecursion, filter, flat_map, fold, list_all}
@@ -24,7 +23,7 @@ use Rattle.csv.specs.Reading.{default_config, records_from, strip_bom}
 use Rattle.csv.specs.Writing.{default_writer, fields_text, is_blank, read_back, row_body, row_text}
 use Rattle.csv.specs.declared.parser.State.TheVariants as st
 use Rattle.csv.proofs.RoundTrip.{read-write, rows_text}
-use Rattle.ac_base.specs.Texts.{are_digits, at_most, count_value, greatest, is_digit, number, text_cmp, with_digit}
+use Rattle.ac_base.specs.Texts.{are_digits, count_value, greatest, is_digit, number, text_cmp, with_digit}
 use Rattle.ac_cloud.specs.World.{Provider, UsedInventory, id_at, provider_at}
 use Rattle.ac_query.proofs.WrittenIds.{id_reads}
 use Rattle.ac_tables.specs.Tables.{amounts_of}
@@ -34,7 +33,8 @@ use Rattle.ac_tables.specs.Tables.Rows.{records_of}
 use Rattle.ac_tables.specs.Tables.UsageTable.{UsageRecord, usage_columns, usage_name, usage_said}
 use Rattle.ac_session.specs.UsageRows.{Entry, entries_fit, fits_table, is_used, rows_of_provider, usage_row, usages_fit, usages_text}
 use Rattle.ac_tables.proofs.Sorted.OrderFacts.{order_holds}
-use Rattle.ac_session.specs.UsagesBack.{UsagesReadBack}
+use Rattle.ac_session.specs.Laws.{UsagesReadBack}
+use Rattle.ac_session.proofs.laws.usages_read_back.Goals as goal
 
 -- ---- a number that is written is read as that number
 
@@ -244,7 +244,7 @@ said_here (p ∷ all) (suc ix) order low =
     ∙ ap₂ (λ (a b : List UsageRecord). a ++ b) (of_another (id_at all ix) p.id (filter is_used p.entries) apart)
     (said_here all ix (λ a b less below. order (suc a) (suc b) (omega arith) (omega arith)) (omega arith))
 
-pub usages_read_back : UsagesReadBack
+usages_read_back : UsagesReadBack
 unfolding usages_fit amounts_of
 usages_read_back all order classes fit ix class low =
     let p = provider_at all ix in
@@ -253,3 +253,6 @@ usages_read_back all order classes fit ix class low =
     let here = said_here all ix order.order low in
     let shown : map (λ (u : UsageRecord). (u.class, u.amount)) (said_of p) ≡ pairs p.entries = map-map (λ (u : UsageRecord). (u.class, u.amount)) (said p.id) (filter is_used p.entries) in
     rw (is, say, here, shown) (ap (λ o. unwrap_or o 0) ((order_holds.amounts (pairs p.entries)).last class) ∙ told_is_used class p.entries (classes ix low))
+
+pub returns : goal.returns
+returns c = usages_read_back

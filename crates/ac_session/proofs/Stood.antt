@@ -1,0 +1,197 @@
+-- A session between its questions: how it goes on, and what is known where it ends.
+use Rattle.std.proofs.Common.{◌≡◌, ◌∙◌, ℕ, ◌+◌, ◌<◌, ◌≤◌, Bool, true, false, List, [], ◌∷◌, ◌++◌, map, length, take, eqb, ltb, Option, Some, None, is_some, position, refl, sym, ap, ap₂, subst, append-nil, append_assoc, arith, length-drop, if◌then◌else◌, IfSome, ◌≢◌}
+use Rattle.std.specs.List.{position_or_len, slice_split}
+use Rattle.std.specs.Io.KnownBytes.{Appends, append_known}
+use Rattle.std.proofs.lemmas.Bool.Decides.{nat_tests}
+use Rattle.std.proofs.lemmas.List.Splits.{slice_split_first, slice_split_none}
+use Rattle.std.proofs.lemmas.List.Sums.{fails_before_first}
+use Rattle.ac_base.proofs.Leaving.{appends_both}
+use Rattle.ac_base.specs.Gathered.{IsFirstPart}
+use Rattle.ac_cloud.specs.World.{World}
+use Rattle.ac_query.specs.declared.version.Version.{Version}
+use Rattle.ac_session.proofs.Firsts.{after_missed, before_missed, before_size, place_inside}
+use Rattle.ac_session.specs.Lines.{Given, line, too_long, end, behind_line, first_line, given_first, is_newline, most_bytes, most_passed, without_return}
+use Rattle.ac_session.specs.Reading.{given_by}
+use Rattle.ac_session.specs.Standing.{Stands}
+use Rattle.ac_session.specs.declared.lines.Next.{Next}
+use Rattle.ac_session.specs.declared.lines.Next.TheVariants as next
+use Rattle.ac_session.specs.Turns.{given_line, lines_in, session_text, turn_of}
+
+-- ---- the first line of a text
+
+-- what is given of bytes that are there is their first line
+given_is : (bytes : List ℕ) → 0 < length bytes → given_first bytes ≡ given_line (first_line bytes)
+given_is bytes some =
+    let no : eqb (length bytes) 0 ≡ false = grind (arith, nat_tests) in
+    ap (λ b. if b then end else given_line (first_line bytes)) no
+
+-- an empty line writes nothing and changes nothing
+empty_text : (version : Version) (world : World) → session_text version world (lines_in []) ≡ []
+unfolding lines_in turn_of
+empty_text version world = refl
+
+-- the lines of a text are its first line, and those behind it
+lines_found : (bytes : List ℕ) → position_or_len is_newline bytes < length bytes → lines_in bytes ≡ given_line (first_line bytes) ∷ lines_in (behind_line bytes)
+unfolding lines_in
+lines_found bytes found = ap (map given_line) (slice_split_first is_newline bytes 0 found)
+
+lines_missed : (bytes : List ℕ) → position_or_len is_newline bytes ≡ length bytes → lines_in bytes ≡ given_line (first_line bytes) ∷ []
+unfolding lines_in
+lines_missed bytes missed =
+    ap (map given_line) (slice_split_none is_newline bytes (λ k d inside. fails_before_first is_newline bytes k d (omega arith)))
+    ∙ ap (λ text. given_line text ∷ []) (sym (before_missed is_newline bytes missed))
+
+-- what is written for a text is the turn of its first line, and what is written for the lines behind it
+module _ (version : Version) (world after : World) (bytes : List ℕ) (given : Given) where
+  whole_turn : given_line (first_line bytes) ≡ given → after ≡ (turn_of version world given).world
+      → session_text version world (lines_in bytes) ≡ (turn_of version world given).text ++ session_text version after (lines_in (behind_line bytes))
+  whole_turn same on = by (ltb (position_or_len is_newline bytes) (length bytes)) refl
+    where
+      by : (b : Bool) → ltb (position_or_len is_newline bytes) (length bytes) ≡ b
+          → session_text version world (lines_in bytes) ≡ (turn_of version world given).text ++ session_text version after (lines_in (behind_line bytes))
+      by true e =
+          ap (session_text version world) (lines_found bytes (grind (arith, nat_tests)))
+          ∙ ap (λ g. (turn_of version world g).text ++ session_text version (turn_of version world g).world (lines_in (behind_line bytes))) same
+          ∙ ap (λ w. (turn_of version world given).text ++ session_text version w (lines_in (behind_line bytes))) (sym on)
+      by false e =
+          let inside = place_inside is_newline bytes in
+          let missed : position_or_len is_newline bytes ≡ length bytes = grind (arith, nat_tests) in
+          ap (session_text version world) (lines_missed bytes missed)
+          ∙ ap (λ g. (turn_of version world g).text ++ []) same
+          ∙ ap (λ l. (turn_of version world given).text ++ l) (sym (ap (λ b. session_text version after (lines_in b)) (after_missed is_newline bytes missed) ∙ empty_text version after))
+
+  pub one_turn : given ≡ given_first bytes → 0 < length bytes → after ≡ (turn_of version world given).world
+      → session_text version world (lines_in bytes) ≡ (turn_of version world given).text ++ session_text version after (lines_in (behind_line bytes))
+  one_turn first some on = whole_turn (sym (first ∙ given_is bytes some)) on
+
+-- the end is given of no bytes alone
+no_end : (b : Bool) (l : List ℕ) → end ≡ (if b then too_long else line l) → ⊥
+no_end true l e = cc
+no_end false l e = cc
+
+pub at_end : (bytes : List ℕ) → end ≡ given_first bytes → bytes ≡ []
+at_end [] e = refl
+at_end (x ∷ xs) e = absurd (no_end (ltb most_bytes (length (first_line (x ∷ xs)))) (without_return (first_line (x ∷ xs))) (e ∙ given_is (x ∷ xs) (omega arith)))
+
+pub some_bytes : (bytes : List ℕ) (given : Given) → given ≡ given_first bytes → (given ≡ end → ⊥) → 0 < length bytes
+some_bytes [] given e isnt = absurd (isnt e)
+some_bytes (x ∷ xs) given e isnt = omega arith
+
+-- nothing is left
+pub nothing_left : (version : Version) (world : World) (bytes : List ℕ) → bytes ≡ [] → session_text version world (lines_in bytes) ≡ []
+nothing_left version world bytes e = ap (λ b. session_text version world (lines_in b)) e ∙ empty_text version world
+
+-- ---- what a sink has taken
+
+-- nothing was added
+pub none_added : (a : Option (List ℕ)) (text : List ℕ) → text ≡ [] → Appends a a text
+none_added None text e = tt
+none_added (Some u) text e = sym (append-nil u) ∙ ap (λ l. u ++ l) (sym e)
+
+-- nothing yet
+pub first_none : (a : Option (List ℕ)) (text : List ℕ) → IsFirstPart (append_known a text) a
+first_none None text = tt
+first_none (Some u) text = (text, refl)
+
+-- all of it
+pub first_whole : (a b : Option (List ℕ)) (text : List ℕ) → Appends a b text → IsFirstPart (append_known a text) b
+first_whole None b text h = tt
+first_whole (Some u) None text h = absurd h
+first_whole (Some u) (Some v) text h = ([], sym h ∙ sym (append-nil v))
+
+-- a part of the first of two texts, and the first whole with a part of the second
+pub first_of_first : (a b : Option (List ℕ)) (x y : List ℕ) → IsFirstPart (append_known a x) b → IsFirstPart (append_known a (x ++ y)) b
+first_of_first None b x y h = tt
+first_of_first (Some u) None x y h = absurd h
+first_of_first (Some u) (Some v) x y h = (h.0 ++ y, sym (append_assoc u x y) ∙ ap (λ l. l ++ y) h.1 ∙ append_assoc v h.0 y)
+
+pub first_of_second : (a b c : Option (List ℕ)) (x y : List ℕ) → Appends a b x → IsFirstPart (append_known b y) c → IsFirstPart (append_known a (x ++ y)) c
+first_of_second None b c x y h k = tt
+first_of_second (Some u) None c x y h k = absurd h
+first_of_second (Some u) (Some v) None x y h k = absurd k
+first_of_second (Some u) (Some v) (Some w) x y h k = (k.0, sym (append_assoc u x y) ∙ ap (λ l. l ++ y) (sym h) ∙ k.1)
+
+-- ---- from turn to turn
+
+pub stands_first : (version : Version) (world : World) (questions : List ℕ) (a remains : Option (List ℕ)) → remains ≡ Some questions → Stands version world questions a world remains a 0
+stands_first version world questions a remains e = record {
+  rest = questions;
+  left = e;
+  written = [];
+  taken = none_added a [] refl;
+  text = refl;
+  fewer = omega arith;
+}
+
+module _ (version : Version) (first : World) (questions : List ℕ) (a : Option (List ℕ)) (world : World) (remains b : Option (List ℕ)) (turns : ℕ)
+    (stood : Stands version first questions a world remains b turns) where
+  -- what is left has no more bytes than all
+  pub still_few : length questions < most_passed → length stood.rest < most_passed
+  still_few few = omega (arith, stood.fewer)
+
+  pub stands_on : (next : World) (left c : Option (List ℕ)) → Stands version world stood.rest b next left c 1 → Stands version first questions a next left c (turns + 1)
+  stands_on next left c more = record {
+    rest = more.rest;
+    left = more.left;
+    written = stood.written ++ more.written;
+    taken = appends_both a b c stood.written more.written stood.taken more.taken;
+    text = stood.text ∙ ap (λ l. stood.written ++ l) more.text ∙ sym (append_assoc stood.written more.written (session_text version next (lines_in more.rest)));
+    fewer = omega (arith, stood.fewer, more.fewer);
+  }
+
+  -- the others are answered as well
+  pub stands_end : (c : Option (List ℕ)) → Appends b c (session_text version world (lines_in stood.rest)) → Appends a c (session_text version first (lines_in questions))
+  stands_end c on = subst (Appends a c) (sym stood.text) (appends_both a b c stood.written (session_text version world (lines_in stood.rest)) stood.taken on)
+
+  -- or a part of them
+  pub stands_part : (c : Option (List ℕ)) → IsFirstPart (append_known b (session_text version world (lines_in stood.rest))) c
+      → IsFirstPart (append_known a (session_text version first (lines_in questions))) c
+  stands_part c part =
+      subst (λ text. IsFirstPart (append_known a text) c) (sym stood.text) (first_of_second a b c stood.written (session_text version world (lines_in stood.rest)) stood.taken part)
+
+  -- no text has so many questions
+  pub too_many : most_passed ≤ turns → length questions < most_passed → ⊥
+  too_many many few = omega (arith, stood.fewer)
+
+-- what a reader gave, where it is neither the end nor a failure
+pub given_there : (n : Next) → (n ≡ next.End → ⊥) → (n ≡ next.Failed → ⊥) → (given : Given) × (given_by n ≡ Some given) × (given ≡ end → ⊥)
+given_there (next.Line bytes) more fine = (line bytes.now, refl, λ e. cc)
+given_there next.TooLong more fine = (too_long, refl, λ e. cc)
+given_there next.End more fine = absurd (more refl)
+given_there next.Failed more fine = absurd (fine refl)
+
+-- the end was given of nothing
+pub end_given : (version : Version) (world : World) (a old : Option (List ℕ)) (q : List ℕ) → old ≡ Some q → IfSome old (λ bytes. end ≡ given_first bytes)
+    → Appends a a (session_text version world (lines_in q))
+end_given version world a old q e h = none_added a _ (nothing_left version world q (at_end q (subst (λ (known : Option (List ℕ)). IfSome known (λ bytes. end ≡ given_first bytes)) e h)))
+
+-- a line was given of these questions
+module _ (version : Version) (world : World) (q : List ℕ) (a c old : Option (List ℕ)) (told : Option Given) (given : Given) (is : told ≡ Some given) (isnt : given ≡ end → ⊥) (known : old ≡ Some q)
+    (gives : IfSome old (λ bytes. IfSome told (λ given. given ≡ given_first bytes))) where
+  is_first : given ≡ given_first q
+  is_first =
+      subst (λ (g : Option Given). IfSome g (λ given. given ≡ given_first q)) is
+      (subst (λ (b : Option (List ℕ)). IfSome b (λ bytes. IfSome told (λ given. given ≡ given_first bytes))) known gives)
+
+  -- a part of its answer is a part of all answers
+  pub line_part : IsFirstPart (append_known a (turn_of version world given).text) c → IsFirstPart (append_known a (session_text version world (lines_in q))) c
+  line_part h =
+      subst (λ (text : List ℕ). IsFirstPart (append_known a text) c)
+      (sym (one_turn version world (turn_of version world given).world q given is_first (some_bytes q given is_first isnt) refl))
+      (first_of_first a c (turn_of version world given).text (session_text version (turn_of version world given).world (lines_in (behind_line q))) h)
+
+  -- and then what is behind it is left
+  pub line_stands : (after : World) (remains : Option (List ℕ)) → (told ≢ None → IfSome old (λ bytes. length (first_line bytes) < most_passed → remains ≡ Some (behind_line bytes)))
+      → length q < most_passed → Appends a c (turn_of version world given).text → after ≡ (turn_of version world given).world → Stands version world q a after remains c 1
+  line_stands after remains behind few taken on =
+      let some = some_bytes q given is_first isnt in
+      let short : length (first_line q) < most_passed = omega (arith, before_size is_newline q, place_inside is_newline q) in
+      let left = subst (λ (b : Option (List ℕ)). IfSome b (λ bytes. length (first_line bytes) < most_passed → remains ≡ Some (behind_line bytes))) known (behind (λ none. let both : Some given ≡ None = sym is ∙ none in cc)) in
+      record {
+        rest = behind_line q;
+        left = left short;
+        written = (turn_of version world given).text;
+        taken = taken;
+        text = one_turn version world after q given is_first some on;
+        fewer = omega (arith, length-drop (position_or_len is_newline q + 1) q);
+      }

@@ -1,0 +1,39 @@
+-- Where a session stands between its questions.
+use Rattle.std.specs.Prelude.{◌≡◌, ℕ, ◌+◌, ◌≤◌, List, ◌++◌, length, Option, Some}
+use Rattle.std.specs.Io.KnownBytes.{Appends}
+use Rattle.ac_cloud.specs.World.{World}
+use Rattle.ac_query.specs.declared.version.Version.{Version}
+use Rattle.ac_run.specs.Answer.{Outcome, refused}
+use Rattle.ac_run.specs.Lines.{memory_line, output_line}
+use Rattle.ac_run.specs.Refusals.{line_of, status_of}
+use Rattle.ac_run.specs.declared.refusal.Refusal.{Refusal}
+use Rattle.ac_run.specs.declared.refusal.Refusal.TheVariants as why
+use Rattle.ac_session.specs.Sessions.{questions_line}
+use Rattle.ac_session.specs.Turns.{lines_in, session_text}
+use Rattle.ac_session.specs.declared.session.Stop.{Stop}
+use Rattle.ac_session.specs.declared.session.Stop.TheVariants as stop
+
+-- After so many turns the first questions of a text are answered, and the others are left: the bytes that were taken and the answers to what is left are
+-- the answers to the whole text.
+pub record Stands (version : Version) (first : World) (questions : List ℕ) (before : Option (List ℕ)) (world : World) (remains after : Option (List ℕ)) (turns : ℕ) : Type 0 where
+  pub rest : List ℕ
+  pub left : remains ≡ Some rest
+  pub written : List ℕ
+  pub taken : Appends before after written
+  pub text : session_text version first (lines_in questions) ≡ written ++ session_text version world (lines_in rest)
+  pub fewer : length rest + turns ≤ length questions
+
+-- an outcome is this refusal; of want of memory nothing is said
+abbrev pub IsRefusal : Refusal → Outcome → Type 0
+IsRefusal refusal o = (refusal ≡ why.NoMemory → ⊥) → o ≡ refused (line_of refusal) (status_of refusal)
+
+-- the line that tells why a session stopped, and its status
+abbrev pub stop_line : Stop → List ℕ
+stop_line stop.Questions = questions_line
+stop_line stop.Output = output_line
+stop_line stop.NoMemory = memory_line
+
+abbrev pub stop_status : Stop → ℕ
+stop_status stop.Questions = 3
+stop_status stop.Output = 6
+stop_status stop.NoMemory = 7

@@ -1,0 +1,229 @@
+//! A session: questions from a feed, each answered whole before the next is read.
+ghost use Rattle.std.specs.Prelude.{◌≡◌, ◌≢◌, ◌≤◌, ◌<◌, ◌⊎◌, ℕ, List, ◌∷◌, [], Contains, Err, Ok, OnErr, OnOk, Option, Some, length};
+ghost use Rattle.std.specs.Io.KnownBytes.{Appends, Keeps, append_known};
+ghost use Rattle.ac_answers.specs.Writing.{TakesLine};
+ghost use Rattle.ac_base.specs.Devices.{Rises};
+ghost use Rattle.ac_base.specs.Gathered.{IsFirstPart};
+ghost use Rattle.ac_cloud.specs.Cloud.CloudWorld.{world_of};
+ghost use Rattle.ac_report.specs.declared.fault.PageFault.TheVariants as PageFault;
+ghost use Rattle.ac_run.specs.Feeds.{Bytes, FeedRose, TellBytes};
+ghost use Rattle.ac_run.specs.Lines.{memory_line, output_line};
+ghost use Rattle.ac_run.specs.Run.{FailsOr, IsAnswered, IsRefused, IsUnread};
+ghost use Rattle.ac_session.specs.Lines.{Given, most_passed};
+ghost use Rattle.ac_session.specs.Reading.{feed_in, given_by, left};
+ghost use Rattle.ac_session.specs.Sessions.{AreUnread, session_answer};
+ghost use Rattle.ac_session.specs.Standing.{Stands, stop_line, stop_status};
+ghost use Rattle.ac_session.specs.Turns.{lines_in, session_text, turn_of};
+ghost use Rattle.ac_session.specs.declared.session.Step.TheVariants as Step;
+ghost use Rattle.ac_session.specs.declared.session.Stop.TheVariants as Stop;
+ghost use Rattle.ac_tables.specs.declared.fault.Table.{Table};
+
+use crate::lines::{Lines, Next};
+use crate::turns::answer_next;
+use ac_base::{Feed, Gathering, Sink, push_all};
+use ac_query::Version;
+use ac_report::PageFault;
+use ac_run::{Inputs, Refusal, read_inputs, tell};
+use ac_tables::Cloud;
+use std::alloc::Global;
+
+// How many bytes of an answer are gathered before they are handed on.
+const ROOM: usize = 65536;
+
+/// Why a session stops before its questions are at their end.
+#[derive(Clone, Copy)]
+enum Stop {
+    /// The feed of the questions failed.
+    Questions,
+    /// The output failed.
+    Output,
+    /// A growth was refused.
+    NoMemory,
+}
+
+/// How a session goes on.
+#[derive(Clone, Copy)]
+enum Step {
+    /// A line was answered, and the next may be read.
+    Answered,
+    /// No line is left.
+    AtEnd,
+    Stopped(Stop),
+}
+
+// Answers what a reader of lines gave, and hands the answer on whole.
+fn hand_on<W: Sink + Drop>(
+    alloc: Global,
+    cloud: &mut Cloud,
+    version: Version,
+    next: Next<'_>,
+    out: W,
+) -> (Result<(), PageFault>, W)
+    ensures ok { (given : Given) → given_by next.entry ≡ Some given → OnOk result.0 (Appends (W.taken out)
+        (W.taken result.1) (turn_of version (world_of cloud.old) given).text) }
+    ensures world { (given : Given) → given_by next.entry ≡ Some given → OnOk result.0 (world_of cloud.new
+        ≡ (turn_of version (world_of cloud.old) given).world) }
+    ensures part { (given : Given) → given_by next.entry ≡ Some given → IsFirstPart (append_known (W.taken out)
+        (turn_of version (world_of cloud.old) given).text) (W.taken result.1) }
+    ensures failed { result.0 ≡ Err PageFault.WriteFailed
+        → Rises (W.failures out) (W.failures result.1) }
+    ensures failures { W.failures out ≤ W.failures result.1 }
+{
+    let Ok(room) = vec![in alloc; 0u8; ROOM] else {
+        return (Err(PageFault::NoMemory), out);
+    };
+    let mut gathering = Gathering::new(out, room);
+    match answer_next(alloc, cloud, version, next, &mut gathering) {
+        Ok(()) => match gathering.finish() {
+            (Ok(()), out) => (Ok(()), out),
+            (Err(_), out) => (Err(PageFault::WriteFailed), out),
+        },
+        Err(fault) => (Err(fault), gathering.into_inner()),
+    }
+}
+
+// Reads a line, and answers it.
+fn answer_line<Q: Feed, W: Sink + Drop>(
+    alloc: Global,
+    cloud: &mut Cloud,
+    version: Version,
+    lines: &mut Lines<Q>,
+    out: W,
+) -> (Step, W)
+    ensures stands { result.0 ≡ Step.Answered → (q : List ℕ)
+        → left Q.remaining lines.old ≡ Some q → length q < most_passed
+        → Stands version (world_of cloud.old) q (W.taken out) (world_of cloud.new)
+        (left Q.remaining lines.new) (W.taken result.1) 1 }
+    ensures over { result.0 ≡ Step.AtEnd → (q : List ℕ) → left Q.remaining lines.old ≡ Some q
+        → Appends (W.taken out) (W.taken result.1)
+        (session_text version (world_of cloud.old) (lines_in q)) }
+    ensures part { (q : List ℕ) → left Q.remaining lines.old ≡ Some q → length q < most_passed
+        → IsFirstPart (append_known (W.taken out)
+        (session_text version (world_of cloud.old) (lines_in q))) (W.taken result.1) }
+    ensures unread { result.0 ≡ Step.Stopped Stop.Questions
+        → Rises (Q.failures (feed_in lines.old)) (Q.failures (feed_in lines.new)) }
+    ensures unwritten { result.0 ≡ Step.Stopped Stop.Output
+        → Rises (W.failures out) (W.failures result.1) }
+    ensures asked { Q.failures (feed_in lines.old) ≤ Q.failures (feed_in lines.new) }
+    ensures failures { W.failures out ≤ W.failures result.1 }
+{
+    let next = lines.next();
+    match next {
+        Next::End => (Step::AtEnd, out),
+        Next::Failed => (Step::Stopped(Stop::Questions), out),
+        _ => match hand_on(alloc, cloud, version, next, out) {
+            (Ok(()), out) => (Step::Answered, out),
+            (Err(PageFault::WriteFailed), out) => (Step::Stopped(Stop::Output), out),
+            (Err(PageFault::NoMemory), out) => (Step::Stopped(Stop::NoMemory), out),
+        },
+    }
+}
+
+// Answers one line after another, up to their end.
+fn answer_lines<Q: Feed, W: Sink + Drop>(
+    alloc: Global,
+    cloud: &mut Cloud,
+    version: Version,
+    lines: &mut Lines<Q>,
+    out: W,
+) -> (Result<(), Stop>, W)
+    ensures ok { OnOk result.0 ((q : List ℕ) → left Q.remaining lines.old ≡ Some q
+        → length q < most_passed → Appends (W.taken out) (W.taken result.1)
+        (session_text version (world_of cloud.old) (lines_in q))) }
+    ensures part { (q : List ℕ) → left Q.remaining lines.old ≡ Some q → length q < most_passed
+        → IsFirstPart (append_known (W.taken out)
+        (session_text version (world_of cloud.old) (lines_in q))) (W.taken result.1) }
+    ensures unread { result.0 ≡ Err Stop.Questions
+        → Rises (Q.failures (feed_in lines.old)) (Q.failures (feed_in lines.new)) }
+    ensures unwritten { result.0 ≡ Err Stop.Output
+        → Rises (W.failures out) (W.failures result.1) }
+{
+    let mut out = out;
+    'turns: for _ in 0..u64::MAX {
+        let (step, rest) = answer_line(alloc, cloud, version, lines, out);
+        out = rest;
+        match step {
+            Step::Answered => {}
+            Step::AtEnd => return (Ok(()), out),
+            Step::Stopped(stop) => return (Err(stop), out),
+        }
+    }
+    (Ok(()), out)
+}
+
+// Tells why a session stopped, and answers its status.
+#[tactic(auto, unfolding(crate::specs::Sessions::questions_line))]
+fn tell_stop<E: Sink>(err: &mut E, stop: Stop) -> u8
+    ensures line { TakesLine (E.taken err.old) (E.taken err.new) (E.failures err.old)
+        (E.failures err.new) (stop_line stop) }
+    ensures status { result ≡ stop_status stop }
+{
+    match stop {
+        Stop::Questions => {
+            let _ = push_all(err, b"questions: Unreadable\n");
+            3
+        }
+        Stop::Output => tell(err, &Refusal::Output),
+        Stop::NoMemory => tell(err, &Refusal::NoMemory),
+    }
+}
+
+/// Runs a session: reads the tables in their order, then one line of questions after another, and hands on each answer whole before the next line is read.
+/// Answers the status and the output sink.
+///
+/// 0: the questions are at their end; 3: a table or its reading refused, or the questions can't be read; 6: the output failed; 7: want of memory.
+/// With 3 to 7 a line on the error sink says so. Its memory doesn't grow with the number of questions.
+pub fn run_session<R: Feed, Q: Feed, W: Sink + Drop, E: Sink>(
+    alloc: Global,
+    version: Version,
+    inputs: &mut Inputs<R>,
+    lines: &mut Lines<Q>,
+    out: W,
+    err: &mut E,
+) -> (u8, W)
+    // Where memory suffices and no device fails: exactly the answers, or the refusal of the tables, and the status.
+    ensures answered { result.0 ≢ 7
+        → ((t : Table) → FeedRose R.failures inputs.old inputs.new t → ⊥)
+        → (Rises (Q.failures (feed_in lines.old)) (Q.failures (feed_in lines.new)) → ⊥)
+        → (Rises (W.failures out) (W.failures result.1) → ⊥)
+        → (Rises (E.failures err.old) (E.failures err.new) → ⊥)
+        → (b : Bytes) → TellBytes R.remaining inputs.old b
+        → (q : List ℕ) → left Q.remaining lines.old ≡ Some q → length q < most_passed
+        → IsAnswered (session_answer version b q) (W.taken out) (W.taken result.1)
+        (E.taken err.old) (E.taken err.new) result.0 }
+
+    // Whatever the devices do: what each status says.
+    ensures written { result.0 ≡ 0 → (b : Bytes) → TellBytes R.remaining inputs.old b
+        → (q : List ℕ) → left Q.remaining lines.old ≡ Some q → length q < most_passed
+        → IsAnswered (session_answer version b q) (W.taken out) (W.taken result.1)
+        (E.taken err.old) (E.taken err.new) result.0 }
+    ensures unread { result.0 ≡ 3
+        → AreUnread (Rises (Q.failures (feed_in lines.old)) (Q.failures (feed_in lines.new)))
+        (E.taken err.old) (E.taken err.new) (E.failures err.old) (E.failures err.new)
+        ⊎ ((failed : Option Table)
+        × FailsOr (λ t. IsUnread (FeedRose R.failures inputs.old inputs.new t) t
+        (E.taken err.old) (E.taken err.new) (E.failures err.old) (E.failures err.new))
+        ((b : Bytes) → TellBytes R.remaining inputs.old b → (q : List ℕ)
+        → IsRefused (session_answer version b q) (E.taken err.old) (E.taken err.new)
+        (E.failures err.old) (E.failures err.new) result.0)
+        failed) }
+    ensures output { result.0 ≡ 6 → Rises (W.failures out) (W.failures result.1)
+        × TakesLine (E.taken err.old) (E.taken err.new)
+        (E.failures err.old) (E.failures err.new) output_line }
+    ensures memory { result.0 ≡ 7 → TakesLine (E.taken err.old) (E.taken err.new)
+        (E.failures err.old) (E.failures err.new) memory_line }
+    ensures part { (b : Bytes) → TellBytes R.remaining inputs.old b
+        → (q : List ℕ) → left Q.remaining lines.old ≡ Some q → length q < most_passed
+        → IsFirstPart (append_known (W.taken out) (session_answer version b q).output)
+        (W.taken result.1) }
+    ensures status { Contains (0 ∷ 3 ∷ 6 ∷ 7 ∷ []) result.0 }
+{
+    let mut cloud = match read_inputs(alloc, inputs) {
+        Ok(cloud) => cloud,
+        Err(refusal) => return (tell(err, &refusal), out),
+    };
+    match answer_lines(alloc, &mut cloud, version, lines, out) {
+        (Ok(()), out) => (0, out),
+        (Err(stop), out) => (tell_stop(err, stop), out),
+    }
+}

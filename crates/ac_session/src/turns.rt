@@ -1,0 +1,284 @@
+//! The answer to a question, with what it changes.
+ghost use Rattle.std.specs.Prelude.{◌≡◌, ◌≤◌, ◌<◌, IfErr, IfOk, IfSome, OnErr, OnOk, Err, Some, length, option_map};
+ghost use Rattle.std.specs.Io.KnownBytes.{Appends};
+ghost use Rattle.std.specs.List.{All};
+ghost use Rattle.ac_base.specs.Devices.{Rises, TakesPart};
+ghost use Rattle.ac_cloud.specs.Cloud.CloudWorld.{providers_of, world_of};
+ghost use Rattle.ac_query.specs.Asked.{slots_of};
+ghost use Rattle.ac_query.specs.Jobs.{HasToken};
+ghost use Rattle.ac_query.specs.Laws.Gathered.{asked_by};
+ghost use Rattle.ac_query.specs.Pairs.{pairs_of};
+ghost use Rattle.ac_query.specs.Pairs.Values.{ids_value};
+ghost use Rattle.ac_query.specs.Shown.Queries.{asked_of as shown};
+ghost use Rattle.ac_report.specs.declared.fault.PageFault.TheVariants as PageFault;
+ghost use Rattle.ac_run.specs.Answer.{Says, answer_in, past_query, written};
+ghost use Rattle.ac_run.specs.Outputs.{verdict_text};
+ghost use Rattle.ac_run.specs.Jobs.{ExplainsAsked, task_of};
+ghost use Rattle.ac_session.specs.Questions.{HasItsToken, asked_in};
+ghost use Rattle.ac_session.specs.Lines.{Given};
+ghost use Rattle.ac_session.specs.Reading.{given_by};
+ghost use Rattle.ac_session.specs.Turns.{answer_text, assignment_task, claim_said, claim_turn, places_named, release_said, release_turn, turn_asked, turn_of};
+ghost use Rattle.ac_session.specs.UsageRows.{usage_rows};
+
+use crate::end_lines::LineFault;
+use crate::endings::{end_answer, write_fault, write_refusal, write_said};
+use crate::lines::Next;
+use crate::questions::{Question, read_question};
+use crate::usages::write_usages;
+use ac_base::{NoMemory, Sink};
+use ac_query::{Command, Job, Query, Version};
+use ac_report::PageFault;
+use ac_rules::{InCloud, Verdict, claim, release};
+use ac_run::{Refusal, push_verdict, read_asked, read_wanted, write_answer};
+use ac_tables::Cloud;
+use std::alloc::Global;
+
+// The answer to a job.
+fn answer_job<W: Sink>(
+    alloc: Global,
+    cloud: &Cloud,
+    job: &Job,
+    out: &mut W,
+) -> Result<(), PageFault>
+    requires { HasToken job.now.command (option_map (λ token. token.now) job.now.token) }
+    ensures ok { OnOk result (Appends (W.taken out.old) (W.taken out.new)
+        (answer_text (answer_in job.now.command (task_of job.now) (world_of cloud.now)))) }
+    ensures part { OnErr result (TakesPart (W.taken out.old) (W.taken out.new)
+        (answer_text (answer_in job.now.command (task_of job.now) (world_of cloud.now)))) }
+    ensures failed { result ≡ Err PageFault.WriteFailed
+        → Rises (W.failures out.old) (W.failures out.new) }
+    ensures failures { W.failures out.old ≤ W.failures out.new }
+{
+    match read_wanted(alloc, job, cloud) {
+        Ok(wanted) => {
+            let status = write_answer(alloc, cloud, &wanted, out)?;
+            end_answer(out, status)
+        }
+        Err(refusal) => write_refusal(out, &refusal),
+    }
+}
+
+// The query of a claim or a release, and the places of the providers that its token names, where each is there.
+fn read_assignment<'a>(
+    alloc: Global,
+    cloud: &Cloud,
+    version: Version,
+    query: &'a str,
+    token: &'a str,
+) -> Result<(Query, Option<Vec<u32>>), Refusal>
+    ensures asked { IfOk result (λ read. shown read.0 ≡ asked_by version (pairs_of query.now)) }
+    ensures list { IfOk result (λ read. option_map (λ list. list.items) read.1
+        ≡ places_named (providers_of cloud.now) token.now) }
+    ensures said { IfOk result (λ read. (say : Says)
+        → past_query say (assignment_task version query.now token.now)
+        ≡ say (shown read.0) (ids_value token.now)) }
+    ensures slots { IfOk result (λ read. IfSome read.1 (λ list.
+        length list.items ≡ length (slots_of (shown read.0)))) }
+    ensures providers { IfOk result (λ read. IfSome read.1 (λ list.
+        All (λ p. p < length (providers_of cloud.now)) list.items)) }
+    ensures fault { IfErr result
+        (ExplainsAsked (assignment_task version query.now token.now)) }
+{
+    let job = Job {
+        command: Command::Verify,
+        query,
+        version,
+        token: Some(token),
+        host: None,
+        detail: false,
+    };
+    let (query, token) = read_asked(alloc, &job)?;
+    let Some(token) = token else {
+        unreachable!();
+    };
+    match token.locate(alloc, cloud) {
+        Ok(list) => Ok((query, list)),
+        Err(NoMemory) => Err(Refusal::NoMemory),
+    }
+}
+
+// The rule that a list breaks, as `verify` tells it.
+#[tactic(auto, using(ac_base::proofs::Leaving::appends_both, ac_base::proofs::Leaving::part_of_first, ac_base::proofs::Leaving::part_of_second))]
+fn write_verdict<W: Sink>(verdict: Verdict, out: &mut W) -> Result<(), PageFault>
+    ensures ok { OnOk result (Appends (W.taken out.old) (W.taken out.new)
+        (answer_text (written (verdict_text verdict) 1))) }
+    ensures part { OnErr result (TakesPart (W.taken out.old) (W.taken out.new)
+        (answer_text (written (verdict_text verdict) 1))) }
+    ensures failed { result ≡ Err PageFault.WriteFailed
+        → Rises (W.failures out.old) (W.failures out.new) }
+    ensures failures { W.failures out.old ≤ W.failures out.new }
+{
+    push_verdict(out, verdict)?;
+    end_answer(out, 1)
+}
+
+// What a claim says by the verdict.
+fn write_claimed<W: Sink>(verdict: Verdict, out: &mut W) -> Result<(), PageFault>
+    ensures ok { OnOk result (Appends (W.taken out.old) (W.taken out.new)
+        (answer_text (claim_said verdict))) }
+    ensures part { OnErr result (TakesPart (W.taken out.old) (W.taken out.new)
+        (answer_text (claim_said verdict))) }
+    ensures failed { result ≡ Err PageFault.WriteFailed
+        → Rises (W.failures out.old) (W.failures out.new) }
+    ensures failures { W.failures out.old ≤ W.failures out.new }
+{
+    match verdict {
+        Verdict::Candidate => write_said(out, b"claimed\n", 0),
+        Verdict::Broken(_) => write_verdict(verdict, out),
+    }
+}
+
+// What a release says by whether all is in use.
+fn write_released<W: Sink>(in_use: bool, out: &mut W) -> Result<(), PageFault>
+    ensures ok { OnOk result (Appends (W.taken out.old) (W.taken out.new)
+        (answer_text (release_said in_use))) }
+    ensures part { OnErr result (TakesPart (W.taken out.old) (W.taken out.new)
+        (answer_text (release_said in_use))) }
+    ensures failed { result ≡ Err PageFault.WriteFailed
+        → Rises (W.failures out.old) (W.failures out.new) }
+    ensures failures { W.failures out.old ≤ W.failures out.new }
+{
+    if in_use {
+        write_said(out, b"released\n", 0)
+    } else {
+        write_said(out, b"not in use\n", 1)
+    }
+}
+
+// The answer to a claim, which is made where it is a candidate.
+fn answer_claim<W: Sink>(
+    alloc: Global,
+    cloud: &mut Cloud,
+    version: Version,
+    query: &str,
+    token: &str,
+    out: &mut W,
+) -> Result<(), PageFault>
+    ensures ok { OnOk result (Appends (W.taken out.old) (W.taken out.new)
+        (claim_turn version query.now token.now (world_of cloud.old)).text) }
+    ensures world { OnOk result (world_of cloud.new
+        ≡ (claim_turn version query.now token.now (world_of cloud.old)).world) }
+    ensures part { OnErr result (TakesPart (W.taken out.old) (W.taken out.new)
+        (claim_turn version query.now token.now (world_of cloud.old)).text) }
+    ensures failed { result ≡ Err PageFault.WriteFailed
+        → Rises (W.failures out.old) (W.failures out.new) }
+    ensures failures { W.failures out.old ≤ W.failures out.new }
+{
+    let (query, list) = match read_assignment(alloc, cloud, version, query, token) {
+        Ok(read) => read,
+        Err(refusal) => return write_refusal(out, &refusal),
+    };
+    match list {
+        Some(list) => {
+            let verdict = claim(cloud, &query, &list);
+            write_claimed(verdict, out)
+        }
+        None => write_said(out, b"unknown provider\n", 1),
+    }
+}
+
+// The answer to a release, which is made where all is in use.
+fn answer_release<W: Sink>(
+    alloc: Global,
+    cloud: &mut Cloud,
+    version: Version,
+    query: &str,
+    token: &str,
+    out: &mut W,
+) -> Result<(), PageFault>
+    ensures ok { OnOk result (Appends (W.taken out.old) (W.taken out.new)
+        (release_turn version query.now token.now (world_of cloud.old)).text) }
+    ensures world { OnOk result (world_of cloud.new
+        ≡ (release_turn version query.now token.now (world_of cloud.old)).world) }
+    ensures part { OnErr result (TakesPart (W.taken out.old) (W.taken out.new)
+        (release_turn version query.now token.now (world_of cloud.old)).text) }
+    ensures failed { result ≡ Err PageFault.WriteFailed
+        → Rises (W.failures out.old) (W.failures out.new) }
+    ensures failures { W.failures out.old ≤ W.failures out.new }
+{
+    let (query, list) = match read_assignment(alloc, cloud, version, query, token) {
+        Ok(read) => read,
+        Err(refusal) => return write_refusal(out, &refusal),
+    };
+    match list {
+        Some(list) => {
+            let in_use = release(cloud, &query, &list);
+            write_released(in_use, out)
+        }
+        None => write_said(out, b"unknown provider\n", 1),
+    }
+}
+
+// The table of usages.
+fn answer_usages<W: Sink>(alloc: Global, cloud: &Cloud, out: &mut W) -> Result<(), PageFault>
+    ensures ok { OnOk result (Appends (W.taken out.old) (W.taken out.new)
+        (answer_text (usage_rows (providers_of cloud.now)))) }
+    ensures part { OnErr result (TakesPart (W.taken out.old) (W.taken out.new)
+        (answer_text (usage_rows (providers_of cloud.now)))) }
+    ensures failed { result ≡ Err PageFault.WriteFailed
+        → Rises (W.failures out.old) (W.failures out.new) }
+    ensures failures { W.failures out.old ≤ W.failures out.new }
+{
+    let status = write_usages(alloc, cloud, out)?;
+    end_answer(out, status)
+}
+
+// Answers a question, and changes the cloud where it is a claim or a release.
+fn answer_question<W: Sink>(
+    alloc: Global,
+    cloud: &mut Cloud,
+    version: Version,
+    question: Question<'_>,
+    out: &mut W,
+) -> Result<(), PageFault>
+    requires { HasItsToken question }
+    ensures ok { OnOk result (Appends (W.taken out.old) (W.taken out.new)
+        (turn_asked version (world_of cloud.old) (asked_in question.entry)).text) }
+    ensures world { OnOk result (world_of cloud.new
+        ≡ (turn_asked version (world_of cloud.old) (asked_in question.entry)).world) }
+    ensures part { OnErr result (TakesPart (W.taken out.old) (W.taken out.new)
+        (turn_asked version (world_of cloud.old) (asked_in question.entry)).text) }
+    ensures failed { result ≡ Err PageFault.WriteFailed
+        → Rises (W.failures out.old) (W.failures out.new) }
+    ensures failures { W.failures out.old ≤ W.failures out.new }
+{
+    match question {
+        Question::Job(job) => answer_job(alloc, cloud, &job, out),
+        Question::Claim { query, token } => answer_claim(alloc, cloud, version, query, token, out),
+        Question::Release { query, token } => {
+            answer_release(alloc, cloud, version, query, token, out)
+        }
+        Question::Usages => answer_usages(alloc, cloud, out),
+        Question::Nothing => Ok(()),
+        Question::Unknown => write_fault(out, LineFault::UnknownCommand),
+        Question::WrongNumber => write_fault(out, LineFault::WrongNumber),
+    }
+}
+
+/// Answers what a reader of lines gave. A failure gives nothing, and nothing is answered.
+#[tactic(auto, unfolding(crate::specs::Turns::turn_of))]
+pub(crate) fn answer_next<W: Sink>(
+    alloc: Global,
+    cloud: &mut Cloud,
+    version: Version,
+    next: Next<'_>,
+    out: &mut W,
+) -> Result<(), PageFault>
+    ensures ok { (given : Given) → given_by next.entry ≡ Some given → OnOk result (Appends
+        (W.taken out.old) (W.taken out.new) (turn_of version (world_of cloud.old) given).text) }
+    ensures world { (given : Given) → given_by next.entry ≡ Some given → OnOk result (world_of cloud.new
+        ≡ (turn_of version (world_of cloud.old) given).world) }
+    ensures part { (given : Given) → given_by next.entry ≡ Some given → OnErr result (TakesPart
+        (W.taken out.old) (W.taken out.new) (turn_of version (world_of cloud.old) given).text) }
+    ensures failed { result ≡ Err PageFault.WriteFailed
+        → Rises (W.failures out.old) (W.failures out.new) }
+    ensures failures { W.failures out.old ≤ W.failures out.new }
+{
+    match next {
+        Next::Line(line) => {
+            answer_question(alloc, cloud, version, read_question(line, version), out)
+        }
+        Next::TooLong => write_fault(out, LineFault::TooLong),
+        Next::End | Next::Failed => Ok(()),
+    }
+}

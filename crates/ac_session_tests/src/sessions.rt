@@ -1,0 +1,101 @@
+//! Sessions over devices in memory.
+use ac_base::{MemFeed, MemSink, Turn};
+use ac_query::Version;
+use ac_run::Inputs;
+use ac_session::{Lines, run_session};
+use std::alloc::{AllocError, Global};
+use std::process::Abort;
+
+mod claims;
+mod devices;
+mod refusals;
+
+// Two providers with eight units of a class; of the first one three are used. `@1` stands for the UUID that ends with 1.
+const PROVIDERS: &str = "uuid,root_provider_uuid,parent_provider_uuid\n@1,@1,\n@2,@2,\n";
+
+const INVENTORIES: &str =
+    "resource_provider,resource_class,total,reserved,min_unit,max_unit,step_size,allocation_ratio\n\
+    @1,VCPU,8,0,1,8,1,1.0\n@2,VCPU,8,0,1,8,1,1.0\n";
+
+const USAGES: &str = "resource_provider,resource_class,usage\n@1,VCPU,3\n";
+
+fn expanded(alloc: Global, text: &str) -> Result<String, AllocError> {
+    text.replace(alloc, "@", "00000000-0000-0000-0000-00000000000")
+}
+
+// How the devices of a session go.
+#[derive(Clone, Copy)]
+struct Turns<'a> {
+    providers: &'a [Turn],
+    questions: &'a [Turn],
+    out: &'a [Turn],
+    err: &'a [Turn],
+}
+
+const SOUND: Turns<'static> = Turns {
+    providers: &[],
+    questions: &[],
+    out: &[],
+    err: &[],
+};
+
+// What a session leaves.
+#[derive(Drop)]
+struct Left {
+    output: String,
+    line: String,
+    status: u8,
+}
+
+fn text_of(alloc: Global, bytes: &[u8]) -> Result<String, AllocError> {
+    match std::str::from_utf8(bytes) {
+        Ok(text) => String::from_str(alloc, text),
+        Err(_) => String::from_str(alloc, "no text"),
+    }
+}
+
+// A session over the three tables.
+fn run_over(
+    alloc: Global,
+    providers: &[u8],
+    questions: &[u8],
+    turns: Turns,
+) -> Result<Left, AllocError> {
+    let inventories = expanded(alloc, INVENTORIES)?;
+    let usages = expanded(alloc, USAGES)?;
+    let mut inputs = Inputs {
+        providers: MemFeed::new(providers, turns.providers),
+        inventories: MemFeed::new(inventories.as_bytes(), &[]),
+        usages: Some(MemFeed::new(usages.as_bytes(), &[])),
+        traits: None,
+        aggregates: None,
+    };
+    let Ok(mut lines) = Lines::new(alloc, MemFeed::new(questions, turns.questions)) else {
+        return Err(AllocError);
+    };
+    let out = MemSink::new(vec![in alloc; 0u8; 4000]?, turns.out);
+    let mut err = MemSink::new(vec![in alloc; 0u8; 100]?, turns.err);
+    let (status, out) = run_session(alloc, Version::V139, &mut inputs, &mut lines, out, &mut err);
+    Ok(Left {
+        output: text_of(alloc, out.taken())?,
+        line: text_of(alloc, err.taken())?,
+        status,
+    })
+}
+
+// A session over these questions.
+fn run_lines(alloc: Global, questions: &str, turns: Turns) -> Result<Left, AllocError> {
+    let providers = expanded(alloc, PROVIDERS)?;
+    let questions = expanded(alloc, questions)?;
+    run_over(alloc, providers.as_bytes(), questions.as_bytes(), turns)
+}
+
+// What a session is to leave.
+fn expect_left(rt: &(impl Abort + AllocGlobal), left: &Left, output: &str, line: &str, status: u8) {
+    let Ok(output) = expanded(rt.alloc(), output) else {
+        return;
+    };
+    assert_eq!(rt; left.output.as_str(), output.as_str());
+    assert_eq!(rt; left.line.as_str(), line);
+    assert_eq!(rt; left.status, status);
+}

@@ -1,0 +1,36 @@
+//! Sessions with each growth refused in turn: all answers, or `out of memory` with status 7 and a first part of them.
+use super::{SOUND, expanded, expect_left, run_lines};
+use std::process::Abort;
+
+fn check(rt: &(impl Abort + AllocGlobal), questions: &str, answers: &str) {
+    let Ok(wanted) = expanded(rt.alloc(), answers) else {
+        return;
+    };
+    let Ok(left) = run_lines(rt.alloc(), questions, SOUND) else {
+        return;
+    };
+    if left.status == 7 {
+        assert!(rt; left.line.as_str() == "out of memory\n");
+        assert!(rt; wanted.as_str().starts_with(left.output.as_str()));
+    } else {
+        expect_left(rt, &left, answers, "", 0);
+    }
+}
+
+#[test]
+fn claims_and_releases(rt: HostRuntime) {
+    check(
+        &rt,
+        "claim resources=VCPU:5 @1\ntokens resources=VCPU:5\nusages\nrelease resources=VCPU:5 @1\n",
+        "claimed\n= 0\n@2\n= 0\nresource_provider,resource_class,usage\n@1,VCPU,8\n= 0\nreleased\n= 0\n",
+    );
+}
+
+#[test]
+fn refused_questions(rt: HostRuntime) {
+    check(
+        &rt,
+        "claim resources=VCPU:5 x\nverify resources=CUSTOM_A:1 @1\nclaim resources=VCPU:5 @8\nhost\n",
+        "= 5 token: BadToken\nno: rule 1 Units\n= 1\nunknown provider\n= 1\n= 2 session: unknown command\n",
+    );
+}
