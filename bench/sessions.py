@@ -47,8 +47,8 @@ def cloud(folder, *words):
 
 
 def run(words, given=(), kept=False):
-    """Runs a command with these lines on standard input, and returns its processor time, the most memory that it held, and what it wrote, if that is
-    kept. A status of 1 is an answer too."""
+    """Runs a command with these lines on standard input, and returns its processor time, and what it wrote, if that is kept. A status of 1 is an answer
+    too."""
     with tempfile.TemporaryFile() as questions, tempfile.TemporaryFile() as out:
         questions.writelines(line.encode() + b'\n' for line in given)
         questions.seek(0)
@@ -58,7 +58,7 @@ def run(words, given=(), kept=False):
         if ran.returncode not in (0, 1):
             sys.exit(f'bench/sessions.py: {" ".join(words[:4])} ended with {ran.returncode}')
         out.seek(0)
-        return used.ru_utime + used.ru_stime, used.ru_maxrss / 1024, out.read().decode()
+        return used.ru_utime + used.ru_stime, out.read().decode()
 
 
 def least(runs, *command):
@@ -77,7 +77,7 @@ def fine(seconds):
 
 def compare(binary, folder, runs, query, name):
     """A table of one cloud."""
-    first = run([binary, 'tokens', query + '&limit=1', '--tables', folder], kept=True)[2].strip()
+    first = run([binary, 'tokens', query + '&limit=1', '--tables', folder], kept=True)[1].strip()
     page = query + '&limit=1000'
     asked = [
         (f'tokens {query}&limit=1', 2000, ['tokens', query + '&limit=1']),
@@ -90,7 +90,7 @@ def compare(binary, folder, runs, query, name):
     print(f'| reading the tables | {fine(least(runs, [binary, "session", "--tables", folder]))} | |')
     for line, number, words in asked:
         alone = least(runs, [binary, *words, '--tables', folder])
-        print(f'| `{line.removesuffix(" " + first)}` | {fine(each(binary, folder, runs, [line] * number))} | {fine(alone)} |', flush=True)
+        print(f'| `{line.replace(first, "TOKEN")}` | {fine(each(binary, folder, runs, [line] * number))} | {fine(alone)} |', flush=True)
     placed = each(binary, folder, runs, [f'claim {query} {first}', f'release {query} {first}'] * 50000)
     print(f'| `claim` or `release`, the same query | {fine(placed)} | |\n', flush=True)
     return first
@@ -117,10 +117,12 @@ def placed(binary, folder, number=10000):
 def many(binary, folder, number, memory, token):
     """Asks so many questions within so much memory."""
     asked = [f'tokens {FLAVOR}&limit=1', f'claim {FLAVOR} {token}', f'verify {FLAVOR} {token}', f'release {FLAVOR} {token}']
-    limited = ['sh', '-c', f'ulimit -v {memory * 1024}; exec "$@"', 'limited', binary, 'session', '--tables', folder]
+    peak = os.path.join(folder, 'peak')
+    limited = ['/usr/bin/time', '-q', '-f', '%M', '-o', peak, 'sh', '-c', f'ulimit -v {memory * 1024}; exec "$@"', 'limited', binary, 'session', '--tables', folder]
     for count in number // 1000, number:
-        took, held, _ = run(limited, (asked[n % 4] for n in range(count)))
-        print(f'{count} questions and claims within {memory} MiB: {shown(took)}, {held:.1f} MiB held at most.')
+        took, _ = run(limited, (asked[n % 4] for n in range(count)))
+        with open(peak, encoding='ascii') as held:
+            print(f'{count} questions and claims within {memory} MiB: {shown(took)}, {int(held.read()) / 1024:.1f} MiB held at most.')
 
 
 def main():

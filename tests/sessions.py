@@ -315,6 +315,7 @@ class Trace:
         self.program, self.folder, self.chance = program, folder, chance
         self.driver = Driver(program, folder)
         self.claimed, self.tokens = [], {}
+        self.counts = self.alone('check')
         with open(os.path.join(PRIVATE, 'usages.csv'), encoding='ascii') as file:
             self.used = rows_of(file.read())
         self.write()
@@ -368,8 +369,9 @@ class Trace:
         flavor, slots = self.chance.choice(FLAVORS)
         kind = self.chance.choice(('tokens', 'tokens', 'claim', 'claim', 'claim', 'release', 'release', 'hosts', 'explain', 'candidates', 'after', 'check'))
         token = self.tokens.get(flavor)
-        if kind == 'check':
-            self.asks('check')
+        if kind == 'check':  # it counts the rows that were read
+            if self.driver.ask('check') != self.counts:
+                raise ValueError('check counts otherwise')
         elif kind in ('hosts', 'explain'):
             self.asks(kind, flavor)
         elif kind == 'candidates':
