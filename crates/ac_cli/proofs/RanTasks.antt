@@ -1,5 +1,5 @@
 -- A run of a task is a run of an equal one; what was done for a line, by what it calls for.
-use Rattle.std.proofs.Common.{◌≡◌, ◌∙◌, ◌∷◌, [], ℕ, Bool, List, Option, ap, arith, refl, subst, sym}
+use Rattle.std.proofs.Common.{◌≡◌, ◌∙◌, ℕ, Bool, List, Option, ap, arith, refl, subst, sym}
 use Rattle.ac_run.specs.Lines.{memory_line}
 use Rattle.ac_query.specs.declared.version.Version.{Version}
 use Rattle.ac_run.specs.Answer.{Task}
