@@ -90,7 +90,7 @@ def compare(binary, folder, runs, query, name):
     print(f'| reading the tables | {fine(least(runs, [binary, "session", "--tables", folder]))} | |')
     for line, number, words in asked:
         alone = least(runs, [binary, *words, '--tables', folder])
-        print(f'| `{line.replace(first, "TOKEN")}` | {fine(each(binary, folder, runs, [line] * number))} | {fine(alone)} |', flush=True)
+        print(f'| `{line.replace(first, "TOKEN").replace(FLAVOR, "FLAVOR")}` | {fine(each(binary, folder, runs, [line] * number))} | {fine(alone)} |', flush=True)
     placed = each(binary, folder, runs, [f'claim {query} {first}', f'release {query} {first}'] * 50000)
     print(f'| `claim` or `release`, the same query | {fine(placed)} | |\n', flush=True)
     return first
