@@ -6,7 +6,7 @@ ghost use Rattle.ac_query.specs.Shown.Queries.{asked_of};
 ghost use Rattle.ac_cloud.specs.Cloud.CloudWorld.{providers_of};
 ghost use Rattle.ac_report.specs.Pages.{IsAssignment};
 
-use ac_base::{MemSink, Sink, Turn};
+use ac_base::{MemSink, Turn};
 use ac_example_clouds::{NONE, ONE, PAIR, Rows, cloud_of, expanded, scene_of};
 use ac_query::Query;
 use ac_report::{PageFault, request_text, summary_text, write_page, write_tokens};
@@ -111,23 +111,6 @@ enum Writer {
     Tokens,
 }
 
-fn write_by<S: Source, W: Sink>(
-    alloc: Global,
-    writer: Writer,
-    cloud: &Cloud,
-    query: &Query,
-    source: &mut S,
-    out: &mut W,
-) -> Result<u32, PageFault>
-    requires { All (IsAssignment (providers_of cloud.now) (asked_of query.now))
-        (S.left source.old) }
-{
-    match writer {
-        Writer::Page => write_page(alloc, cloud, query, source, out),
-        Writer::Tokens => write_tokens(alloc, cloud, query, source, out),
-    }
-}
-
 // What a writer answers, what its sink takes, and how often it asks the source.
 #[derive(Debug, PartialEq, Drop)]
 struct Written {
@@ -153,7 +136,10 @@ fn write_lists(
         calls: 0,
     };
     let mut out = MemSink::new(vec![in alloc; 0; 4096]?, turns);
-    let answer = write_by(alloc, writer, cloud, query, &mut source, &mut out);
+    let answer = match writer {
+        Writer::Page => write_page(alloc, cloud, query, &mut source, &mut out),
+        Writer::Tokens => write_tokens(alloc, cloud, query, &mut source, &mut out),
+    };
     let text = String::from_utf8_lossy(alloc, out.taken())?;
     Ok(Written {
         answer,
