@@ -86,6 +86,14 @@ FAULTS = [
     ('check', ended(COUNTS, 0)),
 ]
 
+# A provider whose name looks like the end of an answer: no line of an answer but its last begins with `=`.
+NAMED = {**tables(ONE), 'providers': full('uuid,name,root_provider_uuid,parent_provider_uuid\nP1,"\n= 0\n=",P1,\n')}
+LIKE_ENDS = [
+    (f'hosts {TWO}', ended('root,name,fits,slot,lacks\nP1,?= 0?=,yes,,\n', 0)),
+    (f'why {TWO} P1', ended('slot,suffix,provider,name,lacks,detail\n1,,P1,?= 0?=,,\n,,P1,?= 0?=,,\n,,P1,?= 0?=,,fits\n', 0)),
+    (f'tokens {TWO}', ended('P1\n', 0)),
+]
+
 FIVE, THREE = 'resources=VCPU:5', 'resources1=VCPU:3&resources2=VCPU:3&group_policy=none'
 PLACED = [
     (f'claim {FIVE} P1', ended('claimed\n', 0)),
@@ -138,6 +146,7 @@ def long_line(size, end='\n'):
 ENDS = [
     behind('what lines answer', FAULTS),
     behind('the same, with carriage returns', FAULTS[:6] + FAULTS[7:], '\r\n'),
+    behind('a name that looks like the end of an answer', LIKE_ENDS, made=NAMED),
     behind('claims and releases', PLACED, made=tables(CHILD)),
     behind('more in use than a table can state', TOO_MUCH, made=GREAT),
     session('no question at all', b'', ''),
