@@ -84,6 +84,19 @@ def page(name, cloud, query, body, after=None):
     return Case(f'candidates: {name}', words, full(body) + '\n', tables=tables(cloud))
 
 
+def listed(name, cloud, query, rows, *words, **changed):
+    """`list` must write these rows below its header."""
+    out = '#,allocation,resource provider,name,inventory used/capacity,traits\n' + ''.join(full(row) + '\n' for row in rows)
+    return Case(f'list: {name}', ['list', full(query), *map(full, words)], out, tables={**tables(cloud), **changed})
+
+
+def filled(name, cloud, query, *placed, most):
+    """`fill` must write these placements, and how many these are, and how many there can be at most."""
+    status = 0 if placed else 1
+    yield Case(f'fill: {name}', ['fill', full(query)], lines(*placed), status=status, tables=tables(cloud))
+    yield Case(f'fill, in sum: {name}', ['fill', '--sum', full(query)], f'at least {len(placed)}, at most {most}\n', status=status, tables=tables(cloud))
+
+
 def counted(name, counts, **changed):
     out = ''.join(f'{table} {count}\n' for table, count in zip(HEADERS, counts))
     return Case(f'check: {name}', ['check'], out, tables={**tables(ONE), **changed})
@@ -231,6 +244,20 @@ DETAILS = [
 ]
 
 # Lists `in:A,B`, of which one trait each must be had, and a repeated `required`: only with 1.39.
+DISKS_TOO = 'resources=DISK_GB:30,VCPU:2'
+FILLED = [
+    *filled('one host', ONE, 'resources=VCPU:3', 'P1', 'P1', most=2),
+    *filled('all of it', ONE, 'resources=VCPU:8', 'P1', most=1),
+    *filled('nothing', ONE, 'resources=VCPU:9', most=0),
+    *filled('two hosts', APART, 'resources=VCPU:4', 'P1', 'P1', 'P3', 'P3', most=4),
+    *filled('up to a limit', APART, 'resources=VCPU:4&limit=3', 'P1', 'P1', 'P3', most=4),
+    *filled('two slots on one provider', CHILD, THREE_AND_THREE, 'P1,P1', 'P2,P2', most=4),
+    *filled('two slots that stand apart', CHILD, THREE_AND_THREE.replace('none', 'isolate'), 'P1,P2', 'P1,P2', most=4),
+    *filled('a shared disk that is full first', SHARED, DISKS_TOO, 'P9,P1', 'P9,P1', 'P9,P1', most=3),
+    *filled('in steps', STEPS, 'resources=VCPU:2', 'P1', 'P1', 'P1', 'P1', most=4),
+    *filled('a provider that the slot does not take', SHARED_X, 'resources1=VCPU:4&required1=CUSTOM_X', 'P3', 'P3', most=2),
+]
+
 LISTED = 'resources=PGPU:1,VCPU:1&required=in:CUSTOM_A,CUSTOM_X&required=CUSTOM_B'
 NOBODY = 'resources=PGPU:1,VCPU:1&required=in:CUSTOM_X,CUSTOM_Y'
 TWICE = 'resources=VCPU:1&required=CUSTOM_A&required=CUSTOM_A'
@@ -305,6 +332,26 @@ PAGES = [
          '{"allocation_requests":[{"allocations":{"P1":{"resources":{"PGPU":1}}},"mappings":{"":["P1"]}}],"provider_summaries":{'
          '"P1":{"parent_provider_uuid":null,"resources":{"PGPU":{"capacity":1,"used":0},"VCPU":{"capacity":8,"used":9}},'
          '"root_provider_uuid":"P1","traits":[]}}}'),
+    Case('candidates: without traits', ['candidates', '--no-traits', full('resources=DISK_GB:10&limit=1')],
+         full('{"allocation_requests":[{"allocations":{"P9":{"resources":{"DISK_GB":10}}},"mappings":{"":["P9"]}}],"provider_summaries":{'
+              + DISK_SUMMARY.replace('"MISC_SHARES_VIA_AGGREGATE"', '') + '}}\n'), tables=tables(SHARED)),
+    # Two rows of each candidate, of which the providers stand in the order of their UUIDs, and not in that of the slots.
+    listed('two candidates of a shared disk', SHARED, 'resources=DISK_GB:10,VCPU:1',
+           ['1,VCPU=1,P1,,VCPU=0/8,', '1,DISK_GB=10,P9,,DISK_GB=0/100,MISC_SHARES_VIA_AGGREGATE',
+            '2,VCPU=1,P3,,VCPU=0/8,', '2,DISK_GB=10,P9,,DISK_GB=0/100,MISC_SHARES_VIA_AGGREGATE']),
+    listed('without traits', SHARED, 'resources=DISK_GB:10,VCPU:1&limit=1', ['1,VCPU=1,P1,,VCPU=0/8,', '1,DISK_GB=10,P9,,DISK_GB=0/100,'], '--no-traits'),
+    listed('after a token, counted from 1', SHARED, 'resources=DISK_GB:10,VCPU:1',
+           ['1,VCPU=1,P3,,VCPU=0/8,', '1,DISK_GB=10,P9,,DISK_GB=0/100,MISC_SHARES_VIA_AGGREGATE'], '--after', 'P9,P1'),
+    listed('none', SHARED, 'resources=VCPU:9', []),
+    listed('a provider that serves two slots has one row, with the sum', ONE, 'resources1=VCPU:2&resources2=VCPU:3&group_policy=none', ['1,VCPU=5,P1,,VCPU=0/8,']),
+    listed('two candidates that take the same', CHILD, FIVE_AND_FIVE,
+           ['1,VCPU=5,P1,,VCPU=0/8,', '1,VCPU=5,P2,,VCPU=0/8,', '2,VCPU=5,P1,,VCPU=0/8,', '2,VCPU=5,P2,,VCPU=0/8,']),
+    listed('a provider of a group without resources has no row', NUMA, UNDER_NUMA, ['1,VCPU=1,P4,,VCPU=0/4,']),
+    listed('several classes and traits, in byte order', 'P1 | | VCPU total 8, used 3; MEMORY_MB total 64, reserved 4, allocation_ratio 1.5 | CUSTOM_B, CUSTOM_A',
+           'resources=VCPU:2,MEMORY_MB:16', ['1,"MEMORY_MB=16,VCPU=2",P1,,"MEMORY_MB=0/90,VCPU=3/8","CUSTOM_A,CUSTOM_B"']),
+    listed('what is used may be more than the capacity', 'P1 | | VCPU total 8, used 9; PGPU total 1', 'resources=PGPU:1', ['1,PGPU=1,P1,,"PGPU=0/1,VCPU=9/8",']),
+    listed('a name with a comma, a quote and a newline', ONE, 'resources=VCPU:2', ['1,VCPU=2,P1,"a,""b""?c",VCPU=0/8,'],
+           providers='uuid,name,root_provider_uuid,parent_provider_uuid\n' + full('P1,"a,""b""\nc",P1,\n')),
     found('after the first', SHARED, 'resources=DISK_GB:10,VCPU:1', 'P9,P3', after='P9,P1'),
     found('after the first, with a limit', SHARED, 'resources=DISK_GB:10,VCPU:1&limit=1', 'P9,P3', after='P9,P1'),
     found('after a token with a provider of no table', CHILD, FIVE_AND_FIVE, 'P2,P1', after='P1,P7'),
@@ -487,7 +534,7 @@ MANY_GROUPS = [
     judged('64 groups fill 8 providers', EIGHT, SIXTY_FOUR, EIGHT_EACH, 'candidate'),
 ]
 
-SMALL = [*QUANTITIES, *RULES, *DETAILS, *LISTS, *PAGES, *TOKENS, *TABLES, *QUERIES, *MANY_GROUPS]
+SMALL = [*QUANTITIES, *RULES, *DETAILS, *LISTS, *FILLED, *PAGES, *TOKENS, *TABLES, *QUERIES, *MANY_GROUPS]
 
 
 def cuts():

@@ -33,7 +33,7 @@ def helps():
 
 def options(help):
     """The options in a text of help, including the short ones."""
-    return {name for line in re.findall(r'^ +(-.*)$', help, re.M) for name in re.findall(r'(?<![\w-])--?[a-z]+\b|(?<![\w-])-V\b', line.split('  ')[0])}
+    return {name for line in re.findall(r'^ +(-.*)$', help, re.M) for name in re.findall(r'(?<![\w-])--?[a-z]+(?:-[a-z]+)*\b|(?<![\w-])-V\b', line.split('  ')[0])}
 
 
 def commands(help):

@@ -19,6 +19,8 @@ CLASSES = 'DISK_GB', 'MEMORY_MB', 'VCPU'
 TRAITS = 'CUSTOM_A', 'CUSTOM_B'
 AGGREGATES = 'A1', 'A2'
 SHARES = 'MISC_SHARES_VIA_AGGREGATE'
+LIST_COLUMNS = '#', 'allocation', 'resource provider', 'name', 'inventory used/capacity', 'traits'
+LIST_HEADER = ','.join(LIST_COLUMNS) + '\n'
 SUFFIXES = '1', '10', '2', '_NET', 'a'
 DIFFERENCES = os.path.join(os.path.dirname(os.path.dirname(os.path.abspath(__file__))), 'docs', 'DIFFERENCES.md')
 
@@ -473,6 +475,48 @@ def release(assignment, query, cloud):
     return 'released\n', 0
 
 
+def place_all(query, cloud, limit=None):
+    """Claims the first candidate, again and again, until there is none or there are as many as the limit says. The assignments that were claimed."""
+    every = list(itertools.product(cloud, repeat=len(list(query.slots()))))
+    placed = []
+    while limit is None or len(placed) < limit:
+        first = next((assignment for assignment in every if not judgement(assignment, query, cloud)), None)
+        if first is None:
+            break
+        change(first, query, cloud, 1)
+        placed.append(first)
+    return placed
+
+
+def filled(query, cloud, limit=None):
+    """The same, and the cloud is as it was before."""
+    placed = place_all(query, cloud, limit)
+    for assignment in placed:
+        change(assignment, query, cloud, -1)
+    return placed
+
+
+def most_placed(query, cloud):
+    """More placements than that there can't be: of no class do the providers that a slot's own rules take have what it asks more often, together."""
+    return min(sum(max(provider.has[kind].capacity() - provider.has[kind].used, 0) // amount
+                   for provider in cloud if not any(broken_by_one(provider, suffix, needs, query, cloud)))
+               for suffix, needs in query.slots() for kind, amount in needs.items())
+
+
+def longest(query, cloud, known):
+    """The length of the longest list of placements, by trying every order. What is known of used amounts is kept."""
+    used = tuple(has.used for provider in cloud for has in provider.has.values())
+    if used not in known:
+        best = 0
+        for assignment in itertools.product(cloud, repeat=len(list(query.slots()))):
+            if not judgement(assignment, query, cloud):
+                change(assignment, query, cloud, 1)
+                best = max(best, 1 + longest(query, cloud, known))
+                change(assignment, query, cloud, -1)
+        known[used] = best
+    return known[used]
+
+
 def usage_rows(cloud):
     """The table of usages, and the status."""
     rows = [(provider.name, name, provider.has[name].used) for provider in cloud for name in sorted(provider.has) if provider.has[name].used]
@@ -489,16 +533,32 @@ def request(assignment, query):
     return {'allocations': taken, 'mappings': {suffix: sorted(names) for suffix, names in mappings.items()}}
 
 
-def summary(provider):
+def list_rows(found, query, cloud, traits=True):
+    """What `list` writes of these candidates: a row for each provider of which something is taken. No provider has a name."""
+    rows = []
+    for number, assignment in enumerate(found, 1):
+        taken = taken_by(assignment, query)
+        for provider in cloud:
+            amounts = taken.get(provider.name)
+            if amounts:
+                rows.append((number, ','.join(f'{name}={amounts[name]}' for name in sorted(amounts)), provider.name, '',
+                             ','.join(f'{name}={provider.has[name].used}/{provider.has[name].capacity()}' for name in sorted(provider.has)),
+                             ','.join(sorted(provider.traits)) if traits else ''))
+    out = io.StringIO()
+    csv.writer(out, lineterminator='\n').writerows([LIST_COLUMNS, *rows])
+    return out.getvalue()
+
+
+def summary(provider, traits=True):
     return {'parent_provider_uuid': provider.parent.name if provider.parent else None,
             'resources': {name: {'capacity': has.capacity(), 'used': has.used} for name, has in provider.has.items()},
-            'root_provider_uuid': provider.root().name, 'traits': sorted(provider.traits)}
+            'root_provider_uuid': provider.root().name, 'traits': sorted(provider.traits) if traits else []}
 
 
-def body(found, query, cloud):
+def body(found, query, cloud, traits=True):
     roots = {provider.root().name for assignment in found for provider in assignment}
     whole = {'allocation_requests': [request(assignment, query) for assignment in found],
-             'provider_summaries': {provider.name: summary(provider) for provider in cloud if provider.root().name in roots}}
+             'provider_summaries': {provider.name: summary(provider, traits) for provider in cloud if provider.root().name in roots}}
     return json.dumps(whole, sort_keys=True, separators=(',', ':')) + '\n'
 
 
@@ -596,6 +656,16 @@ def asked(name, chance, cloud, query, every, judged):
     yield Case(f'{name}: tokens', ['tokens', text, *version], lines(*map(names, found)), tables=made)
     yield Case(f'{name}: candidates', ['candidates', text, *version], full(body(found, query, cloud)), tables=made)
     yield Case(f'{name}: candidates after a token', ['candidates', text + '&limit=2', *after, *version], full(body(later, query, cloud)), tables=made)
+    yield Case(f'{name}: candidates without traits', ['candidates', '--no-traits', text, *version], full(body(found, query, cloud, False)), tables=made)
+    yield Case(f'{name}: list', ['list', text, *version], full(list_rows(found, query, cloud)), tables=made)
+    yield Case(f'{name}: list after a token, without traits', ['list', text + '&limit=2', *after, '--no-traits', *version],
+               full(list_rows(later, query, cloud, False)), tables=made)
+    placed, most = filled(query, cloud), most_placed(query, cloud)
+    if len(every) <= 30 and not len(placed) <= longest(query, cloud, {}) <= most:
+        raise ValueError(f'{name}: {len(placed)} placements by first fit, and at most {most}, are no bounds')
+    yield Case(f'{name}: fill', ['fill', text, *version], lines(*map(names, placed)), status=0 if placed else 1, tables=made)
+    yield Case(f'{name}: fill up to a limit', ['fill', text + '&limit=2', *version], lines(*map(names, placed[:2])), status=0 if placed else 1, tables=made)
+    yield Case(f'{name}: fill, in sum', ['fill', '--sum', text, *version], f'at least {len(placed)}, at most {most}\n', status=0 if placed else 1, tables=made)
     yield Case(f'{name}: explain', ['explain', text, *version], full(explanation(found, query, cloud)), status=0 if found else 1, tables=made)
     yield Case(f'{name}: hosts', ['hosts', text, *version], full(host_rows(found, query, cloud)), status=0 if found else 1, tables=made)
     yield Case(f'{name}: why', ['why', text, full(host.name), *version], full(why), status=1 if why.endswith('does not fit\n') else 0, tables=made)

@@ -39,7 +39,7 @@ INVENTORIES = os.path.join(EXAMPLES, 'inventories.csv')
 CLOUD = os.path.join(EXAMPLES, 'cloud')
 NO_FILE = os.path.join(EXAMPLES, 'no_such_file.csv')
 ONE_HOST = '2b7d9e54-61c8-4f03-8a9d-c4e1b05f3a27\n'
-COMMANDS = 'check', 'candidates', 'tokens', 'verify', 'explain', 'hosts', 'why', 'session'
+COMMANDS = 'check', 'candidates', 'tokens', 'list', 'fill', 'verify', 'explain', 'hosts', 'why', 'session'
 STATUSES = {'no: rule': 1, 'unknown provider': 1, 'query': 4, 'token': 5, 'host:': 5, 'output': 6, 'out of memory': 7,
             **dict.fromkeys(('providers:', 'inventories:', 'usages:', 'traits:', 'aggregates:'), 3)}
 NOT_BUILT = 70
@@ -128,6 +128,17 @@ WORDS = [
     refused('options before the command', over([]) + ['check']),
     refused('no query', over(['tokens'])),
     refused('no query for candidates', over(['candidates'])),
+    refused('no query for list', over(['list'])),
+    refused('a token for list', over(['list', 'resources=VCPU:2', ONE_HOST.strip()])),
+    refused('no query for fill', over(['fill'])),
+    refused('a token for fill', over(['fill', 'resources=VCPU:2', ONE_HOST.strip()])),
+    refused('--after for fill', over(['fill', 'resources=VCPU:2', '--after', ONE_HOST.strip()]), '--after'),
+    refused('--sum for tokens', over(['tokens', 'resources=VCPU:2', '--sum']), '--sum'),
+    refused('--sum with a value', over(['fill', 'resources=VCPU:2', '--sum=yes']), '--sum'),
+    refused('--sum twice', over(['fill', 'resources=VCPU:2', '--sum', '--sum']), '--sum'),
+    refused('--no-traits for tokens', over(['tokens', 'resources=VCPU:2', '--no-traits']), '--no-traits'),
+    refused('--no-traits with a value', over(['list', 'resources=VCPU:2', '--no-traits=yes']), '--no-traits'),
+    refused('--no-traits twice', over(['candidates', 'resources=VCPU:2', '--no-traits', '--no-traits']), '--no-traits'),
     refused('two queries', over(['tokens', 'resources=VCPU:2', 'resources=VCPU:2'])),
     refused('no token', over(['verify', 'resources=VCPU:2'])),
     refused('a query for check', over(['check', 'resources=VCPU:2'])),
@@ -225,6 +236,8 @@ def by_folder(*words, status=0):
 FOLDERS = [
     by_folder('check'),
     by_folder('candidates', DISK_AND_HOST),
+    by_folder('candidates', DISK_AND_HOST, '--no-traits'),
+    by_folder('list', DISK_AND_HOST, '--after', OVER_DISK),
     by_folder('tokens', DISK_AND_HOST, '--after', OVER_DISK),
     by_folder('verify', DISK_AND_HOST, OVER_DISK),
     by_folder('explain', 'resources=VCPU:4&required=CUSTOM_ROW_2&member_of=0d4b7c19-83ea-4f20-b5d6-1e9a72c8f3a1', status=1),
@@ -280,7 +293,7 @@ def to_nobody(name, words, **made):
 # Answers of more than 65536 bytes, which is how much is gathered before it is written. So writing fails while the answer is being made.
 HOSTS = {'providers': roots(2000), 'inventories': vcpu(2000)}
 LONG_NAMES = '&'.join(f'resources{n}=' + ','.join(f'C{n}_{k}_'.ljust(240, 'C') + ':1' for k in range(4)) for n in range(10, 74)) + '&group_policy=none'
-LONG = (('tokens', 'resources=VCPU:2', HOSTS), ('candidates', 'resources=VCPU:2', HOSTS), ('explain', LONG_NAMES, tables(ONE)), ('hosts', 'resources=VCPU:2', HOSTS))
+LONG = (('tokens', 'resources=VCPU:2', HOSTS), ('candidates', 'resources=VCPU:2', HOSTS), ('list', 'resources=VCPU:2', HOSTS), ('fill', 'resources=VCPU:2', HOSTS), ('explain', LONG_NAMES, tables(ONE)), ('hosts', 'resources=VCPU:2', HOSTS))
 
 DEVICES = [
     to_full('without words', []),
@@ -289,6 +302,9 @@ DEVICES = [
     to_full('check', check()),
     to_full('tokens', tokens('resources=VCPU:2')),
     to_full('candidates', over(['candidates', 'resources=VCPU:2'])),
+    to_full('list', over(['list', 'resources=VCPU:2'])),
+    to_full('fill', over(['fill', 'resources=VCPU:2'])),
+    to_full('fill, in sum', over(['fill', '--sum', 'resources=VCPU:2'])),
     to_full('verify', over(['verify', 'resources=VCPU:2', ONE_HOST.strip()])),
     to_full('explain', over(['explain', 'resources=VCPU:2'])),
     to_full('hosts', over(['hosts', 'resources=VCPU:2'])),
@@ -323,6 +339,11 @@ GROWTHS = [
     growing('candidates', ['candidates', TWO], ONE),
     growing('candidates, one of a shared disk', ['candidates', DISK + '&limit=1'], SHARED),
     growing('candidates after one', ['candidates', DISK + '&limit=1', '--after', 'P9,P1'], SHARED),
+    growing('list', ['list', DISK], SHARED),
+    growing('list after one, without traits', ['list', DISK, '--after', 'P9,P1', '--no-traits'], SHARED),
+    growing('fill', ['fill', DISK + '&limit=3'], SHARED),
+    growing('fill, in sum', ['fill', '--sum', DISK], SHARED),
+    growing('fill, no candidate', ['fill', FIVES], ONE),
     growing('verify', ['verify', FIVES, 'P1,P2'], CHILD),
     growing('verify, an unknown provider', ['verify', FIVES, 'P1,P7'], CHILD),
     growing('verify, in detail', ['verify', '--detail', FIVES, 'P1,P1'], CHILD),
@@ -333,7 +354,7 @@ GROWTHS = [
     growing('why', ['why', DISK, 'P1'], SHARED),
     growing('why, with traits and aggregates', ['why', LACKING, 'P1'], ONE),
     growing('why, an unknown host', ['why', TWO, 'P7'], ONE),
-    growing('a session', ['session'], SHARED, f'tokens {DISK}\nclaim {DISK} P9,P1\nusages\nverify {DISK} P9,P7\nrelease {DISK} P9,P1\nother\n'),
+    growing('a session', ['session'], SHARED, f'tokens {DISK}\nclaim {DISK} P9,P1\nfill {DISK}&limit=2\nusages\nverify {DISK} P9,P7\nrelease {DISK} P9,P1\nother\n'),
     growing('a session without questions', ['session', '--tables', CLOUD]),
     growing('check of a usage without an inventory', ['check'], ONE, usages=HEADERS['usages'] + f'{provider(1)},MEMORY_MB,1\n'),
     growing('a refused query', ['tokens', 'resources1=VCPU:1&same_subtree=1,2'], ONE),

@@ -24,8 +24,8 @@ import sys
 import tempfile
 
 from cases import CHILD, ONE, Case, full, lines, tables
-from model import (RULES, body, claim, draw_cloud, draw_query, explanation, has_candidate, host_rows, judgement, names, release,
-                   usage_rows, why_rows)
+from model import (LIST_HEADER, RULES, body, claim, draw_cloud, draw_query, explanation, has_candidate, host_rows, judgement, list_rows, names,
+                   place_all, release, usage_rows, why_rows)
 from notation import HEADERS
 
 ROOT = os.path.dirname(os.path.dirname(os.path.abspath(__file__)))
@@ -60,19 +60,21 @@ FAULTS = [
     ('--help', ended('', 2, UNKNOWN)),
     ('check ', ended('', 2, NUMBER)),
     ('check x', ended('', 2, NUMBER)),
-    *((command, ended('', 2, NUMBER)) for command in ('candidates', 'tokens', 'verify', 'explain', 'hosts', 'why', 'claim', 'release')),
+    *((command, ended('', 2, NUMBER)) for command in ('candidates', 'tokens', 'list', 'fill', 'verify', 'explain', 'hosts', 'why', 'claim', 'release')),
     *((f'{command} {TWO}', ended('', 2, NUMBER)) for command in ('verify', 'why', 'claim', 'release')),
-    *((f'{command} {TWO} P1', ended('', 2, NUMBER)) for command in ('explain', 'hosts')),
-    *((f'{command} {TWO} P1 P1', ended('', 2, NUMBER)) for command in ('candidates', 'tokens', 'verify', 'why', 'claim', 'release')),
+    *((f'{command} {TWO} P1', ended('', 2, NUMBER)) for command in ('fill', 'explain', 'hosts')),
+    *((f'{command} {TWO} P1 P1', ended('', 2, NUMBER)) for command in ('candidates', 'tokens', 'list', 'verify', 'why', 'claim', 'release')),
     ('usages all', ended('', 2, NUMBER)),
     (f'verify --detail {TWO} P1', ended('', 2, NUMBER)),
+    (f'list --no-traits {TWO} P1', ended('', 2, NUMBER)),
+    (f'fill --sum {TWO}', ended('', 2, NUMBER)),
     (f'tokens {TWO} ', ended('', 5, 'token: BadToken')),
     (f'tokens  {TWO}', ended('', 4, 'query: NoResources')),
     ('tokens ', ended('', 4, 'query: NoResources')),
     (f'tokens /placement/allocation_candidates?{TWO}', ended('', 4, 'query: pair 1: UnknownParameter')),
     *((f'{command} resources=VCPU P1', ended('', 4, 'query: pair 1: BadValue')) for command in ('tokens', 'verify', 'claim', 'release', 'why')),
-    *((f'{command} {TWO} P1,', ended('', 5, 'token: BadToken')) for command in ('candidates', 'tokens', 'verify', 'claim', 'release')),
-    *((f'{command} {TWO} P1,P7', ended('', 5, 'token: WrongLength')) for command in ('candidates', 'tokens', 'verify', 'claim', 'release')),
+    *((f'{command} {TWO} P1,', ended('', 5, 'token: BadToken')) for command in ('candidates', 'tokens', 'list', 'verify', 'claim', 'release')),
+    *((f'{command} {TWO} P1,P7', ended('', 5, 'token: WrongLength')) for command in ('candidates', 'tokens', 'list', 'verify', 'claim', 'release')),
     *((f'{command} {TWO} P7', ended('unknown provider\n', 1)) for command in ('verify', 'claim', 'release')),
     (f'why {TWO} P7', ended('', 5, 'host: Unknown')),
     ('tokens resources=VCPU:2&required=in:CUSTOM_A', ended('', 4, 'query: pair 2: BadValue')),
@@ -83,6 +85,8 @@ FAULTS = [
     ('usages', ended(HEADERS['usages'], 0)),
     (f'tokens {TWO}', ended('P1\n', 0)),
     ('tokens resources=VCPU:9', ended('', 0)),
+    (f'list {TWO}', ended(LIST_HEADER + '1,VCPU=2,P1,,VCPU=0/8,\n', 0)),
+    (f'list {TWO} P1', ended(LIST_HEADER, 0)),
     ('check', ended(COUNTS, 0)),
 ]
 
@@ -90,6 +94,7 @@ FAULTS = [
 NAMED = {**tables(ONE), 'providers': full('uuid,name,root_provider_uuid,parent_provider_uuid\nP1,"\n= 0\n=",P1,\n')}
 LIKE_ENDS = [
     (f'hosts {TWO}', ended('root,name,fits,slot,lacks\nP1,?= 0?=,yes,,\n', 0)),
+    (f'list {TWO}', ended(LIST_HEADER + '1,VCPU=2,P1,?= 0?=,VCPU=0/8,\n', 0)),
     (f'why {TWO} P1', ended('slot,suffix,provider,name,lacks,detail\n1,,P1,?= 0?=,,\n,,P1,?= 0?=,,\n,,P1,?= 0?=,,fits\n', 0)),
     (f'tokens {TWO}', ended('P1\n', 0)),
 ]
@@ -179,6 +184,8 @@ def answer(command, asked, assignment, cloud):
         return lines(*map(names, found)), 0
     if command == 'candidates':
         return body(found, query, cloud), 0
+    if command == 'list':
+        return list_rows(found, query, cloud), 0
     if command == 'tokens after':
         return lines(*map(names, (one for one in found if every.index(one) > every.index(assignment)))), 0
     if command == 'verify':
@@ -213,8 +220,8 @@ def draw_assignment(chance, query, cloud):
     return chance.choice(found if found and chance.random() < 0.85 else every)
 
 
-JOBS = 'tokens', 'tokens after', 'candidates', 'verify', 'explain', 'hosts', 'why'
-KINDS = 'job', 'job', 'claim', 'claim', 'claim', 'release', 'release', 'usages', 'fault'
+JOBS = 'tokens', 'tokens after', 'candidates', 'list', 'verify', 'explain', 'hosts', 'why'
+KINDS = 'job', 'job', 'claim', 'claim', 'claim', 'release', 'release', 'fill', 'usages', 'fault'
 
 
 def draw_turn(chance, cloud, queries, claimed):
@@ -223,7 +230,12 @@ def draw_turn(chance, cloud, queries, claimed):
     if kind == 'usages':
         return 'usages', ended(*usage_rows(cloud))
     if kind == 'fault':
-        return chance.choice([*FAULTS[:40], ('', '')])
+        return chance.choice([*FAULTS[:46], ('', '')])
+    if kind == 'fill':  # few, so that there is room for what comes after
+        limit = chance.randint(1, 2)
+        placed = place_all(asked[0], cloud, limit)
+        claimed.extend((asked, assignment) for assignment in placed)
+        return f'fill {asked[1]}&limit={limit}', ended(lines(*map(names, placed)), 0 if placed else 1)
     if kind == 'release' and claimed and chance.random() < 0.7:
         asked, assignment = claimed.pop(chance.randrange(len(claimed)))
     else:
@@ -345,7 +357,7 @@ class Trace:
     def asks(self, *words):
         """Asks a job, and compares. Both answers are the same."""
         told = self.driver.ask(' '.join(words))
-        after = [words[0], words[1], '--after', *words[2:]] if words[0] in ('tokens', 'candidates') and len(words) > 2 else words
+        after = [words[0], words[1], '--after', *words[2:]] if words[0] in ('tokens', 'candidates', 'list') and len(words) > 2 else words
         alone = self.alone(*after)
         if told != alone:
             raise ValueError(f'{told!r}, and not {alone!r}')
@@ -376,14 +388,14 @@ class Trace:
     def turn(self):
         """One question of the trace."""
         flavor, slots = self.chance.choice(FLAVORS)
-        kind = self.chance.choice(('tokens', 'tokens', 'claim', 'claim', 'claim', 'release', 'release', 'hosts', 'explain', 'candidates', 'after', 'check'))
+        kind = self.chance.choice(('tokens', 'tokens', 'claim', 'claim', 'claim', 'release', 'release', 'hosts', 'explain', 'candidates', 'list', 'after', 'check'))
         token = self.tokens.get(flavor)
         if kind == 'check':  # it counts the rows that were read
             if self.driver.ask('check') != self.counts:
                 raise ValueError('check counts otherwise')
         elif kind in ('hosts', 'explain'):
             self.asks(kind, flavor)
-        elif kind == 'candidates':
+        elif kind in ('candidates', 'list'):
             self.asks(kind, flavor + '&limit=3')
         elif kind == 'tokens' or not token:
             found = self.asks('tokens', flavor + '&limit=40').split()

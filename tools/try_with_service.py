@@ -37,6 +37,10 @@ while IFS= read -r line; do printf '%s\\n' "$line"; case $line in *';') sleep 0.
 PAGE = os.path.join(ROOT, 'docs', 'DIFFERENCES.md')
 
 
+# What is asked of the client's list of candidates.
+LISTED = ['VCPU=2'], ['VCPU=2', 'MEMORY_MB=512'], ['VCPU=2', 'MEMORY_MB=512', 'DISK_GB=20'], ['SRIOV_NET_VF=1']
+
+
 class Refused(Exception):
     """The service refused what a cloud needs."""
 
@@ -237,6 +241,15 @@ def canonical(body):
     return found, {provider: {**summary, 'traits': sorted(summary['traits'])} for provider, summary in body['provider_summaries'].items()}
 
 
+def as_listed(text):
+    """The candidates in such a list: of each its rows, without their number and the provider's name. Neither their order counts nor that within a cell."""
+    found = {}
+    for row in read(text):
+        cells = (row['allocation'], row['inventory used/capacity'], row['traits'])
+        found.setdefault(row['#'], []).append((row['resource provider'], *(tuple(sorted(filter(None, cell.split(',')))) for cell in cells)))
+    return sorted(sorted(rows) for rows in found.values())
+
+
 def names(query):
     """The custom names that a query asks for, each with its kind."""
     for name, value in urllib.parse.parse_qsl(query):
@@ -345,6 +358,16 @@ class Trial:
                 self.say(False, f'{what}: {query}: {len(its[0])} candidates of the service, {len(mine[0])} of the program, or other summaries')
         self.say(same == len(queries), f'{what}: {same} of {len(queries)} queries have the same candidates and summaries, {total} candidates in all')
 
+    def lists(self, what, folder):
+        """Tries whether `list` writes the rows that the client prints. The client can ask for classes, traits and aggregates alone."""
+        for classes in LISTED:
+            asks = [word for item in classes for word in ('--resource', item)]
+            status, its, told = self.run(['openstack', '--os-placement-api-version', '1.29', 'allocation', 'candidate', 'list', '-f', 'csv', *asks],
+                                         OS_AUTH_TYPE='admin_token', OS_ENDPOINT=self.url, OS_TOKEN='admin')
+            code, out, err = self.ask('list', folder, 'resources=' + ','.join(classes).replace('=', ':'))
+            same = status == code == 0 and as_listed(out) == as_listed(its)
+            self.say(same, f'{what}: list of {",".join(classes)}: {len(as_listed(out)) if code == 0 else err} candidates, with the rows of the client{told}')
+
     def cloud(self, what, cloud, *rounds):
         """Puts this cloud into the service, exports it, and asks both the same queries."""
         self.service.fill(cloud)
@@ -353,6 +376,7 @@ class Trial:
             code, out, err = self.ask('check', folder)
             self.say(code == 0, f'{what}: the tables are accepted: {", ".join(out.splitlines())}{err}')
             self.compare(what, folder, asked(cloud))
+            self.lists(what, folder)
 
     def odd(self, what, cloud):
         """Tries whether ratios that the program doesn't read are exported all the same, as they are and rounded."""

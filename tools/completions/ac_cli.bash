@@ -4,7 +4,7 @@
 _ac_cli() {
     local word=$2 before=$3
     local tables='--tables --providers --inventories --usages --traits --aggregates'
-    local commands='check candidates tokens verify explain hosts why session help'
+    local commands='check candidates tokens list fill verify explain hosts why session help'
     COMPREPLY=()
     case $before in
     --tables)
@@ -31,7 +31,9 @@ _ac_cli() {
     else
         case ${COMP_WORDS[1]} in
         check) offered="$tables --help" ;;
-        candidates | tokens) offered="$tables --microversion --after --help" ;;
+        tokens) offered="$tables --microversion --after --help" ;;
+        candidates | list) offered="$tables --microversion --after --no-traits --help" ;;
+        fill) offered="$tables --microversion --sum --help" ;;
         verify) offered="$tables --microversion --detail --help" ;;
         explain | hosts | why | session) offered="$tables --microversion --help" ;;
         help) offered=$commands ;;

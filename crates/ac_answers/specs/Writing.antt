@@ -1,6 +1,5 @@
 -- What a sink takes of a text.
 pub mod Digits
-pub mod Rows
 use Rattle.std.specs.Prelude.{ℕ, List, Option, Result, Ok, Err}
 use Rattle.std.specs.Io.KnownBytes.{Appends}
 use Rattle.ac_base.specs.Devices.{Rises, TakesPart}

@@ -5,9 +5,9 @@
 
 mod explanation;
 mod host_rows;
+mod lacks;
 mod pieces;
 mod question;
-mod rows;
 mod why_rows;
 
 pub use explanation::{
@@ -17,5 +17,4 @@ pub use host_rows::{hosts_status, hosts_text};
 pub use pieces::digits::Digits;
 pub use pieces::push_pieces;
 pub use question::Question;
-pub use rows::{begin_rows, end_rows, write_row};
 pub use why_rows::{root_place, why_at};

@@ -7,22 +7,22 @@ ghost use Rattle.ac_cloud.specs.Cloud.CloudWorld.{providers_of};
 ghost use Rattle.ac_query.specs.Asked.{slots_of};
 ghost use Rattle.ac_query.specs.Shown.Groups.{need_entry};
 ghost use Rattle.ac_query.specs.Shown.Queries.{asked_of};
+ghost use Rattle.ac_report.specs.Rows.{HasRows};
 ghost use Rattle.ac_rules.specs.Placed.{slot_at};
 ghost use Rattle.ac_rules.specs.Shown.Assignments.{placed_of};
 ghost use Rattle.ac_search.specs.Hosts.{fits_at};
 ghost use Rattle.ac_search.specs.Lacking.{lack_at};
 ghost use Rattle.ac_answers.specs.HostRows.{lack_name, slot_shown};
 ghost use Rattle.ac_answers.specs.WhyRows.{detail_of, fits_shown, has_a_class, has_inventory, placed_row, root_lack, root_place, root_row, rows_of_slots, slot_rows, stage_shown, why_fields, why_status, why_text};
-ghost use Rattle.ac_answers.specs.Writing.Rows.{HasRows};
 
+use crate::lacks::{lack_name, slot_digits, stage_name};
 use crate::pieces::digits::Digits;
-use crate::rows::{begin_rows, end_rows, lack_name, slot_digits, stage_name, write_row};
 use ac_base::NoMemory;
 use ac_explain::details::{
     aggregates_detail, room_detail, root_detail, traits_detail, tree_detail, units_detail,
 };
 use ac_query::{Need, Query};
-use ac_report::{shown_name, suffix_text};
+use ac_report::{begin_rows, end_rows, shown_name, suffix_text, write_row};
 use ac_rules::Placed;
 use ac_rules::rules::anchor::takes_root;
 use ac_rules::slots::{count_slots, group_at, needs_at};

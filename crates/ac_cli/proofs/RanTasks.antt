@@ -11,14 +11,16 @@ use Rattle.ac_words.specs.Words.{Line}
 use Rattle.ac_words.specs.declared.words.Call.TheVariants.{Job, Session}
 use Rattle.ac_cli.specs.Program.{HeldSession, IsLine, Ran, RanCall, Streams, task_asked}
 
-abbrev task_with : Command → List ℕ → Version → Option (List ℕ) → Option (List ℕ) → Bool → Task
-task_with command query version token host detail = record { command = command; query = query; version = version; token = token; host = host; detail = detail }
+abbrev task_with : Command → List ℕ → Version → Option (List ℕ) → Option (List ℕ) → Bool → Bool → Bool → Task
+task_with command query version token host detail traits sum =
+    record { command = command; query = query; version = version; token = token; host = host; detail = detail; traits = traits; sum = sum }
 
-pub same_task : {c : Command} {q r : List ℕ} {v w : Version} {t u h i : Option (List ℕ)} {a b : Bool} → q ≡ r → v ≡ w → t ≡ u → h ≡ i → a ≡ b
-    → task_with c q v t h a ≡ task_with c r w u i b
-same_task {c} {q} {r} {v} {w} {t} {u} {h} {i} {a} {b} query version token host detail =
-    ap (λ x. task_with c x v t h a) query ∙ ap (λ x. task_with c r x t h a) version ∙ ap (λ x. task_with c r w x h a) token
-    ∙ ap (λ x. task_with c r w u x a) host ∙ ap (λ x. task_with c r w u i x) detail
+pub same_task : {c : Command} {q r : List ℕ} {v w : Version} {t u h i : Option (List ℕ)} {a b d e f g : Bool} → q ≡ r → v ≡ w → t ≡ u → h ≡ i → a ≡ b → d ≡ e
+    → f ≡ g → task_with c q v t h a d f ≡ task_with c r w u i b e g
+same_task {c} {q} {r} {v} {w} {t} {u} {h} {i} {a} {b} {d} {e} {f} {g} query version token host detail traits sum =
+    ap (λ x. task_with c x v t h a d f) query ∙ ap (λ x. task_with c r x t h a d f) version ∙ ap (λ x. task_with c r w x h a d f) token
+    ∙ ap (λ x. task_with c r w u x a d f) host ∙ ap (λ x. task_with c r w u i x d f) detail ∙ ap (λ x. task_with c r w u i b x f) traits
+    ∙ ap (λ x. task_with c r w u i b e x) sum
 
 pub ran_same : {R : Type 0} (remaining : R → Option (List ℕ)) (failures : R → ℕ) (t u : Task) (from to : FiveTables R) (s : Streams) (given : ℕ) → t ≡ u
     → Ran remaining failures t from to s given → Ran remaining failures u from to s given

@@ -1,5 +1,5 @@
 -- How the program ends, and what it leaves on its streams.
-use Rattle.std.specs.Prelude.{◌≡◌, ◌≢◌, ◌<◌, ◌≤◌, ◌⊎◌, ℕ, false, List, [], ◌∷◌, codes, length, Option, Some, None, Contains}
+use Rattle.std.specs.Prelude.{◌≡◌, ◌≢◌, ◌<◌, ◌≤◌, ◌⊎◌, ℕ, false, true, List, [], ◌∷◌, codes, length, Option, Some, None, Contains}
 use Rattle.std.specs.Io.KnownBytes.{Appends, Keeps, append_known}
 use Rattle.clap.specs.Words.{IsAmong, Kinds, Row, Text}
 use Rattle.clap.specs.declared.error.kind.ErrorKind.{ErrorKind}
@@ -101,7 +101,7 @@ HeldSession {R} {Q} remaining failures asked fails version from to questions s g
 
 -- the task that a line asks for, with its command
 abbrev pub task_asked : Line → Command → Task
-task_asked line command = record { command = command; query = line.query; version = line.version; token = line.token; host = line.host; detail = line.detail }
+task_asked line command = record { command = command; query = line.query; version = line.version; token = line.token; host = line.host; detail = line.detail; traits = line.with_traits; sum = line.sum }
 
 -- what a line calls for was done over feeds of tables that were these before and after: a job was run, or a session was held
 abbrev pub RanCall : {R Q : Type 0} → (R → Option (List ℕ)) → (R → ℕ) → (Q → Option (List ℕ)) → (Q → ℕ)
@@ -169,7 +169,7 @@ EndsForWords Ends words s given =
 
 -- the task and the tables of a call without words
 abbrev pub sample_task : Task
-sample_task = record { command = Tokens; query = codes "resources=VCPU:2"; version = V136; token = None; host = None; detail = false }
+sample_task = record { command = Tokens; query = codes "resources=VCPU:2"; version = V136; token = None; host = None; detail = false; traits = true; sum = false }
 
 unfoldable pub sample_bytes : Bytes
 sample_bytes = record {

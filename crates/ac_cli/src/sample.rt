@@ -29,6 +29,8 @@ pub fn job() -> Job<'static>
         token: None,
         host: None,
         detail: false,
+        traits: true,
+        sum: false,
     }
 }
 

@@ -31,6 +31,7 @@ pub record AreByPart (all : List Provider) (asked : Asked) (parts : List ℕ) (p
   pub count : length places ≡ length (slots_of asked)
   pub each : (s : ℕ) (d : Places) → s < length (slots_of asked) → IsByPart (choice_of all asked (slot_at asked s)) parts (slice_index_or places s d)
 
+-- the choices of each slot but the first are by tree
 pub record AreByTree (all : List Provider) (asked : Asked) (trees : List ByTree) : Type 0 where
   pub count : length trees ≡ length (slots_of asked)
-  pub each : (s : ℕ) (d : ByTree) → s < length (slots_of asked) → IsByTree all (choice_of all asked (slot_at asked s)) (slice_index_or trees s d)
+  pub each : (s : ℕ) (d : ByTree) → 0 < s → s < length (slots_of asked) → IsByTree all (choice_of all asked (slot_at asked s)) (slice_index_or trees s d)

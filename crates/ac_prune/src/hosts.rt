@@ -13,7 +13,6 @@ mod loads;
 use crate::choices::Choices;
 use crate::front::Front;
 use crate::ledger::Ledger;
-use crate::ledger::marks::taken_roots;
 use crate::look_ahead::LookAhead;
 use crate::tuning::MOST_STEPS;
 use ac_base::NoMemory;
@@ -102,11 +101,14 @@ fn limit_classes(
     requires hosts { MayHost ledger.now may.old }
     ensures { IfOk result (λ _. MayHost ledger.now may.new) }
 {
-    for class in &ledger.classes {
+    for (number, class) in ledger.classes.iter().enumerate() {
         if !may.contains(&true) || budget.tests == 0 {
             return Ok(());
         }
-        Column::new(alloc, ledger, class)?.limit(alloc, test, budget, may)?;
+        // Where one slot alone asks for a class, its choices have told as much.
+        if count_asking(&ledger.asks, number, 1) > 1 {
+            Column::new(alloc, ledger, class)?.limit(alloc, test, budget, may)?;
+        }
     }
     Ok(())
 }
@@ -146,7 +148,8 @@ impl Hosts {
         requires { Accounts choices.now.ledger.now [] }
         ensures { IfOk result (λ hosts. MayHost choices.now.ledger.now hosts.may.items) }
     {
-        let mut may = taken_roots(alloc, choices.ledger.cloud, choices.ledger.query)?;
+        let mut may = Vec::new(alloc);
+        may.extend_from_slice(&choices.ledger.taken)?;
         limit_all(alloc, choices, &mut may)?;
         Ok(Hosts { may })
     }

@@ -37,7 +37,7 @@ pub struct Ledger<'a> {
     pub(crate) lone: Vec<bool>,
     marks: Vec<u32>,
     // The roots that the query takes, and at how many providers of the path each is available.
-    taken: Vec<bool>,
+    pub(crate) taken: Vec<bool>,
     pub(crate) hits: Vec<u32>,
     ghost known: { (s : ℕ) → s < length (slots_of (asked_of query.now)) → All (λ need. IsKnown (map (λ c. class_bytes c.now) classes.items) need.0) (slot_at (asked_of query.now) s).needs },
     ghost asked: { map (λ v. map ask_pair v.items) asks.items ≡ map (λ slot. map (numbered (map (λ c. class_bytes c.now) classes.items)) slot.needs) (slots_of (asked_of query.now)) },

@@ -11,14 +11,14 @@ use ac_base::NoMemory;
 use ac_rules::slots::count_slots;
 use std::alloc::Global;
 
-/// The choices of each slot by tree.
+/// The choices of each slot but the first by tree; none of the first.
 #[derive(Drop)]
 pub(crate) struct Trees {
     slots: Vec<ByTree>,
 }
 
 impl Trees {
-    /// The choices of all slots, by tree.
+    /// The choices of all slots but the first, by tree.
     pub(crate) fn new(alloc: Global, choices: &Choices) -> Result<Trees, NoMemory>
         ensures { IfOk result (λ trees. AreByTree (providers_in choices.now.ledger.now)
             (asked_in choices.now.ledger.now) trees.slots.items) }
@@ -26,7 +26,9 @@ impl Trees {
         let ledger = choices.ledger;
         let mut slots = Vec::new(alloc);
         for s in 0..count_slots(ledger.query) {
-            slots.push(ByTree::new(alloc, ledger.cloud, choices.of_slot(s))?)?;
+            // No path stands before the first slot, so its choices aren't looked for by tree.
+            let sought = if s > 0 { choices.of_slot(s) } else { &[] };
+            slots.push(ByTree::new(alloc, ledger.cloud, sought)?)?;
         }
         Ok(Trees { slots })
     }

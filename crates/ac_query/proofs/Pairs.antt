@@ -9,3 +9,4 @@ pub mod Gathering
 pub mod Drafts
 pub mod Fits
 pub mod Ordered
+pub mod Named

@@ -10,6 +10,10 @@ pub enum Command {
     Candidates,
     /// Writes each candidate as a token, one a line.
     Tokens,
+    /// Writes a row for each provider of each candidate, as a table.
+    List,
+    /// Places again and again, each time at the first candidate that is left, and writes each placement as a token, or how many there are.
+    Fill,
     /// Writes whether a token is a candidate.
     Verify,
     /// Writes how many providers and roots come how far, and whether there is a candidate.
@@ -20,7 +24,7 @@ pub enum Command {
     Why,
 }
 
-/// What is to be done, for which query, version, token and host, and in how much detail.
+/// What is to be done, for which query, version, token and host, in how much detail, and with or without traits.
 #[derive(Clone, Copy, Debug, PartialEq, Eq)]
 pub struct Job<'a> {
     pub command: Command,
@@ -28,11 +32,15 @@ pub struct Job<'a> {
     pub query: &'a str,
     /// The microversion of the API by which the query is read; `V136` for `Check`, where it says nothing.
     pub version: Version,
-    /// For `Verify` the token to judge, which is there; for `Candidates` and `Tokens` the one to begin after; none for `Check`, `Explain`, `Hosts` and `Why`.
+    /// For `Verify` the token to judge, which is there; for `Candidates`, `Tokens` and `List` the one to begin after; none for the others.
     pub token: Option<&'a str>,
     /// For `Why` a provider of the host that is asked about, by its UUID, or by a name that no other provider has; without one no provider is
     /// named. None for the others.
     pub host: Option<&'a str>,
     /// For `Verify` whether it is said of what a rule is broken; `false` for the others.
     pub detail: bool,
+    /// For `Candidates` and `List` whether the traits of providers are written; `true` for the others.
+    pub traits: bool,
+    /// For `Fill` whether it is written how many placements there are, in place of their tokens; `false` for the others.
+    pub sum: bool,
 }

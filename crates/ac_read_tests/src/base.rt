@@ -1,101 +1,134 @@
 //! Worked values, and each reader that takes memory once with ample memory.
-use ac_base::{ClassName, Inventory, Ratio, Suffix, TraitName};
+use ac_base::{ClassName, Inventory, NoMemory, Ratio, Suffix, TraitName};
+use std::alloc::Global;
 use std::test::Fail;
 
 mod devices;
 mod refusals;
 
+// Whether a text is read as the name of a class, or is none.
+fn reads_class(alloc: Global, text: &[u8], is_name: bool) -> Result<bool, NoMemory> {
+    Ok(match ClassName::read(alloc, text)? {
+        Some(name) => is_name && name.text().as_bytes() == text,
+        None => !is_name,
+    })
+}
+
+// As the name of a trait.
+fn reads_trait(alloc: Global, text: &[u8], is_name: bool) -> Result<bool, NoMemory> {
+    Ok(match TraitName::read(alloc, text)? {
+        Some(name) => is_name && name.text().as_bytes() == text,
+        None => !is_name,
+    })
+}
+
+// As a suffix.
+fn reads_suffix(alloc: Global, text: &[u8], is_suffix: bool) -> Result<bool, NoMemory> {
+    Ok(match Suffix::read(alloc, text)? {
+        Some(suffix) => is_suffix && suffix.text().as_bytes() == text,
+        None => !is_suffix,
+    })
+}
+
+static CLASSES: [(&[u8], bool); 6] = [
+    (b"VCPU", true),
+    (&[b'A'; 255], true),
+    (b"vcpu", false),
+    (b"", false),
+    (b"CUSTOM-GOLD", false),
+    (&[b'A'; 256], false),
+];
+
 #[test]
 fn class_names(rt: HostRuntime) -> Result<(), Fail> {
-    let alloc = rt.alloc();
-    match ClassName::read(alloc, b"VCPU")? {
-        Some(name) => assert_eq!(rt; name.text(), "VCPU"),
-        None => assert!(rt; false, "VCPU is a name"),
-    }
-    let long = [b'A'; 256];
-    assert!(rt; ClassName::read(alloc, &long[..255])?.is_some());
-    let refused = [b"vcpu".as_slice(), b"", b"CUSTOM-GOLD", &long];
-    for text in refused.as_slice() {
-        assert!(rt; ClassName::read(alloc, text)?.is_none());
+    for (number, (text, is_name)) in CLASSES.iter().enumerate() {
+        assert!(rt; reads_class(rt.alloc(), text, *is_name)?, "class {number}");
     }
     Ok(())
 }
+
+static SUFFIXES: [(&[u8], bool); 4] = [
+    (b"_NUMA", true),
+    (b"", false),
+    (&[b'a'; 64], true),
+    (&[b'a'; 65], false),
+];
 
 #[test]
 fn trait_names_and_suffixes(rt: HostRuntime) -> Result<(), Fail> {
-    let alloc = rt.alloc();
-    match TraitName::read(alloc, b"HW_NUMA_ROOT")? {
-        Some(name) => assert_eq!(rt; name.text(), "HW_NUMA_ROOT"),
-        None => assert!(rt; false, "HW_NUMA_ROOT is a name"),
+    for (text, is_name) in [("HW_NUMA_ROOT", true), ("hw_x", false)] {
+        let holds = reads_trait(rt.alloc(), text.as_bytes(), is_name)?;
+        assert!(rt; holds, "trait {text}");
     }
-    match Suffix::read(alloc, b"_NUMA")? {
-        Some(suffix) => assert_eq!(rt; suffix.text(), "_NUMA"),
-        None => assert!(rt; false, "_NUMA is a suffix"),
+    for (number, (text, is_suffix)) in SUFFIXES.iter().enumerate() {
+        let holds = reads_suffix(rt.alloc(), text, *is_suffix)?;
+        assert!(rt; holds, "suffix {number}");
     }
-    assert!(rt; TraitName::read(alloc, b"hw_x")?.is_none());
-    assert!(rt; Suffix::read(alloc, b"")?.is_none());
-    assert!(rt; Suffix::read(alloc, &[b'a'; 64])?.is_some());
-    assert!(rt; Suffix::read(alloc, &[b'a'; 65])?.is_none());
     Ok(())
 }
 
+// The capacity of an inventory of a total, of what is reserved, and of a ratio.
+fn capacity(total: u32, reserved: u32, ratio: &[u8]) -> Option<u64> {
+    let ratio = Ratio::read(ratio)?;
+    let inventory = Inventory::new(total, reserved, 1, 10, 1, ratio)?;
+    Some(inventory.capacity())
+}
+
 // total, reserved, ratio, and the capacity that they make
+static CAPACITIES: [(u32, u32, &str, u64); 10] = [
+    (3, 1, "1.5", 3),
+    (1, 0, "1.999", 1),
+    (8, 8, "16", 0),
+    (8, 0, "1.2345", 9),
+    (1_000_000, 0, "1.000001", 1_000_001),
+    (3, 0, "0.333333", 0),
+    (3, 0, "0.333334", 1),
+    (2_147_483_647, 0, "1000000", 2_147_483_647_000_000),
+    (2_147_483_647, 0, "1000000.000000", 2_147_483_647_000_000),
+    (2_147_483_647, 0, "8589.934597", 18_446_744_075_857),
+];
+
 #[test]
 fn capacities(rt: HostRuntime) {
-    let cases = [
-        (3, 1, b"1.5".as_slice(), 3),
-        (1, 0, b"1.999", 1),
-        (8, 8, b"16", 0),
-        (8, 0, b"1.2345", 9),
-        (1_000_000, 0, b"1.000001", 1_000_001),
-        (3, 0, b"0.333333", 0),
-        (3, 0, b"0.333334", 1),
-        (2_147_483_647, 0, b"1000000", 2_147_483_647_000_000),
-        (2_147_483_647, 0, b"1000000.000000", 2_147_483_647_000_000),
-        (2_147_483_647, 0, b"8589.934597", 18_446_744_075_857),
-    ];
-    for (total, reserved, ratio, capacity) in cases.as_slice() {
-        match Ratio::read(ratio) {
-            Some(ratio) => match Inventory::new(*total, *reserved, 1, 10, 1, ratio) {
-                Some(inventory) => assert_eq!(rt; inventory.capacity(), *capacity),
-                None => assert!(rt; false, "an inventory"),
-            },
-            None => assert!(rt; false, "a ratio"),
-        }
+    for &(total, reserved, ratio, want) in &CAPACITIES {
+        let got = capacity(total, reserved, ratio.as_bytes());
+        assert!(rt; got == Some(want), "{total} by {ratio}");
     }
 }
 
+static ACCEPTED: [&str; 9] = [
+    "1",
+    "0",
+    "1.500000",
+    "0.125",
+    "1.2345",
+    "0.000001",
+    "999999.999999",
+    "1.2345670000",
+    "1000000.000",
+];
+
+static REFUSED: [&str; 12] = [
+    "",
+    "1.",
+    ".5",
+    "+1",
+    "1e-05",
+    "1.2345678",
+    "1.23456700001",
+    "1.234567 ",
+    "1.5.0",
+    "1000000.000001",
+    "1000000.001",
+    "00000001",
+];
+
 #[test]
 fn ratios(rt: HostRuntime) {
-    let accepted = [
-        b"1".as_slice(),
-        b"0",
-        b"1.500000",
-        b"0.125",
-        b"1.2345",
-        b"0.000001",
-        b"999999.999999",
-        b"1.2345670000",
-        b"1000000.000",
-    ];
-    for text in accepted.as_slice() {
-        assert!(rt; Ratio::read(text).is_some());
+    for text in &ACCEPTED {
+        assert!(rt; Ratio::read(text.as_bytes()).is_some(), "{text}");
     }
-    let refused = [
-        b"".as_slice(),
-        b"1.",
-        b".5",
-        b"+1",
-        b"1e-05",
-        b"1.2345678",
-        b"1.23456700001",
-        b"1.234567 ",
-        b"1.5.0",
-        b"1000000.000001",
-        b"1000000.001",
-        b"00000001",
-    ];
-    for text in refused.as_slice() {
-        assert!(rt; Ratio::read(text).is_none());
+    for text in &REFUSED {
+        assert!(rt; Ratio::read(text.as_bytes()).is_none(), "{text}");
     }
 }

@@ -70,6 +70,8 @@ fn asks<'a>(
         token,
         host: None,
         detail: false,
+        traits: true,
+        sum: false,
     };
     gives(alloc, line, job)
 }
@@ -104,6 +106,70 @@ fn candidates(rt: HostRuntime) -> Result<(), Fail> {
             "{line}"
         );
     }
+    Ok(())
+}
+
+// Lines of `candidates` and of `list` that leave out traits.
+const BARE: [(&str, Command); 3] = [
+    (
+        "ac_cli candidates --no-traits q --tables d",
+        Command::Candidates,
+    ),
+    (
+        "ac_cli list q --no-traits --providers a --inventories b",
+        Command::List,
+    ),
+    ("ac_cli list --tables d --no-traits q", Command::List),
+];
+
+const SUMS: [(&str, bool); 3] = [
+    ("ac_cli fill q --tables d", false),
+    ("ac_cli fill --sum q --tables d", true),
+    ("ac_cli fill --tables d q --sum", true),
+];
+
+#[test]
+fn fills(rt: HostRuntime) -> Result<(), Fail> {
+    for (line, sum) in &SUMS {
+        let job = Job {
+            command: Command::Fill,
+            query: "q",
+            version: Version::V136,
+            token: None,
+            host: None,
+            detail: false,
+            traits: true,
+            sum: *sum,
+        };
+        assert!(rt; gives(rt.alloc(), line, job)?, "{line}");
+    }
+    Ok(())
+}
+
+#[test]
+fn without_traits(rt: HostRuntime) -> Result<(), Fail> {
+    for (line, command) in &BARE {
+        let job = Job {
+            command: *command,
+            query: "q",
+            version: Version::V136,
+            token: None,
+            host: None,
+            detail: false,
+            traits: false,
+            sum: false,
+        };
+        assert!(rt; gives(rt.alloc(), line, job)?, "{line}");
+    }
+    Ok(())
+}
+
+#[test]
+fn list(rt: HostRuntime) -> Result<(), Fail> {
+    let plain = "ac_cli list q --tables d";
+    assert!(rt; asks(rt.alloc(), plain, Command::List, "q", None)?);
+    let after = "ac_cli list --after t q --providers a --inventories b";
+    assert!(rt; asks(rt.alloc(), after, Command::List, "q", Some("t"))?);
     Ok(())
 }
 
@@ -160,6 +226,8 @@ fn verify_in_detail(rt: HostRuntime) -> Result<(), Fail> {
             token: Some("t"),
             host: None,
             detail: true,
+            traits: true,
+            sum: false,
         };
         assert!(rt; gives(rt.alloc(), line, job)?, "{line}");
     }
@@ -216,6 +284,8 @@ fn why(rt: HostRuntime) -> Result<(), Fail> {
             token: None,
             host: Some("h"),
             detail: false,
+            traits: true,
+            sum: false,
         };
         assert!(rt; gives(rt.alloc(), line, job)?, "{line}");
     }
@@ -256,6 +326,8 @@ fn versions(rt: HostRuntime) -> Result<(), Fail> {
         token: None,
         host: None,
         detail: false,
+        traits: true,
+        sum: false,
     };
     let older = "ac_cli tokens q --microversion 1.36 --providers a --inventories b";
     assert!(rt; gives(rt.alloc(), older, job)?);
@@ -394,6 +466,10 @@ const CALLS_FOR_HELP: &[&str] = &[
     "ac_cli candidates --help",
     "ac_cli help tokens",
     "ac_cli tokens -h",
+    "ac_cli help list",
+    "ac_cli list --help",
+    "ac_cli help fill",
+    "ac_cli fill --help",
     "ac_cli help verify",
     "ac_cli verify q --help",
     "ac_cli help explain",
@@ -412,7 +488,7 @@ const BELOW_EACH: &[(&str, &[&str])] = &[
         "ac_cli --help",
         &[
             "  0  the answer is written",
-            "  1  `verify` says no, or `explain`, `hosts` or `why` finds no candidate",
+            "  1  `verify` says no, or `fill`, `explain`, `hosts` or `why` finds no candidate",
             "  2  the command line was refused",
             "  3  a table was refused, or a table or the questions could not be read",
             "  4  the query was refused",
@@ -457,6 +533,32 @@ const BELOW_EACH: &[(&str, &[&str])] = &[
             "  6  a write failed",
             "  7  out of memory",
             "  ac_cli tokens 'resources=VCPU:2,DISK_GB:20&limit=10' --tables cloud",
+        ],
+    ),
+    (
+        "ac_cli list --help",
+        &[
+            "  0  the candidates are written, if there are any",
+            "  2  the command line was refused",
+            "  3  a table was refused, or could not be read",
+            "  4  the query was refused",
+            "  5  the token was refused",
+            "  6  a write failed",
+            "  7  out of memory",
+            "  ac_cli list 'resources=VCPU:2,DISK_GB:20&limit=10' --tables cloud | column -ts,",
+        ],
+    ),
+    (
+        "ac_cli fill --help",
+        &[
+            "  0  something was placed",
+            "  1  nothing fits",
+            "  2  the command line was refused",
+            "  3  a table was refused, or could not be read",
+            "  4  the query was refused",
+            "  6  a write failed",
+            "  7  out of memory",
+            "  ac_cli fill 'resources=VCPU:2,DISK_GB:20&limit=50' --tables cloud",
         ],
     ),
     (
@@ -566,6 +668,8 @@ const COMMANDS: &[&str] = &[
     "  check       Checks the tables, and counts what they hold",
     "  candidates  Writes the candidates for a query as JSON, with summaries of their providers",
     "  tokens      Writes the candidates for a query, one per line: the UUIDs of their providers",
+    "  list        Writes the candidates for a query as rows, one for each of their providers (CSV)",
+    "  fill        Places a query again and again, as long as there is room: how many more fit, and where",
     "  verify      Writes whether a token is a candidate for a query, or which rule it breaks",
     "  explain     Writes how many providers and trees meet a query, rule by rule: why nothing is found",
     "  hosts       Writes whether a query fits at each root, and what is missing there (CSV)",
@@ -603,6 +707,10 @@ const SEARCHES: &[&str] = &[
     "      --after <TOKEN>           Begins after this candidate, written as `tokens` writes it",
 ];
 
+const FILLED: &[&str] = &[
+    "      --sum                     Writes how many fit by first fit, and how many can at most, in place of where",
+];
+
 const VERIFIED: &[&str] = &[
     "  <QUERY>  What is asked for, between '..' since the shell reads & ! and ? otherwise; of a URL, what stands behind its ?",
     "  <TOKEN>  The UUIDs of providers, as `tokens` writes them",
@@ -632,6 +740,8 @@ fn help_tells_the_options(rt: HostRuntime) -> Result<(), Fail> {
     assert!(rt; tells(rt.alloc(), "ac_cli help check", TABLES)?);
     assert!(rt; tells(rt.alloc(), "ac_cli help candidates", SEARCHES)?);
     assert!(rt; tells(rt.alloc(), "ac_cli help tokens", SEARCHES)?);
+    assert!(rt; tells(rt.alloc(), "ac_cli help list", SEARCHES)?);
+    assert!(rt; tells(rt.alloc(), "ac_cli help fill", FILLED)?);
     assert!(rt; tells(rt.alloc(), "ac_cli help verify", VERIFIED)?);
     assert!(rt; tells(rt.alloc(), "ac_cli help why", ASKED_WHY)?);
     Ok(())
@@ -650,6 +760,16 @@ const CANDIDATES_USAGE: &[&str] = &[
 const TOKENS_USAGE: &[&str] = &[
     "Usage: ac_cli tokens [OPTIONS] --tables <DIR> <QUERY>",
     "       ac_cli tokens [OPTIONS] --providers <FILE> --inventories <FILE> <QUERY>",
+];
+
+const LIST_USAGE: &[&str] = &[
+    "Usage: ac_cli list [OPTIONS] --tables <DIR> <QUERY>",
+    "       ac_cli list [OPTIONS] --providers <FILE> --inventories <FILE> <QUERY>",
+];
+
+const FILL_USAGE: &[&str] = &[
+    "Usage: ac_cli fill [OPTIONS] --tables <DIR> <QUERY>",
+    "       ac_cli fill [OPTIONS] --providers <FILE> --inventories <FILE> <QUERY>",
 ];
 
 const VERIFY_USAGE: &[&str] = &[
@@ -682,6 +802,8 @@ fn help_tells_the_usage(rt: HostRuntime) -> Result<(), Fail> {
     assert!(rt; tells(rt.alloc(), "ac_cli help check", CHECK_USAGE)?);
     assert!(rt; tells(rt.alloc(), "ac_cli help candidates", CANDIDATES_USAGE)?);
     assert!(rt; tells(rt.alloc(), "ac_cli help tokens", TOKENS_USAGE)?);
+    assert!(rt; tells(rt.alloc(), "ac_cli help list", LIST_USAGE)?);
+    assert!(rt; tells(rt.alloc(), "ac_cli help fill", FILL_USAGE)?);
     assert!(rt; tells(rt.alloc(), "ac_cli help verify", VERIFY_USAGE)?);
     assert!(rt; tells(rt.alloc(), "ac_cli help explain", EXPLAIN_USAGE)?);
     assert!(rt; tells(rt.alloc(), "ac_cli help hosts", HOSTS_USAGE)?);

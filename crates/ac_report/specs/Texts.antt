@@ -1,4 +1,4 @@
--- The texts of pages: the body of a list of lists, the pieces that it is written in, and a line for each list.
+-- The texts of pages: what is shown of providers, the body of a list of lists, the pieces that it is written in, and a line for each list.
 use Rattle.std.specs.Prelude.{ℕ, ◌==◌, Bool, true, false, List, [], ◌∷◌, ◌++◌, codes, map, length}
 use Rattle.std.specs.List.{filter, flat_map, list_any, range_with_len}
 use Rattle.serde_json.specs.Data.{Data, array, object, string, no_members, member}
@@ -9,6 +9,17 @@ use Rattle.ac_query.specs.Asked.{Asked}
 use Rattle.ac_query.specs.Tokens.{ids_text}
 use Rattle.ac_rules.specs.Pages.{ids_of}
 use Rattle.ac_report.specs.Trees.{gathered, provider_text, summary, request}
+
+-- ---- what is shown
+
+-- a provider without its traits
+abbrev pub without_traits : Provider → Provider
+without_traits p = record p { traits = [] }
+
+-- all providers as they are, or without their traits
+abbrev pub shown_providers : Bool → List Provider → List Provider
+shown_providers true all = all
+shown_providers false all = map without_traits all
 
 -- the text of a request
 unfoldable pub request_text : List Provider → Asked → List ℕ → List ℕ

@@ -18,15 +18,15 @@ use ac_query::Query;
 use ac_rules::Source;
 use std::alloc::Global;
 
-// Whether no further list is wanted, of so many that are.
-pub(crate) fn is_over(wanted: Option<u32>) -> bool
+/// Whether no further list is wanted, of so many that are.
+pub fn is_over(wanted: Option<u32>) -> bool
     ensures { IsTrue result ↔ (wanted ≡ Some 0) }
 {
     wanted == Some(0)
 }
 
-// How many lists are wanted behind the next one.
-pub(crate) fn one_less(wanted: Option<u32>) -> Option<u32>
+/// How many lists are wanted behind the next one.
+pub fn one_less(wanted: Option<u32>) -> Option<u32>
     ensures { result ≡ one_less wanted }
 {
     match wanted {
@@ -35,8 +35,8 @@ pub(crate) fn one_less(wanted: Option<u32>) -> Option<u32>
     }
 }
 
-// Pushes a piece.
-pub(crate) fn push_piece<W: Sink>(out: &mut W, text: &[u8]) -> Result<(), PageFault>
+/// Pushes a piece.
+pub fn push_piece<W: Sink>(out: &mut W, text: &[u8]) -> Result<(), PageFault>
     ensures { (piece : List ℕ → List ℕ) (x : List ℕ) → piece x ≡ text.now
         → Writes piece (x ∷ []) result (W.taken out.old) (W.taken out.new)
         (W.failures out.old) (W.failures out.new) }
@@ -68,8 +68,8 @@ fn put_ids(text: &mut Vec<u8>, cloud: &Cloud, list: &[u32]) -> Result<(), NoMemo
     Ok(())
 }
 
-// Makes a text the line of a list.
-fn put_line(text: &mut Vec<u8>, cloud: &Cloud, list: &[u32]) -> Result<(), NoMemory>
+/// Makes a text the line of a list.
+pub fn put_line(text: &mut Vec<u8>, cloud: &Cloud, list: &[u32]) -> Result<(), NoMemory>
     requires { All (λ ix. ix < length (providers_of cloud.now)) list.now }
     ensures { OnOk result (text.new.items ≡ line (providers_of cloud.now) list.now) }
 {

@@ -8,10 +8,10 @@ ghost use Rattle.ac_cloud.specs.Cloud.CloudWorld.{providers_of};
 ghost use Rattle.ac_cloud.specs.World.{id_at};
 ghost use Rattle.ac_query.specs.Shown.Queries.{asked_of};
 ghost use Rattle.ac_rules.specs.Pages.{cut};
-ghost use Rattle.ac_report.specs.Marks.{IsMarked, has_root, is_summarized, requests, summaries};
+ghost use Rattle.ac_report.specs.Marks.{IsMarked, body_pieces, has_root, is_summarized, requests, summaries};
 ghost use Rattle.ac_report.specs.Outcomes.{Reads, Writes};
 ghost use Rattle.ac_report.specs.Pages.{IsAssignment, LosesSome, TakesWhole, behind};
-ghost use Rattle.ac_report.specs.Texts.{body, meets_root, pieces, summarized, summary_piece};
+ghost use Rattle.ac_report.specs.Texts.{body, meets_root, pieces, shown_providers, summarized, summary_piece};
 
 use crate::fault::PageFault;
 use crate::lines::{is_over, one_less, push_piece};
@@ -115,14 +115,16 @@ fn write_summary<W: Sink>(
     alloc: Global,
     cloud: &Cloud,
     ix: u32,
+    traits: bool,
     later: bool,
     out: &mut W,
 ) -> Result<(), PageFault>
     requires { ix < length (providers_of cloud.now) }
-    ensures { Writes (λ text. text) ((comma_if later ++ summary_piece (providers_of cloud.now) ix)
-        ∷ []) result (W.taken out.old) (W.taken out.new) (W.failures out.old) (W.failures out.new) }
+    ensures { Writes (λ text. text) ((comma_if later
+        ++ summary_piece (shown_providers traits (providers_of cloud.now)) ix) ∷ []) result
+        (W.taken out.old) (W.taken out.new) (W.failures out.old) (W.failures out.new) }
 {
-    let member = summary_member(alloc, cloud, ix)?;
+    let member = summary_member(alloc, cloud, ix, traits)?;
     push_listed(out, later, without_braces(&member))
 }
 
@@ -141,11 +143,12 @@ fn write_summaries<W: Sink>(
     alloc: Global,
     cloud: &Cloud,
     marks: &[bool],
+    traits: bool,
     out: &mut W,
 ) -> Result<(), PageFault>
     requires { length marks.now ≡ length (providers_of cloud.now) }
     ensures { (lists : List (List ℕ)) → IsMarked (providers_of cloud.now) lists marks.now
-        → Writes (λ text. text) (summaries (providers_of cloud.now) false
+        → Writes (λ text. text) (summaries (shown_providers traits (providers_of cloud.now)) false
         (summarized (providers_of cloud.now) lists)) result (W.taken out.old) (W.taken out.new)
         (W.failures out.old) (W.failures out.new) }
 {
@@ -154,7 +157,7 @@ fn write_summaries<W: Sink>(
         if !is_marked(cloud, marks, ix) {
             continue;
         }
-        write_summary(alloc, cloud, ix, later, out)?;
+        write_summary(alloc, cloud, ix, traits, later, out)?;
         later = true;
     }
     Ok(())
@@ -165,6 +168,7 @@ fn write_parts<S: Source, W: Sink>(
     alloc: Global,
     cloud: &Cloud,
     query: &Query,
+    traits: bool,
     source: &mut S,
     out: &mut W,
     marks: &mut [bool],
@@ -174,23 +178,61 @@ fn write_parts<S: Source, W: Sink>(
     requires marks { IsMarked (providers_of cloud.now) [] marks.old }
     ensures reads { Reads (asked_of query.now).limit 0 result (S.left source.old)
         (S.left source.new) }
-    ensures writes { Writes (λ text. text) (pieces (providers_of cloud.now) (asked_of query.now)
-        (cut (asked_of query.now).limit (S.left source.old))) result (W.taken out.old)
-        (W.taken out.new) (W.failures out.old) (W.failures out.new) }
+    ensures writes { Writes (λ text. text) (body_pieces traits (providers_of cloud.now)
+        (asked_of query.now) (cut (asked_of query.now).limit (S.left source.old))) result
+        (W.taken out.old) (W.taken out.new) (W.failures out.old) (W.failures out.new) }
 {
     push_piece(out, b"{\"allocation_requests\":[")?;
     let count = write_requests(alloc, cloud, query, source, out, marks)?;
     push_piece(out, b"],\"provider_summaries\":{")?;
-    write_summaries(alloc, cloud, marks, out)?;
+    write_summaries(alloc, cloud, marks, traits, out)?;
     push_piece(out, b"}}\n")?;
     Ok(count)
 }
 
 /// Writes the JSON body of the lists that are left, at most as many as the query's limit, with the summaries of their providers' trees,
-/// and answers how many lists these are, at most 4294967295.
+/// in which traits are told or not, and answers how many lists these are, at most 4294967295.
 ///
 /// The next list is taken only once the request of the one before is pushed whole.
-#[tactic(auto, using(ac_base::proofs::Leaving::part_none, crate::proofs::Pages::Joining::is_body))]
+#[tactic(auto, using(ac_base::proofs::Leaving::part_none, crate::proofs::Pages::Showing::is_shown_body, crate::proofs::Pages::Showing::pieces_shown))]
+pub fn write_shown_page<S: Source, W: Sink>(
+    alloc: Global,
+    cloud: &Cloud,
+    query: &Query,
+    traits: bool,
+    source: &mut S,
+    out: &mut W,
+) -> Result<u32, PageFault>
+    requires { All (IsAssignment (providers_of cloud.now) (asked_of query.now))
+        (S.left source.old) }
+    ensures text { OnOk result (Appends (W.taken out.old) (W.taken out.new)
+        (body (shown_providers traits (providers_of cloud.now)) (asked_of query.now)
+        (cut (asked_of query.now).limit (S.left source.old)))) }
+    ensures left { OnOk result (S.left source.new
+        ≡ behind (asked_of query.now).limit (S.left source.old)) }
+    ensures count { IfOk result (λ n.
+        n ≡ min (length (cut (asked_of query.now).limit (S.left source.old))) 4294967295) }
+    ensures part { OnErr result (TakesPart (W.taken out.old) (W.taken out.new)
+        (body (shown_providers traits (providers_of cloud.now)) (asked_of query.now)
+        (cut (asked_of query.now).limit (S.left source.old)))) }
+    ensures gone { OnErr result (LosesSome (asked_of query.now).limit (S.left source.old)
+        (S.left source.new)) }
+    ensures failed { result ≡ Err PageFault.WriteFailed
+        → Rises (W.failures out.old) (W.failures out.new) }
+    ensures whole { result ≡ Err PageFault.NoMemory
+        → TakesWhole (λ text. text) (pieces (shown_providers traits (providers_of cloud.now))
+        (asked_of query.now) (cut (asked_of query.now).limit (S.left source.old)))
+        (W.taken out.old) (W.taken out.new) }
+    ensures failures { W.failures out.old ≤ W.failures out.new }
+{
+    let mut marks = new_marks(alloc, cloud)?;
+    write_parts(alloc, cloud, query, traits, source, out, &mut marks)
+}
+
+/// Writes the JSON body of the lists that are left, at most as many as the query's limit, with the summaries of their providers' trees,
+/// traits among them, and answers how many lists these are, at most 4294967295.
+///
+/// The next list is taken only once the request of the one before is pushed whole.
 pub fn write_page<S: Source, W: Sink>(
     alloc: Global,
     cloud: &Cloud,
@@ -219,6 +261,5 @@ pub fn write_page<S: Source, W: Sink>(
         (cut (asked_of query.now).limit (S.left source.old))) (W.taken out.old) (W.taken out.new) }
     ensures failures { W.failures out.old ≤ W.failures out.new }
 {
-    let mut marks = new_marks(alloc, cloud)?;
-    write_parts(alloc, cloud, query, source, out, &mut marks)
+    write_shown_page(alloc, cloud, query, true, source, out)
 }

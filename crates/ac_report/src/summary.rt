@@ -5,12 +5,12 @@ ghost use Rattle.std.specs.Map.{keys_of};
 ghost use Rattle.serde_json.specs.Events.{SendsValue};
 ghost use Rattle.ac_base.specs.Names.{trait_bytes};
 ghost use Rattle.ac_base.specs.Texts.{text_cmp};
-ghost use Rattle.ac_cloud.specs.World.{id_at, parent_of};
+ghost use Rattle.ac_cloud.specs.World.{id_at, parent_of, provider_at};
 ghost use Rattle.ac_cloud.specs.Cloud.CloudWorld.{providers_of};
 ghost use Rattle.ac_cloud.specs.Cloud.Entries.{entry_pair};
 ghost use Rattle.ac_report.specs.Parts.{named_summary};
 ghost use Rattle.ac_report.specs.Trees.{holding, id_or_null, texts, holdings, summary};
-ghost use Rattle.ac_report.specs.Texts.{summary_piece, summary_text};
+ghost use Rattle.ac_report.specs.Texts.{shown_providers, summary_piece, summary_text};
 
 use crate::ids::{send_id, send_name};
 use ac_base::{Id, NoMemory, TraitName};
@@ -18,11 +18,12 @@ use ac_cloud::{Cloud, Entry};
 use serde::{Described, Serialize, Serializer};
 use std::alloc::Global;
 
-// What is told of a provider.
+// What is told of a provider, with its traits or without.
 #[derive(Clone, Copy)]
 struct Summary<'a> {
     cloud: &'a Cloud,
     ix: u32,
+    traits: bool,
     ghost inside: { ix < length (providers_of cloud.now) },
 }
 
@@ -77,6 +78,15 @@ fn send_traits<S: Serializer>(traits: &[TraitName], out: &mut S) -> Result<(), S
     out.end_seq()
 }
 
+// The traits of a provider that are shown: all of them, or none.
+pub(crate) fn shown_traits(cloud: &Cloud, ix: u32, traits: bool) -> &[TraitName]
+    requires { ix < length (providers_of cloud.now) }
+    ensures { map trait_bytes result.now
+        ≡ (provider_at (shown_providers traits (providers_of cloud.now)) ix).traits }
+{
+    if traits { cloud.traits(ix) } else { &[] }
+}
+
 fn parent_id(cloud: &Cloud, ix: u32) -> Option<Id>
     requires { ix < length (providers_of cloud.now) }
     ensures { result ≡ parent_of (providers_of cloud.now) (id_at (providers_of cloud.now) ix) }
@@ -85,7 +95,8 @@ fn parent_id(cloud: &Cloud, ix: u32) -> Option<Id>
 }
 
 impl<'a> Described for Summary<'a> {
-    ghost writes = { λ s. SendsValue (summary (providers_of s.cloud.now) s.ix) };
+    ghost writes = { λ s. SendsValue
+        (summary (shown_providers s.traits (providers_of s.cloud.now)) s.ix) };
 }
 
 impl<'a> Serialize for Summary<'a> {
@@ -99,19 +110,25 @@ impl<'a> Serialize for Summary<'a> {
         out.key("root_provider_uuid")?;
         send_id(self.cloud.id(self.cloud.root(self.ix)), out)?;
         out.key("traits")?;
-        send_traits(self.cloud.traits(self.ix), out)?;
+        send_traits(shown_traits(self.cloud, self.ix, self.traits), out)?;
         out.end_map()
     }
 }
 
 /// The summary of a provider as compact JSON: its parent, how much of each class it has and how much of that is used, its root and its traits.
-#[tactic(auto, using(crate::proofs::Trees::PlainTrees::summary_plain, serde_json::proofs::FreeTexts::text_of_value), unfolding(crate::specs::Texts::summary_text))]
 pub fn summary_text(alloc: Global, cloud: &Cloud, ix: u32) -> Result<String, NoMemory>
     requires { ix < length (providers_of cloud.now) }
     ensures { IfOk result (λ s. string_bytes s ≡ summary_text (providers_of cloud.now) ix) }
 {
     // Each text and each whole number can be written as JSON, so only memory can be wanting.
-    match serde_json::to_string(alloc, &Summary { cloud, ix }) {
+    match serde_json::to_string(
+        alloc,
+        &Summary {
+            cloud,
+            ix,
+            traits: true,
+        },
+    ) {
         Ok(text) => Ok(text),
         Err(_) => Err(NoMemory),
     }
@@ -125,7 +142,8 @@ struct NamedSummary<'a> {
 
 impl<'a> Described for NamedSummary<'a> {
     ghost writes = { λ s. SendsValue
-        (named_summary (providers_of s.summary.cloud.now) s.summary.ix) };
+        (named_summary (shown_providers s.summary.traits (providers_of s.summary.cloud.now))
+        s.summary.ix) };
 }
 
 impl<'a> Serialize for NamedSummary<'a> {
@@ -139,12 +157,17 @@ impl<'a> Serialize for NamedSummary<'a> {
 }
 
 // A summary after its quoted id and a colon, in braces.
-pub(crate) fn summary_member(alloc: Global, cloud: &Cloud, ix: u32) -> Result<Vec<u8>, NoMemory>
+pub(crate) fn summary_member(
+    alloc: Global,
+    cloud: &Cloud,
+    ix: u32,
+    traits: bool,
+) -> Result<Vec<u8>, NoMemory>
     requires { ix < length (providers_of cloud.now) }
-    ensures { IfOk result (λ v.
-        v.items ≡ 123 ∷ (summary_piece (providers_of cloud.now) ix ++ 125 ∷ [])) }
+    ensures { IfOk result (λ v. v.items
+        ≡ 123 ∷ (summary_piece (shown_providers traits (providers_of cloud.now)) ix ++ 125 ∷ [])) }
 {
-    let summary = Summary { cloud, ix };
+    let summary = Summary { cloud, ix, traits };
     match serde_json::to_vec(alloc, &NamedSummary { summary }) {
         Ok(text) => Ok(text),
         Err(_) => Err(NoMemory),

@@ -9,7 +9,9 @@ ghost use Rattle.ac_report.specs.Pages.{IsAssignment};
 use ac_base::{MemSink, Sink, Turn};
 use ac_example_clouds::{NONE, ONE, PAIR, Rows, cloud_of, expanded, scene_of};
 use ac_query::Query;
-use ac_report::{PageFault, request_text, summary_text, write_page, write_tokens};
+use ac_report::{
+    PageFault, request_text, summary_text, write_list, write_page, write_shown_page, write_tokens,
+};
 use ac_rules::Source;
 use ac_tables::Cloud;
 use std::alloc::{AllocError, Global};
@@ -108,7 +110,10 @@ fn are_assignments(cloud: &Cloud, query: &Query, lists: &[&[u32]]) -> bool
 #[derive(Clone, Copy)]
 enum Writer {
     Page,
+    BarePage,
     Tokens,
+    List,
+    BareList,
 }
 
 fn write_by<S: Source, W: Sink>(
@@ -124,7 +129,10 @@ fn write_by<S: Source, W: Sink>(
 {
     match writer {
         Writer::Page => write_page(alloc, cloud, query, source, out),
+        Writer::BarePage => write_shown_page(alloc, cloud, query, false, source, out),
         Writer::Tokens => write_tokens(alloc, cloud, query, source, out),
+        Writer::List => write_list(alloc, cloud, query, true, source, out),
+        Writer::BareList => write_list(alloc, cloud, query, false, source, out),
     }
 }
 
@@ -233,6 +241,12 @@ const TOKENS: Case<'static> = Case {
     ..PAGE
 };
 
+const LIST: Case<'static> = Case {
+    writer: Writer::List,
+    text: "#,allocation,resource provider,name,inventory used/capacity,traits\n1,VCPU=2,@01,,VCPU=0/8,\n",
+    ..PAGE
+};
+
 const FAILS: Result<u32, PageFault> = Err(PageFault::WriteFailed);
 
 const LIMITED: &str = "resources=VCPU:2&limit=1";
@@ -243,7 +257,7 @@ const ZERO: &[u32] = &[0];
 
 const THOUSAND: &[&[u32]] = &[ZERO; 1000];
 
-static CASES: [Case<'static>; 13] = [
+static CASES: [Case<'static>; 14] = [
     PAGE,
     Case {
         rows: NONE,
@@ -327,6 +341,14 @@ static CASES: [Case<'static>; 13] = [
         calls: 1,
         ..TOKENS
     },
+    Case {
+        writer: Writer::BarePage,
+        rows: SHARED,
+        query: "resources=DISK_GB:10",
+        lists: &[&[4]],
+        text: "{\"allocation_requests\":[{\"allocations\":{\"@09\":{\"resources\":{\"DISK_GB\":10}}},\"mappings\":{\"\":[\"@09\"]}}],\"provider_summaries\":{\"@09\":{\"parent_provider_uuid\":null,\"resources\":{\"DISK_GB\":{\"capacity\":100,\"used\":0}},\"root_provider_uuid\":\"@09\",\"traits\":[]}}}\n",
+        ..PAGE
+    },
     // The sink stops inside the second request.
     Case {
         lists: THOUSAND,
@@ -346,6 +368,69 @@ static CASES: [Case<'static>; 13] = [
 #[test]
 fn bodies_and_lines(rt: HostRuntime) -> Result<(), Fail> {
     for (number, case) in CASES.iter().enumerate() {
+        assert!(rt; is_met(rt.alloc(), case)?, "case {number}: {}", case.query);
+    }
+    Ok(())
+}
+
+static ROWS: [Case<'static>; 6] = [
+    // The providers of a list stand in the order of their UUIDs, whatever that of the slots is.
+    Case {
+        rows: SHARED,
+        query: "resources=DISK_GB:10,VCPU:1",
+        lists: &[&[4, 0], &[4, 2]],
+        answer: Ok(2),
+        text: "#,allocation,resource provider,name,inventory used/capacity,traits\n\
+            1,VCPU=1,@01,,VCPU=0/8,\n\
+            1,DISK_GB=10,@09,,DISK_GB=0/100,MISC_SHARES_VIA_AGGREGATE\n\
+            2,VCPU=1,@03,,VCPU=0/8,\n\
+            2,DISK_GB=10,@09,,DISK_GB=0/100,MISC_SHARES_VIA_AGGREGATE\n",
+        calls: 3,
+        ..LIST
+    },
+    Case {
+        writer: Writer::BareList,
+        rows: SHARED,
+        query: "resources=DISK_GB:10&limit=1",
+        lists: &[&[4], &[4]],
+        text: "#,allocation,resource provider,name,inventory used/capacity,traits\n\
+            1,DISK_GB=10,@09,,DISK_GB=0/100,\n",
+        calls: 1,
+        ..LIST
+    },
+    // What is needed of a provider by two slots is one row, and one that nothing is needed of has none.
+    Case {
+        rows: PAIR,
+        query: "resources1=VCPU:1&resources2=VCPU:2&required3=!CUSTOM_A&same_subtree=1,3&group_policy=none",
+        lists: &[&[1, 1, 0]],
+        text: "#,allocation,resource provider,name,inventory used/capacity,traits\n1,VCPU=3,@02,,VCPU=0/8,\n",
+        ..LIST
+    },
+    Case {
+        rows: OVERUSED,
+        text: "#,allocation,resource provider,name,inventory used/capacity,traits\n1,VCPU=2,@01,,VCPU=9/8,\n",
+        ..LIST
+    },
+    Case {
+        query: LIMITED,
+        lists: THOUSAND,
+        calls: 1,
+        ..LIST
+    },
+    // The sink stops inside the rows of the first list.
+    Case {
+        lists: THOUSAND,
+        turns: &[Turn::Up(1000), Turn::Up(3), Turn::Failed],
+        answer: FAILS,
+        text: "#,allocation,resource provider,name,inventory used/capacity,traits\n1,V",
+        calls: 1,
+        ..LIST
+    },
+];
+
+#[test]
+fn rows(rt: HostRuntime) -> Result<(), Fail> {
+    for (number, case) in ROWS.iter().enumerate() {
         assert!(rt; is_met(rt.alloc(), case)?, "case {number}: {}", case.query);
     }
     Ok(())

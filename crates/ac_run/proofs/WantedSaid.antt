@@ -3,7 +3,7 @@ use Rattle.std.proofs.Common.{◌≡◌, ◌∙◌, ℕ, List, Option, Some, ap}
 use Rattle.std.specs.Prelude.{Ok}
 use Rattle.ac_query.specs.Asked.{Asked}
 use Rattle.ac_cloud.specs.World.{World}
-use Rattle.ac_run.specs.Answer.{Says, Task, answer_in, explanation, host_found, host_rows, on_host, page_body, page_lines, past_query, verdict_line, why_not, why_rows}
+use Rattle.ac_run.specs.Answer.{Says, Task, answer_in, explanation, host_found, host_rows, on_host, page_body, page_lines, page_rows, fills, past_query, verdict_line, why_not, why_rows}
 use Rattle.ac_run.specs.Asking.{ExplainsHost}
 use Rattle.ac_run.specs.Jobs.{ExplainsAsked, ExplainsWanted}
 use Rattle.ac_run.specs.declared.refusal.Refusal.{Refusal}
@@ -15,11 +15,17 @@ module _ (task : Task) (world : World) where
   abbrev SaysIt : Says → Type 0
   SaysIt say = answer_in task.command task world ≡ past_query say task
 
-  says_body : task.command ≡ command.Candidates → SaysIt (page_body world.providers)
+  says_body : task.command ≡ command.Candidates → SaysIt (page_body world.providers task.traits)
   says_body is = ap (λ k. answer_in k task world) is
 
   says_lines : task.command ≡ command.Tokens → SaysIt (page_lines world.providers)
   says_lines is = ap (λ k. answer_in k task world) is
+
+  says_rows : task.command ≡ command.List → SaysIt (page_rows world.providers task.traits)
+  says_rows is = ap (λ k. answer_in k task world) is
+
+  says_fill : task.command ≡ command.Fill → SaysIt (fills world.providers task.sum)
+  says_fill is = ap (λ k. answer_in k task world) is
 
   says_verdict : task.command ≡ command.Verify → SaysIt (verdict_line world.providers task.detail)
   says_verdict is = ap (λ k. answer_in k task world) is
@@ -47,10 +53,16 @@ module _ (task : Task) (world : World) where
 
   module _ (refusal : Refusal) (h : ExplainsAsked task refusal) where
     pub explains_body : task.command ≡ command.Candidates → ExplainsWanted task world refusal
-    explains_body is = explains (page_body world.providers) (says_body is) refusal h
+    explains_body is = explains (page_body world.providers task.traits) (says_body is) refusal h
 
     pub explains_lines : task.command ≡ command.Tokens → ExplainsWanted task world refusal
     explains_lines is = explains (page_lines world.providers) (says_lines is) refusal h
+
+    pub explains_rows : task.command ≡ command.List → ExplainsWanted task world refusal
+    explains_rows is = explains (page_rows world.providers task.traits) (says_rows is) refusal h
+
+    pub explains_fill : task.command ≡ command.Fill → ExplainsWanted task world refusal
+    explains_fill is = explains (fills world.providers task.sum) (says_fill is) refusal h
 
     pub explains_verdict : task.command ≡ command.Verify → ExplainsWanted task world refusal
     explains_verdict is = explains (verdict_line world.providers task.detail) (says_verdict is) refusal h
@@ -67,11 +79,17 @@ module _ (task : Task) (world : World) where
   -- ---- what was read
 
   module _ (asked : Asked) (ids : Option (List ℕ)) (said : (say : Says) → past_query say task ≡ say asked ids) where
-    pub said_body : task.command ≡ command.Candidates → answer_in task.command task world ≡ page_body world.providers asked ids
-    said_body is = says_body is ∙ said (page_body world.providers)
+    pub said_body : task.command ≡ command.Candidates → answer_in task.command task world ≡ page_body world.providers task.traits asked ids
+    said_body is = says_body is ∙ said (page_body world.providers task.traits)
 
     pub said_lines : task.command ≡ command.Tokens → answer_in task.command task world ≡ page_lines world.providers asked ids
     said_lines is = says_lines is ∙ said (page_lines world.providers)
+
+    pub said_rows : task.command ≡ command.List → answer_in task.command task world ≡ page_rows world.providers task.traits asked ids
+    said_rows is = says_rows is ∙ said (page_rows world.providers task.traits)
+
+    pub said_fill : task.command ≡ command.Fill → answer_in task.command task world ≡ fills world.providers task.sum asked ids
+    said_fill is = says_fill is ∙ said (fills world.providers task.sum)
 
     pub said_verdict : {list : List ℕ} → ids ≡ Some list → task.command ≡ command.Verify → answer_in task.command task world ≡ verdict_line world.providers task.detail asked (Some list)
     said_verdict e is = says_verdict is ∙ said (verdict_line world.providers task.detail) ∙ ap (verdict_line world.providers task.detail asked) e

@@ -23,8 +23,11 @@ use Rattle.ac_query.specs.declared.token.TokenFault.{TokenFault}
 use Rattle.ac_rules.specs.Judge.{judge}
 use Rattle.ac_rules.specs.Pages.{page}
 use Rattle.ac_search.specs.Hosts.{fits_at, fitting}
-use Rattle.ac_report.specs.Texts.{body, lines}
-use Rattle.ac_run.specs.Outputs.{counts, detailed_text, verdict_status, verdict_text}
+use Rattle.ac_report.specs.ListRows.{list_text}
+use Rattle.ac_report.specs.Texts.{body, lines, shown_providers}
+use Rattle.ac_fill.specs.Bounds.{most_placed}
+use Rattle.ac_fill.specs.Filled.{filled}
+use Rattle.ac_run.specs.Outputs.{counted, counts, detailed_text, fill_status, sum_text, verdict_status, verdict_text}
 use Rattle.ac_answers.specs.Explanation.{explanation_status, explanation_text}
 use Rattle.ac_answers.specs.Explanation.Candidates.{has_candidate}
 use Rattle.ac_answers.specs.HostRows.{hosts_status, hosts_text}
@@ -34,7 +37,8 @@ use Rattle.ac_run.specs.Lines.{too_large_line, record_line, query_line, token_li
 use Rattle.ac_query.specs.declared.job.Command.{Command}
 use Rattle.ac_query.specs.declared.job.Command.TheVariants as command
 
--- what is asked: the query, the version that reads it, perhaps a token or a host, and whether it is said of what a rule is broken
+-- what is asked: the query, the version that reads it, perhaps a token or a host, whether it is said of what a rule is broken, whether traits are
+-- written, and whether the number of placements stands in place of their tokens
 pub record Task : Type 0 where
   pub command : Command
   pub query : List ℕ
@@ -42,6 +46,8 @@ pub record Task : Type 0 where
   pub token : Option (List ℕ)
   pub host : Option (List ℕ)
   pub detail : Bool
+  pub traits : Bool
+  pub sum : Bool
 
 -- what is answered
 pub record Outcome : Type 0 where
@@ -87,11 +93,22 @@ token_refusal asked (Some text) = token_fault asked text
 abbrev pub Says : Type 0
 Says = Asked → Option (List ℕ) → Outcome
 
-abbrev pub page_body : List Provider → Says
-page_body all asked ids = written (body all asked (page all asked ids asked.limit)) 0
+abbrev pub page_body : List Provider → Bool → Says
+page_body all traits asked ids = written (body (shown_providers traits all) asked (page all asked ids asked.limit)) 0
 
 abbrev pub page_lines : List Provider → Says
 page_lines all asked ids = written (lines all (page all asked ids asked.limit)) 0
+
+abbrev pub page_rows : List Provider → Bool → Says
+page_rows all traits asked ids = written (list_text (shown_providers traits all) asked (page all asked ids asked.limit)) 0
+
+-- placements, one after another: their tokens, or how many there are and how many there can be at most
+abbrev pub fill_text : Bool → List Provider → Asked → List (List ℕ) → List ℕ
+fill_text false all asked ts = lines all ts
+fill_text true all asked ts = sum_text (counted ts) (most_placed all asked)
+
+abbrev pub fills : List Provider → Bool → Says
+fills all sum asked ids = written (fill_text sum all asked (filled asked.limit all asked)) (fill_status (filled asked.limit all asked))
 
 abbrev pub verdict_line : List Provider → Bool → Says
 verdict_line all detail asked ids = verdict_on all detail asked (option_and_then (places_of all) ids)
@@ -130,8 +147,10 @@ past_query say task =
 -- the answer of a command in a world
 abbrev pub answer_in : Command → Task → World → Outcome
 answer_in command.Check task world = written (counts world.sizes) 0
-answer_in command.Candidates task world = past_query (page_body world.providers) task
+answer_in command.Candidates task world = past_query (page_body world.providers task.traits) task
 answer_in command.Tokens task world = past_query (page_lines world.providers) task
+answer_in command.Fill task world = past_query (fills world.providers task.sum) task
+answer_in command.List task world = past_query (page_rows world.providers task.traits) task
 answer_in command.Verify task world = past_query (verdict_line world.providers task.detail) task
 answer_in command.Explain task world = past_query (explanation world.providers) task
 answer_in command.Hosts task world = past_query (host_rows world.providers) task

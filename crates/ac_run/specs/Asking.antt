@@ -1,5 +1,5 @@
 -- What a job asks, and why it is refused.
-use Rattle.std.specs.Prelude.{◌≡◌, ◌<◌, ℕ, List, length, Option, Some, None, Result, Err, ⊤}
+use Rattle.std.specs.Prelude.{◌≡◌, ◌<◌, ℕ, true, List, length, Option, Some, None, Result, Err, ⊤}
 use Rattle.std.specs.Option.{option_map}
 use Rattle.ac_cloud.specs.World.{Provider, World}
 use Rattle.ac_cloud.specs.declared.cloud.naming.HostFault.{HostFault}
@@ -10,7 +10,8 @@ use Rattle.ac_query.specs.Shown.Queries.{asked_of}
 use Rattle.ac_query.specs.Tokens.{ids_of}
 use Rattle.ac_query.specs.declared.fault.QueryFault.{QueryFault}
 use Rattle.ac_query.specs.declared.token.TokenFault.{TokenFault}
-use Rattle.ac_run.specs.Answer.{Outcome, explanation, host_rows, page_body, page_lines, verdict_line, why_not, written}
+use Rattle.ac_fill.specs.Filled.{asks_units}
+use Rattle.ac_run.specs.Answer.{Outcome, explanation, host_rows, page_body, page_lines, page_rows, fills, verdict_line, why_not, written}
 use Rattle.ac_run.specs.Outputs.{counts}
 use Rattle.ac_run.specs.declared.asking.Wanted.{Wanted}
 use Rattle.ac_run.specs.declared.asking.Wanted.TheVariants as wanted
@@ -20,8 +21,10 @@ use Rattle.ac_run.specs.declared.refusal.Refusal.TheVariants as why
 -- the answer to what is wanted, in a world
 abbrev pub answer_to : Wanted → World → Outcome
 answer_to wanted.Counts world = written (counts world.sizes) 0
-answer_to (wanted.Body query token) world = page_body world.providers (asked_of query) (option_map ids_of token)
+answer_to (wanted.Body query token traits) world = page_body world.providers traits (asked_of query) (option_map ids_of token)
 answer_to (wanted.Lines query token) world = page_lines world.providers (asked_of query) (option_map ids_of token)
+answer_to (wanted.Rows query token traits) world = page_rows world.providers traits (asked_of query) (option_map ids_of token)
+answer_to (wanted.Fill query sum) world = fills world.providers sum (asked_of query) None
 answer_to (wanted.Verdict query token detail) world = verdict_line world.providers detail (asked_of query) (Some (ids_of token))
 answer_to (wanted.Explanation question) world = explanation world.providers (asked_of question.query) None
 answer_to (wanted.Hosts query) world = host_rows world.providers (asked_of query) None
@@ -31,6 +34,11 @@ answer_to (wanted.Why query host) world = why_not world.providers (asked_of quer
 abbrev pub HasIdForEachSlot : Wanted → Type 0
 HasIdForEachSlot (wanted.Verdict query token detail) = length (ids_of token) ≡ length (slots_of (asked_of query))
 HasIdForEachSlot _ = ⊤
+
+-- a query that is placed again and again asks for an amount of a class
+abbrev pub AsksUnits : Wanted → Type 0
+AsksUnits (wanted.Fill query sum) = asks_units (asked_of query) ≡ true
+AsksUnits _ = ⊤
 
 -- the provider that is asked about is there
 abbrev pub HasHost : List Provider → Wanted → Type 0

@@ -9,7 +9,7 @@ use Rattle.ac_run.specs.declared.refusal.Refusal.TheVariants as why
 use Rattle.ac_query.specs.declared.job.Job.{Job}
 
 abbrev pub task_of : Job → Task
-task_of job = record { command = job.command; query = job.query.now; version = job.version; token = option_map (λ token. token.now) job.token; host = option_map (λ host. host.now) job.host; detail = job.detail }
+task_of job = record { command = job.command; query = job.query.now; version = job.version; token = option_map (λ token. token.now) job.token; host = option_map (λ host. host.now) job.host; detail = job.detail; traits = job.traits; sum = job.sum }
 
 -- why a task's query or token is refused, whatever would be said of them; or memory gave out
 abbrev pub ExplainsAsked : Task → Refusal → Type 0

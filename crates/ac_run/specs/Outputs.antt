@@ -1,5 +1,5 @@
--- The small outputs: the counts of the tables, and the verdict on a list.
-use Rattle.std.specs.Prelude.{ℕ, List, [], ◌∷◌, codes}
+-- The small outputs: the counts of the tables, the verdict on a list, and how many placements there are.
+use Rattle.std.specs.Prelude.{ℕ, min, List, [], ◌∷◌, codes, length}
 use Rattle.std.specs.Fmt.{decimal}
 use Rattle.ac_answers.specs.Pieces.{newline, said}
 use Rattle.ac_cloud.specs.World.{Provider, Sizes}
@@ -45,3 +45,16 @@ detailed_text all asked list (verdict.Broken r) = said (broken_name r ∷ codes 
 abbrev pub verdict_status : Verdict → ℕ
 verdict_status verdict.Candidate = 0
 verdict_status (verdict.Broken r) = 1
+
+-- how many placements are told of some: all, but no more than can be counted
+abbrev pub counted : List (List ℕ) → ℕ
+counted ts = min (length ts) 4294967295
+
+-- how many placements there are, and how many there can be at most
+unfoldable pub sum_text : ℕ → ℕ → List ℕ
+sum_text least most = said (codes "at least " ∷ decimal least ∷ codes ", at most " ∷ decimal most ∷ newline ∷ [])
+
+-- something was placed
+abbrev pub fill_status : List (List ℕ) → ℕ
+fill_status [] = 1
+fill_status (t ∷ ts) = 0

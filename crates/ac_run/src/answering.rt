@@ -8,43 +8,28 @@ ghost use Rattle.ac_cloud.specs.Cloud.CloudWorld.{providers_of, world_of};
 ghost use Rattle.ac_query.specs.Asked.{slots_of};
 ghost use Rattle.ac_query.specs.Shown.Queries.{asked_of};
 ghost use Rattle.ac_query.specs.Tokens.{ids_of};
-ghost use Rattle.ac_run.specs.Answer.{explanation, host_rows, page_body, page_lines, verdict_line, verdict_on, why_not, written};
-ghost use Rattle.ac_run.specs.Asking.{HasHost, HasIdForEachSlot, answer_to};
+ghost use Rattle.ac_run.specs.Answer.{explanation, host_rows, page_body, page_lines, page_rows, verdict_line, verdict_on, why_not, written};
+ghost use Rattle.ac_run.specs.Asking.{AsksUnits, HasHost, HasIdForEachSlot, answer_to};
 ghost use Rattle.ac_run.specs.Outputs.{counts, detailed_text, verdict_status, verdict_text};
 ghost use Rattle.ac_report.specs.declared.fault.PageFault.TheVariants as PageFault;
 ghost use Rattle.ac_rules.specs.declared.verdict.Verdict.TheVariants as Verdict;
 ghost use Rattle.ac_run.specs.Run.{IsWritten};
 
 use crate::asking::Wanted;
-use crate::outputs::{detailed_line, push_counts, push_verdict, verdict_status};
+use crate::filling::write_fill;
+use crate::outputs::{detailed_line, push_counts, push_text, push_verdict, verdict_status};
 use ac_answers::{
     Question, explanation_status, find_without, has_candidate, hosts_status, hosts_text,
     push_explanation, push_reasons, root_place, why_at,
 };
-use ac_base::{NoMemory, Sink, push_all};
+use ac_base::{NoMemory, Sink};
 use ac_explain::broken_detail;
 use ac_query::{Query, Token};
-use ac_report::{PageFault, write_page, write_tokens};
+use ac_report::{PageFault, write_list, write_shown_page, write_tokens};
 use ac_rules::{Assignment, InCloud, Rule, Verdict, verify};
 use ac_search::{Walk, all_slots, find_lacks, fitting_roots, tree_counts};
 use ac_tables::Cloud;
 use std::alloc::Global;
-
-// A text that is at hand, with its status.
-fn push_text<W: Sink>(out: &mut W, text: &[u8], status: u8) -> Result<u8, PageFault>
-    requires { status ≤ 1 }
-    ensures few { IfOk result (λ status. status ≤ 1) }
-    ensures ok { IfOk result (IsWritten (written text.now status) (W.taken out.old)
-        (W.taken out.new)) }
-    ensures part { OnErr result (TakesPart (W.taken out.old) (W.taken out.new)
-        (written text.now status).output) }
-    ensures failed { result ≡ Err PageFault.WriteFailed
-        → Rises (W.failures out.old) (W.failures out.new) }
-    ensures failures { W.failures out.old ≤ W.failures out.new }
-{
-    push_all(out, text)?;
-    Ok(status)
-}
 
 // How much the tables told.
 fn write_counts<W: Sink>(cloud: &Cloud, out: &mut W) -> Result<u8, PageFault>
@@ -87,19 +72,21 @@ fn write_lines<W: Sink>(
     }
 }
 
-// The body of a page.
+// The body of a page, with traits or without.
 fn write_body<W: Sink>(
     alloc: Global,
     cloud: &Cloud,
     query: &Query,
     token: &Option<Token>,
+    traits: bool,
     out: &mut W,
 ) -> Result<u8, PageFault>
     ensures few { IfOk result (λ status. status ≤ 1) }
-    ensures ok { IfOk result (IsWritten (page_body (providers_of cloud.now) (asked_of query.now)
-        (option_map ids_of token.now)) (W.taken out.old) (W.taken out.new)) }
+    ensures ok { IfOk result (IsWritten (page_body (providers_of cloud.now) traits
+        (asked_of query.now) (option_map ids_of token.now)) (W.taken out.old) (W.taken out.new)) }
     ensures part { OnErr result (TakesPart (W.taken out.old) (W.taken out.new)
-        (page_body (providers_of cloud.now) (asked_of query.now) (option_map ids_of token.now)).output) }
+        (page_body (providers_of cloud.now) traits (asked_of query.now)
+        (option_map ids_of token.now)).output) }
     ensures failed { result ≡ Err PageFault.WriteFailed
         → Rises (W.failures out.old) (W.failures out.new) }
     ensures failures { W.failures out.old ≤ W.failures out.new }
@@ -107,7 +94,35 @@ fn write_body<W: Sink>(
     let Ok(mut source) = Walk::new(alloc, cloud, query, token.as_ref()) else {
         return Err(PageFault::NoMemory);
     };
-    match write_page(alloc, cloud, query, &mut source, out) {
+    match write_shown_page(alloc, cloud, query, traits, &mut source, out) {
+        Ok(_count) => Ok(0),
+        Err(fault) => Err(fault),
+    }
+}
+
+// The rows of a page, with traits or without.
+fn write_rows<W: Sink>(
+    alloc: Global,
+    cloud: &Cloud,
+    query: &Query,
+    token: &Option<Token>,
+    traits: bool,
+    out: &mut W,
+) -> Result<u8, PageFault>
+    ensures few { IfOk result (λ status. status ≤ 1) }
+    ensures ok { IfOk result (IsWritten (page_rows (providers_of cloud.now) traits
+        (asked_of query.now) (option_map ids_of token.now)) (W.taken out.old) (W.taken out.new)) }
+    ensures part { OnErr result (TakesPart (W.taken out.old) (W.taken out.new)
+        (page_rows (providers_of cloud.now) traits (asked_of query.now)
+        (option_map ids_of token.now)).output) }
+    ensures failed { result ≡ Err PageFault.WriteFailed
+        → Rises (W.failures out.old) (W.failures out.new) }
+    ensures failures { W.failures out.old ≤ W.failures out.new }
+{
+    let Ok(mut source) = Walk::new(alloc, cloud, query, token.as_ref()) else {
+        return Err(PageFault::NoMemory);
+    };
+    match write_list(alloc, cloud, query, traits, &mut source, out) {
         Ok(_count) => Ok(0),
         Err(fault) => Err(fault),
     }
@@ -321,6 +336,7 @@ pub fn write_answer<W: Sink>(
 ) -> Result<u8, PageFault>
     requires slots { HasIdForEachSlot wanted.now }
     requires host { HasHost (providers_of cloud.now) wanted.now }
+    requires units { AsksUnits wanted.now }
     ensures few { IfOk result (λ status. status ≤ 1) }
     ensures ok { IfOk result (IsWritten (answer_to wanted.now (world_of cloud.now))
         (W.taken out.old) (W.taken out.new)) }
@@ -332,8 +348,14 @@ pub fn write_answer<W: Sink>(
 {
     match wanted {
         Wanted::Counts => write_counts(cloud, out),
-        Wanted::Body(query, token) => write_body(alloc, cloud, query, token, out),
+        Wanted::Body(query, token, traits) => {
+            write_body(alloc, cloud, query, token, *traits, out)
+        }
         Wanted::Lines(query, token) => write_lines(alloc, cloud, query, token, out),
+        Wanted::Rows(query, token, traits) => {
+            write_rows(alloc, cloud, query, token, *traits, out)
+        }
+        Wanted::Fill(query, sum) => write_fill(alloc, cloud, query, *sum, out),
         Wanted::Verdict(query, token, detail) => {
             write_verdict(alloc, cloud, query, token, *detail, out)
         }

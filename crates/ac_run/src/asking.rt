@@ -1,6 +1,6 @@
 //! What a job asks: its query, and perhaps a token or a host.
 
-ghost use Rattle.std.specs.Prelude.{◌≡◌, IfOk, IfErr, IfSome, Ok, OnOk, Some, None, is_some, length};
+ghost use Rattle.std.specs.Prelude.{true, ◌≡◌, IfOk, IfErr, IfSome, Ok, OnOk, Some, None, is_some, length};
 ghost use Rattle.std.specs.Option.{option_map};
 ghost use Rattle.ac_query.specs.Asked.{slots_of};
 ghost use Rattle.ac_query.specs.Faults.{query_fault};
@@ -10,8 +10,9 @@ ghost use Rattle.ac_query.specs.Pairs.{pairs_of};
 ghost use Rattle.ac_query.specs.Shown.Queries.{asked_of};
 ghost use Rattle.ac_query.specs.Tokens.{ids_of};
 ghost use Rattle.ac_cloud.specs.Cloud.CloudWorld.{providers_of, world_of};
+ghost use Rattle.ac_fill.specs.Filled.{asks_units};
 ghost use Rattle.ac_run.specs.Answer.{Says, answer_in, host_found, ids_given, past_query, token_refusal};
-ghost use Rattle.ac_run.specs.Asking.{ExplainsHost, ExplainsQuery, ExplainsToken, HasHost, HasIdForEachSlot, IsRefusalOf, answer_to};
+ghost use Rattle.ac_run.specs.Asking.{AsksUnits, ExplainsHost, ExplainsQuery, ExplainsToken, HasHost, HasIdForEachSlot, IsRefusalOf, answer_to};
 ghost use Rattle.ac_run.specs.Jobs.{ExplainsAsked, ExplainsWanted, task_of};
 
 use crate::refusal::Refusal;
@@ -26,10 +27,14 @@ use std::alloc::Global;
 pub enum Wanted {
     /// How much the tables told.
     Counts,
-    /// The body of a page.
-    Body(Query, Option<Token>),
+    /// The body of a page, and whether traits are written.
+    Body(Query, Option<Token>, bool),
     /// The tokens of a page.
     Lines(Query, Option<Token>),
+    /// The rows of a page, and whether traits are written.
+    Rows(Query, Option<Token>, bool),
+    /// Placements one after another: their tokens, or how many there are.
+    Fill(Query, bool),
     /// The verdict on the list that a token names, and whether it is said of what a rule is broken.
     Verdict(Query, Token, bool),
     /// How far a query comes.
@@ -86,12 +91,14 @@ fn read_token(alloc: Global, text: Option<&str>, query: &Query) -> Result<Option
 }
 
 /// The query of a job, then its token.
+#[tactic(auto, using(ac_fill::proofs::Accepted::accepted_ask))]
 pub fn read_asked(alloc: Global, job: &Job) -> Result<(Query, Option<Token>), Refusal>
     ensures ids { IfOk result (λ asked. option_map ids_of asked.1
         ≡ ids_given (task_of job.now).token) }
     ensures given { IfOk result (λ asked. is_some asked.1 ≡ is_some (task_of job.now).token) }
     ensures slots { IfOk result (λ asked. IfSome asked.1 (λ token.
         length (ids_of token) ≡ length (slots_of (asked_of asked.0)))) }
+    ensures units { IfOk result (λ asked. asks_units (asked_of asked.0) ≡ true) }
     ensures read { IfOk result (λ asked. asked_of asked.0
         ≡ asked_by job.now.version (pairs_of job.now.query.now)) }
     ensures said { IfOk result (λ asked. (say : Says)
@@ -117,7 +124,7 @@ fn find_host(cloud: &Cloud, host: Option<&str>) -> Result<u32, Refusal>
 }
 
 /// What a job wants: its query is read, then its token, and its host is looked for.
-#[tactic(auto, using(crate::proofs::WantedSaid::explains_body, crate::proofs::WantedSaid::explains_lines, crate::proofs::WantedSaid::explains_verdict, crate::proofs::WantedSaid::explains_explanation, crate::proofs::WantedSaid::explains_hosts, crate::proofs::WantedSaid::explains_why))]
+#[tactic(auto, using(crate::proofs::WantedSaid::explains_body, crate::proofs::WantedSaid::explains_lines, crate::proofs::WantedSaid::explains_rows, crate::proofs::WantedSaid::explains_fill, crate::proofs::WantedSaid::explains_verdict, crate::proofs::WantedSaid::explains_explanation, crate::proofs::WantedSaid::explains_hosts, crate::proofs::WantedSaid::explains_why))]
 pub fn read_wanted(alloc: Global, job: &Job, cloud: &Cloud) -> Result<Wanted, Refusal>
     requires { HasToken job.now.command (option_map (λ token. token.now) job.now.token) }
     ensures wanted { IfOk result (λ wanted.
@@ -125,17 +132,26 @@ pub fn read_wanted(alloc: Global, job: &Job, cloud: &Cloud) -> Result<Wanted, Re
         ≡ answer_to wanted (world_of cloud.now)) }
     ensures slots { IfOk result (λ wanted. HasIdForEachSlot wanted) }
     ensures host { IfOk result (λ wanted. HasHost (providers_of cloud.now) wanted) }
+    ensures units { IfOk result AsksUnits }
     ensures fault { IfErr result (ExplainsWanted (task_of job.now) (world_of cloud.now)) }
 {
     match job.command {
         Command::Check => Ok(Wanted::Counts),
         Command::Candidates => {
             let (query, token) = read_asked(alloc, job)?;
-            Ok(Wanted::Body(query, token))
+            Ok(Wanted::Body(query, token, job.traits))
         }
         Command::Tokens => {
             let (query, token) = read_asked(alloc, job)?;
             Ok(Wanted::Lines(query, token))
+        }
+        Command::List => {
+            let (query, token) = read_asked(alloc, job)?;
+            Ok(Wanted::Rows(query, token, job.traits))
+        }
+        Command::Fill => {
+            let (query, _token) = read_asked(alloc, job)?;
+            Ok(Wanted::Fill(query, job.sum))
         }
         Command::Verify => {
             let (query, token) = read_asked(alloc, job)?;

@@ -6,6 +6,7 @@
 mod answering;
 mod asking;
 mod draining;
+mod filling;
 pub mod gathered;
 mod outputs;
 mod ready;
@@ -17,6 +18,7 @@ pub use ac_query::{Command, Job};
 pub use answering::write_answer;
 pub use asking::{Wanted, read_asked, read_wanted};
 pub use draining::Inputs;
+pub use filling::fill_status;
 pub use gathered::run_gathered;
 pub use outputs::push_verdict;
 pub use ready::read_inputs;

@@ -5,7 +5,7 @@ ghost use Rattle.ac_query.specs.Jobs.{HasToken};
 ghost use Rattle.ac_tables.specs.Tables.{tables_fault, world_stated};
 ghost use Rattle.ac_cloud.specs.Cloud.CloudWorld.{providers_of, world_of};
 ghost use Rattle.ac_run.specs.Answer.{answer, tables_in};
-ghost use Rattle.ac_run.specs.Asking.{HasHost, HasIdForEachSlot, answer_to};
+ghost use Rattle.ac_run.specs.Asking.{AsksUnits, HasHost, HasIdForEachSlot, answer_to};
 ghost use Rattle.ac_run.specs.Draining.{texts_shown};
 ghost use Rattle.ac_run.specs.Feeds.{Bytes, TellBytes, too_large};
 ghost use Rattle.ac_run.specs.Jobs.{task_of};
@@ -82,6 +82,7 @@ pub fn make_ready<R: Feed>(
         → answer (task_of job.now) b ≡ answer_to ready.wanted (world_of ready.cloud)) }
     ensures slots { IfOk result (λ ready. HasIdForEachSlot ready.wanted) }
     ensures host { IfOk result (λ ready. HasHost (providers_of ready.cloud) ready.wanted) }
+    ensures units { IfOk result (λ ready. AsksUnits ready.wanted) }
     ensures fault { IfErr result (ExplainsUnready R.remaining R.failures
         (task_of job.now) inputs.old inputs.new) }
 {

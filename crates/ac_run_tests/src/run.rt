@@ -218,6 +218,8 @@ struct Case {
     token: Option<&'static str>,
     host: Option<&'static str>,
     detail: bool,
+    traits: bool,
+    sum: bool,
     output: &'static str,
     line: &'static str,
     status: u8,
@@ -232,6 +234,8 @@ const TOKENS: Case = Case {
     token: None,
     host: None,
     detail: false,
+    traits: true,
+    sum: false,
     output: "",
     line: "",
     status: 0,
@@ -268,6 +272,8 @@ fn job_of<'a>(case: &Case, words: &'a Words) -> Job<'a> {
         token: words.token.as_deref(),
         host: words.host.as_deref(),
         detail: case.detail,
+        traits: case.traits,
+        sum: case.sum,
     }
 }
 

@@ -3,9 +3,9 @@ pub mod Firsts
 pub mod Passing
 pub mod Leading
 pub mod Cuts
-pub mod Written
 pub mod Refused
 pub mod Turned
 pub mod Stood
 pub mod Ended
-pub mod UsagesWritten
+pub mod UsageRows
+pub mod Unmarked

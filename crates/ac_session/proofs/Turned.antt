@@ -1,5 +1,5 @@
 -- What claims and releases do, by what is said of them.
-use Rattle.std.proofs.Common.{◌≡◌, ◌∙◌, ℕ, ◌<◌, ◌==◌, length, if◌then◌else◌, Bool, true, false, List, [], Option, Some, None, refl, sym, ap, ap₂}
+use Rattle.std.proofs.Common.{◌≡◌, ◌∙◌, ℕ, ◌<◌, ◌==◌, length, if◌then◌else◌, Bool, true, false, List, [], ◌∷◌, Option, Some, None, refl, sym, ap, ap₂}
 use Rattle.std.specs.List.{All}
 use Rattle.std.specs.Option.{IfSome, option_map, unwrap_or}
 use Rattle.std.proofs.lemmas.List.Elements.{All-from_recursion}
@@ -19,11 +19,13 @@ use Rattle.ac_rules.specs.declared.verdict.Verdict.{Verdict}
 use Rattle.ac_rules.specs.declared.verdict.Verdict.TheVariants as verdict
 use Rattle.ac_run.specs.Answer.{Outcome, Says, Task, answer_in, past_query}
 use Rattle.ac_run.specs.Jobs.{ExplainsAsked, ExplainsWanted}
+use Rattle.ac_fill.specs.Filled.{after}
+use Rattle.ac_run.specs.Outputs.{fill_status}
 use Rattle.ac_run.specs.Refusals.{status_of}
 use Rattle.ac_run.specs.declared.refusal.Refusal.{Refusal}
 use Rattle.ac_run.specs.declared.refusal.Refusal.TheVariants as why
 use Rattle.ac_session.specs.Laws.{AskingLeavesAll, ClaimTurnsNarrow}
-use Rattle.ac_session.specs.Questions.{claim, job, nothing, release, unknown, usages, wrong_number}
+use Rattle.ac_session.specs.Questions.{claim, fill, job, nothing, release, unknown, usages, wrong_number}
 use Rattle.ac_session.specs.Standing.{IsRefusal}
 use Rattle.ac_session.specs.Turns.{assignment_task, claim_line, claim_of, claim_said, claim_turn, places_named, placed_by, release_line, release_of, release_said, unknown_provider, world_after}
 
@@ -92,6 +94,12 @@ module _ (old new : World) (all : List Provider) (sizes : new.sizes ≡ old.size
       by true made otherwise = same_world new (record old { providers = all }) (made refl) sizes
       by false made otherwise = otherwise refl
 
+-- the world behind placements
+pub filled_world : (old new : World) (asked : Asked) (ts : List (List ℕ)) → new.providers ≡ after old.providers asked ts → new.sizes ≡ old.sizes
+    → new ≡ world_after old (fill_status ts) (after old.providers asked ts)
+filled_world old new asked [] made sizes = same_world new old made sizes
+filled_world old new asked (t ∷ ts) made sizes = same_world new (record old { providers = after old.providers asked (t ∷ ts) }) made sizes
+
 -- the slots and their providers, as they were read
 pub placed_read : (version : Version) (all : List Provider) (query token : List ℕ) (asked : Asked) (list : List ℕ) → asked ≡ asked_by version (pairs_of query)
     → Some list ≡ places_named all token → assigned asked list ≡ placed_by version all query token
@@ -126,7 +134,8 @@ module _ {V : Type 0} (items : V → List ℕ) (all : List Provider) (ids : List
 -- ---- laws
 
 pub asking_leaves_all : AskingLeavesAll
-asking_leaves_all version world (job command query by token host detail) h = refl
+asking_leaves_all version world (job command query by token host detail traits sum) h = refl
+asking_leaves_all version world (fill query) h = absurd h
 asking_leaves_all version world (claim query token) h = absurd h
 asking_leaves_all version world (release query token) h = absurd h
 asking_leaves_all version world usages h = refl

@@ -1,5 +1,6 @@
 -- What the laws say.
-use Rattle.std.specs.Prelude.{◌≡◌, ◌<◌, ⊤, ℕ, List, ◌∷◌, ◌++◌, All, false, true, codes, length}
+pub mod Apart
+use Rattle.std.specs.Prelude.{◌≡◌, ◌<◌, ⊤, ℕ, None, List, [], ◌∷◌, ◌++◌, All, false, true, codes, length}
 use Rattle.std.specs.List.{join_with_byte}
 use Rattle.std.specs.List.Sorted.{IsStrictlySortedBy}
 use Rattle.std.specs.Map.{keys_of, lookup}
@@ -12,11 +13,11 @@ use Rattle.ac_query.specs.Asked.{Asked as Query}
 use Rattle.ac_query.specs.declared.version.Version.{Version}
 use Rattle.ac_rules.specs.Judge.{is_candidate}
 use Rattle.ac_run.specs.Answer.{past_query, written}
-use Rattle.ac_session.specs.Lines.{behind_line, first_line, is_newline, newline}
-use Rattle.ac_session.specs.Questions.{Asked, Text, job, claim, release, usages, nothing, unknown, wrong_number, is_blank, words_of}
-use Rattle.ac_session.specs.Turns.{answers, assignment_task, claim_line, claim_turn, release_turn, turn_asked}
+use Rattle.ac_session.specs.Lines.{Given, behind_line, first_line, is_newline, newline}
+use Rattle.ac_session.specs.Questions.{Asked, Text, job, fill, claim, release, usages, nothing, unknown, wrong_number, is_blank, words_of}
+use Rattle.ac_session.specs.Turns.{answers, assignment_task, claim_line, claim_turn, lines_in, release_turn, turn_asked, turn_of}
 use Rattle.ac_session.specs.UsageRows.{usages_fit, usages_text}
-use Rattle.ac_tables.specs.Tables.{amounts_of}
+use Rattle.ac_tables.specs.Tables.{Tables, amounts_of, tables_fault, world_stated}
 use Rattle.ac_tables.specs.Tables.Checks.{Row}
 use Rattle.ac_tables.specs.Tables.Rows.{records_of}
 use Rattle.ac_tables.specs.Tables.UsageTable.{usages_said}
@@ -35,9 +36,10 @@ pub record ReadsBack : Type 0 where
   pub line : (text rest : Text) → LacksNewlines text → first_line (text ++ newline ∷ rest) ≡ text
   pub behind : (text rest : Text) → LacksNewlines text → behind_line (text ++ newline ∷ rest) ≡ rest
 
--- what is asked is neither a claim nor a release
+-- what is asked is neither placements, nor a claim, nor a release
 abbrev pub OnlyAsks : Asked → Type 0
-OnlyAsks (job command query version token host detail) = ⊤
+OnlyAsks (job command query version token host detail traits sum) = ⊤
+OnlyAsks (fill query) = ⊥
 OnlyAsks (claim query token) = ⊥
 OnlyAsks (release query token) = ⊥
 OnlyAsks usages = ⊤
@@ -73,3 +75,23 @@ abbrev pub UsagesReadBack : Type 0
 UsagesReadBack =
     (all : List Provider) → AreProviders all → HaveClassesInOrder all → usages_fit all ≡ true
     → (ix : ℕ) (class : List ℕ) → ix < length all → amount_stated (records_of (usages_text all)) (id_at all ix) class ≡ used_of (provider_at all ix) class
+
+-- the providers behind some lines
+abbrev pub providers_behind : Version → World → List Given → List Provider
+providers_behind version world [] = world.providers
+providers_behind version world (given ∷ others) = providers_behind version (turn_of version world given).world others
+
+-- the tables, with the table of usages that is written of these providers
+abbrev pub with_usages : Tables → List Provider → Tables
+with_usages tables all = record tables { usages = records_of (usages_text all) }
+
+-- The table of usages is accepted beside the others, and they state these providers.
+pub record GoesOn (tables : Tables) (all : List Provider) : Type 0 where
+  pub accepted : tables_fault (with_usages tables all) ≡ None
+  pub stated : (world_stated (with_usages tables all)).providers ≡ all
+
+-- The end of a session is the start of the next: so it is of the table of usages at its end, where all that is used may stand in a table.
+abbrev pub SessionsGoOn : Type 0
+SessionsGoOn = (version : Version) (tables : Tables) (questions : Text) → tables_fault tables ≡ None
+    → usages_fit (providers_behind version (world_stated tables) (lines_in questions)) ≡ true
+    → GoesOn tables (providers_behind version (world_stated tables) (lines_in questions))

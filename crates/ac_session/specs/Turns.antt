@@ -7,7 +7,9 @@ use Rattle.ac_query.specs.Asked.{Asked as Query}
 use Rattle.ac_query.specs.Laws.Gathered.{asked_by}
 use Rattle.ac_query.specs.Pairs.{pairs_of}
 use Rattle.ac_query.specs.Pairs.Values.{ids_value}
+use Rattle.ac_fill.specs.Filled.{after, filled}
 use Rattle.ac_query.specs.declared.job.Command.TheVariants.{Verify}
+use Rattle.ac_query.specs.declared.job.Command.TheVariants as commands
 use Rattle.ac_query.specs.declared.version.Version.{Version}
 use Rattle.ac_rules.specs.Claims.{claimed, is_in_use, released}
 use Rattle.ac_rules.specs.Judge.{judge}
@@ -15,11 +17,11 @@ use Rattle.ac_rules.specs.Located.{places_of}
 use Rattle.ac_rules.specs.Placed.{Placed, assigned}
 use Rattle.ac_rules.specs.declared.verdict.Verdict.{Verdict}
 use Rattle.ac_rules.specs.declared.verdict.Verdict.TheVariants as verdict
-use Rattle.ac_run.specs.Answer.{Outcome, Says, Task, answer_in, past_query, refused, written}
+use Rattle.ac_run.specs.Answer.{Outcome, Says, Task, answer_in, fills, past_query, refused, written}
 use Rattle.ac_run.specs.Outputs.{verdict_text}
 use Rattle.ac_session.specs.EndLines.{end_line, fault_line, fault_status}
 use Rattle.ac_session.specs.Lines.{Given, line, too_long, end, is_newline, most_bytes, without_return}
-use Rattle.ac_session.specs.Questions.{Asked, job, claim, release, usages, nothing, unknown, wrong_number, asked_of}
+use Rattle.ac_session.specs.Questions.{Asked, job, fill, claim, release, usages, nothing, unknown, wrong_number, asked_of}
 use Rattle.ac_session.specs.UsageRows.{usage_rows}
 use Rattle.ac_session.specs.declared.end_lines.LineFault.{LineFault}
 use Rattle.ac_session.specs.declared.end_lines.LineFault.TheVariants as fault
@@ -59,7 +61,7 @@ settles world o all = record { text = answer_text o; world = world_after world o
 
 -- the task of a claim or of a release: that of `verify`
 abbrev pub assignment_task : Version → List ℕ → List ℕ → Task
-assignment_task version query token = record { command = Verify; query = query; version = version; token = Some token; host = None; detail = false }
+assignment_task version query token = record { command = Verify; query = query; version = version; token = Some token; host = None; detail = false; traits = true; sum = false }
 
 -- the places of the providers that a token names, where each is there
 abbrev pub places_named : List Provider → List ℕ → Option (List ℕ)
@@ -108,12 +110,29 @@ unfoldable pub release_turn : Version → List ℕ → List ℕ → World → Tu
 release_turn version query token world =
     settles world (past_query (release_line world.providers) (assignment_task version query token)) (released world.providers (placed_by version world.providers query token))
 
+-- ---- placements
+
+-- the task of placements
+abbrev pub fill_task : Version → List ℕ → Task
+fill_task version query =
+    record { command = commands.Fill; query = query; version = version; token = None; host = None; detail = false; traits = true; sum = false }
+
+-- the providers after the placements of a query
+abbrev pub after_fill : List Provider → Query → List Provider
+after_fill all asked = after all asked (filled asked.limit all asked)
+
+-- A query is placed again and again, and each placement is claimed.
+unfoldable pub fill_turn : Version → List ℕ → World → Turn
+fill_turn version query world =
+    settles world (past_query (fills world.providers false) (fill_task version query)) (after_fill world.providers (asked_by version (pairs_of query)))
+
 -- ---- turns
 
 -- the turn of what is asked
 abbrev pub turn_asked : Version → World → Asked → Turn
-turn_asked version world (job command query by token host detail) =
-    answers world (answer_in command (record { command = command; query = query; version = by; token = token; host = host; detail = detail }) world)
+turn_asked version world (job command query by token host detail traits sum) =
+    answers world (answer_in command (record { command = command; query = query; version = by; token = token; host = host; detail = detail; traits = traits; sum = sum }) world)
+turn_asked version world (fill query) = fill_turn version query world
 turn_asked version world (claim query token) = claim_turn version query token world
 turn_asked version world (release query token) = release_turn version query token world
 turn_asked version world usages = answers world (usage_rows world.providers)

@@ -1,8 +1,8 @@
 //! Laws of the definitions. Each function does nothing: its contract is the law.
-ghost use Rattle.ac_session.specs.Laws.{AskingLeavesAll, ClaimTurnsNarrow, ReadsBack, ReleaseTurnUndoes, UsagesReadBack};
+ghost use Rattle.ac_session.specs.Laws.Apart.{AnswersApart, NamesStay, SessionsApart};
+ghost use Rattle.ac_session.specs.Laws.{AskingLeavesAll, ClaimTurnsNarrow, ReadsBack, ReleaseTurnUndoes, SessionsGoOn, UsagesReadBack};
 
 /// What is written as a line of words is read as these words, and what is written behind it is left.
-#[tactic(auto, using(crate::proofs::Written::reads_back))]
 pub fn reads_back()
     ensures { ReadsBack }
 {}
@@ -25,4 +25,24 @@ pub fn claim_turns_narrow()
 /// What was claimed, the same words release: the world is as it was before the claim.
 pub fn release_turn_undoes()
     ensures { ReleaseTurnUndoes }
+{}
+
+/// Who reads up to the first line that begins with `=` has read what is written for a line of a session, whatever stands behind it.
+pub fn answers_apart()
+    ensures { AnswersApart }
+{}
+
+/// Each class and each trait of what accepted tables state is a name, and whatever is asked, it stays so.
+pub fn names_stay()
+    ensures { NamesStay }
+{}
+
+/// Who reads a session answer by answer reads what is written for one line after another.
+pub fn sessions_apart()
+    ensures { SessionsApart }
+{}
+
+/// The table of usages that is written at the end of a session is accepted beside the other tables, and they state the providers as the session left them.
+pub fn sessions_go_on()
+    ensures { SessionsGoOn }
 {}

@@ -1,7 +1,7 @@
 //! The question that a line asks.
-ghost use Rattle.std.specs.Prelude.{◌≡◌, ◌∷◌, None, false, option_map};
+ghost use Rattle.std.specs.Prelude.{◌≡◌, ◌∷◌, None, true, false, option_map};
 ghost use Rattle.ac_query.specs.Jobs.{HasToken};
-ghost use Rattle.ac_session.specs.Questions.{HasItsToken, asked_by_name, asked_in, asked_of, asks_alone, asks_claim, asks_query, asks_release, asks_search, asks_verify, asks_why, job, one_of, one_or_two_of, two_of, words_behind, words_of};
+ghost use Rattle.ac_session.specs.Questions.{HasItsToken, asked_by_name, asked_in, asked_of, asks_alone, asks_claim, asks_fill, asks_query, asks_release, asks_search, asks_verify, asks_why, job, one_of, one_or_two_of, two_of, words_behind, words_of};
 
 use ac_query::{Command, Job, Version};
 
@@ -10,6 +10,8 @@ use ac_query::{Command, Job, Version};
 pub enum Question<'a> {
     /// What the command of that name does.
     Job(Job<'a>),
+    /// To place a query again and again, and to take what each placement asks.
+    Fill { query: &'a str },
     /// To take what a token names.
     Claim { query: &'a str, token: &'a str },
     /// To give it back.
@@ -86,7 +88,7 @@ fn alone<'a>(question: Question<'a>, rest: Option<&str>) -> Question<'a>
     }
 }
 
-// A job of a command over a query, without details.
+// A job of a command over a query, without details and with traits.
 fn job<'a>(
     command: Command,
     query: &'a str,
@@ -96,7 +98,7 @@ fn job<'a>(
 ) -> Question<'a>
     requires { HasToken command (option_map (λ t. t.now) token) }
     ensures asked { asked_in result ≡ job command query.now version
-        (option_map (λ t. t.now) token.entry) (option_map (λ t. t.now) host.entry) false }
+        (option_map (λ t. t.now) token.entry) (option_map (λ t. t.now) host.entry) false true false }
     ensures token { HasItsToken result }
 {
     Question::Job(Job {
@@ -106,6 +108,8 @@ fn job<'a>(
         token,
         host,
         detail: false,
+        traits: true,
+        sum: false,
     })
 }
 
@@ -159,6 +163,18 @@ fn why(version: Version, rest: Option<&str>) -> Question<'_>
     }
 }
 
+// Placements of a query.
+fn fill(rest: Option<&str>) -> Question<'_>
+    ensures asked { asked_in result ≡ asks_fill
+        (words_behind (option_map (λ t. t.now) rest.entry)) }
+    ensures token { HasItsToken result }
+{
+    match one_word(rest) {
+        Some(query) => Question::Fill { query },
+        None => Question::WrongNumber,
+    }
+}
+
 // A claim of what a token names.
 fn claim(rest: Option<&str>) -> Question<'_>
     ensures asked { asked_in result ≡ asks_claim
@@ -193,6 +209,8 @@ fn question_by_name<'a>(version: Version, name: &str, rest: Option<&'a str>) -> 
         "check" => alone(job(Command::Check, "", Version::V136, None, None), rest),
         "candidates" => search(Command::Candidates, version, rest),
         "tokens" => search(Command::Tokens, version, rest),
+        "list" => search(Command::List, version, rest),
+        "fill" => fill(rest),
         "verify" => verify(version, rest),
         "explain" => over_query(Command::Explain, version, rest),
         "hosts" => over_query(Command::Hosts, version, rest),

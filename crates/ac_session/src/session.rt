@@ -59,11 +59,14 @@ fn hand_on<W: Sink + Drop>(
     next: Next<'_>,
     out: W,
 ) -> (Result<(), PageFault>, W)
-    ensures ok { (given : Given) → given_by next.entry ≡ Some given → OnOk result.0 (Appends (W.taken out)
+    ensures ok { (given : Given) → given_by next.entry ≡ Some given
+        → OnOk result.0 (Appends (W.taken out)
         (W.taken result.1) (turn_of version (world_of cloud.old) given).text) }
-    ensures world { (given : Given) → given_by next.entry ≡ Some given → OnOk result.0 (world_of cloud.new
+    ensures world { (given : Given) → given_by next.entry ≡ Some given
+        → OnOk result.0 (world_of cloud.new
         ≡ (turn_of version (world_of cloud.old) given).world) }
-    ensures part { (given : Given) → given_by next.entry ≡ Some given → IsFirstPart (append_known (W.taken out)
+    ensures part { (given : Given) → given_by next.entry ≡ Some given
+        → IsFirstPart (append_known (W.taken out)
         (turn_of version (world_of cloud.old) given).text) (W.taken result.1) }
     ensures failed { result.0 ≡ Err PageFault.WriteFailed
         → Rises (W.failures out) (W.failures result.1) }

@@ -1,5 +1,5 @@
 //! The answer to a question, with what it changes.
-ghost use Rattle.std.specs.Prelude.{◌≡◌, ◌≤◌, ◌<◌, IfErr, IfOk, IfSome, OnErr, OnOk, Err, Some, length, option_map};
+ghost use Rattle.std.specs.Prelude.{◌≡◌, ◌≤◌, ◌<◌, IfErr, IfOk, IfSome, OnErr, OnOk, Err, None, Some, false, true, length, option_map};
 ghost use Rattle.std.specs.Io.KnownBytes.{Appends};
 ghost use Rattle.std.specs.List.{All};
 ghost use Rattle.ac_base.specs.Devices.{Rises, TakesPart};
@@ -11,13 +11,16 @@ ghost use Rattle.ac_query.specs.Pairs.{pairs_of};
 ghost use Rattle.ac_query.specs.Pairs.Values.{ids_value};
 ghost use Rattle.ac_query.specs.Shown.Queries.{asked_of as shown};
 ghost use Rattle.ac_report.specs.declared.fault.PageFault.TheVariants as PageFault;
-ghost use Rattle.ac_run.specs.Answer.{Says, answer_in, past_query, written};
-ghost use Rattle.ac_run.specs.Outputs.{verdict_text};
+ghost use Rattle.ac_run.specs.Answer.{Says, answer_in, fills, past_query, written};
+ghost use Rattle.ac_fill.specs.Filled.{asks_units, filled};
+ghost use Rattle.ac_fill.specs.Shown.{IsTakenOf, with_taken};
+ghost use Rattle.ac_run.specs.Outputs.{counted, verdict_text};
+ghost use Rattle.ac_run.specs.Run.{IsWritten};
 ghost use Rattle.ac_run.specs.Jobs.{ExplainsAsked, task_of};
 ghost use Rattle.ac_session.specs.Questions.{HasItsToken, asked_in};
 ghost use Rattle.ac_session.specs.Lines.{Given};
 ghost use Rattle.ac_session.specs.Reading.{given_by};
-ghost use Rattle.ac_session.specs.Turns.{answer_text, assignment_task, claim_said, claim_turn, places_named, release_said, release_turn, turn_asked, turn_of};
+ghost use Rattle.ac_session.specs.Turns.{after_fill, answer_text, assignment_task, claim_said, claim_turn, fill_turn, places_named, release_said, release_turn, turn_asked, turn_of, world_after};
 ghost use Rattle.ac_session.specs.UsageRows.{usage_rows};
 
 use crate::end_lines::LineFault;
@@ -26,10 +29,12 @@ use crate::lines::Next;
 use crate::questions::{Question, read_question};
 use crate::usages::write_usages;
 use ac_base::{NoMemory, Sink};
+use ac_fill::{Filled, write_filled};
 use ac_query::{Command, Job, Query, Version};
 use ac_report::PageFault;
 use ac_rules::{InCloud, Verdict, claim, release};
-use ac_run::{Refusal, push_verdict, read_asked, read_wanted, write_answer};
+use ac_run::{Refusal, fill_status, push_verdict, read_asked, read_wanted, write_answer};
+use ac_search::Walk;
 use ac_tables::Cloud;
 use std::alloc::Global;
 
@@ -86,6 +91,8 @@ fn read_assignment<'a>(
         token: Some(token),
         host: None,
         detail: false,
+        traits: true,
+        sum: false,
     };
     let (query, token) = read_asked(alloc, &job)?;
     let Some(token) = token else {
@@ -209,6 +216,96 @@ fn answer_release<W: Sink>(
     }
 }
 
+// The placements of a query, over the cloud as it is.
+#[tactic(auto, using(ac_base::proofs::Leaving::part_none, ac_fill::proofs::Ordered::all_rest))]
+fn write_placements<'a, W: Sink>(
+    alloc: Global,
+    cloud: &Cloud,
+    query: &'a Query,
+    out: &mut W,
+) -> Result<Filled<'a>, PageFault>
+    requires { asks_units (shown query.now) ≡ true }
+    ensures text { OnOk result (Appends (W.taken out.old) (W.taken out.new)
+        (fills (providers_of cloud.now) false (shown query.now) None).output) }
+    ensures count { IfOk result (λ f. f.count
+        ≡ counted (filled (shown query.now).limit (providers_of cloud.now) (shown query.now))) }
+    ensures world { IfOk result (λ f. with_taken f.takings (providers_of cloud.now)
+        ≡ after_fill (providers_of cloud.now) (shown query.now)) }
+    ensures fits { IfOk result (λ f. IsTakenOf (providers_of cloud.now) f.takings) }
+    ensures part { OnErr result (TakesPart (W.taken out.old) (W.taken out.new)
+        (fills (providers_of cloud.now) false (shown query.now) None).output) }
+    ensures failed { result ≡ Err PageFault.WriteFailed
+        → Rises (W.failures out.old) (W.failures out.new) }
+    ensures failures { W.failures out.old ≤ W.failures out.new }
+{
+    let Ok(mut source) = Walk::new(alloc, cloud, query, None) else {
+        return Err(PageFault::NoMemory);
+    };
+    write_filled(alloc, cloud, query, &mut source, out)
+}
+
+// The placements of a query, each of which is claimed, and their status.
+fn place_all<W: Sink>(
+    alloc: Global,
+    cloud: &mut Cloud,
+    query: &Query,
+    out: &mut W,
+) -> Result<u8, PageFault>
+    requires { asks_units (shown query.now) ≡ true }
+    ensures ok { IfOk result (IsWritten
+        (fills (providers_of cloud.old) false (shown query.now) None)
+        (W.taken out.old) (W.taken out.new)) }
+    ensures world { IfOk result (λ status. world_of cloud.new
+        ≡ world_after (world_of cloud.old) status
+        (after_fill (providers_of cloud.old) (shown query.now))) }
+    ensures part { OnErr result (TakesPart (W.taken out.old) (W.taken out.new)
+        (fills (providers_of cloud.old) false (shown query.now) None).output) }
+    ensures failed { result ≡ Err PageFault.WriteFailed
+        → Rises (W.failures out.old) (W.failures out.new) }
+    ensures failures { W.failures out.old ≤ W.failures out.new }
+{
+    let mut filled = write_placements(alloc, cloud, query, out)?;
+    filled.takings.settle(cloud);
+    Ok(fill_status(filled.count))
+}
+
+// The answer to placements.
+fn answer_fill<W: Sink>(
+    alloc: Global,
+    cloud: &mut Cloud,
+    version: Version,
+    query: &str,
+    out: &mut W,
+) -> Result<(), PageFault>
+    ensures ok { OnOk result (Appends (W.taken out.old) (W.taken out.new)
+        (fill_turn version query.now (world_of cloud.old)).text) }
+    ensures world { OnOk result (world_of cloud.new
+        ≡ (fill_turn version query.now (world_of cloud.old)).world) }
+    ensures part { OnErr result (TakesPart (W.taken out.old) (W.taken out.new)
+        (fill_turn version query.now (world_of cloud.old)).text) }
+    ensures failed { result ≡ Err PageFault.WriteFailed
+        → Rises (W.failures out.old) (W.failures out.new) }
+    ensures failures { W.failures out.old ≤ W.failures out.new }
+{
+    let job = Job {
+        command: Command::Fill,
+        query,
+        version,
+        token: None,
+        host: None,
+        detail: false,
+        traits: true,
+        sum: false,
+    };
+    match read_asked(alloc, &job) {
+        Ok((query, _token)) => {
+            let status = place_all(alloc, cloud, &query, out)?;
+            end_answer(out, status)
+        }
+        Err(refusal) => write_refusal(out, &refusal),
+    }
+}
+
 // The table of usages.
 fn answer_usages<W: Sink>(alloc: Global, cloud: &Cloud, out: &mut W) -> Result<(), PageFault>
     ensures ok { OnOk result (Appends (W.taken out.old) (W.taken out.new)
@@ -223,7 +320,7 @@ fn answer_usages<W: Sink>(alloc: Global, cloud: &Cloud, out: &mut W) -> Result<(
     end_answer(out, status)
 }
 
-// Answers a question, and changes the cloud where it is a claim or a release.
+// Answers a question, and changes the cloud where it is a claim, a release or placements.
 fn answer_question<W: Sink>(
     alloc: Global,
     cloud: &mut Cloud,
@@ -244,6 +341,7 @@ fn answer_question<W: Sink>(
 {
     match question {
         Question::Job(job) => answer_job(alloc, cloud, &job, out),
+        Question::Fill { query } => answer_fill(alloc, cloud, version, query, out),
         Question::Claim { query, token } => answer_claim(alloc, cloud, version, query, token, out),
         Question::Release { query, token } => {
             answer_release(alloc, cloud, version, query, token, out)
@@ -266,7 +364,8 @@ pub(crate) fn answer_next<W: Sink>(
 ) -> Result<(), PageFault>
     ensures ok { (given : Given) → given_by next.entry ≡ Some given → OnOk result (Appends
         (W.taken out.old) (W.taken out.new) (turn_of version (world_of cloud.old) given).text) }
-    ensures world { (given : Given) → given_by next.entry ≡ Some given → OnOk result (world_of cloud.new
+    ensures world { (given : Given) → given_by next.entry ≡ Some given
+        → OnOk result (world_of cloud.new
         ≡ (turn_of version (world_of cloud.old) given).world) }
     ensures part { (given : Given) → given_by next.entry ≡ Some given → OnErr result (TakesPart
         (W.taken out.old) (W.taken out.new) (turn_of version (world_of cloud.old) given).text) }

@@ -5,15 +5,15 @@ ghost use Rattle.ac_base.specs.Devices.{Rises, TakesPart};
 ghost use Rattle.ac_cloud.specs.World.{id_at, provider_at};
 ghost use Rattle.ac_cloud.specs.Cloud.CloudWorld.{providers_of};
 ghost use Rattle.ac_cloud.specs.Cloud.Entries.{entry_pair};
-ghost use Rattle.ac_answers.specs.Writing.Rows.{HasRows};
+ghost use Rattle.ac_report.specs.Rows.{HasRows};
 ghost use Rattle.ac_report.specs.declared.fault.PageFault.TheVariants as PageFault;
 ghost use Rattle.ac_run.specs.Run.{IsWritten};
 ghost use Rattle.ac_session.specs.UsageRows.{entries_fit, fits_table, is_used, rows_of_provider, usage_row, usage_rows, usages_fit, usages_text};
 
-use ac_answers::{Digits, begin_rows, end_rows, write_row};
+use ac_answers::Digits;
 use ac_base::{Id, NoMemory, Sink, push_all};
 use ac_cloud::{Cloud, Entry};
-use ac_report::PageFault;
+use ac_report::{PageFault, begin_rows, end_rows, write_row};
 use csv::Writer;
 use std::alloc::Global;
 

@@ -16,6 +16,8 @@ fn job<'a>(
         token,
         host,
         detail: false,
+        traits: true,
+        sum: false,
     })
 }
 
@@ -28,6 +30,8 @@ fn asks(rt: HostRuntime) {
         token: None,
         host: None,
         detail: false,
+        traits: true,
+        sum: false,
     });
     let claiming = Question::Claim {
         query: "q",
@@ -37,7 +41,7 @@ fn asks(rt: HostRuntime) {
         query: "q",
         token: "t",
     };
-    let cases: [(&[u8], Question<'_>); 45] = [
+    let cases: [(&[u8], Question<'_>); 49] = [
         (b"", Question::Nothing),
         (b"check", checking),
         (b"check x", Question::WrongNumber),
@@ -52,6 +56,10 @@ fn asks(rt: HostRuntime) {
         (b"tokens q", job(Command::Tokens, "q", None, None)),
         (b"tokens q t", job(Command::Tokens, "q", Some("t"), None)),
         (b"tokens", Question::WrongNumber),
+        (b"list q", job(Command::List, "q", None, None)),
+        (b"list q t", job(Command::List, "q", Some("t"), None)),
+        (b"list", Question::WrongNumber),
+        (b"list --no-traits q t", Question::WrongNumber),
         (b"verify q t", job(Command::Verify, "q", Some("t"), None)),
         (b"verify q", Question::WrongNumber),
         (b"verify q t u", Question::WrongNumber),

@@ -21,6 +21,7 @@ use Rattle.ac_words.specs.Words.{HasEntry, HasItsToken, IsComplete, name_of, nam
 use Rattle.ac_words.specs.declared.words.Call.{Call}
 use Rattle.ac_words.specs.declared.words.Call.TheVariants.{Job, Session}
 use Rattle.ac_query.specs.declared.job.Command.TheVariants.{Check, Candidates, Tokens, Verify, Explain, Hosts, Why}
+use Rattle.ac_query.specs.declared.job.Command.TheVariants as commands
 use Rattle.ac_words.proofs.FilledRows.{Filled, HasValue, asks_or_takes, first_free, then_free}
 use Rattle.ac_words.proofs.FilledWalk.{keeps-defaults, keeps-settled, keeps-walk}
 
@@ -193,8 +194,8 @@ serves call s = bytes_eq s.name (name_of call) && (needs_words call s && list_al
 
 abbrev is_served : Shape → Bool
 is_served s =
-    serves (Job Check) s || (serves (Job Candidates) s || (serves (Job Tokens) s || (serves (Job Verify) s
-    || (serves (Job Explain) s || (serves (Job Hosts) s || (serves (Job Why) s || serves Session s))))))
+    serves (Job Check) s || (serves (Job Candidates) s || (serves (Job Tokens) s || (serves (Job commands.List) s || (serves (Job commands.Fill) s || (serves (Job Verify) s
+    || (serves (Job Explain) s || (serves (Job Hosts) s || (serves (Job Why) s || serves Session s))))))))
 
 abbrev ServedOption : Option Shape → Type 0
 ServedOption None = ⊤
@@ -216,6 +217,8 @@ words-given Session s words kept n e = (refl, tt)
 words-given (Job Check) s words kept n e = (refl, tt)
 words-given (Job Candidates) s words kept n e = (query-entry s words kept n e, tt)
 words-given (Job Tokens) s words kept n e = (query-entry s words kept n e, tt)
+words-given (Job commands.List) s words kept n e = (query-entry s words kept n e, tt)
+words-given (Job commands.Fill) s words kept n e = (query-entry s words kept n e, tt)
 words-given (Job Explain) s words kept n e = (query-entry s words kept n e, tt)
 words-given (Job Hosts) s words kept n e = (query-entry s words kept n e, tt)
 words-given (Job Why) s words kept n e = (query-entry s words kept n e, tt)
@@ -240,16 +243,23 @@ level-complete s words k e = elim (cases_Bool (serves (Job Check) s)) [
     | inl t ↦ call-complete (Job Candidates) s words t e
     | inr no_candidates ↦ elim (cases_Bool (serves (Job Tokens) s)) [
       | inl t ↦ call-complete (Job Tokens) s words t e
-      | inr no_tokens ↦ elim (cases_Bool (serves (Job Verify) s)) [
-        | inl t ↦ call-complete (Job Verify) s words t e
-        | inr no_verify ↦ elim (cases_Bool (serves (Job Explain) s)) [
-          | inl t ↦ call-complete (Job Explain) s words t e
-          | inr no_explain ↦ elim (cases_Bool (serves (Job Hosts) s)) [
-            | inl t ↦ call-complete (Job Hosts) s words t e
-            | inr no_hosts ↦ elim (cases_Bool (serves (Job Why) s)) [
-              | inl t ↦ call-complete (Job Why) s words t e
-              | inr no_why ↦
-                  call-complete Session s words (rw (no_check, no_candidates, no_tokens, no_verify, no_explain, no_hosts, no_why) at k) e
+      | inr no_tokens ↦ elim (cases_Bool (serves (Job commands.List) s)) [
+        | inl t ↦ call-complete (Job commands.List) s words t e
+        | inr no_list ↦ elim (cases_Bool (serves (Job commands.Fill) s)) [
+          | inl t ↦ call-complete (Job commands.Fill) s words t e
+          | inr no_fill ↦ elim (cases_Bool (serves (Job Verify) s)) [
+            | inl t ↦ call-complete (Job Verify) s words t e
+            | inr no_verify ↦ elim (cases_Bool (serves (Job Explain) s)) [
+              | inl t ↦ call-complete (Job Explain) s words t e
+              | inr no_explain ↦ elim (cases_Bool (serves (Job Hosts) s)) [
+                | inl t ↦ call-complete (Job Hosts) s words t e
+                | inr no_hosts ↦ elim (cases_Bool (serves (Job Why) s)) [
+                  | inl t ↦ call-complete (Job Why) s words t e
+                  | inr no_why ↦
+                      call-complete Session s words
+                      (rw (no_check, no_candidates, no_tokens, no_list, no_fill, no_verify, no_explain, no_hosts, no_why) at k) e
+                ]
+              ]
             ]
           ]
         ]

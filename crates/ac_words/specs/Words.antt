@@ -1,5 +1,5 @@
 -- The command line: what `clap` is told of it, and what it states of the words.
-use Rattle.std.specs.Prelude.{◌≡◌, ◌≢◌, ◌&&◌, ⊤, List, [], ◌∷◌, ◌++◌, Bool, Option, Some, None, true, false, codes, is_some, option_map, if◌then◌else◌}
+use Rattle.std.specs.Prelude.{◌≡◌, ◌≢◌, ◌&&◌, ⊤, List, [], ◌∷◌, ◌++◌, Bool, Option, Some, None, true, false, not, codes, is_some, option_map, if◌then◌else◌}
 use Rattle.std.specs.List.{list_any}
 use Rattle.std.specs.Str.{bytes_eq}
 use Rattle.clap.specs.Kinds.{or_else}
@@ -14,6 +14,7 @@ use Rattle.ac_query.specs.declared.version.Version.{Version}
 use Rattle.ac_query.specs.declared.version.Version.TheVariants.{V136, V139}
 use Rattle.ac_query.specs.Jobs.{HasToken}
 use Rattle.ac_query.specs.declared.job.Command.TheVariants.{Check, Candidates, Tokens, Verify, Explain, Hosts, Why}
+use Rattle.ac_query.specs.declared.job.Command.TheVariants as commands
 use Rattle.ac_words.specs.Mark.{past_mark}
 use Rattle.ac_words.specs.declared.words.Call.{Call}
 use Rattle.ac_words.specs.declared.words.Call.TheVariants.{Job, Session}
@@ -56,11 +57,21 @@ check_app = with_tables (new_app (codes "check"))
 abbrev pub search_app : Text → App
 search_app name = with_rule (with_options (query_app name)) (option_rule (codes "after"))
 
+-- a command that writes candidates with what is told of their providers
+abbrev pub shown_app : Text → App
+shown_app name = with_rule (search_app name) (flag_rule (codes "no-traits"))
+
 abbrev pub candidates_app : App
-candidates_app = search_app (codes "candidates")
+candidates_app = shown_app (codes "candidates")
 
 abbrev pub tokens_app : App
 tokens_app = search_app (codes "tokens")
+
+abbrev pub list_app : App
+list_app = shown_app (codes "list")
+
+abbrev pub fill_app : App
+fill_app = with_rule (with_options (query_app (codes "fill"))) (flag_rule (codes "sum"))
 
 abbrev pub verify_app : App
 verify_app = with_rule (with_options (with_rule (query_app (codes "verify")) (word_rule (codes "token")))) (flag_rule (codes "detail"))
@@ -83,6 +94,8 @@ abbrev pub app_for : Call → App
 app_for (Job Check) = check_app
 app_for (Job Candidates) = candidates_app
 app_for (Job Tokens) = tokens_app
+app_for (Job commands.List) = list_app
+app_for (Job commands.Fill) = fill_app
 app_for (Job Verify) = verify_app
 app_for (Job Explain) = explain_app
 app_for (Job Hosts) = hosts_app
@@ -96,8 +109,8 @@ as_program app = record app { top = record app.top { has_version = true; subcomm
 abbrev pub program : App
 program =
     with_subcommand (with_subcommand (with_subcommand (with_subcommand (with_subcommand (with_subcommand (with_subcommand (with_subcommand
-    (as_program (new_app (codes "ac_cli"))) check_app.top) candidates_app.top) tokens_app.top) verify_app.top) explain_app.top) hosts_app.top)
-    why_app.top) session_app.top
+    (with_subcommand (with_subcommand (as_program (new_app (codes "ac_cli"))) check_app.top) candidates_app.top) tokens_app.top) list_app.top)
+    fill_app.top) verify_app.top) explain_app.top) hosts_app.top) why_app.top) session_app.top
 
 -- ---- what it states of the words
 
@@ -178,6 +191,8 @@ pub record Line : Type 0 where
   pub token : Option Text
   pub host : Option Text
   pub detail : Bool
+  pub with_traits : Bool
+  pub sum : Bool
   pub providers : Text
   pub inventories : Text
   pub usages : Option Text
@@ -188,6 +203,8 @@ abbrev pub name_of : Call → Text
 name_of (Job Check) = codes "check"
 name_of (Job Candidates) = codes "candidates"
 name_of (Job Tokens) = codes "tokens"
+name_of (Job commands.List) = codes "list"
+name_of (Job commands.Fill) = codes "fill"
 name_of (Job Verify) = codes "verify"
 name_of (Job Explain) = codes "explain"
 name_of (Job Hosts) = codes "hosts"
@@ -200,10 +217,11 @@ query_of Session rows = Some []
 query_of (Job Check) rows = Some []
 query_of (Job _) rows = option_map past_mark (first_of (codes "query") rows)
 
--- the token of a command: to be judged, or to begin after; a check, an explanation, the rows of roots, or of one, and a session have none
+-- the token of a command: to be judged, or to begin after; a check, placements, an explanation, the rows of roots, or of one, and a session have none
 abbrev pub token_of : Call → List Row → Option Text
 token_of Session rows = None
 token_of (Job Check) rows = None
+token_of (Job commands.Fill) rows = None
 token_of (Job Explain) rows = None
 token_of (Job Hosts) rows = None
 token_of (Job Why) rows = None
@@ -230,6 +248,17 @@ abbrev pub detail_of : Call → List Row → Bool
 detail_of (Job Verify) rows = is_set (first_of (codes "detail") rows)
 detail_of _ rows = false
 
+-- whether traits are written; `candidates` and `list` may be told not to
+abbrev pub with_traits_of : Call → List Row → Bool
+with_traits_of (Job Candidates) rows = not (is_set (first_of (codes "no-traits") rows))
+with_traits_of (Job commands.List) rows = not (is_set (first_of (codes "no-traits") rows))
+with_traits_of _ rows = true
+
+-- whether the number of placements is asked in place of their tokens; only of `fill`
+abbrev pub sum_of : Call → List Row → Bool
+sum_of (Job commands.Fill) rows = is_set (first_of (codes "sum") rows)
+sum_of _ rows = false
+
 -- the path of a table: that of its file in the folder, or what its option says
 abbrev pub path_in : Option Text → List Row → Table → Option Text
 path_in (Some folder) rows table = Some (folder ++ codes "/" ++ table_name table ++ codes ".csv")
@@ -246,6 +275,8 @@ pub record IsMadeOf (rows : List Row) (line : Line) : Type 0 where
   pub judged : HasItsToken line.call line.token
   pub host : host_of line.call rows ≡ line.host
   pub detail : detail_of line.call rows ≡ line.detail
+  pub with_traits : with_traits_of line.call rows ≡ line.with_traits
+  pub sum : sum_of line.call rows ≡ line.sum
   pub providers : path_given rows Providers ≡ Some line.providers
   pub inventories : path_given rows Inventories ≡ Some line.inventories
   pub usages : path_given rows Usages ≡ line.usages

@@ -34,6 +34,8 @@ pub struct Words {
     token: Option<String>,
     host: Option<String>,
     detail: bool,
+    with_traits: bool,
+    sum: bool,
     providers: String,
     inventories: String,
     usages: Option<String>,
@@ -51,6 +53,8 @@ impl Model for Words {
       token = option_map string_bytes w.token;
       host = option_map string_bytes w.host;
       detail = w.detail;
+      with_traits = w.with_traits;
+      sum = w.sum;
       providers = string_bytes w.providers;
       inventories = string_bytes w.inventories;
       usages = option_map string_bytes w.usages;
@@ -70,6 +74,8 @@ impl Words {
         ensures host { IfSome result (λ asked.
             option_map (λ host. host.now) asked.host ≡ self.now.host) }
         ensures detail { IfSome result (λ asked. asked.detail ≡ self.now.detail) }
+        ensures traits { IfSome result (λ asked. asked.traits ≡ self.now.with_traits) }
+        ensures sum { IfSome result (λ asked. asked.sum ≡ self.now.sum) }
         ensures none { IfNone result (self.now.call ≡ session) }
     {
         match self.call {
@@ -80,6 +86,8 @@ impl Words {
                 token: self.token.as_deref(),
                 host: self.host.as_deref(),
                 detail: self.detail,
+                traits: self.with_traits,
+                sum: self.sum,
             }),
             Call::Session => None,
         }

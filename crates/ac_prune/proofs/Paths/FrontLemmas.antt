@@ -11,7 +11,7 @@ use Rattle.ac_rules.proofs.SlotLemmas.{each_at}
 use Rattle.ac_prune.proofs.Search.OpenLemmas.{choices_here, each_choice}
 use Rattle.ac_prune.specs.Left.Accounts.{providers_in, asked_in}
 use Rattle.ac_prune.specs.Trees.Keys.{is_there}
-use Rattle.ac_prune.proofs.Roots.TreeLemmas.{each_there}
+use Rattle.ac_prune.proofs.Roots.TreeLemmas.{each_there, some_there}
 use Rattle.ac_prune.specs.Fronts.{search_at, LeadNowhere}
 use Rattle.ac_prune.specs.declared.front.Front.{Front}
 
@@ -32,6 +32,10 @@ bound_there f b is = rw is at f.bounded
 
 pub bound_low : (f : Front) (b : ℕ) → f.bound ≡ Some b → b < length (providers_in f.ledger.now)
 bound_low f b is = each_there (λ p. p < length (providers_in f.ledger.now)) f.path.now b (recursion_from_All (λ p. p < length (providers_in f.ledger.now)) f.path.now f.providers) (bound_there f b is)
+
+-- so its path isn't empty
+pub bound_behind : (f : Front) (b : ℕ) → f.bound ≡ Some b → 0 < length f.path.now
+bound_behind f b is = some_there f.path.now b (bound_there f b is)
 
 -- a choice of its slot is a provider
 pub choice_inside : (f : Front) (i : ℕ) → i < length f.choices.now → slice_index f.choices.now i < length (providers_in f.ledger.now)

@@ -44,6 +44,11 @@ pub each_there : (P : ℕ → Type 0) (xs : List ℕ) (x : ℕ) → Each P xs �
 each_there P [] x h m = absurd (false≢true m)
 each_there P (y ∷ xs) x h m = elim (cases_eq y x) [ inl e ↦ subst P e h.0 | inr e ↦ let other = ne_eqb y x e in each_there P xs x h.1 (rw other at m) ]
 
+-- a list in which some number is isn't empty
+pub some_there : (xs : List ℕ) (x : ℕ) → is_there xs x ≡ true → 0 < length xs
+some_there [] x m = absurd (false≢true m)
+some_there (y ∷ xs) x m = omega arith
+
 -- a test that some number passes
 pub any_found : (f : ℕ → Bool) (xs : List ℕ) → list_any f xs ≡ true → (x : ℕ) × (is_there xs x ≡ true) × (f x ≡ true)
 any_found f [] h = absurd (false≢true h)

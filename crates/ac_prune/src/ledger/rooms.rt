@@ -24,8 +24,8 @@ pub(crate) struct Ask {
     pub(crate) amount: u32,
 }
 
-// The number of a class among classes; past the end where it isn't there.
-pub(crate) fn number_of(classes: &[&ClassName], class: &ClassName) -> usize
+/// The number of a class among classes; past the end where it isn't there.
+pub fn number_of(classes: &[&ClassName], class: &ClassName) -> usize
     ensures number { result ≡ place_of (map (λ c. class_bytes c.now) classes.now)
         (class_bytes class.now) }
     ensures within { result ≤ length classes.now }
@@ -76,7 +76,7 @@ fn with_classes<'a>(
 }
 
 /// The classes of all slots, each once.
-pub(crate) fn all_classes(alloc: Global, query: &Query) -> Result<Vec<&ClassName>, NoMemory>
+pub fn all_classes(alloc: Global, query: &Query) -> Result<Vec<&ClassName>, NoMemory>
     ensures { IfOk result (λ all. (s : ℕ) → s < length (slots_of (asked_of query.now))
         → AllByRecursion (λ need. IsKnown (map (λ c. class_bytes c.now) all.items) need.0)
         (slot_at (asked_of query.now) s).needs) }

@@ -1,32 +1,20 @@
 //! Each reader that takes memory, run with each of its growths refused in turn: its value, or want of memory.
-use ac_base::{ClassName, Names, NoMemory, Suffix, TraitName};
-use std::test::Fail;
+use super::{reads_class, reads_suffix, reads_trait};
+use ac_base::{Names, NoMemory};
 
 #[test]
 fn class_name(rt: HostRuntime) {
-    match ClassName::read(rt.alloc(), b"VCPU") {
-        Ok(Some(name)) => assert_eq!(rt; name.text(), "VCPU"),
-        Ok(None) => assert!(rt; false, "VCPU is a name"),
-        Err(fault) => assert_eq!(rt; fault, NoMemory),
-    }
+    assert!(rt; reads_class(rt.alloc(), b"VCPU", true).unwrap_or(true));
 }
 
 #[test]
 fn trait_name(rt: HostRuntime) {
-    match TraitName::read(rt.alloc(), b"HW_NUMA_ROOT") {
-        Ok(Some(name)) => assert_eq!(rt; name.text(), "HW_NUMA_ROOT"),
-        Ok(None) => assert!(rt; false, "HW_NUMA_ROOT is a name"),
-        Err(fault) => assert_eq!(rt; fault, NoMemory),
-    }
+    assert!(rt; reads_trait(rt.alloc(), b"HW_NUMA_ROOT", true).unwrap_or(true));
 }
 
 #[test]
 fn suffix(rt: HostRuntime) {
-    match Suffix::read(rt.alloc(), b"_NUMA") {
-        Ok(Some(suffix)) => assert_eq!(rt; suffix.text(), "_NUMA"),
-        Ok(None) => assert!(rt; false, "_NUMA is a suffix"),
-        Err(fault) => assert_eq!(rt; fault, NoMemory),
-    }
+    assert!(rt; reads_suffix(rt.alloc(), b"_NUMA", true).unwrap_or(true));
 }
 
 // A name that is read again, and one that isn't, after a growth was refused or not.

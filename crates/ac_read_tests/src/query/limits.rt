@@ -1,80 +1,73 @@
 //! Queries and tokens past what their forms allow, with ample memory: the fault is named, and isn't want of memory.
-use super::{line, token_line};
+use super::{tells, token_line};
 use ac_query::{Query, Version};
 use std::alloc::{AllocError, Global};
 use std::test::Fail;
 
-fn letters(alloc: Global, count: usize) -> Result<String, AllocError> {
-    let mut text = String::new(alloc);
-    for _ in 0..count {
-        text.push('A')?;
-    }
-    Ok(text)
+// Whether this line is told of a query in which `#` stands for so many letters.
+fn tells_of_name(alloc: Global, query: &str, count: usize, want: &str) -> Result<bool, AllocError> {
+    let name = "A".repeat(alloc, count)?;
+    let query = query.replace(alloc, "#", name.as_str())?;
+    tells(alloc, query.as_str(), want)
 }
 
+// Queries with a class, a trait and a suffix, the letters that a name may have there, and what is told where it has more.
 #[test]
 fn long_names(rt: HostRuntime) -> Result<(), Fail> {
-    let alloc = rt.alloc();
-    for (count, is_name, is_suffix) in [
-        (64, true, true),
-        (65, true, false),
-        (255, true, false),
-        (256, false, false),
-        (300, false, false),
-        (60_000, false, false),
+    for (query, most, fault) in [
+        ("resources=#:1", 255, "pair 1: BadValue"),
+        ("resources=A:1&required=#", 255, "pair 2: BadValue"),
+        ("resources#=A:1", 64, "pair 1: UnknownParameter"),
     ] {
-        let name = letters(alloc, count)?;
-        let name = name.as_str();
-        let class = format!(in alloc; "resources={name}:1")?;
-        let told = line(alloc, class.as_str())?;
-        let want = if is_name {
-            "accepted"
-        } else {
-            "pair 1: BadValue"
-        };
-        assert_eq!(rt; told.as_str(), want, "a class of {count}");
-        let required = format!(in alloc; "resources=A:1&required={name}")?;
-        let told = line(alloc, required.as_str())?;
-        let want = if is_name {
-            "accepted"
-        } else {
-            "pair 2: BadValue"
-        };
-        assert_eq!(rt; told.as_str(), want, "a trait of {count}");
-        let suffix = format!(in alloc; "resources{name}=A:1")?;
-        let told = line(alloc, suffix.as_str())?;
-        let want = if is_suffix {
-            "accepted"
-        } else {
-            "pair 1: UnknownParameter"
-        };
-        assert_eq!(rt; told.as_str(), want, "a suffix of {count}");
+        for count in [64, 65, 255, 256, 300, 60_000] {
+            let want = if count <= most { "accepted" } else { fault };
+            let holds = tells_of_name(rt.alloc(), query, count, want)?;
+            assert!(rt; holds, "{count} letters: {query}");
+        }
     }
     Ok(())
 }
 
+// Whether this line is told of a token for one slot, in which `#` stands for so many pieces.
+fn tells_of_token(
+    alloc: Global,
+    text: &str,
+    piece: (&str, usize),
+    want: &str,
+) -> Result<bool, AllocError> {
+    let Ok(query) = Query::read(alloc, "resources=VCPU:1", Version::V136) else {
+        return Ok(false);
+    };
+    let pieces = piece.0.repeat(alloc, piece.1)?;
+    let text = text.replace(alloc, "#", pieces.as_str())?;
+    Ok(token_line(alloc, text.as_str(), &query)?.as_str() == want)
+}
+
+// One part and more, the last time with a bad one at the end; and a part that is too long.
 #[test]
 fn long_tokens(rt: HostRuntime) -> Result<(), Fail> {
-    let alloc = rt.alloc();
-    let Ok(query) = Query::read(alloc, "resources=VCPU:1", Version::V136) else {
-        assert!(rt; false, "the query is accepted");
-        return Ok(());
-    };
-    let mut token = String::from_str(alloc, "00000000000000000000000000000001")?;
-    for count in [1, 65, 3000] {
-        for _ in 0..count {
-            token.push_str(",00000000000000000000000000000001")?;
-        }
-        let told = token_line(alloc, token.as_str(), &query)?;
-        assert_eq!(rt; told.as_str(), "WrongLength", "{count} more parts");
-    }
-    token.push_str(",zz")?;
-    let told = token_line(alloc, token.as_str(), &query)?;
-    assert_eq!(rt; told.as_str(), "BadToken", "a bad part at the end");
-    for count in [37, 300, 200_000] {
-        let part = letters(alloc, count)?;
-        let told = token_line(alloc, part.as_str(), &query)?;
-        assert_eq!(rt; told.as_str(), "BadToken", "a part of {count}");
+    let part = ",00000000000000000000000000000001";
+    for (text, piece, count, want) in [
+        ("00000000000000000000000000000001#", part, 1, "WrongLength"),
+        ("00000000000000000000000000000001#", part, 66, "WrongLength"),
+        (
+            "00000000000000000000000000000001#",
+            part,
+            3066,
+            "WrongLength",
+        ),
+        (
+            "00000000000000000000000000000001#,zz",
+            part,
+            3066,
+            "BadToken",
+        ),
+        ("#", "A", 37, "BadToken"),
+        ("#", "A", 300, "BadToken"),
+        ("#", "A", 200_000, "BadToken"),
+    ] {
+        let holds = tells_of_token(rt.alloc(), text, (piece, count), want)?;
+        assert!(rt; holds, "{count} times {piece}: {text}");
     }
     Ok(())
 }

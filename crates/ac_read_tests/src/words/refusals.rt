@@ -17,6 +17,8 @@ fn accepted(rt: HostRuntime) {
         token: Some("t"),
         host: None,
         detail: false,
+        traits: true,
+        sum: false,
     };
     match read_words(rt.alloc(), given.as_slice()) {
         Ok(words) => {

@@ -1,7 +1,7 @@
 -- The body of lists, piece by piece.
 use Rattle.std.proofs.Common.{arith}
 use Rattle.std.proofs.lemmas.Grind.{common_steps}
-use Rattle.std.proofs.Common.{◌≡◌, ℕ, List, [], ◌∷◌, ◌++◌, refl, sym, ap, ap₂, ◌∙◌, Bool, true, false, map, length, append_assoc, append-nil, codes}
+use Rattle.std.proofs.Common.{◌≡◌, ℕ, List, [], ◌∷◌, ◌++◌, refl, ap, ap₂, ◌∙◌, Bool, true, false, map, length, append_assoc, append-nil, codes}
 use Rattle.std.proofs.lemmas.Grind.{flat_map-append}
 use Rattle.serde_json.specs.Data.{Data, Items, array, object, string, Members, no_members, member}
 use Rattle.serde_json.specs.View.{items_of}
@@ -9,9 +9,6 @@ use Rattle.serde_json.specs.Written.{compact_text, items_text, members_text, com
 use Rattle.serde_json.proofs.OnLiterals.{serde_json_on_literals}
 use Rattle.ac_cloud.specs.Laws.{AreProviders}
 use Rattle.ac_cloud.specs.World.{Provider}
-use Rattle.ac_cloud.specs.declared.cloud.Cloud.{Cloud}
-use Rattle.ac_cloud.specs.Cloud.CloudWorld.{providers_of}
-use Rattle.ac_cloud.proofs.InOrder.{cloud_in_order}
 use Rattle.ac_query.specs.Asked.{Asked}
 use Rattle.ac_report.specs.Trees.{gathered, provider_text, request, summary}
 use Rattle.ac_report.specs.Texts.{request_text, summary_text, summarized, body_tree, body, with_commas, summary_piece, head_text, middle_text, tail_text, pieces, joined}
@@ -67,7 +64,3 @@ body_is all are asked lists =
     ∙ ap₂ (λ i m. 123 ∷ (requests_name ++ 58 ∷ 91 ∷ (i ++ 44 ∷ (summaries_name ++ 58 ∷ 123 ∷ (m ++ 125 ∷ [])))))
     (items_joined (request all asked) false lists) (ap (members_text false) ordered ∙ members_joined named false places))
     ∙ shape requests_name summaries_name (joined (requests all asked false lists)) (joined (summaries all false places))
-
--- the body that is written of a cloud
-pub is_body : (cloud : Cloud) (asked : Asked) (lists : List (List ℕ)) → joined (pieces (providers_of cloud) asked lists) ≡ body (providers_of cloud) asked lists
-is_body cloud asked lists = pieces_joined (providers_of cloud) asked lists ∙ sym (body_is (providers_of cloud) (cloud_in_order cloud) asked lists)

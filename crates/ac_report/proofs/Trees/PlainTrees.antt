@@ -1,7 +1,7 @@
 -- Trees with no float.
 use Rattle.std.proofs.Common.{arith}
 use Rattle.std.proofs.lemmas.Grind.{common_steps}
-use Rattle.std.proofs.Common.{◌≡◌, ℕ, List, [], ◌∷◌, refl, ◌<◌, false, map, length, Option}
+use Rattle.std.proofs.Common.{◌≡◌, ℕ, List, [], ◌∷◌, refl, ◌<◌, Bool, false, map, length, Option}
 use Rattle.serde_json.specs.Written.{has_float, members_have_float}
 use Rattle.ac_cloud.specs.Cloud.CloudWorld.{providers_of}
 use Rattle.ac_cloud.specs.declared.cloud.Cloud.{Cloud}
@@ -12,6 +12,8 @@ use Rattle.ac_report.specs.Requests.{allocation_member, allocation_tree, allocat
 use Rattle.ac_report.specs.Trees.{holding, id_or_null, summary, texts}
 use Rattle.ac_report.proofs.Trees.Gathering.{Named}
 use Rattle.ac_cloud.proofs.InOrder.{entries_rise}
+use Rattle.ac_report.proofs.Pages.Showing.{summary_shown}
+use Rattle.ac_report.specs.Texts.{shown_providers}
 use Rattle.ac_report.proofs.Trees.Sending.{holdings_listed}
 
 texts_plain : (ts : List (List ℕ)) → has_float (texts ts) ≡ false
@@ -27,9 +29,9 @@ id_plain : (id : Option ℕ) → has_float (id_or_null id) ≡ false
 unfolding id_or_null
 id_plain id = grind (arith, common_steps)
 
-pub summary_plain : (cloud : Cloud) (ix : ℕ) → ix < length (providers_of cloud) → has_float (summary (providers_of cloud) ix) ≡ false
-unfolding summary holding
-summary_plain cloud ix h = grind (arith, common_steps, id_plain, holdings_listed, entries_rise, listed_plain, texts_plain)
+pub summary_plain : (cloud : Cloud) (traits : Bool) (ix : ℕ) → ix < length (providers_of cloud) → has_float (summary (shown_providers traits (providers_of cloud)) ix) ≡ false
+unfolding holding
+summary_plain cloud traits ix h = grind (arith, common_steps, summary_shown, id_plain, holdings_listed, entries_rise, listed_plain, texts_plain)
 
 allocation_plain : (a : Allocation) → has_float (allocation_tree a) ≡ false
 unfolding allocation_tree resources_tree

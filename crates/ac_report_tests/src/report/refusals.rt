@@ -36,6 +36,13 @@ fn tokens(rt: HostRuntime) {
 }
 
 #[test]
+fn list(rt: HostRuntime) {
+    let want =
+        "#,allocation,resource provider,name,inventory used/capacity,traits\n1,VCPU=2,@01,,VCPU=0/8,\n2,VCPU=2,@01,,VCPU=0/8,\n";
+    check_writer(&rt, Writer::List, &[&[0], &[0]], want);
+}
+
+#[test]
 fn name(rt: HostRuntime) {
     match shown_name(rt.alloc(), b"two\nlines\xff") {
         Ok(shown) => assert!(rt; shown.as_slice() == b"two?lines?".as_slice()),

@@ -30,11 +30,11 @@ module _ (amount : ℕ → List ℕ → UsedInventory → ℕ) (all : List Provi
   inventories : (ix : ℕ) (class : List ℕ) → inventory_of (provider_at (with_amounts amount all) ix) class ≡ inventory_of (provider_at all ix) class
   inventories ix class = ap (option_map (λ (had : UsedInventory). had.inventory)) (entries amount all ix class) ∙ inventory_kept (entry_in (provider_at all ix) class) (amount ix class)
 
-  units : (x : Placed) → units_fit (with_amounts amount all) x ≡ units_fit all x
+  pub units : (x : Placed) → units_fit (with_amounts amount all) x ≡ units_fit all x
   unfolding units_fit
   units x = ap (λ test. list_all test x.slot.needs) (fun_ext (λ (need : List ℕ × ℕ). ap (λ o. admits o need.1) (inventories x.provider need.0)))
 
-  traits : (x : Placed) → traits_fit (with_amounts amount all) x ≡ traits_fit all x
+  pub traits : (x : Placed) → traits_fit (with_amounts amount all) x ≡ traits_fit all x
   unfolding traits_fit
   traits x = ap (λ p. has_none p x.slot.group.forbidden && (is_none x.slot.suffix || has_required p x.slot.group)) (here x.provider)
 
@@ -53,7 +53,7 @@ module _ (amount : ℕ → List ℕ → UsedInventory → ℕ) (all : List Provi
   unfolding meets_rule
   rules x rule = ap (λ test. if rule.forbids then not (list_any test rule.ids) else list_any test rule.ids) (fun_ext (counts x))
 
-  aggregates : (x : Placed) → aggregates_fit (with_amounts amount all) x ≡ aggregates_fit all x
+  pub aggregates : (x : Placed) → aggregates_fit (with_amounts amount all) x ≡ aggregates_fit all x
   unfolding aggregates_fit
   aggregates x = ap (λ test. list_all test x.slot.group.member_of) (fun_ext (rules x))
 
@@ -61,7 +61,7 @@ module _ (amount : ℕ → List ℕ → UsedInventory → ℕ) (all : List Provi
   in_tree p None = refl
   in_tree p (Some id) = ap₂ (λ a b. a && b) (ap is_some (places amount all id)) (ap₂ (λ (r s : ℕ). r == s) (roots amount all p.id) (roots amount all id))
 
-  trees : (x : Placed) → tree_fits (with_amounts amount all) x ≡ tree_fits all x
+  pub trees : (x : Placed) → tree_fits (with_amounts amount all) x ≡ tree_fits all x
   unfolding tree_fits
   trees x = ap (λ p. is_in_tree (with_amounts amount all) p x.slot.group.in_tree) (here x.provider) ∙ in_tree (provider_using (amount x.provider) (provider_at all x.provider)) x.slot.group.in_tree
 
@@ -135,6 +135,12 @@ module _ (amount : ℕ → List ℕ → UsedInventory → ℕ) (all : List Provi
       let own = rw (fun_ext units, fun_ext traits, fun_ext aggregates, fun_ext trees, together asked xs, subtrees asked xs, anchors asked xs) at h in
       let less = sums_less more xs in
       grind arith
+
+  -- candidates stay candidates where Sums is kept
+  pub keeps : (asked : Asked) (xs : List Placed) → all_hold (tests all asked xs) ≡ true → sums (with_amounts amount all) xs ≡ true
+      → all_hold (tests (with_amounts amount all) asked xs) ≡ true
+  unfolding tests
+  keeps asked xs h kept = rw (fun_ext units, fun_ext traits, fun_ext aggregates, fun_ext trees, together asked xs, subtrees asked xs, anchors asked xs, kept) (grind arith)
 
 pub claims_narrow : ClaimsNarrow
 unfolding is_candidate claimed

@@ -11,7 +11,7 @@ use Rattle.ac_rules.specs.Together.{amount_of, sum_on, holds, holds_sums, sums}
 use Rattle.ac_rules.specs.Laws.{AskAmounts, IsFull, SumsSayFull}
 
 -- a test of each class that needs name holds of a class of which they ask
-at_class : (f : List ℕ → Bool) (needs : List (List ℕ × ℕ)) (c : List ℕ) → list_all (λ need. f need.0) needs ≡ true → 0 < amount_of needs c → f c ≡ true
+pub at_class : (f : List ℕ → Bool) (needs : List (List ℕ × ℕ)) (c : List ℕ) → list_all (λ need. f need.0) needs ≡ true → 0 < amount_of needs c → f c ≡ true
 at_class f [] c h k = absurd (omega arith)
 at_class f (need ∷ needs) c h k = elim (cases_Bool (bytes_eq need.0 c)) [
   | inl e ↦ let same = (bytes_eq-Decides need.0 c).0 e in grind arith

@@ -50,6 +50,8 @@ fn left_of_full_hosts(alloc: Global) -> Result<Left, AllocError> {
         token: None,
         host: None,
         detail: false,
+        traits: true,
+        sum: false,
     };
     run_texts(alloc, &texts, &job, SOUND)
 }

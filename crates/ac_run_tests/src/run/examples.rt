@@ -1,5 +1,5 @@
 //! Worked examples, with values worked out by hand.
-use super::{Case, EMPTY, ONE, Rows, TOKENS, alike, check_case};
+use super::{Case, EMPTY, ONE, ONE_BODY, Rows, TOKENS, alike, check_case};
 use ac_base::Turn;
 use ac_query::Version;
 use ac_run::Command;
@@ -14,6 +14,11 @@ mod why;
 
 const BODY: Case = Case {
     command: Command::Candidates,
+    ..TOKENS
+};
+
+const ROWS: Case = Case {
+    command: Command::List,
     ..TOKENS
 };
 
@@ -53,6 +58,11 @@ fn check(rt: &(impl Abort + AllocGlobal), cases: &[Case]) -> Result<(), Fail> {
     check_over(rt, cases, again.as_slice())
 }
 
+const HELD: Rows = Rows {
+    traits: "@1,CUSTOM_A\n",
+    ..ONE
+};
+
 const ONE_PROVIDER: &[Case] = &[
     Case {
         output: "@1\n",
@@ -72,6 +82,33 @@ const ONE_PROVIDER: &[Case] = &[
     Case {
         rows: EMPTY,
         output: "{\"allocation_requests\":[],\"provider_summaries\":{}}\n",
+        ..BODY
+    },
+    Case {
+        output: "#,allocation,resource provider,name,inventory used/capacity,traits\n1,VCPU=2,@1,,VCPU=0/8,\n",
+        ..ROWS
+    },
+    Case {
+        rows: EMPTY,
+        output: "#,allocation,resource provider,name,inventory used/capacity,traits\n",
+        ..ROWS
+    },
+    // With a trait, and without.
+    Case {
+        rows: HELD,
+        output: "#,allocation,resource provider,name,inventory used/capacity,traits\n1,VCPU=2,@1,,VCPU=0/8,CUSTOM_A\n",
+        ..ROWS
+    },
+    Case {
+        rows: HELD,
+        traits: false,
+        output: "#,allocation,resource provider,name,inventory used/capacity,traits\n1,VCPU=2,@1,,VCPU=0/8,\n",
+        ..ROWS
+    },
+    Case {
+        rows: HELD,
+        traits: false,
+        output: ONE_BODY,
         ..BODY
     },
     Case {

@@ -133,6 +133,44 @@ fn rows_of_a_host(rt: HostRuntime) {
     check_all(&rt, &ROWS_OF_A_HOST);
 }
 
+static ROWS_OF_A_PAGE: [Case; 1] = [Case {
+    command: Command::List,
+    output: "#,allocation,resource provider,name,inventory used/capacity,traits\n1,VCPU=2,@1,,VCPU=0/8,\n",
+    ..TOKENS
+}];
+
+#[test]
+fn rows_of_a_page(rt: HostRuntime) {
+    check_all(&rt, &ROWS_OF_A_PAGE);
+}
+
+static PLACEMENTS: [Case; 3] = [
+    Case {
+        command: Command::Fill,
+        query: "resources=VCPU:3",
+        output: "@1\n@1\n",
+        ..TOKENS
+    },
+    Case {
+        command: Command::Fill,
+        query: "resources=VCPU:3",
+        sum: true,
+        output: "at least 2, at most 2\n",
+        ..TOKENS
+    },
+    Case {
+        command: Command::Fill,
+        query: "resources=VCPU:9",
+        status: 1,
+        ..TOKENS
+    },
+];
+
+#[test]
+fn placements(rt: HostRuntime) {
+    check_all(&rt, &PLACEMENTS);
+}
+
 static VERDICTS: [Case; 2] = [
     Case {
         token: Some("@1,@2"),

@@ -2,6 +2,8 @@
 use super::{FIVES, gives, verdict_of};
 use ac_example_clouds::{NONE, ONE, PAIR, Rows};
 use ac_rules::{Rule, Verdict};
+use std::alloc::AllocError;
+use std::process::Abort;
 use std::test::Fail;
 
 // The same as a client prints it.
@@ -160,7 +162,8 @@ type Case = (
     &'static str,
 );
 
-static CASES: [Case; 43] = [
+// What is left of an inventory, and which amounts it admits.
+static AMOUNTS: [Case; 16] = [
     (ONE, "resources=VCPU:2", None, "01 /."),
     (PRINTED, "resources=VCPU:2", None, "01 /."),
     (NONE, "resources=VCPU:2", None, "."),
@@ -169,18 +172,7 @@ static CASES: [Case; 43] = [
     (GREATEST, "resources=VCPU:2147483647", None, "01 /."),
     (GREATEST_RATIO, "resources=VCPU:2147483647", None, "01 /."),
     (ALMOST_TWO, "resources=VCPU:2", None, "."),
-    (
-        TWO_HOSTS,
-        "resources=VCPU:1,MEMORY_MB:512",
-        None,
-        "01 01 /.",
-    ),
     (OVERUSED, "resources=VCPU:2", None, "."),
-    (PAIR, FIVES, None, "01 02 /02 01 /."),
-    (PAIR, FIVES, Some("@01,@07"), "02 01 /."),
-    (PAIR, FIVES, Some("@01,@02"), "02 01 /."),
-    (PAIR, FIVES, Some("@02,@01"), "."),
-    (PAIR, FIVES, Some("@07,@07"), "."),
     (
         NARROW,
         "resources1=VCPU:3&resources2=VCPU:3&group_policy=none",
@@ -190,10 +182,47 @@ static CASES: [Case; 43] = [
     (USED, "resources=VCPU:1", None, "01 /."),
     (USED, "resources=VCPU:2", None, "."),
     (OVERUSED, "resources=VCPU:1", None, "."),
-    (STRANGERS, FIVES, None, "."),
     (EVEN, "resources=VCPU:4", None, "01 /."),
     (EVEN, "resources=VCPU:1", None, "."),
     (EVEN, "resources=VCPU:3", None, "."),
+];
+
+// Several slots in one tree, some of them behind a token.
+static TOGETHER: [Case; 10] = [
+    (
+        TWO_HOSTS,
+        "resources=VCPU:1,MEMORY_MB:512",
+        None,
+        "01 01 /.",
+    ),
+    (PAIR, FIVES, None, "01 02 /02 01 /."),
+    (PAIR, FIVES, Some("@01,@07"), "02 01 /."),
+    (PAIR, FIVES, Some("@01,@02"), "02 01 /."),
+    (PAIR, FIVES, Some("@02,@01"), "."),
+    (PAIR, FIVES, Some("@07,@07"), "."),
+    (STRANGERS, FIVES, None, "."),
+    (
+        MEMORY,
+        "resources=MEMORY_MB:512&resources1=VCPU:1&resources2=VCPU:1&group_policy=isolate",
+        None,
+        "01 01 02 /01 02 01 /.",
+    ),
+    (
+        NUMA,
+        "resources_PF=VCPU:1&required_NUMA=HW_NUMA_ROOT&same_subtree=_NUMA,_PF",
+        None,
+        "02 04 /.",
+    ),
+    (
+        NUMA,
+        "resources_PF=VCPU:1&required_NUMA=!CUSTOM_X&same_subtree=_NUMA,_PF&group_policy=isolate",
+        None,
+        "01 04 /02 04 /04 04 /.",
+    ),
+];
+
+// A provider that shares, and what is asked of the root.
+static SHARING: [Case; 9] = [
     (SHARED, "resources=DISK_GB:10", None, "09 /."),
     (
         SHARED,
@@ -238,6 +267,10 @@ static CASES: [Case; 43] = [
         None,
         ".",
     ),
+];
+
+// Traits, aggregates and trees.
+static TRAITS: [Case; 8] = [
     (
         SIBLINGS,
         "resources=VCPU:1,PGPU:1&required=CUSTOM_A,CUSTOM_B",
@@ -247,24 +280,6 @@ static CASES: [Case; 43] = [
     (CHILD, "resources=VCPU:1&member_of=@a1", None, "02 /."),
     (CHILD, "resources1=VCPU:1&member_of1=@a1", None, "."),
     (CHILD, "resources=VCPU:1&member_of=!@a1", None, "."),
-    (
-        MEMORY,
-        "resources=MEMORY_MB:512&resources1=VCPU:1&resources2=VCPU:1&group_policy=isolate",
-        None,
-        "01 01 02 /01 02 01 /.",
-    ),
-    (
-        NUMA,
-        "resources_PF=VCPU:1&required_NUMA=HW_NUMA_ROOT&same_subtree=_NUMA,_PF",
-        None,
-        "02 04 /.",
-    ),
-    (
-        NUMA,
-        "resources_PF=VCPU:1&required_NUMA=!CUSTOM_X&same_subtree=_NUMA,_PF&group_policy=isolate",
-        None,
-        "01 04 /02 04 /04 04 /.",
-    ),
     (
         MARKED,
         "resources=VCPU:1&root_required=!CUSTOM_OLD",
@@ -333,9 +348,8 @@ static LISTED: [Case; 8] = [
     ),
 ];
 
-#[test]
-fn both_sources_give_the_candidates(rt: HostRuntime) -> Result<(), Fail> {
-    for (rows, query, after, want) in &CASES {
+fn give(rt: &(impl Abort + AllocGlobal), cases: &[Case]) -> Result<(), AllocError> {
+    for (rows, query, after, want) in cases {
         let got = gives(rt.alloc(), *rows, query, *after, 9)?;
         assert_eq!(rt; got.as_str(), *want, "{query}");
     }
@@ -343,11 +357,32 @@ fn both_sources_give_the_candidates(rt: HostRuntime) -> Result<(), Fail> {
 }
 
 #[test]
+fn both_sources_give_what_has_room(rt: HostRuntime) -> Result<(), Fail> {
+    give(&rt, &AMOUNTS)?;
+    Ok(())
+}
+
+#[test]
+fn both_sources_serve_several_slots_together(rt: HostRuntime) -> Result<(), Fail> {
+    give(&rt, &TOGETHER)?;
+    Ok(())
+}
+
+#[test]
+fn both_sources_give_what_is_shared(rt: HostRuntime) -> Result<(), Fail> {
+    give(&rt, &SHARING)?;
+    Ok(())
+}
+
+#[test]
+fn both_sources_ask_for_traits_aggregates_and_trees(rt: HostRuntime) -> Result<(), Fail> {
+    give(&rt, &TRAITS)?;
+    Ok(())
+}
+
+#[test]
 fn both_sources_ask_for_one_trait_of_a_list(rt: HostRuntime) -> Result<(), Fail> {
-    for (rows, query, after, want) in &LISTED {
-        let got = gives(rt.alloc(), *rows, query, *after, 9)?;
-        assert_eq!(rt; got.as_str(), *want, "{query}");
-    }
+    give(&rt, &LISTED)?;
     Ok(())
 }
 

@@ -5,6 +5,8 @@ use ac_example_clouds::{NONE, Rows};
 use std::alloc::{AllocError, Global};
 use std::test::Fail;
 
+mod placements;
+
 // Numbers that look like chance, the same in each run.
 #[derive(Drop)]
 struct Dice {
@@ -197,18 +199,21 @@ fn thrown(alloc: Global, dice: &mut Dice, odds: &Odds) -> Result<Tight, AllocErr
     Ok(tight)
 }
 
-// Whether both sources give the same in one such cloud.
-fn agree(alloc: Global, dice: &mut Dice, odds: &Odds) -> Result<bool, AllocError> {
-    let tight = thrown(alloc, dice, odds)?;
-    let rows = Rows {
+fn rows_of(tight: &Tight) -> Rows<'_> {
+    Rows {
         providers: tight.providers.as_str(),
         inventories: tight.inventories.as_str(),
         usages: tight.usages.as_str(),
         traits: tight.traits.as_str(),
         aggregates: tight.aggregates.as_str(),
         ..NONE
-    };
-    let text = gives(alloc, rows, tight.query.as_str(), None, 2000)?;
+    }
+}
+
+// Whether both sources give the same in one such cloud.
+fn agree(alloc: Global, dice: &mut Dice, odds: &Odds) -> Result<bool, AllocError> {
+    let tight = thrown(alloc, dice, odds)?;
+    let text = gives(alloc, rows_of(&tight), tight.query.as_str(), None, 2000)?;
     Ok(!text.as_str().is_empty())
 }
 

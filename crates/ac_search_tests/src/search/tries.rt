@@ -5,6 +5,7 @@ use ac_example_clouds::{NONE, Rows, Scene, scene_of};
 use ac_rules::Source;
 use ac_search::Walk;
 use std::alloc::{AllocError, Global};
+use std::process::Abort;
 use std::test::Fail;
 
 // Rows, each for all numbers from one to another, whose two digits stand in the place of each `#`.
@@ -300,7 +301,8 @@ type Case = (
     &'static [u64],
 );
 
-static CASES: [Case; 22] = [
+// All lists, those behind a token, and none.
+static LISTS: [Case; 8] = [
     ("few providers", PAIR, FIVES, None, 0, &[3, 5, 6]),
     ("behind a token", PAIR, FIVES, Some("@01,@02"), 0, &[3, 4]),
     (
@@ -321,6 +323,34 @@ static CASES: [Case; 22] = [
     ),
     // No provider has room for what a slot alone asks, so there is no choice to look at.
     ("no full root", USED_UP, ALONE, None, 0, &[0]),
+    (
+        "to the last of many lists",
+        FORTY,
+        ONES,
+        None,
+        64_000,
+        &[40 + 40 * 40 + 40 * 40 * 40],
+    ),
+    (
+        "behind the last of many lists",
+        FORTY,
+        ONES,
+        Some("@40,@40,@40"),
+        0,
+        &[2],
+    ),
+    (
+        "behind the last list of many groups",
+        EIGHT,
+        ALONE,
+        Some(LAST),
+        0,
+        &[287],
+    ),
+];
+
+// Trees that lack room, and what is left of a tree.
+static TREES: [Case; 6] = [
     ("no other tree", TWENTY, ONES, None, 20, &[60]),
     // A tree that can't host all groups isn't tried: the choices of the first group there are looked at and passed over, 20 hosts at first, then two
     // providers each time. 5 and 4 are more than a host's 8, though each of them fits and 4 fits twice; two times 7 don't hold 4 three times; three
@@ -350,6 +380,19 @@ static CASES: [Case; 22] = [
         0,
         &[2],
     ),
+    // Two fours and two sixes on two providers of ten. Behind two fours on one provider nothing is tried: only one six has room then.
+    (
+        "nothing where too few pieces are left",
+        TENS,
+        FOURS_AND_SIXES,
+        None,
+        0,
+        &[6, 8, 14, 16, 18],
+    ),
+];
+
+// Disks that are shared.
+static SHARED_DISKS: [Case; 5] = [
     // Each disk is tried, and behind it the two hosts alone. For a second disk only the first one is tried again, and behind it the hosts.
     (
         "only where a disk is shared",
@@ -379,6 +422,15 @@ static CASES: [Case; 22] = [
             2, 3, 4, 5, 6, 7, 8, 9, 10, 11, 33, 34, 35, 36, 37, 38, 39, 40, 41, 42, 42,
         ],
     ),
+    // Behind each host the other disk alone is tried.
+    ("no full disk", SHARED, HOST_FIRST, None, 0, &[2, 4, 6, 6]),
+    // Two groups that ask for five have no room beside one another in the nine that are left: the other disk is looked at for the first group, and
+    // passed over.
+    ("no full disk twice", SHARED, TWO_ON_DISKS, None, 0, &[1]),
+];
+
+// Nodes, and functions below them.
+static NODES: [Case; 3] = [
     // Behind a node its own function alone is looked at; the last two nodes, which have none below them, are passed over. Where functions come first,
     // and the node that is above is a later slot's, these nodes are of other parts.
     (
@@ -406,44 +458,6 @@ static CASES: [Case; 22] = [
         0,
         &[3, 3],
     ),
-    // Two fours and two sixes on two providers of ten. Behind two fours on one provider nothing is tried: only one six has room then.
-    (
-        "nothing where too few pieces are left",
-        TENS,
-        FOURS_AND_SIXES,
-        None,
-        0,
-        &[6, 8, 14, 16, 18],
-    ),
-    (
-        "to the last of many lists",
-        FORTY,
-        ONES,
-        None,
-        64_000,
-        &[40 + 40 * 40 + 40 * 40 * 40],
-    ),
-    (
-        "behind the last of many lists",
-        FORTY,
-        ONES,
-        Some("@40,@40,@40"),
-        0,
-        &[2],
-    ),
-    (
-        "behind the last list of many groups",
-        EIGHT,
-        ALONE,
-        Some(LAST),
-        0,
-        &[287],
-    ),
-    // Behind each host the other disk alone is tried.
-    ("no full disk", SHARED, HOST_FIRST, None, 0, &[2, 4, 6, 6]),
-    // Two groups that ask for five have no room beside one another in the nine that are left: the other disk is looked at for the first group, and
-    // passed over.
-    ("no full disk twice", SHARED, TWO_ON_DISKS, None, 0, &[1]),
 ];
 
 fn is_met(alloc: Global, case: &Case) -> Result<bool, AllocError> {
@@ -454,11 +468,34 @@ fn is_met(alloc: Global, case: &Case) -> Result<bool, AllocError> {
     }
 }
 
-#[test]
-fn tries_as_often_as_counted(rt: HostRuntime) -> Result<(), Fail> {
-    for case in &CASES {
+fn are_met(rt: &(impl Abort + AllocGlobal), cases: &[Case]) -> Result<(), AllocError> {
+    for case in cases {
         assert!(rt; is_met(rt.alloc(), case)?, "{}", case.0);
     }
+    Ok(())
+}
+
+#[test]
+fn goes_from_the_first_list_to_the_last(rt: HostRuntime) -> Result<(), Fail> {
+    are_met(&rt, &LISTS)?;
+    Ok(())
+}
+
+#[test]
+fn tries_no_tree_that_lacks_room(rt: HostRuntime) -> Result<(), Fail> {
+    are_met(&rt, &TREES)?;
+    Ok(())
+}
+
+#[test]
+fn tries_only_where_a_disk_is_shared(rt: HostRuntime) -> Result<(), Fail> {
+    are_met(&rt, &SHARED_DISKS)?;
+    Ok(())
+}
+
+#[test]
+fn tries_only_below_a_top_of_its_list(rt: HostRuntime) -> Result<(), Fail> {
+    are_met(&rt, &NODES)?;
     Ok(())
 }
 

@@ -1,7 +1,7 @@
 //! What the matches of `clap` hold.
 ghost use Rattle.std.specs.Prelude.{◌≡◌, ◌∷◌, IfErr, IfOk, OnOk, Some, [], is_some, option_map, string_bytes, true};
 ghost use Rattle.clap.specs.Words.{first_of, found_of, rows_of, subcommand_rows_of};
-ghost use Rattle.ac_words.specs.Words.{HasNeeded, IsComplete, IsMadeOf, Says, Tells, detail_of, host_of, name_of, own_faults, query_of, table_kinds, token_of, version_kinds, version_named, version_of};
+ghost use Rattle.ac_words.specs.Words.{HasNeeded, IsComplete, IsMadeOf, Says, Tells, detail_of, host_of, name_of, own_faults, query_of, sum_of, table_kinds, token_of, version_kinds, version_named, version_of, with_traits_of};
 
 use super::tables::{check_tables, needed_path, path};
 use super::{Call, WordFault, Words, fault_of, grammar};
@@ -46,6 +46,8 @@ fn query(alloc: Global, call: Call, entries: &ArgMatches<'_>) -> Result<String, 
         Call::Job(
             Command::Candidates
             | Command::Tokens
+            | Command::List
+            | Command::Fill
             | Command::Verify
             | Command::Explain
             | Command::Hosts
@@ -107,8 +109,12 @@ fn token(alloc: Global, call: Call, entries: &ArgMatches<'_>) -> Result<Option<S
 {
     match call {
         Call::Session
-        | Call::Job(Command::Check | Command::Explain | Command::Hosts | Command::Why) => Ok(None),
-        Call::Job(Command::Candidates | Command::Tokens) => copy_entry(alloc, entries, "after"),
+        | Call::Job(
+            Command::Check | Command::Fill | Command::Explain | Command::Hosts | Command::Why,
+        ) => Ok(None),
+        Call::Job(Command::Candidates | Command::Tokens | Command::List) => {
+            copy_entry(alloc, entries, "after")
+        }
         Call::Job(Command::Verify) => copy_entry(alloc, entries, "token"),
     }
 }
@@ -134,6 +140,28 @@ fn detail(call: Call, entries: &ArgMatches<'_>) -> bool
     }
 }
 
+// Whether traits are written; only `candidates` and `list` may be told not to.
+fn with_traits(call: Call, entries: &ArgMatches<'_>) -> bool
+    ensures { result ≡ with_traits_of call (rows_of (found_of entries.now)) }
+{
+    match call {
+        Call::Job(Command::Candidates | Command::List) => {
+            entry(entries, "no-traits") != Some("true")
+        }
+        _ => true,
+    }
+}
+
+// Whether the number of placements is asked in place of their tokens; only of `fill`.
+fn sum(call: Call, entries: &ArgMatches<'_>) -> bool
+    ensures { result ≡ sum_of call (rows_of (found_of entries.now)) }
+{
+    match call {
+        Call::Job(Command::Fill) => entry(entries, "sum") == Some("true"),
+        _ => false,
+    }
+}
+
 // The command that was found, and its entries.
 fn find_command<'m, 'a>(matches: &'m ArgMatches<'a>) -> (Call, &'m ArgMatches<'a>)
     requires { IsComplete (subcommand_rows_of matches.now) }
@@ -144,6 +172,8 @@ fn find_command<'m, 'a>(matches: &'m ArgMatches<'a>) -> (Call, &'m ArgMatches<'a
         Some(("check", entries)) => (Call::Job(Command::Check), entries),
         Some(("candidates", entries)) => (Call::Job(Command::Candidates), entries),
         Some(("tokens", entries)) => (Call::Job(Command::Tokens), entries),
+        Some(("list", entries)) => (Call::Job(Command::List), entries),
+        Some(("fill", entries)) => (Call::Job(Command::Fill), entries),
         Some(("verify", entries)) => (Call::Job(Command::Verify), entries),
         Some(("explain", entries)) => (Call::Job(Command::Explain), entries),
         Some(("hosts", entries)) => (Call::Job(Command::Hosts), entries),
@@ -173,6 +203,8 @@ fn words_with(
         token: token(alloc, call, entries)?,
         host: host(alloc, call, entries)?,
         detail: detail(call, entries),
+        with_traits: with_traits(call, entries),
+        sum: sum(call, entries),
         providers: needed_path(alloc, entries, Table::Providers)?,
         inventories: needed_path(alloc, entries, Table::Inventories)?,
         usages: path(alloc, entries, Table::Usages)?,

@@ -2,7 +2,7 @@
 ghost use Rattle.std.specs.Prelude.{◌≡◌, IfOk, false};
 ghost use Rattle.clap.specs.Words.{app_of, rule_of};
 ghost use Rattle.clap.specs.declared.builder.command.Command.TheViews.{out-Command as fields_of};
-ghost use Rattle.ac_words.specs.Words.{app_for, candidates_app, check_app, explain_app, flag_rule, hosts_app, option_rule, program, query_app, search_app, session_app, tokens_app, verify_app, why_app, with_options, with_tables, word_rule};
+ghost use Rattle.ac_words.specs.Words.{app_for, candidates_app, check_app, explain_app, fill_app, flag_rule, hosts_app, list_app, option_rule, program, query_app, search_app, session_app, shown_app, tokens_app, verify_app, why_app, with_options, with_tables, word_rule};
 
 use super::{Call, help};
 use ac_query::Command as Asked;
@@ -167,11 +167,30 @@ fn search<'a>(
     ))
 }
 
+// A command that writes candidates with what is told of their providers.
+fn shown<'a>(
+    alloc: Global,
+    name: &'a str,
+    about: &'a str,
+    usage: &'a str,
+    below: &'a str,
+) -> Result<Command<'a>, AllocError>
+    ensures app { IfOk result (λ c. app_of c ≡ shown_app name.entry.now) }
+    ensures local { IfOk result (λ c. (fields_of c).has_globals ≡ false) }
+{
+    let command = search(alloc, name, about, usage, below)?;
+    command.arg(flag(
+        alloc,
+        "no-traits",
+        "Leaves out the traits of providers, which are often more than half of the output",
+    ))
+}
+
 fn candidates<'a>(alloc: Global) -> Result<Command<'a>, AllocError>
     ensures app { IfOk result (λ c. app_of c ≡ candidates_app) }
     ensures local { IfOk result (λ c. (fields_of c).has_globals ≡ false) }
 {
-    search(
+    shown(
         alloc,
         "candidates",
         "Writes the candidates for a query as JSON, with summaries of their providers",
@@ -193,6 +212,40 @@ fn tokens<'a>(alloc: Global) -> Result<Command<'a>, AllocError>
          ac_cli tokens [OPTIONS] --providers <FILE> --inventories <FILE> <QUERY>",
         help::TOKENS,
     )
+}
+
+fn list<'a>(alloc: Global) -> Result<Command<'a>, AllocError>
+    ensures app { IfOk result (λ c. app_of c ≡ list_app) }
+    ensures local { IfOk result (λ c. (fields_of c).has_globals ≡ false) }
+{
+    shown(
+        alloc,
+        "list",
+        "Writes the candidates for a query as rows, one for each of their providers (CSV)",
+        "ac_cli list [OPTIONS] --tables <DIR> <QUERY>\n       \
+         ac_cli list [OPTIONS] --providers <FILE> --inventories <FILE> <QUERY>",
+        help::LIST,
+    )
+}
+
+fn fill<'a>(alloc: Global) -> Result<Command<'a>, AllocError>
+    ensures app { IfOk result (λ c. app_of c ≡ fill_app) }
+    ensures local { IfOk result (λ c. (fields_of c).has_globals ≡ false) }
+{
+    let command = with_query(
+        alloc,
+        "fill",
+        "Places a query again and again, as long as there is room: how many more fit, and where",
+        "ac_cli fill [OPTIONS] --tables <DIR> <QUERY>\n       \
+         ac_cli fill [OPTIONS] --providers <FILE> --inventories <FILE> <QUERY>",
+        help::FILL,
+    )?;
+    let command = add_options(alloc, command)?;
+    command.arg(flag(
+        alloc,
+        "sum",
+        "Writes how many fit by first fit, and how many can at most, in place of where",
+    ))
 }
 
 fn verify<'a>(alloc: Global) -> Result<Command<'a>, AllocError>
@@ -292,6 +345,8 @@ pub(super) fn command<'a>(alloc: Global, call: Call) -> Result<Command<'a>, Allo
         Call::Job(Asked::Check) => check(alloc),
         Call::Job(Asked::Candidates) => candidates(alloc),
         Call::Job(Asked::Tokens) => tokens(alloc),
+        Call::Job(Asked::List) => list(alloc),
+        Call::Job(Asked::Fill) => fill(alloc),
         Call::Job(Asked::Verify) => verify(alloc),
         Call::Job(Asked::Explain) => explain(alloc),
         Call::Job(Asked::Hosts) => hosts(alloc),
@@ -314,6 +369,8 @@ pub(super) fn program<'a>(alloc: Global) -> Result<Command<'a>, AllocError>
     let command = command.subcommand(check(alloc)?)?;
     let command = command.subcommand(candidates(alloc)?)?;
     let command = command.subcommand(tokens(alloc)?)?;
+    let command = command.subcommand(list(alloc)?)?;
+    let command = command.subcommand(fill(alloc)?)?;
     let command = command.subcommand(verify(alloc)?)?;
     let command = command.subcommand(explain(alloc)?)?;
     let command = command.subcommand(hosts(alloc)?)?;

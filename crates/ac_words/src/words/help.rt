@@ -27,7 +27,7 @@ macro_rules! below {
 }
 
 pub(super) const PROGRAM: &str = below!(
-    "  0  the answer is written\n  1  `verify` says no, or `explain`, `hosts` or `why` finds no candidate\n",
+    "  0  the answer is written\n  1  `verify` says no, or `fill`, `explain`, `hosts` or `why` finds no candidate\n",
     "  3  a table was refused, or a table or the questions could not be read\n",
     "  4  the query was refused\n  5  the token was refused, or the host names no provider\n",
     "  ac_cli tokens 'resources=VCPU:2,DISK_GB:20' --tables cloud"
@@ -49,6 +49,18 @@ pub(super) const TOKENS: &str = below!(
     "  0  the candidates are written, if there are any\n",
     "  4  the query was refused\n  5  the token was refused\n",
     "  ac_cli tokens 'resources=VCPU:2,DISK_GB:20&limit=10' --tables cloud"
+);
+
+pub(super) const LIST: &str = below!(
+    "  0  the candidates are written, if there are any\n",
+    "  4  the query was refused\n  5  the token was refused\n",
+    "  ac_cli list 'resources=VCPU:2,DISK_GB:20&limit=10' --tables cloud | column -ts,"
+);
+
+pub(super) const FILL: &str = below!(
+    "  0  something was placed\n  1  nothing fits\n",
+    "  4  the query was refused\n",
+    "  ac_cli fill 'resources=VCPU:2,DISK_GB:20&limit=50' --tables cloud"
 );
 
 pub(super) const VERIFY: &str = below!(

@@ -11,7 +11,7 @@ returns-in-Some g c =
       to = c.ran.new.inputs;
       files = c.in-Ok.ensures.files;
       ran = ran_job _ _ _ _ c.args.words.now c.in-Ok.inputs c.ran.new.inputs c.args.questions _ _ c.in-Some.job.command (task_of c.in-Some.job) asks.command
-          (same_task asks.query asks.version asks.token asks.host asks.detail) c.ran.ensures;
+          (same_task asks.query asks.version asks.token asks.host asks.detail asks.traits asks.sum) c.ran.ensures;
     })
 
 pub returns-in-None : goal.returns-in-None

@@ -1,5 +1,5 @@
 use Rattle.ac_prune.specs.Loads.{MayHost}
 use Rattle.ac_prune.proofs.hosts.limit_classes.Given as goal
 
-abbrev pub invariant-loop-class : goal.invariant-loop-class
-invariant-loop-class l = MayHost l.ledger l.may
+abbrev pub invariant-loop-number : goal.invariant-loop-number
+invariant-loop-number l = MayHost l.ledger l.may

@@ -3,7 +3,7 @@ use Rattle.ac_query.specs.Shown.Queries.{asked_of}
 use Rattle.ac_rules.specs.Pages.{cut}
 use Rattle.ac_cloud.specs.Cloud.CloudWorld.{providers_of}
 use Rattle.ac_report.specs.Marks.{requests, summaries}
-use Rattle.ac_report.specs.Texts.{head_text, middle_text, summarized, tail_text}
+use Rattle.ac_report.specs.Texts.{head_text, middle_text, shown_providers, summarized, tail_text}
 use Rattle.ac_report.proofs.Pages.Paging.{read_all}
 use Rattle.ac_report.proofs.Pages.Writing.{stopped, wrote_none, wrote_on}
 use Rattle.ac_report.proofs.page.write_parts.Goals as goal
@@ -35,7 +35,7 @@ returns-in_err-write_summaries-clause-writes g c =
     wrote_on (λ t. t) (head_text ∷ []) _ _ _ _ _ _ _ _ _ (c.in_ok-push_piece.ensures (λ t. t) _ refl)
     (wrote_on (λ t. t) (requests (providers_of c.args.cloud.now) (asked_of c.args.query.now) false lists) _ _ _ _ _ _ _ _ _ c.in_ok-count.ensures.writes
     (wrote_on (λ t. t) (middle_text ∷ []) _ _ _ _ _ _ _ _ _ (c.in_ok-push_piece-2.ensures (λ t. t) _ refl)
-    (stopped (λ t. t) (summaries (providers_of c.args.cloud.now) false (summarized (providers_of c.args.cloud.now) lists)) _ _ _ _ _ _ _ (c.in_err-write_summaries.ensures lists c.in_ok-count.ensures.marks) c.from_residual-in_err-write_summaries.ensures.1)))
+    (stopped (λ t. t) (summaries (shown_providers c.args.traits (providers_of c.args.cloud.now)) false (summarized (providers_of c.args.cloud.now) lists)) _ _ _ _ _ _ _ (c.in_err-write_summaries.ensures lists c.in_ok-count.ensures.marks) c.from_residual-in_err-write_summaries.ensures.1)))
 
 pub returns-in_err-push_piece-3-clause-writes : goal.returns-in_err-push_piece-3-clause-writes
 unfolding head_text middle_text tail_text
@@ -44,7 +44,7 @@ returns-in_err-push_piece-3-clause-writes g c =
     wrote_on (λ t. t) (head_text ∷ []) _ _ _ _ _ _ _ _ _ (c.in_ok-push_piece.ensures (λ t. t) _ refl)
     (wrote_on (λ t. t) (requests (providers_of c.args.cloud.now) (asked_of c.args.query.now) false lists) _ _ _ _ _ _ _ _ _ c.in_ok-count.ensures.writes
     (wrote_on (λ t. t) (middle_text ∷ []) _ _ _ _ _ _ _ _ _ (c.in_ok-push_piece-2.ensures (λ t. t) _ refl)
-    (wrote_on (λ t. t) (summaries (providers_of c.args.cloud.now) false (summarized (providers_of c.args.cloud.now) lists)) _ _ _ _ _ _ _ _ _ (c.in_ok-write_summaries.ensures lists c.in_ok-count.ensures.marks)
+    (wrote_on (λ t. t) (summaries (shown_providers c.args.traits (providers_of c.args.cloud.now)) false (summarized (providers_of c.args.cloud.now) lists)) _ _ _ _ _ _ _ _ _ (c.in_ok-write_summaries.ensures lists c.in_ok-count.ensures.marks)
     (stopped (λ t. t) (tail_text ∷ []) _ _ _ _ _ _ _ (c.in_err-push_piece-3.ensures (λ t. t) _ refl) c.from_residual-in_err-push_piece-3.ensures.1))))
 
 pub returns-clause-writes : goal.returns-clause-writes
@@ -54,7 +54,7 @@ returns-clause-writes g c =
     wrote_on (λ t. t) (head_text ∷ []) _ _ _ _ _ _ _ _ _ (c.in_ok-push_piece.ensures (λ t. t) _ refl)
     (wrote_on (λ t. t) (requests (providers_of c.args.cloud.now) (asked_of c.args.query.now) false lists) _ _ _ _ _ _ _ _ _ c.in_ok-count.ensures.writes
     (wrote_on (λ t. t) (middle_text ∷ []) _ _ _ _ _ _ _ _ _ (c.in_ok-push_piece-2.ensures (λ t. t) _ refl)
-    (wrote_on (λ t. t) (summaries (providers_of c.args.cloud.now) false (summarized (providers_of c.args.cloud.now) lists)) _ _ _ _ _ _ _ _ _ (c.in_ok-write_summaries.ensures lists c.in_ok-count.ensures.marks)
+    (wrote_on (λ t. t) (summaries (shown_providers c.args.traits (providers_of c.args.cloud.now)) false (summarized (providers_of c.args.cloud.now) lists)) _ _ _ _ _ _ _ _ _ (c.in_ok-write_summaries.ensures lists c.in_ok-count.ensures.marks)
     (wrote_on (λ t. t) (tail_text ∷ []) _ _ _ _ _ _ _ _ _ (c.in_ok-push_piece-3.ensures (λ t. t) _ refl) (wrote_none _ _ [] _ _ refl)))))
 
 pub returns-in_err-push_piece-2-clause-reads : goal.returns-in_err-push_piece-2-clause-reads

@@ -4,7 +4,7 @@ use Rattle.serde_json.specs.Written.{comma_if}
 use Rattle.ac_cloud.specs.Cloud.CloudWorld.{providers_of}
 use Rattle.ac_rules.proofs.PlacedLemmas.{range_end, range_more}
 use Rattle.ac_report.specs.Marks.{is_summarized, summaries}
-use Rattle.ac_report.specs.Texts.{summary_piece}
+use Rattle.ac_report.specs.Texts.{shown_providers, summary_piece}
 use Rattle.ac_report.proofs.Pages.Writing.{stopped, wrote_none, wrote_on}
 use Rattle.ac_report.proofs.page.write_summaries.Goals as goal
 
@@ -15,14 +15,14 @@ loop-ix-preserved-then-not-is_marked g c = λ lists m r new after h.
 pub returns-in_err-write_summary : goal.returns-in_err-write_summary
 returns-in_err-write_summary g c = λ lists m.
     c.loop-ix.invariant lists m _ _ _ (rw (range_more (length (providers_of c.args.cloud.now)) c.loop-ix.ix (omega (arith, c.len-ix-end.ensures)), sym (c.is_marked.ensures lists m) ∙ c.if-not-is_marked.false)
-    (stopped (λ t. t) ((comma_if c.loop-ix.later ++ summary_piece (providers_of c.args.cloud.now) c.loop-ix.ix) ∷ []) _ _ _ _ _ _ _ c.in_err-write_summary.ensures c.from_residual.ensures.1))
+    (stopped (λ t. t) ((comma_if c.loop-ix.later ++ summary_piece (shown_providers c.args.traits (providers_of c.args.cloud.now)) c.loop-ix.ix) ∷ []) _ _ _ _ _ _ _ c.in_err-write_summary.ensures c.from_residual.ensures.1))
 
 pub loop-ix-preserved : goal.loop-ix-preserved
 loop-ix-preserved g c = λ lists m r new after h.
     c.loop-ix.invariant lists m r new after (rw (range_more (length (providers_of c.args.cloud.now)) c.loop-ix.ix (omega (arith, c.len-ix-end.ensures)), sym (c.is_marked.ensures lists m) ∙ c.if-not-is_marked.false)
-    (wrote_on (λ t. t) ((comma_if c.loop-ix.later ++ summary_piece (providers_of c.args.cloud.now) c.loop-ix.ix) ∷ []) _ _ _ _ _ _ r new after c.in_ok-write_summary.ensures h))
+    (wrote_on (λ t. t) ((comma_if c.loop-ix.later ++ summary_piece (shown_providers c.args.traits (providers_of c.args.cloud.now)) c.loop-ix.ix) ∷ []) _ _ _ _ _ _ r new after c.in_ok-write_summary.ensures h))
 
 pub returns : goal.returns
 returns g c = λ lists m.
     let all = providers_of c.args.cloud.now in
-    c.loop-ix.invariant lists m _ _ _ (wrote_none _ _ _ _ _ (ap (λ ps. summaries all c.loop-ix.later (filter (is_summarized all lists) ps)) (range_end (length all) c.loop-ix.ix (omega (arith, c.len-ix-end.ensures)))))
+    c.loop-ix.invariant lists m _ _ _ (wrote_none _ _ _ _ _ (ap (λ ps. summaries (shown_providers c.args.traits all) c.loop-ix.later (filter (is_summarized all lists) ps)) (range_end (length all) c.loop-ix.ix (omega (arith, c.len-ix-end.ensures)))))

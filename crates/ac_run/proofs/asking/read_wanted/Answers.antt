@@ -6,7 +6,7 @@ use Rattle.ac_query.specs.declared.query.Query.{Query}
 use Rattle.ac_cloud.specs.Cloud.CloudWorld.{providers_of, world_of}
 use Rattle.ac_run.specs.Answer.{explanation}
 use Rattle.ac_run.proofs.HostFound.{host_within}
-use Rattle.ac_run.proofs.WantedSaid.{explains_host, said_body, said_explanation, said_hosts, said_lines, said_verdict, said_why}
+use Rattle.ac_run.proofs.WantedSaid.{explains_host, said_body, said_explanation, said_hosts, said_lines, said_rows, said_fill, said_verdict, said_why}
 use Rattle.ac_run.specs.Jobs.{task_of}
 use Rattle.ac_run.proofs.asking.read_wanted.Goals as goal
 
@@ -17,6 +17,14 @@ returns-in-Candidates-clause-wanted c =
 pub returns-in-Tokens-clause-wanted : goal.returns-in-Tokens-clause-wanted
 returns-in-Tokens-clause-wanted c =
     said_lines (task_of c.args.job.now) (world_of c.args.cloud.now) _ _ c.in_ok-query-in-Tokens.ensures.said c.in-Tokens.is
+
+pub returns-in-List-clause-wanted : goal.returns-in-List-clause-wanted
+returns-in-List-clause-wanted c =
+    said_rows (task_of c.args.job.now) (world_of c.args.cloud.now) _ _ c.in_ok-query-in-List.ensures.said c.in-List.is
+
+pub returns-in-Fill-clause-wanted : goal.returns-in-Fill-clause-wanted
+returns-in-Fill-clause-wanted c =
+    said_fill (task_of c.args.job.now) (world_of c.args.cloud.now) _ _ c.in_ok-query-in-Fill.ensures.said c.in-Fill.is
 
 pub returns-in-Some-clause-wanted : goal.returns-in-Some-clause-wanted
 returns-in-Some-clause-wanted c =

@@ -383,6 +383,8 @@ fn run_named<'a>(alloc: Global, query: &'a str, host: &'a str) -> Result<Left, A
         token: None,
         host: Some(host),
         detail: false,
+        traits: true,
+        sum: false,
     };
     run_texts(alloc, &texts, &job, SOUND)
 }

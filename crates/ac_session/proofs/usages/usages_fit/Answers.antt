@@ -4,7 +4,7 @@ use Rattle.std.proofs.lemmas.Iterator.Search.{all_from_yields_List}
 use Rattle.ac_cloud.specs.World.{provider_at}
 use Rattle.ac_cloud.specs.Cloud.CloudWorld.{providers_of}
 use Rattle.ac_session.specs.UsageRows.{entries_fit, usages_fit}
-use Rattle.ac_session.proofs.UsagesWritten.{by_places}
+use Rattle.ac_session.proofs.UsageRows.Written.{by_places}
 use Rattle.ac_session.proofs.usages.usages_fit.Goals as goal
 
 pub returns : goal.returns

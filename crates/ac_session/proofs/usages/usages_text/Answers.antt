@@ -7,9 +7,9 @@ use Rattle.ac_cloud.specs.World.{Provider, no_provider}
 use Rattle.ac_cloud.specs.Cloud.CloudWorld.{providers_of}
 use Rattle.ac_tables.specs.Tables.InventoryTable.{class_name, provider_name}
 use Rattle.ac_tables.specs.Tables.UsageTable.{usage_columns, usage_name}
-use Rattle.ac_answers.specs.Writing.Rows.{HasRows}
+use Rattle.ac_report.specs.Rows.{HasRows}
 use Rattle.ac_session.specs.UsageRows.{entries_fit, rows_of_provider, usages_fit, usages_text}
-use Rattle.ac_session.proofs.UsagesWritten.{provider_more}
+use Rattle.ac_session.proofs.UsageRows.Written.{provider_more}
 use Rattle.ac_session.proofs.usages.usages_text.Goals as goal
 
 pub loop-ix-init : goal.loop-ix-init

@@ -5,7 +5,7 @@ use Rattle.std.proofs.lemmas.List.{length-map}
 use Rattle.std.proofs.lemmas.List.Sums.{AllPass-from_list_all}
 use Rattle.ac_cloud.specs.Cloud.Entries.{entry_pair}
 use Rattle.ac_session.specs.UsageRows.{Entry, fits_table, is_used}
-use Rattle.ac_session.proofs.UsagesWritten.{item_at, row_more, row_same}
+use Rattle.ac_session.proofs.UsageRows.Written.{item_at, row_more, row_same}
 use Rattle.ac_session.proofs.usages.write_provider.Goals as goal
 use Rattle.ac_session.proofs.usages.write_provider.Goals.{then-used-gt0+in_ok-write_usage, else-used-gt0}
 

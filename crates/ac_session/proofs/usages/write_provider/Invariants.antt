@@ -1,7 +1,7 @@
 use Rattle.std.proofs.Common.{ℕ, ◌++◌, List, map, take}
 use Rattle.std.specs.List.{filter}
 use Rattle.ac_cloud.specs.Cloud.Entries.{entry_pair}
-use Rattle.ac_answers.specs.Writing.Rows.{HasRows}
+use Rattle.ac_report.specs.Rows.{HasRows}
 use Rattle.ac_session.specs.UsageRows.{is_used, usage_row}
 use Rattle.ac_session.proofs.usages.write_provider.Given as goal
 

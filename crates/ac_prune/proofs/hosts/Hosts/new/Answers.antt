@@ -17,14 +17,14 @@ many l taken is =
 pub limit_all-requires-clause-hosts : goal.limit_all-requires-clause-hosts
 limit_all-requires-clause-hosts c =
     let l = c.args.choices.now.ledger.now in
-    record {
-      count = ap length c.deref_mut.ensures.value ∙ many l c.in_ok-may.may.items c.in_ok-may.ensures;
-      hosts = takes_host (providers_in l) (asked_in l) c.deref_mut.result.now (c.deref_mut.ensures.value ∙ c.in_ok-may.ensures);
-    }
+    let copied = rw c.new-may.ensures.items at c.in_ok-extend_from_slice.ensures.items in
+    let start = c.deref_mut.ensures.value ∙ (copied ∙ (c.deref.ensures.value ∙ l.rooted)) in
+    record { count = many l c.deref_mut.result.now start; hosts = takes_host (providers_in l) (asked_in l) c.deref_mut.result.now start }
 
 pub returns : goal.returns
 returns c =
     let l = c.args.choices.now.ledger.now in
+    let may = c.extend_from_slice.new.self in
     let were = ap length c.deref_mut.ensures.value in
-    let items = with_items_is c.in_ok-may.may c.limit_all.new.may (c.limit_all.auto.may ∙ omega (arith, were, c.in_ok-may.may.ok)) in
+    let items = with_items_is may c.limit_all.new.may (c.limit_all.auto.may ∙ omega (arith, were, may.ok)) in
     subst (AreRoots (providers_in l) (asked_in l)) (sym items) c.in_ok-limit_all.ensures

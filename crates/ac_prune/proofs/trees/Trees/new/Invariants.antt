@@ -8,5 +8,5 @@ use Rattle.ac_prune.proofs.trees.Trees.new.Given as goal
 abbrev pub invariant-loop-s : goal.invariant-loop-s
 invariant-loop-s l = record {
   count : length l.slots.items ≡ l.s;
-  each : (s : ℕ) (d : ByTree) → s < l.s → IsByTree (providers_in l.choices.ledger.now) (choice_in l.choices.ledger.now s) (slice_index_or l.slots.items s d);
+  each : (s : ℕ) (d : ByTree) → 0 < s → s < l.s → IsByTree (providers_in l.choices.ledger.now) (choice_in l.choices.ledger.now s) (slice_index_or l.slots.items s d);
 }

@@ -1,35 +1,35 @@
-use Rattle.std.proofs.Common.{◌≡◌, List, length, slice_index, slice_index_or, sym, subst, arith}
+use Rattle.std.proofs.Common.{◌≡◌, ℕ, List, Some, length, slice_index, slice_index_or, sym, subst, arith}
 use Rattle.ac_prune.specs.Left.Accounts.{providers_in, asked_in}
 use Rattle.ac_prune.specs.QuerySearch.{choice_of}
 use Rattle.ac_rules.specs.Placed.{slot_at}
 use Rattle.ac_prune.specs.Trees.{IsByTree, AreByTree}
 use Rattle.ac_prune.specs.declared.by_tree.ByTree.{ByTree}
 use Rattle.ac_prune.specs.declared.front.Front.{Front}
-use Rattle.ac_prune.proofs.Paths.FrontLemmas.{listed_at, bound_there, bound_low, choice_inside}
+use Rattle.ac_prune.proofs.Paths.FrontLemmas.{listed_at, bound_there, bound_low, bound_behind, choice_inside}
 use Rattle.ac_prune.proofs.Roots.HostLemmas.{elsewhere_dead}
 use Rattle.ac_prune.proofs.trees.TreesLookAhead.next.Goals as goal
 
 -- the choices behind a front, by tree
-here : (f : Front) (slots : List ByTree) (b : ByTree) → AreByTree (providers_in f.ledger.now) (asked_in f.ledger.now) slots → b ≡ slice_index_or slots (length f.path.now) b → IsByTree (providers_in f.ledger.now) f.choices.now b
-here f slots b are is =
+here : (f : Front) (ix : ℕ) (slots : List ByTree) (b : ByTree) → f.bound ≡ Some ix → AreByTree (providers_in f.ledger.now) (asked_in f.ledger.now) slots → b ≡ slice_index_or slots (length f.path.now) b → IsByTree (providers_in f.ledger.now) f.choices.now b
+here f ix slots b bound are is =
     let all = providers_in f.ledger.now in
     let asked = asked_in f.ledger.now in
-    rw (listed_at f) (subst (IsByTree all (choice_of all asked (slot_at asked (length f.path.now)))) (sym is) (are.each (length f.path.now) b f.short))
+    rw (listed_at f) (subst (IsByTree all (choice_of all asked (slot_at asked (length f.path.now)))) (sym is) (are.each (length f.path.now) b (bound_behind f ix bound) f.short))
 
 pub anchors-requires : goal.anchors-requires
 anchors-requires c = bound_low c.args.front.now c.in-Some.ix c.in-Some.is
 
 pub next-requires : goal.next-requires
-next-requires c = omega (arith, (here c.args.front.now c.args.self.now.slots.items c.index.result.now c.requires.of c.index.ensures).count, c.requires.from)
+next-requires c = omega (arith, (here c.args.front.now c.in-Some.ix c.args.self.now.slots.items c.index.result.now c.in-Some.is c.requires.of c.index.ensures).count, c.requires.from)
 
 pub returns-else-beside-clause-within : goal.returns-else-beside-clause-within
-returns-else-beside-clause-within c = omega (arith, (here c.args.front.now c.args.self.now.slots.items c.index.result.now c.requires.of c.index.ensures).count, c.next.ensures.within)
+returns-else-beside-clause-within c = omega (arith, (here c.args.front.now c.in-Some.ix c.args.self.now.slots.items c.index.result.now c.in-Some.is c.requires.of c.index.ensures).count, c.next.ensures.within)
 
 pub returns-else-beside-clause-dead : goal.returns-else-beside-clause-dead
 returns-else-beside-clause-dead c = λ i above less.
     let f = c.args.front.now in
     let all = providers_in f.ledger.now in
-    let by = here f c.args.self.now.slots.items c.index.result.now c.requires.of c.index.ensures in
+    let by = here f c.in-Some.ix c.args.self.now.slots.items c.index.result.now c.in-Some.is c.requires.of c.index.ensures in
     elsewhere_dead all (asked_in f.ledger.now) f.path.now c.in-Some.ix (slice_index f.choices.now i) (bound_there f c.in-Some.ix c.in-Some.is)
     (λ r home low. c.next.ensures.passed all f.choices.now by r i (rw c.anchors.ensures home) low above less)
 

@@ -1,0 +1,60 @@
+-- Private: how far placements have come, and how they end.
+use Rattle.std.specs.Prelude.{◌≡◌, ◌+◌, ℕ, List, Option, Some, Result, Err, OnOk, IfOk, IfErr, length, min, ⊤}
+use Rattle.std.specs.List.{filter}
+use Rattle.ac_cloud.specs.World.{Provider}
+use Rattle.ac_query.specs.Asked.{Asked}
+use Rattle.ac_report.specs.Outcomes.{Writes}
+use Rattle.ac_report.specs.Texts.{line}
+use Rattle.ac_report.specs.declared.fault.PageFault.{PageFault}
+use Rattle.ac_rules.specs.Judge.{is_candidate}
+use Rattle.ac_rules.specs.Pages.{candidates}
+use Rattle.ac_fill.specs.Filled.{after, filled}
+use Rattle.ac_fill.specs.Shown.{with_taken, IsTakenOf}
+use Rattle.ac_fill.specs.declared.filling.Filled.{Filled}
+use Rattle.ac_fill.specs.declared.filling.Filling.{Filling}
+use Rattle.ac_fill.specs.declared.takings.Takings.{Takings}
+
+-- all candidates are among some lists, in their order
+unfoldable pub AreAhead : List Provider → Asked → List (List ℕ) → Type 0
+AreAhead all asked ls = candidates all asked ≡ filter (λ t. is_candidate all asked t) ls
+
+-- how many placements are wanted in a world, and how many were made
+pub record Stand : Type 0 where
+  pub wanted : Option ℕ
+  pub world : List Provider
+  pub count : ℕ
+
+-- the placements that are still to come
+abbrev pub placements_at : Asked → Stand → List (List ℕ)
+placements_at asked s = filled s.wanted s.world asked
+
+-- where nothing is placed yet
+abbrev pub start_of : List Provider → Asked → Stand
+start_of all asked = record { wanted = asked.limit; world = all; count = 0 }
+
+abbrev pub takings_of : Filling → Takings
+takings_of f = f.filled.takings
+
+-- how many placements were made
+abbrev pub count_at : Filling → ℕ
+count_at f = f.filled.count
+
+-- the world after the placements so far
+abbrev pub world_at : List Provider → Filling → List Provider
+world_at all f = with_taken (takings_of f) all
+
+abbrev pub stand_of : List Provider → Filling → Stand
+stand_of all f = record { wanted = f.wanted; world = world_at all f; count = count_at f }
+
+-- The placements that are to come are written, counted and taken.
+pub record Ends (all : List Provider) (asked : Asked) (s : Stand) (result : Result Filled PageFault) (old new : Option (List ℕ)) (before later : ℕ) : Type 0 where
+  pub writes : Writes (line all) (placements_at asked s) result old new before later
+  pub count : IfOk result (λ f. f.count ≡ min (length (placements_at asked s) + s.count) 4294967295)
+  pub world : IfOk result (λ f. with_taken f.takings all ≡ after s.world asked (placements_at asked s))
+  pub fits : IfOk result (λ f. IsTakenOf all f.takings)
+
+-- All placements of a list are made that are wanted: what ends well behind them ends well.
+pub record PlacesAll (all : List Provider) (asked : Asked) (s then : Stand) (rest : List (List ℕ)) (result : Result ⊤ PageFault) (old new : Option (List ℕ)) (before later : ℕ) : Type 0 where
+  pub ahead : OnOk result ((then.wanted ≡ Some 0 → ⊥) → AreAhead then.world asked rest)
+  pub goes : OnOk result ((r : Result Filled PageFault) (end : Option (List ℕ)) (last : ℕ) → Ends all asked then r new end later last → Ends all asked s r old end before last)
+  pub stops : IfErr result (λ e. Ends all asked s (Err e) old new before later)

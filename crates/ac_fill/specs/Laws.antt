@@ -1,0 +1,52 @@
+-- What holds of placements.
+use Rattle.std.specs.Prelude.{◌≡◌, ◌≤◌, ℕ, true, false, List, [], ◌∷◌, length, map, ⊤, Option, Some, None}
+use Rattle.std.specs.List.{AllByRecursion}
+use Rattle.ac_cloud.specs.World.{Provider}
+use Rattle.ac_query.specs.declared.version.Version.{Version}
+use Rattle.ac_query.specs.Asked.{Asked, slots_of}
+use Rattle.ac_query.specs.Faults.{query_fault}
+use Rattle.ac_query.specs.Laws.Gathered.{asked_by}
+use Rattle.ac_query.specs.Pairs.{pairs_of}
+use Rattle.ac_rules.specs.Claims.{claimed}
+use Rattle.ac_rules.specs.Judge.{is_candidate}
+use Rattle.ac_rules.specs.Laws.{AreInOrder}
+use Rattle.ac_rules.specs.Lists.{IsListBelow, lex_lt, head_of}
+use Rattle.ac_rules.specs.Pages.{candidates, ids_of}
+use Rattle.ac_rules.specs.Placed.{assigned}
+use Rattle.ac_fill.specs.Bounds.{most_placed}
+use Rattle.ac_fill.specs.Filled.{asks_units, filled, after}
+
+-- each of some placements is the first candidate in the world that the ones before it left
+abbrev pub AreFirstFits : List Provider → Asked → List (List ℕ) → Type 0
+AreFirstFits all asked [] = ⊤
+AreFirstFits all asked (t ∷ ts) = (head_of (candidates all asked) ≡ Some t) × AreFirstFits (claimed all (assigned asked t)) asked ts
+
+abbrev pub FillsFirstFits : Type 0
+FillsFirstFits = (limit : Option ℕ) (all : List Provider) (asked : Asked) → AreFirstFits all asked (filled limit all asked)
+
+-- no list of ids stands before one that it comes behind
+abbrev pub NeverFalls : List (List ℕ) → Type 0
+NeverFalls [] = ⊤
+NeverFalls (x ∷ xs) = AllByRecursion (λ y. lex_lt y x ≡ false) xs × NeverFalls xs
+
+-- no placement's token stands before that of an earlier one
+abbrev pub FillsInOrder : Type 0
+FillsInOrder = (limit : Option ℕ) (all : List Provider) (asked : Asked) → AreInOrder all → NeverFalls (map (λ t. ids_of all t) (filled limit all asked))
+
+-- after the placements without a limit there is no candidate
+abbrev pub FillsUp : Type 0
+FillsUp = (all : List Provider) (asked : Asked) → asks_units asked ≡ true → candidates (after all asked (filled None all asked)) asked ≡ []
+
+-- each query that is accepted asks for an amount of a class
+abbrev pub AcceptedAsk : Type 0
+AcceptedAsk = (version : Version) (query : List ℕ) → query_fault version query ≡ None → asks_units (asked_by version (pairs_of query)) ≡ true
+
+-- each of some placements is a candidate in the world that the ones before it left
+abbrev pub ArePlaced : List Provider → Asked → List (List ℕ) → Type 0
+ArePlaced all asked [] = ⊤
+ArePlaced all asked (t ∷ ts) =
+    IsListBelow (length all) (length (slots_of asked)) t × (is_candidate all asked t ≡ true) × ArePlaced (claimed all (assigned asked t)) asked ts
+
+-- no list of placements is longer than the bound
+abbrev pub NoneIsLonger : Type 0
+NoneIsLonger = (all : List Provider) (asked : Asked) (ts : List (List ℕ)) → asks_units asked ≡ true → ArePlaced all asked ts → length ts ≤ most_placed all asked

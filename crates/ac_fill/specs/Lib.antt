@@ -1,0 +1,5 @@
+pub mod Filled
+pub mod Bounds
+pub mod Laws
+pub mod Shown
+pub mod Ends

@@ -1,0 +1,170 @@
+//! Placements as lines: the token of each.
+
+ghost use Rattle.std.specs.Prelude.{◌≡◌, ◌≢◌, ◌≤◌, ◌⊎◌, ◌∷◌, ℕ, List, Option, OnOk, OnErr, IfOk, IfErr, Err, Some, true, false, length, min};
+ghost use Rattle.std.specs.Io.KnownBytes.{Appends};
+ghost use Rattle.ac_base.specs.Devices.{Rises, TakesPart};
+ghost use Rattle.ac_cloud.specs.Cloud.CloudWorld.{providers_of};
+ghost use Rattle.ac_query.specs.Shown.Queries.{asked_of};
+ghost use Rattle.ac_report.specs.Pages.{IsAssignment, TakesWhole};
+ghost use Rattle.ac_report.specs.Texts.{line, lines};
+ghost use Rattle.ac_rules.specs.Judge.{is_candidate};
+ghost use Rattle.ac_rules.specs.Pages.{candidates};
+ghost use Rattle.ac_rules.specs.Shown.Assignments.{assigned_of};
+ghost use Rattle.ac_rules.specs.Together.{sums};
+ghost use Rattle.ac_fill.specs.Ends.{AreAhead, Ends, PlacesAll, start_of};
+ghost use Rattle.ac_fill.specs.Filled.{after, asks_units, filled};
+ghost use Rattle.ac_fill.specs.Shown.{asked_in, with_taken, IsTakenOf};
+
+use crate::takings::Takings;
+use ac_base::Sink;
+use ac_cloud::Cloud;
+use ac_query::Query;
+use ac_report::PageFault;
+use ac_report::lines::{is_over, one_less, push_piece, put_line};
+use ac_rules::{Assignment, Source};
+use std::alloc::Global;
+
+/// How many placements were made, at most 4294967295, and what they took.
+#[derive(Drop)]
+pub struct Filled<'a> {
+    pub count: u32,
+    pub takings: Takings<'a>,
+}
+
+// How far it has come.
+#[derive(Drop)]
+struct Filling<'a> {
+    filled: Filled<'a>,
+    // How many placements are still wanted; without a limit, all.
+    wanted: Option<u32>,
+}
+
+impl<'a> Filling<'a> {
+    ghost use Rattle.ac_fill.specs.Ends.{count_at, stand_of, takings_of, world_at};
+    ghost use Rattle.ac_fill.specs.Shown.{SumsFit};
+
+    // Whether one more placement of a list is wanted, and there is room for it.
+    fn wants(&self, assignment: &Assignment<'_>) -> bool
+        requires query { asked_of assignment.now.query.now ≡ asked_in (takings_of self.now) }
+        requires slots { IsAssignment (providers_of assignment.now.cloud.now)
+            (asked_in (takings_of self.now)) assignment.now.list.now }
+        requires fits { IsTakenOf (providers_of assignment.now.cloud.now) (takings_of self.now) }
+        ensures wanted { result ≡ true → self.now.wanted ≢ Some 0 }
+        ensures room { result ≡ true → sums (world_at (providers_of assignment.now.cloud.now) self.now)
+            (assigned_of assignment.now) ≡ true }
+        ensures small { result ≡ true
+            → SumsFit (providers_of assignment.now.cloud.now) (takings_of self.now)
+            (assigned_of assignment.now) }
+        ensures otherwise { result ≡ false → (self.now.wanted ≡ Some 0)
+            ⊎ (sums (world_at (providers_of assignment.now.cloud.now) self.now)
+            (assigned_of assignment.now) ≡ false) }
+    {
+        !is_over(self.wanted) && self.filled.takings.has_room(assignment)
+    }
+
+    // Writes a line for each placement of a list that there is room for, and that is wanted.
+    fn place<W: Sink>(
+        &mut self,
+        text: &mut Vec<u8>,
+        assignment: &Assignment<'_>,
+        out: &mut W,
+    ) -> Result<(), PageFault>
+        requires query { asked_of assignment.now.query.now ≡ asked_in (takings_of self.old) }
+        requires list { IsAssignment (providers_of assignment.now.cloud.now)
+            (asked_in (takings_of self.old)) assignment.now.list.now }
+        requires candidate { is_candidate (providers_of assignment.now.cloud.now)
+            (asked_in (takings_of self.old)) assignment.now.list.now ≡ true }
+        requires fits { IsTakenOf (providers_of assignment.now.cloud.now) (takings_of self.old) }
+        requires asks { asks_units (asked_in (takings_of self.old)) ≡ true }
+        requires small { count_at self.old ≤ 4294967295 }
+        ensures query { asked_in (takings_of self.new) ≡ asked_in (takings_of self.old) }
+        ensures fits { IsTakenOf (providers_of assignment.now.cloud.now) (takings_of self.new) }
+        ensures small { count_at self.new ≤ 4294967295 }
+        ensures places { (rest : List (List ℕ))
+            → AreAhead (world_at (providers_of assignment.now.cloud.now) self.old)
+            (asked_in (takings_of self.old)) (assignment.now.list.now ∷ rest)
+            → PlacesAll (providers_of assignment.now.cloud.now) (asked_in (takings_of self.old))
+            (stand_of (providers_of assignment.now.cloud.now) self.old)
+            (stand_of (providers_of assignment.now.cloud.now) self.new) rest result
+            (W.taken out.old) (W.taken out.new) (W.failures out.old) (W.failures out.new) }
+    {
+        'room: while self.wants(assignment) {
+            put_line(text, assignment.cloud, assignment.list)?;
+            push_piece(out, text)?;
+            self.filled.takings.take(assignment.list);
+            self.filled.count = self.filled.count.saturating_add(1);
+            self.wanted = one_less(self.wanted);
+        }
+        Ok(())
+    }
+}
+
+// Writes a line for each placement.
+fn write_placements<'a, S: Source, W: Sink>(
+    alloc: Global,
+    cloud: &Cloud,
+    query: &'a Query,
+    source: &mut S,
+    out: &mut W,
+) -> Result<Filled<'a>, PageFault>
+    requires whole { S.left source.old
+        ≡ candidates (providers_of cloud.now) (asked_of query.now) }
+    requires asks { asks_units (asked_of query.now) ≡ true }
+    ensures ends { Ends (providers_of cloud.now) (asked_of query.now)
+        (start_of (providers_of cloud.now) (asked_of query.now)) result (W.taken out.old)
+        (W.taken out.new) (W.failures out.old) (W.failures out.new) }
+{
+    let takings = Takings::new(alloc, cloud, query)?;
+    let mut filling = Filling {
+        filled: Filled { count: 0, takings },
+        wanted: query.limit(),
+    };
+    let mut text = Vec::new(alloc);
+    'lists: while !is_over(filling.wanted) {
+        match source.next() {
+            None => return Ok(filling.filled),
+            Some(list) => {
+                let assignment = Assignment { cloud, query, list };
+                filling.place(&mut text, &assignment, out)?;
+            }
+        }
+    }
+    Ok(filling.filled)
+}
+
+/// Places a query again and again, each time at the first candidate that the placements before it left, until there is none, or as often as the
+/// query's limit says. It writes the token of each placement as a line, in one pass of a source of all candidates. It answers how many
+/// placements there were, and what they took.
+pub fn write_filled<'a, S: Source, W: Sink>(
+    alloc: Global,
+    cloud: &Cloud,
+    query: &'a Query,
+    source: &mut S,
+    out: &mut W,
+) -> Result<Filled<'a>, PageFault>
+    requires whole { S.left source.old
+        ≡ candidates (providers_of cloud.now) (asked_of query.now) }
+    requires asks { asks_units (asked_of query.now) ≡ true }
+    ensures text { OnOk result (Appends (W.taken out.old) (W.taken out.new)
+        (lines (providers_of cloud.now)
+        (filled (asked_of query.now).limit (providers_of cloud.now) (asked_of query.now)))) }
+    ensures count { IfOk result (λ f. f.count ≡ min (length
+        (filled (asked_of query.now).limit (providers_of cloud.now) (asked_of query.now)))
+        4294967295) }
+    ensures world { IfOk result (λ f. with_taken f.takings (providers_of cloud.now)
+        ≡ after (providers_of cloud.now) (asked_of query.now)
+        (filled (asked_of query.now).limit (providers_of cloud.now) (asked_of query.now))) }
+    ensures fits { IfOk result (λ f. IsTakenOf (providers_of cloud.now) f.takings) }
+    ensures part { OnErr result (TakesPart (W.taken out.old) (W.taken out.new)
+        (lines (providers_of cloud.now)
+        (filled (asked_of query.now).limit (providers_of cloud.now) (asked_of query.now)))) }
+    ensures failed { result ≡ Err PageFault.WriteFailed
+        → Rises (W.failures out.old) (W.failures out.new) }
+    ensures whole { result ≡ Err PageFault.NoMemory
+        → TakesWhole (line (providers_of cloud.now))
+        (filled (asked_of query.now).limit (providers_of cloud.now) (asked_of query.now))
+        (W.taken out.old) (W.taken out.new) }
+    ensures failures { W.failures out.old ≤ W.failures out.new }
+{
+    write_placements(alloc, cloud, query, source, out)
+}

@@ -1,0 +1,33 @@
+//! What holds of placements: each function's contract is a law, and no program calls it.
+
+ghost use Rattle.ac_fill.specs.Laws.{AcceptedAsk, FillsFirstFits, FillsInOrder, FillsUp, NoneIsLonger};
+
+/// Each placement is the first candidate in the world that the ones before it left.
+#[tactic(auto, using(crate::proofs::Ordered::fills_first_fits))]
+pub fn fills_first_fits()
+    ensures { FillsFirstFits }
+{}
+
+/// No placement stands before an earlier one, in the order of tokens.
+#[tactic(auto, using(crate::proofs::Ordered::fills_in_order))]
+pub fn fills_in_order()
+    ensures { FillsInOrder }
+{}
+
+/// Without a limit, no candidate is left after all placements.
+#[tactic(auto, using(crate::proofs::Ordered::fills_up))]
+pub fn fills_up()
+    ensures { FillsUp }
+{}
+
+/// Each query that is accepted asks for an amount of a class, so placements take room, and end.
+#[tactic(auto, using(crate::proofs::Accepted::accepted_ask))]
+pub fn accepted_ask()
+    ensures { AcceptedAsk }
+{}
+
+/// No list of placements is longer than the bound, whatever is chosen.
+#[tactic(auto, using(crate::proofs::Bounded::none_is_longer))]
+pub fn none_is_longer()
+    ensures { NoneIsLonger }
+{}

@@ -1,0 +1,15 @@
+//! Placements by first fit: each the first candidate that the ones before it left, until there is none, or as many as a limit says.
+//!
+//! One pass of a source of candidates is enough, since claims only take room: what a cloud's claims leave is among what it had before.
+#![tactic(auto)]
+
+pub mod bound;
+pub mod counting;
+pub mod filling;
+pub mod laws;
+pub mod takings;
+
+pub use bound::most_placed;
+pub use counting::count_filled;
+pub use filling::{Filled, write_filled};
+pub use takings::Takings;

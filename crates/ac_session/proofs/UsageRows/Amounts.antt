@@ -1,0 +1,139 @@
+-- The providers that tables state, with other amounts in use.
+use Rattle.std.proofs.Common.{◌≡◌, ◌∙◌, ◌<◌, ℕ, zero, suc, ◌+◌, Bool, true, false, List, [], ◌∷◌, ◌++◌, Option, Some, None, map, get_or, length, refl, sym, ap, subst, arith}
+use Rattle.std.proofs.lemmas.Simd.{map-map}
+use Rattle.std.specs.Prelude.{⊤, ◌==◌, if◌then◌else◌}
+use Rattle.std.specs.List.{AllByRecursion, range_with_len}
+use Rattle.ac_base.specs.Quantities.{InventoryNumbers}
+use Rattle.ac_cloud.specs.Amounts.{entry_using, provider_using, with_amounts}
+use Rattle.ac_cloud.specs.World.{Provider, UsedInventory, World, no_provider, provider_at}
+use Rattle.ac_query.specs.declared.version.Version.{Version}
+use Rattle.ac_query.specs.Asked.{Asked as Query}
+use Rattle.ac_fill.specs.Filled.{after, filled}
+use Rattle.ac_query.specs.Laws.Gathered.{asked_by}
+use Rattle.ac_query.specs.Pairs.{pairs_of}
+use Rattle.ac_run.specs.Answer.{fills, past_query}
+use Rattle.ac_rules.specs.Claims.{claimed, released}
+use Rattle.ac_rules.specs.Placed.{Placed, assigned}
+use Rattle.ac_session.specs.Laws.{providers_behind}
+use Rattle.ac_session.specs.Lines.{Given, line, too_long, end}
+use Rattle.ac_session.specs.Questions.{Asked, asked_of, claim, fill, job, nothing, release, unknown, usages, wrong_number}
+use Rattle.ac_session.specs.Turns.{after_fill, claim_turn, fill_task, fill_turn, release_turn, turn_asked, turn_of, world_after}
+use Rattle.ac_tables.specs.Tables.{Tables, aggregates_of, amounts_of, gathered, ids_of, inventories_of, names_of, with_used, world_stated}
+use Rattle.ac_tables.specs.Tables.AggregateTable.{aggregates_said}
+use Rattle.ac_tables.specs.Tables.InventoryTable.{inventories_said}
+use Rattle.ac_tables.specs.Tables.ProviderTable.{providers_said, said_name, said_parent}
+use Rattle.ac_tables.specs.Tables.TraitTable.{traits_said}
+use Rattle.ac_tables.specs.Tables.UsageTable.{usages_said}
+
+abbrev pub Entry : Type 0
+Entry = List ℕ × UsedInventory
+
+-- a class, and its inventory
+abbrev pub inventory_in : Entry → List ℕ × InventoryNumbers
+inventory_in e = (e.0, e.1.inventory)
+
+-- the provider of this id as tables state it, but for how much is used
+pub record IsStated (t : Tables) (id : ℕ) (p : Provider) : Type 0 where
+  pub same : p.id ≡ id
+  pub name : p.name ≡ said_name (providers_said t.providers) id
+  pub parent : p.parent ≡ said_parent (providers_said t.providers) id
+  pub entries : map inventory_in p.entries ≡ inventories_of (inventories_said t.inventories) id
+  pub traits : p.traits ≡ names_of (traits_said t.traits) id
+  pub aggregates : p.aggregates ≡ aggregates_of (aggregates_said t.aggregates) id
+
+abbrev pub AreStated : Tables → List ℕ → List Provider → Type 0
+AreStated t [] [] = ⊤
+AreStated t [] (p ∷ all) = ⊥
+AreStated t (id ∷ ids) [] = ⊥
+AreStated t (id ∷ ids) (p ∷ all) = IsStated t id p × AreStated t ids all
+
+-- ---- what tables state
+
+inventories_used : (m : List (List ℕ × ℕ)) (es : List (List ℕ × InventoryNumbers)) → map inventory_in (with_used m es) ≡ es
+inventories_used m [] = refl
+inventories_used m (e ∷ es) = ap (λ l. e ∷ l) (inventories_used m es)
+
+pub gathered_stated : (t : Tables) (ids : List ℕ) → AreStated t ids (map (gathered t) ids)
+gathered_stated t [] = tt
+gathered_stated t (id ∷ ids) = (
+  record {
+    same = refl;
+    name = refl;
+    parent = refl;
+    entries = inventories_used (amounts_of (usages_said t.usages) id) (inventories_of (inventories_said t.inventories) id);
+    traits = refl;
+    aggregates = refl;
+  },
+  gathered_stated t ids,
+)
+
+-- ---- other amounts
+
+used_otherwise : (t : Tables) (id : ℕ) (p : Provider) (amount : List ℕ → UsedInventory → ℕ) → IsStated t id p → IsStated t id (provider_using amount p)
+used_otherwise t id p amount h =
+    record { same = h.same; name = h.name; parent = h.parent; entries = map-map inventory_in (entry_using amount) p.entries ∙ h.entries; traits = h.traits; aggregates = h.aggregates }
+
+module _ (t : Tables) (amount : ℕ → List ℕ → UsedInventory → ℕ) (whole : List Provider) where
+  at_places : (k : ℕ) (rest : List Provider) (ids : List ℕ) → ((j : ℕ) → provider_at whole (k + j) ≡ provider_at rest j) → AreStated t ids rest
+      → AreStated t ids (map (λ ix. provider_using (amount ix) (provider_at whole ix)) (range_with_len k (length rest)))
+  at_places k [] [] same h = tt
+  at_places k [] (id ∷ ids) same h = absurd h
+  at_places k (p ∷ rest) [] same h = absurd h
+  at_places k (p ∷ rest) (id ∷ ids) same h = (
+    subst (λ q. IsStated t id (provider_using (amount k) q)) (sym (ap (provider_at whole) (omega arith) ∙ same 0)) (used_otherwise t id p (amount k) h.0),
+    at_places (k + 1) rest ids (λ j. ap (provider_at whole) (omega arith) ∙ same (suc j)) h.1,
+  )
+
+amounts_stated : (t : Tables) (ids : List ℕ) (amount : ℕ → List ℕ → UsedInventory → ℕ) (all : List Provider) → AreStated t ids all → AreStated t ids (with_amounts amount all)
+unfolding with_amounts
+amounts_stated t ids amount all h = at_places t amount all 0 all ids (λ j. ap (provider_at all) (omega arith)) h
+
+-- ---- behind the lines of a session
+
+module _ (t : Tables) (ids : List ℕ) where
+  claimed_stated : (all : List Provider) (xs : List Placed) → AreStated t ids all → AreStated t ids (claimed all xs)
+  unfolding claimed
+  claimed_stated all xs h = amounts_stated t ids _ all h
+
+  placed_stated : (asked : Query) (all : List Provider) (ts : List (List ℕ)) → AreStated t ids all → AreStated t ids (after all asked ts)
+  placed_stated asked all [] h = h
+  placed_stated asked all (list ∷ ts) h = placed_stated asked (claimed all (assigned asked list)) ts (claimed_stated all (assigned asked list) h)
+
+  released_stated : (all : List Provider) (xs : List Placed) → AreStated t ids all → AreStated t ids (released all xs)
+  unfolding released
+  released_stated all xs h = amounts_stated t ids _ all h
+
+  after_stated : (world : World) (status : ℕ) (all : List Provider) → AreStated t ids world.providers → AreStated t ids all → AreStated t ids (world_after world status all).providers
+  after_stated world status all h later = by (status == 0)
+    where
+      by : (b : Bool) → AreStated t ids (if b then record world { providers = all } else world).providers
+      by true = later
+      by false = h
+
+  asked_stated : (version : Version) (world : World) (asked : Asked) → AreStated t ids world.providers → AreStated t ids (turn_asked version world asked).world.providers
+  unfolding fill_turn claim_turn release_turn
+  asked_stated version world (job command query by token host detail traits sum) h = h
+  asked_stated version world (fill query) h =
+      let asked = asked_by version (pairs_of query) in
+      after_stated world (past_query (fills world.providers false) (fill_task version query)).status (after_fill world.providers asked) h
+      (placed_stated asked world.providers (filled asked.limit world.providers asked) h)
+  asked_stated version world (claim query token) h = after_stated world _ _ h (claimed_stated world.providers _ h)
+  asked_stated version world (release query token) h = after_stated world _ _ h (released_stated world.providers _ h)
+  asked_stated version world usages h = h
+  asked_stated version world nothing h = h
+  asked_stated version world unknown h = h
+  asked_stated version world wrong_number h = h
+
+  turn_stated : (version : Version) (world : World) (given : Given) → AreStated t ids world.providers → AreStated t ids (turn_of version world given).world.providers
+  unfolding turn_of
+  turn_stated version world (line text) h = asked_stated version world (asked_of version text) h
+  turn_stated version world too_long h = h
+  turn_stated version world end h = h
+
+  pub all_stated : (version : Version) (world : World) (lines : List Given) → AreStated t ids world.providers → AreStated t ids (providers_behind version world lines)
+  all_stated version world [] h = h
+  all_stated version world (given ∷ others) h = all_stated version (turn_of version world given).world others (turn_stated version world given h)
+
+pub session_stated : (version : Version) (t : Tables) (lines : List Given) → AreStated t (ids_of t.providers) (providers_behind version (world_stated t) lines)
+unfolding world_stated
+session_stated version t lines = all_stated t (ids_of t.providers) version (world_stated t) lines (gathered_stated t (ids_of t.providers))
