@@ -26,6 +26,7 @@ from hostile import hostile
 from large import LARGE, MOST_PROVIDERS, QUERY_BYTES, roots, vcpu
 from model import difference_line, drawn, headings, words_of
 from notation import HEADERS, provider
+from remedies import second_lines
 from sessions import sessions, untried
 from try_with_service import answers, differences, short, told
 
@@ -144,9 +145,9 @@ WORDS = [
     refused('a query for check', over(['check', 'resources=VCPU:2'])),
     refused('a token for check', check() + ['--after', ONE_HOST.strip()]),
     refused('--after for verify', over(['verify', 'resources=VCPU:2', ONE_HOST.strip(), '--after', ONE_HOST.strip()])),
-    refused('--detail for tokens', over(['tokens', 'resources=VCPU:2', '--detail']), '--detail'),
+    refused('--detail before the command', ['--detail', *check()], '--detail'),
     refused('--detail with a value', over(['verify', 'resources=VCPU:2', ONE_HOST.strip(), '--detail=yes']), '--detail'),
-    refused('--detail twice', over(['verify', 'resources=VCPU:2', ONE_HOST.strip(), '--detail', '--detail']), '--detail'),
+    *(refused(f'--detail twice, for {name}', over([name, '--detail', '--detail']), "'--detail' cannot be used multiple times") for name in COMMANDS),
     refused('no query to explain', over(['explain'])),
     refused('a token to explain', over(['explain', 'resources=VCPU:2', ONE_HOST.strip()])),
     refused('--after for explain', over(['explain', 'resources=VCPU:2', '--after', ONE_HOST.strip()]), '--after'),
@@ -253,6 +254,27 @@ FOLDERS = [
     unreadable('a folder that is not there', ['check', '--tables', os.path.join(EXAMPLES, 'no_such_folder')], 'providers'),
     unreadable('a file for a folder', ['check', '--tables', PROVIDERS], 'providers'),
     unreadable('an empty name of a folder: the tables at the top of all', ['check', '--tables', ''], 'providers'),
+]
+
+
+def in_detail(*words, status=0):
+    """With `--detail` the program must answer as without it, byte for byte, where there is no fault and no rule is broken."""
+    called = [*words, '--tables', CLOUD]
+    return Case(f'--detail without a fault: {words[0]}', [*called, '--detail'], lambda: run(Case('', called))[0], status=status)
+
+
+DETAILS = [
+    in_detail('check'),
+    Case('check in detail without a table of usages', ['check', '--providers', PROVIDERS, '--inventories', INVENTORIES, '--detail'], EXAMPLE_COUNTS,
+         err='usages: no table is given, so nothing counts as used\n'),
+    Case('a table in detail that is not there', ['check', '--tables', 'nowhere', '--detail'],
+         err='providers: Unreadable\n  nowhere/providers.csv: there is no such file; give the path of a file that can be read\n', status=3),
+    Case('a session in detail whose tables are refused', ['session', '--tables', 'nowhere', '--detail'],
+         err='providers: Unreadable\n  nowhere/providers.csv: there is no such file; give the path of a file that can be read\n', status=3),
+    *(in_detail(name, DISK_AND_HOST) for name in ('candidates', 'tokens', 'list', 'fill', 'explain', 'hosts')),
+    in_detail('verify', DISK_AND_HOST, OVER_DISK),
+    in_detail('why', DISK_AND_HOST, OVER_DISK.rpartition(',')[2]),
+    in_detail('session'),
 ]
 
 
@@ -364,7 +386,8 @@ GROWTHS = [
 
 # Each call of the libraries that takes memory, by itself.
 REFUSALS = [Case(f'each growth refused, in the tests of {name}', ['sh', '-c', f'exec python3 -B tests/refusals.py {name}'], SOME)
-            for name in ('ac_table_tests', 'ac_read_tests', 'ac_session_tests', 'ac_search_tests', 'ac_report_tests', 'ac_run_tests')]
+            for name in ('ac_table_tests', 'ac_read_tests', 'ac_session_tests', 'ac_search_tests', 'ac_remedy_tests', 'ac_report_tests',
+                         'ac_run_tests')]
 
 KNOWN = Case('a fault is told though a growth behind it is refused', ['sh', '-c', 'exec python3 -B tests/known_faults.py "$0"', PROGRAM], SOME)
 
@@ -528,7 +551,7 @@ def main(*given):
     pages += shown('docs/SESSION.md', SHELLS)
     chance = [*drawn(150), *drawn_tables(200), *drawn_queries(200)]
     linked = STATIC if os.path.isfile(os.path.join(ROOT, 'out', 'ac_cli.o')) and 'AC_CLI' not in os.environ else []
-    cases = [PAGES, DRAWING, *linked, *HELP, *WORDS, *FILES, *FOLDERS, *PASTED, *DEVICES, *GROWTHS, KNOWN, *REFUSALS, *SMALL, *pages, remade('examples/private/README.md'),
+    cases = [PAGES, DRAWING, *linked, *HELP, *WORDS, *FILES, *FOLDERS, *DETAILS, *second_lines(), *PASTED, *DEVICES, *GROWTHS, KNOWN, *REFUSALS, *SMALL, *pages, remade('examples/private/README.md'),
              *rules, *concerned(), *exports(), *database_exports(), *sessions(PROGRAM), *chance, *LARGE, *hostile(PROGRAM), FEW_BYTES, *cuts()]
     cases = [case for case in cases if all(word in case.name for word in words)]
     failed = 0

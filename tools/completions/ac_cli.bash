@@ -3,7 +3,7 @@
 
 _ac_cli() {
     local word=$2 before=$3
-    local tables='--tables --providers --inventories --usages --traits --aggregates'
+    local common='--tables --providers --inventories --usages --traits --aggregates --detail --help'
     local commands='check candidates tokens list fill verify explain hosts why session help'
     COMPREPLY=()
     case $before in
@@ -30,12 +30,11 @@ _ac_cli() {
         offered="$commands --help --version"
     else
         case ${COMP_WORDS[1]} in
-        check) offered="$tables --help" ;;
-        tokens) offered="$tables --microversion --after --help" ;;
-        candidates | list) offered="$tables --microversion --after --no-traits --help" ;;
-        fill) offered="$tables --microversion --sum --help" ;;
-        verify) offered="$tables --microversion --detail --help" ;;
-        explain | hosts | why | session) offered="$tables --microversion --help" ;;
+        check) offered=$common ;;
+        tokens) offered="$common --microversion --after" ;;
+        candidates | list) offered="$common --microversion --after --no-traits" ;;
+        fill) offered="$common --microversion --sum" ;;
+        verify | explain | hosts | why | session) offered="$common --microversion" ;;
         help) offered=$commands ;;
         esac
     fi

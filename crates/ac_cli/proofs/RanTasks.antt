@@ -1,15 +1,18 @@
 -- A run of a task is a run of an equal one; what was done for a line, by what it calls for.
-use Rattle.std.proofs.Common.{◌≡◌, ◌∙◌, ℕ, Bool, List, Option, ap, arith, refl, subst, sym}
+use Rattle.std.proofs.Common.{◌≡◌, ◌∙◌, ℕ, Bool, true, false, List, Option, ap, arith, refl, subst, sym}
 use Rattle.ac_run.specs.Lines.{memory_line}
+use Rattle.ac_detail.specs.Details.{Paths}
 use Rattle.ac_query.specs.declared.version.Version.{Version}
-use Rattle.ac_run.specs.Answer.{Task}
+use Rattle.ac_run.specs.Answer.{Outcome, Task}
+use Rattle.ac_run.specs.Feeds.{Bytes}
 use Rattle.ac_query.specs.declared.job.Command.{Command}
+use Rattle.ac_tables.specs.declared.fault.Table.{Table}
 use Rattle.ac_tables.specs.declared.read.FiveTables.{FiveTables}
-use Rattle.ac_session.specs.Sessions.{session_answer}
+use Rattle.ac_session.specs.Sessions.{detailed_session, session_answer}
 use Rattle.ac_session.proofs.Stood.{first_none}
 use Rattle.ac_words.specs.Words.{Line}
 use Rattle.ac_words.specs.declared.words.Call.TheVariants.{Job, Session}
-use Rattle.ac_cli.specs.Program.{HeldSession, IsLine, Ran, RanCall, Streams, task_asked}
+use Rattle.ac_cli.specs.Program.{HeldSession, IsLine, RanCall, RanJob, RanSession, RanTask, Streams, Unread, UnreadInDetail, task_asked}
 
 abbrev task_with : Command → List ℕ → Version → Option (List ℕ) → Option (List ℕ) → Bool → Bool → Bool → Task
 task_with command query version token host detail traits sum =
@@ -23,36 +26,35 @@ same_task {c} {q} {r} {v} {w} {t} {u} {h} {i} {a} {b} {d} {e} {f} {g} query vers
     ∙ ap (λ x. task_with c r w u i b e x) sum
 
 pub ran_same : {R : Type 0} (remaining : R → Option (List ℕ)) (failures : R → ℕ) (t u : Task) (from to : FiveTables R) (s : Streams) (given : ℕ) → t ≡ u
-    → Ran remaining failures t from to s given → Ran remaining failures u from to s given
-ran_same remaining failures t u from to s given e ran = subst (λ task. Ran remaining failures task from to s given) e ran
+    → RanTask remaining failures t from to s given → RanTask remaining failures u from to s given
+ran_same remaining failures t u from to s given e ran = subst (λ task. RanTask remaining failures task from to s given) e ran
 
-module _ {R Q : Type 0} (remaining : R → Option (List ℕ)) (failures : R → ℕ) (asked : Q → Option (List ℕ)) (fails : Q → ℕ) (line : Line)
+module _ {R Q : Type 0} (remaining : R → Option (List ℕ)) (failures : R → ℕ) (asked : Q → Option (List ℕ)) (fails : Q → ℕ) (line : Line) (paths : Paths)
     (from to : FiveTables R) (questions : Q) (s : Streams) (given : ℕ) where
-  pub ran_job : (command : Command) (task : Task) → line.call ≡ Job command → task ≡ task_asked line command → Ran remaining failures task from to s given
-      → RanCall remaining failures asked fails line.call line from to questions s given
-  ran_job command task call same ran =
-      subst (λ c. RanCall remaining failures asked fails c line from to questions s given) (sym call)
-      (ran_same remaining failures task (task_asked line command) from to s given same ran)
+  pub ran_job : (command : Command) (detail : Bool) (task : Task) → line.call ≡ Job command → detail ≡ line.detail → task ≡ task_asked line command
+      → RanJob remaining failures detail paths task from to s given → RanCall remaining failures asked fails line.call line paths from to questions s given
+  ran_job command detail task call asks same ran =
+      subst (λ c. RanCall remaining failures asked fails c line paths from to questions s given) (sym call)
+      (subst (λ d. RanJob remaining failures d paths (task_asked line command) from to s given) asks
+      (subst (λ t. RanJob remaining failures detail paths t from to s given) same ran))
 
-  pub held_session : (version : Version) → line.call ≡ Session → version ≡ line.version
-      → HeldSession remaining failures asked fails version from to questions s given
-      → RanCall remaining failures asked fails line.call line from to questions s given
-  held_session version call same held =
-      subst (λ c. RanCall remaining failures asked fails c line from to questions s given) (sym call)
-      (subst (λ v. HeldSession remaining failures asked fails v from to questions s given) same held)
+  pub held_session : line.call ≡ Session → HeldSession remaining failures asked fails line.detail paths line.version from to questions s given
+      → RanCall remaining failures asked fails line.call line paths from to questions s given
+  held_session call held = subst (λ c. RanCall remaining failures asked fails c line paths from to questions s given) (sym call) held
 
 -- where memory gave out before a session, nothing was taken
-pub held_none : {R Q : Type 0} (remaining : R → Option (List ℕ)) (failures : R → ℕ) (asked : Q → Option (List ℕ)) (fails : Q → ℕ) (version : Version)
-    (from : FiveTables R) (questions : Q) (s : Streams) (given : ℕ) → given ≡ 7 → IsLine s memory_line → s.out_new ≡ s.out_old
-    → HeldSession remaining failures asked fails version from from questions s given
-held_none remaining failures asked fails version from questions s given seven told kept = (
-  questions,
-  record {
+module _ {R Q : Type 0} (remaining : R → Option (List ℕ)) (failures : R → ℕ) (asked : Q → Option (List ℕ)) (fails : Q → ℕ) (version : Version) (paths : Paths)
+    (from : FiveTables R) (questions : Q) (s : Streams) (given : ℕ) (seven : given ≡ 7) (told : IsLine s memory_line) (kept : s.out_new ≡ s.out_old) where
+  none_said : (said : Bytes → List ℕ → Outcome) (Failed : Table → Type 0) → RanSession remaining said Failed asked fails from questions questions s given
+  none_said said Failed = record {
     written = λ zero. absurd (cc);
     unread = λ three. absurd (cc);
     output = λ six. absurd (cc);
     memory = λ _. told;
-    part = λ b tell q known few. rw kept (first_none s.out_old (session_answer version b q).output);
+    part = λ b tell q known few. rw kept (first_none s.out_old (said b q).output);
     status = rw seven (3, omega arith, refl);
-  },
-)
+  }
+
+  pub held_none : (detail : Bool) → HeldSession remaining failures asked fails detail paths version from from questions s given
+  held_none false = (questions, none_said (session_answer version) (Unread failures from from s))
+  held_none true = (questions, none_said (detailed_session version paths) (UnreadInDetail failures paths from from s))

@@ -23,6 +23,6 @@ IsOpened opens (Some path) (Some feed) = opens path feed
 abbrev pub AreOpened : {R : Type 0} → (List ℕ → R → Type 0) → Line → FiveTables R → Type 0
 AreOpened opens line inputs = (t : Table) → IsOpened opens (path_of line t) (feed_of inputs t)
 
--- the path that the line names for a table was refused
-abbrev pub IsRefusedPath : (List ℕ → Type 0) → Line → Table → Type 0
-IsRefusedPath refuses line t = (path : List ℕ) × (path_of line t ≡ Some path) × refuses path
+-- the path that the line names for a table was refused, for this reason
+abbrev pub IsRefusedPath : (List ℕ → List ℕ → Type 0) → Line → Table → List ℕ → Type 0
+IsRefusedPath refuses line t reason = (path : List ℕ) × (path_of line t ≡ Some path) × refuses path reason

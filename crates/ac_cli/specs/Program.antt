@@ -1,5 +1,6 @@
 -- How the program ends, and what it leaves on its streams.
-use Rattle.std.specs.Prelude.{◌≡◌, ◌≢◌, ◌<◌, ◌≤◌, ◌⊎◌, ℕ, false, true, List, [], ◌∷◌, codes, length, Option, Some, None, Contains}
+use Rattle.std.specs.Prelude.{◌≡◌, ◌≢◌, ◌<◌, ◌≤◌, ◌⊎◌, ℕ, zero, Bool, false, true, List, [], ◌∷◌, ◌++◌, codes, length, Option, Some, None, Contains}
+use Rattle.std.specs.Option.{option_map}
 use Rattle.std.specs.Io.KnownBytes.{Appends, Keeps, append_known}
 use Rattle.clap.specs.Words.{IsAmong, Kinds, Row, Text}
 use Rattle.clap.specs.declared.error.kind.ErrorKind.{ErrorKind}
@@ -9,15 +10,18 @@ use Rattle.ac_base.specs.Gathered.{IsFirstPart}
 use Rattle.ac_tables.specs.declared.fault.Table.{Table}
 use Rattle.ac_query.specs.declared.version.Version.{Version}
 use Rattle.ac_query.specs.declared.version.Version.TheVariants.{V136}
-use Rattle.ac_run.specs.Answer.{Task, answer}
+use Rattle.ac_detail.specs.Details.{Paths, detailed_answer}
+use Rattle.ac_detail.specs.Run.{IsUnreadInDetail}
+use Rattle.ac_remedies.specs.Tables.{unread_remedy}
+use Rattle.ac_run.specs.Answer.{Outcome, Task, answer}
 use Rattle.ac_run.specs.Feeds.{Bytes, FeedRose, TellBytes}
 use Rattle.ac_run.specs.Lines.{memory_line, output_line, unreadable_line}
 use Rattle.ac_run.specs.Run.{FailsOr, IsAnswered, IsRefused, IsUnread}
 use Rattle.ac_answers.specs.Writing.{TakesLine}
 use Rattle.ac_query.specs.declared.job.Command.{Command}
-use Rattle.ac_query.specs.declared.job.Command.TheVariants.{Tokens}
+use Rattle.ac_query.specs.declared.job.Command.TheVariants.{Check, Tokens}
 use Rattle.ac_session.specs.Lines.{most_passed}
-use Rattle.ac_session.specs.Sessions.{AreUnread, session_answer}
+use Rattle.ac_session.specs.Sessions.{AreUnread, detailed_session, session_answer}
 use Rattle.ac_tables.specs.declared.read.FiveTables.{FiveTables}
 use Rattle.ac_cli.specs.Opening.{AreOpened}
 use Rattle.ac_words.specs.Words.{Line, Says, faults, named, path_of}
@@ -62,40 +66,69 @@ pub record IsTold (s : Streams) (text : List ℕ) (wanted given : ℕ) : Type 0 
 
 -- ---- a run
 
--- What each status of a run says, over feeds that were these before and after.
-pub record Ran {R : Type 0} (remaining : R → Option (List ℕ)) (failures : R → ℕ) (task : Task) (from to : FiveTables R) (s : Streams) (given : ℕ) : Type 0 where
-  pub written : given ≤ 1 → (b : Bytes) → TellBytes remaining from b → IsAnswered (answer task b) s.out_old s.out_new s.err_old s.err_new given
-  pub tables : given ≡ 3 → (failed : Option Table) × FailsOr (λ t. IsUnread (FeedRose failures from to t) t s.err_old s.err_new s.err_before s.err_after)
-      ((b : Bytes) → TellBytes remaining from b → IsRefused (answer task b) s.err_old s.err_new s.err_before s.err_after given) failed
-  pub query : given ≡ 4 → (b : Bytes) → TellBytes remaining from b → IsRefused (answer task b) s.err_old s.err_new s.err_before s.err_after given
-  pub token : given ≡ 5 → (b : Bytes) → TellBytes remaining from b → IsRefused (answer task b) s.err_old s.err_new s.err_before s.err_after given
+-- What each status of a run says, over feeds that were these before: what is said over bytes, and that the feed of a table failed.
+pub record Ran {R : Type 0} (remaining : R → Option (List ℕ)) (said : Bytes → Outcome) (Unread : Table → Type 0) (from : FiveTables R) (s : Streams) (given : ℕ) : Type 0 where
+  pub written : given ≤ 1 → (b : Bytes) → TellBytes remaining from b → IsAnswered (said b) s.out_old s.out_new s.err_old s.err_new given
+  pub tables : given ≡ 3 → (failed : Option Table) × FailsOr Unread
+      ((b : Bytes) → TellBytes remaining from b → IsRefused (said b) s.err_old s.err_new s.err_before s.err_after given) failed
+  pub query : given ≡ 4 → (b : Bytes) → TellBytes remaining from b → IsRefused (said b) s.err_old s.err_new s.err_before s.err_after given
+  pub token : given ≡ 5 → (b : Bytes) → TellBytes remaining from b → IsRefused (said b) s.err_old s.err_new s.err_before s.err_after given
   pub untouched : 3 ≤ given → given ≤ 5 → Keeps s.out_old s.out_new
   pub output : given ≡ 6 → Rises s.out_before s.out_after × IsLine s output_line
   pub memory : given ≡ 7 → IsLine s memory_line
-  pub part : 6 ≤ given → (b : Bytes) → TellBytes remaining from b → IsFirstPart (append_known s.out_old (answer task b).output) s.out_new
+  pub part : 6 ≤ given → (b : Bytes) → TellBytes remaining from b → IsFirstPart (append_known s.out_old (said b).output) s.out_new
   pub status : Contains (0 ∷ 1 ∷ 3 ∷ 4 ∷ 5 ∷ 6 ∷ 7 ∷ []) given
+
+-- the feed of a table failed, which the line says; in detail, with what stands behind it
+abbrev pub Unread : {R : Type 0} → (R → ℕ) → FiveTables R → FiveTables R → Streams → Table → Type 0
+Unread failures from to s t = IsUnread (FeedRose failures from to t) t s.err_old s.err_new s.err_before s.err_after
+
+abbrev pub UnreadInDetail : {R : Type 0} → (R → ℕ) → Paths → FiveTables R → FiveTables R → Streams → Table → Type 0
+UnreadInDetail failures paths from to s t = IsUnreadInDetail (FeedRose failures from to t) paths t s.err_old s.err_new s.err_before s.err_after
+
+-- a task was run over feeds that were these before and after
+abbrev pub RanTask : {R : Type 0} → (R → Option (List ℕ)) → (R → ℕ) → Task → FiveTables R → FiveTables R → Streams → ℕ → Type 0
+RanTask remaining failures task from to s given = Ran remaining (answer task) (Unread failures from to s) from s given
+
+-- what is told behind the answer to a check in detail that is accepted, where no table of usages is given
+unfoldable pub usages_note : List ℕ
+usages_note = codes "usages: no table is given, so nothing counts as used\n"
+
+abbrev pub note_of : Command → Option (List ℕ) → ℕ → List ℕ
+note_of Check None zero = usages_note
+note_of _ _ _ = []
+
+-- A task was run in detail over feeds that were these before and after, and then a note was told.
+pub record RanInDetail {R : Type 0} (remaining : R → Option (List ℕ)) (failures : R → ℕ) (paths : Paths) (task : Task) (from to : FiveTables R) (s : Streams) (given : ℕ) : Type 0 where
+  pub err : Option (List ℕ)
+  pub count : ℕ
+  pub ran : Ran remaining (detailed_answer paths task) (UnreadInDetail failures paths from to (record s { err_new = err; err_after = count })) from
+      (record s { err_new = err; err_after = count }) given
+  pub note : TakesLine err s.err_new count s.err_after (note_of task.command (option_map (λ path. path.now) paths.usages) given)
 
 -- ---- a session
 
 -- What each status of a session says, over feeds of tables and of questions that were these before and after.
-pub record RanSession {R Q : Type 0} (remaining : R → Option (List ℕ)) (failures : R → ℕ) (asked : Q → Option (List ℕ)) (fails : Q → ℕ)
-    (version : Version) (from to : FiveTables R) (first last : Q) (s : Streams) (given : ℕ) : Type 0 where
+pub record RanSession {R Q : Type 0} (remaining : R → Option (List ℕ)) (said : Bytes → List ℕ → Outcome) (Unread : Table → Type 0) (asked : Q → Option (List ℕ)) (fails : Q → ℕ)
+    (from : FiveTables R) (first last : Q) (s : Streams) (given : ℕ) : Type 0 where
   pub written : given ≡ 0 → (b : Bytes) → TellBytes remaining from b → (q : List ℕ) → asked first ≡ Some q → length q < most_passed
-      → IsAnswered (session_answer version b q) s.out_old s.out_new s.err_old s.err_new given
+      → IsAnswered (said b q) s.out_old s.out_new s.err_old s.err_new given
   pub unread : given ≡ 3 → AreUnread (Rises (fails first) (fails last)) s.err_old s.err_new s.err_before s.err_after
-      ⊎ ((failed : Option Table) × FailsOr (λ t. IsUnread (FeedRose failures from to t) t s.err_old s.err_new s.err_before s.err_after)
-      ((b : Bytes) → TellBytes remaining from b → (q : List ℕ) → IsRefused (session_answer version b q) s.err_old s.err_new s.err_before s.err_after given) failed)
+      ⊎ ((failed : Option Table) × FailsOr Unread
+      ((b : Bytes) → TellBytes remaining from b → (q : List ℕ) → IsRefused (said b q) s.err_old s.err_new s.err_before s.err_after given) failed)
   pub output : given ≡ 6 → Rises s.out_before s.out_after × IsLine s output_line
   pub memory : given ≡ 7 → IsLine s memory_line
   pub part : (b : Bytes) → TellBytes remaining from b → (q : List ℕ) → asked first ≡ Some q → length q < most_passed
-      → IsFirstPart (append_known s.out_old (session_answer version b q).output) s.out_new
+      → IsFirstPart (append_known s.out_old (said b q).output) s.out_new
   pub status : Contains (0 ∷ 3 ∷ 6 ∷ 7 ∷ []) given
 
--- a session was held over feeds of tables that were these before and after, with these questions
+-- a session was held over feeds of tables that were these before and after, with these questions; in detail, or not
 abbrev pub HeldSession : {R Q : Type 0} → (R → Option (List ℕ)) → (R → ℕ) → (Q → Option (List ℕ)) → (Q → ℕ)
-    → Version → FiveTables R → FiveTables R → Q → Streams → ℕ → Type 0
-HeldSession {R} {Q} remaining failures asked fails version from to questions s given =
-    (last : Q) × RanSession remaining failures asked fails version from to questions last s given
+    → Bool → Paths → Version → FiveTables R → FiveTables R → Q → Streams → ℕ → Type 0
+HeldSession {R} {Q} remaining failures asked fails false paths version from to questions s given =
+    (last : Q) × RanSession remaining (session_answer version) (Unread failures from to s) asked fails from questions last s given
+HeldSession {R} {Q} remaining failures asked fails true paths version from to questions s given =
+    (last : Q) × RanSession remaining (detailed_session version paths) (UnreadInDetail failures paths from to s) asked fails from questions last s given
 
 -- ---- words that were accepted
 
@@ -103,30 +136,53 @@ HeldSession {R} {Q} remaining failures asked fails version from to questions s g
 abbrev pub task_asked : Line → Command → Task
 task_asked line command = record { command = command; query = line.query; version = line.version; token = line.token; host = line.host; detail = line.detail; traits = line.with_traits; sum = line.sum }
 
+-- a job was run over feeds of tables that were these before and after; in detail, or not
+abbrev pub RanJob : {R : Type 0} → (R → Option (List ℕ)) → (R → ℕ) → Bool → Paths → Task → FiveTables R → FiveTables R → Streams → ℕ → Type 0
+RanJob remaining failures false paths task from to s given = RanTask remaining failures task from to s given
+RanJob remaining failures true paths task from to s given = RanInDetail remaining failures paths task from to s given
+
+-- The paths are those of the line.
+pub record ArePathsOf (line : Line) (paths : Paths) : Type 0 where
+  pub providers : paths.providers.now ≡ line.providers
+  pub inventories : paths.inventories.now ≡ line.inventories
+  pub usages : option_map (λ path. path.now) paths.usages ≡ line.usages
+  pub traits : option_map (λ path. path.now) paths.traits ≡ line.traits
+  pub aggregates : option_map (λ path. path.now) paths.aggregates ≡ line.aggregates
+
 -- what a line calls for was done over feeds of tables that were these before and after: a job was run, or a session was held
 abbrev pub RanCall : {R Q : Type 0} → (R → Option (List ℕ)) → (R → ℕ) → (Q → Option (List ℕ)) → (Q → ℕ)
-    → Call → Line → FiveTables R → FiveTables R → Q → Streams → ℕ → Type 0
-RanCall remaining failures asked fails (Job command) line from to questions s given = Ran remaining failures (task_asked line command) from to s given
-RanCall remaining failures asked fails Session line from to questions s given =
-    HeldSession remaining failures asked fails line.version from to questions s given
+    → Call → Line → Paths → FiveTables R → FiveTables R → Q → Streams → ℕ → Type 0
+RanCall remaining failures asked fails (Job command) line paths from to questions s given =
+    RanJob remaining failures line.detail paths (task_asked line command) from to s given
+RanCall remaining failures asked fails Session line paths from to questions s given =
+    HeldSession remaining failures asked fails line.detail paths line.version from to questions s given
+
+-- a refused path is told; in detail, with the reason that was given for it, or else want of memory for that
+abbrev pub IsToldUnopened : Bool → Table → Text → Text → (List ℕ → Type 0) → ℕ → Type 0
+IsToldUnopened false table path reason Told given = Told (unreadable_line table) × (given ≡ 3)
+IsToldUnopened true table path reason Told given = (Told (unreadable_line table ++ unread_remedy path (Some reason)) × (given ≡ 3)) ⊎ (Told memory_line × (given ≡ 7))
 
 -- The path that is given for a table was refused, which is told.
-pub record IsUnopened (refuses : List ℕ → Type 0) (line : Line) (s : Streams) (given : ℕ) : Type 0 where
+pub record IsUnopened (refuses : List ℕ → List ℕ → Type 0) (line : Line) (s : Streams) (given : ℕ) : Type 0 where
   pub table : Table
   pub path : Text
+  pub reason : Text
   pub named : path_of line table ≡ Some path
-  pub refused : refuses path
-  pub told : IsTold s (unreadable_line table) 3 given
+  pub refused : refuses path reason
+  pub told : IsToldUnopened line.detail table path reason (IsLine s) given
+  pub output : s.out_new ≡ s.out_old
 
 -- What a line calls for was done over what was opened at its paths.
 pub record RanOpened {R Q : Type 0} (opens : List ℕ → R → Type 0) (remaining : R → Option (List ℕ)) (failures : R → ℕ)
-    (asked : Q → Option (List ℕ)) (fails : Q → ℕ) (questions : Q) (line : Line) (s : Streams) (given : ℕ) : Type 0 where
+    (asked : Q → Option (List ℕ)) (fails : Q → ℕ) (questions : Q) (line : Line) (s : Streams) (status : ℕ) : Type 0 where
   pub from : FiveTables R
   pub to : FiveTables R
   pub files : AreOpened opens line from
-  pub ran : RanCall remaining failures asked fails line.call line from to questions s given
+  pub paths : Paths
+  pub given : ArePathsOf line paths
+  pub ran : RanCall remaining failures asked fails line.call line paths from to questions s status
 
-abbrev pub EndsForLine : {R Q : Type 0} → (List ℕ → R → Type 0) → (List ℕ → Type 0) → (R → Option (List ℕ)) → (R → ℕ) → (Q → Option (List ℕ)) → (Q → ℕ)
+abbrev pub EndsForLine : {R Q : Type 0} → (List ℕ → R → Type 0) → (List ℕ → List ℕ → Type 0) → (R → Option (List ℕ)) → (R → ℕ) → (Q → Option (List ℕ)) → (Q → ℕ)
     → Q → Line → Streams → ℕ → Type 0
 EndsForLine opens refuses remaining failures asked fails questions line s given =
     IsUnopened refuses line s given ⊎ RanOpened opens remaining failures asked fails questions line s given
@@ -185,7 +241,7 @@ pub record RanSample {R : Type 0} (remaining : R → Option (List ℕ)) (failure
   pub from : FiveTables R
   pub to : FiveTables R
   pub tells : TellBytes remaining from sample_bytes
-  pub ran : Ran remaining failures sample_task from to s given
+  pub ran : RanTask remaining failures sample_task from to s given
 
 -- what is told where the words are no text
 abbrev pub no_text_line : List ℕ

@@ -1,5 +1,5 @@
 //! What the program is given from outside: its words, and the files at paths.
-ghost use Rattle.std.specs.Prelude.{◌≡◌, ℕ, Err, List, ⊤, IfNone, IfOk, IfSome, map, string_bytes};
+ghost use Rattle.std.specs.Prelude.{◌≡◌, ℕ, Err, List, ⊤, IfErr, IfOk, map, string_bytes};
 
 use ac_base::{Feed, FromRead};
 use std::io::ErrorKind;
@@ -29,16 +29,27 @@ pub trait Host {
     // A file was opened at a path.
     ghost opens: { Self → List ℕ → Self.File → Type 0 };
 
-    // No file could be opened at a path.
-    ghost refuses: { Self → List ℕ → Type 0 };
+    // No file could be opened at a path, for this reason.
+    ghost refuses: { Self → List ℕ → List ℕ → Type 0 };
 
     fn words(&self) -> Result<Vec<String>, Unworded>
         ensures given { IfOk result (λ words. gives self.now (map string_bytes words.items)) }
         ensures no_text { result ≡ Err Unworded.NotText → garbles self.now };
 
-    fn open(&self, path: &str) -> Option<Self::File>
-        ensures file { IfSome result (opens self.now path.now) }
-        ensures none { IfNone result (refuses self.now path.now) };
+    fn open(&self, path: &str) -> Result<Self::File, &'static str>
+        ensures file { IfOk result (opens self.now path.now) }
+        ensures fault { IfErr result (λ reason. refuses self.now path.now reason.now) };
+}
+
+// The system's reason for an error, in words.
+fn reason_of(kind: ErrorKind) -> &'static str {
+    match kind {
+        ErrorKind::NotFound => "there is no such file",
+        ErrorKind::PermissionDenied => "permission denied",
+        ErrorKind::NotADirectory => "a part of the path is no folder",
+        ErrorKind::OutOfMemory => "out of memory",
+        _ => "the system can't open it",
+    }
 }
 
 impl<R: Env + Files + AllocGlobal> Host for R {
@@ -51,7 +62,7 @@ impl<R: Env + Files + AllocGlobal> Host for R {
 
     ghost opens = { λ _ _ _. ⊤ };
 
-    ghost refuses = { λ _ _. ⊤ };
+    ghost refuses = { λ _ _ _. ⊤ };
 
     fn words(&self) -> Result<Vec<String>, Unworded> {
         match env::args(self) {
@@ -64,10 +75,10 @@ impl<R: Env + Files + AllocGlobal> Host for R {
         }
     }
 
-    fn open(&self, path: &str) -> Option<FromRead<R::File>> {
+    fn open(&self, path: &str) -> Result<FromRead<R::File>, &'static str> {
         match fs::open(self, path) {
-            Ok(file) => Some(FromRead::new(file)),
-            Err(_) => None,
+            Ok(file) => Ok(FromRead::new(file)),
+            Err(error) => Err(reason_of(error.kind())),
         }
     }
 }

@@ -1,19 +1,23 @@
 //! The program around a run: its words, its files and its streams.
-ghost use Rattle.std.specs.Prelude.{map, option_map, string_bytes};
+ghost use Rattle.std.specs.Prelude.{◌≡◌, [], is_some, map, option_map, string_bytes, true};
+ghost use Rattle.std.specs.Option.{unwrap_or};
 ghost use Rattle.std.specs.Io.KnownBytes.{Appends};
 ghost use Rattle.ac_base.specs.Devices.{Rises, TakesPart};
 ghost use Rattle.ac_query.specs.Jobs.{HasToken};
 ghost use Rattle.ac_run.specs.Jobs.{task_of};
-ghost use Rattle.ac_words.specs.Words.{HasItsToken};
-ghost use Rattle.ac_cli.specs.Program.{EndsForLine, EndsForWords, EndsProgram, HeldSession, IsShown, Ran, RanSample, seen};
+ghost use Rattle.ac_answers.specs.Writing.{TakesLine};
+ghost use Rattle.ac_words.specs.Words.{HasItsToken, path_of};
+ghost use Rattle.ac_cli.specs.Program.{ArePathsOf, EndsForLine, EndsForWords, EndsProgram, HeldSession, IsShown, IsToldUnopened, RanInDetail, RanJob, RanSample, RanTask, note_of, seen};
 
 use crate::host::{Host, Unworded};
-use crate::opening::opened_inputs;
+use crate::opening::{Unopened, opened_inputs};
 use crate::sample;
 use ac_base::{Feed, FromRead, Sink, push_all};
-use ac_query::Version;
-use ac_run::{Inputs, Job, Refusal, run_gathered, tell};
-use ac_session::{Lines, run_session};
+use ac_detail::{Paths, Refused, run_detailed, tell_detailed};
+use ac_remedies::unread_remedy;
+use ac_run::{Command, Inputs, Job, Refusal, run_gathered, tell};
+use ac_session::{Lines, run_session, run_session_detailed};
+use ac_tables::Table;
 use ac_words::{WordFault, Words, read_words};
 use std::alloc::Global;
 
@@ -35,28 +39,97 @@ fn ran<F: Feed, W: Sink + Drop, E: Sink>(
     err: &mut E,
 ) -> (u8, W)
     requires { HasToken job.now.command (option_map (λ token. token.now) job.now.token) }
-    ensures { Ran F.remaining F.failures (task_of job.now) inputs.old inputs.new
+    ensures { RanTask F.remaining F.failures (task_of job.now) inputs.old inputs.new
         (seen W.taken W.failures E.taken E.failures out result.1 err.old err.new) result.0 }
 {
     run_gathered(alloc, job, inputs, out, err)
 }
 
-// Holds a session: its status, and the output sink.
+// What is told behind the answer of a command in detail.
+#[tactic(auto, unfolding(crate::specs::Program::usages_note))]
+fn note_of(command: Command, usages: Option<&str>, status: u8) -> &'static [u8]
+    ensures { result.now ≡ note_of command (option_map (λ path. path.now) usages.entry) status }
+{
+    match (command, usages, status) {
+        (Command::Check, None, 0) => b"usages: no table is given, so nothing counts as used\n",
+        _ => b"",
+    }
+}
+
+// Runs a job in detail, and then tells a note: its status, and the output sink.
+fn ran_in_detail<F: Feed, W: Sink + Drop, E: Sink>(
+    alloc: Global,
+    job: &Job<'_>,
+    paths: &Paths<'_>,
+    inputs: &mut Inputs<F>,
+    out: W,
+    err: &mut E,
+) -> (u8, W)
+    requires { HasToken job.now.command (option_map (λ token. token.now) job.now.token) }
+    ensures { RanInDetail F.remaining F.failures paths.now (task_of job.now) inputs.old inputs.new
+        (seen W.taken W.failures E.taken E.failures out result.1 err.old err.new) result.0 }
+{
+    let (status, out) = run_detailed(alloc, job, paths, inputs, out, err);
+    tell_text(err, note_of(job.command, paths.usages, status));
+    (status, out)
+}
+
+// Runs a job, in detail where that is asked: its status, and the output sink.
+fn ran_job<F: Feed, W: Sink + Drop, E: Sink>(
+    alloc: Global,
+    job: &Job<'_>,
+    paths: &Paths<'_>,
+    inputs: &mut Inputs<F>,
+    out: W,
+    err: &mut E,
+) -> (u8, W)
+    requires { HasToken job.now.command (option_map (λ token. token.now) job.now.token) }
+    ensures { RanJob F.remaining F.failures job.now.detail paths.now (task_of job.now) inputs.old
+        inputs.new
+        (seen W.taken W.failures E.taken E.failures out result.1 err.old err.new) result.0 }
+{
+    if job.detail {
+        ran_in_detail(alloc, job, paths, inputs, out, err)
+    } else {
+        ran(alloc, job, inputs, out, err)
+    }
+}
+
+// The paths of the tables' files.
+fn paths_of(words: &Words) -> Paths<'_>
+    ensures { ArePathsOf words.now result }
+{
+    Paths {
+        providers: words.path(Table::Providers).unwrap_or(""),
+        inventories: words.path(Table::Inventories).unwrap_or(""),
+        usages: words.path(Table::Usages),
+        traits: words.path(Table::Traits),
+        aggregates: words.path(Table::Aggregates),
+    }
+}
+
+// Holds a session, in detail where that is asked: its status, and the output sink.
 fn held<F: Feed, Q: Feed + Drop, W: Sink + Drop, E: Sink>(
     alloc: Global,
-    version: Version,
+    words: &Words,
+    paths: &Paths<'_>,
     inputs: &mut Inputs<F>,
     questions: Q,
     out: W,
     err: &mut E,
 ) -> (u8, W)
-    ensures { HeldSession F.remaining F.failures Q.remaining Q.failures version inputs.old
-        inputs.new questions
+    ensures { HeldSession F.remaining F.failures Q.remaining Q.failures words.now.detail paths.now
+        words.now.version inputs.old inputs.new questions
         (seen W.taken W.failures E.taken E.failures out result.1 err.old err.new) result.0 }
 {
-    match Lines::new(alloc, questions) {
-        Ok(mut lines) => run_session(alloc, version, inputs, &mut lines, out, err),
-        Err(_) => (tell(err, &Refusal::NoMemory), out),
+    let Ok(mut lines) = Lines::new(alloc, questions) else {
+        return (tell(err, &Refusal::NoMemory), out);
+    };
+    let version = words.version();
+    if words.detail() {
+        run_session_detailed(alloc, version, paths, inputs, &mut lines, out, err)
+    } else {
+        run_session(alloc, version, inputs, &mut lines, out, err)
     }
 }
 
@@ -69,6 +142,23 @@ fn show<W: Sink + Drop, E: Sink>(text: &str, mut out: W, err: &mut E) -> (u8, W)
         Ok(()) => (0, out),
         Err(_) => (tell(err, &Refusal::Output), out),
     }
+}
+
+// Tells that the file of a table can't be opened, in detail where that is asked: its status.
+fn tell_unopened<E: Sink>(alloc: Global, words: &Words, unopened: &Unopened, err: &mut E) -> u8
+    requires { is_some (path_of words.now unopened.now.table) ≡ true }
+    ensures { IsToldUnopened words.now.detail unopened.now.table
+        (unwrap_or (path_of words.now unopened.now.table) []) unopened.now.reason.now
+        (λ line. TakesLine (E.taken err.old) (E.taken err.new) (E.failures err.old)
+        (E.failures err.new) line) result }
+{
+    let refusal = Refusal::Unreadable(unopened.table);
+    if !words.detail() {
+        return tell(err, &refusal);
+    }
+    let path = words.path(unopened.table).unwrap_or("");
+    let detail = unread_remedy(alloc, path, Some(unopened.reason));
+    tell_detailed(err, &Refused::new(alloc, refusal, detail))
 }
 
 // Does what accepted words ask for.
@@ -85,20 +175,15 @@ fn answer_line<H: Host + AllocGlobal, Q: Feed + Drop, W: Sink + Drop, E: Sink>(
         words.now (seen W.taken W.failures E.taken E.failures out result.1 err.old err.new)
         result.0 }
 {
+    let alloc = host.alloc();
     let mut inputs = match opened_inputs(host, words) {
         Ok(inputs) => inputs,
-        Err(table) => return (tell(err, &Refusal::Unreadable(table)), out),
+        Err(unopened) => return (tell_unopened(alloc, words, &unopened, err), out),
     };
+    let paths = paths_of(words);
     match words.job() {
-        Some(job) => ran(host.alloc(), &job, &mut inputs, out, err),
-        None => held(
-            host.alloc(),
-            words.version(),
-            &mut inputs,
-            questions,
-            out,
-            err,
-        ),
+        Some(job) => ran_job(alloc, &job, &paths, &mut inputs, out, err),
+        None => held(alloc, words, &paths, &mut inputs, questions, out, err),
     }
 }
 

@@ -37,7 +37,7 @@ pub struct Job<'a> {
     /// For `Why` a provider of the host that is asked about, by its UUID, or by a name that no other provider has; without one no provider is
     /// named. None for the others.
     pub host: Option<&'a str>,
-    /// For `Verify` whether it is said of what a rule is broken; `false` for the others.
+    /// For `Verify` whether it is said of what a rule is broken; it says nothing for the others.
     pub detail: bool,
     /// For `Candidates` and `List` whether the traits of providers are written; `true` for the others.
     pub traits: bool,

@@ -4,6 +4,7 @@ use ac_words::{WordFault, read_words};
 use std::alloc::{AllocError, Global};
 use std::test::Fail;
 
+mod details;
 mod refusals;
 mod tables;
 
@@ -207,29 +208,6 @@ fn verify(rt: HostRuntime) -> Result<(), Fail> {
             asks(rt.alloc(), line, Command::Verify, "q", Some("t"))?,
             "{line}"
         );
-    }
-    Ok(())
-}
-
-const DETAILED: &[&str] = &[
-    "ac_cli verify q t --detail --providers a --inventories b",
-    "ac_cli verify --detail q t --tables d",
-];
-
-#[test]
-fn verify_in_detail(rt: HostRuntime) -> Result<(), Fail> {
-    for line in DETAILED {
-        let job = Job {
-            command: Command::Verify,
-            query: "q",
-            version: Version::V136,
-            token: Some("t"),
-            host: None,
-            detail: true,
-            traits: true,
-            sum: false,
-        };
-        assert!(rt; gives(rt.alloc(), line, job)?, "{line}");
     }
     Ok(())
 }
@@ -683,13 +661,14 @@ fn help_tells_the_commands(rt: HostRuntime) -> Result<(), Fail> {
     Ok(())
 }
 
-const TABLES: &[&str] = &[
+const OF_CHECK: &[&str] = &[
     "      --tables <DIR>        The five tables of an export, in one folder: providers.csv, inventories.csv, usages.csv, traits.csv, aggregates.csv",
     "      --providers <FILE>    The resource providers and their trees (CSV)",
     "      --inventories <FILE>  What each provider has of each resource class (CSV)",
     "      --usages <FILE>       How much of it is used (CSV); without this table nothing is used",
     "      --traits <FILE>       The traits of each provider (CSV); without this table no provider has a trait",
     "      --aggregates <FILE>   The aggregates of each provider (CSV); without this table no provider is in an aggregate",
+    "      --detail              Says below the line of a fault what to do about it; `verify` then also says of what a rule is broken",
 ];
 
 const OPTIONS: &[&str] = &[
@@ -699,6 +678,7 @@ const OPTIONS: &[&str] = &[
     "      --usages <FILE>           How much of it is used (CSV); without this table nothing is used",
     "      --traits <FILE>           The traits of each provider (CSV); without this table no provider has a trait",
     "      --aggregates <FILE>       The aggregates of each provider (CSV); without this table no provider is in an aggregate",
+    "      --detail                  Says below the line of a fault what to do about it; `verify` then also says of what a rule is broken",
     "      --microversion <VERSION>  Reads the query by 1.36, or by 1.39: `required` may then be a list `in:A,B`, which asks for one of its traits, and may be repeated [default: 1.36]",
 ];
 
@@ -714,7 +694,6 @@ const FILLED: &[&str] = &[
 const VERIFIED: &[&str] = &[
     "  <QUERY>  What is asked for, between '..' since the shell reads & ! and ? otherwise; of a URL, what stands behind its ?",
     "  <TOKEN>  The UUIDs of providers, as `tokens` writes them",
-    "      --detail                  Also says of what a rule is broken",
 ];
 
 const ASKED_WHY: &[&str] = &[
@@ -725,6 +704,8 @@ const ASKED_WHY: &[&str] = &[
 const WITH_OPTIONS: &[&str] = &[
     "ac_cli help candidates",
     "ac_cli help tokens",
+    "ac_cli help list",
+    "ac_cli help fill",
     "ac_cli help verify",
     "ac_cli help explain",
     "ac_cli help hosts",
@@ -737,7 +718,7 @@ fn help_tells_the_options(rt: HostRuntime) -> Result<(), Fail> {
     for line in WITH_OPTIONS {
         assert!(rt; tells(rt.alloc(), line, OPTIONS)?, "{line}");
     }
-    assert!(rt; tells(rt.alloc(), "ac_cli help check", TABLES)?);
+    assert!(rt; tells(rt.alloc(), "ac_cli help check", OF_CHECK)?);
     assert!(rt; tells(rt.alloc(), "ac_cli help candidates", SEARCHES)?);
     assert!(rt; tells(rt.alloc(), "ac_cli help tokens", SEARCHES)?);
     assert!(rt; tells(rt.alloc(), "ac_cli help list", SEARCHES)?);

@@ -2,7 +2,7 @@
 use Rattle.std.proofs.Common.{◌≡◌, ◌∙◌, ℕ, ◌<◌, ◌≤◌, List, [], ◌++◌, Option, Some, None, sym, ap, subst, append-nil, append_assoc, arith, inl, inr}
 use Rattle.std.proofs.lemmas.Bool.{cases_Bool}
 use Rattle.std.proofs.lemmas.Bool.Decides.{nat_tests}
-use Rattle.std.specs.Prelude.{Result, Ok, Err, OnOk, OnErr, nat_lt}
+use Rattle.std.specs.Prelude.{IfOk, Result, Ok, Err, OnOk, OnErr, nat_lt}
 use Rattle.std.specs.Io.KnownBytes.{Appends, Keeps, append_known}
 use Rattle.ac_base.specs.Devices.{Rises, TakesPart, last_count}
 use Rattle.ac_base.specs.Gathered.{IsFirstPart}
@@ -12,6 +12,10 @@ use Rattle.ac_run.specs.Run.{IsAnswered, IsWritten}
 pub from_ok : {T E : Type 0} (r : Result T E) (x : T) (P : Type 0) → r ≡ Ok x → OnOk r P → P
 from_ok (Ok y) x P e h = h
 from_ok (Err y) x P e h = absurd (cc)
+
+pub of_ok : {T E : Type 0} (r : Result T E) (x : T) (P : T → Type 0) → r ≡ Ok x → IfOk r P → P x
+of_ok (Ok y) x P e h = subst P (cc) h
+of_ok (Err y) x P e h = absurd (cc)
 
 pub from_err : {T E : Type 0} (r : Result T E) (x : E) (P : Type 0) → r ≡ Err x → OnErr r P → P
 from_err (Ok y) x P e h = absurd (cc)
@@ -62,6 +66,10 @@ whole_text (Some u) (Some v) None d text h k e = absurd k
 whole_text (Some u) (Some v) (Some w) None text h k e = absurd e
 whole_text (Some u) (Some v) (Some w) (Some x) text h k e = e ∙ k ∙ ap (λ l. l ++ text) h
 
+-- an outcome was written whole above the sink, and all of it handed on
+pub whole_written : (outcome : Outcome) (a b c d : Option (List ℕ)) (given : ℕ) → Keeps a b → IsWritten outcome b c given → Keeps c d → IsWritten outcome a d given
+whole_written outcome a b c d given h w k = record { line = w.line; status = w.status; output = whole_text a b c d outcome.output h w.output k }
+
 -- ---- an answer, and what was written of it
 
 module _ (said outcome : Outcome) (e : said ≡ outcome) where
@@ -72,12 +80,5 @@ module _ (said outcome : Outcome) (e : said ≡ outcome) where
     status = w.status;
   })
 
-  pub whole_answer : (a b c d err : Option (List ℕ)) (given : ℕ) → Keeps a b → IsWritten outcome b c given → Keeps c d → IsAnswered said a d err err given
-  whole_answer a b c d err given h w k =
-      gives_answer a d err given (record { output = whole_text a b c d outcome.output h w.output k; line = w.line; status = w.status })
-
-  pub part_of_answer : (a b c d : Option (List ℕ)) → Keeps a b → TakesPart b c outcome.output → IsFirstPart c d → IsFirstPart (append_known a said.output) d
-  part_of_answer a b c d h k part = subst (λ o. IsFirstPart (append_known a o.output) d) (sym e) (part_more a b c d outcome.output h k part)
-
-  pub rest_dropped : (a b c d : Option (List ℕ)) (given : ℕ) → Keeps a b → IsWritten outcome b c given → IsFirstPart c d → IsFirstPart (append_known a said.output) d
-  rest_dropped a b c d given h w part = subst (λ o. IsFirstPart (append_known a o.output) d) (sym e) (text_more a b c d outcome.output h w.output part)
+  pub part_of_answer : (a d : Option (List ℕ)) → IsFirstPart (append_known a outcome.output) d → IsFirstPart (append_known a said.output) d
+  part_of_answer a d part = subst (λ o. IsFirstPart (append_known a o.output) d) (sym e) part

@@ -6,3 +6,4 @@ pub mod Attempted
 pub mod Told
 pub mod HandedOn
 pub mod HostFound
+pub mod FaultsTold

@@ -54,7 +54,7 @@ fn drain_some<R: Feed>(
 }
 
 /// Reads all tables to their ends, in their order.
-pub(crate) fn read_tables<R: Feed>(alloc: Global, inputs: &mut Inputs<R>) -> Result<Texts, Refusal>
+pub fn read_tables<R: Feed>(alloc: Global, inputs: &mut Inputs<R>) -> Result<Texts, Refusal>
     ensures bytes { IfOk result (λ texts. (b : Bytes) → TellBytes R.remaining inputs.old b
         → texts_shown texts ≡ b) }
     ensures few { IfOk result (λ texts. too_large (texts_shown texts) ≡ None) }

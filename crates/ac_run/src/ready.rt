@@ -2,6 +2,7 @@
 ghost use Rattle.std.specs.Prelude.{◌≡◌, IfOk, IfErr, OnOk, None};
 ghost use Rattle.std.specs.Option.{option_map};
 ghost use Rattle.ac_query.specs.Jobs.{HasToken};
+ghost use Rattle.ac_tables.specs.Source.{AreFew, tables_of};
 ghost use Rattle.ac_tables.specs.Tables.{tables_fault, world_stated};
 ghost use Rattle.ac_cloud.specs.Cloud.CloudWorld.{providers_of, world_of};
 ghost use Rattle.ac_run.specs.Answer.{answer, tables_in};
@@ -36,22 +37,31 @@ fn slice_of(text: &Option<Vec<u8>>) -> Option<&[u8]>
     }
 }
 
-// The cloud of the tables' texts, which are given back with that.
-fn read_cloud(alloc: Global, texts: Texts) -> Result<Cloud, Refusal>
-    requires { too_large (texts_shown texts) ≡ None }
-    ensures fine { OnOk result (tables_fault (tables_in (texts_shown texts)) ≡ None) }
-    ensures world { IfOk result (λ cloud. world_of cloud
-        ≡ world_stated (tables_in (texts_shown texts))) }
-    ensures fault { IfErr result (ExplainsTables (tables_fault (tables_in (texts_shown texts)))) }
+/// The texts of the tables, as they are read.
+pub fn sources_of(texts: &Texts) -> Sources<'_>
+    requires { too_large (texts_shown texts.now) ≡ None }
+    ensures few { AreFew result }
+    ensures tables { tables_of result ≡ tables_in (texts_shown texts.now) }
 {
-    let sources = Sources {
+    Sources {
         providers: &texts.providers,
         inventories: &texts.inventories,
         usages: slice_of(&texts.usages),
         traits: slice_of(&texts.traits),
         aggregates: slice_of(&texts.aggregates),
-    };
-    match Cloud::read(alloc, &sources) {
+    }
+}
+
+/// The cloud of the tables' texts.
+pub fn read_cloud(alloc: Global, texts: &Texts) -> Result<Cloud, Refusal>
+    requires { too_large (texts_shown texts.now) ≡ None }
+    ensures fine { OnOk result (tables_fault (tables_in (texts_shown texts.now)) ≡ None) }
+    ensures world { IfOk result (λ cloud. world_of cloud
+        ≡ world_stated (tables_in (texts_shown texts.now))) }
+    ensures fault { IfErr result
+        (ExplainsTables (tables_fault (tables_in (texts_shown texts.now)))) }
+{
+    match Cloud::read(alloc, &sources_of(texts)) {
         Ok(cloud) => Ok(cloud),
         Err(TableFault::At { table, row, kind }) => Err(Refusal::Record { table, row, kind }),
         Err(TableFault::NoMemory) => Err(Refusal::NoMemory),
@@ -68,7 +78,7 @@ pub fn read_inputs<R: Feed>(alloc: Global, inputs: &mut Inputs<R>) -> Result<Clo
         Ok(texts) => texts,
         Err(refusal) => return Err(refusal),
     };
-    read_cloud(alloc, texts)
+    read_cloud(alloc, &texts)
 }
 
 /// Reads the tables in their order, then the query, then the token, and looks for the host.

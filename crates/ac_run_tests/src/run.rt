@@ -3,6 +3,7 @@ ghost use Rattle.std.specs.Option.{option_map};
 ghost use Rattle.ac_query.specs.Jobs.{HasToken};
 
 use ac_base::{MemFeed, MemSink, Turn};
+use ac_detail::{Paths, run_detailed};
 use ac_query::Version;
 use ac_run::{Command, Inputs, Job, run, run_gathered};
 use std::alloc::{AllocError, Global};
@@ -10,6 +11,7 @@ use std::process::Abort;
 
 mod crowded;
 mod cuts;
+mod details;
 mod devices;
 mod examples;
 mod refusals;
@@ -96,7 +98,15 @@ fn texts_of(alloc: Global, rows: &Rows) -> Result<Texts, AllocError> {
     )
 }
 
-// How the devices of a run go.
+// Which of the calls makes a run.
+#[derive(Clone, Copy, PartialEq, Eq)]
+enum Way {
+    Plain,
+    Gathered,
+    Detailed,
+}
+
+// How a run is made, and how its devices go.
 #[derive(Clone, Copy)]
 struct Turns<'a> {
     providers: &'a [Turn],
@@ -106,7 +116,7 @@ struct Turns<'a> {
     aggregates: &'a [Turn],
     out: &'a [Turn],
     err: &'a [Turn],
-    is_gathered: bool,
+    way: Way,
     // After how many bytes the table ends.
     providers_end: usize,
     inventories_end: usize,
@@ -120,7 +130,7 @@ const SOUND: Turns<'static> = Turns {
     aggregates: &[],
     out: &[],
     err: &[],
-    is_gathered: false,
+    way: Way::Plain,
     providers_end: usize::MAX,
     inventories_end: usize::MAX,
 };
@@ -167,6 +177,15 @@ fn front(text: &String, end: usize) -> &[u8] {
     &bytes[..end.min(bytes.len())]
 }
 
+// The paths of the tables' files.
+const PATHS: Paths<'static> = Paths {
+    providers: "p.csv",
+    inventories: "i.csv",
+    usages: Some("u.csv"),
+    traits: Some("t.csv"),
+    aggregates: Some("a.csv"),
+};
+
 // A run over the five tables.
 fn run_texts(alloc: Global, texts: &Texts, job: &Job<'_>, turns: Turns) -> Result<Left, AllocError>
     requires { HasToken job.now.command (option_map (λ token. token.now) job.now.token) }
@@ -186,12 +205,18 @@ fn run_texts(alloc: Global, texts: &Texts, job: &Job<'_>, turns: Turns) -> Resul
     };
     let mut out = MemSink::new(vec![in alloc; 0u8; 2000]?, turns.out);
     let mut err = MemSink::new(vec![in alloc; 0u8; 1000]?, turns.err);
-    let status = if turns.is_gathered {
-        let (status, gathered) = run_gathered(alloc, job, &mut inputs, out, &mut err);
-        out = gathered;
-        status
-    } else {
-        run(alloc, job, &mut inputs, &mut out, &mut err)
+    let status = match turns.way {
+        Way::Plain => run(alloc, job, &mut inputs, &mut out, &mut err),
+        Way::Gathered => {
+            let (status, taken) = run_gathered(alloc, job, &mut inputs, out, &mut err);
+            out = taken;
+            status
+        }
+        Way::Detailed => {
+            let (status, taken) = run_detailed(alloc, job, &PATHS, &mut inputs, out, &mut err);
+            out = taken;
+            status
+        }
     };
     Ok(Left {
         output: text_of(alloc, out.taken())?,

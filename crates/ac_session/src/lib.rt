@@ -3,6 +3,7 @@
 //! It knows feeds and sinks, and nothing of command lines or files.
 #![tactic(auto)]
 
+mod detailed;
 pub mod end_lines;
 mod endings;
 pub mod laws;
@@ -12,6 +13,7 @@ mod session;
 mod turns;
 pub mod usages;
 
+pub use detailed::run_session_detailed;
 pub use end_lines::LineFault;
 pub use lines::{Lines, Next};
 pub use questions::{Question, read_question};

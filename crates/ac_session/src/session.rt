@@ -11,7 +11,7 @@ ghost use Rattle.ac_run.specs.Lines.{memory_line, output_line};
 ghost use Rattle.ac_run.specs.Run.{FailsOr, IsAnswered, IsRefused, IsUnread};
 ghost use Rattle.ac_session.specs.Lines.{Given, most_passed};
 ghost use Rattle.ac_session.specs.Reading.{feed_in, given_by, left};
-ghost use Rattle.ac_session.specs.Sessions.{AreUnread, session_answer};
+ghost use Rattle.ac_session.specs.Sessions.{AreUnread, held, session_answer};
 ghost use Rattle.ac_session.specs.Standing.{Stands, stop_line, stop_status};
 ghost use Rattle.ac_session.specs.Turns.{lines_in, session_text, turn_of};
 ghost use Rattle.ac_session.specs.declared.session.Step.TheVariants as Step;
@@ -171,6 +171,46 @@ fn tell_stop<E: Sink>(err: &mut E, stop: Stop) -> u8
     }
 }
 
+/// Holds a session over a cloud: reads one line of questions after another, and hands on each answer whole before the next line is read. Answers the
+/// status and the output sink.
+pub(crate) fn hold<Q: Feed, W: Sink + Drop, E: Sink>(
+    alloc: Global,
+    version: Version,
+    cloud: Cloud,
+    lines: &mut Lines<Q>,
+    out: W,
+    err: &mut E,
+) -> (u8, W)
+    ensures answered { result.0 ≢ 7
+        → (Rises (Q.failures (feed_in lines.old)) (Q.failures (feed_in lines.new)) → ⊥)
+        → (Rises (W.failures out) (W.failures result.1) → ⊥)
+        → (q : List ℕ) → left Q.remaining lines.old ≡ Some q → length q < most_passed
+        → IsAnswered (held version (world_of cloud) q) (W.taken out) (W.taken result.1)
+        (E.taken err.old) (E.taken err.new) result.0 }
+    ensures written { result.0 ≡ 0
+        → (q : List ℕ) → left Q.remaining lines.old ≡ Some q → length q < most_passed
+        → IsAnswered (held version (world_of cloud) q) (W.taken out) (W.taken result.1)
+        (E.taken err.old) (E.taken err.new) result.0 }
+    ensures unread { result.0 ≡ 3
+        → AreUnread (Rises (Q.failures (feed_in lines.old)) (Q.failures (feed_in lines.new)))
+        (E.taken err.old) (E.taken err.new) (E.failures err.old) (E.failures err.new) }
+    ensures output { result.0 ≡ 6 → Rises (W.failures out) (W.failures result.1)
+        × TakesLine (E.taken err.old) (E.taken err.new)
+        (E.failures err.old) (E.failures err.new) output_line }
+    ensures memory { result.0 ≡ 7 → TakesLine (E.taken err.old) (E.taken err.new)
+        (E.failures err.old) (E.failures err.new) memory_line }
+    ensures part { (q : List ℕ) → left Q.remaining lines.old ≡ Some q → length q < most_passed
+        → IsFirstPart (append_known (W.taken out) (held version (world_of cloud) q).output)
+        (W.taken result.1) }
+    ensures status { Contains (0 ∷ 3 ∷ 6 ∷ 7 ∷ []) result.0 }
+{
+    let mut cloud = cloud;
+    match answer_lines(alloc, &mut cloud, version, lines, out) {
+        (Ok(()), out) => (0, out),
+        (Err(stop), out) => (tell_stop(err, stop), out),
+    }
+}
+
 /// Runs a session: reads the tables in their order, then one line of questions after another, and hands on each answer whole before the next line is read.
 /// Answers the status and the output sink.
 ///
@@ -221,12 +261,8 @@ pub fn run_session<R: Feed, Q: Feed, W: Sink + Drop, E: Sink>(
         (W.taken result.1) }
     ensures status { Contains (0 ∷ 3 ∷ 6 ∷ 7 ∷ []) result.0 }
 {
-    let mut cloud = match read_inputs(alloc, inputs) {
-        Ok(cloud) => cloud,
-        Err(refusal) => return (tell(err, &refusal), out),
-    };
-    match answer_lines(alloc, &mut cloud, version, lines, out) {
-        (Ok(()), out) => (0, out),
-        (Err(stop), out) => (tell_stop(err, stop), out),
+    match read_inputs(alloc, inputs) {
+        Ok(cloud) => hold(alloc, version, cloud, lines, out, err),
+        Err(refusal) => (tell(err, &refusal), out),
     }
 }

@@ -1,8 +1,9 @@
 //! Sessions over devices in memory.
 use ac_base::{MemFeed, MemSink, Turn};
+use ac_detail::Paths;
 use ac_query::Version;
 use ac_run::Inputs;
-use ac_session::{Lines, run_session};
+use ac_session::{Lines, run_session, run_session_detailed};
 use std::alloc::{AllocError, Global};
 use std::process::Abort;
 
@@ -12,6 +13,13 @@ mod refusals;
 
 // Two providers with eight units of a class; of the first one three are used. `@1` stands for the UUID that ends with 1.
 const PROVIDERS: &str = "uuid,root_provider_uuid,parent_provider_uuid\n@1,@1,\n@2,@2,\n";
+
+// A table without a provider, and what is then told of the inventories in detail.
+const NO_PROVIDERS: &str = "uuid,root_provider_uuid,parent_provider_uuid\n";
+
+const UNKNOWN: &str =
+    "inventories: record 2: UnknownProvider\n  i.csv, resource_provider \"00000000-0000-0000-0000-000000000001\", VCPU: \
+    not in the table of providers; export all tables together, or take the record out\n";
 
 const INVENTORIES: &str =
     "resource_provider,resource_class,total,reserved,min_unit,max_unit,step_size,allocation_ratio\n\
@@ -23,9 +31,10 @@ fn expanded(alloc: Global, text: &str) -> Result<String, AllocError> {
     text.replace(alloc, "@", "00000000-0000-0000-0000-00000000000")
 }
 
-// How the devices of a session go.
+// How the devices of a session go, and whether it is held in detail.
 #[derive(Clone, Copy)]
 struct Turns<'a> {
+    detail: bool,
     providers: &'a [Turn],
     others: &'a [Turn],
     questions: &'a [Turn],
@@ -34,6 +43,7 @@ struct Turns<'a> {
 }
 
 const SOUND: Turns<'static> = Turns {
+    detail: false,
     providers: &[],
     others: &[],
     questions: &[],
@@ -65,6 +75,15 @@ struct Texts {
     questions: String,
 }
 
+// The paths of the tables' files.
+const PATHS: Paths<'static> = Paths {
+    providers: "p.csv",
+    inventories: "i.csv",
+    usages: Some("u.csv"),
+    traits: None,
+    aggregates: None,
+};
+
 // A session over three tables.
 fn run_texts(alloc: Global, texts: &Texts, turns: Turns) -> Result<Left, AllocError> {
     let mut inputs = Inputs {
@@ -81,8 +100,21 @@ fn run_texts(alloc: Global, texts: &Texts, turns: Turns) -> Result<Left, AllocEr
         return Err(AllocError);
     };
     let out = MemSink::new(vec![in alloc; 0u8; 4000]?, turns.out);
-    let mut err = MemSink::new(vec![in alloc; 0u8; 100]?, turns.err);
-    let (status, out) = run_session(alloc, Version::V139, &mut inputs, &mut lines, out, &mut err);
+    let mut err = MemSink::new(vec![in alloc; 0u8; 300]?, turns.err);
+    let version = Version::V139;
+    let (status, out) = if turns.detail {
+        run_session_detailed(
+            alloc,
+            version,
+            &PATHS,
+            &mut inputs,
+            &mut lines,
+            out,
+            &mut err,
+        )
+    } else {
+        run_session(alloc, version, &mut inputs, &mut lines, out, &mut err)
+    };
     Ok(Left {
         output: text_of(alloc, out.taken())?,
         line: text_of(alloc, err.taken())?,

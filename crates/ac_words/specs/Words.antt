@@ -43,15 +43,19 @@ with_tables app =
     (option_rule (codes "tables"))) (option_rule (codes "providers"))) (option_rule (codes "inventories")))
     (option_rule (codes "usages"))) (option_rule (codes "traits"))) (option_rule (codes "aggregates"))
 
--- the options of a command with queries: those of the tables, and the version
+-- the options of every command: those of the tables, and whether more is said
+abbrev pub with_common : App → App
+with_common app = with_rule (with_tables app) (flag_rule (codes "detail"))
+
+-- the options of a command with queries: those of every command, and the version
 abbrev pub with_options : App → App
-with_options app = with_rule (with_tables app) (option_rule (codes "microversion"))
+with_options app = with_rule (with_common app) (option_rule (codes "microversion"))
 
 abbrev pub query_app : Text → App
 query_app name = with_rule (new_app name) (word_rule (codes "query"))
 
 abbrev pub check_app : App
-check_app = with_tables (new_app (codes "check"))
+check_app = with_common (new_app (codes "check"))
 
 -- a command that writes candidates
 abbrev pub search_app : Text → App
@@ -74,7 +78,7 @@ abbrev pub fill_app : App
 fill_app = with_rule (with_options (query_app (codes "fill"))) (flag_rule (codes "sum"))
 
 abbrev pub verify_app : App
-verify_app = with_rule (with_options (with_rule (query_app (codes "verify")) (word_rule (codes "token")))) (flag_rule (codes "detail"))
+verify_app = with_options (with_rule (query_app (codes "verify")) (word_rule (codes "token")))
 
 abbrev pub explain_app : App
 explain_app = with_options (query_app (codes "explain"))
@@ -243,10 +247,9 @@ abbrev pub is_set : Option Text → Bool
 is_set None = false
 is_set (Some text) = bytes_eq text (codes "true")
 
--- whether it is said of what a rule is broken; only `verify` is asked
-abbrev pub detail_of : Call → List Row → Bool
-detail_of (Job Verify) rows = is_set (first_of (codes "detail") rows)
-detail_of _ rows = false
+-- whether more is said: what to do about a fault, and of what a rule is broken; every command may be asked
+abbrev pub detail_of : List Row → Bool
+detail_of rows = is_set (first_of (codes "detail") rows)
 
 -- whether traits are written; `candidates` and `list` may be told not to
 abbrev pub with_traits_of : Call → List Row → Bool
@@ -274,7 +277,7 @@ pub record IsMadeOf (rows : List Row) (line : Line) : Type 0 where
   pub token : token_of line.call rows ≡ line.token
   pub judged : HasItsToken line.call line.token
   pub host : host_of line.call rows ≡ line.host
-  pub detail : detail_of line.call rows ≡ line.detail
+  pub detail : detail_of rows ≡ line.detail
   pub with_traits : with_traits_of line.call rows ≡ line.with_traits
   pub sum : sum_of line.call rows ≡ line.sum
   pub providers : path_given rows Providers ≡ Some line.providers

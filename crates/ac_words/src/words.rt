@@ -100,6 +100,13 @@ impl Words {
         self.version
     }
 
+    /// Whether more is said: below the line of a fault what to do about it, and of a verdict of what a rule is broken.
+    pub fn detail(&self) -> bool
+        ensures { result ≡ self.now.detail }
+    {
+        self.detail
+    }
+
     /// The path of a table's file, where one was given.
     pub fn path(&self, table: Table) -> Option<&str>
         ensures { option_map (λ path. path.now) result ≡ path_of self.now table }

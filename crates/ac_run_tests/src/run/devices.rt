@@ -1,6 +1,6 @@
 //! Devices that fail.
 use super::{
-    Case, Left, ONE, ONE_BODY, SOUND, TOKENS, Texts, Turns, alike, check_case, expanded,
+    Case, Left, ONE, ONE_BODY, SOUND, TOKENS, Texts, Turns, Way, alike, check_case, expanded,
     expect_left, left_by, texts_of,
 };
 use ac_base::Turn;
@@ -44,7 +44,7 @@ const AGAIN: &[Turn] = &[Turn::Again; 1000];
 const ONCE_MORE: &[Turn] = &[Turn::Again; 1001];
 
 const GATHERED: Turns<'static> = Turns {
-    is_gathered: true,
+    way: Way::Gathered,
     ..SOUND
 };
 

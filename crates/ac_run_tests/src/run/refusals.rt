@@ -1,5 +1,6 @@
 //! Runs with each growth refused in turn: the whole answer, or `out of memory` with status 7 and a first part of it.
-use super::{Case, ONE, ONE_BODY, Rows, SOUND, TOKENS, expanded, expect_left, left_by};
+use super::details::{DETAILED, WHAT_TO_DO};
+use super::{Case, ONE, ONE_BODY, Rows, SOUND, TOKENS, Turns, expanded, expect_left, left_by};
 use ac_run::Command;
 use std::process::Abort;
 
@@ -20,11 +21,11 @@ const PAIR: Case = Case {
     ..TOKENS
 };
 
-fn check(rt: &(impl Abort + AllocGlobal), case: &Case) {
+fn check(rt: &(impl Abort + AllocGlobal), case: &Case, turns: Turns) {
     let Ok(output) = expanded(rt.alloc(), case.output) else {
         return;
     };
-    let Ok(left) = left_by(rt, case, SOUND) else {
+    let Ok(left) = left_by(rt, case, turns) else {
         return;
     };
     if left.status == 7 {
@@ -37,7 +38,7 @@ fn check(rt: &(impl Abort + AllocGlobal), case: &Case) {
 
 fn check_all(rt: &(impl Abort + AllocGlobal), cases: &[Case]) {
     for case in cases {
-        check(rt, case);
+        check(rt, case, SOUND);
     }
 }
 
@@ -274,4 +275,11 @@ static FAULTS: [Case; 3] = [
 #[test]
 fn faults(rt: HostRuntime) {
     check_all(&rt, &FAULTS);
+}
+
+#[test]
+fn what_to_do(rt: HostRuntime) {
+    for case in &WHAT_TO_DO {
+        check(&rt, case, DETAILED);
+    }
 }

@@ -1,8 +1,8 @@
 -- The lines of an explanation.
-use Rattle.std.proofs.Common.{◌≡◌, ℕ, ◌+◌, Bool, true, false, List, [], ◌∷◌, ◌++◌, Option, Some, None, IfSome, get_or, map, length, refl, arith}
+use Rattle.std.proofs.Common.{◌≡◌, ℕ, ◌+◌, Bool, true, false, List, [], ◌∷◌, ◌++◌, Option, Some, None, IfSome, get_or, map, length, refl}
 use Rattle.std.proofs.lemmas.Bool.{not-true}
 use Rattle.std.specs.Prelude.{◌==◌, not, nat_lt, codes, if◌then◌else◌, decimal}
-use Rattle.std.specs.List.{AllByRecursion, filter, flat_map, range_with_len}
+use Rattle.std.specs.List.{AllByRecursion, filter, range_with_len}
 use Rattle.ac_base.specs.Texts.{id_text}
 use Rattle.ac_cloud.specs.World.{Provider}
 use Rattle.ac_query.specs.Asked.{Asked, Group, Slot, slots_of}
@@ -14,13 +14,13 @@ use Rattle.ac_differences.specs.Differing.{all_differences, applies}
 use Rattle.ac_differences.specs.declared.differing.Difference.{Difference}
 use Rattle.ac_differences.specs.declared.differing.Difference.TheVariants as difference
 use Rattle.ac_answers.specs.Pieces.{listed, marked, newline, printed, said}
-use Rattle.ac_answers.specs.Explanation.{each_room, explanation_text, need_text, needs_text, room_mark, room_text, slot_counted, slot_end, slot_line, slot_lines, slot_name, told_text, trees_line}
-use Rattle.ac_answers.specs.Explanation.Candidates.{FoundWithout, candidates_line, found_without, outcome, policy_line, required_line, subtree_line, subtree_lines, without_lines}
-use Rattle.ac_answers.specs.Explanation.Differing.{differs_line, differs_lines, heading}
-use Rattle.ac_answers.specs.Explanation.Nobody.{class_missed, group_missed, line_of, list_missed, member_mark, members_line, nobody_lines, one_of_line, places_missed, root_trait_missed, rule_missed, things_missed, trait_missed, tree_missed, unless}
+use Rattle.ac_answers.specs.Explanation.{each_room, explanation_text, need_text, needs_text, room_mark, room_text, slot_counted, slot_end, slot_line, slot_lines, slot_name, trees_line}
+use Rattle.ac_answers.specs.Explanation.Candidates.{FoundWithout, candidates_line, found_without, outcome, policy_line, required_line, subtree_line, without_lines}
+use Rattle.ac_answers.specs.Explanation.Differing.{differs_line, heading}
+use Rattle.ac_answers.specs.Explanation.Nobody.{class_missed, group_missed, line_of, list_missed, member_mark, members_line, nobody_lines, one_of_line, root_trait_missed, rule_missed, trait_missed, tree_missed, unless}
 use Rattle.ac_session.proofs.Unmarked.Asked.{HasPlainClass, IsSlot, at_place, map_all, plain_classes, plain_name, plain_names, plain_printed, plain_suffixes, slot_named}
 use Rattle.ac_session.proofs.Unmarked.Ids.{plain_id}
-use Rattle.ac_session.proofs.Unmarked.Lines.{IsLine, IsPlain, Leads, all_lines, each_lines, either_plain, each_so, leads_on, line, line_behind, line_here, no_lines, plain, plain_each, plain_joined, plain_nothing, plain_number, plain_pieces}
+use Rattle.ac_session.proofs.Unmarked.Lines.{IsLine, IsPlain, Leads, all_lines, each_lines, either_plain, leads_on, line, line_behind, line_here, no_lines, plain, plain_each, plain_joined, plain_nothing, plain_number, plain_pieces}
 use Rattle.ac_session.specs.Laws.Apart.{is_end_line}
 
 plain_said : (pieces : List (List ℕ)) → AllByRecursion IsPlain pieces → IsPlain (said pieces)

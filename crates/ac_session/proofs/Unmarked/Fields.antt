@@ -1,11 +1,11 @@
 -- Rows of tables: rows whose fields have no newline are lines.
-use Rattle.std.proofs.Common.{◌≡◌, ◌∙◌, ◌<◌, ℕ, zero, suc, Bool, true, false, List, [], ◌∷◌, ◌++◌, map, refl, arith, inl, inr}
-use Rattle.std.proofs.lemmas.Bool.{cases_Bool, and_parts}
-use Rattle.std.specs.Prelude.{◌==◌, not, if◌then◌else◌}
+use Rattle.std.proofs.Common.{◌≡◌, ℕ, Bool, true, false, List, [], ◌∷◌, refl}
+use Rattle.std.proofs.lemmas.Bool.{and_parts}
+use Rattle.std.specs.Prelude.{◌==◌, if◌then◌else◌}
 use Rattle.std.specs.List.{AllByRecursion, list_all}
-use Rattle.csv.specs.Writing.{default_writer, row_text, row_body, field_text, fields_text, escaped, is_blank, quoted, needs_quotes, by_style}
+use Rattle.csv.specs.Writing.{default_writer, row_text, row_body, field_text, fields_text, escaped, is_blank, quoted, needs_quotes}
 use Rattle.ac_session.specs.Laws.Apart.{is_end_line}
-use Rattle.ac_session.proofs.Unmarked.Lines.{clear_before, one_line, IsPlain, Leads, either_plain, goes_to, is_inner, leads_on, plain_byte, plain_joined, plain_nothing, within}
+use Rattle.ac_session.proofs.Unmarked.Lines.{clear_before, one_line, IsPlain, Leads, either_plain, is_inner, plain_byte, plain_joined, plain_nothing}
 
 escaped_plain : (field : List ℕ) → list_all is_inner field ≡ true → IsPlain (escaped default_writer field)
 unfolding escaped

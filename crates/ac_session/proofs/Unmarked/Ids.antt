@@ -1,15 +1,15 @@
 -- Ids as they are written.
-use Rattle.std.proofs.Common.{◌≡◌, ◌∙◌, ◌<◌, ℕ, zero, suc, Bool, true, false, List, [], ◌∷◌, ◌++◌, map, refl, arith}
+use Rattle.std.proofs.Common.{◌≡◌, ℕ, zero, suc, Bool, true, false, List, [], ◌∷◌, map, refl, arith}
 use Rattle.std.proofs.lemmas.Bool.Decides.{nat_tests}
-use Rattle.std.specs.Prelude.{◌==◌, not, if◌then◌else◌}
+use Rattle.std.specs.Prelude.{if◌then◌else◌}
 use Rattle.std.specs.Int.{w128, to_be_bytes}
 use Rattle.std.specs.List.{AllByRecursion, join_with_byte}
-use Rattle.uuid.specs.Text.{by_index, hex_digit, hyphen, hyphenated_text, is_hyphen_place, lower, digit_place, nibble}
+use Rattle.uuid.specs.Text.{by_index, hex_digit, hyphen, is_hyphen_place, lower, digit_place, nibble}
 use Rattle.uuid.proofs.TextLemmas.{nibble_small}
 use Rattle.ac_base.specs.Texts.{id_text}
 use Rattle.ac_query.specs.Tokens.{ids_text}
 use Rattle.ac_session.specs.Laws.Apart.{is_end_line}
-use Rattle.ac_session.proofs.Unmarked.Lines.{clear_before, each_so, IsPlain, Leads, is_inner, leads_on, plain_byte, plain_joined, plain_nothing, within}
+use Rattle.ac_session.proofs.Unmarked.Lines.{clear_before, IsPlain, is_inner, plain_byte, plain_joined, plain_nothing}
 
 pub by_places : (n : ℕ) (f : ℕ → ℕ) → ((k : ℕ) → is_inner (f k) ≡ true) → IsPlain (by_index n f)
 unfolding by_index

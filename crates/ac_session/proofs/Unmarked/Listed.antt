@@ -1,25 +1,24 @@
 -- The rows of `list`.
-use Rattle.std.proofs.Common.{◌≡◌, ℕ, Bool, true, false, List, [], ◌∷◌, ◌++◌, map, refl}
+use Rattle.std.proofs.Common.{ℕ, Bool, true, false, List, [], ◌∷◌, ◌++◌, map, refl}
 use Rattle.std.specs.Prelude.{◌==◌, codes, decimal, if◌then◌else◌}
-use Rattle.std.specs.List.{AllByRecursion, filter, flat_map}
+use Rattle.std.specs.List.{AllByRecursion, filter}
 use Rattle.std.specs.Map.{keys_of}
 use Rattle.std.specs.Ordering.{nat_cmp}
 use Rattle.csv.specs.Writing.{default_writer, row_text}
 use Rattle.serde_json.specs.Written.{comma_if}
 use Rattle.ac_base.specs.Quantities.{capacity}
 use Rattle.ac_base.specs.Sorted.{rising}
-use Rattle.ac_base.specs.Texts.{text_cmp}
 use Rattle.ac_cloud.specs.World.{Provider, UsedInventory, id_at, no_provider, provider_at}
 use Rattle.ac_query.proofs.Pairs.Named.{in_order}
 use Rattle.ac_query.specs.Asked.{Asked, Slot, slots_of}
 use Rattle.ac_query.specs.Laws.Named.{AreNames, AsksByName, IsName}
 use Rattle.ac_rules.specs.Placed.{Placed, assigned, placed}
 use Rattle.ac_rules.specs.Together.{sum_on}
-use Rattle.ac_report.specs.ListRows.{allocation_cell, amount_text, holding_text, inventory_cell, joined_by_commas, list_columns, list_text, next_number, provider_row, rows_of_list, rows_of_lists, traits_cell}
+use Rattle.ac_report.specs.ListRows.{allocation_cell, amount_text, holding_text, inventory_cell, list_columns, list_text, next_number, provider_row, rows_of_list, rows_of_lists, traits_cell}
 use Rattle.ac_report.specs.Texts.{joined, with_commas}
 use Rattle.ac_report.specs.Trees.{gives, needs_on}
 use Rattle.ac_session.specs.Laws.Apart.{HaveNames}
-use Rattle.ac_session.proofs.Unmarked.Asked.{AreSlots, IsSlot, all_slots, at_place, map_all, plain_name, plain_names}
+use Rattle.ac_session.proofs.Unmarked.Asked.{AreSlots, IsSlot, all_slots, at_place, plain_name, plain_names}
 use Rattle.ac_session.proofs.Unmarked.Fields.{row_line}
 use Rattle.ac_session.proofs.Unmarked.Ids.{plain_id}
 use Rattle.ac_session.proofs.Unmarked.Lines.{IsPlain, Leads, all_lines, clear_number, plain, plain_joined, plain_nothing, plain_number}

@@ -1,9 +1,8 @@
 -- Names as they are written.
-use Rattle.std.proofs.Common.{◌≡◌, ◌∙◌, ◌<◌, ℕ, zero, suc, Bool, true, false, List, [], ◌∷◌, ◌++◌, map, take, drop, replicate, length, refl, arith}
+use Rattle.std.proofs.Common.{◌≡◌, ℕ, zero, suc, true, List, [], ◌∷◌, map, take, drop, replicate, length, refl, arith}
 use Rattle.std.proofs.lemmas.Bool.Decides.{nat_tests}
-use Rattle.std.specs.Prelude.{◌==◌, not, if◌then◌else◌}
 use Rattle.std.specs.Str.Lossy.{utf8_valid_len, utf8_invalid_len, after_first_chunk}
-use Rattle.ac_report.specs.Names.{is_control, shown_byte, shown_name, shown_within}
+use Rattle.ac_report.specs.Names.{shown_byte, shown_name, shown_within}
 use Rattle.ac_session.proofs.Unmarked.Lines.{IsPlain, is_inner, plain_byte, plain_joined, plain_nothing}
 
 byte_inner : (byte : ℕ) → is_inner (shown_byte byte) ≡ true

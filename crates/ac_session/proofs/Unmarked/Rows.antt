@@ -1,20 +1,19 @@
 -- The rows of `hosts` and of `why`.
-use Rattle.std.proofs.Common.{◌≡◌, ℕ, ◌+◌, ◌-◌, Bool, true, false, List, [], ◌∷◌, ◌++◌, Option, Some, None, IfSome, map, length, refl}
-use Rattle.std.specs.Prelude.{⊤, nat_lt, codes, if◌then◌else◌, decimal}
-use Rattle.std.specs.List.{AllByRecursion, filter, flat_map, join_with_byte, range_with_len}
-use Rattle.std.specs.Option.{is_some, option_map_or}
+use Rattle.std.proofs.Common.{◌≡◌, ℕ, ◌+◌, ◌-◌, Bool, true, false, List, [], ◌∷◌, ◌++◌, Option, Some, None, map, length, refl}
+use Rattle.std.specs.Prelude.{⊤, nat_lt, codes, decimal}
+use Rattle.std.specs.List.{AllByRecursion, flat_map, range_with_len}
+use Rattle.std.specs.Option.{is_some}
 use Rattle.std.specs.Str.{bytes_eq}
 use Rattle.csv.specs.Writing.{default_writer, row_text}
 use Rattle.ac_base.specs.Quantities.{InventoryNumbers, capacity}
 use Rattle.ac_base.specs.Texts.{id_text}
 use Rattle.ac_cloud.specs.World.{Provider, id_at, provider_at}
-use Rattle.ac_query.specs.Asked.{Asked, Group, Slot, slots_of}
-use Rattle.ac_query.specs.Laws.Named.{AreNames, AsksByName, HasNames, IsName, IsSuffix}
+use Rattle.ac_query.specs.Asked.{Asked, Group, slots_of}
+use Rattle.ac_query.specs.Laws.Named.{AreNames, AsksByName, HasNames, IsName}
 use Rattle.ac_query.specs.Pairs.Values.{AggregateRule}
 use Rattle.ac_rules.specs.Placed.{Placed, placed_at, slot_at}
 use Rattle.ac_rules.specs.Together.{takes_root}
-use Rattle.ac_explain.specs.Details.{aggregates_detail, choice_detail, disabled_note, forbidden_detail, forbidden_text, forbids_mark, list_mark, missing_text, none_of_text, required_detail, room_detail, room_text, root_detail, root_forbidden_text, rule_text, traits_detail, tree_detail, units_detail, units_text}
-use Rattle.ac_report.specs.Names.{shown_name}
+use Rattle.ac_explain.specs.Details.{choice_detail, forbidden_detail, forbidden_text, forbids_mark, missing_text, none_of_text, required_detail, room_text, root_detail, root_forbidden_text, rule_text, traits_detail, tree_detail, units_text}
 use Rattle.ac_search.specs.Hosts.{fits_at}
 use Rattle.ac_search.specs.Lacking.{first_failed, lack_at}
 use Rattle.ac_search.specs.declared.lacking.Stage.{Stage}
@@ -25,10 +24,10 @@ use Rattle.ac_answers.specs.Pieces.{printed}
 use Rattle.ac_answers.specs.HostRows.{host_columns, host_row, hosts_text, lack_name, roots_in_order, slot_shown, stage_name, yes_or_no}
 use Rattle.ac_answers.specs.WhyRows.{detail_of, fits_shown, last_row, looked_at, placed_row, root_lack, root_row, rows_of_slots, slot_rows, stage_shown, why_columns, why_fields, why_text}
 use Rattle.ac_session.specs.Laws.Apart.{is_end_line}
-use Rattle.ac_session.proofs.Unmarked.Asked.{HasPlainClass, IsSlot, map_all, plain_classes, plain_found, plain_name, plain_names, plain_printed, slot_named}
+use Rattle.ac_session.proofs.Unmarked.Asked.{HasPlainClass, IsSlot, plain_classes, plain_found, plain_name, plain_names, plain_printed, slot_named}
 use Rattle.ac_session.proofs.Unmarked.Fields.{row_line}
 use Rattle.ac_session.proofs.Unmarked.Ids.{clear_id, plain_id, plain_ids, plain_joined_by}
-use Rattle.ac_session.proofs.Unmarked.Lines.{IsPlain, Leads, all_lines, clear_number, each_so, either_plain, leads_on, plain, plain_joined, plain_nothing, plain_number}
+use Rattle.ac_session.proofs.Unmarked.Lines.{IsPlain, Leads, all_lines, clear_number, each_so, either_plain, plain, plain_joined, plain_nothing, plain_number}
 use Rattle.ac_session.proofs.Unmarked.Names as name
 
 -- the text of a row is a line

@@ -1,29 +1,24 @@
 -- What is told of questions: its lines, and the line that ends it.
-use Rattle.std.proofs.Common.{◌≡◌, ◌≢◌, ◌∙◌, ℕ, ◌+◌, Bool, true, false, List, [], ◌∷◌, ◌++◌, Option, Some, None, IfSome, Result, Ok, Err, map, length, ◌⊎◌, inl, inr, refl, sym, ap, append_assoc}
-use Rattle.std.specs.Prelude.{⊤, ◌==◌, nat_lt, codes, decimal, if◌then◌else◌}
-use Rattle.std.specs.List.{AllByRecursion, filter, flat_map, list_any}
-use Rattle.std.specs.Option.{is_none, option_and_then}
-use Rattle.std.specs.Str.{bytes_eq, is_utf8}
-use Rattle.csv.specs.Writing.{default_writer, row_text}
-use Rattle.ac_base.specs.Texts.{id_text}
-use Rattle.ac_cloud.specs.World.{Provider, Sizes, World}
+use Rattle.std.proofs.Common.{◌≡◌, ◌∙◌, ℕ, ◌+◌, Bool, true, false, List, [], ◌∷◌, ◌++◌, Option, Some, None, IfSome, map, length, ◌⊎◌, inl, inr, refl, sym, ap, append_assoc}
+use Rattle.std.specs.Prelude.{⊤, ◌==◌, codes, decimal, if◌then◌else◌}
+use Rattle.std.specs.List.{AllByRecursion, flat_map}
 use Rattle.ac_cloud.specs.declared.cloud.naming.HostFault.{HostFault}
 use Rattle.ac_cloud.specs.declared.cloud.naming.HostFault.TheVariants as host
 use Rattle.ac_query.proofs.Pairs.Named.{in_order, query_asks_by_name}
 use Rattle.ac_query.specs.Asked.{Asked as Query, Group}
 use Rattle.ac_query.specs.Faults.{Fault, asked_conditions, bad_value, conditions, conditions_of, conflict, first_fault, group_condition, group_without_resources, listed_suffixes, no_resources, pairs_conditions, policy_missing, query_fault, repeated, suffix_condition, text_conditions, too_long, too_many_slots, unknown_parameter, unknown_suffix}
 use Rattle.ac_query.specs.Laws.Gathered.{asked_by}
-use Rattle.ac_query.specs.Laws.Named.{AreSuffixes, AsksByName, HasNames, IsName, IsSuffix}
+use Rattle.ac_query.specs.Laws.Named.{AreSuffixes, AsksByName, HasNames, IsSuffix}
 use Rattle.ac_query.specs.Pairs.{pairs_of}
 use Rattle.ac_query.specs.Pairs.Parameters.{Parameter, parameter}
 use Rattle.ac_query.specs.declared.token.TokenFault.{TokenFault}
 use Rattle.ac_query.specs.declared.token.TokenFault.TheVariants as token
 use Rattle.ac_query.specs.declared.version.Version.{Version}
-use Rattle.ac_run.specs.Answer.{Outcome, Says, Task, past_query, past_token, refused, told, token_refusal, written}
+use Rattle.ac_run.specs.Answer.{Outcome, Says, Task, past_query, refused, told, token_refusal, written}
 use Rattle.ac_run.specs.Lines.{group_line, host_line, memory_line, pair_line, query_line, token_line}
 use Rattle.ac_answers.specs.Pieces.{newline, printed}
-use Rattle.ac_session.specs.EndLines.{behind_status, end_line, fault_line}
-use Rattle.ac_session.specs.Laws.Apart.{first_answer, is_end_line}
+use Rattle.ac_session.specs.EndLines.{behind_status, end_line}
+use Rattle.ac_session.specs.Laws.Apart.{first_answer}
 use Rattle.ac_session.specs.Turns.{answer_text}
 use Rattle.ac_session.proofs.Unmarked.Asked.{plain_printed, plain_suffix}
 use Rattle.ac_session.proofs.Unmarked.Lines.{IsLine, IsPlain, Leads, line_behind, line_here, no_lines, plain, plain_number}

@@ -1,13 +1,12 @@
 -- JSON as it is written has no newline.
-use Rattle.std.proofs.Common.{◌≡◌, ◌∙◌, ◌<◌, ◌/◌, ◌%◌, ℕ, zero, suc, Bool, true, false, List, [], ◌∷◌, ◌++◌, map, refl, arith, inl, inr}
-use Rattle.std.proofs.lemmas.Bool.{cases_Bool}
+use Rattle.std.proofs.Common.{◌≡◌, ◌/◌, ◌%◌, ℕ, suc, Bool, true, false, List, [], ◌∷◌, refl, arith}
 use Rattle.std.proofs.lemmas.Bool.Decides.{nat_tests}
-use Rattle.std.specs.Prelude.{◌==◌, cond, not, nat_lt, flat_map, pos, negsuc, decimal, if◌then◌else◌}
+use Rattle.std.specs.Prelude.{cond, nat_lt, pos, negsuc}
 use Rattle.std.specs.Char.{digit_char}
 use Rattle.json.specs.Print.{escape_byte, escape_letter, escape, quoted}
 use Rattle.serde_json.specs.Data.{Num, unsigned, negative, float, Data, null, boolean, number, string, array, object, Items, no_items, item, Members, no_members, member}
 use Rattle.serde_json.specs.Written.{comma_if, compact_text, items_text, members_text, number_text}
-use Rattle.ac_session.proofs.Unmarked.Lines.{IsPlain, Leads, either_plain, is_inner, plain_byte, plain_joined, plain_nothing, plain_number, within}
+use Rattle.ac_session.proofs.Unmarked.Lines.{IsPlain, is_inner, plain_byte, plain_joined, plain_nothing, plain_number}
 
 letter_inner : (x : ℕ) → is_inner (escape_letter x) ≡ true
 letter_inner x = grind (arith, nat_tests)

@@ -1,7 +1,7 @@
 -- The turns of a session are read apart.
-use Rattle.std.proofs.Common.{◌≡◌, ◌≢◌, ◌∙◌, ℕ, zero, suc, Bool, true, false, List, [], ◌∷◌, ◌++◌, Option, Some, None, Result, Ok, Err, map, get_or, length, drop, ◌⊎◌, inl, inr, refl, sym, ap, append_assoc, append-nil}
+use Rattle.std.proofs.Common.{◌≡◌, ◌≢◌, ◌∙◌, ℕ, suc, Bool, true, false, List, [], ◌∷◌, ◌++◌, Option, Some, None, Result, Ok, Err, map, length, refl, ap}
 use Rattle.std.proofs.Math.Seq.{drop-append_seam}
-use Rattle.std.specs.Prelude.{⊤, ◌==◌, codes, cond, decimal, if◌then◌else◌}
+use Rattle.std.specs.Prelude.{⊤, ◌==◌, codes, cond, if◌then◌else◌}
 use Rattle.std.specs.List.{AllByRecursion, filter, flat_map, range_with_len}
 use Rattle.std.specs.Option.{option_and_then}
 use Rattle.std.specs.Str.{bytes_eq, is_utf8}
@@ -33,14 +33,12 @@ use Rattle.ac_rules.specs.declared.verdict.Rule.TheVariants as rule
 use Rattle.ac_rules.specs.declared.verdict.Verdict.{Verdict}
 use Rattle.ac_rules.specs.declared.verdict.Verdict.TheVariants as verdict
 use Rattle.ac_answers.specs.Explanation.Candidates.{has_candidate}
-use Rattle.ac_answers.specs.Pieces.{newline}
 use Rattle.ac_answers.specs.WhyRows.{root_place}
-use Rattle.ac_run.specs.Answer.{Outcome, Task, answer_in, explanation, fill_text, fills, host_found, host_rows, on_host, page_body, page_lines, page_rows, past_query, verdict_line, verdict_on, why_not, why_rows, written}
-use Rattle.ac_run.specs.Outputs.{broken_line, broken_name, counted, counts, sum_text, verdict_status, verdict_text}
-use Rattle.ac_session.specs.EndLines.{fault_line}
+use Rattle.ac_run.specs.Answer.{Outcome, Task, answer_in, explanation, fill_text, fills, host_found, host_rows, on_host, page_body, page_lines, page_rows, past_query, verdict_line, verdict_on, why_rows, written}
+use Rattle.ac_run.specs.Outputs.{broken_line, broken_name, counted, counts, sum_text, verdict_text}
 use Rattle.ac_session.specs.Laws.Apart.{AnswersApart, NamesStay, HaveNames, SessionsApart, answers_of, answers_read, first_answer}
-use Rattle.ac_session.specs.Lines.{Given, line as a_line, too_long, end, without_return}
-use Rattle.ac_session.specs.Questions.{Asked, asked_by_name, asked_by_words, asked_of, asks, asks_alone, asks_claim, asks_fill, asks_query, asks_release, asks_search, asks_verify, asks_why, claim, fill, is_blank, job, nothing, one_of, one_or_two_of, release, two_of, unknown, usages, words_of, wrong_number}
+use Rattle.ac_session.specs.Lines.{Given, line as a_line, too_long, end}
+use Rattle.ac_session.specs.Questions.{Asked, asked_by_name, asked_by_words, asked_of, asks, asks_alone, claim, fill, job, nothing, one_of, one_or_two_of, release, two_of, unknown, usages, words_of, wrong_number}
 use Rattle.ac_session.specs.Turns.{after_fill, answer_text, assignment_task, lines_in, claim_line, claim_of, claim_said, claim_turn, faulted, fill_task, fill_turn, release_line, release_of, release_said, release_turn, session_text, turn_asked, turn_of, world_after}
 use Rattle.ac_session.specs.UsageRows.{is_used, rows_of_provider, usage_row, too_much, usage_rows, usages_fit, usages_text}
 use Rattle.ac_session.specs.declared.end_lines.LineFault.{LineFault}
@@ -53,7 +51,7 @@ use Rattle.ac_session.proofs.Unmarked.Asked.{at_place, plain_name}
 use Rattle.ac_session.proofs.Unmarked.Explained.{explanation_lead}
 use Rattle.ac_session.proofs.Unmarked.Fields.{row_line}
 use Rattle.ac_session.proofs.Unmarked.Ids.{clear_id, clear_ids, plain_id, plain_ids}
-use Rattle.ac_session.proofs.Unmarked.Lines.{IsLine, Leads, all_lines, each_lines, leads, leads_on, line_behind, line_here, one_line, plain, plain_number, within}
+use Rattle.ac_session.proofs.Unmarked.Lines.{Leads, all_lines, each_lines, leads, leads_on, line_here, one_line, plain, plain_number, within}
 use Rattle.ac_session.proofs.Unmarked.Listed.{list_lead}
 use Rattle.ac_session.proofs.Unmarked.Rows.{IsRow, hosts_lead, rows_behind, why_lead}
 use Rattle.ac_session.proofs.Unmarked.Told.{IsSaid, IsTold, answer_read, host_one, query_told, refused_so, written_so}

@@ -1,19 +1,13 @@
 -- What tables state that are accepted: classes are names.
-use Rattle.std.proofs.Common.{◌≡◌, ◌∙◌, ℕ, ◌+◌, Bool, true, false, List, [], ◌∷◌, ◌++◌, Option, Some, None, map, length, refl, sym, ap}
+use Rattle.std.proofs.Common.{◌≡◌, ℕ, ◌+◌, Bool, true, false, List, [], ◌∷◌, ◌++◌, Some, None, map, length, refl}
 use Rattle.std.specs.Prelude.{◌==◌, cond, if◌then◌else◌}
-use Rattle.std.specs.BTreeMap.{insert_entry}
-use Rattle.std.specs.List.{AllByRecursion, filter, fold}
+use Rattle.std.specs.List.{AllByRecursion, filter}
 use Rattle.std.specs.Option.{is_none}
-use Rattle.std.specs.Ordering.{match_ordering}
-use Rattle.std.specs.declared.cmp.Ordering.{Ordering}
-use Rattle.std.specs.declared.cmp.Ordering.TheVariants.{Less, Equal, Greater}
 use Rattle.ac_base.specs.Quantities.{InventoryNumbers}
-use Rattle.ac_base.specs.Sorted.{map_of}
 use Rattle.ac_query.proofs.Pairs.Named.{all_entered, in_order}
 use Rattle.ac_query.specs.Laws.Named.{AreNames, IsName}
-use Rattle.ac_base.specs.Texts.{is_name, name_value, text_cmp}
-use Rattle.ac_cloud.specs.World.{Provider, UsedInventory}
-use Rattle.ac_tables.specs.Tables.{Tables, all_checks, gathered, ids_of, inventories_of, names_of, tables_fault, with_used, amounts_of, world_stated}
+use Rattle.ac_base.specs.Texts.{is_name, name_value}
+use Rattle.ac_tables.specs.Tables.{Tables, gathered, ids_of, inventories_of, names_of, tables_fault, with_used, world_stated}
 use Rattle.ac_tables.specs.Tables.Checks.{Check, Row, first_failing, record_checks, told_at}
 use Rattle.ac_tables.specs.Tables.Columns.{header_checks, text_in}
 use Rattle.ac_tables.specs.Tables.InventoryTable.{InventoryRecord, class_checks, class_name, inventories_said, inventory_checks, inventory_columns, inventory_field_checks, inventory_record_checks, inventory_said, known_checks, number_checks, once_checks, owner_checks}
@@ -21,7 +15,7 @@ use Rattle.ac_tables.specs.Tables.ProviderTable.{provider_checks}
 use Rattle.ac_tables.specs.Tables.AggregateTable.{aggregate_checks}
 use Rattle.ac_tables.specs.Tables.ProviderTable.{name_name}
 use Rattle.ac_tables.specs.Tables.TraitTable.{TraitRecord, name_checks, trait_checks, trait_columns, trait_field_checks, trait_record_checks, trait_said, traits_said}
-use Rattle.ac_tables.specs.Tables.UsageTable.{UsageRecord, usage_checks, usages_said}
+use Rattle.ac_tables.specs.Tables.UsageTable.{usage_checks}
 use Rattle.ac_tables.specs.declared.fault.Table.{Table}
 use Rattle.ac_tables.specs.declared.fault.Table.TheVariants as table
 use Rattle.ac_tables.specs.declared.fault.TableFault.{TableFault}

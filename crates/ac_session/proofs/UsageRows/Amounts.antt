@@ -1,11 +1,11 @@
 -- The providers that tables state, with other amounts in use.
-use Rattle.std.proofs.Common.{◌≡◌, ◌∙◌, ◌<◌, ℕ, zero, suc, ◌+◌, Bool, true, false, List, [], ◌∷◌, ◌++◌, Option, Some, None, map, get_or, length, refl, sym, ap, subst, arith}
+use Rattle.std.proofs.Common.{◌≡◌, ◌∙◌, ℕ, suc, ◌+◌, Bool, true, false, List, [], ◌∷◌, map, length, refl, sym, ap, subst, arith}
 use Rattle.std.proofs.lemmas.Simd.{map-map}
 use Rattle.std.specs.Prelude.{⊤, ◌==◌, if◌then◌else◌}
-use Rattle.std.specs.List.{AllByRecursion, range_with_len}
+use Rattle.std.specs.List.{range_with_len}
 use Rattle.ac_base.specs.Quantities.{InventoryNumbers}
 use Rattle.ac_cloud.specs.Amounts.{entry_using, provider_using, with_amounts}
-use Rattle.ac_cloud.specs.World.{Provider, UsedInventory, World, no_provider, provider_at}
+use Rattle.ac_cloud.specs.World.{Provider, UsedInventory, World, provider_at}
 use Rattle.ac_query.specs.declared.version.Version.{Version}
 use Rattle.ac_query.specs.Asked.{Asked as Query}
 use Rattle.ac_fill.specs.Filled.{after, filled}

@@ -1,19 +1,19 @@
 -- No check of the table of usages fails.
-use Rattle.std.proofs.Common.{◌≡◌, ◌∙◌, ◌<◌, ◌≤◌, ◌^◌, ℕ, zero, suc, ◌+◌, Bool, true, false, List, [], ◌∷◌, ◌++◌, Option, Some, None, Less, map, length, refl, sym, ap, ap₂, subst, arith, inl, inr, append_assoc, append-nil}
+use Rattle.std.proofs.Common.{◌≡◌, ◌∙◌, ◌<◌, ◌≤◌, ◌^◌, ℕ, ◌+◌, Bool, true, false, List, [], ◌∷◌, ◌++◌, Some, None, Less, map, length, refl, sym, ap, subst, arith, inl, inr, append_assoc, append-nil}
 use Rattle.std.proofs.lemmas.Bool.{cases_Bool}
 use Rattle.std.proofs.lemmas.Bool.Decides.{nat_tests}
 use Rattle.std.proofs.lemmas.List.Folds.{list_any-append}
 use Rattle.std.proofs.lemmas.Map.Text.{is_eq-slice_cmp}
 use Rattle.std.specs.Cmp.Lexicographic.{bytes_decides}
-use Rattle.std.specs.Prelude.{⊤, ◌==◌, ◌&&◌, ◌||◌, cond, if◌then◌else◌, decimal}
+use Rattle.std.specs.Prelude.{⊤, ◌==◌, ◌&&◌, ◌||◌, cond, if◌then◌else◌}
 use Rattle.std.specs.List.{AllByRecursion, filter, flat_map, list_all, list_any}
 use Rattle.std.specs.List.Sorted.{IsStrictlySortedBy}
 use Rattle.std.specs.Map.{keys_of}
 use Rattle.std.specs.Ordering.{is_eq}
 use Rattle.std.specs.Str.{bytes_eq}
 use Rattle.ac_base.specs.Sorted.{is_one_of}
-use Rattle.ac_base.specs.Texts.{count_value, greatest, id_text, id_value, is_name, name_value, text_cmp}
-use Rattle.ac_cloud.specs.World.{Provider, UsedInventory}
+use Rattle.ac_base.specs.Texts.{greatest, is_name, name_value, text_cmp}
+use Rattle.ac_cloud.specs.World.{Provider}
 use Rattle.ac_query.proofs.WrittenIds.{id_reads}
 use Rattle.ac_query.specs.Laws.Named.{IsName}
 use Rattle.ac_tables.proofs.FirstFailing.{told_none}

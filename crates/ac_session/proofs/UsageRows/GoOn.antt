@@ -1,10 +1,9 @@
 -- The end of a session is the start of the next.
-use Rattle.std.proofs.Common.{◌≡◌, ◌∙◌, ◌<◌, ◌^◌, ℕ, zero, suc, ◌+◌, Bool, true, false, List, [], ◌∷◌, ◌++◌, Option, Some, None, Less, map, get_or, length, refl, sym, ap, ap₂, subst, arith, inl, inr}
-use Rattle.std.proofs.lemmas.Bool.{cases_Bool}
+use Rattle.std.proofs.Common.{◌≡◌, ◌∙◌, ◌<◌, ◌^◌, ℕ, zero, suc, Bool, true, false, List, [], ◌∷◌, ◌++◌, Some, None, Less, map, get_or, length, refl, sym, ap, ap₂, subst, arith}
 use Rattle.std.proofs.lemmas.Bool.Decides.{nat_tests}
 use Rattle.std.proofs.lemmas.Simd.{map-map}
 use Rattle.std.specs.Cmp.Lexicographic.{bytes_decides}
-use Rattle.std.specs.Prelude.{⊤, ◌==◌, ◌&&◌, ◌||◌, cond}
+use Rattle.std.specs.Prelude.{◌==◌, ◌&&◌, ◌||◌}
 use Rattle.std.specs.List.{AllByRecursion, filter, flat_map, list_all, list_any}
 use Rattle.std.specs.List.Sorted.{IsStrictlySortedBy}
 use Rattle.std.specs.Map.{keys_of, lookup}
@@ -14,7 +13,7 @@ use Rattle.ac_base.specs.Quantities.{InventoryNumbers}
 use Rattle.ac_base.specs.Sorted.{is_one_of}
 use Rattle.ac_base.specs.Texts.{text_cmp}
 use Rattle.ac_cloud.specs.Laws.{AreProviders}
-use Rattle.ac_cloud.specs.World.{Provider, UsedInventory, id_at, no_provider, provider_at, used_of}
+use Rattle.ac_cloud.specs.World.{Provider, UsedInventory, id_at, no_provider, used_of}
 use Rattle.ac_query.specs.Laws.Named.{IsName}
 use Rattle.ac_tables.proofs.FirstFailing.{append_none}
 use Rattle.ac_tables.proofs.ProvidersStated.{providers_in_order}
@@ -29,7 +28,7 @@ use Rattle.ac_tables.specs.Tables.TraitTable.{trait_checks}
 use Rattle.ac_tables.specs.Tables.UsageTable.{usage_checks, usage_columns, usages_said}
 use Rattle.ac_session.specs.Laws.{GoesOn, HaveClassesInOrder, SessionsGoOn, amount_stated, providers_behind, with_usages}
 use Rattle.ac_session.specs.Turns.{lines_in}
-use Rattle.ac_session.specs.UsageRows.{Entry, entries_fit, fits_table, rows_of_provider, usages_fit, usages_text}
+use Rattle.ac_session.specs.UsageRows.{Entry, entries_fit, rows_of_provider, usages_fit, usages_text}
 use Rattle.ac_session.proofs.UsageRows.Accepted.{AreAccepted, inventory_pair, classes_named, each_accepted, inventories_keyed, table_named}
 use Rattle.ac_session.proofs.UsageRows.Amounts.{AreStated, IsStated, gathered_stated, inventory_in, session_stated}
 use Rattle.ac_session.proofs.UsageRows.Checks.{AreApart, IsKnown, apart_of, table_passes}

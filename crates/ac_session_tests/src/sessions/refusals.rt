@@ -1,5 +1,5 @@
 //! Sessions with each growth refused in turn: all answers, or `out of memory` with status 7 and a first part of them.
-use super::{SOUND, expanded, expect_left, run_lines};
+use super::{NO_PROVIDERS, SOUND, Turns, UNKNOWN, expanded, expect_left, run_lines, run_over};
 use std::process::Abort;
 
 fn check(rt: &(impl Abort + AllocGlobal), questions: &str, answers: &str) {
@@ -33,4 +33,20 @@ fn refused_questions(rt: HostRuntime) {
         "claim resources=VCPU:5 x\nverify resources=CUSTOM_A:1 @1\nclaim resources=VCPU:5 @8\nhost\n",
         "= 5 token: BadToken\nno: rule 1 Units\n= 1\nunknown provider\n= 1\n= 2 session: unknown command\n",
     );
+}
+
+#[test]
+fn refused_tables_in_detail(rt: HostRuntime) {
+    let turns = Turns {
+        detail: true,
+        ..SOUND
+    };
+    let Ok(left) = run_over(rt.alloc(), NO_PROVIDERS, "check\n", turns) else {
+        return;
+    };
+    if left.status == 7 {
+        expect_left(&rt, &left, "", "out of memory\n", 7);
+    } else {
+        expect_left(&rt, &left, "", UNKNOWN, 3);
+    }
 }

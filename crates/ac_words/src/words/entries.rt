@@ -130,14 +130,11 @@ fn host(alloc: Global, call: Call, entries: &ArgMatches<'_>) -> Result<Option<St
     }
 }
 
-// Whether it is said of what a rule is broken; only `verify` is asked.
-fn detail(call: Call, entries: &ArgMatches<'_>) -> bool
-    ensures { result ≡ detail_of call (rows_of (found_of entries.now)) }
+// Whether more is said: what to do about a fault, and of what a rule is broken.
+fn detail(entries: &ArgMatches<'_>) -> bool
+    ensures { result ≡ detail_of (rows_of (found_of entries.now)) }
 {
-    match call {
-        Call::Job(Command::Verify) => entry(entries, "detail") == Some("true"),
-        _ => false,
-    }
+    entry(entries, "detail") == Some("true")
 }
 
 // Whether traits are written; only `candidates` and `list` may be told not to.
@@ -202,7 +199,7 @@ fn words_with(
         version,
         token: token(alloc, call, entries)?,
         host: host(alloc, call, entries)?,
-        detail: detail(call, entries),
+        detail: detail(entries),
         with_traits: with_traits(call, entries),
         sum: sum(call, entries),
         providers: needed_path(alloc, entries, Table::Providers)?,

@@ -2,7 +2,7 @@
 ghost use Rattle.std.specs.Prelude.{◌≡◌, IfOk, false};
 ghost use Rattle.clap.specs.Words.{app_of, rule_of};
 ghost use Rattle.clap.specs.declared.builder.command.Command.TheViews.{out-Command as fields_of};
-ghost use Rattle.ac_words.specs.Words.{app_for, candidates_app, check_app, explain_app, fill_app, flag_rule, hosts_app, list_app, option_rule, program, query_app, search_app, session_app, shown_app, tokens_app, verify_app, why_app, with_options, with_tables, word_rule};
+ghost use Rattle.ac_words.specs.Words.{app_for, candidates_app, check_app, explain_app, fill_app, flag_rule, hosts_app, list_app, option_rule, program, query_app, search_app, session_app, shown_app, tokens_app, verify_app, why_app, with_common, with_options, with_tables, word_rule};
 
 use super::{Call, help};
 use ac_query::Command as Asked;
@@ -92,13 +92,27 @@ fn add_tables<'a>(alloc: Global, command: Command<'a>) -> Result<Command<'a>, Al
     Ok(command)
 }
 
-// Adds the options of a command with queries: those of the tables, and the version.
+// Adds the options of every command: those of the tables, and whether more is said.
+fn add_common<'a>(alloc: Global, command: Command<'a>) -> Result<Command<'a>, AllocError>
+    ensures app { IfOk result (λ c. app_of c ≡ with_common (app_of command.entry)) }
+    ensures local { (fields_of command.entry).has_globals ≡ false
+        → IfOk result (λ c. (fields_of c).has_globals ≡ false) }
+{
+    let command = add_tables(alloc, command)?;
+    command.arg(flag(
+        alloc,
+        "detail",
+        "Says below the line of a fault what to do about it; `verify` then also says of what a rule is broken",
+    ))
+}
+
+// Adds the options of a command with queries: those of every command, and the version.
 fn add_options<'a>(alloc: Global, command: Command<'a>) -> Result<Command<'a>, AllocError>
     ensures app { IfOk result (λ c. app_of c ≡ with_options (app_of command.entry)) }
     ensures local { (fields_of command.entry).has_globals ≡ false
         → IfOk result (λ c. (fields_of c).has_globals ≡ false) }
 {
-    let command = add_tables(alloc, command)?;
+    let command = add_common(alloc, command)?;
     let command = command.arg(option(
         alloc,
         "microversion",
@@ -144,7 +158,7 @@ fn check<'a>(alloc: Global) -> Result<Command<'a>, AllocError>
              ac_cli check [OPTIONS] --providers <FILE> --inventories <FILE>",
         )
         .after_help(help::CHECK);
-    add_tables(alloc, command)
+    add_common(alloc, command)
 }
 
 // A command that writes candidates.
@@ -266,8 +280,7 @@ fn verify<'a>(alloc: Global) -> Result<Command<'a>, AllocError>
         "TOKEN",
         "The UUIDs of providers, as `tokens` writes them",
     ))?;
-    let command = add_options(alloc, command)?;
-    command.arg(flag(alloc, "detail", "Also says of what a rule is broken"))
+    add_options(alloc, command)
 }
 
 fn explain<'a>(alloc: Global) -> Result<Command<'a>, AllocError>

@@ -8,10 +8,13 @@ returns-in-Some g c =
     let asks = c.in-Some.ensures in
     inr (record {
       from = c.in-Ok.inputs;
-      to = c.ran.new.inputs;
+      to = c.ran_job.new.inputs;
       files = c.in-Ok.ensures.files;
-      ran = ran_job _ _ _ _ c.args.words.now c.in-Ok.inputs c.ran.new.inputs c.args.questions _ _ c.in-Some.job.command (task_of c.in-Some.job) asks.command
-          (same_task asks.query asks.version asks.token asks.host asks.detail asks.traits asks.sum) c.ran.ensures;
+      paths = c.paths_of-paths.result;
+      given = c.paths_of-paths.ensures;
+      ran = ran_job _ _ _ _ c.args.words.now c.paths_of-paths.result c.in-Ok.inputs c.ran_job.new.inputs c.args.questions _ _ c.in-Some.job.command c.in-Some.job.detail
+          (task_of c.in-Some.job) asks.command asks.detail
+          (same_task asks.query asks.version asks.token asks.host asks.detail asks.traits asks.sum) c.ran_job.ensures;
     })
 
 pub returns-in-None : goal.returns-in-None
@@ -20,5 +23,7 @@ returns-in-None g c =
       from = c.in-Ok.inputs;
       to = c.held.new.inputs;
       files = c.in-Ok.ensures.files;
-      ran = held_session _ _ _ _ c.args.words.now c.in-Ok.inputs c.held.new.inputs c.args.questions _ _ c.version.result c.in-None.ensures.none c.version.ensures c.held.ensures;
+      paths = c.paths_of-paths.result;
+      given = c.paths_of-paths.ensures;
+      ran = held_session _ _ _ _ c.args.words.now c.paths_of-paths.result c.in-Ok.inputs c.held.new.inputs c.args.questions _ _ c.in-None.ensures.none c.held.ensures;
     })

@@ -1,4 +1,3 @@
-use Rattle.ac_cli.proofs.RanTasks.{ran_same}
 use Rattle.ac_cli.proofs.program.answer_sample.Goals as goal
 
 pub returns : goal.returns
@@ -7,5 +6,5 @@ returns g c =
       from = c.inputs.result;
       to = c.ran.new.inputs;
       tells = c.inputs.ensures;
-      ran = ran_same _ _ _ _ _ _ _ _ c.job.ensures c.ran.ensures;
+      ran = rw (← c.job.ensures) c.ran.ensures;
     }

@@ -1,4 +1,4 @@
-use Rattle.std.proofs.Common.{◌≡◌, ◌∙◌, ℕ, ap, ap₂, false, sym}
+use Rattle.std.proofs.Common.{◌∙◌, ℕ, ap, ap₂, false, sym}
 use Rattle.ac_cloud.specs.Cloud.CloudWorld.{providers_of, world_of}
 use Rattle.ac_query.specs.Asked.{Asked}
 use Rattle.ac_run.specs.Answer.{Outcome, fills, past_query}

@@ -1,0 +1,3 @@
+mod ItemsTold
+mod RowsFound
+mod SlotsTold
