@@ -160,14 +160,20 @@ class Log:
 
 
 class Lanes:
-    """Room for checks side by side: one on each processor, or one fewer while `rt ci` needs them too. The heaviest go first."""
+    """Room for checks side by side: one on each processor, but while `rt ci` goes on, one and those for which a processor is idle. The heaviest go
+    first."""
 
     def __init__(self, log):
         self.log, self.taken, self.waiting, self.numbers, self.turn = log, 0, [], itertools.count(), threading.Condition()
 
     def has_room(self):
-        lanes = (os.cpu_count() or 1) - (not self.log.now().has_ended)
-        return self.taken == 0 or self.taken < lanes and free_memory() > LEAST_FREE
+        processors = os.cpu_count() or 1
+        if not self.taken:
+            return True
+        if self.taken >= processors or free_memory() < LEAST_FREE:
+            return False
+        # this script is one of those that run
+        return self.log.now().has_ended or running() <= processors
 
     @contextlib.contextmanager
     def lane(self, weight):
@@ -188,7 +194,12 @@ class Lanes:
 
 def free_memory():
     found = re.search(r'^MemAvailable: *(\d+) kB', read('/proc/meminfo'), re.M)
-    return int(found[1]) << 10 if found else LEAST_FREE + 1
+    return int(found[1]) << 10 if found else LEAST_FREE
+
+
+def running():
+    """How many threads run on this machine, or wait for a processor."""
+    return int(read('/proc/loadavg').split()[3].partition('/')[0])
 
 
 def link(one, other):
@@ -253,46 +264,47 @@ def tried(crate, command, known):
     """For each edit its name, the functions that refuse it (none if it is let through), and what the prover says then. A check only asks about the
     functions that are changed. If none are known yet, the first check proves all others too, and so names them.
 
-    If nothing is kept, a check of few edits comes first, and keeps what the changed functions stand on. All others begin with that, side by side. What
+    If nothing is kept, a check of few edits comes first, and keeps what the changed functions stand on. All others begin with it, side by side. What
     they prove is thrown away: it is of edited texts. Edits of definitions change what many functions stand on, so they are tried apart from those
-    of bodies."""
+    of bodies. If a function is only refused since it calls another that an edit changes, its edit is tried once more without that one."""
     made = [edit for edit in crate.edits if edit.made({})]
     lists = [*rounds([edit for edit in made if not edit.names_functions]), *rounds([edit for edit in made if edit.names_functions])]
     found = {edit.name: ([], 'it has no text to change, or one that does not stand once in its file') for edit in crate.edits if edit not in made}
     with tempfile.TemporaryDirectory(prefix='edits-') as room, ThreadPoolExecutor(max(1, len(made))) as pool:
         kept, before = os.path.join(room, 'kept'), os.path.join(crate.folder, 'out', 'incremental')
 
+        def asked(edits):
+            return {name for edit in edits for name in edit.among(known)}
+
         def over_kept(texts, names=()):
             with tempfile.TemporaryDirectory(prefix='over-', dir=room) as over:
                 shutil.copytree(kept, os.path.join(over, 'kept'), copy_function=link)
                 return check(crate, command, texts, os.path.join(over, 'kept'), names)
 
-        def asked(edits):
-            return {name for edit in edits for name in edit.among(known)}
+        def note(lists, said):
+            for (edits, _), each in zip(lists, said):
+                names = refused(each)
+                found.update({edit.name: (by, '') for edit in edits if (by := edit.among(names))})
+            return [edit for edit in made if edit.name not in found]
+
+        def beside(lists):
+            return note(lists, pool.map(lambda one: over_kept(one[1], asked(one[0])), lists))
 
         def alone(edit):
-            """What refuses this edit, and what is said, if it is tried alone: first about its functions, then about the whole crate."""
-            names = asked([edit])
-            if names and (by := edit.among(refused(over_kept(edit.made({}), names)))):
-                return by, ''
             said = over_kept(edit.made({}))
-            return sorted(refused(said)), f'let through, or not read: {said[-300:]}'
+            found[edit.name] = sorted(refused(said)), f'let through, or not read: {said[-300:]}'
 
-        said = []
         if os.path.isdir(before):
             shutil.copytree(before, kept, copy_function=link)
         elif lists:
             os.mkdir(kept)
-            lists.insert(0, lists.pop(min(1, len(lists) - 1)))
-            said = [check(crate, command, lists[0][1], kept, asked(lists[0][0]))]
-            known = known or functions(said[0], crate)
-        later = lists[len(said):]
-        said += pool.map(lambda one: over_kept(one[1], asked(one[0])), later)
-        for (edits, _), each in zip(lists, said):
-            names = refused(each)
-            found |= {edit.name: (by, '') for edit in edits if (by := edit.among(names))}
-        left = [edit for edit in made if edit.name not in found]
-        found |= dict(zip([edit.name for edit in left], pool.map(alone, left)))
+            edits, texts = first = lists.pop(min(1, len(lists) - 1))
+            said = check(crate, command, texts, kept, asked(edits))
+            known = known or functions(said, crate)
+            note([first], [said])
+        left = beside(lists)
+        left = beside(rounds([edit for edit in left if edit.among(known)])) if known else left
+        list(pool.map(alone, left))
     return [(edit.name, *found[edit.name]) for edit in crate.edits]
 
 
