@@ -160,8 +160,8 @@ class Log:
 
 
 class Lanes:
-    """Room for checks side by side: one on each processor, but while `rt ci` goes on, one and those for which a processor is idle. The heaviest go
-    first."""
+    """Room for checks side by side: one on each processor, but while `rt ci` goes on, one and those for which a processor is idle. Those of the crate
+    with the most edits go first, and of these the longest."""
 
     def __init__(self, log):
         self.log, self.taken, self.waiting, self.numbers, self.turn = log, 0, [], itertools.count(), threading.Condition()
@@ -176,8 +176,8 @@ class Lanes:
         return self.log.now().has_ended or running() <= processors
 
     @contextlib.contextmanager
-    def lane(self, weight):
-        place = -weight, next(self.numbers)
+    def lane(self, *weights):
+        place = *(-weight for weight in weights), next(self.numbers)
         with self.turn:
             self.waiting.append(place)
             while place != min(self.waiting) or not self.has_room():
@@ -224,7 +224,7 @@ def check(crate, command, texts, kept, names=()):
                 file.write(text)
         only = [word for name in sorted(names) for word in ('--only', name)]
         for _ in range(2):
-            with crate.lanes.lane(len(crate.edits)):
+            with crate.lanes.lane(len(crate.edits), len(names)):
                 ran = subprocess.run([*command, *only, '--incremental', kept], cwd=room, stdin=subprocess.DEVNULL, stdout=subprocess.PIPE,
                                      stderr=subprocess.STDOUT, text=True, errors='replace')
             if ran.returncode != -signal.SIGKILL:
