@@ -5,28 +5,37 @@ through.
 Edits that change different functions are tried together: the prover judges each function by itself, and of the functions that it calls it knows only
 the contracts. So an edit is refused if a function whose body it changes isn't proved, for a reason of its own. If an edit changes a constant or a
 definition, lines `refused: FUNCTION` in it name the functions that it is about. An edit is tried alone if none of its functions is refused, or if none
-is known: then the prover must refuse the crate. In both cases the prover must be able to read the edited text.
+is known: first about its functions, and if that says nothing, the prover must refuse the crate. In each case the prover must be able to read the
+edited text.
 
 FOLDER is the top of a clone (by default this repository), below which everything that the crates stand on must be built. What `rt check` has kept there
-is used. With --beside, the script waits for each crate: LOG is what `rt ci` writes while it proves the crates, and also names their functions. With
---all, the script names each edit and what refused it. The last line is `N passed, M failed`."""
+is used. With --beside, the script waits for each crate: LOG is what `rt ci` writes while it proves the crates. With --all, the script names each edit
+and what refused it. The last line is `N passed, M failed`."""
 from __future__ import annotations
 
 import argparse
+import contextlib
 import glob
+import itertools
+import json
 import os
 import re
 import shutil
+import signal
 import subprocess
 import sys
 import tempfile
+import threading
 import time
 from concurrent.futures import ThreadPoolExecutor
+from typing import NamedTuple
 
 ROOT = os.path.dirname(os.path.dirname(os.path.abspath(__file__)))
 UNREAD = re.compile(r'^(\./)?(src|specs)/\S+: error: .*(is not in scope|has no field|is no name|operand is missing|expected the end|cannot continue)',
                     re.M)
 CALLS = re.compile(r"(; )?it calls .*, which (is|are) not proved")
+# The memory that must be free before one more check begins beside others.
+LEAST_FREE = 4 << 30
 
 
 def read(path):
@@ -50,7 +59,7 @@ class Edit:
                 self.changes.append((file, old, text))
             elif word == 'refused':
                 named.add(re.escape(text) + '$')
-        self.functions = named or self.bodies()
+        self.names_functions, self.functions = bool(named), named or self.bodies()
 
     def made(self, texts):
         """These texts, by their files, after this edit too; None if it can't be made."""
@@ -98,13 +107,21 @@ def function_at(file, text, old):
 
 
 class Crate:
-    """A crate below a folder, what it stands on, and its edits."""
+    """A crate below a folder, what it stands on, and its edits, whose checks run in these lanes."""
 
-    def __init__(self, top, name, libraries):
-        self.name, self.folder, self.libraries = name, os.path.join(top, 'crates', name), libraries
+    def __init__(self, top, name, libraries, lanes):
+        self.name, self.folder, self.libraries, self.lanes = name, os.path.join(top, 'crates', name), libraries, lanes
         own = os.path.join(ROOT, 'crates', name)
         self.edits = [Edit(own, path) for path in sorted(glob.glob(os.path.join(own, 'must-fail', '*.edit')))]
         self.own = own
+
+    def built_functions(self):
+        """The functions of this crate as its library names them; none if it isn't built, or is a program."""
+        try:
+            routines = json.loads(read(os.path.join(self.folder, 'out', 'rlib', f'{self.name}.rlib', 'toolchain', 'mir.json')))
+            return {name.removeprefix(f'{self.name}::') for name, *_ in routines if name.startswith(f'{self.name}::') and not name.endswith('+decl')}
+        except (OSError, ValueError, TypeError, AttributeError):
+            return set()
 
     def words(self, kit, built):
         """The command that checks this crate."""
@@ -117,8 +134,87 @@ class Crate:
         return [*words, '--antt-project', f'{kit}/rattle/logic/antt-project.json', '--logic-built', f'{kit}/logic_built', '--jobs', '1']
 
 
+class Seen(NamedTuple):
+    """What `rt ci` has written, the crates that it has proved, now or in an earlier run whose proofs it kept, and whether it has ended."""
+
+    said: str
+    proved: frozenset
+    has_ended: bool
+
+
+class Log:
+    """The log of `rt ci`, or none, as if one had ended."""
+
+    def __init__(self, path):
+        self.path, self.seen, self.next, self.turn = path, Seen('', frozenset(), path is None), 0.0, threading.Lock()
+
+    def now(self):
+        """What it has now. It is read at most once a second."""
+        with self.turn:
+            if self.path and time.monotonic() >= self.next:
+                said = read(self.path) if os.path.exists(self.path) else ''
+                proved = frozenset(re.findall(r'^rt: (\w+) (?:proved$|is kept: )', said, re.M))
+                self.seen = Seen(said, proved, re.search(r'^\d+ passed, \d+ failed$', said, re.M) is not None)
+                self.next = time.monotonic() + 1
+            return self.seen
+
+
+class Lanes:
+    """Room for checks side by side: one on each processor, but while `rt ci` goes on, one and those for which a processor is idle. Those of the crate
+    with the most edits go first, and of these the longest."""
+
+    def __init__(self, log):
+        self.log, self.taken, self.waiting, self.numbers, self.turn = log, 0, [], itertools.count(), threading.Condition()
+
+    def has_room(self):
+        processors = os.cpu_count() or 1
+        if not self.taken:
+            return True
+        if self.taken >= processors or free_memory() < LEAST_FREE:
+            return False
+        # this script is one of those that run
+        return self.log.now().has_ended or running() <= processors
+
+    @contextlib.contextmanager
+    def lane(self, *weights):
+        place = *(-weight for weight in weights), next(self.numbers)
+        with self.turn:
+            self.waiting.append(place)
+            while place != min(self.waiting) or not self.has_room():
+                self.turn.wait(1)
+            self.waiting.remove(place)
+            self.taken += 1
+        try:
+            yield
+        finally:
+            with self.turn:
+                self.taken -= 1
+                self.turn.notify_all()
+
+
+def free_memory():
+    found = re.search(r'^MemAvailable: *(\d+) kB', read('/proc/meminfo'), re.M)
+    return int(found[1]) << 10 if found else LEAST_FREE
+
+
+def running():
+    """How many threads run on this machine, or wait for a processor."""
+    return int(read('/proc/loadavg').split()[3].partition('/')[0])
+
+
+def link(one, other):
+    """Gives what was proved a second name: a check replaces such a file, and never writes into it."""
+    try:
+        if one.endswith('.oantt'):
+            return os.link(one, other)
+    except OSError:
+        pass
+    return shutil.copy2(one, other)
+
+
 def check(crate, command, texts, kept, names=()):
-    """What the prover says about the crate with these texts, or only about these functions. It goes on from what it proved before."""
+    """What the prover says about the crate with these texts, or only about these functions. It goes on from what it proved before, and keeps there
+    what it proves now. A check that is killed, most likely for memory, runs once more."""
     with tempfile.TemporaryDirectory(prefix='edit-') as room:
         for part in ('src', 'specs', 'proofs'):
             if os.path.isdir(os.path.join(crate.own, part)):
@@ -126,9 +222,13 @@ def check(crate, command, texts, kept, names=()):
         for path, text in texts.items():
             with open(os.path.join(room, path), 'w', encoding='utf-8') as file:
                 file.write(text)
-        only = [word for name in names for word in ('--only', name)]
-        ran = subprocess.run([*command, *only, '--incremental', kept], cwd=room, stdin=subprocess.DEVNULL, stdout=subprocess.PIPE,
-                             stderr=subprocess.STDOUT, text=True, errors='replace')
+        only = [word for name in sorted(names) for word in ('--only', name)]
+        for _ in range(2):
+            with crate.lanes.lane(len(crate.edits), len(names)):
+                ran = subprocess.run([*command, *only, '--incremental', kept], cwd=room, stdin=subprocess.DEVNULL, stdout=subprocess.PIPE,
+                                     stderr=subprocess.STDOUT, text=True, errors='replace')
+            if ran.returncode != -signal.SIGKILL:
+                break
     return ran.stdout
 
 
@@ -162,31 +262,50 @@ def rounds(edits):
 
 def tried(crate, command, known):
     """For each edit its name, the functions that refuse it (none if it is let through), and what the prover says then. A check only asks about the
-    functions that are changed. If none are known yet, the first check proves all others too, and so names them."""
-    with tempfile.TemporaryDirectory(prefix='edits-') as room:
+    functions that are changed. If none are known yet, the first check proves all others too, and so names them.
+
+    If nothing is kept, a check of few edits comes first, and keeps what the changed functions stand on. All others begin with it, side by side. What
+    they prove is thrown away: it is of edited texts. Edits of definitions change what many functions stand on, so they are tried apart from those
+    of bodies. If a function is only refused since it calls another that an edit changes, its edit is tried once more without that one."""
+    made = [edit for edit in crate.edits if edit.made({})]
+    lists = [*rounds([edit for edit in made if not edit.names_functions]), *rounds([edit for edit in made if edit.names_functions])]
+    found = {edit.name: ([], 'it has no text to change, or one that does not stand once in its file') for edit in crate.edits if edit not in made}
+    with tempfile.TemporaryDirectory(prefix='edits-') as room, ThreadPoolExecutor(max(1, len(made))) as pool:
         kept, before = os.path.join(room, 'kept'), os.path.join(crate.folder, 'out', 'incremental')
+
+        def asked(edits):
+            return {name for edit in edits for name in edit.among(known)}
+
+        def over_kept(texts, names=()):
+            with tempfile.TemporaryDirectory(prefix='over-', dir=room) as over:
+                shutil.copytree(kept, os.path.join(over, 'kept'), copy_function=link)
+                return check(crate, command, texts, os.path.join(over, 'kept'), names)
+
+        def note(lists, said):
+            for (edits, _), each in zip(lists, said):
+                names = refused(each)
+                found.update({edit.name: (by, '') for edit in edits if (by := edit.among(names))})
+            return [edit for edit in made if edit.name not in found]
+
+        def beside(lists):
+            return note(lists, pool.map(lambda one: over_kept(one[1], asked(one[0])), lists))
+
+        def alone(edit):
+            said = over_kept(edit.made({}))
+            found[edit.name] = sorted(refused(said)), f'let through, or not read: {said[-300:]}'
+
         if os.path.isdir(before):
-            shutil.copytree(before, kept)
-        found = [(edit.name, [], 'it has no text to change, or one that does not stand once in its file') for edit in crate.edits if edit.made({}) is None]
-        for edits, texts in rounds([edit for edit in crate.edits if edit.made({})]):
-            said = check(crate, command, texts, kept, {name for edit in edits for name in edit.among(known)})
+            shutil.copytree(before, kept, copy_function=link)
+        elif lists:
+            os.mkdir(kept)
+            edits, texts = first = lists.pop(min(1, len(lists) - 1))
+            said = check(crate, command, texts, kept, asked(edits))
             known = known or functions(said, crate)
-            names = refused(said)
-            for edit in edits:
-                by, alone = edit.among(names), ''
-                if not by:
-                    alone = check(crate, command, edit.made({}), kept)
-                    by = sorted(refused(alone))
-                found.append((edit.name, by, f'let through, or not read: {alone[-300:]}'))
-    return found
-
-
-def proved(log, name):
-    """Whether `rt ci` has proved the crate, now or in an earlier run whose proofs it kept; None if it has ended without doing so."""
-    said = read(log) if os.path.exists(log) else ''
-    if re.search(rf'^rt: {name} (proved$|is kept: )', said, re.M):
-        return True
-    return None if re.search(r'^\d+ passed, \d+ failed$', said, re.M) else False
+            note([first], [said])
+        left = beside(lists)
+        left = beside(rounds([edit for edit in left if edit.among(known)])) if known else left
+        list(pool.map(alone, left))
+    return [(edit.name, *found[edit.name]) for edit in crate.edits]
 
 
 def main(given):
@@ -200,7 +319,9 @@ def main(given):
         sys.exit(f'tests/edits.py: {given.crates} has no folder crates: --crates wants the top of a clone')
     kit = os.path.dirname(subprocess.run(['rt', 'doc'], capture_output=True, text=True, check=True).stdout.strip())
     lines = [line.partition(':') for line in read(os.path.join(ROOT, 'crates.txt')).splitlines() if not line.startswith('#')]
-    crates = {name: Crate(given.crates, name, libraries.split()) for name, _, libraries in lines}
+    log = Log(given.beside)
+    lanes = Lanes(log)
+    crates = {name: Crate(given.crates, name, libraries.split(), lanes) for name, _, libraries in lines}
 
     def below(crate):
         found = {}
@@ -211,19 +332,18 @@ def main(given):
 
     def work(crate):
         built = below(crate)
-        while given.beside and not all(states := [proved(given.beside, name) for name in [*built, crate.name]]):
-            if None in states:
+        while given.beside and not (seen := log.now()).proved >= {*built, crate.name}:
+            if seen.has_ended:
                 return [(crate.name, [], 'it is not proved, or what it stands on')]
             time.sleep(1)
-        known = functions(read(given.beside), crate) if given.beside else set()
-        return tried(crate, crate.words(kit, built), known)
+        return tried(crate, crate.words(kit, built), functions(log.now().said, crate) or crate.built_functions())
 
     wanted = [crate for name, crate in crates.items() if crate.edits and (not given.names or name in given.names)]
     missing = {name for crate in wanted for name, folder in below(crate).items() if not os.path.exists(f'{folder}/out/rlib/{name}.rlib')}
     if missing and not given.beside:
         sys.exit(f'tests/edits.py: not built below {given.crates}: {", ".join(sorted(missing))}; `rt check` in the crate above builds them')
     count = [0, 0]
-    with ThreadPoolExecutor(max(1, (os.cpu_count() or 1) - 1)) as pool:
+    with ThreadPoolExecutor(max(1, len(wanted))) as pool:
         for crate, found in zip(wanted, pool.map(work, wanted)):
             for name, by, why in found:
                 count[not by] += 1
