@@ -123,6 +123,8 @@ def hostile(program):
         accepted = says in (None, 'P1')
         yield Case(f'hostile query: {name}', [*limited, 'tokens', query], lines('P1') if says == 'P1' else '',
                    '' if accepted else f'query: {says}\n', 0 if accepted else 4, ONE)
+        if not accepted:
+            yield Case(f'hostile query, in detail: {name}', [*limited, 'tokens', query, '--detail'], err=None, status=4, tables=ONE, has=(f'query: {says}\n  ',))
     for name, query, is_found in CROWDED:
         yield Case(f'hostile query: 9000 traits {name}, over 65536 providers', [*limited, 'tokens', query, '--microversion', '1.39'],
                    lines('P1') if is_found else '', '', 0, CROWD)

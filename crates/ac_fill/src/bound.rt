@@ -20,7 +20,8 @@ use ac_rules::slots::{count_slots, needs_at};
 // What is left of a class of a provider.
 fn units_left(cloud: &Cloud, ix: u32, class: &ClassName) -> u64
     requires { ix < length (providers_of cloud.now) }
-    ensures { result ≡ units_of (entry_in (provider_at (providers_of cloud.now) ix) (class_bytes class.now)) }
+    ensures { result ≡ units_of
+        (entry_in (provider_at (providers_of cloud.now) ix) (class_bytes class.now)) }
 {
     match cloud.inventory(ix, class) {
         Some(inventory) => inventory.capacity().saturating_sub(cloud.used(ix, class)),
@@ -33,7 +34,8 @@ fn times_at(cloud: &Cloud, query: &Query, s: usize, need: &Need, ix: u32) -> u64
     requires slot { s < length (slots_of (asked_of query.now)) }
     requires provider { ix < length (providers_of cloud.now) }
     requires some { 0 < (need_entry need.now).1 }
-    ensures { result ≡ times_at (providers_of cloud.now) (slot_at (asked_of query.now) s) (need_entry need.now) ix }
+    ensures { result ≡ times_at (providers_of cloud.now) (slot_at (asked_of query.now) s)
+        (need_entry need.now) ix }
 {
     if fits_slot(cloud, query, s, ix) {
         units_left(cloud, ix, need.class()) / u64::from(need.amount())
@@ -47,7 +49,8 @@ fn times_at(cloud: &Cloud, query: &Query, s: usize, need: &Need, ix: u32) -> u64
 fn times(cloud: &Cloud, query: &Query, s: usize, need: &Need) -> u128
     requires slot { s < length (slots_of (asked_of query.now)) }
     requires some { 0 < (need_entry need.now).1 }
-    ensures { result ≡ times (providers_of cloud.now) (slot_at (asked_of query.now) s) (need_entry need.now) }
+    ensures { result ≡ times (providers_of cloud.now) (slot_at (asked_of query.now) s)
+        (need_entry need.now) }
 {
     let mut total = 0u128;
     for ix in 0..cloud.len() {
@@ -69,7 +72,8 @@ fn lesser(least: Option<u128>, number: u128) -> u128
 // The least of a number and of how often all providers have what a slot asks, class by class.
 fn least_of_slot(cloud: &Cloud, query: &Query, s: usize, before: Option<u128>) -> Option<u128>
     requires { s < length (slots_of (asked_of query.now)) }
-    ensures { result ≡ fold lesser before (slot_times (providers_of cloud.now) (slot_at (asked_of query.now) s)) }
+    ensures { result ≡ fold lesser before
+        (slot_times (providers_of cloud.now) (slot_at (asked_of query.now) s)) }
 {
     let mut least = before;
     for need in needs_at(query, s) {

@@ -50,7 +50,8 @@ impl<'a> Filling<'a> {
             (asked_in (takings_of self.now)) assignment.now.list.now }
         requires fits { IsTakenOf (providers_of assignment.now.cloud.now) (takings_of self.now) }
         ensures wanted { result ≡ true → self.now.wanted ≢ Some 0 }
-        ensures room { result ≡ true → sums (world_at (providers_of assignment.now.cloud.now) self.now)
+        ensures room { result ≡ true
+            → sums (world_at (providers_of assignment.now.cloud.now) self.now)
             (assigned_of assignment.now) ≡ true }
         ensures small { result ≡ true
             → SumsFit (providers_of assignment.now.cloud.now) (takings_of self.now)

@@ -134,7 +134,8 @@ impl<'a> Takings<'a> {
             ≡ sums (with_taken self.now (providers_of assignment.now.cloud.now))
             (assigned_of assignment.now) }
         ensures small { result ≡ true
-            → SumsFit (providers_of assignment.now.cloud.now) self.now (assigned_of assignment.now) }
+            → SumsFit (providers_of assignment.now.cloud.now) self.now
+            (assigned_of assignment.now) }
     {
         for s in 0..assignment.list.len() {
             if !self.has_room_at(assignment, s) {
@@ -204,7 +205,8 @@ impl<'a> Takings<'a> {
         ensures world { with_taken self.new (providers_of cloud.new)
             ≡ with_taken self.old (providers_of cloud.old) }
         ensures taken { (p : ℕ) (c : List ℕ) → p < count_in self.old → taken_in self.new p c
-            ≡ (if (p == ix) && bytes_eq (class_bytes class.now) c then 0 else taken_in self.old p c) }
+            ≡ (if (p == ix) && bytes_eq (class_bytes class.now) c then 0
+            else taken_in self.old p c) }
         ensures fits { IsTakenOf (providers_of cloud.new) self.new }
         ensures same { IsSame self.old self.new }
         ensures sizes { (world_of cloud.new).sizes ≡ (world_of cloud.old).sizes }

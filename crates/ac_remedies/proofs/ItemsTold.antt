@@ -13,3 +13,6 @@ module _ {X : Type 0} (test : X → Bool) (left rest : List X) (x : X) (turn : l
 
   pub first_met : (whole : Option X) → find test left ≡ whole → test x ≡ true → Some x ≡ whole
   first_met whole holds met = grind (arith, common_steps)
+
+  pub first_passed : (whole : Option X) → find test left ≡ whole → test x ≡ false → find test rest ≡ whole
+  first_passed whole holds passed = grind (arith, common_steps)

@@ -1,3 +1,4 @@
 mod ItemsTold
+mod NamesOpposed
 mod RowsFound
 mod SlotsTold

@@ -55,8 +55,8 @@ fn write_provider(
     classes: &BTreeSet<&str>,
 ) -> Result<(), NoMemory>
     requires provider { provider < length (providers_of listed.now.cloud.now) }
-    requires classes { map (λ class. class.now) classes.now.keys ≡ rising text_cmp
-        (keys_of (needs_on (assigned (asked_of listed.now.query.now) listed.now.list.now) provider)) }
+    requires classes { map (λ class. class.now) classes.now.keys ≡ rising text_cmp (keys_of
+        (needs_on (assigned (asked_of listed.now.query.now) listed.now.list.now) provider)) }
     ensures { IfOk result (λ _. (before : List (List (List ℕ))) → HasRows rows.old before
         → HasRows rows.new (before
         ++ provider_row (shown_providers listed.now.traits (providers_of listed.now.cloud.now))

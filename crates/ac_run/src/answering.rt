@@ -58,7 +58,8 @@ fn write_lines<W: Sink>(
     ensures ok { IfOk result (IsWritten (page_lines (providers_of cloud.now) (asked_of query.now)
         (option_map ids_of token.now)) (W.taken out.old) (W.taken out.new)) }
     ensures part { OnErr result (TakesPart (W.taken out.old) (W.taken out.new)
-        (page_lines (providers_of cloud.now) (asked_of query.now) (option_map ids_of token.now)).output) }
+        (page_lines (providers_of cloud.now) (asked_of query.now)
+        (option_map ids_of token.now)).output) }
     ensures failed { result ≡ Err PageFault.WriteFailed
         → Rises (W.failures out.old) (W.failures out.new) }
     ensures failures { W.failures out.old ≤ W.failures out.new }
@@ -152,12 +153,14 @@ fn write_broken<W: Sink>(
     out: &mut W,
 ) -> Result<u8, PageFault>
     ensures few { IfOk result (λ status. status ≤ 1) }
-    ensures ok { IfOk result (IsWritten (written (detailed_text (providers_of assignment.now.cloud.now)
+    ensures ok { IfOk result (IsWritten (written
+        (detailed_text (providers_of assignment.now.cloud.now)
         (asked_of assignment.now.query.now) assignment.now.list.now (Verdict.Broken rule)) 1)
         (W.taken out.old) (W.taken out.new)) }
     ensures part { OnErr result (TakesPart (W.taken out.old) (W.taken out.new)
         (written (detailed_text (providers_of assignment.now.cloud.now)
-        (asked_of assignment.now.query.now) assignment.now.list.now (Verdict.Broken rule)) 1).output) }
+        (asked_of assignment.now.query.now) assignment.now.list.now (Verdict.Broken rule))
+        1).output) }
     ensures failed { result ≡ Err PageFault.WriteFailed
         → Rises (W.failures out.old) (W.failures out.new) }
     ensures failures { W.failures out.old ≤ W.failures out.new }
@@ -176,7 +179,8 @@ fn write_detailed<W: Sink>(
     out: &mut W,
 ) -> Result<u8, PageFault>
     ensures few { IfOk result (λ status. status ≤ 1) }
-    ensures ok { IfOk result (IsWritten (written (detailed_text (providers_of assignment.now.cloud.now)
+    ensures ok { IfOk result (IsWritten (written
+        (detailed_text (providers_of assignment.now.cloud.now)
         (asked_of assignment.now.query.now) assignment.now.list.now verdict)
         (verdict_status verdict))
         (W.taken out.old) (W.taken out.new)) }
@@ -206,7 +210,8 @@ fn write_judged<W: Sink>(
     requires slots { length list.now ≡ length (slots_of (asked_of query.now)) }
     requires providers { All (λ p. p < length (providers_of cloud.now)) list.now }
     ensures few { IfOk result (λ status. status ≤ 1) }
-    ensures ok { IfOk result (IsWritten (verdict_on (providers_of cloud.now) detail (asked_of query.now) (Some list.now))
+    ensures ok { IfOk result (IsWritten
+        (verdict_on (providers_of cloud.now) detail (asked_of query.now) (Some list.now))
         (W.taken out.old) (W.taken out.new)) }
     ensures part { OnErr result (TakesPart (W.taken out.old) (W.taken out.new)
         (verdict_on (providers_of cloud.now) detail (asked_of query.now) (Some list.now)).output) }
@@ -234,8 +239,8 @@ fn write_verdict<W: Sink>(
 ) -> Result<u8, PageFault>
     requires { length (ids_of token.now) ≡ length (slots_of (asked_of query.now)) }
     ensures few { IfOk result (λ status. status ≤ 1) }
-    ensures ok { IfOk result (IsWritten (verdict_line (providers_of cloud.now) detail (asked_of query.now)
-        (Some (ids_of token.now)))
+    ensures ok { IfOk result (IsWritten
+        (verdict_line (providers_of cloud.now) detail (asked_of query.now) (Some (ids_of token.now)))
         (W.taken out.old) (W.taken out.new)) }
     ensures part { OnErr result (TakesPart (W.taken out.old) (W.taken out.new)
         (verdict_line (providers_of cloud.now) detail (asked_of query.now)

@@ -98,7 +98,8 @@ fn job<'a>(
 ) -> Question<'a>
     requires { HasToken command (option_map (λ t. t.now) token) }
     ensures asked { asked_in result ≡ job command query.now version
-        (option_map (λ t. t.now) token.entry) (option_map (λ t. t.now) host.entry) false true false }
+        (option_map (λ t. t.now) token.entry) (option_map (λ t. t.now) host.entry)
+        false true false }
     ensures token { HasItsToken result }
 {
     Question::Job(Job {

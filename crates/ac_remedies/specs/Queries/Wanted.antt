@@ -1,11 +1,10 @@
 -- What is wanted of the value of a parameter.
 use Rattle.std.specs.Prelude.{ℕ, Bool, ◌&&◌, nat_eq, nat_le, List, [], ◌∷◌, find, length, map, codes, Option, Some, None, unwrap_or, if◌then◌else◌}
 use Rattle.std.specs.Char.{to_ascii_uppercase}
-use Rattle.std.specs.List.{list_all, list_any, starts_with}
-use Rattle.std.specs.Str.{bytes_eq}
+use Rattle.std.specs.List.{filter_map, list_all, starts_with}
 use Rattle.ac_base.specs.Texts.{is_name}
 use Rattle.ac_query.specs.declared.version.Version.{Version}
-use Rattle.ac_query.specs.Texts.{behind, items_of}
+use Rattle.ac_query.specs.Texts.{behind, has_text, items_of}
 use Rattle.ac_query.specs.Versions.{has_any_of}
 use Rattle.ac_remedies.specs.declared.queries.wanted.Form.{Form}
 use Rattle.ac_remedies.specs.declared.queries.wanted.Form.TheVariants as form
@@ -88,13 +87,13 @@ repeated_remedy name = once (form_of name)
 
 -- ---- a trait that is required and forbidden
 
--- whether a list forbids what an item requires
-abbrev pub is_forbidden : List ℕ → List ℕ → Bool
-is_forbidden list item = list_any (λ other. bytes_eq other (33 ∷ item)) (items_of list)
+-- the names that a list forbids
+abbrev pub forbidden_in : List ℕ → List (List ℕ)
+forbidden_in list = filter_map (behind (codes "!")) (items_of list)
 
 -- the first trait that is required and forbidden
 abbrev pub opposed : List ℕ → Option (List ℕ)
-opposed list = find (is_forbidden list) (items_of list)
+opposed list = find (has_text (forbidden_in list)) (items_of list)
 
 unfoldable pub opposed_remedy : Option (List ℕ) → List ℕ
 opposed_remedy None = codes "a trait is required and forbidden: leave one of the two out"

@@ -1,14 +1,15 @@
 //! What is said of a value of traits: the same in capitals, or the trait that is required and forbidden.
-ghost use Rattle.std.specs.Prelude.{◌≡◌, ◌∷◌, IfOk, codes, unwrap_or};
+ghost use Rattle.std.specs.Prelude.{◌≡◌, IfOk, codes, map, unwrap_or};
 ghost use Rattle.std.specs.Option.{option_map};
-ghost use Rattle.std.specs.Str.{bytes_eq};
-ghost use Rattle.ac_base.specs.Texts.{is_name};
+ghost use Rattle.ac_base.specs.Sorted.{rising};
+ghost use Rattle.ac_base.specs.Texts.{is_name, text_cmp};
 ghost use Rattle.ac_query.specs.Texts.{behind};
-ghost use Rattle.ac_remedies.specs.Queries.Wanted.{are_traits, conflict_remedy, in_capitals, is_forbidden, is_marked, opposed, opposed_remedy, proposed};
+ghost use Rattle.ac_remedies.specs.Queries.Wanted.{are_traits, conflict_remedy, forbidden_in, in_capitals, is_marked, opposed, opposed_remedy, proposed};
 
 use crate::quoted::{push_all, push_quoted};
 use ac_base::TraitName;
 use std::alloc::{AllocError, Global};
+use std::collections::BTreeSet;
 
 // The most bytes of traits that are proposed.
 const MOST_PROPOSED: usize = 64;
@@ -66,40 +67,31 @@ pub(crate) fn proposed(alloc: Global, value: &str) -> Result<Vec<u8>, AllocError
     Ok(text)
 }
 
-// Whether an item is `!` and this name.
-fn forbids(item: &[u8], name: &[u8]) -> bool
-    ensures { result ≡ bytes_eq item.now (33 ∷ name.now) }
+// The names that a list forbids.
+fn forbidden_in(alloc: Global, list: &str) -> Result<BTreeSet<&str>, AllocError>
+    ensures { IfOk result (λ names. map (λ name. name.now) names.keys
+        ≡ rising text_cmp (forbidden_in list.now)) }
 {
-    match item.split_first() {
-        Some((mark, rest)) => *mark == b'!' && rest == name,
-        None => false,
-    }
-}
-
-// Whether a list forbids what an item requires.
-#[tactic(auto, using(ac_query::proofs::Values::Pieces::next_part))]
-fn is_forbidden(list: &str, name: &str) -> bool
-    ensures { result ≡ is_forbidden list.now name.now }
-{
+    let mut names = BTreeSet::new(alloc);
     for item in list.split(',') {
-        if forbids(item.as_bytes(), name.as_bytes()) {
-            return true;
+        if let Some(name) = item.strip_prefix("!") {
+            names.insert(name)?;
         }
     }
-    false
+    Ok(names)
 }
 
 // The first trait that is required and forbidden.
-#[tactic(auto, using(ac_query::proofs::Values::Pieces::next_part))]
-fn opposed(list: &str) -> Option<&str>
-    ensures { option_map (λ name. name.now) result ≡ opposed list.now }
+fn opposed(alloc: Global, list: &str) -> Result<Option<&str>, AllocError>
+    ensures { IfOk result (λ found. option_map (λ name. name.now) found ≡ opposed list.now) }
 {
+    let names = forbidden_in(alloc, list)?;
     for item in list.split(',') {
-        if is_forbidden(list, item) {
-            return Some(item);
+        if names.contains(item) {
+            return Ok(Some(item));
         }
     }
-    None
+    Ok(None)
 }
 
 /// What is said of a value that requires and forbids a trait.
@@ -108,7 +100,7 @@ pub(crate) fn conflict_remedy(alloc: Global, value: &str) -> Result<Vec<u8>, All
     ensures { IfOk result (λ text. text.items ≡ conflict_remedy value.now) }
 {
     let mut text = Vec::new(alloc);
-    match opposed(value) {
+    match opposed(alloc, value)? {
         Some(name) => {
             push_quoted(&mut text, name.as_bytes())?;
             push_all(
