@@ -1,5 +1,5 @@
 #!/usr/bin/env python3
-"""tests/edits.py [--beside LOG] [--crates FOLDER] [--all] [CRATE..]: tries the must-fail edits of each crate, and names those that the prover lets
+"""tests/edits.py [--beside LOG] [--crates FOLDER] [--all] [--anew] [CRATE..]: tries the must-fail edits of each crate, and names those that the prover lets
 through.
 
 Edits that change different functions are tried together: the prover judges each function by itself, and of the functions that it calls it knows only
@@ -10,12 +10,15 @@ edited text.
 
 FOLDER is the top of a clone (by default this repository), below which everything that the crates stand on must be built. What `rt check` has kept there
 is used. With --beside, the script waits for each crate: LOG is what `rt ci` writes while it proves the crates. With --all, the script names each edit
-and what refused it. The last line is `N passed, M failed`."""
+and what refused it. What the prover said when it refused something is kept on this machine by the sum of all that it read, as `rt ci` keeps what it
+proved, and a check of the same is not run again; --anew runs all. The last line is `N passed, M failed`."""
 from __future__ import annotations
 
 import argparse
 import contextlib
+import functools
 import glob
+import hashlib
 import itertools
 import json
 import os
@@ -36,11 +39,50 @@ UNREAD = re.compile(r'^(\./)?(src|specs)/\S+: error: .*(is not in scope|has no f
 CALLS = re.compile(r"(; )?it calls .*, which (is|are) not proved")
 # The memory that must be free before one more check begins beside others.
 LEAST_FREE = 4 << 30
+KEPT = os.path.join(os.environ.get('XDG_CACHE_HOME') or os.path.expanduser('~/.cache'), 'ac_cli', 'edits')
+MOST_DAYS = 30
 
 
 def read(path):
     with open(path, encoding='utf-8') as file:
         return file.read()
+
+
+def sum_of(folder):
+    """The sum of all files below a folder, with their paths."""
+    found = hashlib.sha256()
+    for path in sorted(glob.glob(os.path.join(folder, '**'), recursive=True, include_hidden=True)):
+        if os.path.isfile(path):
+            found.update(f'{os.path.relpath(path, folder)} {os.path.getsize(path)}\n'.encode())
+            with open(path, 'rb') as file:
+                found.update(file.read())
+    return found.hexdigest()
+
+
+class Kept:
+    """What the prover said in checks on this machine, by the sums of all that they read. A text is written apart and then renamed."""
+
+    def __init__(self, folder, is_used):
+        self.folder, self.is_used = folder, is_used
+        with contextlib.suppress(OSError):
+            os.makedirs(folder, exist_ok=True)
+            for path in glob.glob(os.path.join(folder, '*')):
+                if time.time() - os.path.getmtime(path) > MOST_DAYS * 86400:
+                    os.remove(path)
+
+    def get(self, key):
+        try:
+            path = os.path.join(self.folder, key)
+            os.utime(path)
+            return read(path) if self.is_used else None
+        except OSError:
+            return None
+
+    def put(self, key, said):
+        with contextlib.suppress(OSError):
+            with tempfile.NamedTemporaryFile('w', encoding='utf-8', dir=self.folder, delete=False) as file:
+                file.write(said)
+            os.rename(file.name, os.path.join(self.folder, key))
 
 
 class Edit:
@@ -107,10 +149,10 @@ def function_at(file, text, old):
 
 
 class Crate:
-    """A crate below a folder, what it stands on, and its edits, whose checks run in these lanes."""
+    """A crate below a folder, what it stands on, and its edits, whose checks run in these lanes unless what they say is kept."""
 
-    def __init__(self, top, name, libraries, lanes):
-        self.name, self.folder, self.libraries, self.lanes = name, os.path.join(top, 'crates', name), libraries, lanes
+    def __init__(self, top, name, libraries, lanes, said):
+        self.name, self.folder, self.libraries, self.lanes, self.said = name, os.path.join(top, 'crates', name), libraries, lanes, said
         own = os.path.join(ROOT, 'crates', name)
         self.edits = [Edit(own, path) for path in sorted(glob.glob(os.path.join(own, 'must-fail', '*.edit')))]
         self.own = own
@@ -122,6 +164,10 @@ class Crate:
             return {name.removeprefix(f'{self.name}::') for name, *_ in routines if name.startswith(f'{self.name}::') and not name.endswith('+decl')}
         except (OSError, ValueError, TypeError, AttributeError):
             return set()
+
+    @functools.cached_property
+    def rlib_sum(self):
+        return sum_of(os.path.join(self.folder, 'out', 'rlib', f'{self.name}.rlib'))
 
     def words(self, kit, built):
         """The command that checks this crate."""
@@ -222,6 +268,9 @@ def check(crate, command, texts, kept, names=()):
         for path, text in texts.items():
             with open(os.path.join(room, path), 'w', encoding='utf-8') as file:
                 file.write(text)
+        key = hashlib.sha256(repr((crate.below_sum, crate.name, sum_of(room), sorted(names))).encode()).hexdigest()
+        if said := crate.said.get(key):
+            return said
         only = [word for name in sorted(names) for word in ('--only', name)]
         for _ in range(2):
             with crate.lanes.lane(len(crate.edits), len(names)):
@@ -229,6 +278,8 @@ def check(crate, command, texts, kept, names=()):
                                      stderr=subprocess.STDOUT, text=True, errors='replace')
             if ran.returncode != -signal.SIGKILL:
                 break
+    if refused(ran.stdout):
+        crate.said.put(key, ran.stdout)
     return ran.stdout
 
 
@@ -313,15 +364,17 @@ def main(given):
     parser.add_argument('--beside')
     parser.add_argument('--crates', default=ROOT)
     parser.add_argument('--all', action='store_true')
+    parser.add_argument('--anew', action='store_true')
     parser.add_argument('names', nargs='*')
     given = parser.parse_args(given)
     if not os.path.isdir(os.path.join(given.crates, 'crates')):
         sys.exit(f'tests/edits.py: {given.crates} has no folder crates: --crates wants the top of a clone')
-    kit = os.path.dirname(subprocess.run(['rt', 'doc'], capture_output=True, text=True, check=True).stdout.strip())
+    kit, version = (subprocess.run(['rt', word], capture_output=True, text=True, check=True).stdout.strip() for word in ('doc', 'version'))
+    kit = os.path.dirname(kit)
     lines = [line.partition(':') for line in read(os.path.join(ROOT, 'crates.txt')).splitlines() if not line.startswith('#')]
     log = Log(given.beside)
-    lanes = Lanes(log)
-    crates = {name: Crate(given.crates, name, libraries.split(), lanes) for name, _, libraries in lines}
+    lanes, said = Lanes(log), Kept(KEPT, not given.anew)
+    crates = {name: Crate(given.crates, name, libraries.split(), lanes, said) for name, _, libraries in lines}
 
     def below(crate):
         found = {}
@@ -336,6 +389,7 @@ def main(given):
             if seen.has_ended:
                 return [(crate.name, [], 'it is not proved, or what it stands on')]
             time.sleep(1)
+        crate.below_sum = version, [(name, crates[name].rlib_sum) for name in sorted(built)]
         return tried(crate, crate.words(kit, built), functions(log.now().said, crate) or crate.built_functions())
 
     wanted = [crate for name, crate in crates.items() if crate.edits and (not given.names or name in given.names)]

@@ -55,217 +55,380 @@ fn gives(alloc: Global, line: &str, job: Job<'_>) -> Result<bool, AllocError> {
     })
 }
 
-// Whether the words are accepted, with this job by 1.36.
-fn asks<'a>(
-    alloc: Global,
-    line: &str,
-    command: Command,
-    query: &'a str,
-    token: Option<&'a str>,
-) -> Result<bool, AllocError> {
-    let version = Version::V136;
-    let job = Job {
-        command,
-        query,
-        version,
-        token,
-        host: None,
-        detail: false,
-        traits: true,
-        sum: false,
-    };
-    gives(alloc, line, job)
-}
+const CHECK: Job<'static> = Job {
+    command: Command::Check,
+    query: "",
+    version: Version::V136,
+    token: None,
+    host: None,
+    detail: false,
+    traits: true,
+    sum: false,
+};
 
-const CHECKS: &[&str] = &[
-    "ac_cli check --providers a --inventories b",
-    "any/name check --inventories=b --traits c --providers=a",
-    "ac_cli check --tables d",
-];
+const ASKED: Job<'static> = Job {
+    command: Command::Tokens,
+    query: "q",
+    ..CHECK
+};
 
-#[test]
-fn check(rt: HostRuntime) -> Result<(), Fail> {
-    for line in CHECKS {
-        assert!(rt; asks(rt.alloc(), line, Command::Check, "", None)?, "{line}");
-    }
-    Ok(())
-}
+const AFTER: Job<'static> = Job {
+    token: Some("t"),
+    ..ASKED
+};
 
-const AFTER: &[&str] = &[
-    "ac_cli candidates q --providers a --inventories b --after t",
-    "ac_cli candidates --after=t --usages c --inventories b --providers a q",
-    "ac_cli candidates --tables d --after t q",
-];
-
-#[test]
-fn candidates(rt: HostRuntime) -> Result<(), Fail> {
-    let plain = "ac_cli candidates q --providers a --inventories b";
-    assert!(rt; asks(rt.alloc(), plain, Command::Candidates, "q", None)?);
-    for line in AFTER {
-        assert!(rt;
-            asks(rt.alloc(), line, Command::Candidates, "q", Some("t"))?,
-            "{line}"
-        );
-    }
-    Ok(())
-}
-
-// Lines of `candidates` and of `list` that leave out traits.
-const BARE: [(&str, Command); 3] = [
+// Words of each command, with the options in other places.
+const JOBS: &[(&str, Job<'static>)] = &[
+    ("ac_cli check --providers a --inventories b", CHECK),
+    (
+        "any/name check --inventories=b --traits c --providers=a",
+        CHECK,
+    ),
+    ("ac_cli check --tables d", CHECK),
+    (
+        "ac_cli candidates q --providers a --inventories b",
+        Job {
+            command: Command::Candidates,
+            ..ASKED
+        },
+    ),
+    (
+        "ac_cli candidates q --providers a --inventories b --after t",
+        Job {
+            command: Command::Candidates,
+            ..AFTER
+        },
+    ),
+    (
+        "ac_cli candidates --after=t --usages c --inventories b --providers a q",
+        Job {
+            command: Command::Candidates,
+            ..AFTER
+        },
+    ),
+    (
+        "ac_cli candidates --tables d --after t q",
+        Job {
+            command: Command::Candidates,
+            ..AFTER
+        },
+    ),
     (
         "ac_cli candidates --no-traits q --tables d",
-        Command::Candidates,
+        Job {
+            command: Command::Candidates,
+            traits: false,
+            ..ASKED
+        },
+    ),
+    (
+        "ac_cli candidates q --providers a --inventories b --microversion 1.39",
+        Job {
+            command: Command::Candidates,
+            version: Version::V139,
+            ..ASKED
+        },
+    ),
+    ("ac_cli tokens q --providers a --inventories b", ASKED),
+    ("ac_cli tokens --inventories=b --providers=a q", ASKED),
+    ("ac_cli tokens --providers a --inventories b -- q", ASKED),
+    ("ac_cli tokens --tables=d q", ASKED),
+    (
+        "ac_cli tokens q --microversion 1.36 --providers a --inventories b",
+        ASKED,
+    ),
+    (
+        "ac_cli tokens --microversion=1.39 q --providers a --inventories b",
+        Job {
+            version: Version::V139,
+            ..ASKED
+        },
+    ),
+    (
+        "ac_cli tokens --after t q --providers a --inventories b",
+        AFTER,
+    ),
+    (
+        "ac_cli list q --tables d",
+        Job {
+            command: Command::List,
+            ..ASKED
+        },
+    ),
+    (
+        "ac_cli list --after t q --providers a --inventories b",
+        Job {
+            command: Command::List,
+            ..AFTER
+        },
     ),
     (
         "ac_cli list q --no-traits --providers a --inventories b",
-        Command::List,
-    ),
-    ("ac_cli list --tables d --no-traits q", Command::List),
-];
-
-const SUMS: [(&str, bool); 3] = [
-    ("ac_cli fill q --tables d", false),
-    ("ac_cli fill --sum q --tables d", true),
-    ("ac_cli fill --tables d q --sum", true),
-];
-
-#[test]
-fn fills(rt: HostRuntime) -> Result<(), Fail> {
-    for (line, sum) in &SUMS {
-        let job = Job {
-            command: Command::Fill,
-            query: "q",
-            version: Version::V136,
-            token: None,
-            host: None,
-            detail: false,
-            traits: true,
-            sum: *sum,
-        };
-        assert!(rt; gives(rt.alloc(), line, job)?, "{line}");
-    }
-    Ok(())
-}
-
-#[test]
-fn without_traits(rt: HostRuntime) -> Result<(), Fail> {
-    for (line, command) in &BARE {
-        let job = Job {
-            command: *command,
-            query: "q",
-            version: Version::V136,
-            token: None,
-            host: None,
-            detail: false,
+        Job {
+            command: Command::List,
             traits: false,
-            sum: false,
-        };
-        assert!(rt; gives(rt.alloc(), line, job)?, "{line}");
-    }
-    Ok(())
-}
-
-#[test]
-fn list(rt: HostRuntime) -> Result<(), Fail> {
-    let plain = "ac_cli list q --tables d";
-    assert!(rt; asks(rt.alloc(), plain, Command::List, "q", None)?);
-    let after = "ac_cli list --after t q --providers a --inventories b";
-    assert!(rt; asks(rt.alloc(), after, Command::List, "q", Some("t"))?);
-    Ok(())
-}
-
-const TOKENS: &[&str] = &[
-    "ac_cli tokens resources=VCPU:2 --providers a --inventories b",
-    "ac_cli tokens --inventories=b --providers=a resources=VCPU:2",
-    "ac_cli tokens --providers a --inventories b -- resources=VCPU:2",
-    "ac_cli tokens --tables=d resources=VCPU:2",
-];
-
-#[test]
-fn tokens(rt: HostRuntime) -> Result<(), Fail> {
-    for line in TOKENS {
-        assert!(rt;
-            asks(rt.alloc(), line, Command::Tokens, "resources=VCPU:2", None)?,
-            "{line}"
-        );
-    }
-    let after = "ac_cli tokens --after t q --providers a --inventories b";
-    assert!(rt; asks(rt.alloc(), after, Command::Tokens, "q", Some("t"))?);
-    Ok(())
-}
-
-const VERIFIES: &[&str] = &[
-    "ac_cli verify q t --providers a --inventories b",
-    "ac_cli verify --inventories b q --providers a t",
-    "ac_cli verify --aggregates=c --providers a --inventories b q -- t",
-    "ac_cli verify q --tables d t",
-];
-
-#[test]
-fn verify(rt: HostRuntime) -> Result<(), Fail> {
-    for line in VERIFIES {
-        assert!(rt;
-            asks(rt.alloc(), line, Command::Verify, "q", Some("t"))?,
-            "{line}"
-        );
-    }
-    Ok(())
-}
-
-const EXPLAINS: &[&str] = &[
-    "ac_cli explain q --providers a --inventories b",
-    "ac_cli explain --inventories=b --traits c --providers=a q",
-    "ac_cli explain q --tables d",
-];
-
-#[test]
-fn explain(rt: HostRuntime) -> Result<(), Fail> {
-    for line in EXPLAINS {
-        assert!(rt;
-            asks(rt.alloc(), line, Command::Explain, "q", None)?,
-            "{line}"
-        );
-    }
-    Ok(())
-}
-
-const FITS: &[&str] = &[
-    "ac_cli hosts q --providers a --inventories b",
-    "ac_cli hosts --inventories=b --traits c --providers=a q",
-    "ac_cli hosts q --tables d",
-];
-
-#[test]
-fn hosts(rt: HostRuntime) -> Result<(), Fail> {
-    for line in FITS {
-        assert!(rt;
-            asks(rt.alloc(), line, Command::Hosts, "q", None)?,
-            "{line}"
-        );
-    }
-    Ok(())
-}
-
-const WHYS: &[&str] = &[
-    "ac_cli why q h --providers a --inventories b",
-    "ac_cli why --inventories=b q --traits c --providers=a h",
-    "ac_cli why q --tables d -- h",
-];
-
-#[test]
-fn why(rt: HostRuntime) -> Result<(), Fail> {
-    for line in WHYS {
-        let job = Job {
+            ..ASKED
+        },
+    ),
+    (
+        "ac_cli list --tables d --no-traits q",
+        Job {
+            command: Command::List,
+            traits: false,
+            ..ASKED
+        },
+    ),
+    (
+        "ac_cli fill q --tables d",
+        Job {
+            command: Command::Fill,
+            ..ASKED
+        },
+    ),
+    (
+        "ac_cli fill --sum q --tables d",
+        Job {
+            command: Command::Fill,
+            sum: true,
+            ..ASKED
+        },
+    ),
+    (
+        "ac_cli fill --tables d q --sum",
+        Job {
+            command: Command::Fill,
+            sum: true,
+            ..ASKED
+        },
+    ),
+    (
+        "ac_cli verify q t --providers a --inventories b",
+        Job {
+            command: Command::Verify,
+            ..AFTER
+        },
+    ),
+    (
+        "ac_cli verify --inventories b q --providers a t",
+        Job {
+            command: Command::Verify,
+            ..AFTER
+        },
+    ),
+    (
+        "ac_cli verify --aggregates=c --providers a --inventories b q -- t",
+        Job {
+            command: Command::Verify,
+            ..AFTER
+        },
+    ),
+    (
+        "ac_cli verify q --tables d t",
+        Job {
+            command: Command::Verify,
+            ..AFTER
+        },
+    ),
+    (
+        "ac_cli verify q t --providers a --microversion 1.39 --inventories b",
+        Job {
+            command: Command::Verify,
+            version: Version::V139,
+            ..AFTER
+        },
+    ),
+    (
+        "ac_cli explain q --providers a --inventories b",
+        Job {
+            command: Command::Explain,
+            ..ASKED
+        },
+    ),
+    (
+        "ac_cli explain --inventories=b --traits c --providers=a q",
+        Job {
+            command: Command::Explain,
+            ..ASKED
+        },
+    ),
+    (
+        "ac_cli explain q --tables d",
+        Job {
+            command: Command::Explain,
+            ..ASKED
+        },
+    ),
+    (
+        "ac_cli hosts q --providers a --inventories b",
+        Job {
+            command: Command::Hosts,
+            ..ASKED
+        },
+    ),
+    (
+        "ac_cli hosts --inventories=b --traits c --providers=a q",
+        Job {
+            command: Command::Hosts,
+            ..ASKED
+        },
+    ),
+    (
+        "ac_cli hosts q --tables d",
+        Job {
+            command: Command::Hosts,
+            ..ASKED
+        },
+    ),
+    (
+        "ac_cli why q h --providers a --inventories b",
+        Job {
             command: Command::Why,
-            query: "q",
-            version: Version::V136,
-            token: None,
             host: Some("h"),
-            detail: false,
-            traits: true,
-            sum: false,
-        };
-        assert!(rt; gives(rt.alloc(), line, job)?, "{line}");
+            ..ASKED
+        },
+    ),
+    (
+        "ac_cli why --inventories=b q --traits c --providers=a h",
+        Job {
+            command: Command::Why,
+            host: Some("h"),
+            ..ASKED
+        },
+    ),
+    (
+        "ac_cli why q --tables d -- h",
+        Job {
+            command: Command::Why,
+            host: Some("h"),
+            ..ASKED
+        },
+    ),
+    // Between two blanks stands an empty word.
+    (
+        "ac_cli tokens  --providers a --inventories b",
+        Job { query: "", ..ASKED },
+    ),
+    (
+        "ac_cli candidates q --after  --providers a --inventories b",
+        Job {
+            command: Command::Candidates,
+            token: Some(""),
+            ..AFTER
+        },
+    ),
+    (
+        "ac_cli tokens q --after= --providers a --inventories b",
+        Job {
+            token: Some(""),
+            ..AFTER
+        },
+    ),
+    (
+        "ac_cli verify   --providers a --inventories b",
+        Job {
+            command: Command::Verify,
+            query: "",
+            token: Some(""),
+            ..AFTER
+        },
+    ),
+    // A word that begins with `-` is no option after `--`, nor after `=`.
+    (
+        "ac_cli tokens --providers a --inventories b -- -q",
+        Job {
+            query: "-q",
+            ..ASKED
+        },
+    ),
+    (
+        "ac_cli tokens --after=-t --providers a --inventories b q",
+        Job {
+            token: Some("-t"),
+            ..AFTER
+        },
+    ),
+    (
+        "ac_cli verify --providers a --inventories b -- -q -t",
+        Job {
+            command: Command::Verify,
+            query: "-q",
+            token: Some("-t"),
+            ..AFTER
+        },
+    ),
+    // Of the URL that the log of the service has, the query is what stands behind the `?`.
+    (
+        "ac_cli tokens /placement/allocation_candidates?resources=VCPU:2 --tables d",
+        Job {
+            query: "resources=VCPU:2",
+            ..ASKED
+        },
+    ),
+    (
+        "ac_cli tokens http://controller:8778/allocation_candidates?resources=VCPU:2 --tables d",
+        Job {
+            query: "resources=VCPU:2",
+            ..ASKED
+        },
+    ),
+    (
+        "ac_cli tokens ?resources=VCPU:2 --tables d",
+        Job {
+            query: "resources=VCPU:2",
+            ..ASKED
+        },
+    ),
+    // What stands before the first mark is dropped, where neither `=` nor `&` stands before it.
+    (
+        "ac_cli tokens a?b?c --tables d",
+        Job {
+            query: "b?c",
+            ..ASKED
+        },
+    ),
+    ("ac_cli tokens a? --tables d", Job { query: "", ..ASKED }),
+    (
+        "ac_cli tokens a%3Fb --tables d",
+        Job {
+            query: "a%3Fb",
+            ..ASKED
+        },
+    ),
+    (
+        "ac_cli tokens a=b?c --tables d",
+        Job {
+            query: "a=b?c",
+            ..ASKED
+        },
+    ),
+    (
+        "ac_cli tokens a&b?c --tables d",
+        Job {
+            query: "a&b?c",
+            ..ASKED
+        },
+    ),
+    (
+        "ac_cli tokens a?b=c&d=e?f --tables d",
+        Job {
+            query: "b=c&d=e?f",
+            ..ASKED
+        },
+    ),
+    (
+        "ac_cli verify a?q b?t --tables d",
+        Job {
+            command: Command::Verify,
+            token: Some("b?t"),
+            ..AFTER
+        },
+    ),
+];
+
+#[test]
+fn jobs(rt: HostRuntime) -> Result<(), Fail> {
+    for (line, job) in JOBS {
+        assert!(rt; gives(rt.alloc(), line, *job)?, "{line}");
     }
     Ok(())
 }
@@ -295,53 +458,10 @@ fn session(rt: HostRuntime) -> Result<(), Fail> {
     Ok(())
 }
 
-#[test]
-fn versions(rt: HostRuntime) -> Result<(), Fail> {
-    let job = Job {
-        command: Command::Tokens,
-        query: "q",
-        version: Version::V136,
-        token: None,
-        host: None,
-        detail: false,
-        traits: true,
-        sum: false,
-    };
-    let older = "ac_cli tokens q --microversion 1.36 --providers a --inventories b";
-    assert!(rt; gives(rt.alloc(), older, job)?);
-    let version = Version::V139;
-    let newer = "ac_cli tokens --microversion=1.39 q --providers a --inventories b";
-    assert!(rt; gives(rt.alloc(), newer, Job { version, ..job })?);
-    let command = Command::Candidates;
-    let newer = "ac_cli candidates q --providers a --inventories b --microversion 1.39";
-    assert!(rt;
-        gives(
-            rt.alloc(),
-            newer,
-            Job {
-                command,
-                version,
-                ..job
-            }
-        )?
-    );
-    let command = Command::Verify;
-    let token = Some("t");
-    let newer = "ac_cli verify q t --providers a --microversion 1.39 --inventories b";
-    assert!(rt;
-        gives(
-            rt.alloc(),
-            newer,
-            Job {
-                command,
-                version,
-                token,
-                ..job
-            }
-        )?
-    );
-    Ok(())
-}
+const TOKENS_USAGE: &[&str] = &[
+    "Usage: ac_cli tokens [OPTIONS] --tables <DIR> <QUERY>",
+    "       ac_cli tokens [OPTIONS] --providers <FILE> --inventories <FILE> <QUERY>",
+];
 
 const OTHER_VERSIONS: &[&str] = &[
     "ac_cli tokens q --providers a --inventories b --microversion 1.40",
@@ -372,68 +492,6 @@ fn other_versions_are_refused(rt: HostRuntime) -> Result<(), Fail> {
     Ok(())
 }
 
-// Between two blanks stands an empty word.
-#[test]
-fn empty_words(rt: HostRuntime) -> Result<(), Fail> {
-    let query = "ac_cli tokens  --providers a --inventories b";
-    assert!(rt; asks(rt.alloc(), query, Command::Tokens, "", None)?);
-    let after = "ac_cli candidates q --after  --providers a --inventories b";
-    assert!(rt; asks(rt.alloc(), after, Command::Candidates, "q", Some(""))?);
-    let joined = "ac_cli tokens q --after= --providers a --inventories b";
-    assert!(rt; asks(rt.alloc(), joined, Command::Tokens, "q", Some(""))?);
-    let both = "ac_cli verify   --providers a --inventories b";
-    assert!(rt; asks(rt.alloc(), both, Command::Verify, "", Some(""))?);
-    Ok(())
-}
-
-// A word that begins with `-` is no option after `--`, nor after `=`.
-#[test]
-fn words_with_a_hyphen(rt: HostRuntime) -> Result<(), Fail> {
-    let query = "ac_cli tokens --providers a --inventories b -- -q";
-    assert!(rt; asks(rt.alloc(), query, Command::Tokens, "-q", None)?);
-    let after = "ac_cli tokens --after=-t --providers a --inventories b q";
-    assert!(rt; asks(rt.alloc(), after, Command::Tokens, "q", Some("-t"))?);
-    let both = "ac_cli verify --providers a --inventories b -- -q -t";
-    assert!(rt; asks(rt.alloc(), both, Command::Verify, "-q", Some("-t"))?);
-    Ok(())
-}
-
-// Of the URL that the log of the service has, the query is what stands behind the `?`.
-const PASTED: &[&str] = &[
-    "ac_cli tokens /placement/allocation_candidates?resources=VCPU:2 --tables d",
-    "ac_cli tokens http://controller:8778/allocation_candidates?resources=VCPU:2 --tables d",
-    "ac_cli tokens ?resources=VCPU:2 --tables d",
-];
-
-// What stands before the first mark is dropped, where neither `=` nor `&` stands before it.
-const MARKED: &[(&str, &str)] = &[
-    ("ac_cli tokens a?b?c --tables d", "b?c"),
-    ("ac_cli tokens a? --tables d", ""),
-    ("ac_cli tokens a%3Fb --tables d", "a%3Fb"),
-    ("ac_cli tokens a=b?c --tables d", "a=b?c"),
-    ("ac_cli tokens a&b?c --tables d", "a&b?c"),
-    ("ac_cli tokens a?b=c&d=e?f --tables d", "b=c&d=e?f"),
-];
-
-#[test]
-fn pasted(rt: HostRuntime) -> Result<(), Fail> {
-    for line in PASTED {
-        assert!(rt;
-            asks(rt.alloc(), line, Command::Tokens, "resources=VCPU:2", None)?,
-            "{line}"
-        );
-    }
-    for (line, query) in MARKED {
-        assert!(rt;
-            asks(rt.alloc(), line, Command::Tokens, query, None)?,
-            "{line}"
-        );
-    }
-    let token = "ac_cli verify a?q b?t --tables d";
-    assert!(rt; asks(rt.alloc(), token, Command::Verify, "q", Some("b?t"))?);
-    Ok(())
-}
-
 const CALLS_FOR_HELP: &[&str] = &[
     "ac_cli --help",
     "ac_cli -h",
@@ -461,335 +519,11 @@ const CALLS_FOR_HELP: &[&str] = &[
 ];
 
 // The lines of the statuses, and of the example.
-const BELOW_EACH: &[(&str, &[&str])] = &[
-    (
-        "ac_cli --help",
-        &[
-            "  0  the answer is written",
-            "  1  `verify` says no, or `fill`, `explain`, `hosts` or `why` finds no candidate",
-            "  2  the command line was refused",
-            "  3  a table was refused, or a table or the questions could not be read",
-            "  4  the query was refused",
-            "  5  the token was refused, or the host names no provider",
-            "  6  a write failed",
-            "  7  out of memory",
-            "  ac_cli tokens 'resources=VCPU:2,DISK_GB:20' --tables cloud",
-        ],
-    ),
-    (
-        "ac_cli check --help",
-        &[
-            "  0  the tables are accepted",
-            "  2  the command line was refused",
-            "  3  a table was refused, or could not be read",
-            "  6  a write failed",
-            "  7  out of memory",
-            "  ac_cli check --tables cloud",
-        ],
-    ),
-    (
-        "ac_cli candidates --help",
-        &[
-            "  0  the candidates are written, if there are any",
-            "  2  the command line was refused",
-            "  3  a table was refused, or could not be read",
-            "  4  the query was refused",
-            "  5  the token was refused",
-            "  6  a write failed",
-            "  7  out of memory",
-            "  ac_cli candidates 'resources=VCPU:2,DISK_GB:20&limit=10' --tables cloud",
-        ],
-    ),
-    (
-        "ac_cli tokens --help",
-        &[
-            "  0  the candidates are written, if there are any",
-            "  2  the command line was refused",
-            "  3  a table was refused, or could not be read",
-            "  4  the query was refused",
-            "  5  the token was refused",
-            "  6  a write failed",
-            "  7  out of memory",
-            "  ac_cli tokens 'resources=VCPU:2,DISK_GB:20&limit=10' --tables cloud",
-        ],
-    ),
-    (
-        "ac_cli list --help",
-        &[
-            "  0  the candidates are written, if there are any",
-            "  2  the command line was refused",
-            "  3  a table was refused, or could not be read",
-            "  4  the query was refused",
-            "  5  the token was refused",
-            "  6  a write failed",
-            "  7  out of memory",
-            "  ac_cli list 'resources=VCPU:2,DISK_GB:20&limit=10' --tables cloud | column -ts,",
-        ],
-    ),
-    (
-        "ac_cli fill --help",
-        &[
-            "  0  something was placed",
-            "  1  nothing fits",
-            "  2  the command line was refused",
-            "  3  a table was refused, or could not be read",
-            "  4  the query was refused",
-            "  6  a write failed",
-            "  7  out of memory",
-            "  ac_cli fill 'resources=VCPU:2,DISK_GB:20&limit=50' --tables cloud",
-        ],
-    ),
-    (
-        "ac_cli verify --help",
-        &[
-            "  0  the token is a candidate",
-            "  1  it isn't one",
-            "  2  the command line was refused",
-            "  3  a table was refused, or could not be read",
-            "  4  the query was refused",
-            "  5  the token was refused",
-            "  6  a write failed",
-            "  7  out of memory",
-            "  ac_cli verify 'resources=VCPU:4' b48d0f61-9e2c-4c7a-83d5-e6047b15ac05 --tables cloud",
-        ],
-    ),
-    (
-        "ac_cli explain --help",
-        &[
-            "  0  there is a candidate",
-            "  1  there is none",
-            "  2  the command line was refused",
-            "  3  a table was refused, or could not be read",
-            "  4  the query was refused",
-            "  6  a write failed",
-            "  7  out of memory",
-            "  ac_cli explain 'resources=VCPU:8&required=CUSTOM_ROW_2' --tables cloud",
-        ],
-    ),
-    (
-        "ac_cli hosts --help",
-        &[
-            "  0  the query fits at some root",
-            "  1  it fits at none",
-            "  2  the command line was refused",
-            "  3  a table was refused, or could not be read",
-            "  4  the query was refused",
-            "  6  a write failed",
-            "  7  out of memory",
-            "  ac_cli hosts 'resources=VCPU:8&required=CUSTOM_ROW_2' --tables cloud",
-        ],
-    ),
-    (
-        "ac_cli why --help",
-        &[
-            "  0  the query fits at the host",
-            "  1  it doesn't fit there",
-            "  2  the command line was refused",
-            "  3  a table was refused, or could not be read",
-            "  4  the query was refused",
-            "  5  the host names no provider, or several",
-            "  6  a write failed",
-            "  7  out of memory",
-            "  ac_cli why 'resources=VCPU:8&required=CUSTOM_ROW_2' compute-02 --tables cloud",
-        ],
-    ),
-    (
-        "ac_cli session --help",
-        &[
-            "  0  the questions are at their end",
-            "  2  the command line was refused",
-            "  3  a table was refused, or a table or the questions could not be read",
-            "  6  a write failed",
-            "  7  out of memory",
-            "  ac_cli session --tables cloud < questions",
-        ],
-    ),
-];
-
 #[test]
 fn help_is_answered(rt: HostRuntime) -> Result<(), Fail> {
     for line in CALLS_FOR_HELP {
         assert!(rt; help(rt.alloc(), line)?.is_some(), "{line}");
     }
-    Ok(())
-}
-
-// Below the heading stand these lines of statuses and no other.
-#[test]
-fn help_tells_statuses_and_an_example(rt: HostRuntime) -> Result<(), Fail> {
-    for (line, told) in BELOW_EACH {
-        match help(rt.alloc(), line)? {
-            Some(text) => {
-                for other in *told {
-                    assert!(rt; has_line(text.as_str(), other), "{line}: {other}");
-                }
-                let below = text.lines().skip_while(|other| *other != "Exit status:");
-                let shown = below.filter(|other| other.starts_with("  ")).count();
-                assert_eq!(rt; shown, told.len(), "{line}");
-            }
-            None => assert!(rt; false, "{line}"),
-        }
-    }
-    Ok(())
-}
-
-// Whether the help of `line` has each of these lines.
-fn tells(alloc: Global, line: &str, told: &[&str]) -> Result<bool, AllocError> {
-    Ok(match help(alloc, line)? {
-        Some(text) => told.iter().all(|other| has_line(text.as_str(), other)),
-        None => false,
-    })
-}
-
-const COMMANDS: &[&str] = &[
-    "Usage: ac_cli <COMMAND>",
-    "  check       Checks the tables, and counts what they hold",
-    "  candidates  Writes the candidates for a query as JSON, with summaries of their providers",
-    "  tokens      Writes the candidates for a query, one per line: the UUIDs of their providers",
-    "  list        Writes the candidates for a query as rows, one for each of their providers (CSV)",
-    "  fill        Places a query again and again, as long as there is room: how many more fit, and where",
-    "  verify      Writes whether a token is a candidate for a query, or which rule it breaks",
-    "  explain     Writes how many providers and trees meet a query, rule by rule: why nothing is found",
-    "  hosts       Writes whether a query fits at each root, and what is missing there (CSV)",
-    "  why         Writes how far each provider of a host comes, and what it lacks (CSV): why not this host",
-    "  session     Answers questions from standard input, one a line, and takes and gives back placements",
-];
-
-#[test]
-fn help_tells_the_commands(rt: HostRuntime) -> Result<(), Fail> {
-    assert!(rt; tells(rt.alloc(), "ac_cli --help", COMMANDS)?);
-    Ok(())
-}
-
-const OF_CHECK: &[&str] = &[
-    "      --tables <DIR>        The five tables of an export, in one folder: providers.csv, inventories.csv, usages.csv, traits.csv, aggregates.csv",
-    "      --providers <FILE>    The resource providers and their trees (CSV)",
-    "      --inventories <FILE>  What each provider has of each resource class (CSV)",
-    "      --usages <FILE>       How much of it is used (CSV); without this table nothing is used",
-    "      --traits <FILE>       The traits of each provider (CSV); without this table no provider has a trait",
-    "      --aggregates <FILE>   The aggregates of each provider (CSV); without this table no provider is in an aggregate",
-    "      --detail              Says below the line of a fault what to do about it; `verify` then also says of what a rule is broken",
-];
-
-const OPTIONS: &[&str] = &[
-    "      --tables <DIR>            The five tables of an export, in one folder: providers.csv, inventories.csv, usages.csv, traits.csv, aggregates.csv",
-    "      --providers <FILE>        The resource providers and their trees (CSV)",
-    "      --inventories <FILE>      What each provider has of each resource class (CSV)",
-    "      --usages <FILE>           How much of it is used (CSV); without this table nothing is used",
-    "      --traits <FILE>           The traits of each provider (CSV); without this table no provider has a trait",
-    "      --aggregates <FILE>       The aggregates of each provider (CSV); without this table no provider is in an aggregate",
-    "      --detail                  Says below the line of a fault what to do about it; `verify` then also says of what a rule is broken",
-    "      --microversion <VERSION>  Reads the query by 1.36, or by 1.39: `required` may then be a list `in:A,B`, which asks for one of its traits, and may be repeated [default: 1.36]",
-];
-
-const SEARCHES: &[&str] = &[
-    "  <QUERY>  What is asked for, between '..' since the shell reads & ! and ? otherwise; of a URL, what stands behind its ?",
-    "      --after <TOKEN>           Begins after this candidate, written as `tokens` writes it",
-];
-
-const FILLED: &[&str] = &[
-    "      --sum                     Writes how many fit by first fit, and how many can at most, in place of where",
-];
-
-const VERIFIED: &[&str] = &[
-    "  <QUERY>  What is asked for, between '..' since the shell reads & ! and ? otherwise; of a URL, what stands behind its ?",
-    "  <TOKEN>  The UUIDs of providers, as `tokens` writes them",
-];
-
-const ASKED_WHY: &[&str] = &[
-    "  <QUERY>  What is asked for, between '..' since the shell reads & ! and ? otherwise; of a URL, what stands behind its ?",
-    "  <HOST>   A provider of the host: its UUID, or a name that no other provider has",
-];
-
-const WITH_OPTIONS: &[&str] = &[
-    "ac_cli help candidates",
-    "ac_cli help tokens",
-    "ac_cli help list",
-    "ac_cli help fill",
-    "ac_cli help verify",
-    "ac_cli help explain",
-    "ac_cli help hosts",
-    "ac_cli help why",
-    "ac_cli help session",
-];
-
-#[test]
-fn help_tells_the_options(rt: HostRuntime) -> Result<(), Fail> {
-    for line in WITH_OPTIONS {
-        assert!(rt; tells(rt.alloc(), line, OPTIONS)?, "{line}");
-    }
-    assert!(rt; tells(rt.alloc(), "ac_cli help check", OF_CHECK)?);
-    assert!(rt; tells(rt.alloc(), "ac_cli help candidates", SEARCHES)?);
-    assert!(rt; tells(rt.alloc(), "ac_cli help tokens", SEARCHES)?);
-    assert!(rt; tells(rt.alloc(), "ac_cli help list", SEARCHES)?);
-    assert!(rt; tells(rt.alloc(), "ac_cli help fill", FILLED)?);
-    assert!(rt; tells(rt.alloc(), "ac_cli help verify", VERIFIED)?);
-    assert!(rt; tells(rt.alloc(), "ac_cli help why", ASKED_WHY)?);
-    Ok(())
-}
-
-const CHECK_USAGE: &[&str] = &[
-    "Usage: ac_cli check --tables <DIR>",
-    "       ac_cli check [OPTIONS] --providers <FILE> --inventories <FILE>",
-];
-
-const CANDIDATES_USAGE: &[&str] = &[
-    "Usage: ac_cli candidates [OPTIONS] --tables <DIR> <QUERY>",
-    "       ac_cli candidates [OPTIONS] --providers <FILE> --inventories <FILE> <QUERY>",
-];
-
-const TOKENS_USAGE: &[&str] = &[
-    "Usage: ac_cli tokens [OPTIONS] --tables <DIR> <QUERY>",
-    "       ac_cli tokens [OPTIONS] --providers <FILE> --inventories <FILE> <QUERY>",
-];
-
-const LIST_USAGE: &[&str] = &[
-    "Usage: ac_cli list [OPTIONS] --tables <DIR> <QUERY>",
-    "       ac_cli list [OPTIONS] --providers <FILE> --inventories <FILE> <QUERY>",
-];
-
-const FILL_USAGE: &[&str] = &[
-    "Usage: ac_cli fill [OPTIONS] --tables <DIR> <QUERY>",
-    "       ac_cli fill [OPTIONS] --providers <FILE> --inventories <FILE> <QUERY>",
-];
-
-const VERIFY_USAGE: &[&str] = &[
-    "Usage: ac_cli verify [OPTIONS] --tables <DIR> <QUERY> <TOKEN>",
-    "       ac_cli verify [OPTIONS] --providers <FILE> --inventories <FILE> <QUERY> <TOKEN>",
-];
-
-const EXPLAIN_USAGE: &[&str] = &[
-    "Usage: ac_cli explain [OPTIONS] --tables <DIR> <QUERY>",
-    "       ac_cli explain [OPTIONS] --providers <FILE> --inventories <FILE> <QUERY>",
-];
-
-const HOSTS_USAGE: &[&str] = &[
-    "Usage: ac_cli hosts [OPTIONS] --tables <DIR> <QUERY>",
-    "       ac_cli hosts [OPTIONS] --providers <FILE> --inventories <FILE> <QUERY>",
-];
-
-const WHY_USAGE: &[&str] = &[
-    "Usage: ac_cli why [OPTIONS] --tables <DIR> <QUERY> <HOST>",
-    "       ac_cli why [OPTIONS] --providers <FILE> --inventories <FILE> <QUERY> <HOST>",
-];
-
-const SESSION_USAGE: &[&str] = &[
-    "Usage: ac_cli session [OPTIONS] --tables <DIR>",
-    "       ac_cli session [OPTIONS] --providers <FILE> --inventories <FILE>",
-];
-
-#[test]
-fn help_tells_the_usage(rt: HostRuntime) -> Result<(), Fail> {
-    assert!(rt; tells(rt.alloc(), "ac_cli help check", CHECK_USAGE)?);
-    assert!(rt; tells(rt.alloc(), "ac_cli help candidates", CANDIDATES_USAGE)?);
-    assert!(rt; tells(rt.alloc(), "ac_cli help tokens", TOKENS_USAGE)?);
-    assert!(rt; tells(rt.alloc(), "ac_cli help list", LIST_USAGE)?);
-    assert!(rt; tells(rt.alloc(), "ac_cli help fill", FILL_USAGE)?);
-    assert!(rt; tells(rt.alloc(), "ac_cli help verify", VERIFY_USAGE)?);
-    assert!(rt; tells(rt.alloc(), "ac_cli help explain", EXPLAIN_USAGE)?);
-    assert!(rt; tells(rt.alloc(), "ac_cli help hosts", HOSTS_USAGE)?);
-    assert!(rt; tells(rt.alloc(), "ac_cli help why", WHY_USAGE)?);
-    assert!(rt; tells(rt.alloc(), "ac_cli help session", SESSION_USAGE)?);
     Ok(())
 }
 

@@ -2,12 +2,9 @@
 use Rattle.std.proofs.lemmas.Grind.{common_steps}
 use Rattle.std.proofs.Common.{◌≡◌, Bool, true, false, List, ◌∷◌, Option, Some, arith}
 use Rattle.std.specs.Prelude.{find}
-use Rattle.std.specs.List.{list_all, list_any}
+use Rattle.std.specs.List.{list_all}
 
 module _ {X : Type 0} (test : X → Bool) (left rest : List X) (x : X) (turn : left ≡ x ∷ rest) where
-  pub any_met : (whole : Bool) → list_any test left ≡ whole → test x ≡ true → true ≡ whole
-  any_met whole holds met = grind (arith, common_steps)
-
   pub all_failed : (whole : Bool) → list_all test left ≡ whole → test x ≡ false → false ≡ whole
   all_failed whole holds failed = grind (arith, common_steps)
 

@@ -16,10 +16,9 @@ fn open_rows<'a>(alloc: Global, text: &'a [u8]) -> Reader<&'a [u8]>
     ensures reading { IsReading result }
     ensures left { rows_left result ≡ records_of text.now }
 {
-    ReaderBuilder::new()
-        .has_headers(false)
-        .flexible(true)
-        .from_reader(alloc, text)
+    let mut builder = ReaderBuilder::new();
+    let flexible = builder.has_headers(false).flexible(true);
+    flexible.from_reader(alloc, text)
 }
 
 // The next record into `row`, and whether there was one. Over bytes in memory nothing but a refused growth fails.

@@ -14,8 +14,8 @@ pub(crate) fn open_rows<'a>(alloc: Global, text: &'a [u8]) -> Reader<&'a [u8]>
     ensures left { rows_left result ≡ records_of text.now }
 {
     let mut builder = ReaderBuilder::new();
-    builder.has_headers(false).flexible(true);
-    builder.from_reader(alloc, text)
+    let flexible = builder.has_headers(false).flexible(true);
+    flexible.from_reader(alloc, text)
 }
 
 // The next record into `row`, and whether there was one. Over bytes in memory nothing but a refused growth fails.

@@ -1,5 +1,5 @@
 //! What the matches of `clap` hold.
-ghost use Rattle.std.specs.Prelude.{◌≡◌, ◌∷◌, IfErr, IfOk, OnOk, Some, [], is_some, option_map, string_bytes, true};
+ghost use Rattle.std.specs.Prelude.{◌≡◌, ◌≢◌, ◌∷◌, IfErr, IfOk, IfSome, None, OnOk, Some, [], is_some, option_map, string_bytes, true};
 ghost use Rattle.clap.specs.Words.{first_of, found_of, rows_of, subcommand_rows_of};
 ghost use Rattle.ac_words.specs.Words.{HasNeeded, IsComplete, IsMadeOf, Says, Tells, detail_of, host_of, name_of, own_faults, query_of, sum_of, table_kinds, token_of, version_kinds, version_named, version_of, with_traits_of};
 
@@ -159,25 +159,38 @@ fn sum(call: Call, entries: &ArgMatches<'_>) -> bool
     }
 }
 
+// What a name calls.
+fn call_named(name: &str) -> Option<Call>
+    ensures some { IfSome result (λ call. name.now ≡ name_of call) }
+    ensures none { result ≡ None → (call : Call) → name.now ≢ name_of call }
+{
+    match name {
+        "check" => Some(Call::Job(Command::Check)),
+        "candidates" => Some(Call::Job(Command::Candidates)),
+        "tokens" => Some(Call::Job(Command::Tokens)),
+        "list" => Some(Call::Job(Command::List)),
+        "fill" => Some(Call::Job(Command::Fill)),
+        "verify" => Some(Call::Job(Command::Verify)),
+        "explain" => Some(Call::Job(Command::Explain)),
+        "hosts" => Some(Call::Job(Command::Hosts)),
+        "why" => Some(Call::Job(Command::Why)),
+        "session" => Some(Call::Session),
+        _ => None,
+    }
+}
+
 // The command that was found, and its entries.
 fn find_command<'m, 'a>(matches: &'m ArgMatches<'a>) -> (Call, &'m ArgMatches<'a>)
     requires { IsComplete (subcommand_rows_of matches.now) }
     ensures { subcommand_rows_of matches.now
         ≡ Some (name_of result.0, rows_of (found_of result.1.now)) }
 {
-    match matches.subcommand() {
-        Some(("check", entries)) => (Call::Job(Command::Check), entries),
-        Some(("candidates", entries)) => (Call::Job(Command::Candidates), entries),
-        Some(("tokens", entries)) => (Call::Job(Command::Tokens), entries),
-        Some(("list", entries)) => (Call::Job(Command::List), entries),
-        Some(("fill", entries)) => (Call::Job(Command::Fill), entries),
-        Some(("verify", entries)) => (Call::Job(Command::Verify), entries),
-        Some(("explain", entries)) => (Call::Job(Command::Explain), entries),
-        Some(("hosts", entries)) => (Call::Job(Command::Hosts), entries),
-        Some(("why", entries)) => (Call::Job(Command::Why), entries),
-        Some(("session", entries)) => (Call::Session, entries),
-        _ => unreachable!(),
+    if let Some((name, entries)) = matches.subcommand() {
+        if let Some(call) = call_named(name) {
+            return (call, entries);
+        }
     }
+    unreachable!()
 }
 
 // The words of a command with these entries.

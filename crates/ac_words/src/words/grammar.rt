@@ -17,8 +17,10 @@ fn word<'a>(alloc: Global, name: &'a str, shown: &'a str, help: &'a str) -> Arg<
     ensures rule { rule_of result ≡ word_rule name.entry.now }
     ensures local { result.global ≡ false }
 {
-    let arg = Arg::new(alloc, name).required(true);
-    arg.value_name(shown).help(help)
+    Arg::new(alloc, name)
+        .value_name(shown)
+        .required(true)
+        .help(help)
 }
 
 // An option with a value.
@@ -26,8 +28,10 @@ fn option<'a>(alloc: Global, name: &'a str, shown: &'a str, help: &'a str) -> Ar
     ensures rule { rule_of result ≡ option_rule name.entry.now }
     ensures local { result.global ≡ false }
 {
-    let arg = Arg::new(alloc, name).long(name);
-    arg.value_name(shown).help(help)
+    Arg::new(alloc, name)
+        .long(name)
+        .value_name(shown)
+        .help(help)
 }
 
 // An option without a value.

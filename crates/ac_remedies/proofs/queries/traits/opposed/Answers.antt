@@ -1,4 +1,4 @@
-use Rattle.std.proofs.Common.{rules, ◌≡◌, ◌∙◌, sym}
+use Rattle.std.proofs.Common.{rules, ◌∙◌, sym}
 use Rattle.ac_query.proofs.Values.Pieces.{next_part}
 use Rattle.ac_query.specs.Texts.{has_text}
 use Rattle.ac_remedies.specs.Queries.Wanted.{forbidden_in}
