@@ -15,6 +15,7 @@ returns-then-contains c =
 pub loop-item-preserved : goal.loop-item-preserved
 loop-item-preserved c =
     let turn = next_part c.loop-item.item-iterator c.next.new.self c.in-Some.item c.loop-item.invariant.0 c.in-Some.ensures.steps in
-    let among = among_keys c.in-Some.item.now c.in_ok-names.names.keys _ c.in_ok-names.ensures in
-    ( search rules
-    , first_passed (has_text (forbidden_in c.args.list.now)) _ _ _ turn _ c.loop-item.invariant.1 (sym among ∙ sym c.contains.ensures ∙ c.if-contains.false) )
+    let among = among_keys c.in-Some.item.now c.in_ok-names.names.keys _ c.in_ok-names.ensures in (
+      search rules,
+      first_passed (has_text (forbidden_in c.args.list.now)) _ _ _ turn _ c.loop-item.invariant.1 (sym among ∙ sym c.contains.ensures ∙ c.if-contains.false),
+    )
