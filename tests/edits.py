@@ -63,7 +63,7 @@ class Kept:
     """What the prover said in checks on this machine, by the sums of all that they read. A text is written apart and then renamed."""
 
     def __init__(self, folder, is_used):
-        self.folder, self.is_used = folder, is_used
+        self.folder, self.is_used, self.given, self.made = folder, is_used, [], []
         with contextlib.suppress(OSError):
             os.makedirs(folder, exist_ok=True)
             for path in glob.glob(os.path.join(folder, '*')):
@@ -270,7 +270,9 @@ def check(crate, command, texts, kept, names=()):
                 file.write(text)
         key = hashlib.sha256(repr((crate.below_sum, crate.name, sum_of(room), sorted(names))).encode()).hexdigest()
         if said := crate.said.get(key):
+            crate.said.given.append(key)
             return said
+        crate.said.made.append(key)
         only = [word for name in sorted(names) for word in ('--only', name)]
         for _ in range(2):
             with crate.lanes.lane(len(crate.edits), len(names)):
@@ -403,6 +405,7 @@ def main(given):
                 count[not by] += 1
                 if given.all or not by:
                     print(f'{crate.name}/{name}: {"refused: " + ", ".join(by) if by else why}', flush=True)
+    print(f'checks of edits: {len(said.made)} made in this run, {len(said.given)} kept from earlier runs on this machine')
     print(f'{count[0]} passed, {count[1]} failed')
     return 1 if count[1] else 0
 
