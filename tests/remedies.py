@@ -129,7 +129,7 @@ ROWS = {
             ', fields 5, header 4, provider P1: a record has as many fields as the header; put a field with a comma in quotes', [',"host, old"\n']),
         Row('record 3: BadUuid', 'P2,P1,P1', 'P2,P1,host', f', parent_provider_uuid "host", provider P2: {UUID}'),
         Row('record 3: BadUuid', 'P2,', 'uuid,root_provider_uuid,parent_provider_uuid,name\nP2,', f', uuid "uuid": {UUID}'),
-        Row('record 4: Duplicate', 'P3,', 'P1,', f', provider P1: {TWICE}'),
+        Row('record 4: Duplicate', 'P3,', 'P1,', f', uuid "P1": {TWICE}'),
         Row('record 2: UnknownParent', 'P1,P1,,host\n', '', ', parent_provider_uuid "P1", provider P2: not in the table of providers; export the whole table'),
         Row('record 2: ParentCycle', 'P1,P1,,', 'P1,P1,P2,', ', parent_provider_uuid "P2", provider P1: the parents from here on go in a circle; correct one of them'),
         Row('record 3: WrongRoot', 'P2,P1,P1', 'P2,P2,P1', f', root_provider_uuid "P2", provider P2: {WRONG_ROOT}'),
@@ -144,7 +144,7 @@ ROWS = {
         Row('record 4: ZeroStep', '4,1,1.0', '4,0,1.0', ', step_size "0", provider P2, VF: a step is at least 1; set step_size to 1 or more in the cloud, and export again'),
         Row('record 4: ReservedOverTotal', 'VF,4,0', 'VF,4,5',
             ', reserved "5", total "4", provider P2, VF: reserved is at most total; lower it in the cloud, and export again', ['VF,4,4']),
-        Row('record 3: Duplicate', 'DISK_GB', 'VCPU', f', provider P1, VCPU: {TWICE}'),
+        Row('record 3: Duplicate', 'DISK_GB', 'VCPU', f', resource_class "VCPU", provider P1: {TWICE}'),
         Row('record 2: UnknownProvider', 'P1,VCPU', 'P9,VCPU', f', resource_provider "P9", VCPU: {STRAY}'),
     ],
     'usages': [
@@ -177,10 +177,10 @@ LARGE = [
     ('traits', 'TooLarge', lambda: of_rows(MOST_BYTES // 40), ': more than 67108864 bytes; take out rows that no query asks for', lambda: of_rows(1000)),
 ]
 
-# Paths of tables that can't be read, and what stands behind them: a file that isn't there, and a folder, which opens.
+# Paths of tables that can't be read, and what stands behind them: a file that isn't there, and a folder.
 UNREAD = [
     ('nowhere.csv', ': there is no such file; give the path of a file that can be read'),
-    ('.', ': give the path of a file that can be read'),
+    ('.', ': it is a folder, and no file; give the path of a file that can be read'),
 ]
 
 

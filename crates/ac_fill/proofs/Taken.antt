@@ -19,8 +19,8 @@ use Rattle.ac_base.specs.Texts.{text_cmp}
 use Rattle.ac_cloud.specs.Amounts.{amount_at, with_amounts}
 use Rattle.ac_cloud.specs.World.{Provider, UsedInventory, provider_at, entry_in, used_of}
 use Rattle.ac_cloud.proofs.Amounts.{amounts_again, amounts_kept, amounts_same_found, entries}
-use Rattle.ac_prune.specs.Left.{place_of, IsKnown}
-use Rattle.ac_prune.proofs.Paths.LeftLemmas.{known_at}
+use Rattle.ac_rules.specs.Room.{class_number, IsKnown}
+use Rattle.ac_rules.proofs.ClassLemmas.{known_at}
 use Rattle.ac_query.specs.Asked.{Slot}
 use Rattle.ac_rules.specs.Claims.{claimed}
 use Rattle.ac_rules.specs.Placed.{Placed, placed, no_slot}
@@ -45,19 +45,19 @@ same_class n k p l q h j e = sym (div-mul-add k n p h) ∙ (ap (λ (m : ℕ). m 
 same_provider : (n k p l q : ℕ) → p < n → q < n → k * n + p ≡ l * n + q → p ≡ q
 same_provider n k p l q h j e = sym (mod-mul-add k n p h) ∙ (ap (λ (m : ℕ). m % n) e ∙ mod-mul-add l n q j)
 
-same_text : (texts : List (List ℕ)) (c d : List ℕ) → IsKnown texts c → place_of texts c ≡ place_of texts d → c ≡ d
+same_text : (texts : List (List ℕ)) (c d : List ℕ) → IsKnown texts c → class_number texts c ≡ class_number texts d → c ≡ d
 same_text texts c d h e =
     let there : IsKnown texts d = omega (arith, e, h) in
     sym (known_at texts c h) ∙ (ap (λ (k : ℕ). slice_index_or texts k []) e ∙ known_at texts d there)
 
 -- what one need asks of another class, or of another provider, is nothing
-asks_other : (n p q : ℕ) (texts : List (List ℕ)) (need : List ℕ × ℕ) (class : List ℕ) → (place_of texts need.0 * n + p ≡ place_of texts class * n + q → ⊥)
+asks_other : (n p q : ℕ) (texts : List (List ℕ)) (need : List ℕ × ℕ) (class : List ℕ) → (class_number texts need.0 * n + p ≡ class_number texts class * n + q → ⊥)
     → asked_of_one p (need ∷ []) q class ≡ 0
 asks_other n p q texts need class other = elim (cases_eq p q) [
   | inr apart ↦ rw (ne_eqb p q apart) refl
   | inl same ↦ elim (cases_Bool (bytes_eq need.0 class)) [
     | inr apart ↦ rw (eq-eqb p q same, apart) refl
-    | inl met ↦ absurd (other (ap₂ (λ (c : List ℕ) (k : ℕ). place_of texts c * n + k) ((bytes_eq-Decides need.0 class).0 met) same))
+    | inl met ↦ absurd (other (ap₂ (λ (c : List ℕ) (k : ℕ). class_number texts c * n + k) ((bytes_eq-Decides need.0 class).0 met) same))
   ]
 ]
 
@@ -66,15 +66,15 @@ asks_here p q need class same met = let e = (bytes_eq-Decides need.0 class).1 me
 
 -- one need is taken
 pub taken_one : (items : List ℕ) (texts : List (List ℕ)) (n p q place sum : ℕ) (need : List ℕ × ℕ) (class : List ℕ) → p < n → q < n → IsKnown texts need.0
-    → place ≡ place_of texts need.0 * n + p → place < length items → sum ≡ slice_index items place + need.1
-    → slice_index (set items place sum) (place_of texts class * n + q) ≡ slice_index items (place_of texts class * n + q) + asked_of_one p (need ∷ []) q class
+    → place ≡ class_number texts need.0 * n + p → place < length items → sum ≡ slice_index items place + need.1
+    → slice_index (set items place sum) (class_number texts class * n + q) ≡ slice_index items (class_number texts class * n + q) + asked_of_one p (need ∷ []) q class
 taken_one items texts n p q place sum need class h j known is inside e =
-    let there = place_of texts class * n + q in
+    let there = class_number texts class * n + q in
     elim (cases_eq there place) [
       | inl same ↦
-          let met : place_of texts need.0 * n + p ≡ place_of texts class * n + q = sym is ∙ sym same in
-          let one = asks_here p q need class (same_provider n (place_of texts need.0) p (place_of texts class) q h j met)
-          (same_text texts need.0 class known (same_class n (place_of texts need.0) p (place_of texts class) q h j met)) in
+          let met : class_number texts need.0 * n + p ≡ class_number texts class * n + q = sym is ∙ sym same in
+          let one = asks_here p q need class (same_provider n (class_number texts need.0) p (class_number texts class) q h j met)
+          (same_text texts need.0 class known (same_class n (class_number texts need.0) p (class_number texts class) q h j met)) in
           get_or-set_at items place there sum 0 same inside ∙ omega (arith, e, ap (slice_index items) same, one)
       | inr other ↦
           let none = asks_other n p q texts need class (λ met. other (sym met ∙ sym is)) in
@@ -177,27 +177,27 @@ room_nowhere all taken ix sum class none = rw (entries (λ ix class had. had.use
 
 -- what was taken stands at its place, and all else where it stood
 pub set_one : (items : List ℕ) (texts : List (List ℕ)) (n p q place v : ℕ) (known class : List ℕ) → p < n → q < n → IsKnown texts known
-    → place ≡ place_of texts known * n + p → place < length items
-    → slice_index (set items place v) (place_of texts class * n + q) ≡ (if (q == p) && bytes_eq known class then v else slice_index items (place_of texts class * n + q))
+    → place ≡ class_number texts known * n + p → place < length items
+    → slice_index (set items place v) (class_number texts class * n + q) ≡ (if (q == p) && bytes_eq known class then v else slice_index items (class_number texts class * n + q))
 set_one items texts n p q place v known class h j k is inside =
-    let there = place_of texts class * n + q in
+    let there = class_number texts class * n + q in
     elim (cases_eq there place) [
       | inl same ↦
-          let met : place_of texts known * n + p ≡ place_of texts class * n + q = sym is ∙ sym same in
-          let provider = same_provider n (place_of texts known) p (place_of texts class) q h j met in
-          let text = (bytes_eq-Decides known class).1 (same_text texts known class k (same_class n (place_of texts known) p (place_of texts class) q h j met)) in
+          let met : class_number texts known * n + p ≡ class_number texts class * n + q = sym is ∙ sym same in
+          let provider = same_provider n (class_number texts known) p (class_number texts class) q h j met in
+          let text = (bytes_eq-Decides known class).1 (same_text texts known class k (same_class n (class_number texts known) p (class_number texts class) q h j met)) in
           rw (eq-eqb q p (sym provider), text) (get_or-set_at items place there v 0 same inside)
       | inr other ↦
           let none : ((q == p) && bytes_eq known class) ≡ false = not_both texts n p q known class (λ met. other (sym met ∙ sym is)) in
           rw none (get_or-set_other items place there v 0 other)
     ]
   where
-    not_both : (texts : List (List ℕ)) (n p q : ℕ) (known class : List ℕ) → (place_of texts known * n + p ≡ place_of texts class * n + q → ⊥) → ((q == p) && bytes_eq known class) ≡ false
+    not_both : (texts : List (List ℕ)) (n p q : ℕ) (known class : List ℕ) → (class_number texts known * n + p ≡ class_number texts class * n + q → ⊥) → ((q == p) && bytes_eq known class) ≡ false
     not_both texts n p q known class other = elim (cases_eq q p) [
       | inr apart ↦ rw (ne_eqb q p apart) refl
       | inl same ↦ elim (cases_Bool (bytes_eq known class)) [
         | inr apart ↦ rw (eq-eqb q p same, apart) refl
-        | inl met ↦ absurd (other (ap₂ (λ (c : List ℕ) (k : ℕ). place_of texts c * n + k) ((bytes_eq-Decides known class).0 met) (sym same)))
+        | inl met ↦ absurd (other (ap₂ (λ (c : List ℕ) (k : ℕ). class_number texts c * n + k) ((bytes_eq-Decides known class).0 met) (sym same)))
       ]
     ]
 
@@ -236,13 +236,13 @@ all_settled all taken rise none =
     amounts_same_found (λ p c had. had.used + taken p c) (λ p c had. had.used) all rise (λ p c had inside there. let zero = none p c inside in omega (arith, zero)) ∙ amounts_kept all
 
 -- what is taken of no class is nothing
-pub none_taken : (items : List ℕ) (texts : List (List ℕ)) (n : ℕ) → length items ≡ n * length texts → ((k p : ℕ) → k < length texts → p < n → slice_index items (place_of texts (slice_index_or texts k []) * n + p) ≡ 0)
-    → (p : ℕ) (c : List ℕ) → p < n → slice_index items (place_of texts c * n + p) ≡ 0
-none_taken items texts n size none p c inside = elim (cases_lt (place_of texts c) (length texts)) [
-  | inl known ↦ ap (λ (d : List ℕ). slice_index items (place_of texts d * n + p)) (sym (known_at texts c known)) ∙ none (place_of texts c) p known inside
+pub none_taken : (items : List ℕ) (texts : List (List ℕ)) (n : ℕ) → length items ≡ n * length texts → ((k p : ℕ) → k < length texts → p < n → slice_index items (class_number texts (slice_index_or texts k []) * n + p) ≡ 0)
+    → (p : ℕ) (c : List ℕ) → p < n → slice_index items (class_number texts c * n + p) ≡ 0
+none_taken items texts n size none p c inside = elim (cases_lt (class_number texts c) (length texts)) [
+  | inl known ↦ ap (λ (d : List ℕ). slice_index items (class_number texts d * n + p)) (sym (known_at texts c known)) ∙ none (class_number texts c) p known inside
   | inr past ↦
-      let far : n * length texts ≤ place_of texts c * n = mul_le n (length texts) (place_of texts c) past in
-      get_or_past items (place_of texts c * n + p) 0 (omega (arith, size, far))
+      let far : n * length texts ≤ class_number texts c * n = mul_le n (length texts) (class_number texts c) past in
+      get_or_past items (class_number texts c * n + p) 0 (omega (arith, size, far))
 ]
   where
     mul_le : (n k m : ℕ) → k ≤ m → n * k ≤ m * n

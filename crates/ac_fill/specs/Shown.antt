@@ -5,7 +5,7 @@ use Rattle.ac_cloud.specs.Amounts.{with_amounts}
 use Rattle.ac_cloud.specs.World.{Provider, provider_at, used_of}
 use Rattle.ac_query.specs.Asked.{Asked}
 use Rattle.ac_query.specs.Shown.Queries.{asked_of}
-use Rattle.ac_prune.specs.Left.{place_of}
+use Rattle.ac_rules.specs.Room.{class_number}
 use Rattle.ac_rules.specs.Placed.{Placed}
 use Rattle.ac_rules.specs.Together.{sum_on}
 use Rattle.ac_fill.specs.declared.takings.Takings.{Takings}
@@ -24,7 +24,7 @@ texts_in t = map (λ c. class_bytes c.now) t.classes.items
 
 -- how much is taken of a class of a provider
 abbrev pub taken_in : Takings → ℕ → List ℕ → ℕ
-taken_in t ix class = slice_index t.amounts.items (place_of (texts_in t) class * t.count + ix)
+taken_in t ix class = slice_index t.amounts.items (class_number (texts_in t) class * t.count + ix)
 
 -- all providers, of which is used what was, and what is taken
 unfoldable pub with_taken : Takings → List Provider → List Provider

@@ -5,7 +5,7 @@ ghost use Rattle.std.specs.List.{All, AllByRecursion};
 ghost use Rattle.ac_base.specs.Names.{class_bytes};
 ghost use Rattle.ac_cloud.specs.Cloud.CloudWorld.{providers_of, root_lists_of, world_of};
 ghost use Rattle.ac_cloud.specs.World.{provider_at, used_of};
-ghost use Rattle.ac_prune.specs.Left.{IsKnown, place_of};
+ghost use Rattle.ac_rules.specs.Room.{IsKnown, class_number};
 ghost use Rattle.ac_query.specs.Asked.{slots_of};
 ghost use Rattle.ac_query.specs.Shown.Groups.{need_entry};
 ghost use Rattle.ac_query.specs.Shown.Queries.{asked_of};
@@ -16,10 +16,9 @@ ghost use Rattle.ac_rules.specs.Together.{amount_of, holds, holds_sums, sum_on, 
 
 use ac_base::{ClassName, NoMemory};
 use ac_cloud::Cloud;
-use ac_prune::{all_classes, number_of};
 use ac_query::{Need, Query};
-use ac_rules::Assignment;
 use ac_rules::slots::needs_at;
+use ac_rules::{Assignment, all_classes, number_of};
 use std::alloc::Global;
 
 /// How much of the classes of a query placements have taken of each provider.
@@ -63,7 +62,7 @@ impl<'a> Takings<'a> {
         requires provider { ix < count_in self.now }
         requires class { IsKnown (texts_in self.now) (class_bytes class.now) }
         ensures place { result
-            ≡ place_of (texts_in self.now) (class_bytes class.now) * count_in self.now + ix }
+            ≡ class_number (texts_in self.now) (class_bytes class.now) * count_in self.now + ix }
         ensures inside { result < length self.now.amounts.items }
     {
         number_of(&self.classes, class) * self.count + ix as usize

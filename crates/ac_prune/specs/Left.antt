@@ -6,19 +6,10 @@ use Rattle.std.specs.List.{list_all}
 use Rattle.std.specs.Str.{bytes_eq}
 use Rattle.ac_cloud.specs.World.{Provider, provider_at, used_of}
 use Rattle.ac_rules.specs.Own.{inventory_of}
-use Rattle.ac_rules.specs.Room.{room_in}
+use Rattle.ac_rules.specs.Room.{IsKnown, class_number, room_in}
 use Rattle.ac_rules.specs.Placed.{Placed}
 use Rattle.ac_rules.specs.Together.{sum_on}
 use Rattle.ac_prune.specs.declared.ledger.rooms.Ask.{Ask}
-
--- the first place of a class among classes; past the end where it isn't there
-abbrev pub place_of : List (List ℕ) → List ℕ → ℕ
-place_of [] class = 0
-place_of (c ∷ classes) class = if bytes_eq c class then 0 else suc (place_of classes class)
-
--- a class is one of them
-abbrev pub IsKnown : List (List ℕ) → List ℕ → Type 0
-IsKnown classes class = place_of classes class < length classes
 
 -- an ask as the number of its class and its amount
 abbrev pub ask_pair : Ask → ℕ × ℕ
@@ -26,7 +17,7 @@ ask_pair a = (a.class, a.amount)
 
 -- a need with the number of its class
 abbrev pub numbered : List (List ℕ) → List ℕ × ℕ → ℕ × ℕ
-numbered classes need = (place_of classes need.0, need.1)
+numbered classes need = (class_number classes need.0, need.1)
 
 -- what asks want of the class of a number, together
 abbrev pub wanted : List (ℕ × ℕ) → ℕ → ℕ
@@ -65,4 +56,4 @@ wanted_at row (a ∷ asks) i = (if row + a.class == i then a.amount else 0) + wa
 -- For each class the room of each provider is left, less what a front asks of it.
 abbrev pub AreLeft : List Provider → List (List ℕ) → (ℕ → ℕ → ℕ) → List Placed → Type 0
 AreLeft all classes left xs = (p : ℕ) (class : List ℕ) → p < length all → IsKnown classes class
-    → left p (place_of classes class) + sum_on xs p class ≡ room_on all p class
+    → left p (class_number classes class) + sum_on xs p class ≡ room_on all p class

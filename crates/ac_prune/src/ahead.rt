@@ -6,7 +6,7 @@ ghost use Rattle.ac_base.specs.Names.{class_bytes};
 ghost use Rattle.ac_cloud.specs.Cloud.CloudWorld.{providers_of};
 ghost use Rattle.ac_prune.specs.Left.Accounts.{providers_in, asked_in, texts_in, left_in};
 ghost use Rattle.ac_prune.specs.Ahead.{load_of, hosts_of, IsHosted};
-ghost use Rattle.ac_prune.specs.Left.{IsKnown};
+ghost use Rattle.ac_rules.specs.Room.{IsKnown};
 ghost use Rattle.ac_prune.specs.Fronts.{search_at};
 ghost use Rattle.ac_prune.specs.Search.{IsDead};
 ghost use Rattle.ac_prune.specs.Trees.{HasProviders};
@@ -15,11 +15,12 @@ use crate::by_tree::ByTree;
 use crate::front::Front;
 use crate::hosts::count_asking;
 use crate::ledger::Ledger;
-use crate::ledger::rooms::{Ask, number_of, wanted};
+use crate::ledger::rooms::{Ask, wanted};
 use crate::look_ahead::LookAhead;
 use crate::tuning::{MOST_ASKS, MOST_HOSTS};
 use ac_base::{ClassName, NoMemory};
 use ac_cloud::Cloud;
+use ac_rules::number_of;
 use std::alloc::Global;
 
 /// What is kept to look ahead along a path.

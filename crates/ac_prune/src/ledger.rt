@@ -11,17 +11,19 @@ ghost use Rattle.ac_rules.specs.Placed.{slot_at, assigned};
 ghost use Rattle.ac_rules.specs.Together.{takes_root};
 ghost use Rattle.ac_rules.specs.Judge.{is_open};
 ghost use Rattle.ac_prune.specs.QuerySearch.{fits};
-ghost use Rattle.ac_prune.specs.Left.{IsKnown, ask_pair, numbered, AreSmall, suffices};
+ghost use Rattle.ac_rules.specs.Room.{IsKnown};
+ghost use Rattle.ac_prune.specs.Left.{ask_pair, numbered, AreSmall, suffices};
 ghost use Rattle.ac_prune.specs.Marks.{needs_own, stand_at_marked};
 
 pub mod marks;
 pub mod rooms;
 
 use crate::ledger::marks::{has_full, hit, lone_slots, mark, taken_roots, unhit, unmark};
-use crate::ledger::rooms::{Ask, all_asks, all_classes, all_rooms, give_back, has_each, take};
+use crate::ledger::rooms::{Ask, all_asks, all_rooms, give_back, has_each, take};
 use ac_base::{ClassName, NoMemory};
 use ac_cloud::Cloud;
 use ac_query::Query;
+use ac_rules::all_classes;
 use std::alloc::Global;
 
 /// What a path takes of the rooms, and which providers and roots it meets.

@@ -21,6 +21,5 @@ pub use front::{Front, bound_by};
 pub use hosts::limit;
 pub use ledger::Ledger;
 pub use ledger::marks::taken_roots;
-pub use ledger::rooms::{all_classes, number_of};
 pub use look_ahead::LookAhead;
 pub use lookout::Lookout;

@@ -2,7 +2,7 @@
 pub mod Columns
 pub mod Places
 use Rattle.std.specs.Prelude.{ℕ, ◌-◌, List, [], ◌∷◌, ◌++◌, codes, Option, None, Some}
-use Rattle.std.specs.List.{slice_get}
+use Rattle.std.specs.List.{flat_map, slice_get}
 use Rattle.std.specs.Option.{option_map_or}
 use Rattle.ac_tables.specs.Tables.{Tables}
 use Rattle.ac_tables.specs.Tables.Checks.{Row}
@@ -10,7 +10,7 @@ use Rattle.ac_tables.specs.declared.fault.Table.{Table}
 use Rattle.ac_tables.specs.declared.fault.Table.TheVariants as table
 use Rattle.ac_tables.specs.declared.fault.TableKind.{TableKind}
 use Rattle.ac_tables.specs.declared.fault.TableKind.TheVariants as kind
-use Rattle.ac_remedies.specs.Quoted.{said}
+use Rattle.ac_remedies.specs.Quoted.{said, shown}
 use Rattle.ac_remedies.specs.Tables.Places.{place_text}
 
 -- what to do about a fault of this kind
@@ -42,9 +42,9 @@ unfoldable pub unread_text : Option (List ℕ) → List ℕ
 unread_text None = codes "give the path of a file that can be read"
 unread_text (Some reason) = said (reason ∷ codes "; give the path of a file that can be read" ∷ [])
 
--- a path, what stands behind it, and what to do
+-- a path as a terminal can show it, what stands behind it, and what to do
 unfoldable pub line_of : List ℕ → List ℕ → List ℕ → List ℕ
-line_of path place remedy = said (codes "  " ∷ path ∷ place ∷ codes ": " ∷ remedy ∷ codes "\n" ∷ [])
+line_of path place remedy = said (codes "  " ∷ flat_map shown path ∷ place ∷ codes ": " ∷ remedy ∷ codes "\n" ∷ [])
 
 -- the records of one of the tables
 unfoldable pub rows_of : Tables → Table → List Row

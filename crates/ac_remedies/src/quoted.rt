@@ -50,7 +50,7 @@ fn push_shown(text: &mut Vec<u8>, byte: u8) -> Result<(), AllocError>
     text.extend_from_slice(&digits)
 }
 
-/// Puts bytes behind a text as they stand in quotes.
+/// Puts bytes behind a text as they stand in quotes: a path stands so too, without quotes and whole.
 pub(crate) fn push_each(text: &mut Vec<u8>, bytes: &[u8]) -> Result<(), AllocError>
     ensures { OnOk result (text.new.items ≡ text.old.items ++ flat_map shown bytes.now) }
 {

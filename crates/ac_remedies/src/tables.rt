@@ -11,7 +11,7 @@ mod places;
 mod reading;
 mod remedies;
 
-use crate::quoted::push_all;
+use crate::quoted::{push_all, push_each};
 use crate::tables::places::push_place;
 use crate::tables::reading::{Found, read_record};
 use crate::tables::remedies::remedy_text;
@@ -68,10 +68,9 @@ fn line_of(alloc: Global, path: &str, place: &[u8], remedy: &[u8]) -> Result<Vec
     ensures { IfOk result (λ text. text.items ≡ line_of path.now place.now remedy.now) }
 {
     let mut text = Vec::new(alloc);
-    push_all(
-        &mut text,
-        &[b"  ", path.as_bytes(), place, b": ", remedy, b"\n"],
-    )?;
+    text.extend_from_slice(b"  ")?;
+    push_each(&mut text, path.as_bytes())?;
+    push_all(&mut text, &[place, b": ", remedy, b"\n"])?;
     Ok(text)
 }
 

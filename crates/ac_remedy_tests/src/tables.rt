@@ -76,7 +76,7 @@ static PROVIDER_LINES: [Case; 10] = [
     (
         3,
         TableKind::Duplicate,
-        "  t.csv, provider @1: an earlier record has the same; take one of them out\n",
+        "  t.csv, uuid \"@1\": an earlier record has the same; take one of them out\n",
     ),
     (
         4,
@@ -197,7 +197,7 @@ static INVENTORY_LINES: [Case; 9] = [
     (
         6,
         TableKind::Duplicate,
-        "  t.csv, provider @1, VCPU: an earlier record has the same; take one of them out\n",
+        "  t.csv, resource_class \"VCPU\", provider @1: an earlier record has the same; take one of them out\n",
     ),
     (
         7,

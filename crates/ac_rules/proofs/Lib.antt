@@ -6,3 +6,4 @@ pub mod SlotLemmas
 pub mod PlaceLemmas
 pub mod Locating
 pub mod ChainLemmas
+pub mod ClassLemmas

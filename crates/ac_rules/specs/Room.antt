@@ -1,6 +1,16 @@
--- What a provider may still give of a class.
-use Rattle.std.specs.Prelude.{ℕ, ◌-◌, min, nat_le, Option, None, Some, if◌then◌else◌}
+-- Classes by their numbers, and what a provider may still give of one.
+use Rattle.std.specs.Prelude.{ℕ, ◌-◌, ◌<◌, suc, min, nat_le, List, [], ◌∷◌, length, Option, None, Some, if◌then◌else◌}
+use Rattle.std.specs.Str.{bytes_eq}
 use Rattle.ac_base.specs.Quantities.{InventoryNumbers, capacity}
+
+-- the number of a class among classes is its first place there; past the end where it isn't there
+abbrev pub class_number : List (List ℕ) → List ℕ → ℕ
+class_number [] class = 0
+class_number (c ∷ classes) class = if bytes_eq c class then 0 else suc (class_number classes class)
+
+-- a class is one of them
+abbrev pub IsKnown : List (List ℕ) → List ℕ → Type 0
+IsKnown classes class = class_number classes class < length classes
 
 -- the most that one assignment may take of an inventory of which so much is used; none where more is used than there is
 abbrev pub room_in : Option InventoryNumbers → ℕ → Option ℕ

@@ -6,6 +6,7 @@
 
 pub mod assignment;
 pub mod claims;
+pub mod classes;
 pub mod judging;
 pub mod laws;
 pub mod located;
@@ -17,6 +18,7 @@ pub mod verdict;
 
 pub use assignment::{Assignment, Placed};
 pub use claims::{claim, release};
+pub use classes::{all_classes, number_of};
 pub use judging::verify;
 pub use located::InCloud;
 pub use plain::Plain;

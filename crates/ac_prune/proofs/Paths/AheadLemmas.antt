@@ -12,7 +12,8 @@ use Rattle.ac_cloud.specs.World.{Provider, is_available_at, anchors_of}
 use Rattle.ac_prune.specs.Left.Accounts.{providers_in, asked_in, texts_in, left_in, Accounts}
 use Rattle.ac_prune.specs.Ahead.{load_of, hosts_of, left_on, asks_much, IsHosted}
 use Rattle.ac_prune.specs.Trees.Keys.{is_there}
-use Rattle.ac_prune.specs.Left.{ask_pair, numbered, place_of, IsKnown}
+use Rattle.ac_rules.specs.Room.{class_number, IsKnown}
+use Rattle.ac_prune.specs.Left.{ask_pair, numbered}
 use Rattle.ac_prune.specs.Loads.{pairs_of, is_much}
 use Rattle.ac_prune.specs.QuerySearch.{search_of}
 use Rattle.ac_prune.specs.Search.{IsDead}
@@ -71,9 +72,9 @@ each_drop P [] (suc n) h = tt
 each_drop P (x ∷ xs) (suc n) h = each_drop P xs n h.1
 
 -- how many slots behind a place ask so much
-later_much : (l : Ledger) (n a : ℕ) (c : List ℕ) → load_of (is_much (place_of (texts_in l) c) a) (pairs_of (drop n l.asks.items)) ≡ load_of (asks_much c a) (drop n (slots_of (asked_in l)))
+later_much : (l : Ledger) (n a : ℕ) (c : List ℕ) → load_of (is_much (class_number (texts_in l) c) a) (pairs_of (drop n l.asks.items)) ≡ load_of (asks_much c a) (drop n (slots_of (asked_in l)))
 later_much l n a c =
-    ap (load_of (is_much (place_of (texts_in l) c) a)) (sym (drop-map (λ (v : Vec Ask). map ask_pair v.items) n l.asks.items) ∙ (ap (drop n) l.asked ∙ drop-map (λ (s : Slot). map (numbered (texts_in l)) s.needs) n (slots_of (asked_in l))))
+    ap (load_of (is_much (class_number (texts_in l) c) a)) (sym (drop-map (λ (v : Vec Ask). map ask_pair v.items) n l.asks.items) ∙ (ap (drop n) l.asked ∙ drop-map (λ (s : Slot). map (numbered (texts_in l)) s.needs) n (slots_of (asked_in l))))
     ∙ asks_load (texts_in l) c (λ m. if nat_le a m then 1 else 0) (drop n (slots_of (asked_in l))) (each_drop (λ s. Each (λ need. IsKnown (texts_in l) need.0) s.needs) (slots_of (asked_in l)) n (all_known l))
 
 -- some of them are no more than all
@@ -83,7 +84,7 @@ fewer f (suc n) [] = omega arith
 fewer f (suc n) (x ∷ xs) = let more = fewer f n xs in omega (arith, more)
 
 -- where the pieces that are left at a root are fewer than the later slots ask for, no candidate that goes on from the front stands there
-pub pieces_lack : (l : Ledger) (q : List ℕ) (r k a n left most : ℕ) (c : List ℕ) (asks : List (Vec Ask)) → asks ≡ l.asks.items → 0 < a → IsKnown (texts_in l) c → k ≡ place_of (texts_in l) c → Accounts l q
+pub pieces_lack : (l : Ledger) (q : List ℕ) (r k a n left most : ℕ) (c : List ℕ) (asks : List (Vec Ask)) → asks ≡ l.asks.items → 0 < a → IsKnown (texts_in l) c → k ≡ class_number (texts_in l) c → Accounts l q
     → min (load_of (λ p. left_in l p k / a) (hosts_of (providers_in l) r)) (2 ^ 64 - 1) ≤ left → left < most → most < 2 ^ 64
     → most ≤ load_of (is_much k a) (pairs_of (take n (drop (length q) asks)))
     → (v : List ℕ) → IsHosted (providers_in l) (asked_in l) r (q ++ v) → ⊥

@@ -29,18 +29,20 @@ use Rattle.ac_rules.specs.Together.{amount_of, sum_on, holds, sums, isolate, tak
 use Rattle.ac_rules.specs.Judge.{is_open}
 use Rattle.ac_prune.specs.QuerySearch.{fits, has_room_alone}
 use Rattle.ac_rules.specs.Laws.{AskAmounts}
-use Rattle.ac_prune.specs.Left.{place_of, IsKnown, AreLeft, AreRooms, ask_pair, numbered, wanted, wanted_at, has_each, suffices}
+use Rattle.ac_rules.specs.Room.{class_number, IsKnown}
+use Rattle.ac_prune.specs.Left.{AreLeft, AreRooms, ask_pair, numbered, wanted, wanted_at, has_each, suffices}
 use Rattle.ac_prune.specs.Marks.{needs_own, marks_at, times, AreMarks, AreHits, stand_at_marked}
 use Rattle.ac_prune.specs.Left.Accounts.{providers_in, asked_in, texts_in, left_in, Accounts}
 use Rattle.ac_prune.specs.declared.ledger.rooms.Ask.{Ask}
 use Rattle.ac_prune.specs.declared.ledger.Ledger.{Ledger}
 use Rattle.ac_rules.proofs.Elements.{each_append, each_map, each_weaker}
 use Rattle.ac_rules.proofs.SlotLemmas.{each_at}
+use Rattle.ac_rules.proofs.ClassLemmas.{known_at}
 use Rattle.ac_rules.proofs.PlacedLemmas.{placed_none}
 use Rattle.ac_rules.proofs.EachSlot.FrontLemmas.{Opens, open_parts}
 use Rattle.ac_prune.proofs.Search.OpenLemmas.{placed_next, open_together, front_open}
 use Rattle.ac_prune.proofs.Paths.RowLemmas.{wanted_here, wanted_there}
-use Rattle.ac_prune.proofs.Paths.LeftLemmas.{known_at, sums_next, sum_here, sum_more, wanted_is, each_suffices, holds_less, less_holds}
+use Rattle.ac_prune.proofs.Paths.LeftLemmas.{sums_next, sum_here, sum_more, wanted_is, each_suffices, holds_less, less_holds}
 use Rattle.ac_prune.proofs.Paths.MarkLemmas.{isolate_next, anchor_marked, marks_more, marks_most, hits_more, hits_most, times_anchors}
 use Rattle.std.proofs.Common.{rules}
 
@@ -110,7 +112,7 @@ asks_at l s v h e =
 
 -- some class has a number
 abbrev HasClass : List (List ℕ) → ℕ → Type 0
-HasClass texts k = (c : List ℕ) × IsKnown texts c × (place_of texts c ≡ k)
+HasClass texts k = (c : List ℕ) × IsKnown texts c × (class_number texts c ≡ k)
 
 class_at : (l : Ledger) (s : ℕ) (v : Vec Ask) → s < length (slots_of (asked_in l)) → v ≡ slice_index_or l.asks.items s v → All (λ a. HasClass (texts_in l) a.class) v.items
 class_at l s v h e i d less =
@@ -226,7 +228,7 @@ hit_there l q p r within accounts = omega (arith, accounts.hits r within, hits_m
 -- what a provider more takes of each room
 moved : (l : Ledger) (s p r : ℕ) (v : Vec Ask) (c : List ℕ) (less more : List ℕ) → s < length (slots_of (asked_in l)) → v ≡ slice_index_or l.asks.items s v → IsKnown (texts_in l) c
     → ((i : ℕ) → slice_index less i + wanted_at (p * length l.classes.items) v.items i ≡ slice_index more i)
-    → slice_index less (r * length l.classes.items + place_of (texts_in l) c) + (if p == r then amount_of (slot_at (asked_in l) s).needs c else 0) ≡ slice_index more (r * length l.classes.items + place_of (texts_in l) c)
+    → slice_index less (r * length l.classes.items + class_number (texts_in l) c) + (if p == r then amount_of (slot_at (asked_in l) s).needs c else 0) ≡ slice_index more (r * length l.classes.items + class_number (texts_in l) c)
 moved l s p r v c less more h e known moves = search (rules, wanted_there, recursion_from_All, asks_low, length-map, asks_at, wanted_is, known_in)
 
 pub left_next : (l : Ledger) (q : List ℕ) (p : ℕ) (v : Vec Ask) (new : List ℕ) → length q < length (slots_of (asked_in l)) → v ≡ slice_index_or l.asks.items (length q) v

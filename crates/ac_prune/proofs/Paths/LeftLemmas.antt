@@ -15,46 +15,22 @@ use Rattle.ac_query.specs.Laws.InOrder.{AreApart}
 use Rattle.ac_query.proofs.Values.PositiveNeeds.{apart_from_sorted}
 use Rattle.ac_cloud.specs.World.{Provider, provider_at, used_of}
 use Rattle.ac_rules.specs.Own.{inventory_of}
-use Rattle.ac_rules.specs.Room.{room_in}
+use Rattle.ac_rules.specs.Room.{class_number, IsKnown, room_in}
 use Rattle.ac_rules.specs.Placed.{Placed}
 use Rattle.ac_rules.specs.Together.{amount_of, sum_on, has_room, holds, sums}
 use Rattle.ac_rules.specs.Laws.{AskAmounts, IsFull}
-use Rattle.ac_prune.specs.Left.{place_of, IsKnown, numbered, wanted, has_each, suffices, room_on}
+use Rattle.ac_prune.specs.Left.{numbered, wanted, has_each, suffices, room_on}
+use Rattle.ac_rules.proofs.ClassLemmas.{same_place}
 use Rattle.ac_rules.proofs.EachSlot.FullLemmas.{sums_say_full}
 use Rattle.std.proofs.Common.{rules}
 
--- a class that is known stands at its place
-pub known_at : (classes : List (List ℕ)) (c : List ℕ) → IsKnown classes c → slice_index_or classes (place_of classes c) [] ≡ c
-known_at [] c h = absurd (omega arith)
-known_at (d ∷ classes) c h = search (rules, bytes_eq-Decides, known_at classes c)
-
-same_place : (classes : List (List ℕ)) (c d : List ℕ) → IsKnown classes c → place_of classes c ≡ place_of classes d → c ≡ d
-same_place classes c d h e =
-    let there : IsKnown classes d = omega (arith, e, h) in
-    sym (known_at classes c h) ∙ (ap (λ (k : ℕ). slice_index_or classes k []) e ∙ known_at classes d there)
-
--- one more class
-known_more : (classes : List (List ℕ)) (d c : List ℕ) → IsKnown classes c → IsKnown (classes ++ d ∷ []) c
-known_more [] d c h = absurd (omega arith)
-known_more (b ∷ classes) d c h = search (rules, known_more classes d c)
-
-known_last : (classes : List (List ℕ)) (c : List ℕ) → IsKnown (classes ++ c ∷ []) c
-known_last [] c = let same = (bytes_eq-Decides c c).1 refl in rw same (omega arith)
-known_last (b ∷ classes) c = search (rules, known_last classes c)
-
-pub known_pushed : {X : Type 0} (text : X → List ℕ) (xs : List X) (x : X) → IsKnown (map text (xs ++ x ∷ [])) (text x)
-known_pushed text xs x = subst (λ ts. IsKnown ts (text x)) (sym (map-append text xs (x ∷ []))) (known_last (map text xs) (text x))
-
-pub known_kept : {X : Type 0} (text : X → List ℕ) (xs : List X) (x : X) (c : List ℕ) → IsKnown (map text xs) c → IsKnown (map text (xs ++ x ∷ [])) c
-known_kept text xs x c h = subst (λ ts. IsKnown ts c) (sym (map-append text xs (x ∷ []))) (known_more (map text xs) (text x) c h)
-
 -- a number of a class stands for its text
-number_test : (classes : List (List ℕ)) (c d : List ℕ) → IsKnown classes c → (place_of classes c == place_of classes d) ≡ bytes_eq c d
+number_test : (classes : List (List ℕ)) (c d : List ℕ) → IsKnown classes c → (class_number classes c == class_number classes d) ≡ bytes_eq c d
 number_test classes c d h = search (rules, eq-eqb, bytes_eq-Decides, ne_eqb, false≢true, same_place)
 
 -- what asks want of a class is what the needs ask of it
 pub wanted_is : (classes : List (List ℕ)) (needs : List (List ℕ × ℕ)) (c : List ℕ) → Each (λ need. IsKnown classes need.0) needs
-    → wanted (map (numbered classes) needs) (place_of classes c) ≡ amount_of needs c
+    → wanted (map (numbered classes) needs) (class_number classes c) ≡ amount_of needs c
 wanted_is classes [] c h = refl
 wanted_is classes (need ∷ needs) c h = ap₂ (λ (b : Bool) (n : ℕ). (if b then need.1 else 0) + n) (number_test classes need.0 c h.0) (wanted_is classes needs c h.1)
 
@@ -89,7 +65,7 @@ sum_other xs x p c e = let other = ne_eqb x.provider p e in let more = rw other 
 
 -- each class of which something is asked has enough in the row
 suffices_from : (classes : List (List ℕ)) (row : ℕ → ℕ) (needs ns : List (List ℕ × ℕ)) → Each (λ need. IsKnown classes need.0) needs
-    → ((c : List ℕ) → IsKnown classes c → 0 < amount_of ns c → amount_of needs c ≤ row (place_of classes c))
+    → ((c : List ℕ) → IsKnown classes c → 0 < amount_of ns c → amount_of needs c ≤ row (class_number classes c))
     → Each (λ need. IsKnown classes need.0) ns → Each (λ need. 0 < need.1) ns
     → list_all (λ a. nat_le (wanted (map (numbered classes) needs) a.0) (row a.0)) (map (numbered classes) ns) ≡ true
 suffices_from classes row needs [] all enough known some = refl
@@ -98,7 +74,7 @@ suffices_from classes row needs (n ∷ ns) all enough known some = search (rules
 suffices_at : (classes : List (List ℕ)) (row : ℕ → ℕ) (needs ns : List (List ℕ × ℕ)) (c : List ℕ) → Each (λ need. IsKnown classes need.0) needs
     → Each (λ need. IsKnown classes need.0) ns
     → list_all (λ a. nat_le (wanted (map (numbered classes) needs) a.0) (row a.0)) (map (numbered classes) ns) ≡ true → 0 < amount_of ns c
-    → IsKnown classes c × (amount_of needs c ≤ row (place_of classes c))
+    → IsKnown classes c × (amount_of needs c ≤ row (class_number classes c))
 suffices_at classes row needs [] c all known h asks = absurd (omega arith)
 suffices_at classes row needs (n ∷ ns) c all known h asks = search (rules, and_parts, bytes_eq-Decides, wanted_is, suffices_at classes row needs ns c all known.1)
 
@@ -128,11 +104,11 @@ each_suffices classes row needs known rising = along needs (amounts_once needs (
     along : (ns : List (List ℕ × ℕ)) → Each (λ need. amount_of needs need.0 ≡ need.1) ns
         → list_all (λ a. nat_le a.1 (row a.0)) (map (numbered classes) ns) ≡ list_all (λ a. nat_le (wanted (map (numbered classes) needs) a.0) (row a.0)) (map (numbered classes) ns)
     along [] once = refl
-    along (n ∷ ns) once = ap₂ (λ (m : ℕ) (b : Bool). nat_le m (row (place_of classes n.0)) && b) (sym (wanted_is classes needs n.0 known ∙ once.0)) (along ns once.1)
+    along (n ∷ ns) once = ap₂ (λ (m : ℕ) (b : Bool). nat_le m (row (class_number classes n.0)) && b) (sym (wanted_is classes needs n.0 known ∙ once.0)) (along ns once.1)
 
 -- What a row must have left of its provider's rooms.
 abbrev pub IsLeft : List Provider → List (List ℕ) → (ℕ → ℕ) → List Placed → ℕ → Type 0
-IsLeft all classes row xs p = (c : List ℕ) → IsKnown classes c → row (place_of classes c) + sum_on xs p c ≡ room_on all p c
+IsLeft all classes row xs p = (c : List ℕ) → IsKnown classes c → row (class_number classes c) + sum_on xs p c ≡ room_on all p c
 
 full_next : (all : List Provider) (classes : List (List ℕ)) (row : ℕ → ℕ) (xs : List Placed) (x : Placed) → IsLeft all classes row xs x.provider
     → Each (λ need. IsKnown classes need.0) x.slot.needs → IsFull all xs → suffices row (map (numbered classes) x.slot.needs) ≡ true → IsFull all (xs ++ x ∷ [])
@@ -142,7 +118,7 @@ full_next all classes row xs x left known full enough p c asked = elim (cases_eq
       elim (cases_lt 0 (amount_of x.slot.needs c)) [
         | inl l ↦
             let at = suffices_at classes row x.slot.needs x.slot.needs c known known enough l in
-            let room = subst (λ (r : ℕ). row (place_of classes c) + sum_on xs r c ≡ room_on all r c) e (left c at.0) in
+            let room = subst (λ (r : ℕ). row (class_number classes c) + sum_on xs r c ≡ room_on all r c) e (left c at.0) in
             less_holds all p c (sum_on (xs ++ x ∷ []) p c) asked (omega (arith, sum, room, at.1))
         | inr l ↦
             let same : sum_on (xs ++ x ∷ []) p c ≡ sum_on xs p c = omega (arith, sum, l) in

@@ -17,7 +17,8 @@ use Rattle.ac_prune.specs.Search.{IsDead}
 use Rattle.ac_rules.specs.Placed.{Placed, placed, slot_at, no_slot, assigned}
 use Rattle.ac_rules.specs.Together.{amount_of, sum_on, holds, takes_root}
 use Rattle.ac_prune.specs.QuerySearch.{fits, choice_of, search_of}
-use Rattle.ac_prune.specs.Left.{ask_pair, numbered, wanted, place_of, IsKnown}
+use Rattle.ac_rules.specs.Room.{class_number, IsKnown}
+use Rattle.ac_prune.specs.Left.{ask_pair, numbered, wanted}
 use Rattle.ac_prune.specs.Left.Accounts.{providers_in, asked_in, texts_in, left_in}
 use Rattle.ac_prune.specs.Loads.{AreServing, ArePieces, AreOnes, AreLimited, MayHost, choice_in, load_at, pairs_of, is_much}
 use Rattle.ac_prune.specs.Loads.Columns.{count_of_lone}
@@ -30,7 +31,7 @@ use Rattle.ac_rules.proofs.Elements.{Among, each_weaker, each_filter}
 use Rattle.ac_rules.proofs.EachSlot.AnchorLemmas.{each_range}
 use Rattle.ac_prune.proofs.Paths.LeftLemmas.{wanted_is}
 use Rattle.ac_prune.proofs.Search.OpenLemmas.{each_choice}
-use Rattle.ac_prune.proofs.Search.SoughtLemmas.{place_of as place_of_choice}
+use Rattle.ac_prune.proofs.Search.SoughtLemmas.{class_number as place_of_choice}
 use Rattle.ac_prune.proofs.Paths.LedgerLemmas.{known_in, asks_at, lone_at}
 use Rattle.ac_prune.proofs.Roots.CountLemmas.{load_of_append}
 use Rattle.ac_prune.proofs.Paths.BearLemmas.{left_bears, pieces_bear, lone_bears}
@@ -63,15 +64,15 @@ each_index P (x ∷ xs) d h = (h 0 (omega arith), each_index P xs d (λ i l. h (
 
 -- what all slots ask of a class, by its number
 pub asks_load : (classes : List (List ℕ)) (c : List ℕ) (f : ℕ → ℕ) (ss : List Slot) → Each (λ s. Each (λ need. IsKnown classes need.0) s.needs) ss
-    → load_of (λ a. f (wanted a (place_of classes c))) (map (λ s. map (numbered classes) s.needs) ss) ≡ load_of (λ s. f (amount_of s.needs c)) ss
+    → load_of (λ a. f (wanted a (class_number classes c))) (map (λ s. map (numbered classes) s.needs) ss) ≡ load_of (λ s. f (amount_of s.needs c)) ss
 asks_load classes c f [] h = refl
 asks_load classes c f (s ∷ ss) h = ap₂ (λ m n. f m + n) (wanted_is classes s.needs c h.0) (asks_load classes c f ss h.1)
 
 pub all_known : (l : Ledger) → Each (λ s. Each (λ need. IsKnown (texts_in l) need.0) s.needs) (slots_of (asked_in l))
 all_known l = each_index (λ s. Each (λ need. IsKnown (texts_in l) need.0) s.needs) (slots_of (asked_in l)) no_slot (known_in l)
 
-pub asks_in : (l : Ledger) (c : List ℕ) (f : ℕ → ℕ) → load_of (λ a. f (wanted a (place_of (texts_in l) c))) (pairs_of l.asks.items) ≡ load_of (λ s. f (amount_of s.needs c)) (slots_of (asked_in l))
-asks_in l c f = ap (load_of (λ a. f (wanted a (place_of (texts_in l) c)))) l.asked ∙ asks_load (texts_in l) c f (slots_of (asked_in l)) (all_known l)
+pub asks_in : (l : Ledger) (c : List ℕ) (f : ℕ → ℕ) → load_of (λ a. f (wanted a (class_number (texts_in l) c))) (pairs_of l.asks.items) ≡ load_of (λ s. f (amount_of s.needs c)) (slots_of (asked_in l))
+asks_in l c f = ap (load_of (λ a. f (wanted a (class_number (texts_in l) c)))) l.asked ∙ asks_load (texts_in l) c f (slots_of (asked_in l)) (all_known l)
 
 -- Where no provider bears more of a weight than its room, rooms that are no less reach at a root what the later slots weigh.
 pub reached : (all : List Provider) (asked : Asked) (q v : List ℕ) (r : ℕ) (weight : Slot → ℕ) (room rooms : ℕ → ℕ) → Bears all asked q weight room → ((p : ℕ) → p < length all → room p ≤ rooms p)
@@ -196,6 +197,6 @@ pub load_take : (w : Slot → ℕ) (ss : List Slot) (s : ℕ) → s < length ss 
 load_take w ss s h = ap (load_of w) (take_more ss s no_slot h) ∙ (load_of_append w (take s ss) (slice_index_or ss s no_slot ∷ []) ∙ omega arith)
 
 -- what is told of a slot that needs a provider for itself
-pub lone_told : (l : Ledger) (s k a w : ℕ) (c : List ℕ) (b : Bool) (v : Vec Ask) → s < length (slots_of (asked_in l)) → k ≡ place_of (texts_in l) c → b ≡ slice_index_or l.lone.items s b → v ≡ slice_index_or l.asks.items s v
+pub lone_told : (l : Ledger) (s k a w : ℕ) (c : List ℕ) (b : Bool) (v : Vec Ask) → s < length (slots_of (asked_in l)) → k ≡ class_number (texts_in l) c → b ≡ slice_index_or l.lone.items s b → v ≡ slice_index_or l.asks.items s v
     → w ≤ wanted (map ask_pair v.items) k → b ≡ true → a ≤ w → 1 ≤ lone_much (asked_in l) c a (slot_at (asked_in l) s)
 lone_told l s k a w c b v h number is of less lone much = search (rules, lone_at, asks_at, wanted_is, known_in)

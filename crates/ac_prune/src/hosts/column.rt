@@ -5,15 +5,17 @@ ghost use Rattle.ac_base.specs.Names.{class_bytes};
 ghost use Rattle.ac_query.specs.Asked.{slots_of};
 ghost use Rattle.ac_prune.specs.Left.Accounts.{providers_in, asked_in, texts_in, left_in, Accounts};
 ghost use Rattle.ac_prune.specs.Ahead.{load_of};
-ghost use Rattle.ac_prune.specs.Left.{wanted, place_of, IsKnown};
+ghost use Rattle.ac_rules.specs.Room.{class_number, IsKnown};
+ghost use Rattle.ac_prune.specs.Left.{wanted};
 ghost use Rattle.ac_prune.specs.Loads.{ArePieces, AreOnes, MayHost, pairs_of, is_much};
 ghost use Rattle.ac_rules.specs.Placed.{slot_at};
 
 use super::loads::limit;
 use super::{Budget, ClassTest};
 use crate::ledger::Ledger;
-use crate::ledger::rooms::{Ask, number_of, wanted};
+use crate::ledger::rooms::{Ask, wanted};
 use ac_base::{ClassName, NoMemory};
+use ac_rules::number_of;
 use ac_rules::slots::count_slots;
 use std::alloc::Global;
 
@@ -27,7 +29,7 @@ pub(crate) struct Column<'l, 'a> {
     rooms: Vec<u64>,
     ghost empty: { Accounts ledger.now [] },
     ghost known: { IsKnown (texts_in ledger.now) (class_bytes class.now) },
-    ghost numbered: { number ≡ place_of (texts_in ledger.now) (class_bytes class.now) },
+    ghost numbered: { number ≡ class_number (texts_in ledger.now) (class_bytes class.now) },
     ghost as_many: { length rooms.items ≡ length (providers_in ledger.now) },
     ghost left: { (p : ℕ) → p < length (providers_in ledger.now) → slice_index rooms.items p ≡ left_in ledger.now p number },
 }

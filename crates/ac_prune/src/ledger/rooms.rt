@@ -8,11 +8,13 @@ ghost use Rattle.ac_query.specs.Asked.{slots_of};
 ghost use Rattle.ac_query.specs.Shown.Groups.{need_entry};
 ghost use Rattle.ac_query.specs.Shown.Queries.{asked_of};
 ghost use Rattle.ac_rules.specs.Placed.{slot_at};
-ghost use Rattle.ac_prune.specs.Left.{place_of, IsKnown, ask_pair, numbered, wanted, wanted_at, has_each, room_on, AreRooms};
+ghost use Rattle.ac_rules.specs.Room.{class_number, IsKnown};
+ghost use Rattle.ac_prune.specs.Left.{ask_pair, numbered, wanted, wanted_at, has_each, room_on, AreRooms};
 
 use ac_base::{ClassName, NoMemory};
 use ac_cloud::Cloud;
 use ac_query::{Need, Query};
+use ac_rules::number_of;
 use ac_rules::rules::sums::room_at;
 use ac_rules::slots::{count_slots, needs_at};
 use std::alloc::Global;
@@ -22,70 +24,6 @@ use std::alloc::Global;
 pub(crate) struct Ask {
     pub(crate) class: usize,
     pub(crate) amount: u32,
-}
-
-/// The number of a class among classes; past the end where it isn't there.
-pub fn number_of(classes: &[&ClassName], class: &ClassName) -> usize
-    ensures number { result ≡ place_of (map (λ c. class_bytes c.now) classes.now)
-        (class_bytes class.now) }
-    ensures within { result ≤ length classes.now }
-{
-    for (k, known) in classes.iter().enumerate() {
-        if *known == class {
-            return k;
-        }
-    }
-    classes.len()
-}
-
-// These classes and one more, unless it is one of them.
-fn with_class<'a>(
-    classes: Vec<&'a ClassName>,
-    class: &'a ClassName,
-) -> Result<Vec<&'a ClassName>, NoMemory>
-    ensures here { IfOk result (λ all.
-        IsKnown (map (λ c. class_bytes c.now) all.items) (class_bytes class.now)) }
-    ensures stay { IfOk result (λ all. (c : List ℕ)
-        → IsKnown (map (λ c. class_bytes c.now) classes.entry.items) c
-        → IsKnown (map (λ c. class_bytes c.now) all.items) c) }
-{
-    if number_of(&classes, class) < classes.len() {
-        return Ok(classes);
-    }
-    let mut all = classes;
-    all.push(class)?;
-    Ok(all)
-}
-
-// These classes and those of some needs, each once.
-fn with_classes<'a>(
-    classes: Vec<&'a ClassName>,
-    needs: &'a [Need],
-) -> Result<Vec<&'a ClassName>, NoMemory>
-    ensures here { IfOk result (λ all. AllByRecursion (λ need.
-        IsKnown (map (λ c. class_bytes c.now) all.items) need.0) (map need_entry needs.now)) }
-    ensures stay { IfOk result (λ all. (c : List ℕ)
-        → IsKnown (map (λ c. class_bytes c.now) classes.entry.items) c
-        → IsKnown (map (λ c. class_bytes c.now) all.items) c) }
-{
-    let mut all = classes;
-    for need in needs {
-        all = with_class(all, need.class())?;
-    }
-    Ok(all)
-}
-
-/// The classes of all slots, each once.
-pub fn all_classes(alloc: Global, query: &Query) -> Result<Vec<&ClassName>, NoMemory>
-    ensures { IfOk result (λ all. (s : ℕ) → s < length (slots_of (asked_of query.now))
-        → AllByRecursion (λ need. IsKnown (map (λ c. class_bytes c.now) all.items) need.0)
-        (slot_at (asked_of query.now) s).needs) }
-{
-    let mut all = Vec::new(alloc);
-    for s in 0..count_slots(query) {
-        all = with_classes(all, needs_at(query, s))?;
-    }
-    Ok(all)
 }
 
 // What needs ask, class by class.

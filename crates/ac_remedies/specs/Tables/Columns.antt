@@ -6,7 +6,7 @@ use Rattle.std.specs.Str.{bytes_eq}
 use Rattle.ac_base.specs.Texts.{count_value, id_value}
 use Rattle.ac_tables.specs.Tables.Checks.{Row}
 use Rattle.ac_tables.specs.Tables.Columns.{is_double, is_missing, text_or_none}
-use Rattle.ac_tables.specs.Tables.ProviderTable.{is_bad_parent, name_name, parent_name, provider_columns, root_name}
+use Rattle.ac_tables.specs.Tables.ProviderTable.{is_bad_parent, name_name, parent_name, provider_columns, root_name, uuid_name}
 use Rattle.ac_tables.specs.Tables.InventoryTable.{class_name, inventory_columns, max_unit_name, min_unit_name, provider_name, ratio_name, reserved_name, step_size_name, total_name}
 use Rattle.ac_tables.specs.Tables.UsageTable.{usage_columns, usage_name}
 use Rattle.ac_tables.specs.Tables.TraitTable.{trait_columns}
@@ -34,6 +34,13 @@ number_columns table.Inventories = total_name ∷ reserved_name ∷ min_unit_nam
 number_columns table.Usages = usage_name ∷ []
 number_columns _ = []
 
+-- that by which a second record of the same thing is known: a provider's own UUID, or a class beside its provider
+unfoldable pub key_columns : Table → List (List ℕ)
+key_columns table.Providers = uuid_name ∷ []
+key_columns table.Inventories = class_name ∷ []
+key_columns table.Usages = class_name ∷ []
+key_columns _ = []
+
 -- the columns that a check of this kind looks at; none where it is of a whole record
 unfoldable pub columns_of : Table → TableKind → List (List ℕ)
 columns_of t kind.MissingColumn = needed_columns t
@@ -45,6 +52,7 @@ columns_of t kind.BadNumber = number_columns t
 columns_of t kind.BadRatio = ratio_name ∷ []
 columns_of t kind.ZeroStep = step_size_name ∷ []
 columns_of t kind.ReservedOverTotal = reserved_name ∷ []
+columns_of t kind.Duplicate = key_columns t
 columns_of t kind.UnknownProvider = provider_name ∷ []
 columns_of t kind.NoInventory = class_name ∷ []
 columns_of t kind.UnknownParent = parent_name ∷ []

@@ -3,7 +3,7 @@ ghost use Rattle.std.specs.Prelude.{◌≡◌};
 ghost use Rattle.std.specs.Option.{option_copied};
 ghost use Rattle.csv.specs.Records.{fields_of};
 ghost use Rattle.ac_tables.specs.Tables.Columns.{bytes_of};
-ghost use Rattle.ac_remedies.specs.Tables.Columns.{columns_of, first_broken, is_bad_uuid, is_broken, needed_columns, number_columns, uuid_columns};
+ghost use Rattle.ac_remedies.specs.Tables.Columns.{columns_of, first_broken, is_bad_uuid, is_broken, key_columns, needed_columns, number_columns, uuid_columns};
 
 use crate::tables::reading::Found;
 use ac_base::{Id, read_count};
@@ -75,6 +75,18 @@ fn number_columns(table: Table) -> &'static [&'static [u8]]
     }
 }
 
+// The columns by which a second record of the same thing is known.
+#[tactic(auto, unfolding(crate::specs::Tables::Columns::key_columns, ac_tables::specs::Tables::ProviderTable::uuid_name, ac_tables::specs::Tables::InventoryTable::class_name))]
+fn key_columns(table: Table) -> &'static [&'static [u8]]
+    ensures { bytes_of result.now ≡ key_columns table }
+{
+    match table {
+        Table::Providers => &[UUID],
+        Table::Inventories | Table::Usages => &[CLASS],
+        _ => &[],
+    }
+}
+
 // The columns that a check of this kind looks at.
 #[tactic(auto, unfolding(crate::specs::Tables::Columns::columns_of, ac_tables::specs::Tables::InventoryTable::provider_name, ac_tables::specs::Tables::InventoryTable::class_name, ac_tables::specs::Tables::InventoryTable::reserved_name, ac_tables::specs::Tables::InventoryTable::step_size_name, ac_tables::specs::Tables::InventoryTable::ratio_name, ac_tables::specs::Tables::ProviderTable::root_name, ac_tables::specs::Tables::ProviderTable::parent_name, ac_tables::specs::Tables::ProviderTable::name_name))]
 pub(super) fn columns_of(table: Table, kind: TableKind) -> &'static [&'static [u8]]
@@ -89,6 +101,7 @@ pub(super) fn columns_of(table: Table, kind: TableKind) -> &'static [&'static [u
         TableKind::BadRatio => &[RATIO],
         TableKind::ZeroStep => &[STEP_SIZE],
         TableKind::ReservedOverTotal => &[RESERVED],
+        TableKind::Duplicate => key_columns(table),
         TableKind::UnknownProvider => &[OWNER],
         TableKind::UnknownParent | TableKind::ParentCycle => &[PARENT],
         TableKind::WrongRoot => &[ROOT],

@@ -3,7 +3,7 @@ use Rattle.std.specs.List.{list_all, AllByRecursion as Each}
 use Rattle.ac_cloud.specs.World.{provider_at}
 use Rattle.ac_cloud.specs.Cloud.CloudWorld.{providers_of}
 use Rattle.ac_query.specs.Shown.Groups.{need_entry}
-use Rattle.ac_prune.specs.Left.{IsKnown}
+use Rattle.ac_rules.specs.Room.{IsKnown}
 use Rattle.ac_rules.specs.Shown.Assignments.{assigned_of}
 use Rattle.ac_rules.specs.Together.{holds, sum_on}
 use Rattle.ac_fill.specs.Shown.{texts_in, with_taken, NeedFits}

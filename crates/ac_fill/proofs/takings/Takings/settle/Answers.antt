@@ -4,7 +4,7 @@ use Rattle.std.proofs.lemmas.List.{length-map}
 use Rattle.ac_base.specs.Names.{class_bytes}
 use Rattle.ac_cloud.specs.Cloud.CloudWorld.{providers_of}
 use Rattle.ac_cloud.proofs.InOrder.{entries_rise}
-use Rattle.ac_prune.specs.Left.{IsKnown}
+use Rattle.ac_rules.specs.Room.{IsKnown}
 use Rattle.ac_fill.specs.Shown.{count_in, taken_in, texts_in, with_taken, IsSame}
 use Rattle.ac_fill.specs.declared.takings.Takings.{Takings}
 use Rattle.ac_fill.proofs.Taken.{all_settled, known_in, none_taken, text_at}

@@ -8,7 +8,7 @@ use Rattle.ac_cloud.specs.Cloud.CloudWorld.{providers_of}
 use Rattle.ac_cloud.specs.World.{Provider, provider_at, used_of}
 use Rattle.ac_cloud.proofs.Amounts.{amounts_size}
 use Rattle.ac_cloud.proofs.InOrder.{entries_rise}
-use Rattle.ac_prune.specs.Left.{place_of}
+use Rattle.ac_rules.specs.Room.{class_number}
 use Rattle.ac_fill.specs.Shown.{taken_in, texts_in, with_taken}
 use Rattle.ac_fill.proofs.Taken.{set_one, settled_one, used_other}
 use Rattle.ac_fill.proofs.takings.Takings.settle_one.Goals as goal
@@ -24,7 +24,7 @@ returns-then-taken-gt0-clause-world c =
     let t = c.args.self.now in
     let all = providers_of c.args.cloud.now in
     let class = class_bytes c.args.class.now in
-    let new : ℕ → List ℕ → ℕ = λ p d. slice_index (set t.amounts.items c.place-place.result 0) (place_of (texts_in t) d * t.count + p) in
+    let new : ℕ → List ℕ → ℕ = λ p d. slice_index (set t.amounts.items c.place-place.result 0) (class_number (texts_in t) d * t.count + p) in
     let taken : c.index-taken.result.now ≡ taken_in t c.args.ix class =
     c.index-taken.ensures
     ∙ (get_or_default_zero t.amounts.items c.place-place.result c.index-taken.result.now c.place-place.ensures.inside ∙ ap (slice_index t.amounts.items) c.place-place.ensures.place) in

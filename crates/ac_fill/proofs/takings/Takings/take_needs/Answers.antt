@@ -3,7 +3,7 @@ use Rattle.std.proofs.lemmas.List.{drop_more}
 use Rattle.std.specs.List.{AllByRecursion as Each}
 use Rattle.ac_query.specs.Shown.Groups.{need_entry}
 use Rattle.ac_query.specs.declared.group.Need.{Need}
-use Rattle.ac_prune.specs.Left.{IsKnown}
+use Rattle.ac_rules.specs.Room.{IsKnown}
 use Rattle.ac_rules.specs.Shown.Changes.{asked_of_one}
 use Rattle.ac_fill.specs.Shown.{taken_in, texts_in}
 use Rattle.ac_fill.proofs.Taken.{fits_one}

@@ -1,7 +1,7 @@
 use Rattle.std.proofs.Common.{◌≡◌, ◌<◌, ◌≤◌, ◌+◌, ℕ, List, map, drop}
 use Rattle.std.specs.List.{AllByRecursion as Each}
 use Rattle.ac_query.specs.Shown.Groups.{need_entry}
-use Rattle.ac_prune.specs.Left.{IsKnown}
+use Rattle.ac_rules.specs.Room.{IsKnown}
 use Rattle.ac_rules.specs.Shown.Changes.{asked_of_one}
 use Rattle.ac_fill.specs.Shown.{count_in, taken_in, texts_in, IsSame}
 use Rattle.ac_fill.proofs.takings.Takings.take_needs.Given as goal

@@ -5,8 +5,9 @@ use Rattle.ac_base.specs.Names.{class_bytes}
 use Rattle.ac_query.specs.Shown.Queries.{asked_of}
 use Rattle.ac_cloud.specs.Cloud.CloudWorld.{providers_of}
 use Rattle.ac_rules.specs.Placed.{slot_at}
-use Rattle.ac_prune.specs.Left.{IsKnown, place_of, room_on}
-use Rattle.ac_prune.proofs.Paths.LeftLemmas.{known_at}
+use Rattle.ac_rules.specs.Room.{IsKnown, class_number}
+use Rattle.ac_prune.specs.Left.{room_on}
+use Rattle.ac_rules.proofs.ClassLemmas.{known_at}
 use Rattle.ac_prune.proofs.Paths.LedgerLemmas.{left_none, marks_empty, hits_empty}
 use Rattle.ac_prune.proofs.ledger.Ledger.new.Goals as goal
 
@@ -20,8 +21,8 @@ invariant_of-result c =
       asked = rw c.deref.ensures.value at c.in_ok-asks.ensures;
       sized = rw c.deref-2.ensures.value at c.in_ok-rooms.ensures.count;
       small = λ k known p h.
-          let low : place_of texts k < length c.in_ok-classes.classes.items = omega (arith, known, length-map c.in_ok-classes.classes.items (λ v. class_bytes v.now)) in
-          omega (arith, are p (place_of texts k) h low, ap (room_on all p) (known_at texts k known), c.in_ok-rooms.ensures.small (p * length c.in_ok-classes.classes.items + place_of texts k));
+          let low : class_number texts k < length c.in_ok-classes.classes.items = omega (arith, known, length-map c.in_ok-classes.classes.items (λ v. class_bytes v.now)) in
+          omega (arith, are p (class_number texts k) h low, ap (room_on all p) (known_at texts k known), c.in_ok-rooms.ensures.small (p * length c.in_ok-classes.classes.items + class_number texts k));
       alone = c.in_ok-lone.ensures;
       marked = omega (arith, c.in_ok-marks.marks.ok, c.in_ok-marks.ensures.len, c.len-count.ensures);
       rooted = c.in_ok-taken.ensures;

@@ -2,8 +2,8 @@ use Rattle.std.proofs.Common.{List, ℕ, map, take}
 use Rattle.std.specs.List.{AllByRecursion}
 use Rattle.ac_base.specs.Names.{class_bytes}
 use Rattle.ac_query.specs.Shown.Groups.{need_entry}
-use Rattle.ac_prune.specs.Left.{IsKnown}
-use Rattle.ac_prune.proofs.ledger.rooms.with_classes.Given as goal
+use Rattle.ac_rules.specs.Room.{IsKnown}
+use Rattle.ac_rules.proofs.classes.with_classes.Given as goal
 
 abbrev pub invariant-loop-need : goal.invariant-loop-need
 invariant-loop-need l = record {

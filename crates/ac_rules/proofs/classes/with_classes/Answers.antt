@@ -2,9 +2,9 @@ use Rattle.std.proofs.Common.{◌≡◌, ℕ, ◌+◌, suc, List, map, take, sub
 use Rattle.std.specs.List.{AllByRecursion}
 use Rattle.ac_base.specs.Names.{class_bytes}
 use Rattle.ac_query.specs.Shown.Groups.{need_entry}
-use Rattle.ac_prune.specs.Left.{IsKnown}
+use Rattle.ac_rules.specs.Room.{IsKnown}
 use Rattle.ac_rules.proofs.Elements.{each_take, each_weaker}
-use Rattle.ac_prune.proofs.ledger.rooms.with_classes.Goals as goal
+use Rattle.ac_rules.proofs.classes.with_classes.Goals as goal
 
 pub loop-need-preserved : goal.loop-need-preserved
 loop-need-preserved c =
