@@ -31,7 +31,7 @@ use Rattle.ac_rules.proofs.Elements.{Among, each_weaker, each_filter}
 use Rattle.ac_rules.proofs.EachSlot.AnchorLemmas.{each_range}
 use Rattle.ac_prune.proofs.Paths.LeftLemmas.{wanted_is}
 use Rattle.ac_prune.proofs.Search.OpenLemmas.{each_choice}
-use Rattle.ac_prune.proofs.Search.SoughtLemmas.{class_number as place_of_choice}
+use Rattle.ac_prune.proofs.Search.SoughtLemmas.{place_of}
 use Rattle.ac_prune.proofs.Paths.LedgerLemmas.{known_in, asks_at, lone_at}
 use Rattle.ac_prune.proofs.Roots.CountLemmas.{load_of_append}
 use Rattle.ac_prune.proofs.Paths.BearLemmas.{left_bears, pieces_bear, lone_bears}
@@ -156,7 +156,7 @@ slot_hosted l r t s choices rooms h hosted are some =
     let p = slice_index t s in
     let host = placed_holds (λ slot p. Among (hosts_of all r) p) (slots_of asked) t s hosted.list.long h (behind_hosts all asked [] t r hosted) in
     let there : Among choices p = subst (λ (xs : List ℕ). Among xs p) (sym are) (choice_there all asked t s hosted.list hosted.candidate h) in
-    grind (arith, nat_tests, place_of_choice, among_load)
+    grind (arith, nat_tests, place_of, among_load)
 
 pub slot_keeps : (l : Ledger) (old new : List Bool) (choices rooms : List ℕ) (s : ℕ) → s < length (slots_of (asked_in l)) → choices ≡ choice_in l s → AreServing choices rooms
     → MayHost l old → length new ≡ length old → AreLimited (providers_in l) rooms 1 old new → MayHost l new

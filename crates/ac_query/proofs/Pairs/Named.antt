@@ -1,9 +1,9 @@
 -- What pairs ask for is asked by names.
 use Rattle.std.proofs.Common.{◌≡◌, ℕ, Bool, true, false, List, [], ◌∷◌, ◌++◌, Option, Some, None, IfSome, map, length, refl}
-use Rattle.std.specs.Prelude.{⊤, ◌==◌, codes, cond, not, unwrap_or, if◌then◌else◌}
+use Rattle.std.specs.Prelude.{⊤, ◌==◌, codes, cond, not, if◌then◌else◌}
 use Rattle.std.specs.BTreeMap.{insert_entry, is_at}
 use Rattle.std.specs.BTreeSet.{insert_key}
-use Rattle.std.specs.List.{AllByRecursion, after_first, before_first, cons_option, filter, filter_map, fold}
+use Rattle.std.specs.List.{AllByRecursion, after_first, before_first, filter, fold}
 use Rattle.std.specs.Map.{lookup}
 use Rattle.std.specs.Option.{option_and_then, option_map}
 use Rattle.std.specs.Ordering.{match_ordering}
@@ -12,8 +12,8 @@ use Rattle.std.specs.declared.cmp.Ordering.{Ordering}
 use Rattle.std.specs.declared.cmp.Ordering.TheVariants.{Less, Equal, Greater}
 use Rattle.ac_base.specs.Texts.{id_value, is_name, is_suffix, name_value, suffix_value, text_cmp}
 use Rattle.ac_query.proofs.Values.Choosing.{any_some, else_some, map_some, one_more, then_some}
-use Rattle.ac_query.specs.Asked.{Asked, Group}
-use Rattle.ac_query.specs.Laws.Gathered.{Gathered, add_plain, add_suffixed, as_asked, asked_by, empty_group, gathered, grown, nothing, of_suffix, plain_groups, with_given, with_part, with_suffixed}
+use Rattle.ac_query.specs.Asked.{Group}
+use Rattle.ac_query.specs.Laws.Gathered.{Gathered, as_asked, asked_by, empty_group, gathered, grown, nothing, of_suffix, plain_groups, with_given, with_part}
 use Rattle.ac_query.specs.Laws.Named.{AreNames, AreSuffixes, AsksByName, HasNames, IsName, IsSuffix, QueryAsksByName}
 use Rattle.ac_query.specs.Pairs.{given, read_pair}
 use Rattle.ac_query.specs.Pairs.Parameters.{Parameter, field_of, group_of, group_parameter, group_policy, limit, of_group, parameter, plain_parameter, root_required, same_subtree}

@@ -193,18 +193,6 @@ fn is_too_large(draft: &Draft) -> bool
     has_too_many_entries(classes, &draft.suffixed)
 }
 
-/// Whether the unsuffixed group is there and has no resources.
-fn is_bare(plain: &Option<GroupDraft>) -> bool
-    ensures { (listed : List (List ℕ))
-        → first_fault (map (group_condition listed) (plain_shown plain.now))
-        ≡ (if result then Some (group_without_resources None) else None) }
-{
-    match plain {
-        Some(group) => !group.has_resources(),
-        None => false,
-    }
-}
-
 /// Tells the first group without resources that no list has.
 fn check_groups(alloc: Global, draft: &Draft, listed: &BTreeSet<Suffix>) -> Result<(), QueryFault>
     ensures ok { OnOk result (first_fault (map (group_condition (suffixes_shown listed.now))
@@ -213,7 +201,11 @@ fn check_groups(alloc: Global, draft: &Draft, listed: &BTreeSet<Suffix>) -> Resu
         first_fault (map (group_condition (suffixes_shown listed.now))
         (draft_asked draft.now).groups) ≡ Some f)) }
 {
-    if is_bare(&draft.plain) {
+    if draft
+        .plain
+        .as_ref()
+        .is_some_and(|group| !group.has_resources())
+    {
         return Err(QueryFault::GroupWithoutResources(None));
     }
     match find_bare(&draft.suffixed, listed) {
