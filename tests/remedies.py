@@ -177,10 +177,11 @@ LARGE = [
     ('traits', 'TooLarge', lambda: of_rows(MOST_BYTES // 40), ': more than 67108864 bytes; take out rows that no query asks for', lambda: of_rows(1000)),
 ]
 
-# Paths of tables that can't be read, and what stands behind them: a file that isn't there, and a folder.
+# Paths of tables that can't be read, how they are shown, and what stands behind them: files that aren't there, and a folder.
 UNREAD = [
-    ('nowhere.csv', ': there is no such file; give the path of a file that can be read'),
-    ('.', ': it is a folder, and no file; give the path of a file that can be read'),
+    ('nowhere.csv', 'nowhere.csv', ': there is no such file; give the path of a file that can be read'),
+    ('\x1b[2J"é.csv', '\\x1b[2J\\x22\\xc3\\xa9.csv', ': there is no such file; give the path of a file that can be read'),
+    ('.', '.', ': it is a folder, and no file; give the path of a file that can be read'),
 ]
 
 
@@ -215,7 +216,7 @@ def second_lines():
         name, others = f'{table}: {kind}', {table: HEADERS[table] for table in ('providers', 'inventories')} if table == 'providers' else TABLES
         yield from both(name, ['check'], (f'{name}\n  ', f'/{table}.csv{line}\n'), 3, {**others, table: large})
         yield follows(name, ['check'], {**others, table: left})
-    for path, line in UNREAD:
+    for path, shown, line in UNREAD:
         others = {table: text for table, text in TABLES.items() if table != 'providers'}
-        yield from both(f'the path {path}', ['check', '--providers', path], (f'providers: Unreadable\n  {path}{line}\n',), 3, others)
-        yield follows(f'the path {path}', ['check'], TABLES)
+        yield from both(f'the path {shown}', ['check', '--providers', path], (f'providers: Unreadable\n  {shown}{line}\n',), 3, others)
+        yield follows(f'the path {shown}', ['check'], TABLES)

@@ -350,5 +350,8 @@ fn files(rt: HostRuntime) -> Result<(), Fail> {
     let absent = unread_remedy(rt.alloc(), "x", Some("No such file or directory"))?;
     let want: &[u8] = b"  x: No such file or directory; give the path of a file that can be read\n";
     assert!(rt; absent.as_slice() == want, "a reason");
+    let hostile = unread_remedy(rt.alloc(), "a b/\x1b\u{e9}", None)?;
+    let want: &[u8] = b"  a b/\\x1b\\xc3\\xa9: give the path of a file that can be read\n";
+    assert!(rt; hostile.as_slice() == want, "a hostile path");
     Ok(())
 }
