@@ -177,11 +177,11 @@ LARGE = [
     ('traits', 'TooLarge', lambda: of_rows(MOST_BYTES // 40), ': more than 67108864 bytes; take out rows that no query asks for', lambda: of_rows(1000)),
 ]
 
-# Paths of tables that can't be read, how they are shown, and what stands behind them: files that aren't there, and a folder.
+# Paths of tables that can't be read, how they are shown, and what stands behind them: files that aren't there, and a folder, which opens.
 UNREAD = [
     ('nowhere.csv', 'nowhere.csv', ': there is no such file; give the path of a file that can be read'),
     ('\x1b[2J"é.csv', '\\x1b[2J\\x22\\xc3\\xa9.csv', ': there is no such file; give the path of a file that can be read'),
-    ('.', '.', ': it is a folder, and no file; give the path of a file that can be read'),
+    ('.', '.', ': reading failed, as it does of a folder; give the path of a file that can be read'),
 ]
 
 

@@ -2,7 +2,6 @@
 ghost use Rattle.std.specs.Prelude.{◌≡◌, ℕ, Err, List, ⊤, IfErr, IfOk, map, string_bytes};
 
 use ac_base::{Feed, FromRead};
-use std::fs::OpenFile;
 use std::io::ErrorKind;
 use std::rt::{Env, Files};
 use std::{env, fs};
@@ -53,11 +52,6 @@ fn reason_of(kind: ErrorKind) -> &'static str {
     }
 }
 
-// The system opens a folder as it opens a file, and only reading it fails.
-fn is_folder(file: &impl OpenFile) -> bool {
-    file.metadata().is_ok_and(|found| found.is_dir())
-}
-
 impl<R: Env + Files + AllocGlobal> Host for R {
     type File = FromRead<R::File>;
 
@@ -83,7 +77,6 @@ impl<R: Env + Files + AllocGlobal> Host for R {
 
     fn open(&self, path: &str) -> Result<FromRead<R::File>, &'static str> {
         match fs::open(self, path) {
-            Ok(file) if is_folder(&file) => Err("it is a folder, and no file"),
             Ok(file) => Ok(FromRead::new(file)),
             Err(error) => Err(reason_of(error.kind())),
         }

@@ -39,7 +39,7 @@ unfoldable pub size_text : List ℕ
 size_text = codes "more than 67108864 bytes; take out rows that no query asks for"
 
 unfoldable pub unread_text : Option (List ℕ) → List ℕ
-unread_text None = codes "give the path of a file that can be read"
+unread_text None = codes "reading failed, as it does of a folder; give the path of a file that can be read"
 unread_text (Some reason) = said (reason ∷ codes "; give the path of a file that can be read" ∷ [])
 
 -- a path as a terminal can show it, what stands behind it, and what to do

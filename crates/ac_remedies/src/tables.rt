@@ -112,7 +112,11 @@ fn unread_text(alloc: Global, reason: Option<&str>) -> Result<String, AllocError
 {
     match reason {
         Some(reason) => format!(in alloc; "{reason}; give the path of a file that can be read"),
-        None => format!(in alloc; "give the path of a file that can be read"),
+        None => {
+            format!(in alloc;
+                "reading failed, as it does of a folder; give the path of a file that can be read"
+            )
+        }
     }
 }
 

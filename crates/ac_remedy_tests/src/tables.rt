@@ -345,13 +345,15 @@ fn files(rt: HostRuntime) -> Result<(), Fail> {
         b"  traits.csv: more than 67108864 bytes; take out rows that no query asks for\n";
     assert!(rt; large.as_slice() == want, "too large");
     let unknown = unread_remedy(rt.alloc(), "x", None)?;
-    let want: &[u8] = b"  x: give the path of a file that can be read\n";
+    let want: &[u8] =
+        b"  x: reading failed, as it does of a folder; give the path of a file that can be read\n";
     assert!(rt; unknown.as_slice() == want, "no reason");
     let absent = unread_remedy(rt.alloc(), "x", Some("No such file or directory"))?;
     let want: &[u8] = b"  x: No such file or directory; give the path of a file that can be read\n";
     assert!(rt; absent.as_slice() == want, "a reason");
     let hostile = unread_remedy(rt.alloc(), "a b/\x1b\u{e9}", None)?;
-    let want: &[u8] = b"  a b/\\x1b\\xc3\\xa9: give the path of a file that can be read\n";
+    let want: &[u8] =
+        b"  a b/\\x1b\\xc3\\xa9: reading failed, as it does of a folder; give the path of a file that can be read\n";
     assert!(rt; hostile.as_slice() == want, "a hostile path");
     Ok(())
 }

@@ -122,7 +122,7 @@ fn a_feed_that_fails(rt: HostRuntime) {
         &rt,
         &left,
         "",
-        "inventories: Unreadable\n  i.csv: give the path of a file that can be read\n",
+        "inventories: Unreadable\n  i.csv: reading failed, as it does of a folder; give the path of a file that can be read\n",
         3,
         0,
     );
