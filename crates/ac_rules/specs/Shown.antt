@@ -2,5 +2,6 @@
 pub mod Lists
 pub mod Plain
 pub mod Assignments
+pub mod Classes
 pub mod Odometer
 pub mod Changes

@@ -4,10 +4,12 @@ ghost use Rattle.std.specs.Prelude.{◌≡◌, ◌<◌, ◌≤◌, ℕ, List, le
 ghost use Rattle.std.specs.List.{AllByRecursion};
 ghost use Rattle.ac_base.specs.Names.{class_bytes};
 ghost use Rattle.ac_query.specs.Asked.{slots_of};
+ghost use Rattle.ac_query.specs.Laws.InOrder.{AreApart};
 ghost use Rattle.ac_query.specs.Shown.Groups.{need_entry};
 ghost use Rattle.ac_query.specs.Shown.Queries.{asked_of};
 ghost use Rattle.ac_rules.specs.Placed.{slot_at};
-ghost use Rattle.ac_rules.specs.Room.{IsKnown, class_number};
+ghost use Rattle.ac_rules.specs.Room.{IsAsked, IsKnown, class_number};
+ghost use Rattle.ac_rules.specs.Shown.Classes.{with_class, with_classes};
 
 use crate::slots::{count_slots, needs_at};
 use ac_base::{ClassName, NoMemory};
@@ -33,11 +35,8 @@ fn with_class<'a>(
     classes: Vec<&'a ClassName>,
     class: &'a ClassName,
 ) -> Result<Vec<&'a ClassName>, NoMemory>
-    ensures here { IfOk result (λ all.
-        IsKnown (map (λ c. class_bytes c.now) all.items) (class_bytes class.now)) }
-    ensures stay { IfOk result (λ all. (c : List ℕ)
-        → IsKnown (map (λ c. class_bytes c.now) classes.entry.items) c
-        → IsKnown (map (λ c. class_bytes c.now) all.items) c) }
+    ensures { IfOk result (λ all. map (λ c. class_bytes c.now) all.items
+        ≡ with_class (map (λ c. class_bytes c.now) classes.entry.items) (class_bytes class.now)) }
 {
     if number_of(&classes, class) < classes.len() {
         return Ok(classes);
@@ -52,11 +51,9 @@ fn with_classes<'a>(
     classes: Vec<&'a ClassName>,
     needs: &'a [Need],
 ) -> Result<Vec<&'a ClassName>, NoMemory>
-    ensures here { IfOk result (λ all. AllByRecursion (λ need.
-        IsKnown (map (λ c. class_bytes c.now) all.items) need.0) (map need_entry needs.now)) }
-    ensures stay { IfOk result (λ all. (c : List ℕ)
-        → IsKnown (map (λ c. class_bytes c.now) classes.entry.items) c
-        → IsKnown (map (λ c. class_bytes c.now) all.items) c) }
+    ensures { IfOk result (λ all. map (λ c. class_bytes c.now) all.items
+        ≡ with_classes (map (λ c. class_bytes c.now) classes.entry.items)
+        (map need_entry needs.now)) }
 {
     let mut all = classes;
     for need in needs {
@@ -67,9 +64,12 @@ fn with_classes<'a>(
 
 /// The classes of all slots, each once.
 pub fn all_classes(alloc: Global, query: &Query) -> Result<Vec<&ClassName>, NoMemory>
-    ensures { IfOk result (λ all. (s : ℕ) → s < length (slots_of (asked_of query.now))
+    ensures known { IfOk result (λ all. (s : ℕ) → s < length (slots_of (asked_of query.now))
         → AllByRecursion (λ need. IsKnown (map (λ c. class_bytes c.now) all.items) need.0)
         (slot_at (asked_of query.now) s).needs) }
+    ensures asked { IfOk result (λ all. (c : List ℕ)
+        → IsKnown (map (λ c. class_bytes c.now) all.items) c → IsAsked (asked_of query.now) c) }
+    ensures once { IfOk result (λ all. AreApart (map (λ c. class_bytes c.now) all.items)) }
 {
     let mut all = Vec::new(alloc);
     for s in 0..count_slots(query) {

@@ -217,13 +217,27 @@ impl Ids {
         }
     }
 
+    // The place of a provider, where it is that of the row before. As long as guesses by turns hold, it is compared in the list of turns, which
+    // is read from front to back; the places are far apart in memory.
+    fn find_same(&self, expected: &Expected, id: Id) -> Option<usize>
+        ensures { IfSome result (λ place. (place < length self.now.ids.items)
+            × (get_or self.now.ids.items place 0 ≡ id)) }
+    {
+        if expected.failed < MOST_FAILED {
+            return self.in_turn(expected.turn, id);
+        }
+        if self.is_at(expected.place, id) {
+            return Some(expected.place);
+        }
+        None
+    }
+
     // The place of a provider, where it is the expected one, or stands where ids begin as its id does.
     fn guess(&self, expected: &mut Expected, id: Id) -> Option<usize>
         ensures { IfSome result (λ place. (place < length self.now.ids.items)
             × (get_or self.now.ids.items place 0 ≡ id)) }
     {
-        let place = expected.place;
-        if self.is_at(place, id) {
+        if let Some(place) = self.find_same(expected, id) {
             return Some(place);
         }
         if let Some(place) = self.find_next(expected, id) {

@@ -17,7 +17,7 @@ invariant_of-result c =
     let texts = map (λ v. class_bytes v.now) c.in_ok-classes.classes.items in
     let are = rw c.deref-2.ensures.value at c.in_ok-rooms.ensures.rooms in
     record {
-      known = λ s h. All-from_recursion (λ need. IsKnown texts need.0) (slot_at (asked_of c.args.query.now) s).needs (c.in_ok-classes.ensures s h);
+      known = λ s h. All-from_recursion (λ need. IsKnown texts need.0) (slot_at (asked_of c.args.query.now) s).needs (c.in_ok-classes.ensures.known s h);
       asked = rw c.deref.ensures.value at c.in_ok-asks.ensures;
       sized = rw c.deref-2.ensures.value at c.in_ok-rooms.ensures.count;
       small = λ k known p h.
