@@ -47,6 +47,32 @@ pub struct TraitName {
     ghost named: { IsTrue (is_name (rc_str_bytes text)) },
 }
 
+impl Clone for ClassName {
+    ghost use Rattle.std.specs.Prelude.{◌≡◌};
+    ghost use Rattle.ac_base.specs.Names.{class_bytes};
+
+    ghost is_clone = { λ name other. class_bytes other ≡ class_bytes name };
+
+    /// The same name, which shares its text.
+    fn clone(&self) -> Result<ClassName, AllocError> {
+        let text = self.text.clone()?;
+        Ok(ClassName { text })
+    }
+}
+
+impl Clone for TraitName {
+    ghost use Rattle.std.specs.Prelude.{◌≡◌};
+    ghost use Rattle.ac_base.specs.Names.{trait_bytes};
+
+    ghost is_clone = { λ name other. trait_bytes other ≡ trait_bytes name };
+
+    /// The same name, which shares its text.
+    fn clone(&self) -> Result<TraitName, AllocError> {
+        let text = self.text.clone()?;
+        Ok(TraitName { text })
+    }
+}
+
 /// The suffix of a request group, as `_NUMA` in `resources_NUMA`. Suffixes compare and sort by their bytes.
 #[derive(Debug, Drop, PartialEq, Eq, PartialOrd, Ord)]
 pub struct Suffix {
