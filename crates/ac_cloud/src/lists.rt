@@ -63,6 +63,23 @@ impl<X> Lists<X> {
     }
 }
 
+impl<X: Drop> Lists<X> {
+    ghost use Rattle.ac_cloud.specs.ListsOf.{lists_of};
+
+    /// Moves a list behind the others, which leaves it empty.
+    #[tactic(auto, unfolding(crate::specs::ListBounds::AreLaidOut), using(crate::proofs::ListFacts::one_more))]
+    pub fn append(&mut self, list: &mut Vec<X>) -> Result<(), AllocError>
+        ensures lists { IfOk result (λ _.
+            lists_of self.new ≡ lists_of self.old ++ list.old.items ∷ []) }
+        ensures empty { IfOk result (λ _. list.new.items ≡ []) }
+    {
+        self.starts.reserve(1)?;
+        self.items.append(list)?;
+        self.starts.push_reserved(self.items.len());
+        Ok(())
+    }
+}
+
 impl<X: Copy> Lists<X> {
     ghost use Rattle.ac_cloud.specs.ListsOf.{lists_of};
 
