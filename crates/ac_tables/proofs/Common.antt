@@ -4,21 +4,20 @@ pub use Rattle.ac_base.specs.Quantities.{InventoryNumbers}
 pub use Rattle.ac_base.specs.Texts.{id_value, text_cmp}
 pub use Rattle.ac_base.specs.declared.name.ClassName.{ClassName}
 pub use Rattle.ac_base.specs.declared.name.TraitName.{TraitName}
-pub use Rattle.ac_cloud.specs.Cloud.CloudWorld.{providers_of}
 pub use Rattle.ac_cloud.specs.Cloud.Entries.{entry_class, entry_pair}
-pub use Rattle.ac_tables.specs.Reader.EntryLists.{entry_of, with_used_lists}
+pub use Rattle.ac_tables.specs.Reader.EntryLists.{with_used_lists}
 pub use Rattle.ac_tables.specs.Reader.Kin.{AreKin}
 pub use Rattle.ac_cloud.specs.Cloud.Numbered.{numbered_at}
 pub use Rattle.ac_cloud.specs.Cloud.Places.{AreParents, AreWithin, parent_in, rank}
 pub use Rattle.ac_cloud.specs.Cloud.RisingIds.{IsRising}
 pub use Rattle.ac_tables.specs.Reader.InventoryRows.{class_pair, inventory_records_shown, inventory_shown}
-pub use Rattle.ac_cloud.specs.ListBounds.{lists_in}
 pub use Rattle.ac_tables.specs.Reader.Listings.{IsFirst}
 pub use Rattle.ac_cloud.specs.ListsOf.{lists_of}
 pub use Rattle.ac_tables.specs.Reader.ProviderLaws.{name_bytes, provider_shown}
 pub use Rattle.ac_base.proofs.Small.{eq_turned}
 pub use Rattle.ac_tables.specs.Reader.RecordLaws.{lone_checks, same_place}
-pub use Rattle.ac_tables.specs.Reader.TableRows.{AreStarts, AreTiesRising, IsKeyed, IsLeast, IsLeastBelow, IsLeastRepeat, IsReadSoFar, IsStart, IsTable, row_cmp, row_lt, row_shown, row_ties, is_past, sooner, whole_lt, IsPartSorted, IsRun}
+pub use Rattle.ac_tables.specs.Reader.OwnRows.{own_rows}
+pub use Rattle.ac_tables.specs.Reader.TableRows.{AreRunsSorted, AreSpans, AreTiesRising, IsGrouped, IsInOrder, IsKeyed, IsLeast, IsLeastBelow, IsLeastRepeat, IsReadSoFar, IsSpan, IsTable, row_cmp, turned_cmp, row_shown, row_ties, is_past, sooner, whole_lt, IsPartSorted, IsRun}
 pub use Rattle.ac_base.specs.Sorted.{TextMap, map_of, rising, is_one_of}
 pub use Rattle.ac_tables.specs.Tables.{Tables, aggregates_of, amounts_of, gathered, inventories_of, names_of, records_or_header, with_used}
 pub use Rattle.ac_tables.specs.Tables.AggregateTable.{AggregateRecord, aggregates_said}
@@ -30,7 +29,7 @@ pub use Rattle.ac_tables.specs.Tables.Rows.{IsReading, records_of, rows_left}
 pub use Rattle.ac_tables.specs.Tables.TraitTable.{TraitRecord, traits_said}
 pub use Rattle.ac_tables.specs.Tables.UsageTable.{UsageRecord, usage_field_checks, usages_said}
 pub use Rattle.ac_cloud.specs.Trees.{is_endless, top}
-pub use Rattle.ac_cloud.specs.World.{Provider, UsedInventory, id_at, no_provider}
+pub use Rattle.ac_cloud.specs.World.{Provider, UsedInventory, no_provider}
 pub use Rattle.ac_cloud.specs.declared.cloud.entry.Entry.{Entry}
 pub use Rattle.ac_tables.specs.declared.fault.RecordFault.{RecordFault}
 pub use Rattle.ac_tables.specs.declared.fault.Table.{Table}
@@ -64,7 +63,6 @@ pub use Rattle.std.specs.Cmp.{IsStrictWeakOrder, IsTotalOrder, on_total}
 pub use Rattle.std.specs.Global.{Vec}
 pub use Rattle.std.specs.List.{AllByRecursion, dedup, list_any, position_from, range_with_len}
 pub use Rattle.std.specs.List.Sorted.{IsNonDecreasingBy, IsStrictlySortedBy}
-pub use Rattle.std.specs.Ordering.{eq_by_cmp, ordering_reverse, ordering_then}
+pub use Rattle.std.specs.Ordering.{eq_by_cmp, ordering_then}
 pub use Rattle.std.specs.Result.{result_ok}
-pub use Rattle.std.specs.Vec.Iter.{into_iter_items}
 pub use mathlib.Core.List.{map-map}

@@ -3,9 +3,9 @@ pub mod FieldTexts
 pub mod GatheredRows
 pub mod Header
 pub mod JoinedFault
+pub mod OwnRows
 pub mod ProviderRows
 pub mod RowOrder
-pub mod RowPlaces
 pub mod RowRuns
 pub mod RowSlices
 pub mod RowsLeft

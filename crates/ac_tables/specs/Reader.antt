@@ -7,3 +7,4 @@ pub mod Listings
 pub mod ColumnPlaces
 pub mod Kin
 pub mod EntryLists
+pub mod OwnRows

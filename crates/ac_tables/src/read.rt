@@ -121,7 +121,7 @@ impl FromTables for Cloud {
             aggregates: aggregates.count() as u32,
         };
         let Inventories { ids, rows } = inventories;
-        let entries = join(alloc, rows, &usages)?;
+        let entries = join(alloc, &rows, &usages)?;
         let parts = Parts {
             ids,
             parents,

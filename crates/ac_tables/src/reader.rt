@@ -3,7 +3,8 @@
 pub(crate) mod fields;
 pub(crate) mod gather;
 pub(crate) mod header;
+pub(crate) mod keys;
+pub(crate) mod provider_rows;
 pub(crate) mod record;
 pub(crate) mod records;
 pub(crate) mod row;
-pub(crate) mod split;

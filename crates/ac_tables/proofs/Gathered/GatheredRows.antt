@@ -1,5 +1,6 @@
 -- Rows in order, and the first fault of their records.
-use Rattle.ac_tables.proofs.Common.{◌≡◌, ◌∙◌, ◌+◌, ◌<◌, ◌≤◌, ◌++◌, ℕ, Bool, true, false, List, [], ◌∷◌, map, length, get_or, take, Option, Some, None, refl, sym, ap, ap₂, subst, arith, rules, inl, inr, not, ◌&&◌, Ordering, nat_cmp, ordering_then, is_eq, IsTotalOrder, list_any, IsPermutation, IsSortedBy, AreTiesRising, Result, Ok, Err, RecordFault, is_past, ◌-◌, cases_lt, cases_Bool, append-nil, length-append, length-map, get_or-map, get_or_append_left, length-take-le, list_any_at, get_or-append_seam, All-permutation, length_permutation, Row, Check, Tells, rows_fault, row_lt, row_ties, row_shown, IsLeastRepeat, IsKeyed, IsTable, TableRow, Table, TableKind, first_failing, row_cmp, IsDistinct-from_sorted, eq_by_cmp_equiv, IsPermutation-sym}
+use Rattle.ac_tables.proofs.Common.{◌≡◌, ◌∙◌, ◌+◌, ◌<◌, ◌≤◌, ◌++◌, ℕ, Bool, true, false, List, [], ◌∷◌, map, length, get_or, take, Option, Some, None, refl, sym, ap, ap₂, subst, arith, rules, inl, inr, not, ◌&&◌, Ordering, nat_cmp, ordering_then, is_eq, IsTotalOrder, list_any, IsPermutation, AreTiesRising, Result, Ok, Err, RecordFault, is_past, ◌-◌, cases_lt, cases_Bool, append-nil, length-append, length-map, get_or-map, get_or_append_left, length-take-le, list_any_at, get_or-append_seam, All-permutation, length_permutation, Row, Check, Tells, rows_fault, row_ties, row_shown, turned_cmp, IsInOrder, IsLeast, IsLeastRepeat, IsKeyed, IsTable, TableRow, Table, TableKind, first_failing, IsDistinct-from_sorted, eq_by_cmp_equiv, IsPermutation-sym}
+use Rattle.std.specs.List.{IsDistinct}
 use Rattle.std.proofs.lemmas.List.{get_or-take, take-map, take-append-le, take_all}
 use Rattle.std.proofs.lemmas.List.Folds.{list_any_none}
 use Rattle.ac_tables.specs.Reader.TableRows.{Stops, IsReadUpTo}
@@ -11,7 +12,7 @@ use Rattle.ac_tables.specs.declared.fault.TableFault.TheVariants as fault
 use Rattle.std.proofs.lemmas.Bool.{and_left, and_right, false_from_ne_true}
 use Rattle.std.proofs.lemmas.List.Elements.{All-from_get_or}
 use Rattle.std.proofs.lemmas.Map.Keys.{apart_from_distinct, IsDistinct-IsPermutation}
-use Rattle.ac_tables.proofs.Gathered.RowOrder.{row_total, rows_strict}
+use Rattle.ac_tables.proofs.Gathered.RowOrder.{row_total, rows_strict, same_ties, test_same, turned_total}
 use Rattle.ac_base.proofs.Sorted.SearchFacts.{any_map}
 use Rattle.ac_tables.proofs.Sorted.SortedTies.{Sorting, none_sooner, repeated, with_head}
 use Rattle.ac_tables.proofs.Gathered.JoinedFault.{checks_at, joined_none, joined_at}
@@ -28,7 +29,7 @@ module _ {V K X : Type 0} (t : Table) (says : Row → V) (checks : List V → Ro
     (cmp : K → K → Ordering) (total : IsTotalOrder cmp) (keyed : IsKeyed most says checks alone same)
     (apart : (p q : ℕ) (k l : K) (x y : X) → p < count → q < count → same (shown q l y) (shown p k x) ≡ (unique && is_eq (ordering_then (nat_cmp p q) (cmp k l))))
     (all : List Row) (read rows : List (TableRow K X)) (ended : Result (Unit {0}) RecordFault) (r : IsReadUpTo says alone shown count most all read ended)
-    (sorted : IsSortedBy (row_lt cmp) rows) (ties : AreTiesRising (row_ties cmp) (λ (a : TableRow K X). a.number) rows) (moved : IsPermutation read rows) where
+    (order : IsInOrder cmp rows) (ties : AreTiesRising (row_ties cmp) (λ (a : TableRow K X). a.number) rows) (moved : IsPermutation read rows) where
   sized : length read ≡ length r.so_far.done
   sized = sym (length-map read (row_shown shown)) ∙ ap length r.so_far.said ∙ length-map r.so_far.done says
 
@@ -79,7 +80,7 @@ module _ {V K X : Type 0} (t : Table) (says : Row → V) (checks : List V → Ro
   all_new : (unique ≡ true → IsLeastRepeat cmp rows None) → (i : ℕ) → i < length read → IsNew i
   all_new once i inside = λ k d less. elim (cases_Bool unique) [
     | inl is ↦
-        let strict = IsDistinct-from_sorted (row_cmp cmp) rows (rows_strict total rows sorted (once is)) in
+        let strict = subst (λ (tie : TableRow K X → TableRow K X → Bool). IsDistinct tie rows) (test_same rows order) (IsDistinct-from_sorted (turned_cmp order.turn cmp) rows (rows_strict total rows order (once is))) in
         let flips = (eq_by_cmp_equiv (row_total {X = X} total)).symm in
         and_right _ _ (apart_from_distinct (row_ties cmp) read k i d (IsDistinct-IsPermutation (row_ties cmp) flips rows read (IsPermutation-sym read rows moved) strict) less inside)
     | inr not ↦ and_left _ _ not
@@ -111,10 +112,10 @@ module _ {V K X : Type 0} (t : Table) (says : Row → V) (checks : List V → Ro
         read = read;
         shows = r.so_far.said ∙ ap (map says) (whole u is fits);
         same = moved;
-        sorted = sorted;
+        order = order;
         numbered = r.so_far.numbered;
         inside = All-permutation (λ (a : TableRow K X). a.place < count) read rows moved r.so_far.inside;
-        strict = λ one. rows_strict total rows sorted (once one);
+        strict = λ one. rows_strict total rows order (once one);
       }
 
   -- the fault that a record has alone
@@ -157,13 +158,18 @@ module _ {V K X : Type 0} (t : Table) (says : Row → V) (checks : List V → Ro
   gathered_again n is least =
       let size = length_permutation read rows moved in
       with_head read (rows_fault t says checks [] all ≡ Some (fault.At t n kind.Duplicate)) (omega (arith, least.1.1, size)) (λ d.
-      let sorting : Sorting (row_cmp cmp) (λ (a : TableRow K X). a.number) read rows =
-      record { total = row_total {X = X} total; sorted = sorted; ties = ties; same = moved; numbered = r.so_far.numbered } in
-      let (i, j, less, inside, at, tied) = repeated (row_cmp cmp) (λ (a : TableRow K X). a.number) read rows sorting n least d in
-      let sooner = none_sooner (row_cmp cmp) (λ (a : TableRow K X). a.number) read rows sorting n least in
+      let number = λ (a : TableRow K X). a.number in
+      let by_turns : AreTiesRising (λ (a b : TableRow K X). is_eq (turned_cmp order.turn cmp a b)) (λ a. a.number) rows =
+      subst (λ (tie : TableRow K X → TableRow K X → Bool). AreTiesRising tie (λ (a : TableRow K X). a.number) rows) (sym (test_same rows order)) ties in
+      let sorting : Sorting (turned_cmp order.turn cmp) (λ (a : TableRow K X). a.number) read rows =
+      record { total = turned_total {X = X} order.turn total; sorted = order.sorted; ties = by_turns; same = moved; numbered = r.so_far.numbered } in
+      let least_turned = subst (λ (tie : TableRow K X → TableRow K X → Bool). IsLeast tie (λ (a : TableRow K X). a.number) rows (Some n)) (sym (test_same rows order)) least in
+      let (i, j, less, inside, at, turned) = repeated (turned_cmp order.turn cmp) number read rows sorting n least_turned d in
+      let tied = sym (same_ties rows order (get_or read i d) (get_or read j d)) ∙ turned in
+      let sooner = none_sooner (turned_cmp order.turn cmp) number read rows sorting n least_turned in
       let within : j < length all = omega (arith, inside, sized, ap length r.so_far.whole, length-append r.so_far.done r.left) in
       joined_at t says checks all j n kind.Duplicate within at
-      (λ p lower. fine_at p (omega arith) (r.so_far.within (p + 1) (omega arith)) (λ k e below. and_right _ _ (false_from_ne_true _ (λ (tie : row_ties cmp (get_or read k e) (get_or read p e) ≡ true). omega (arith, sooner k p e below (omega arith) tie, at, lower)))))
+      (λ p lower. fine_at p (omega arith) (r.so_far.within (p + 1) (omega arith)) (λ k e below. and_right _ _ (false_from_ne_true _ (λ (tie : row_ties cmp (get_or read k e) (get_or read p e) ≡ true). omega (arith, sooner k p e below (omega arith) (same_ties rows order (get_or read k e) (get_or read p e) ∙ tie), at, lower)))))
       (keyed.again (map says (take j all)) (get_or all j []) (alone_at j inside) (any_before j d inside
       ∙ list_any_at _ (take j read) i d (omega (arith, less, length-take-le j read (omega arith))) (same_at i j d less inside ∙ ap₂ (λ a b. a && b) is tied))))
 

@@ -1,8 +1,8 @@
 -- The rows of one provider, and what is said of it.
-use Rattle.ac_tables.proofs.Common.{◌≡◌, ◌∙◌, ◌<◌, ℕ, zero, suc, Bool, true, List, [], ◌∷◌, map, refl, sym, ap, ap₂, subst, arith, inl, inr, ◌==◌, Ordering, Less, All, AllByRecursion, Contains, filter, cases_Bool, nat_cmp_total, All-weaker, recursion_from_All, IsStrictlySortedBy-filter, row_cmp, row_shown, TableRow}
+use Rattle.ac_tables.proofs.Common.{◌≡◌, ◌∙◌, ◌<◌, ℕ, zero, suc, Bool, true, List, [], ◌∷◌, map, refl, sym, ap, ap₂, subst, arith, inl, inr, ◌==◌, Ordering, Less, All, AllByRecursion, Contains, filter, cases_Bool, All-weaker, recursion_from_All, IsStrictlySortedBy-filter, turned_cmp, row_shown, TableRow}
 use Rattle.std.specs.List.Sorted.{IsStrictlySortedBy}
-use Rattle.std.proofs.lemmas.Cmp.{tied_itself}
 use Rattle.std.proofs.lemmas.List.Elements.{filter_passes}
+use Rattle.ac_tables.proofs.Gathered.RowOrder.{tied_then}
 use Rattle.ac_base.proofs.Small.{are_equal}
 use Rattle.ac_base.proofs.Sorted.SameItems.{map_has}
 
@@ -40,21 +40,21 @@ own_moved p f xs ys moved y c =
     subst (Contains (map f (filter p ys))) r.2 (map_has f (filter p ys) r.0 (filter_has p ys r.0 (moved r.0 h.0) h.1))
 
 -- rows of one provider compare by their keys
-module _ {K X Y : Type 0} (cmp : K → K → Ordering) (order : Y → Y → Ordering) (bytes : K → Y) (same : (a b : K) → cmp a b ≡ order (bytes a) (bytes b)) (p : ℕ) where
-  by_key : (a b : TableRow K X) → a.place ≡ p → b.place ≡ p → row_cmp cmp a b ≡ order (bytes a.key) (bytes b.key)
-  by_key a b e f = grind (arith, nat_cmp_total, tied_itself)
+module _ {K X Y : Type 0} (cmp : K → K → Ordering) (order : Y → Y → Ordering) (bytes : K → Y) (same : (a b : K) → cmp a b ≡ order (bytes a) (bytes b)) (turn : ℕ → ℕ) (p : ℕ) where
+  by_key : (a b : TableRow K X) → a.place ≡ p → b.place ≡ p → turned_cmp turn cmp a b ≡ order (bytes a.key) (bytes b.key)
+  by_key a b e f = tied_then (cmp a.key b.key) (turn a.place) (turn b.place) (ap turn (e ∙ sym f)) ∙ same a.key b.key
 
-  all_below : (a : TableRow K X) (rs : List (TableRow K X)) → a.place ≡ p → AllByRecursion (λ r. r.place ≡ p) rs → AllByRecursion (λ r. row_cmp cmp a r ≡ Less) rs
+  all_below : (a : TableRow K X) (rs : List (TableRow K X)) → a.place ≡ p → AllByRecursion (λ r. r.place ≡ p) rs → AllByRecursion (λ r. turned_cmp turn cmp a r ≡ Less) rs
       → AllByRecursion (λ y. order (bytes a.key) y ≡ Less) (map (λ r. bytes r.key) rs)
   all_below a [] e here less = tt
   all_below a (r ∷ rs) e here less = (sym (by_key a r e here.0) ∙ less.0, all_below a rs e here.1 less.1)
 
-  pub keys_sorted : (rs : List (TableRow K X)) → AllByRecursion (λ r. r.place ≡ p) rs → IsStrictlySortedBy (row_cmp cmp) rs → IsStrictlySortedBy order (map (λ r. bytes r.key) rs)
+  pub keys_sorted : (rs : List (TableRow K X)) → AllByRecursion (λ r. r.place ≡ p) rs → IsStrictlySortedBy (turned_cmp turn cmp) rs → IsStrictlySortedBy order (map (λ r. bytes r.key) rs)
   unfolding IsStrictlySortedBy
   keys_sorted [] here sorted = tt
   keys_sorted (r ∷ rs) here sorted = (all_below r rs here.0 here.1 sorted.0, keys_sorted rs here.1 sorted.1)
 
-  pub own_keys_sorted : (rs : List (TableRow K X)) → IsStrictlySortedBy (row_cmp cmp) rs → IsStrictlySortedBy order (map (λ r. bytes r.key) (filter (λ r. r.place == p) rs))
+  pub own_keys_sorted : (rs : List (TableRow K X)) → IsStrictlySortedBy (turned_cmp turn cmp) rs → IsStrictlySortedBy order (map (λ r. bytes r.key) (filter (λ r. r.place == p) rs))
   own_keys_sorted rs sorted = grind (arith, All-weaker, IsStrictlySortedBy-filter, are_equal, filter_passes, keys_sorted, recursion_from_All)
 
 module _ {V K X Y : Type 0} (shown : ℕ → K → X → V) (count : ℕ) (provider : V → ℕ) (part : V → Y) (show : TableRow K X → Y) (p id : ℕ)

@@ -1,6 +1,10 @@
--- The rows of one provider, cut out of a sorted list.
-use Rattle.ac_tables.proofs.Common.{◌≡◌, ◌∙◌, ◌+◌, ◌-◌, ◌<◌, ◌≤◌, ◌++◌, ℕ, zero, suc, Bool, true, false, List, [], ◌∷◌, length, get_or, take, drop, refl, sym, ap, arith, inl, inr, ◌==◌, filter, IsNonDecreasingBy, cases_lt, get_or_append_left, length-append, IsStart, TableRow}
-use Rattle.std.proofs.lemmas.List.{get_or_push}
+-- The rows of one provider, cut out of rows in order.
+use Rattle.ac_tables.proofs.Common.{◌≡◌, ◌≢◌, ◌∙◌, ◌+◌, ◌-◌, ◌<◌, ◌≤◌, ◌⊎◌, ℕ, zero, suc, Bool, true, false, List, [], ◌∷◌, length, get_or, take, drop, refl, sym, ap, subst, arith, inl, inr, ◌==◌, filter, cases_lt, IsGrouped, IsRun, IsSpan, TableRow}
+use Rattle.std.proofs.Common.{length-set, set}
+use Rattle.std.proofs.lemmas.Bool.{cases_eq}
+use Rattle.std.proofs.lemmas.List.{get_or-set_other, get_or-set_same}
+use Rattle.ac_tables.specs.declared.reader.provider_rows.Span.{Span}
+use Rattle.ac_tables.proofs.Gathered.RowRuns.{IsEdge}
 use Rattle.ac_base.proofs.Small.{equal, differ}
 
 module _ {X : Type 0} (p : X → Bool) where
@@ -30,32 +34,74 @@ module _ {X : Type 0} (p : X → Bool) where
       (ap (λ n. take n (drop a xs)) less
       ∙ middle_kept xs a b (omega arith) (omega arith) (λ k d h. low (suc k) d (omega arith)) (λ k d h i. mid (suc k) d (omega arith) (omega arith)) (λ k d h i. high (suc k) d (omega arith) (omega arith)))
 
+-- The rows of a provider stand from one place up to another, and nowhere else before a third.
+pub record IsSpanUpTo {K X : Type 0} (rows : List (TableRow K X)) (before place from end : ℕ) : Type 0 where
+  pub order : from ≤ end
+  pub inside : end ≤ before
+  pub own : (k : ℕ) (d : TableRow K X) → from ≤ k → k < end → (get_or rows k d).place ≡ place
+  pub apart : (k : ℕ) (d : TableRow K X) → k < before → (k < from) ⊎ (end ≤ k) → (get_or rows k d).place ≢ place
+
 module _ {K X : Type 0} (rows : List (TableRow K X)) where
-  -- one more start
-  pub start_here : (place from at : ℕ) → IsNonDecreasingBy (λ (r : TableRow K X). r.place) rows → at ≤ length rows
-      → ((k : ℕ) (d : TableRow K X) → k < from → (get_or rows k d).place < place)
-      → ((k : ℕ) (d : TableRow K X) → from ≤ k → k < at → (get_or rows k d).place < place)
-      → ((d : TableRow K X) → at < length rows → place ≤ (get_or rows at d).place) → IsStart rows place at
-  start_here place from at sorted inside before passed next = grind (arith, cases_lt)
+  pub span_kept : (p from end : ℕ) → IsSpan rows p from end → take (end - from) (drop from rows) ≡ filter (λ (r : TableRow K X). r.place == p) rows
+  span_kept p from end s =
+      middle_kept (λ (r : TableRow K X). r.place == p) rows from end s.order s.inside
+      (λ k d h. differ _ p (s.below k d h))
+      (λ k d h i. equal _ p (s.own k d h i))
+      (λ k d h i. differ _ p (s.above k d h i))
 
-  pub start_order : (p a b : ℕ) → IsStart rows p a → IsStart rows (p + 1) b → (a ≤ b) × (b ≤ length rows)
-  start_order p a b s t = (elim (cases_lt b a) [ inl less ↦ absurd (no b a s t less) | inr le ↦ le ], t.inside)
-    where
-      no : (b a : ℕ) → IsStart rows p a → IsStart rows (p + 1) b → b < a → ⊥
-      no b a s t less = at rows s.inside s.below t.above
-        where
-          at : (l : List (TableRow K X)) → a ≤ length l → ((k : ℕ) (d : TableRow K X) → k < a → (get_or l k d).place < p) → ((k : ℕ) (d : TableRow K X) → b ≤ k → k < length l → p + 1 ≤ (get_or l k d).place) → ⊥
-          at [] inside low high = omega (arith, inside, less)
-          at (x ∷ l) inside low high = let u = low b x less in let v = high b x (omega arith) (omega arith) in omega (arith, u, v)
+  pub whole_span : (p from end before : ℕ) → before ≡ length rows → IsSpanUpTo rows before p from end → IsSpan rows p from end
+  whole_span p from end before all s = record {
+    order = s.order;
+    inside = let i = s.inside in omega (arith, i, all);
+    own = s.own;
+    below = λ k d h. let i = s.inside in let o = s.order in s.apart k d (omega (arith, h, o, i)) (inl h);
+    above = λ k d h i. s.apart k d (omega (arith, i, all)) (inr h);
+  }
 
-  pub slice_kept : (p a b : ℕ) → IsStart rows p a → IsStart rows (p + 1) b → take (b - a) (drop a rows) ≡ filter (λ (r : TableRow K X). r.place == p) rows
-  slice_kept p a b s t =
-      let o = start_order p a b s t in
-      middle_kept (λ (r : TableRow K X). r.place == p) rows a b o.0 o.1
-      (λ k d h. differ _ p (let u = s.below k d h in λ e. omega (arith, u, e)))
-      (λ k d h i. equal _ p (let inside = t.inside in let u = s.above k d h (omega arith) in let v = t.below k d i in omega (arith, u, v)))
-      (λ k d h i. differ _ p (let u = t.above k d h i in λ e. omega (arith, u, e)))
+  module _ (from end : ℕ) (some : from < end) (run : IsRun rows from end) where
+    -- a run of another provider
+    pub span_stays : (p q a b : ℕ) → ((d : TableRow K X) → (get_or rows from d).place ≡ q) → p ≢ q → IsSpanUpTo rows from p a b → IsSpanUpTo rows end p a b
+    span_stays p q a b is other s = record {
+      order = s.order;
+      inside = let i = s.inside in omega (arith, i, some);
+      own = s.own;
+      apart = λ k d h out same. elim (cases_lt k from) [
+        | inl low ↦ s.apart k d low out same
+        | inr high ↦ other (sym same ∙ run k d high h ∙ is d)
+      ];
+    }
 
-  pub starts_more : (starts new : List ℕ) (x : ℕ) → ((p : ℕ) → p < length starts → IsStart rows p (get_or starts p 0)) → IsStart rows (length starts) x → new ≡ starts ++ x ∷ []
-      → (p : ℕ) → p < length new → IsStart rows p (get_or new p 0)
-  starts_more starts new x h here e p below = grind (arith, cases_lt, get_or_append_left, get_or_push, length-append)
+    -- a run of the provider itself, whose rows stand together
+    pub span_here : (q : ℕ) → ((d : TableRow K X) → (get_or rows from d).place ≡ q) → IsGrouped rows → IsEdge rows from → end ≤ length rows → IsSpanUpTo rows end q from end
+    span_here q is grouped edge inside = record {
+      order = omega (arith, some);
+      inside = omega arith;
+      own = λ k d h i. run k d h i ∙ is d;
+      apart = λ k d h out same. elim out [
+        | inl low ↦
+            let next : from - 1 + 1 ≡ from = omega (arith, low) in
+            let whole : (get_or rows k d).place ≡ (get_or rows from d).place = same ∙ sym (is d) in
+            edge (from - 1) d next (omega (arith, some, inside)) (grouped k (from - 1) from d (omega (arith, low)) (omega arith) (omega (arith, some, inside)) whole ∙ whole)
+        | inr high ↦ omega (arith, h, high)
+      ];
+    }
+
+    -- the spans with this run
+    pub span_set : (spans : List Span) (q : ℕ) → ((d : TableRow K X) → (get_or rows from d).place ≡ q) → IsGrouped rows → IsEdge rows from → end ≤ length rows
+        → ((p : ℕ) (d : Span) → p < length spans → IsSpanUpTo rows from p (get_or spans p d).from (get_or spans p d).end)
+        → (p : ℕ) (d : Span) → p < length (set spans q (record { from = from; end = end }))
+        → IsSpanUpTo rows end p (get_or (set spans q (record { from = from; end = end })) p d).from (get_or (set spans q (record { from = from; end = end })) p d).end
+    span_set spans q is grouped edge fits old p d inside =
+        let new : Span = record { from = from; end = end } in
+        let here : p < length spans = omega (arith, inside, length-set spans q new) in
+        elim (cases_eq p q) [
+          | inl e ↦
+              subst (λ (s : Span). IsSpanUpTo rows end p s.from s.end) (sym (ap (λ j. get_or (set spans q new) j d) e ∙ get_or-set_same spans q new d (omega (arith, e, here))))
+              (subst (λ (j : ℕ). IsSpanUpTo rows end j from end) (sym e) (span_here q is grouped edge fits))
+          | inr ne ↦
+              subst (λ (s : Span). IsSpanUpTo rows end p s.from s.end) (sym (get_or-set_other spans q p new d ne)) (span_stays p q _ _ is ne (old p d here))
+        ]
+
+  -- a run that no row of its provider goes past
+  pub edge_here : (from end : ℕ) → from < end → IsRun rows from end → ((d : TableRow K X) → end < length rows → (get_or rows end d).place ≢ (get_or rows from d).place) → IsEdge rows end
+  edge_here from end some run apart k d next less same = apart d less (sym same ∙ run k d (omega (arith, some, next)) (omega (arith, next)))

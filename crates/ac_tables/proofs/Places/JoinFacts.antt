@@ -1,53 +1,43 @@
 -- Inventories beside how much of each is used.
-use Rattle.ac_tables.proofs.Common.{◌≡◌, ◌∙◌, ℕ, zero, suc, true, List, [], ◌∷◌, map, length, get_or, drop, subst, refl, sym, ap, ap₂, arith, rules, inl, inr, ◌==◌, All, filter, range_with_len, cases_Bool, InventoryNumbers, ClassName, TextMap, UsedInventory, with_used, entry_class, entry_pair, Entry, class_bytes, class_pair, AreStarts, lists_in, entry_of, with_used_lists, TableRow, map-map}
-use Rattle.std.proofs.lemmas.List.FromFn.{fill_by_all}
-use Rattle.ac_cloud.proofs.ListFacts.{lists_map, range_same}
-use Rattle.ac_tables.proofs.Sorted.RowLists.{split_lists}
+use Rattle.ac_tables.proofs.Common.{◌≡◌, ◌∙◌, ◌+◌, ◌++◌, ◌<◌, ℕ, zero, suc, List, [], ◌∷◌, map, length, get_or, take, drop, subst, refl, sym, ap, ap₂, arith, ◌==◌, All, filter, range_with_len, unwrap_or, bytes_eq, map-append, InventoryNumbers, ClassName, TextMap, UsedInventory, with_used, entry_class, entry_pair, Entry, class_bytes, class_pair, with_used_lists, TableRow, map-map}
+use Rattle.std.specs.Map.{lookup}
+use Rattle.std.proofs.lemmas.List.{take_more}
+use Rattle.std.proofs.lemmas.List.FromFn.{map-range_with_len_more}
 
 -- of maps of one list
 pub zip_maps : (f : ℕ → TextMap ℕ) (g : ℕ → TextMap InventoryNumbers) (ids : List ℕ) → with_used_lists (map f ids) (map g ids) ≡ map (λ id. with_used (f id) (g id)) ids
 zip_maps f g [] = refl
 zip_maps f g (x ∷ ids) = ap (λ l. with_used (f x) (g x) ∷ l) (zip_maps f g ids)
 
-pub zip_size : (us : List (TextMap ℕ)) (ss : List (TextMap InventoryNumbers)) → length us ≡ length ss → length (with_used_lists us ss) ≡ length ss
-zip_size [] [] e = refl
-zip_size [] (s ∷ ss) e = absurd (omega (arith, e))
-zip_size (u ∷ us) [] e = absurd (omega (arith, e))
-zip_size (u ∷ us) (s ∷ ss) e = ap suc (zip_size us ss (omega (arith, e)))
+-- what a provider has of its classes, by its place
+abbrev pub used_at : List (TableRow ClassName ℕ) → List (TableRow ClassName InventoryNumbers) → ℕ → TextMap UsedInventory
+used_at usages inventories p = with_used (map class_pair (filter (λ r. r.place == p) usages)) (map class_pair (filter (λ r. r.place == p) inventories))
 
--- an entry for each inventory of a provider
-of_place : (us : List (List (TableRow ClassName ℕ))) (p : ℕ) (rows : List (TableRow ClassName InventoryNumbers))
-    → map entry_pair (map (entry_of us) (filter (λ r. r.place == p) rows)) ≡ with_used (map class_pair (get_or us p [])) (map class_pair (filter (λ r. r.place == p) rows))
-of_place us p [] = refl
-of_place us p (r ∷ rows) = elim (cases_Bool (r.place == p)) [
-  | inl e ↦
-      let same : r.place ≡ p = at r.place e in
-      rw e (ap₂ (λ x l. x ∷ l) (ap (λ q. entry_pair (record { class = r.key; inventory = r.value; used = amount r q })) same) (of_place us p rows))
-  | inr e ↦ rw e (of_place us p rows)
-]
-  where
-    at : (a : ℕ) → (a == p) ≡ true → a ≡ p
-    at a e = search (arith, rules)
+-- one entry more
+pub entry_more : (used : TextMap ℕ) (rows : List (TableRow ClassName InventoryNumbers)) (i : ℕ) (row : TableRow ClassName InventoryNumbers) (entries : List Entry) (entry : Entry)
+    → i < length rows → row ≡ get_or rows i row → map entry_pair entries ≡ with_used used (map class_pair (take i rows)) → entry_pair entry ∷ [] ≡ with_used used (class_pair row ∷ [])
+    → map entry_pair (entries ++ entry ∷ []) ≡ with_used used (map class_pair (take (i + 1) rows))
+entry_more used rows i row entries entry inside is before here =
+    map-append entry_pair entries (entry ∷ []) ∙ ap₂ (λ (a b : List (List ℕ × UsedInventory)). a ++ b) before here
+    ∙ sym (ap (λ (l : List (TableRow ClassName InventoryNumbers)). with_used used (map class_pair l)) (take_more rows i row inside)
+    ∙ ap (with_used used) (map-append class_pair (take i rows) (get_or rows i row ∷ []))
+    ∙ map-append (λ (e : List ℕ × InventoryNumbers). (e.0, record { inventory = e.1; used = unwrap_or (lookup (bytes_eq e.0) used) 0 })) (map class_pair (take i rows)) (class_pair (get_or rows i row) ∷ [])
+    ∙ ap (λ (r : TableRow ClassName InventoryNumbers). with_used used (map class_pair (take i rows)) ++ with_used used (class_pair r ∷ [])) (sym is))
 
-    amount : TableRow ClassName InventoryNumbers → ℕ → ℕ
-    amount row q = (entry_of us record { place = q; number = row.number; key = row.key; value = row.value }).used
+-- the entries of one provider more
+pub entries_more : (f : ℕ → TextMap UsedInventory) (place : ℕ) (lists : List (List Entry)) (entries : List Entry)
+    → map (map entry_pair) lists ≡ map f (range_with_len 0 place) → map entry_pair entries ≡ f place → map (map entry_pair) (lists ++ entries ∷ []) ≡ map f (range_with_len 0 (place + 1))
+entries_more f place lists entries before here =
+    map-append (map entry_pair) lists (entries ∷ []) ∙ ap₂ (λ a b. a ++ b ∷ []) before here ∙ sym (map-range_with_len_more f 0 place place (omega arith))
 
-pub joined_lists : (us : List (List (TableRow ClassName ℕ))) (rows : List (TableRow ClassName InventoryNumbers)) (starts : List ℕ) → AreStarts (length us) rows starts
-    → map (map entry_pair) (lists_in (map (entry_of us) rows) starts) ≡ with_used_lists (map (map class_pair) us) (map (map class_pair) (lists_in rows starts))
-joined_lists us rows starts are =
-    let n = length us in
-    let here = λ (p : ℕ). filter (λ (r : TableRow ClassName InventoryNumbers). r.place == p) rows in
-    let range = range_with_len 0 (length us) in
-    let used : map (map class_pair) us ≡ map (λ p. map class_pair (get_or us p [])) (range_with_len 0 (length us)) =
-    ap (map (map class_pair)) (fill_by_all (λ p. get_or us p []) us (length us) [] refl (λ k h. refl)) ∙ map-map (map class_pair) (λ p. get_or us p []) (range_with_len 0 (length us)) in
-    let own : map (map class_pair) (lists_in rows starts) ≡ map (λ p. map class_pair (filter (λ (r : TableRow ClassName InventoryNumbers). r.place == p) rows)) (range_with_len 0 (length us)) =
-    ap (map (map class_pair)) (split_lists (length us) rows starts are) ∙ map-map (map class_pair) (λ p. filter (λ (r : TableRow ClassName InventoryNumbers). r.place == p) rows) (range_with_len 0 (length us)) in
-    ap (map (map entry_pair)) (lists_map rows starts (entry_of us) ∙ ap (map (map (entry_of us))) (split_lists (length us) rows starts are)
-    ∙ map-map (map (entry_of us)) (λ p. filter (λ (r : TableRow ClassName InventoryNumbers). r.place == p) rows) (range_with_len 0 (length us)))
-    ∙ map-map (map entry_pair) (λ p. map (entry_of us) (filter (λ (r : TableRow ClassName InventoryNumbers). r.place == p) rows)) (range_with_len 0 (length us))
-    ∙ range_same _ (λ p. with_used (map class_pair (get_or us p [])) (map class_pair (filter (λ (r : TableRow ClassName InventoryNumbers). r.place == p) rows))) 0 (length us) (λ p l h. of_place us p rows)
-    ∙ sym (zip_maps (λ p. map class_pair (get_or us p [])) (λ p. map class_pair (filter (λ (r : TableRow ClassName InventoryNumbers). r.place == p) rows)) (range_with_len 0 (length us)))
-    ∙ ap₂ with_used_lists (sym used) (sym own)
+-- all of them
+pub joined_lists : (usages : List (TableRow ClassName ℕ)) (inventories : List (TableRow ClassName InventoryNumbers)) (n : ℕ)
+    → map (used_at usages inventories) (range_with_len 0 n)
+    ≡ with_used_lists (map (map class_pair) (map (λ p. filter (λ r. r.place == p) usages) (range_with_len 0 n))) (map (map class_pair) (map (λ p. filter (λ r. r.place == p) inventories) (range_with_len 0 n)))
+joined_lists usages inventories n =
+    sym (zip_maps (λ p. map class_pair (filter (λ r. r.place == p) usages)) (λ p. map class_pair (filter (λ r. r.place == p) inventories)) (range_with_len 0 n))
+    ∙ sym (ap₂ with_used_lists (map-map (map class_pair) (λ p. filter (λ (r : TableRow ClassName ℕ). r.place == p) usages) (range_with_len 0 n))
+    (map-map (map class_pair) (λ p. filter (λ (r : TableRow ClassName InventoryNumbers). r.place == p) inventories) (range_with_len 0 n)))
 
 first_keys : (e : List Entry) (u : TextMap ℕ) (r : List (TableRow ClassName InventoryNumbers)) → map entry_pair e ≡ with_used u (map class_pair r) → map entry_class e ≡ map (λ a. class_bytes a.key) r
 first_keys e u r same = sym (own e) ∙ ap (map (λ (d : List ℕ × UsedInventory). d.0)) same ∙ used r

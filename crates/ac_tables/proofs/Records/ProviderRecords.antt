@@ -52,7 +52,7 @@ module _ (said : List ProviderRecord) (rows : List ListingRow) (t : IsTable nat_
 
   pub keys_rise : IsStrictlySortedBy nat_cmp ids
   keys_rise =
-      keys_sorted nat_cmp nat_cmp (λ (q : ℕ). q) (λ a b. refl) 0 rows (recursion_from_All (λ (r : ListingRow). r.place ≡ 0) rows (All-weaker (λ r. r.place < 1) (λ r. r.place ≡ 0) (λ r h. omega (arith, h)) rows t.inside)) (t.strict refl)
+      keys_sorted nat_cmp nat_cmp (λ (q : ℕ). q) (λ a b. refl) t.order.turn 0 rows (recursion_from_All (λ (r : ListingRow). r.place ≡ 0) rows (All-weaker (λ r. r.place < 1) (λ r. r.place ≡ 0) (λ r h. omega (arith, h)) rows t.inside)) (t.strict refl)
 
   said_ids : map (λ (p : ProviderRecord). p.id) said ≡ map key t.read
   said_ids = ap (map (λ (p : ProviderRecord). p.id)) (sym t.shows) ∙ shown_ids t.read

@@ -19,7 +19,7 @@ module _ {V K X : Type 0} (cmp : K → K → Ordering) (bytes : K → List ℕ) 
   shown_map =
       let back = IsPermutation-sym t.read rows t.same in
       is_map nat_list_cmp_total exact_bytes (map pair (filter here rows)) (map pair (filter here t.read))
-      (rw (map-map (λ (e : List ℕ × X). e.0) pair (filter here rows)) (own_keys_sorted cmp text_cmp bytes same p rows (t.strict refl)))
+      (rw (map-map (λ (e : List ℕ × X). e.0) pair (filter here rows)) (own_keys_sorted cmp text_cmp bytes same t.order.turn p rows (t.strict refl)))
       (own_moved here pair rows t.read (λ r. Contains-permutation rows t.read r back)) (own_moved here pair t.read rows (λ r. Contains-permutation t.read rows r t.same))
       ∙ ap map_of (sym (of_provider shown count provider part pair p id whose what t.read (All-permutation (λ (r : TableRow K X). r.place < count) rows t.read back t.inside))
       ∙ ap (λ vs. map part (filter (λ v. provider v == id) vs)) t.shows)

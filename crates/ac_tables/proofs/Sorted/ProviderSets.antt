@@ -1,24 +1,22 @@
 -- The keys of one provider's rows, of which equal ones are left out, are the set of all that is said of it.
-use Rattle.ac_tables.proofs.Common.{◌≡◌, ◌∙◌, ◌<◌, ℕ, Bool, true, List, map, refl, sym, ap, subst, ◌==◌, Ordering, Less, Equal, Greater, is_eq, nat_cmp, ordering_then, IsTotalOrder, Contains, dedup, filter, IsSortedBy, IsStrictlySortedBy, map-id, eq_by_cmp_equiv, IsPermutation-sym, Contains-permutation, All-permutation, exact_unsigned, rising, row_cmp, row_lt, row_ties, row_shown, IsTable, TableRow}
+use Rattle.ac_tables.proofs.Common.{◌≡◌, ◌∙◌, ◌<◌, ℕ, Bool, true, List, map, sym, ap, subst, ◌==◌, Ordering, Equal, nat_cmp, IsTotalOrder, Contains, dedup, filter, IsStrictlySortedBy, map-id, eq_by_cmp_equiv, IsPermutation-sym, Contains-permutation, All-permutation, exact_unsigned, rising, row_ties, row_shown, turned_cmp, IsInOrder, IsTable, TableRow}
 use Rattle.std.proofs.Common.{Any}
 use Rattle.std.proofs.lemmas.List.Kept.{IsStrictlySortedBy-dedup, Any-dedup, Contains-from_dedup}
-use Rattle.ac_tables.proofs.Gathered.RowOrder.{row_total}
+use Rattle.ac_tables.proofs.Gathered.RowOrder.{both_equal, row_total, same_ties, turned_total}
 use Rattle.ac_base.proofs.Sorted.SameItems.{is_rising, map_has}
 use Rattle.ac_tables.proofs.Gathered.ProviderRows.{filter_has, has_filter, has_map, own_moved, own_keys_sorted, of_provider}
 use Rattle.ac_base.proofs.Sorted.SearchFacts.{in_order}
 
-both_equal : (a b : Ordering) → is_eq (ordering_then a b) ≡ true → (a ≡ Equal) × (b ≡ Equal)
-both_equal Less b e = absurd (cc)
-both_equal Equal Less e = absurd (cc)
-both_equal Equal Equal e = (refl, refl)
-both_equal Equal Greater e = absurd (cc)
-both_equal Greater b e = absurd (cc)
+-- what is left of rows in order, of which those that tie are left out, rises
+once_strict : {K X : Type 0} (cmp : K → K → Ordering) → IsTotalOrder cmp → (rows : List (TableRow K X)) (o : IsInOrder cmp rows) → IsStrictlySortedBy (turned_cmp o.turn cmp) (dedup (row_ties cmp) rows)
+once_strict {K} {X} cmp total rows o = IsStrictlySortedBy-dedup (turned_total {X = X} o.turn total) {E = row_ties cmp} (λ a b. sym (same_ties rows o a b)) rows o.sorted
 
--- what is left stands in order
-pub once_sorted : {K X : Type 0} (cmp : K → K → Ordering) → IsTotalOrder cmp → (rows : List (TableRow K X)) → IsSortedBy (row_lt cmp) rows → IsSortedBy (row_lt cmp) (dedup (row_ties cmp) rows)
-once_sorted {K} {X} cmp total rows sorted =
-    let strict = IsStrictlySortedBy-dedup (row_total {X = X} total) {E = row_ties cmp} (λ a b. refl) rows sorted in
-    in_order (λ (r : TableRow K X). r) (row_total {X = X} total) (dedup (row_ties cmp) rows) (rw (map-id (dedup (row_ties cmp) rows)) strict)
+pub once_in_order : {K X : Type 0} (cmp : K → K → Ordering) → IsTotalOrder cmp → (rows : List (TableRow K X)) → IsInOrder cmp rows → IsInOrder cmp (dedup (row_ties cmp) rows)
+once_in_order {K} {X} cmp total rows o = record {
+  turn = o.turn;
+  apart = o.apart;
+  sorted = in_order (λ (r : TableRow K X). r) (turned_total {X = X} o.turn total) (dedup (row_ties cmp) rows) (rw (map-id (dedup (row_ties cmp) rows)) (once_strict cmp total rows o));
+}
 
 module _ {V K X Y : Type 0} (cmp : K → K → Ordering) (total : IsTotalOrder cmp) (order : Y → Y → Ordering) (order_total : IsTotalOrder order) (exact : (x y : Y) → order x y ≡ Equal → x ≡ y)
     (bytes : K → Y) (same : (a b : K) → cmp a b ≡ order (bytes a) (bytes b))
@@ -35,8 +33,8 @@ module _ {V K X Y : Type 0} (cmp : K → K → Ordering) (total : IsTotalOrder c
   abbrev once : List (TableRow K X)
   once = dedup (row_ties cmp) rows
 
-  strict : IsStrictlySortedBy (row_cmp cmp) (dedup (row_ties cmp) rows)
-  strict = IsStrictlySortedBy-dedup (row_total {X = X} total) {E = row_ties cmp} (λ a b. refl) rows t.sorted
+  strict : IsStrictlySortedBy (turned_cmp t.order.turn cmp) (dedup (row_ties cmp) rows)
+  strict = once_strict cmp total rows t.order
 
   -- a row that ties with another is of the same provider and shows the same
   alike : (r q : TableRow K X) → row_ties cmp r q ≡ true → (r.place ≡ q.place) × (shows r ≡ shows q)
@@ -61,5 +59,5 @@ module _ {V K X Y : Type 0} (cmp : K → K → Ordering) (total : IsTotalOrder c
   pub shown_set : map shows (filter here once) ≡ rising order (map part (filter (λ v. provider v == id) said))
   shown_set =
       let inside = All-permutation (λ (r : TableRow K X). r.place < count) rows t.read (IsPermutation-sym t.read rows t.same) t.inside in
-      is_rising order_total exact (map shows (filter here once)) (map shows (filter here t.read)) (own_keys_sorted cmp order bytes same p once strict) there back
+      is_rising order_total exact (map shows (filter here once)) (map shows (filter here t.read)) (own_keys_sorted cmp order bytes same t.order.turn p once strict) there back
       ∙ ap (rising order) (sym (of_provider shown count provider part shows p id whose what t.read inside) ∙ ap (λ vs. map part (filter (λ v. provider v == id) vs)) t.shows)

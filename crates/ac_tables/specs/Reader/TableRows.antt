@@ -1,5 +1,5 @@
 -- A table as one flat list of rows.
-use Rattle.std.specs.Prelude.{◌≡◌, ⊤, ℕ, ◌+◌, ◌-◌, ◌<◌, ◌≤◌, Bool, true, false, nat_lt, List, [], ◌∷◌, ◌++◌, map, length, min, get_or, slice_index_or, Option, Some, None, Result, Ok, Err}
+use Rattle.std.specs.Prelude.{◌≡◌, ⊤, ℕ, ◌+◌, ◌-◌, ◌<◌, ◌≤◌, ◌≢◌, Bool, true, false, nat_lt, List, [], ◌∷◌, ◌++◌, map, length, min, get_or, slice_index_or, Option, Some, None, Result, Ok, Err}
 use Rattle.std.specs.List.{All, list_any}
 use Rattle.std.specs.Ordering.{nat_cmp, ordering_then, is_lt, is_eq}
 use Rattle.std.specs.declared.cmp.Ordering.{Ordering}
@@ -10,13 +10,11 @@ use Rattle.ac_tables.specs.declared.fault.RecordFault.{RecordFault}
 use Rattle.ac_tables.specs.declared.fault.RecordFault.TheVariants as record_fault
 use Rattle.ac_tables.specs.declared.fault.TableKind.TheVariants as kind
 use Rattle.ac_tables.specs.declared.reader.row.TableRow.{TableRow}
+use Rattle.ac_tables.specs.declared.reader.provider_rows.Span.{Span}
 
 -- how rows stand to each other, by provider and key
 abbrev pub row_cmp : {K X : Type 0} → (K → K → Ordering) → TableRow K X → TableRow K X → Ordering
 row_cmp cmp a b = ordering_then (nat_cmp a.place b.place) (cmp a.key b.key)
-
-abbrev pub row_lt : {K X : Type 0} → (K → K → Ordering) → TableRow K X → TableRow K X → Bool
-row_lt cmp a b = is_lt (row_cmp cmp a b)
 
 -- two rows are of one provider and key
 abbrev pub row_ties : {K X : Type 0} → (K → K → Ordering) → TableRow K X → TableRow K X → Bool
@@ -25,6 +23,26 @@ row_ties cmp a b = is_eq (row_cmp cmp a b)
 -- rows go by provider and key, and those that tie by their records
 abbrev pub whole_lt : {K X : Type 0} → (K → K → Ordering) → TableRow K X → TableRow K X → Bool
 whole_lt cmp a b = is_lt (ordering_then (row_cmp cmp a b) (nat_cmp a.number b.number))
+
+-- how rows stand to each other, by provider and key, where providers come in these turns
+abbrev pub turned_cmp : {K X : Type 0} → (ℕ → ℕ) → (K → K → Ordering) → TableRow K X → TableRow K X → Ordering
+turned_cmp turn cmp a b = ordering_then (nat_cmp (turn a.place) (turn b.place)) (cmp a.key b.key)
+
+-- The rows of one provider stand behind those of another, whichever comes first, and those of each in the order of their keys.
+pub record IsInOrder {K X : Type 0} (cmp : K → K → Ordering) (rows : List (TableRow K X)) : Type 0 where
+  pub turn : ℕ → ℕ
+  pub apart : (p q : ℕ) → turn p ≡ turn q → p ≡ q
+  pub sorted : IsSortedBy (λ a b. is_lt (turned_cmp turn cmp a b)) rows
+
+-- the rows of each provider stand side by side
+abbrev pub IsGrouped : {K X : Type 0} → List (TableRow K X) → Type 0
+IsGrouped {K} {X} rows = (i j k : ℕ) (d : TableRow K X) → i ≤ j → j ≤ k → k < length rows → (slice_index_or rows i d).place ≡ (slice_index_or rows k d).place
+    → (slice_index_or rows j d).place ≡ (slice_index_or rows i d).place
+
+-- neighbours of one provider stand in order
+abbrev pub AreRunsSorted : {K X : Type 0} → (TableRow K X → TableRow K X → Bool) → List (TableRow K X) → Type 0
+AreRunsSorted {K} {X} lt rows = (k : ℕ) (d : TableRow K X) → k + 1 < length rows → (slice_index_or rows k d).place ≡ (slice_index_or rows (k + 1) d).place
+    → lt (slice_index_or rows (k + 1) d) (slice_index_or rows k d) ≡ false
 
 -- the rows from one place up to another are of one provider
 abbrev pub IsRun : {K X : Type 0} → List (TableRow K X) → ℕ → ℕ → Type 0
@@ -114,18 +132,19 @@ pub record IsTable {V K X : Type 0} (cmp : K → K → Ordering) (shown : ℕ �
   pub read : List (TableRow K X)
   pub shows : map (row_shown shown) read ≡ said
   pub same : IsPermutation read rows
-  pub sorted : IsSortedBy (row_lt cmp) rows
+  pub order : IsInOrder cmp rows
   pub inside : All (λ r. r.place < count) rows
   pub numbered : (k : ℕ) (d : TableRow K X) → k < length read → (get_or read k d).number ≡ k + 2
-  pub strict : unique ≡ true → IsStrictlySortedBy (row_cmp cmp) rows
+  pub strict : unique ≡ true → IsStrictlySortedBy (turned_cmp order.turn cmp) rows
 
--- a place in the list before which all rows are of lower providers, and from which none is
-pub record IsStart {K X : Type 0} (rows : List (TableRow K X)) (place start : ℕ) : Type 0 where
-  pub inside : start ≤ length rows
-  pub below : (k : ℕ) (d : TableRow K X) → k < start → (slice_index_or rows k d).place < place
-  pub above : (k : ℕ) (d : TableRow K X) → start ≤ k → k < length rows → place ≤ (slice_index_or rows k d).place
+-- the rows of a provider stand from one place up to another, and nowhere else
+pub record IsSpan {K X : Type 0} (rows : List (TableRow K X)) (place from end : ℕ) : Type 0 where
+  pub order : from ≤ end
+  pub inside : end ≤ length rows
+  pub own : (k : ℕ) (d : TableRow K X) → from ≤ k → k < end → (slice_index_or rows k d).place ≡ place
+  pub below : (k : ℕ) (d : TableRow K X) → k < from → (slice_index_or rows k d).place ≢ place
+  pub above : (k : ℕ) (d : TableRow K X) → end ≤ k → k < length rows → (slice_index_or rows k d).place ≢ place
 
--- the starts of all providers, and where all rows end
-pub record AreStarts {K X : Type 0} (count : ℕ) (rows : List (TableRow K X)) (starts : List ℕ) : Type 0 where
-  pub sized : length starts ≡ count + 1
-  pub at : (p : ℕ) → p < length starts → IsStart rows p (get_or starts p 0)
+-- where the rows of each provider stand
+abbrev pub AreSpans : {K X : Type 0} → List (TableRow K X) → List Span → Type 0
+AreSpans rows spans = (p : ℕ) (d : Span) → p < length spans → IsSpan rows p (slice_index_or spans p d).from (slice_index_or spans p d).end

@@ -2,7 +2,7 @@
 ghost use Rattle.std.specs.Prelude.{◌≡◌, None, IfOk, IfErr};
 ghost use Rattle.csv.specs.Records.{fields_of};
 ghost use Rattle.ac_base.specs.Names.{class_bytes};
-ghost use Rattle.ac_tables.specs.Tables.Checks.{first_failing, unless, TellsKind};
+ghost use Rattle.ac_tables.specs.Tables.Checks.{first_failing, TellsKind};
 ghost use Rattle.ac_tables.specs.Tables.Columns.{id_in, text_in};
 ghost use Rattle.ac_tables.specs.Reader.ColumnPlaces.{place_in};
 ghost use Rattle.ac_tables.specs.Tables.InventoryTable.{provider_name, class_name, owner_checks, class_checks};

@@ -107,7 +107,7 @@ pub(crate) fn gather<T: Record>(
     let mut rows = Vec::new(alloc);
     let ended = read_rows::<T>(alloc, beside, reader, header, &mut rows);
     let last = rows.len() as u32 + 1;
-    put_in_order(&mut rows);
+    put_in_order(alloc, &mut rows);
     if let Some(row) = forbidden_repeat::<T>(&rows) {
         return Err(TableFault::At {
             table: T::TABLE,

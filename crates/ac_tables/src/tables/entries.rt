@@ -1,5 +1,5 @@
 //! Inventories beside how much of each is used.
-ghost use Rattle.std.specs.Prelude.{◌≡◌, ◌<◌, [], map, length, IfOk, get_or};
+ghost use Rattle.std.specs.Prelude.{◌≡◌, [], map, length, IfOk};
 ghost use Rattle.std.specs.List.{All};
 ghost use Rattle.std.specs.List.Sorted.{IsStrictlySortedBy};
 ghost use Rattle.std.specs.Map.{lookup};
@@ -9,10 +9,12 @@ ghost use Rattle.ac_base.specs.Names.{class_bytes};
 ghost use Rattle.ac_base.specs.Texts.{text_cmp};
 ghost use Rattle.ac_cloud.specs.Cloud.Entries.{entry_pair};
 ghost use Rattle.ac_tables.specs.Reader.InventoryRows.{class_pair};
-ghost use Rattle.ac_tables.specs.Reader.EntryLists.{entry_of, with_used_lists};
-ghost use Rattle.ac_tables.specs.Reader.TableRows.{AreStarts};
+ghost use Rattle.ac_tables.specs.Reader.EntryLists.{with_used_lists};
+ghost use Rattle.ac_tables.specs.Reader.OwnRows.{own_rows};
+ghost use Rattle.ac_tables.specs.Tables.{with_used};
 ghost use Rattle.ac_cloud.specs.ListsOf.{lists_of};
 
+use crate::reader::provider_rows::ProviderRows;
 use crate::reader::row::TableRow;
 use ac_base::{ClassName, Inventory};
 use ac_cloud::{Entry, Lists};
@@ -45,45 +47,44 @@ fn amount_of(usages: &[TableRow<ClassName, u32>], class: &ClassName) -> u32
     }
 }
 
-// An entry for each inventory.
-fn make_entries(
-    alloc: Global,
-    inventories: Vec<TableRow<ClassName, Inventory>>,
-    usages: &Lists<TableRow<ClassName, u32>>,
-) -> Result<Vec<Entry>, AllocError>
-    requires inside { All (λ r. r.place < length (lists_of usages.now)) inventories.items }
-    requires rising { All (λ rs. IsStrictlySortedBy text_cmp (map (λ r. class_bytes r.key) rs))
-        (lists_of usages.now) }
-    ensures { IfOk result (λ entries. entries.items
-        ≡ map (entry_of (lists_of usages.now)) inventories.items) }
+// Adds an entry for each inventory of a provider, which has these usages.
+fn add_entries(
+    entries: &mut Vec<Entry>,
+    inventories: &[TableRow<ClassName, Inventory>],
+    usages: &[TableRow<ClassName, u32>],
+) -> Result<(), AllocError>
+    requires none { entries.old.items ≡ [] }
+    requires rising { IsStrictlySortedBy text_cmp (map (λ r. class_bytes r.key) usages.now) }
+    ensures { IfOk result (λ _. map entry_pair entries.new.items
+        ≡ with_used (map class_pair usages.now) (map class_pair inventories.now)) }
 {
-    let mut entries = Vec::new(alloc);
     for row in inventories {
-        let used = amount_of(usages.of(row.place as usize), &row.key);
-        entries.push(Entry::new(row.key, row.value, u64::from(used)))?;
+        let used = amount_of(usages, &row.key);
+        entries.push(Entry::new(row.key.clone()?, row.value, u64::from(used)))?;
     }
-    Ok(entries)
+    Ok(())
 }
 
 // What each provider has of its classes, and how much of it is used.
-#[tactic(auto, using(crate::proofs::Places::JoinFacts::joined_lists, ac_cloud::proofs::ListFacts::of_lists))]
 pub(crate) fn join(
     alloc: Global,
-    inventories: Lists<TableRow<ClassName, Inventory>>,
-    usages: &Lists<TableRow<ClassName, u32>>,
+    inventories: &ProviderRows<ClassName, Inventory>,
+    usages: &ProviderRows<ClassName, u32>,
 ) -> Result<Lists<Entry>, AllocError>
-    requires started { AreStarts (length (lists_of usages.now)) inventories.items.items
-        inventories.starts.items }
-    requires inside { All (λ r. r.place < length (lists_of usages.now)) inventories.items.items }
+    requires sized { length (own_rows usages.now) ≡ length (own_rows inventories.now) }
     requires rising { All (λ rs. IsStrictlySortedBy text_cmp (map (λ r. class_bytes r.key) rs))
-        (lists_of usages.now) }
+        (own_rows usages.now) }
     ensures length { IfOk result (λ entries.
-        length (lists_of entries) ≡ length (lists_of inventories)) }
+        length (lists_of entries) ≡ length (own_rows inventories.now)) }
     ensures entries { IfOk result (λ entries. map (map entry_pair) (lists_of entries)
-        ≡ with_used_lists (map (map class_pair) (lists_of usages.now))
-        (map (map class_pair) (lists_of inventories))) }
+        ≡ with_used_lists (map (map class_pair) (own_rows usages.now))
+        (map (map class_pair) (own_rows inventories.now))) }
 {
-    let Lists { items, starts } = inventories;
-    let items = make_entries(alloc, items, usages)?;
-    Ok(Lists { items, starts })
+    let mut lists = Lists::new(alloc)?;
+    let mut entries = Vec::new(alloc);
+    for place in 0..inventories.len() {
+        add_entries(&mut entries, inventories.of(place), usages.of(place))?;
+        lists.append(&mut entries)?;
+    }
+    Ok(lists)
 }

@@ -1,5 +1,5 @@
 //! The table of inventories: what a record of it says, and the inventories of all providers.
-ghost use Rattle.std.specs.Prelude.{◌≡◌, None, IfOk, IfErr, ◌++◌, ◌==◌, true, length, get_or, ◌≤◌, ◌<◌, ◌&&◌, not, List, map};
+ghost use Rattle.std.specs.Prelude.{◌≡◌, None, IfOk, IfErr, ◌++◌, ◌==◌, true, length, get_or, ◌≤◌, ◌<◌, not, List, map};
 ghost use Rattle.csv.specs.Records.{fields_of};
 ghost use Rattle.ac_base.specs.Names.{class_bytes};
 ghost use Rattle.ac_tables.specs.Tables.Checks.{first_failing, unless, Tells};
@@ -7,15 +7,14 @@ ghost use Rattle.ac_tables.specs.Tables.Columns.{id_in};
 ghost use Rattle.ac_tables.specs.Tables.InventoryTable.{provider_name, class_name, numbers_said, number_checks, inventory_field_checks, InventoryRecord, inventory_columns, inventory_said, inventory_record_checks, known_checks, is_inventory_of, inventories_said, inventories_fault};
 ghost use Rattle.ac_tables.specs.Reader.ColumnPlaces.{inventory_places};
 ghost use Rattle.ac_tables.specs.Reader.RecordLaws.{inventories_keyed, keys_apart};
-ghost use Rattle.std.specs.List.{All, filter, list_any, range_with_len};
+ghost use Rattle.std.specs.List.{All, list_any};
 ghost use Rattle.std.specs.List.Sorted.{IsPermutation, IsStrictlySortedBy};
 ghost use Rattle.std.specs.Str.{bytes_eq};
 ghost use Rattle.std.proofs.Props.{props};
 ghost use Rattle.ac_base.specs.Texts.{text_cmp};
 ghost use Rattle.ac_tables.specs.Drain.{most_bytes};
-ghost use Rattle.ac_tables.specs.Reader.TableRows.{AreStarts};
+ghost use Rattle.ac_tables.specs.Reader.OwnRows.{own_rows};
 ghost use Rattle.ac_tables.specs.Reader.InventoryRows.{AreInventories, class_pair, inventory_records_shown};
-ghost use Rattle.ac_cloud.specs.ListsOf.{lists_of};
 ghost use Rattle.ac_tables.specs.Tables.Rows.{records_of};
 ghost use Rattle.ac_tables.specs.Tables.{inventories_of};
 ghost use Rattle.ac_tables.specs.declared.fault.Table.TheVariants as table;
@@ -24,12 +23,12 @@ use crate::fault::{RecordFault, Table, TableFault, TableKind};
 use crate::reader::fields::{CLASS, OWNER, read_class, read_owner};
 use crate::reader::gather::read_table;
 use crate::reader::header::column_at;
+use crate::reader::provider_rows::ProviderRows;
 use crate::reader::record::{Record, Seen};
 use crate::reader::records::text_at;
 use crate::reader::row::TableRow;
-use crate::reader::split::split;
 use ac_base::{ClassName, Inventory, Ratio, read_count};
-use ac_cloud::{Ids, Lists};
+use ac_cloud::Ids;
 use csv::ByteRecord;
 use std::alloc::{AllocError, Global};
 
@@ -192,10 +191,10 @@ impl Record for InventoryTable {
 #[derive(Drop)]
 pub(crate) struct Inventories {
     pub(crate) ids: Ids,
-    pub(crate) rows: Lists<TableRow<ClassName, Inventory>>,
-    ghost started: { AreStarts (length ids.ids.items) rows.items.items rows.starts.items } by { Prim.hlevel props },
-    ghost inside: { All (λ r. r.place < length ids.ids.items) rows.items.items },
-    ghost rise: { All (λ own. IsStrictlySortedBy text_cmp (map (λ r. class_bytes r.key) own)) (lists_of rows) } by { Prim.hlevel props },
+    pub(crate) rows: ProviderRows<ClassName, Inventory>,
+    ghost sized: { length (own_rows rows) ≡ length ids.ids.items },
+    ghost inside: { All (λ r. r.place < length ids.ids.items) rows.rows.items },
+    ghost rise: { All (λ own. IsStrictlySortedBy text_cmp (map (λ r. class_bytes r.key) own)) (own_rows rows) } by { Prim.hlevel props },
 }
 
 // Whether one of these is of a class.
@@ -213,24 +212,21 @@ impl Inventories {
         ids: Ids,
         rows: Vec<TableRow<ClassName, Inventory>>,
     ) -> Result<Inventories, AllocError>
-        requires { (said : List InventoryRecord) × AreInventories ids.ids.items said rows.items }
+        requires said { (said : List InventoryRecord) × AreInventories ids.ids.items said rows.items }
+        requires few { length rows.items ≤ most_bytes }
         ensures ids { IfOk result (λ new. new.ids.ids.items ≡ ids.ids.items) }
-        ensures rows { IfOk result (λ new. new.rows.items.items ≡ rows.items) }
-        ensures lists { IfOk result (λ new. lists_of new.rows
-            ≡ map (λ p. filter (λ r. r.place == p) rows.items)
-            (range_with_len 0 (length ids.ids.items))) }
+        ensures rows { IfOk result (λ new. new.rows.rows.items ≡ rows.items) }
     {
-        let rows = split(alloc, ids.len(), rows)?;
+        let rows = ProviderRows::new(alloc, ids.len(), rows)?;
         Ok(Inventories { ids, rows })
     }
 
     // Whether a provider has no inventory of a class.
-    #[tactic(auto, using(ac_cloud::proofs::ListFacts::of_lists))]
     pub(crate) fn lacks(&self, place: usize, class: &ClassName) -> bool
         requires { place < length self.now.ids.ids.items }
         ensures { result ≡ not (list_any
             (is_inventory_of (get_or self.now.ids.ids.items place 0) (class_bytes class.now))
-            (inventory_records_shown self.now.ids.ids.items self.now.rows.items.items)) }
+            (inventory_records_shown self.now.ids.ids.items self.now.rows.rows.items)) }
     {
         !has_class(self.rows.of(place), class)
     }
@@ -240,12 +236,12 @@ impl Inventories {
     pub(crate) fn read(alloc: Global, ids: Ids, text: &[u8]) -> Result<Inventories, TableFault>
         requires { length text.now ≤ most_bytes }
         ensures ids { IfOk result (λ new. new.ids.ids.items ≡ ids.ids.items) }
-        ensures value { IfOk result (λ new. map (map class_pair) (lists_of new.rows)
+        ensures value { IfOk result (λ new. map (map class_pair) (own_rows new.rows)
             ≡ map (inventories_of (inventories_said (records_of text.now))) ids.ids.items) }
         ensures said { IfOk result (λ new.
             IsPermutation (inventories_said (records_of text.now))
-            (inventory_records_shown ids.ids.items new.rows.items.items)) }
-        ensures few { IfOk result (λ new. length new.rows.items.items ≤ most_bytes) }
+            (inventory_records_shown ids.ids.items new.rows.rows.items)) }
+        ensures few { IfOk result (λ new. length new.rows.rows.items ≤ most_bytes) }
         ensures ok { IfOk result (λ _. inventories_fault ids.ids.items (records_of text.now)
             ≡ None) }
         ensures err { IfErr result (λ e.

@@ -19,10 +19,11 @@ use crate::fault::{RecordFault, Table, TableFault, TableKind};
 use crate::reader::fields::{OWNER, read_owner};
 use crate::reader::gather::read_table;
 use crate::reader::header::column_at;
+use crate::reader::keys::keys_of;
+use crate::reader::provider_rows::ProviderRows;
 use crate::reader::record::{Record, Seen};
 use crate::reader::records::text_at;
 use crate::reader::row::keep_first;
-use crate::reader::split::{keys_of, split};
 use ac_base::{Names, TraitName};
 use ac_cloud::{Ids, Lists};
 use csv::ByteRecord;
@@ -155,6 +156,6 @@ pub(crate) fn read_traits(
 {
     let mut rows = read_table::<TraitTable>(alloc, ids, text)?;
     keep_first(&mut rows);
-    let lists = split(alloc, ids.len(), rows)?;
-    Ok(keys_of(alloc, lists)?)
+    let own = ProviderRows::new(alloc, ids.len(), rows)?;
+    Ok(keys_of(alloc, &own)?)
 }

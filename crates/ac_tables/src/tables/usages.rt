@@ -11,7 +11,7 @@ ghost use Rattle.ac_tables.specs.Reader.InventoryRows.{inventory_records_shown, 
 ghost use Rattle.ac_tables.specs.Reader.RecordLaws.{lone_checks, usages_keyed, keys_apart};
 ghost use Rattle.std.specs.List.Sorted.{IsPermutation};
 ghost use Rattle.ac_tables.specs.Drain.{most_bytes};
-ghost use Rattle.ac_cloud.specs.ListsOf.{lists_of};
+ghost use Rattle.ac_tables.specs.Reader.OwnRows.{own_rows};
 ghost use Rattle.ac_tables.specs.Tables.Rows.{records_of};
 ghost use Rattle.ac_tables.specs.Tables.{amounts_of};
 ghost use Rattle.ac_tables.specs.declared.fault.Table.TheVariants as table;
@@ -20,13 +20,11 @@ use crate::fault::{RecordFault, Table, TableFault, TableKind};
 use crate::reader::fields::{CLASS, OWNER, read_class, read_owner};
 use crate::reader::gather::read_table;
 use crate::reader::header::column_at;
+use crate::reader::provider_rows::ProviderRows;
 use crate::reader::record::{Record, Seen};
 use crate::reader::records::text_at;
-use crate::reader::row::TableRow;
-use crate::reader::split::split;
 use crate::tables::inventories::Inventories;
 use ac_base::{ClassName, read_count};
-use ac_cloud::Lists;
 use csv::ByteRecord;
 use std::alloc::Global;
 
@@ -86,9 +84,9 @@ impl Record for UsageTable {
 
     ghost says = { usage_said };
 
-    ghost checks = { λ b. usage_row_checks b.ids.ids.items (inventory_records_shown b.ids.ids.items b.rows.items.items) };
+    ghost checks = { λ b. usage_row_checks b.ids.ids.items (inventory_records_shown b.ids.ids.items b.rows.rows.items) };
 
-    ghost alone = { λ b header row. usage_field_checks header row ++ lone_checks b.ids.ids.items (inventory_records_shown b.ids.ids.items b.rows.items.items) (id_in header provider_name row) (text_in header class_name row) };
+    ghost alone = { λ b header row. usage_field_checks header row ++ lone_checks b.ids.ids.items (inventory_records_shown b.ids.ids.items b.rows.rows.items) (id_in header provider_name row) (text_in header class_name row) };
 
     ghost same = { λ v u. is_usage v.provider v.class u };
 
@@ -133,7 +131,7 @@ impl Record for UsageTable {
         Ok((place as u32, class, amount))
     }
 
-    ghost keyed = { λ b header. usages_keyed b.ids.ids.items (inventory_records_shown b.ids.ids.items b.rows.items.items) header };
+    ghost keyed = { λ b header. usages_keyed b.ids.ids.items (inventory_records_shown b.ids.ids.items b.rows.rows.items) header };
 
     ghost apart = { λ b. keys_apart b.ids.ids.items b.ids.rising };
 }
@@ -143,27 +141,27 @@ pub(crate) fn read_usages(
     alloc: Global,
     inventories: &Inventories,
     text: &[u8],
-) -> Result<Lists<TableRow<ClassName, u32>>, TableFault>
+) -> Result<ProviderRows<ClassName, u32>, TableFault>
     requires { length text.now ≤ most_bytes }
-    ensures value { IfOk result (λ used. map (map class_pair) (lists_of used)
+    ensures value { IfOk result (λ used. map (map class_pair) (own_rows used)
         ≡ map (amounts_of (usages_said (records_of text.now))) inventories.now.ids.ids.items) }
-    ensures count { IfOk result (λ used. length used.items.items
+    ensures count { IfOk result (λ used. length used.rows.items
         ≡ length (usages_said (records_of text.now))) }
     ensures length { IfOk result (λ used.
-        length (lists_of used) ≡ length inventories.now.ids.ids.items) }
-    ensures few { IfOk result (λ new. length new.items.items ≤ most_bytes) }
+        length (own_rows used) ≡ length inventories.now.ids.ids.items) }
+    ensures few { IfOk result (λ new. length new.rows.items ≤ most_bytes) }
     ensures ok { IfOk result (λ _. (records : List InventoryRecord)
         → IsPermutation records (inventory_records_shown inventories.now.ids.ids.items
-        inventories.now.rows.items.items) → usages_fault inventories.now.ids.ids.items records
+        inventories.now.rows.rows.items) → usages_fault inventories.now.ids.ids.items records
         (records_of text.now) ≡ None) }
     ensures err { IfErr result (λ e. (records : List InventoryRecord)
         → IsPermutation records (inventory_records_shown inventories.now.ids.ids.items
-        inventories.now.rows.items.items) → Tells
+        inventories.now.rows.rows.items) → Tells
         (usages_fault inventories.now.ids.ids.items records (records_of text.now)) e) }
 {
     let rows = match read_table::<UsageTable>(alloc, inventories, text) {
         Ok(rows) => rows,
         Err(fault) => return Err(fault),
     };
-    Ok(split(alloc, inventories.ids.len(), rows)?)
+    Ok(ProviderRows::new(alloc, inventories.ids.len(), rows)?)
 }

@@ -1,4 +1,4 @@
-use Rattle.ac_tables.proofs.Common.{IsStrictlySortedBy, text_cmp, TextMap, UsedInventory, ◌≡◌, ◌∙◌, ℕ, Option, List, map, length, refl, sym, ap, subst, sum_by, length-map, trait_bytes, Row, records_of, providers_said, said_name, said_parent, inventories_said, usages_said, traits_said, aggregates_said, inventories_of, amounts_of, names_of, aggregates_of, gathered, option_and_then, rank, AreKin, class_pair, with_used_lists, lists_of, map-id, length_permutation}
+use Rattle.ac_tables.proofs.Common.{IsStrictlySortedBy, text_cmp, TextMap, UsedInventory, ◌≡◌, ◌∙◌, ℕ, Option, List, map, length, refl, sym, ap, subst, sum_by, length-map, trait_bytes, Row, records_of, providers_said, said_name, said_parent, inventories_said, usages_said, traits_said, aggregates_said, inventories_of, amounts_of, names_of, aggregates_of, gathered, option_and_then, rank, AreKin, class_pair, with_used_lists, lists_of, own_rows, map-id, length_permutation}
 use Rattle.ac_tables.specs.Tables.{ids_of, world_stated}
 use Rattle.ac_cloud.specs.Cloud.Numbered.{numbered}
 use Rattle.ac_cloud.specs.Cloud.CloudWorld.{sizes_of}
@@ -19,7 +19,7 @@ build-requires-clause-forest c =
 
 pub build-requires-clause-classes_rise : goal.build-requires-clause-classes_rise
 build-requires-clause-classes_rise c =
-    entries_rise (IsStrictlySortedBy text_cmp) (lists_of c.in_ok-entries.entries) (map (map class_pair) (lists_of c.in_ok-usages.usages)) (lists_of c.in_ok-inventories.inventories.rows) c.in_ok-entries.ensures.entries c.in_ok-inventories.inventories.rise
+    entries_rise (IsStrictlySortedBy text_cmp) (lists_of c.in_ok-entries.entries) (map (map class_pair) (own_rows c.in_ok-usages.usages)) (own_rows c.in_ok-inventories.inventories.rows) c.in_ok-entries.ensures.entries c.in_ok-inventories.inventories.rise
 
 pub returns-clause-world : goal.returns-clause-world
 unfolding ids_of world_stated
@@ -40,8 +40,8 @@ returns-clause-world c =
     let kin = subst (λ (l : List ℕ). AreKin l said) (sym same) c.in_ok-providers.ensures.kin in
     let entries = c.in_ok-entries.ensures.entries in
     let parents = subst (λ (l : List ℕ). c.in_ok-providers.providers.parents.items ≡ map (λ id. option_and_then (rank l) (said_parent said id)) l) (sym same) c.in_ok-providers.ensures.parents in
-    let us = map (map class_pair) (lists_of c.in_ok-usages.usages) in
-    let ss = map (map class_pair) (lists_of c.in_ok-inventories.inventories.rows) in
+    let us = map (map class_pair) (own_rows c.in_ok-usages.usages) in
+    let ss = map (map class_pair) (own_rows c.in_ok-inventories.inventories.rows) in
     let ns = map (map trait_bytes) (lists_of c.in_ok-traits.traits) in
     let gs = lists_of c.in_ok-aggregates.aggregates in
     let ls = lists_of c.in_ok-providers.providers.names in
@@ -53,8 +53,8 @@ returns-clause-world c =
     ∙ stated t ids us ss ns gs ls kin usages inventories names aggregates called
     ∙ ap (map (gathered t)) all in
     let s1 = c.len.ensures.value ∙ ap length all in
-    let s2 = c.count.ensures.items ∙ sym (length-map c.in_ok-inventories.inventories.rows.items.items _) ∙ length_permutation _ _ c.in_ok-inventories.ensures.said in
-    let s3 = c.count-2.ensures.items ∙ c.in_ok-usages.ensures.count ∙ ap (λ (rows : List Row). length (usages_said rows)) usage_rows in
+    let s2 = c.count.ensures ∙ sym (length-map c.in_ok-inventories.inventories.rows.rows.items _) ∙ length_permutation _ _ c.in_ok-inventories.ensures.said in
+    let s3 = c.count-2.ensures ∙ c.in_ok-usages.ensures.count ∙ ap (λ (rows : List Row). length (usages_said rows)) usage_rows in
     let s4 = c.count-3.ensures.sum
     ∙ counted (map trait_bytes) (λ l. length-map l trait_bytes) (lists_of c.in_ok-traits.traits) (names_of (traits_said t.traits)) ids names
     ∙ ap (sum_by (λ id. length (names_of (traits_said t.traits) id))) all in

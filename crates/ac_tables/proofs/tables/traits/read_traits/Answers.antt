@@ -1,5 +1,6 @@
-use Rattle.ac_tables.proofs.Common.{◌∙◌, ℕ, false, List, map, length, get_or, refl, sym, ap, Ordering, on_total, dedup, nat_list_cmp_total, exact_bytes, trait_bytes, text_cmp, TraitName, row_ties, TraitRecord, traits_said, records_of, same_place, map-map}
+use Rattle.ac_tables.proofs.Common.{◌≡◌, ◌∙◌, ◌==◌, ℕ, false, List, map, length, filter, range_with_len, get_or, refl, ap, Ordering, on_total, dedup, nat_list_cmp_total, exact_bytes, trait_bytes, text_cmp, TraitName, row_ties, TraitRecord, traits_said, records_of, same_place, map-map, TableRow}
 use Rattle.ac_tables.specs.Tables.{names_of}
+use Rattle.ac_tables.proofs.Gathered.OwnRows.{lists_shown, own_lists}
 use Rattle.ac_tables.proofs.Sorted.ProviderSets.{shown_set}
 use Rattle.ac_tables.proofs.Sorted.RowLists.{of_each}
 use Rattle.ac_tables.proofs.tables.traits.read_traits.Goals as goal
@@ -15,9 +16,10 @@ unfolding names_of
 returns-clause-value c =
     let ids = c.args.ids.now.ids.items in
     let said = traits_said (records_of c.args.text.now) in
-    ap (map (map trait_bytes)) c.in_ok-keys_of.ensures.lists ∙ map-map (map trait_bytes) (map (λ r. r.key)) _
-    ∙ of_each (dedup (row_ties trait_cmp) c.in_ok-rows.rows.items) (λ l. map trait_bytes (map (λ r. r.key) l)) (names_of said) ids _
-    (rw (sym c.keep_first.ensures.value, sym c.len.ensures.value) c.in_ok-lists.ensures.lists) (λ p h.
+    let lists = own_lists c.in_ok-own.own (length c.args.ids.now.ids.items) (c.in_ok-own.ensures.count ∙ c.len.ensures.value)
+    ∙ ap (λ (rows : List (TableRow TraitName (Unit {0}))). map (λ p. filter (λ r. r.place == p) rows) (range_with_len 0 (length c.args.ids.now.ids.items))) (c.in_ok-own.ensures.rows ∙ c.keep_first.ensures.value) in
+    lists_shown (λ (name other : TraitName). trait_bytes other ≡ trait_bytes name) trait_bytes (λ x y e. e) _ _ c.in_ok-keys_of.ensures.lists ∙ map-map (map trait_bytes) (map (λ r. r.key)) _
+    ∙ of_each (dedup (row_ties trait_cmp) c.in_ok-rows.rows.items) (λ l. map trait_bytes (map (λ r. r.key) l)) (names_of said) ids _ lists (λ p h.
     map-map trait_bytes (λ r. r.key) _
     ∙ shown_set trait_cmp (on_total trait_bytes nat_list_cmp_total) text_cmp nat_list_cmp_total exact_bytes trait_bytes (λ a b. refl)
     (trait_shown ids) (length ids) false said c.in_ok-rows.rows.items c.in_ok-rows.ensures.rows (λ (v : TraitRecord). v.provider) (λ (v : TraitRecord). v.name) p (get_or ids p 0)
