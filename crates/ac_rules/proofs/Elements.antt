@@ -1,5 +1,5 @@
 -- What holds of each element of a list, and what is among them, by recursion.
-use Rattle.std.proofs.Common.{◌≡◌, ◌+◌, ◌<◌, ◌≤◌, ℕ, zero, suc, Bool, true, false, List, [], ◌∷◌, ◌++◌, ◌⊎◌, inl, inr, length, map, take, slice_index_or, refl, sym, ap, ◌∙◌, subst, arith}
+use Rattle.std.proofs.Common.{◌≡◌, ◌+◌, ◌≤◌, Bool, true, false, List, [], ◌∷◌, ◌++◌, ◌⊎◌, inl, inr, length, map, refl, sym, ap, ◌∙◌, subst, arith}
 use Rattle.std.specs.List.{flat_map, filter, AllByRecursion as Each}
 use Rattle.std.proofs.lemmas.Bool.{cases_Bool, false≢true}
 
@@ -49,13 +49,6 @@ among_flat_map {X} {Y} f (z ∷ xs) x y m k = elim m [
   | inl e ↦ among_left (f z) (flat_map f xs) y (subst (λ (w : X). Among (f w) y) (sym e) k)
   | inr m ↦ among_right (f z) (flat_map f xs) y (among_flat_map f xs x y m k)
 ]
-
--- what holds of the first, and of the next one
-pub each_take : {X Y : Type 0} (P : Y → Type 0) (f : X → Y) (xs : List X) (i : ℕ) (x : X) → i < length xs → x ≡ slice_index_or xs i x → Each P (map f (take i xs)) → P (f x)
-    → Each P (map f (take (suc i) xs))
-each_take P f [] i x h is all here = absurd (omega arith)
-each_take P f (y ∷ xs) zero x h is all here = (subst (λ z. P (f z)) is here, tt)
-each_take P f (y ∷ xs) (suc i) x h is all here = (all.0, each_take P f xs i x (omega arith) is all.1 here)
 
 -- a filter keeps what holds of each, and adds that the test passed
 pub each_filter : {X : Type 0} (P : X → Type 0) (test : X → Bool) (xs : List X) → Each P xs → Each (λ x. (test x ≡ true) × P x) (filter test xs)

@@ -1,4 +1,4 @@
-use Rattle.std.proofs.Common.{ℕ, map}
+use Rattle.std.proofs.Common.{map}
 use Rattle.ac_base.specs.Names.{class_bytes}
 use Rattle.ac_query.specs.Shown.Queries.{asked_of}
 use Rattle.ac_rules.proofs.ClassLemmas.{AreClasses}
