@@ -114,7 +114,7 @@ HELP = [
     *(without_program(' '.join(words), './ac_cli ' + ' '.join(words), help_text(name)) for name, each in HELP_WORDS.items() for words in each),
     *(example_of(name) for name in ('ac_cli', *COMMANDS)),
     Case('version: the logic is that of the toolchain', ['--version'], f"ac_cli 1.0.0, proved with Rattle's {logic()}\n"),
-    Case('the manual page and what shells complete are as the help says', ['sh', '-c', 'python3 -B tests/help.py']),
+    Case('the manual page and what shells complete are as the help says', ['sh', '-c', 'python3 -B tests/documents/help.py']),
     without_program('a word that is no command', './ac_cli token x', err='ac_cli: no command token; ./ac_cli --help tells the commands\n', status=2),
     without_program('an option in place of a command', './ac_cli --tables x check',
                     err='ac_cli: no command --tables; ./ac_cli --help tells the commands\n', status=2),
@@ -340,8 +340,8 @@ DEVICES = [
 
 
 def growing(name, words, cloud='', given='', **more):
-    """A case in which each growth of this run is refused in turn, by tests/growths.py."""
-    return Case(f'each growth refused: {name}', ['sh', '-c', 'exec python3 -B tests/growths.py "$@"', 'growths', PROGRAM, *map(full, words)],
+    """A case in which each growth of this run is refused in turn, by tests/memory/growths.py."""
+    return Case(f'each growth refused: {name}', ['sh', '-c', 'exec python3 -B tests/memory/growths.py "$@"', 'growths', PROGRAM, *map(full, words)],
                 SOME, tables={**(tables(cloud) if cloud else {}), **more}, given=full(given).encode())
 
 
@@ -385,11 +385,11 @@ GROWTHS = [
 
 
 # Each call of the libraries that takes memory, by itself.
-REFUSALS = [Case(f'each growth refused, in the tests of {name}', ['sh', '-c', f'exec python3 -B tests/refusals.py {name}'], SOME)
+REFUSALS = [Case(f'each growth refused, in the tests of {name}', ['sh', '-c', f'exec python3 -B tests/memory/refusals.py {name}'], SOME)
             for name in ('ac_table_tests', 'ac_read_tests', 'ac_session_tests', 'ac_search_tests', 'ac_remedy_tests', 'ac_report_tests',
                          'ac_run_tests')]
 
-KNOWN = Case('a fault is told though a growth behind it is refused', ['sh', '-c', 'exec python3 -B tests/known_faults.py "$0"', PROGRAM], SOME)
+KNOWN = Case('a fault is told though a growth behind it is refused', ['sh', '-c', 'exec python3 -B tests/memory/known_faults.py "$0"', PROGRAM], SOME)
 
 
 def status_of(text):
@@ -490,8 +490,8 @@ STATIC = [Case('linked statically, it answers as by itself',
                 'linked', 'resources=VCPU:8,DISK_GB:80'],
                lambda: run(Case('', ['candidates', 'resources=VCPU:8,DISK_GB:80', '--tables', 'examples/private']))[0])]
 
-PAGES = Case('the documents name what is there', ['sh', '-c', 'python3 -B tests/pages.py'])
-DRAWING = Case('a picture of a cloud is that of its tables', ['sh', '-c', 'python3 -B tests/drawing.py'])
+PAGES = Case('the documents name what is there', ['sh', '-c', 'python3 -B tests/documents/pages.py'])
+DRAWING = Case('a picture of a cloud is that of its tables', ['sh', '-c', 'python3 -B tests/documents/drawing.py'])
 
 
 def reader_gone():

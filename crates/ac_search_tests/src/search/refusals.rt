@@ -32,7 +32,7 @@ const FULL: Rows<'static> = Rows {
     ..NONE
 };
 
-// The size of a growth that no other call asks for: where `tests/refusals.py` says so, each growth is refused from one of this size up to the next.
+// The size of a growth that no other call asks for: where `tests/memory/refusals.py` says so, each growth is refused from one of this size up to the next.
 const MARK: usize = 40_961;
 
 fn mark(alloc: Global) -> Result<Vec<u8>, AllocError> {

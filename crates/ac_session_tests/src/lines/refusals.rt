@@ -11,7 +11,7 @@ fn begins(rt: HostRuntime) {
     }
 }
 
-// The size of a growth that no other call asks for: where `tests/refusals.py` says so, each growth is refused from one of this size up to the next.
+// The size of a growth that no other call asks for: where `tests/memory/refusals.py` says so, each growth is refused from one of this size up to the next.
 const MARK: usize = 40_961;
 
 fn mark(alloc: Global) -> Result<Vec<u8>, AllocError> {

@@ -1,8 +1,8 @@
 #!/usr/bin/env python3
-"""tests/known_faults.py PROGRAM: checks that a memory allocation (a *growth*) that fails doesn't hide a fault that stands before it. It reads tables
-with a fault again and again, and in each run another growth is refused. If it comes before the fault, the run ends with `out of memory`; if it comes
-after the fault, the run must report the fault. So there is a last growth without which the fault isn't reported. It must be the same if everything
-behind the fault is blank, and if the rows before it are in order already. The script writes what else happened."""
+"""tests/memory/known_faults.py PROGRAM: checks that a memory allocation (a *growth*) that fails doesn't hide a fault that stands before it. It reads
+tables with a fault again and again, and in each run another growth is refused. If it comes before the fault, the run ends with `out of memory`; if it
+comes after the fault, the run must report the fault. So there is a last growth without which the fault isn't reported. It must be the same if
+everything behind the fault is blank, and if the rows before it are in order already. The script writes what else happened."""
 from __future__ import annotations
 
 import os
@@ -10,6 +10,8 @@ import shutil
 import sys
 import tempfile
 from concurrent.futures import ThreadPoolExecutor
+
+sys.path.append(os.path.dirname(os.path.dirname(os.path.abspath(__file__))))
 
 from growths import MEMORY, refuser, run
 from large import MOST_PROVIDERS, ids, shuffled
@@ -108,7 +110,7 @@ def wrong(program, library, case):
 
 def main(program):
     if not shutil.which('cc'):
-        print('there is no C compiler, cc, to make tests/refuse.c with')
+        print('there is no C compiler, cc, to make tests/memory/refuse.c with')
         return 1
     with tempfile.TemporaryDirectory() as folder, ThreadPoolExecutor(max_workers=2) as pool:
         library = refuser(folder)

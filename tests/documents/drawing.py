@@ -1,6 +1,6 @@
 #!/usr/bin/env python3
-"""tests/drawing.py: checks that tools/draw-cloud.py draws what the tables say. It writes a line for each difference; the status is 0 only if there is
-none.
+"""tests/documents/drawing.py: checks that tools/draw-cloud.py draws what the tables say. It writes a line for each difference; the status is 0 only if
+there is none.
 
 The tool draws random clouds and hosts. What it draws is read as XML. The boxes of a cloud are compared with tests/model.py, which works out capacities
 and sharing by itself. tests/program.py compares the pictures on the pages."""
@@ -21,11 +21,12 @@ from dataclasses import dataclass
 from xml.etree import ElementTree
 
 sys.dont_write_bytecode = True
+sys.path.append(os.path.dirname(os.path.dirname(os.path.abspath(__file__))))
 
 from model import SHARES, available, draw_cloud
 from notation import HEADERS, full, tables
 
-ROOT = os.path.dirname(os.path.dirname(os.path.abspath(__file__)))
+ROOT = os.path.dirname(os.path.dirname(os.path.dirname(os.path.abspath(__file__))))
 TOOL = os.path.join(ROOT, 'tools', 'draw-cloud.py')
 EXAMPLES = os.path.join(ROOT, 'examples')
 SVG = '{http://www.w3.org/2000/svg}'

@@ -1,6 +1,6 @@
 #!/usr/bin/env python3
-"""tests/pages.py [--write]: checks that the pages agree with the repository. It writes a line for each difference; the status is 0 only if there is
-none.
+"""tests/documents/pages.py [--write]: checks that the pages agree with the repository. It writes a line for each difference; the status is 0 only
+if there is none.
 
 - Each link leads to a file or a heading that exists.
 - Each source, definition or script that a page names exists. A name without a folder may be anywhere. A name with a folder is looked for at the top and
@@ -16,7 +16,7 @@ import re
 import sys
 import textwrap
 
-ROOT = os.path.dirname(os.path.dirname(os.path.abspath(__file__)))
+ROOT = os.path.dirname(os.path.dirname(os.path.dirname(os.path.abspath(__file__))))
 NAMED = re.compile(r'(?<![\w./-])[\w./-]+\.(?:rt|antt|rattle|py|sh|c|rs)\b')
 STANDS_IN = re.compile(r'`(\w+)`,? in `([\w/]+\.rt)`')
 PROMISES = 'docs/PROMISES.md'
@@ -167,7 +167,7 @@ def promised():
         named = set(re.findall(r'\w+', ' '.join(spans(part))))
         yield from (f'{PROMISES}: {crate}: nothing is said of {name}' for name in sorted(set(public(crate)) - named))
         if EDITS.findall(part) != [edits(crate)]:
-            yield f'{PROMISES}: {crate}: the list of edits is another one (tests/pages.py --write)'
+            yield f'{PROMISES}: {crate}: the list of edits is another one (tests/documents/pages.py --write)'
 
 
 def main(*given):

@@ -1,8 +1,8 @@
 #!/usr/bin/env python3
-"""tests/growths.py PROGRAM WORDS..: runs the program with these words again and again. In each run one memory allocation (a *growth*) is refused: the
-first, then the second and so on, until a run has no more. A run may answer as with ample memory; or it may say `out of memory` with status 7, after at
-most a first part of that answer. The first run has to do the latter. The script writes what else happened, or how many growths there were. Each run is given
-what stands on standard input."""
+"""tests/memory/growths.py PROGRAM WORDS..: runs the program with these words again and again. In each run one memory allocation (a *growth*) is
+refused: the first, then the second and so on, until a run has no more. A run may answer as with ample memory; or it may say `out of memory` with status
+7, after at most a first part of that answer. The first run has to do the latter. The script writes what else happened, or how many growths there were.
+Each run is given what stands on standard input."""
 from __future__ import annotations
 
 import os
@@ -47,7 +47,7 @@ def wrong(number, whole, ran):
 
 def main(*words):
     if not shutil.which('cc'):
-        print('there is no C compiler, cc, to make tests/refuse.c with')
+        print('there is no C compiler, cc, to make tests/memory/refuse.c with')
         return 1
     with tempfile.TemporaryDirectory() as folder:
         library = refuser(folder)

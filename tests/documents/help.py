@@ -1,7 +1,7 @@
 #!/usr/bin/env python3
-"""tests/help.py [--write]: compares the manual page (docs/ac_cli.1) and what shells complete (tools/completions) with the texts of help in docs/help.
-It writes a line for each difference; the status is 0 only if there is none. tests/program.py tests that the texts are the program's own. With --write
-the built program first makes them anew.
+"""tests/documents/help.py [--write]: compares the manual page (docs/ac_cli.1) and what shells complete (tools/completions) with the texts of help in
+docs/help. It writes a line for each difference; the status is 0 only if there is none. tests/program.py tests that the texts are the program's own.
+With --write the built program first makes them anew.
 
 The manual page must have each command and each option of the help, and exactly the statuses of the program's help. bash must complete exactly the
 commands, and after a command exactly its options; after an option that names a folder or a file, it must complete these. The file for zsh must name
@@ -15,7 +15,7 @@ import shutil
 import subprocess
 import sys
 
-ROOT = os.path.dirname(os.path.dirname(os.path.abspath(__file__)))
+ROOT = os.path.dirname(os.path.dirname(os.path.dirname(os.path.abspath(__file__))))
 PAGE = 'docs/ac_cli.1'
 BASH, ZSH = 'tools/completions/ac_cli.bash', 'tools/completions/_ac_cli'
 

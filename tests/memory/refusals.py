@@ -1,7 +1,7 @@
 #!/usr/bin/env python3
-"""tests/refusals.py CRATE [MODULE]: runs each test of the crate's modules `refusals`, or of those below MODULE, again and again. In each run one memory
-allocation (a *growth*) is refused: the first, then the second and so on, until a run has no more. Such a test makes one call that takes memory. It
-passes if the call answers as with ample memory, or says that memory ran out, and fails if the call answers anything else. The script writes which
+"""tests/memory/refusals.py CRATE [MODULE]: runs each test of the crate's modules `refusals`, or of those below MODULE, again and again. In each run one
+memory allocation (a *growth*) is refused: the first, then the second and so on, until a run has no more. Such a test makes one call that takes memory.
+It passes if the call answers as with ample memory, or says that memory ran out, and fails if the call answers anything else. The script writes which
 growth made which test fail, or how many growths there were.
 
 A test named `.._takes_no_memory_to_go_on` asks for two growths of the size MARK. It is run once more, and each growth from the first of the two up to
@@ -22,13 +22,13 @@ from growths import MOST, refuser, run
 # The same size as MARK in the tests.
 MARK = 40961
 GOES_ON = '_takes_no_memory_to_go_on'
-ROOT = os.path.dirname(os.path.dirname(os.path.abspath(__file__)))
+ROOT = os.path.dirname(os.path.dirname(os.path.dirname(os.path.abspath(__file__))))
 
 
 def missing(crate, program):
     """What these runs need and isn't there, or None."""
     if not shutil.which('cc'):
-        return 'there is no C compiler, cc, to make tests/refuse.c with'
+        return 'there is no C compiler, cc, to make tests/memory/refuse.c with'
     if not os.path.isfile(program):
         return f'there is no {os.path.relpath(program, ROOT)}: `rt test` in crates/{crate} makes it'
     sources = glob.glob(os.path.join(ROOT, 'crates', crate, 'src', '**', '*.rt'), recursive=True)
