@@ -2,7 +2,8 @@
 # bench/operators.sh [HOSTS..]: makes the table that docs/PERFORMANCE.md begins with, in Markdown: how long answers take over an operator's cloud of
 # these numbers of hosts (300, 1000, 10000 and 65533, if none is named), and how much memory. The clouds are of the shape `private` of
 # bench/make_tables.py, with 53 traits for each host, NUMA nodes, functions of network cards and GPUs. More than 18000 such hosts don't fit into the
-# limits of the tables, so larger clouds have no NUMA nodes or what belongs to them, and 16 traits for each host.
+# limits of the tables, so larger clouds have no NUMA nodes or what belongs to them, and 16 traits for each host. The rows of each provider stand
+# together, in the order of the table of providers, as the exports of docs/EXPORT.md write them.
 #
 # Each time is processor time of the program and of the system for it, the least of seven runs; memory is the most that was held at once. The query is
 # that of an ordinary flavor, with `limit=1000`, as Nova asks. Build the program first, by ./ac_cli; AC_CLI may name another one.
@@ -53,7 +54,7 @@ for hosts; do
     kinds=''
     [[ $hosts -le 18000 ]] || kinds='--kinds flat --traits 16'
     rm -f "$room"/*.csv
-    python3 "$bench/make_tables.py" "$room" --shape private --hosts "$hosts" --order shuffled $kinds
+    python3 "$bench/make_tables.py" "$room" --shape private --hosts "$hosts" --order made $kinds
     checked=$(took check)
     providers=$(sed -n 's/^providers //p' "$room/out")
     bytes=$(cat "$room"/*.csv | wc -c)
