@@ -1,5 +1,6 @@
 pub mod DecimalSteps
 pub mod PiecesWritten
+pub mod Pushed
 pub mod SlotsWritten
 pub mod ItemsWritten
 pub mod FirstFound

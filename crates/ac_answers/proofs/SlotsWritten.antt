@@ -1,5 +1,5 @@
 -- An explanation, need by need and slot by slot.
-use Rattle.std.proofs.Common.{inl, inr, ◌≡◌, ◌∙◌, ℕ, suc, ◌+◌, ◌-◌, ◌<◌, ◌≤◌, List, ◌∷◌, drop, get_or, length, map, Option, subst, sym, ap, arith, drop-cons}
+use Rattle.std.proofs.Common.{inl, inr, ◌≡◌, ◌∙◌, ℕ, suc, ◌+◌, ◌-◌, ◌<◌, ◌≤◌, List, ◌∷◌, get_or, length, map, Option, subst, sym, ap, arith}
 use Rattle.std.specs.Io.KnownBytes.{Appends}
 use Rattle.std.specs.List.{flat_map, range_with_len}
 use Rattle.std.proofs.lemmas.Bool.{cases_Bool}
@@ -10,20 +10,14 @@ use Rattle.ac_rules.specs.Placed.{no_slot, slot_at}
 use Rattle.ac_search.specs.Explained.{class_room, is_short, slot_told}
 use Rattle.ac_search.specs.Shown.Explained.{slot_shown}
 use Rattle.ac_search.specs.declared.explaining.classes.SlotTold as rust
-use Rattle.ac_base.specs.Devices.{TakesPart}
-use Rattle.ac_base.proofs.Leaving.{Leaves, leaves_appends, leaves_takes_part}
+use Rattle.std.specs.Prelude.{Result}
+use Rattle.std.specs.Result.{IsErrAnd}
+use Rattle.ac_base.specs.Devices.{Rises, TakesPart}
+use Rattle.ac_answers.specs.Writing.{Pushes}
+use Rattle.ac_answers.proofs.Pushed.{pushed_within}
+use Rattle.ac_base.proofs.Leaving.{Leaves, leaves_appends}
 
 module _ (a b c : Option (List ℕ)) (whole : List ℕ) where
-  -- ---- what is written of each element, in order
-
-  module _ {X Y : Type 0} (e : X → Y) (f : Y → List ℕ) (xs : List X) (i : ℕ) (d : X) (h : i < length xs)
-      (leaves : Leaves a b whole (flat_map f (map e (drop i xs)))) where
-    next : Leaves a b whole (flat_map f (map e (get_or xs i d ∷ drop (suc i) xs)))
-    next = subst (λ ys. Leaves a b whole (flat_map f (map e ys))) (drop-cons xs i d h) leaves
-
-    pub element_part : TakesPart b c (f (e (get_or xs i d))) → TakesPart a c whole
-    element_part k = leaves_takes_part a b c whole (f (e (get_or xs i d))) (flat_map f (map e (drop (suc i) xs))) next k
-
   -- ---- what is written at each place below n, in order
 
   module _ (f : ℕ → List ℕ) (s n : ℕ) (leaves : Leaves a b whole (flat_map f (range_with_len s (n - s)))) where
@@ -35,8 +29,13 @@ module _ (a b c : Option (List ℕ)) (whole : List ℕ) where
     pub place_written : s < n → Appends b c (f s) → Leaves a c whole (flat_map f (range_with_len (s + 1) (n - (s + 1))))
     place_written h k = leaves_appends a b c whole (f s) (flat_map f (range_with_len (s + 1) (n - (s + 1)))) (first h) k
 
-    pub place_part : s < n → TakesPart b c (f s) → TakesPart a c whole
-    place_part h k = leaves_takes_part a b c whole (f s) (flat_map f (range_with_len (s + 1) (n - (s + 1)))) (first h) k
+    -- an error within the text of a place
+    pub place_stopped : {T E : Type 0} (r : Result T E) (P : E → Type 0) (k l m : ℕ) → s < n → k ≤ l → l ≤ m → IsErrAnd r P → TakesPart b c (f s) → Rises l m → Pushes r a c k m whole
+    place_stopped r P k l m h = pushed_within r P a b c k l m whole (f s) (flat_map f (range_with_len (s + 1) (n - (s + 1)))) (first h)
+
+-- the thing that stands for an element stands at its place
+pub mapped_at : {X Y : Type 0} (e : X → Y) (xs : List X) (k : ℕ) (x : X) (d : Y) → x ≡ get_or xs k x → k < length xs → e x ≡ get_or (map e xs) k d
+mapped_at e xs k x d is h = ap e is ∙ sym (get_or-map e xs k x d h)
 
 -- ---- what is told of the slot at a place
 

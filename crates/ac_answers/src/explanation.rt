@@ -20,7 +20,7 @@ ghost use Rattle.ac_answers.specs.Explanation.Candidates.{candidates_line, has_c
 ghost use Rattle.ac_answers.specs.Explanation.Differing.{differs_lines};
 ghost use Rattle.ac_answers.specs.Explanation.Nobody.{nobody_lines};
 ghost use Rattle.ac_answers.specs.Explanation.Shown.{found_shown};
-ghost use Rattle.ac_answers.specs.Pieces.{printed};
+ghost use Rattle.ac_answers.specs.Writing.{Pushes};
 
 use self::differing::push_differences;
 use self::nobody::push_missing;
@@ -40,11 +40,9 @@ use std::alloc::Global;
 // A class with its amount, behind a mark.
 #[tactic(auto, unfolding(crate::specs::Explanation::need_text))]
 fn push_need<W: Sink>(out: &mut W, mark: &[u8], need: &Need) -> Result<(), WriteFailed>
-    ensures ok { OnOk result (Appends (W.taken out.old) (W.taken out.new)
-        (need_text mark.now (need_entry need.now))) }
-    ensures part { OnErr result (TakesPart (W.taken out.old) (W.taken out.new)
-        (need_text mark.now (need_entry need.now))) }
-    ensures rises { OnErr result (Rises (W.failures out.old) (W.failures out.new)) }
+    ensures text { Pushes result (W.taken out.old) (W.taken out.new)
+        (W.failures out.old) (W.failures out.new)
+        (need_text mark.now (need_entry need.now)) }
     ensures failures { W.failures out.old ≤ W.failures out.new }
 {
     push_pieces(
@@ -59,12 +57,11 @@ fn push_need<W: Sink>(out: &mut W, mark: &[u8], need: &Need) -> Result<(), Write
 }
 
 // All classes of a slot.
+#[tactic(auto, using(crate::proofs::ItemsWritten::item_stopped, crate::proofs::Pushed::pushed_first), unfolding(crate::specs::Explanation::needs_text))]
 fn push_needs<W: Sink>(out: &mut W, needs: &[Need]) -> Result<(), WriteFailed>
-    ensures ok { OnOk result (Appends (W.taken out.old) (W.taken out.new)
-        (needs_text (map need_entry needs.now))) }
-    ensures part { OnErr result (TakesPart (W.taken out.old) (W.taken out.new)
-        (needs_text (map need_entry needs.now))) }
-    ensures rises { OnErr result (Rises (W.failures out.old) (W.failures out.new)) }
+    ensures text { Pushes result (W.taken out.old) (W.taken out.new)
+        (W.failures out.old) (W.failures out.new)
+        (needs_text (map need_entry needs.now)) }
     ensures failures { W.failures out.old ≤ W.failures out.new }
 {
     let Some((first, others)) = needs.split_first() else {
@@ -81,11 +78,9 @@ fn push_needs<W: Sink>(out: &mut W, needs: &[Need]) -> Result<(), WriteFailed>
 #[tactic(auto, unfolding(crate::specs::Explanation::slot_name))]
 fn push_name<W: Sink>(out: &mut W, query: &Query, s: usize) -> Result<(), WriteFailed>
     requires { s < length (slots_of (asked_of query.now)) }
-    ensures ok { OnOk result (Appends (W.taken out.old) (W.taken out.new)
-        (slot_name (s + 1) (slot_at (asked_of query.now) s))) }
-    ensures part { OnErr result (TakesPart (W.taken out.old) (W.taken out.new)
-        (slot_name (s + 1) (slot_at (asked_of query.now) s))) }
-    ensures rises { OnErr result (Rises (W.failures out.old) (W.failures out.new)) }
+    ensures text { Pushes result (W.taken out.old) (W.taken out.new)
+        (W.failures out.old) (W.failures out.new)
+        (slot_name (s + 1) (slot_at (asked_of query.now) s)) }
     ensures failures { W.failures out.old ≤ W.failures out.new }
 {
     push_pieces(
@@ -103,11 +98,9 @@ fn push_name<W: Sink>(out: &mut W, query: &Query, s: usize) -> Result<(), WriteF
 // How many have room for a class of a slot: the first stands behind a bracket.
 #[tactic(auto, unfolding(crate::specs::Explanation::room_text))]
 fn push_room<W: Sink>(out: &mut W, k: usize, need: &Need, room: u32) -> Result<(), WriteFailed>
-    ensures ok { OnOk result (Appends (W.taken out.old) (W.taken out.new)
-        (room_text (room_mark k) (need_entry need.now).0 room)) }
-    ensures part { OnErr result (TakesPart (W.taken out.old) (W.taken out.new)
-        (room_text (room_mark k) (need_entry need.now).0 room)) }
-    ensures rises { OnErr result (Rises (W.failures out.old) (W.failures out.new)) }
+    ensures text { Pushes result (W.taken out.old) (W.taken out.new)
+        (W.failures out.old) (W.failures out.new)
+        (room_text (room_mark k) (need_entry need.now).0 room) }
     ensures failures { W.failures out.old ≤ W.failures out.new }
 {
     let mark = if k == 0 { b" (" } else { b", " };
@@ -125,11 +118,9 @@ fn push_room<W: Sink>(out: &mut W, k: usize, need: &Need, room: u32) -> Result<(
 // How many have room for each class of a slot, where that is told.
 fn push_rooms<W: Sink>(out: &mut W, needs: &[Need], rooms: &[u32]) -> Result<(), WriteFailed>
     requires { length rooms.now ≤ length needs.now }
-    ensures ok { OnOk result (Appends (W.taken out.old) (W.taken out.new)
-        (each_room (map need_entry needs.now) rooms.now)) }
-    ensures part { OnErr result (TakesPart (W.taken out.old) (W.taken out.new)
-        (each_room (map need_entry needs.now) rooms.now)) }
-    ensures rises { OnErr result (Rises (W.failures out.old) (W.failures out.new)) }
+    ensures text { Pushes result (W.taken out.old) (W.taken out.new)
+        (W.failures out.old) (W.failures out.new)
+        (each_room (map need_entry needs.now) rooms.now) }
     ensures failures { W.failures out.old ≤ W.failures out.new }
 {
     for k in 0..rooms.len() {
@@ -148,11 +139,9 @@ fn slot_end(rooms: &[u32]) -> &'static [u8]
 // How many of all providers meet what a slot asks.
 #[tactic(auto, unfolding(crate::specs::Explanation::slot_counted))]
 fn push_counts<W: Sink>(out: &mut W, providers: u32, counts: &SlotCounts) -> Result<(), WriteFailed>
-    ensures ok { OnOk result (Appends (W.taken out.old) (W.taken out.new)
-        (slot_counted providers (counts_shown counts.now))) }
-    ensures part { OnErr result (TakesPart (W.taken out.old) (W.taken out.new)
-        (slot_counted providers (counts_shown counts.now))) }
-    ensures rises { OnErr result (Rises (W.failures out.old) (W.failures out.new)) }
+    ensures text { Pushes result (W.taken out.old) (W.taken out.new)
+        (W.failures out.old) (W.failures out.new)
+        (slot_counted providers (counts_shown counts.now)) }
     ensures failures { W.failures out.old ≤ W.failures out.new }
 {
     push_pieces(
@@ -175,16 +164,13 @@ fn push_counts<W: Sink>(out: &mut W, providers: u32, counts: &SlotCounts) -> Res
 }
 
 // A slot and what it asks.
-#[tactic(auto, using(ac_base::proofs::Leaving::appends_both, ac_base::proofs::Leaving::part_of_first, ac_base::proofs::Leaving::part_of_second))]
+#[tactic(auto, using(crate::proofs::Pushed::pushed_first, crate::proofs::Pushed::pushed_on))]
 fn push_asked<W: Sink>(out: &mut W, query: &Query, s: usize) -> Result<(), WriteFailed>
     requires { s < length (slots_of (asked_of query.now)) }
-    ensures ok { OnOk result (Appends (W.taken out.old) (W.taken out.new)
+    ensures text { Pushes result (W.taken out.old) (W.taken out.new)
+        (W.failures out.old) (W.failures out.new)
         (slot_name (s + 1) (slot_at (asked_of query.now) s)
-        ++ needs_text (slot_at (asked_of query.now) s).needs)) }
-    ensures part { OnErr result (TakesPart (W.taken out.old) (W.taken out.new)
-        (slot_name (s + 1) (slot_at (asked_of query.now) s)
-        ++ needs_text (slot_at (asked_of query.now) s).needs)) }
-    ensures rises { OnErr result (Rises (W.failures out.old) (W.failures out.new)) }
+        ++ needs_text (slot_at (asked_of query.now) s).needs) }
     ensures failures { W.failures out.old ≤ W.failures out.new }
 {
     push_name(out, query, s)?;
@@ -192,7 +178,7 @@ fn push_asked<W: Sink>(out: &mut W, query: &Query, s: usize) -> Result<(), Write
 }
 
 // What is told of a slot, behind what it asks.
-#[tactic(auto, using(ac_base::proofs::Leaving::appends_both, ac_base::proofs::Leaving::part_of_first, ac_base::proofs::Leaving::part_of_second))]
+#[tactic(auto, using(crate::proofs::Pushed::pushed_first, crate::proofs::Pushed::pushed_on))]
 fn push_told<W: Sink>(
     out: &mut W,
     providers: u32,
@@ -200,15 +186,11 @@ fn push_told<W: Sink>(
     told: &SlotTold,
 ) -> Result<(), WriteFailed>
     requires { length told.now.rooms.items ≤ length needs.now }
-    ensures ok { OnOk result (Appends (W.taken out.old) (W.taken out.new)
+    ensures text { Pushes result (W.taken out.old) (W.taken out.new)
+        (W.failures out.old) (W.failures out.new)
         (slot_counted providers (slot_shown told.now).counts
         ++ (each_room (map need_entry needs.now) (slot_shown told.now).rooms
-        ++ slot_end (slot_shown told.now).rooms))) }
-    ensures part { OnErr result (TakesPart (W.taken out.old) (W.taken out.new)
-        (slot_counted providers (slot_shown told.now).counts
-        ++ (each_room (map need_entry needs.now) (slot_shown told.now).rooms
-        ++ slot_end (slot_shown told.now).rooms))) }
-    ensures rises { OnErr result (Rises (W.failures out.old) (W.failures out.new)) }
+        ++ slot_end (slot_shown told.now).rooms)) }
     ensures failures { W.failures out.old ≤ W.failures out.new }
 {
     push_counts(out, providers, &told.counts)?;
@@ -217,7 +199,7 @@ fn push_told<W: Sink>(
 }
 
 // The line of a slot.
-#[tactic(auto, using(ac_base::proofs::Leaving::appends_both, ac_base::proofs::Leaving::part_of_first, ac_base::proofs::Leaving::part_of_second))]
+#[tactic(auto, using(crate::proofs::Pushed::pushed_first, crate::proofs::Pushed::pushed_on))]
 fn push_slot<W: Sink>(
     out: &mut W,
     cloud: &Cloud,
@@ -228,13 +210,10 @@ fn push_slot<W: Sink>(
     requires slot { s < length (slots_of (asked_of query.now)) }
     requires rooms { length told.now.rooms.items
         ≤ length (slot_at (asked_of query.now) s).needs }
-    ensures ok { OnOk result (Appends (W.taken out.old) (W.taken out.new)
+    ensures text { Pushes result (W.taken out.old) (W.taken out.new)
+        (W.failures out.old) (W.failures out.new)
         (slot_line (providers_of cloud.now) (s + 1) (slot_at (asked_of query.now) s)
-        (slot_shown told.now))) }
-    ensures part { OnErr result (TakesPart (W.taken out.old) (W.taken out.new)
-        (slot_line (providers_of cloud.now) (s + 1) (slot_at (asked_of query.now) s)
-        (slot_shown told.now))) }
-    ensures rises { OnErr result (Rises (W.failures out.old) (W.failures out.new)) }
+        (slot_shown told.now)) }
     ensures failures { W.failures out.old ≤ W.failures out.new }
 {
     push_asked(out, query, s)?;
@@ -250,11 +229,9 @@ fn push_slots<W: Sink>(
 ) -> Result<(), WriteFailed>
     requires { map slot_shown slots.now
         ≡ map (slot_told (providers_of cloud.now)) (slots_of (asked_of query.now)) }
-    ensures ok { OnOk result (Appends (W.taken out.old) (W.taken out.new)
-        (slot_lines (providers_of cloud.now) (asked_of query.now))) }
-    ensures part { OnErr result (TakesPart (W.taken out.old) (W.taken out.new)
-        (slot_lines (providers_of cloud.now) (asked_of query.now))) }
-    ensures rises { OnErr result (Rises (W.failures out.old) (W.failures out.new)) }
+    ensures text { Pushes result (W.taken out.old) (W.taken out.new)
+        (W.failures out.old) (W.failures out.new)
+        (slot_lines (providers_of cloud.now) (asked_of query.now)) }
     ensures failures { W.failures out.old ≤ W.failures out.new }
 {
     for (s, told) in slots.iter().enumerate() {
@@ -266,11 +243,9 @@ fn push_slots<W: Sink>(
 // The line of the trees.
 #[tactic(auto, unfolding(crate::specs::Explanation::trees_line))]
 fn push_trees<W: Sink>(out: &mut W, counts: &TreeCounts) -> Result<(), WriteFailed>
-    ensures ok { OnOk result (Appends (W.taken out.old) (W.taken out.new)
-        (trees_line (trees_shown counts.now))) }
-    ensures part { OnErr result (TakesPart (W.taken out.old) (W.taken out.new)
-        (trees_line (trees_shown counts.now))) }
-    ensures rises { OnErr result (Rises (W.failures out.old) (W.failures out.new)) }
+    ensures text { Pushes result (W.taken out.old) (W.taken out.new)
+        (W.failures out.old) (W.failures out.new)
+        (trees_line (trees_shown counts.now)) }
     ensures failures { W.failures out.old ≤ W.failures out.new }
 {
     push_pieces(

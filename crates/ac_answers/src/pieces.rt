@@ -4,6 +4,7 @@ ghost use Rattle.std.specs.List.{flat_map};
 ghost use Rattle.std.specs.Io.KnownBytes.{Appends};
 ghost use Rattle.ac_base.specs.Devices.{Rises, TakesPart};
 ghost use Rattle.ac_answers.specs.Pieces.{marked};
+ghost use Rattle.ac_answers.specs.Writing.{Pushes};
 
 pub mod digits;
 
@@ -27,11 +28,9 @@ pub fn push_pieces<W: Sink>(out: &mut W, pieces: &[&[u8]]) -> Result<(), WriteFa
 /// Pushes a text behind a mark.
 #[tactic(auto, unfolding(crate::specs::Pieces::marked))]
 pub(crate) fn push_marked<W: Sink>(out: &mut W, mark: &[u8], text: &[u8]) -> Result<(), WriteFailed>
-    ensures ok { OnOk result (Appends (W.taken out.old) (W.taken out.new)
-        (marked mark.now text.now)) }
-    ensures part { OnErr result (TakesPart (W.taken out.old) (W.taken out.new)
-        (marked mark.now text.now)) }
-    ensures rises { OnErr result (Rises (W.failures out.old) (W.failures out.new)) }
+    ensures text { Pushes result (W.taken out.old) (W.taken out.new)
+        (W.failures out.old) (W.failures out.new)
+        (marked mark.now text.now) }
     ensures failures { W.failures out.old ≤ W.failures out.new }
 {
     push_pieces(out, &[mark, text])

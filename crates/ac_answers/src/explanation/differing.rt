@@ -1,11 +1,10 @@
 //! Where the running service may answer otherwise, told without memory: a line for each difference that may concern a query.
-ghost use Rattle.std.specs.Prelude.{◌≡◌, ◌≤◌, OnErr, OnOk, if◌then◌else◌, []};
-ghost use Rattle.std.specs.Io.KnownBytes.{Appends};
-ghost use Rattle.ac_base.specs.Devices.{Rises, TakesPart};
+ghost use Rattle.std.specs.Prelude.{◌≡◌, ◌≤◌, if◌then◌else◌, []};
 ghost use Rattle.ac_cloud.specs.Cloud.CloudWorld.{providers_of};
 ghost use Rattle.ac_query.specs.Shown.Queries.{asked_of};
 ghost use Rattle.ac_differences.specs.Differing.{applies};
 ghost use Rattle.ac_answers.specs.Explanation.Differing.{differs_line, differs_lines, heading};
+ghost use Rattle.ac_answers.specs.Writing.{Pushes};
 
 use crate::pieces::push_pieces;
 use ac_base::{Sink, WriteFailed};
@@ -38,11 +37,9 @@ fn heading(difference: Difference) -> &'static [u8]
 // The line of a difference.
 #[tactic(auto, unfolding(crate::specs::Explanation::Differing::differs_line))]
 fn push_line<W: Sink>(out: &mut W, difference: Difference) -> Result<(), WriteFailed>
-    ensures ok { OnOk result (Appends (W.taken out.old) (W.taken out.new)
-        (differs_line difference)) }
-    ensures part { OnErr result (TakesPart (W.taken out.old) (W.taken out.new)
-        (differs_line difference)) }
-    ensures rises { OnErr result (Rises (W.failures out.old) (W.failures out.new)) }
+    ensures text { Pushes result (W.taken out.old) (W.taken out.new)
+        (W.failures out.old) (W.failures out.new)
+        (differs_line difference) }
     ensures failures { W.failures out.old ≤ W.failures out.new }
 {
     push_pieces(
@@ -62,13 +59,10 @@ fn push_if_applies<W: Sink>(
     query: &Query,
     difference: Difference,
 ) -> Result<(), WriteFailed>
-    ensures ok { OnOk result (Appends (W.taken out.old) (W.taken out.new)
+    ensures text { Pushes result (W.taken out.old) (W.taken out.new)
+        (W.failures out.old) (W.failures out.new)
         (if applies (providers_of cloud.now) (asked_of query.now) difference
-        then differs_line difference else [])) }
-    ensures part { OnErr result (TakesPart (W.taken out.old) (W.taken out.new)
-        (if applies (providers_of cloud.now) (asked_of query.now) difference
-        then differs_line difference else [])) }
-    ensures rises { OnErr result (Rises (W.failures out.old) (W.failures out.new)) }
+        then differs_line difference else []) }
     ensures failures { W.failures out.old ≤ W.failures out.new }
 {
     if applies(cloud, query, difference) {
@@ -83,11 +77,9 @@ pub(crate) fn push_differences<W: Sink>(
     cloud: &Cloud,
     query: &Query,
 ) -> Result<(), WriteFailed>
-    ensures ok { OnOk result (Appends (W.taken out.old) (W.taken out.new)
-        (differs_lines (providers_of cloud.now) (asked_of query.now))) }
-    ensures part { OnErr result (TakesPart (W.taken out.old) (W.taken out.new)
-        (differs_lines (providers_of cloud.now) (asked_of query.now))) }
-    ensures rises { OnErr result (Rises (W.failures out.old) (W.failures out.new)) }
+    ensures text { Pushes result (W.taken out.old) (W.taken out.new)
+        (W.failures out.old) (W.failures out.new)
+        (differs_lines (providers_of cloud.now) (asked_of query.now)) }
     ensures failures { W.failures out.old ≤ W.failures out.new }
 {
     for difference in all_differences() {

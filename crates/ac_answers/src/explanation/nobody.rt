@@ -1,8 +1,6 @@
 //! What nobody has of what a query asks for: a line each, pushed without memory.
-ghost use Rattle.std.specs.Prelude.{◌≡◌, ◌≤◌, ◌++◌, OnErr, OnOk, map};
+ghost use Rattle.std.specs.Prelude.{◌≡◌, ◌≤◌, map};
 ghost use Rattle.std.specs.List.{flat_map};
-ghost use Rattle.std.specs.Io.KnownBytes.{Appends};
-ghost use Rattle.ac_base.specs.Devices.{Rises, TakesPart};
 ghost use Rattle.ac_base.specs.Names.{trait_bytes};
 ghost use Rattle.ac_base.specs.Texts.{id_text};
 ghost use Rattle.ac_cloud.specs.Cloud.CloudWorld.{providers_of};
@@ -10,6 +8,7 @@ ghost use Rattle.ac_query.specs.Shown.Groups.{any_of_shown, group_asked, group_e
 ghost use Rattle.ac_query.specs.Shown.Queries.{asked_of};
 ghost use Rattle.ac_answers.specs.Explanation.Nobody.{class_missed, group_missed, line_of, list_missed, member_mark, members_line, nobody_lines, one_of_line, places_missed, root_trait_missed, rule_missed, things_missed, trait_missed, tree_missed};
 ghost use Rattle.ac_answers.specs.Pieces.{listed};
+ghost use Rattle.ac_answers.specs.Writing.{Pushes};
 
 use crate::pieces::{push_marked, push_pieces};
 use ac_base::{Id, Sink, TraitName, WriteFailed, push_all};
@@ -23,11 +22,9 @@ use ac_tables::Cloud;
 // A line of a name.
 #[tactic(auto, unfolding(crate::specs::Explanation::Nobody::line_of))]
 fn push_line<W: Sink>(out: &mut W, front: &[u8], name: &[u8]) -> Result<(), WriteFailed>
-    ensures ok { OnOk result (Appends (W.taken out.old) (W.taken out.new)
-        (line_of front.now name.now)) }
-    ensures part { OnErr result (TakesPart (W.taken out.old) (W.taken out.new)
-        (line_of front.now name.now)) }
-    ensures rises { OnErr result (Rises (W.failures out.old) (W.failures out.new)) }
+    ensures text { Pushes result (W.taken out.old) (W.taken out.new)
+        (W.failures out.old) (W.failures out.new)
+        (line_of front.now name.now) }
     ensures failures { W.failures out.old ≤ W.failures out.new }
 {
     push_pieces(out, &[front, name, b"\n"])
@@ -35,11 +32,9 @@ fn push_line<W: Sink>(out: &mut W, front: &[u8], name: &[u8]) -> Result<(), Writ
 
 // The line of a class that nobody has.
 fn push_class<W: Sink>(out: &mut W, cloud: &Cloud, need: &Need) -> Result<(), WriteFailed>
-    ensures ok { OnOk result (Appends (W.taken out.old) (W.taken out.new)
-        (class_missed (providers_of cloud.now) (need_entry need.now).0)) }
-    ensures part { OnErr result (TakesPart (W.taken out.old) (W.taken out.new)
-        (class_missed (providers_of cloud.now) (need_entry need.now).0)) }
-    ensures rises { OnErr result (Rises (W.failures out.old) (W.failures out.new)) }
+    ensures text { Pushes result (W.taken out.old) (W.taken out.new)
+        (W.failures out.old) (W.failures out.new)
+        (class_missed (providers_of cloud.now) (need_entry need.now).0) }
     ensures failures { W.failures out.old ≤ W.failures out.new }
 {
     if somebody_has_class(cloud, need.class()) {
@@ -49,14 +44,12 @@ fn push_class<W: Sink>(out: &mut W, cloud: &Cloud, need: &Need) -> Result<(), Wr
 }
 
 // The classes that nobody has.
+#[tactic(auto, using(crate::proofs::ItemsWritten::item_stopped))]
 fn push_classes<W: Sink>(out: &mut W, cloud: &Cloud, needs: &[Need]) -> Result<(), WriteFailed>
-    ensures ok { OnOk result (Appends (W.taken out.old) (W.taken out.new)
+    ensures text { Pushes result (W.taken out.old) (W.taken out.new)
+        (W.failures out.old) (W.failures out.new)
         (flat_map (λ need. class_missed (providers_of cloud.now) need.0)
-        (map need_entry needs.now))) }
-    ensures part { OnErr result (TakesPart (W.taken out.old) (W.taken out.new)
-        (flat_map (λ need. class_missed (providers_of cloud.now) need.0)
-        (map need_entry needs.now))) }
-    ensures rises { OnErr result (Rises (W.failures out.old) (W.failures out.new)) }
+        (map need_entry needs.now)) }
     ensures failures { W.failures out.old ≤ W.failures out.new }
 {
     for need in needs {
@@ -67,11 +60,9 @@ fn push_classes<W: Sink>(out: &mut W, cloud: &Cloud, needs: &[Need]) -> Result<(
 
 // The line of a trait that nobody has.
 fn push_trait<W: Sink>(out: &mut W, cloud: &Cloud, name: &TraitName) -> Result<(), WriteFailed>
-    ensures ok { OnOk result (Appends (W.taken out.old) (W.taken out.new)
-        (trait_missed (providers_of cloud.now) (trait_bytes name.now))) }
-    ensures part { OnErr result (TakesPart (W.taken out.old) (W.taken out.new)
-        (trait_missed (providers_of cloud.now) (trait_bytes name.now))) }
-    ensures rises { OnErr result (Rises (W.failures out.old) (W.failures out.new)) }
+    ensures text { Pushes result (W.taken out.old) (W.taken out.new)
+        (W.failures out.old) (W.failures out.new)
+        (trait_missed (providers_of cloud.now) (trait_bytes name.now)) }
     ensures failures { W.failures out.old ≤ W.failures out.new }
 {
     if somebody_has_trait(cloud, name) {
@@ -81,14 +72,12 @@ fn push_trait<W: Sink>(out: &mut W, cloud: &Cloud, name: &TraitName) -> Result<(
 }
 
 // The traits that nobody has.
+#[tactic(auto, using(crate::proofs::ItemsWritten::item_stopped))]
 fn push_traits<W: Sink>(out: &mut W, cloud: &Cloud, names: &[TraitName]) -> Result<(), WriteFailed>
-    ensures ok { OnOk result (Appends (W.taken out.old) (W.taken out.new)
+    ensures text { Pushes result (W.taken out.old) (W.taken out.new)
+        (W.failures out.old) (W.failures out.new)
         (flat_map (λ name. trait_missed (providers_of cloud.now) name)
-        (map trait_bytes names.now))) }
-    ensures part { OnErr result (TakesPart (W.taken out.old) (W.taken out.new)
-        (flat_map (λ name. trait_missed (providers_of cloud.now) name)
-        (map trait_bytes names.now))) }
-    ensures rises { OnErr result (Rises (W.failures out.old) (W.failures out.new)) }
+        (map trait_bytes names.now)) }
     ensures failures { W.failures out.old ≤ W.failures out.new }
 {
     for name in names {
@@ -98,12 +87,11 @@ fn push_traits<W: Sink>(out: &mut W, cloud: &Cloud, names: &[TraitName]) -> Resu
 }
 
 // Traits: the first behind a mark, each further one behind a comma.
+#[tactic(auto, using(crate::proofs::ItemsWritten::item_turn, crate::proofs::ItemsWritten::listed_stopped, crate::proofs::ItemsWritten::listed_written))]
 fn push_names<W: Sink>(out: &mut W, mark: &[u8], names: &[TraitName]) -> Result<(), WriteFailed>
-    ensures ok { OnOk result (Appends (W.taken out.old) (W.taken out.new)
-        (listed mark.now (map trait_bytes names.now))) }
-    ensures part { OnErr result (TakesPart (W.taken out.old) (W.taken out.new)
-        (listed mark.now (map trait_bytes names.now))) }
-    ensures rises { OnErr result (Rises (W.failures out.old) (W.failures out.new)) }
+    ensures text { Pushes result (W.taken out.old) (W.taken out.new)
+        (W.failures out.old) (W.failures out.new)
+        (listed mark.now (map trait_bytes names.now)) }
     ensures failures { W.failures out.old ≤ W.failures out.new }
 {
     let mut mark = mark;
@@ -115,13 +103,11 @@ fn push_names<W: Sink>(out: &mut W, mark: &[u8], names: &[TraitName]) -> Result<
 }
 
 // The line of traits of which nobody has one.
-#[tactic(auto, using(ac_base::proofs::Leaving::appends_both, ac_base::proofs::Leaving::part_of_first, ac_base::proofs::Leaving::part_of_second), unfolding(crate::specs::Explanation::Nobody::one_of_line))]
+#[tactic(auto, using(crate::proofs::Pushed::pushed_first, crate::proofs::Pushed::pushed_on), unfolding(crate::specs::Explanation::Nobody::one_of_line))]
 fn push_one_of<W: Sink>(out: &mut W, names: &[TraitName]) -> Result<(), WriteFailed>
-    ensures ok { OnOk result (Appends (W.taken out.old) (W.taken out.new)
-        (one_of_line (map trait_bytes names.now))) }
-    ensures part { OnErr result (TakesPart (W.taken out.old) (W.taken out.new)
-        (one_of_line (map trait_bytes names.now))) }
-    ensures rises { OnErr result (Rises (W.failures out.old) (W.failures out.new)) }
+    ensures text { Pushes result (W.taken out.old) (W.taken out.new)
+        (W.failures out.old) (W.failures out.new)
+        (one_of_line (map trait_bytes names.now)) }
     ensures failures { W.failures out.old ≤ W.failures out.new }
 {
     push_names(out, b"nobody has one of ", names)?;
@@ -130,11 +116,9 @@ fn push_one_of<W: Sink>(out: &mut W, names: &[TraitName]) -> Result<(), WriteFai
 
 // The line of a list of traits, if nobody has one of them.
 fn push_list<W: Sink>(out: &mut W, cloud: &Cloud, list: &AnyOf) -> Result<(), WriteFailed>
-    ensures ok { OnOk result (Appends (W.taken out.old) (W.taken out.new)
-        (list_missed (providers_of cloud.now) (any_of_shown list.now))) }
-    ensures part { OnErr result (TakesPart (W.taken out.old) (W.taken out.new)
-        (list_missed (providers_of cloud.now) (any_of_shown list.now))) }
-    ensures rises { OnErr result (Rises (W.failures out.old) (W.failures out.new)) }
+    ensures text { Pushes result (W.taken out.old) (W.taken out.new)
+        (W.failures out.old) (W.failures out.new)
+        (list_missed (providers_of cloud.now) (any_of_shown list.now)) }
     ensures failures { W.failures out.old ≤ W.failures out.new }
 {
     let names = list.names();
@@ -145,14 +129,12 @@ fn push_list<W: Sink>(out: &mut W, cloud: &Cloud, list: &AnyOf) -> Result<(), Wr
 }
 
 // The lists of traits of which nobody has one.
+#[tactic(auto, using(crate::proofs::ItemsWritten::item_stopped))]
 fn push_lists<W: Sink>(out: &mut W, cloud: &Cloud, lists: &[AnyOf]) -> Result<(), WriteFailed>
-    ensures ok { OnOk result (Appends (W.taken out.old) (W.taken out.new)
+    ensures text { Pushes result (W.taken out.old) (W.taken out.new)
+        (W.failures out.old) (W.failures out.new)
         (flat_map (λ names. list_missed (providers_of cloud.now) names)
-        (map any_of_shown lists.now))) }
-    ensures part { OnErr result (TakesPart (W.taken out.old) (W.taken out.new)
-        (flat_map (λ names. list_missed (providers_of cloud.now) names)
-        (map any_of_shown lists.now))) }
-    ensures rises { OnErr result (Rises (W.failures out.old) (W.failures out.new)) }
+        (map any_of_shown lists.now)) }
     ensures failures { W.failures out.old ≤ W.failures out.new }
 {
     for list in lists {
@@ -162,12 +144,11 @@ fn push_lists<W: Sink>(out: &mut W, cloud: &Cloud, lists: &[AnyOf]) -> Result<()
 }
 
 // UUIDs: the first behind a mark, each further one behind a comma.
+#[tactic(auto, using(crate::proofs::ItemsWritten::item_turn, crate::proofs::ItemsWritten::listed_stopped, crate::proofs::ItemsWritten::listed_written))]
 fn push_ids<W: Sink>(out: &mut W, mark: &[u8], ids: &[Id]) -> Result<(), WriteFailed>
-    ensures ok { OnOk result (Appends (W.taken out.old) (W.taken out.new)
-        (listed mark.now (map id_text ids.now))) }
-    ensures part { OnErr result (TakesPart (W.taken out.old) (W.taken out.new)
-        (listed mark.now (map id_text ids.now))) }
-    ensures rises { OnErr result (Rises (W.failures out.old) (W.failures out.new)) }
+    ensures text { Pushes result (W.taken out.old) (W.taken out.new)
+        (W.failures out.old) (W.failures out.new)
+        (listed mark.now (map id_text ids.now)) }
     ensures failures { W.failures out.old ≤ W.failures out.new }
 {
     let mut mark = mark;
@@ -190,13 +171,11 @@ fn member_mark(ids: &[Id]) -> &'static [u8]
 }
 
 // The line of aggregates in which nobody is.
-#[tactic(auto, using(ac_base::proofs::Leaving::appends_both, ac_base::proofs::Leaving::part_of_first, ac_base::proofs::Leaving::part_of_second), unfolding(crate::specs::Explanation::Nobody::members_line))]
+#[tactic(auto, using(crate::proofs::Pushed::pushed_first, crate::proofs::Pushed::pushed_on), unfolding(crate::specs::Explanation::Nobody::members_line))]
 fn push_members<W: Sink>(out: &mut W, ids: &[Id]) -> Result<(), WriteFailed>
-    ensures ok { OnOk result (Appends (W.taken out.old) (W.taken out.new)
-        (members_line ids.now)) }
-    ensures part { OnErr result (TakesPart (W.taken out.old) (W.taken out.new)
-        (members_line ids.now)) }
-    ensures rises { OnErr result (Rises (W.failures out.old) (W.failures out.new)) }
+    ensures text { Pushes result (W.taken out.old) (W.taken out.new)
+        (W.failures out.old) (W.failures out.new)
+        (members_line ids.now) }
     ensures failures { W.failures out.old ≤ W.failures out.new }
 {
     push_ids(out, member_mark(ids), ids)?;
@@ -205,11 +184,9 @@ fn push_members<W: Sink>(out: &mut W, ids: &[Id]) -> Result<(), WriteFailed>
 
 // The line of an aggregate rule, if it asks for aggregates and nobody is in one of them.
 fn push_rule<W: Sink>(out: &mut W, cloud: &Cloud, rule: &AggregateRule) -> Result<(), WriteFailed>
-    ensures ok { OnOk result (Appends (W.taken out.old) (W.taken out.new)
-        (rule_missed (providers_of cloud.now) (rule_shown rule.now))) }
-    ensures part { OnErr result (TakesPart (W.taken out.old) (W.taken out.new)
-        (rule_missed (providers_of cloud.now) (rule_shown rule.now))) }
-    ensures rises { OnErr result (Rises (W.failures out.old) (W.failures out.new)) }
+    ensures text { Pushes result (W.taken out.old) (W.taken out.new)
+        (W.failures out.old) (W.failures out.new)
+        (rule_missed (providers_of cloud.now) (rule_shown rule.now)) }
     ensures failures { W.failures out.old ≤ W.failures out.new }
 {
     if rule.forbids() || somebody_is_in(cloud, rule.ids()) {
@@ -219,18 +196,16 @@ fn push_rule<W: Sink>(out: &mut W, cloud: &Cloud, rule: &AggregateRule) -> Resul
 }
 
 // The aggregate rules that nobody meets.
+#[tactic(auto, using(crate::proofs::ItemsWritten::item_stopped))]
 fn push_rules<W: Sink>(
     out: &mut W,
     cloud: &Cloud,
     rules: &[AggregateRule],
 ) -> Result<(), WriteFailed>
-    ensures ok { OnOk result (Appends (W.taken out.old) (W.taken out.new)
+    ensures text { Pushes result (W.taken out.old) (W.taken out.new)
+        (W.failures out.old) (W.failures out.new)
         (flat_map (λ rule. rule_missed (providers_of cloud.now) rule)
-        (map rule_shown rules.now))) }
-    ensures part { OnErr result (TakesPart (W.taken out.old) (W.taken out.new)
-        (flat_map (λ rule. rule_missed (providers_of cloud.now) rule)
-        (map rule_shown rules.now))) }
-    ensures rises { OnErr result (Rises (W.failures out.old) (W.failures out.new)) }
+        (map rule_shown rules.now)) }
     ensures failures { W.failures out.old ≤ W.failures out.new }
 {
     for rule in rules {
@@ -241,11 +216,9 @@ fn push_rules<W: Sink>(
 
 // The line of the tree that a group names, if it names one by a UUID that nobody has.
 fn push_tree<W: Sink>(out: &mut W, cloud: &Cloud, in_tree: Option<Id>) -> Result<(), WriteFailed>
-    ensures ok { OnOk result (Appends (W.taken out.old) (W.taken out.new)
-        (tree_missed (providers_of cloud.now) in_tree)) }
-    ensures part { OnErr result (TakesPart (W.taken out.old) (W.taken out.new)
-        (tree_missed (providers_of cloud.now) in_tree)) }
-    ensures rises { OnErr result (Rises (W.failures out.old) (W.failures out.new)) }
+    ensures text { Pushes result (W.taken out.old) (W.taken out.new)
+        (W.failures out.old) (W.failures out.new)
+        (tree_missed (providers_of cloud.now) in_tree) }
     ensures failures { W.failures out.old ≤ W.failures out.new }
 {
     match in_tree {
@@ -260,13 +233,11 @@ fn push_tree<W: Sink>(out: &mut W, cloud: &Cloud, in_tree: Option<Id>) -> Result
 }
 
 // What nobody has of the classes and traits of a group.
-#[tactic(auto, using(ac_base::proofs::Leaving::appends_both, ac_base::proofs::Leaving::part_of_first, ac_base::proofs::Leaving::part_of_second))]
+#[tactic(auto, using(crate::proofs::Pushed::pushed_first, crate::proofs::Pushed::pushed_on))]
 fn push_things<W: Sink>(out: &mut W, cloud: &Cloud, group: &Group) -> Result<(), WriteFailed>
-    ensures ok { OnOk result (Appends (W.taken out.old) (W.taken out.new)
-        (things_missed (providers_of cloud.now) (group_asked group.now))) }
-    ensures part { OnErr result (TakesPart (W.taken out.old) (W.taken out.new)
-        (things_missed (providers_of cloud.now) (group_asked group.now))) }
-    ensures rises { OnErr result (Rises (W.failures out.old) (W.failures out.new)) }
+    ensures text { Pushes result (W.taken out.old) (W.taken out.new)
+        (W.failures out.old) (W.failures out.new)
+        (things_missed (providers_of cloud.now) (group_asked group.now)) }
     ensures failures { W.failures out.old ≤ W.failures out.new }
 {
     push_classes(out, cloud, group.needs())?;
@@ -275,13 +246,11 @@ fn push_things<W: Sink>(out: &mut W, cloud: &Cloud, group: &Group) -> Result<(),
 }
 
 // Where nobody is of the aggregates and the tree of a group.
-#[tactic(auto, using(ac_base::proofs::Leaving::appends_both, ac_base::proofs::Leaving::part_of_first, ac_base::proofs::Leaving::part_of_second))]
+#[tactic(auto, using(crate::proofs::Pushed::pushed_first, crate::proofs::Pushed::pushed_on))]
 fn push_places<W: Sink>(out: &mut W, cloud: &Cloud, group: &Group) -> Result<(), WriteFailed>
-    ensures ok { OnOk result (Appends (W.taken out.old) (W.taken out.new)
-        (places_missed (providers_of cloud.now) (group_asked group.now))) }
-    ensures part { OnErr result (TakesPart (W.taken out.old) (W.taken out.new)
-        (places_missed (providers_of cloud.now) (group_asked group.now))) }
-    ensures rises { OnErr result (Rises (W.failures out.old) (W.failures out.new)) }
+    ensures text { Pushes result (W.taken out.old) (W.taken out.new)
+        (W.failures out.old) (W.failures out.new)
+        (places_missed (providers_of cloud.now) (group_asked group.now)) }
     ensures failures { W.failures out.old ≤ W.failures out.new }
 {
     push_rules(out, cloud, group.member_of())?;
@@ -289,13 +258,11 @@ fn push_places<W: Sink>(out: &mut W, cloud: &Cloud, group: &Group) -> Result<(),
 }
 
 // What nobody has of a group.
-#[tactic(auto, using(ac_base::proofs::Leaving::appends_both, ac_base::proofs::Leaving::part_of_first, ac_base::proofs::Leaving::part_of_second))]
+#[tactic(auto, using(crate::proofs::Pushed::pushed_first, crate::proofs::Pushed::pushed_on))]
 fn push_group<W: Sink>(out: &mut W, cloud: &Cloud, group: &Group) -> Result<(), WriteFailed>
-    ensures ok { OnOk result (Appends (W.taken out.old) (W.taken out.new)
-        (group_missed (providers_of cloud.now) (group_entry group.now).1)) }
-    ensures part { OnErr result (TakesPart (W.taken out.old) (W.taken out.new)
-        (group_missed (providers_of cloud.now) (group_entry group.now).1)) }
-    ensures rises { OnErr result (Rises (W.failures out.old) (W.failures out.new)) }
+    ensures text { Pushes result (W.taken out.old) (W.taken out.new)
+        (W.failures out.old) (W.failures out.new)
+        (group_missed (providers_of cloud.now) (group_entry group.now).1) }
     ensures failures { W.failures out.old ≤ W.failures out.new }
 {
     push_things(out, cloud, group)?;
@@ -303,14 +270,12 @@ fn push_group<W: Sink>(out: &mut W, cloud: &Cloud, group: &Group) -> Result<(), 
 }
 
 // What nobody has of each group.
+#[tactic(auto, using(crate::proofs::ItemsWritten::item_stopped))]
 fn push_groups<W: Sink>(out: &mut W, cloud: &Cloud, groups: &[Group]) -> Result<(), WriteFailed>
-    ensures ok { OnOk result (Appends (W.taken out.old) (W.taken out.new)
+    ensures text { Pushes result (W.taken out.old) (W.taken out.new)
+        (W.failures out.old) (W.failures out.new)
         (flat_map (λ g. group_missed (providers_of cloud.now) g.1)
-        (map group_entry groups.now))) }
-    ensures part { OnErr result (TakesPart (W.taken out.old) (W.taken out.new)
-        (flat_map (λ g. group_missed (providers_of cloud.now) g.1)
-        (map group_entry groups.now))) }
-    ensures rises { OnErr result (Rises (W.failures out.old) (W.failures out.new)) }
+        (map group_entry groups.now)) }
     ensures failures { W.failures out.old ≤ W.failures out.new }
 {
     for group in groups {
@@ -321,11 +286,9 @@ fn push_groups<W: Sink>(out: &mut W, cloud: &Cloud, groups: &[Group]) -> Result<
 
 // The line of a trait that no root has.
 fn push_root_trait<W: Sink>(out: &mut W, cloud: &Cloud, name: &TraitName) -> Result<(), WriteFailed>
-    ensures ok { OnOk result (Appends (W.taken out.old) (W.taken out.new)
-        (root_trait_missed (providers_of cloud.now) (trait_bytes name.now))) }
-    ensures part { OnErr result (TakesPart (W.taken out.old) (W.taken out.new)
-        (root_trait_missed (providers_of cloud.now) (trait_bytes name.now))) }
-    ensures rises { OnErr result (Rises (W.failures out.old) (W.failures out.new)) }
+    ensures text { Pushes result (W.taken out.old) (W.taken out.new)
+        (W.failures out.old) (W.failures out.new)
+        (root_trait_missed (providers_of cloud.now) (trait_bytes name.now)) }
     ensures failures { W.failures out.old ≤ W.failures out.new }
 {
     if some_root_has(cloud, name) {
@@ -335,18 +298,16 @@ fn push_root_trait<W: Sink>(out: &mut W, cloud: &Cloud, name: &TraitName) -> Res
 }
 
 // The traits that no root has.
+#[tactic(auto, using(crate::proofs::ItemsWritten::item_stopped))]
 fn push_root_traits<W: Sink>(
     out: &mut W,
     cloud: &Cloud,
     names: &[TraitName],
 ) -> Result<(), WriteFailed>
-    ensures ok { OnOk result (Appends (W.taken out.old) (W.taken out.new)
+    ensures text { Pushes result (W.taken out.old) (W.taken out.new)
+        (W.failures out.old) (W.failures out.new)
         (flat_map (λ name. root_trait_missed (providers_of cloud.now) name)
-        (map trait_bytes names.now))) }
-    ensures part { OnErr result (TakesPart (W.taken out.old) (W.taken out.new)
-        (flat_map (λ name. root_trait_missed (providers_of cloud.now) name)
-        (map trait_bytes names.now))) }
-    ensures rises { OnErr result (Rises (W.failures out.old) (W.failures out.new)) }
+        (map trait_bytes names.now)) }
     ensures failures { W.failures out.old ≤ W.failures out.new }
 {
     for name in names {
@@ -356,17 +317,15 @@ fn push_root_traits<W: Sink>(
 }
 
 /// Pushes a line for each thing that the query asks for and nobody has: group by group, then of the root.
-#[tactic(auto, using(ac_base::proofs::Leaving::appends_both, ac_base::proofs::Leaving::part_of_first, ac_base::proofs::Leaving::part_of_second), unfolding(crate::specs::Explanation::Nobody::nobody_lines))]
+#[tactic(auto, using(crate::proofs::Pushed::pushed_first, crate::proofs::Pushed::pushed_on), unfolding(crate::specs::Explanation::Nobody::nobody_lines))]
 pub(crate) fn push_missing<W: Sink>(
     out: &mut W,
     cloud: &Cloud,
     query: &Query,
 ) -> Result<(), WriteFailed>
-    ensures ok { OnOk result (Appends (W.taken out.old) (W.taken out.new)
-        (nobody_lines (providers_of cloud.now) (asked_of query.now))) }
-    ensures part { OnErr result (TakesPart (W.taken out.old) (W.taken out.new)
-        (nobody_lines (providers_of cloud.now) (asked_of query.now))) }
-    ensures rises { OnErr result (Rises (W.failures out.old) (W.failures out.new)) }
+    ensures text { Pushes result (W.taken out.old) (W.taken out.new)
+        (W.failures out.old) (W.failures out.new)
+        (nobody_lines (providers_of cloud.now) (asked_of query.now)) }
     ensures failures { W.failures out.old ≤ W.failures out.new }
 {
     push_groups(out, cloud, query.groups())?;

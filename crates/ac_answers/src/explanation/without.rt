@@ -1,14 +1,12 @@
 //! Whether a query that has no candidate would have one without one of the things that it asks of several slots together, and the lines that tell it.
-ghost use Rattle.std.specs.Prelude.{◌≡◌, ◌≤◌, ◌++◌, IfOk, OnErr, OnOk, length, map};
-ghost use Rattle.std.specs.List.{list_any};
-ghost use Rattle.std.specs.Io.KnownBytes.{Appends};
-ghost use Rattle.ac_base.specs.Devices.{Rises, TakesPart};
+ghost use Rattle.std.specs.Prelude.{◌≡◌, ◌≤◌, IfOk, length, map};
 ghost use Rattle.ac_cloud.specs.Cloud.CloudWorld.{providers_of};
 ghost use Rattle.ac_query.specs.Shown.{suffixes_shown};
 ghost use Rattle.ac_query.specs.Shown.Queries.{asked_of};
 ghost use Rattle.ac_answers.specs.Explanation.Candidates.{asks_required, found_without, has_candidate, outcome, policy_found, policy_line, required_found, required_line, subtree_line, subtree_lines, subtrees_found, without_lines};
 ghost use Rattle.ac_answers.specs.Explanation.Shown.{found_shown};
 ghost use Rattle.ac_answers.specs.Pieces.{listed};
+ghost use Rattle.ac_answers.specs.Writing.{Pushes};
 
 use super::has_candidate;
 use crate::pieces::push_marked;
@@ -116,16 +114,15 @@ pub fn find_without(
 }
 
 // Suffixes: the first behind a mark, each further one behind a comma.
+#[tactic(auto, using(crate::proofs::ItemsWritten::listed_stopped, crate::proofs::ItemsWritten::listed_written))]
 fn push_suffixes<W: Sink>(
     out: &mut W,
     mark: &[u8],
     suffixes: &BTreeSet<Suffix>,
 ) -> Result<(), WriteFailed>
-    ensures ok { OnOk result (Appends (W.taken out.old) (W.taken out.new)
-        (listed mark.now (suffixes_shown suffixes.now))) }
-    ensures part { OnErr result (TakesPart (W.taken out.old) (W.taken out.new)
-        (listed mark.now (suffixes_shown suffixes.now))) }
-    ensures rises { OnErr result (Rises (W.failures out.old) (W.failures out.new)) }
+    ensures text { Pushes result (W.taken out.old) (W.taken out.new)
+        (W.failures out.old) (W.failures out.new)
+        (listed mark.now (suffixes_shown suffixes.now)) }
     ensures failures { W.failures out.old ≤ W.failures out.new }
 {
     let mut mark = mark;
@@ -144,17 +141,15 @@ fn outcome(found: bool) -> &'static [u8]
 }
 
 // The line of a list of `same_subtree`.
-#[tactic(auto, using(ac_base::proofs::Leaving::appends_both, ac_base::proofs::Leaving::part_of_first, ac_base::proofs::Leaving::part_of_second), unfolding(crate::specs::Explanation::Candidates::subtree_line))]
+#[tactic(auto, using(crate::proofs::Pushed::pushed_first), unfolding(crate::specs::Explanation::Candidates::subtree_line))]
 fn push_subtree<W: Sink>(
     out: &mut W,
     suffixes: &BTreeSet<Suffix>,
     found: bool,
 ) -> Result<(), WriteFailed>
-    ensures ok { OnOk result (Appends (W.taken out.old) (W.taken out.new)
-        (subtree_line (suffixes_shown suffixes.now) found)) }
-    ensures part { OnErr result (TakesPart (W.taken out.old) (W.taken out.new)
-        (subtree_line (suffixes_shown suffixes.now) found)) }
-    ensures rises { OnErr result (Rises (W.failures out.old) (W.failures out.new)) }
+    ensures text { Pushes result (W.taken out.old) (W.taken out.new)
+        (W.failures out.old) (W.failures out.new)
+        (subtree_line (suffixes_shown suffixes.now) found) }
     ensures failures { W.failures out.old ≤ W.failures out.new }
 {
     push_suffixes(out, b"without same_subtree=", suffixes)?;
@@ -168,11 +163,9 @@ fn push_subtrees<W: Sink>(
     found: &[bool],
 ) -> Result<(), WriteFailed>
     requires { length found.now ≤ length lists.now }
-    ensures ok { OnOk result (Appends (W.taken out.old) (W.taken out.new)
-        (subtree_lines (map suffixes_shown lists.now) found.now)) }
-    ensures part { OnErr result (TakesPart (W.taken out.old) (W.taken out.new)
-        (subtree_lines (map suffixes_shown lists.now) found.now)) }
-    ensures rises { OnErr result (Rises (W.failures out.old) (W.failures out.new)) }
+    ensures text { Pushes result (W.taken out.old) (W.taken out.new)
+        (W.failures out.old) (W.failures out.new)
+        (subtree_lines (map suffixes_shown lists.now) found.now) }
     ensures failures { W.failures out.old ≤ W.failures out.new }
 {
     for k in 0..found.len() {
@@ -206,18 +199,16 @@ fn required_line(found: Option<bool>) -> &'static [u8]
 }
 
 /// Pushes a line for each thing that was taken away, with what was found without it.
-#[tactic(auto, using(ac_base::proofs::Leaving::appends_both, ac_base::proofs::Leaving::part_of_first, ac_base::proofs::Leaving::part_of_second), unfolding(crate::specs::Explanation::Candidates::without_lines))]
+#[tactic(auto, using(crate::proofs::Pushed::pushed_first, crate::proofs::Pushed::pushed_on), unfolding(crate::specs::Explanation::Candidates::without_lines))]
 pub(crate) fn push_without<W: Sink>(
     out: &mut W,
     query: &Query,
     without: &FoundWithout,
 ) -> Result<(), WriteFailed>
     requires { length (found_shown without.now).subtrees ≤ length (asked_of query.now).subtrees }
-    ensures ok { OnOk result (Appends (W.taken out.old) (W.taken out.new)
-        (without_lines (asked_of query.now) (found_shown without.now))) }
-    ensures part { OnErr result (TakesPart (W.taken out.old) (W.taken out.new)
-        (without_lines (asked_of query.now) (found_shown without.now))) }
-    ensures rises { OnErr result (Rises (W.failures out.old) (W.failures out.new)) }
+    ensures text { Pushes result (W.taken out.old) (W.taken out.new)
+        (W.failures out.old) (W.failures out.new)
+        (without_lines (asked_of query.now) (found_shown without.now)) }
     ensures failures { W.failures out.old ≤ W.failures out.new }
 {
     push_subtrees(out, query.subtrees(), &without.subtrees)?;

@@ -8,7 +8,8 @@ use Rattle.ac_differences.specs.Differing.{all_differences, applies}
 use Rattle.ac_differences.specs.declared.differing.Difference.{Difference}
 use Rattle.ac_answers.specs.Explanation.Differing.{differs_line, differs_lines}
 use Rattle.ac_answers.proofs.DifferencesWritten.{each_passing}
-use Rattle.ac_answers.proofs.PiecesWritten.{piece_part, on_err}
+use Rattle.ac_answers.proofs.PiecesWritten.{next_piece}
+use Rattle.ac_answers.proofs.Pushed.{pushed_within}
 use Rattle.ac_answers.proofs.explanation.differing.push_differences.Goals as goal
 
 pub loop-difference-init : goal.loop-difference-init
@@ -23,10 +24,10 @@ loop-difference-init g c =
       failures = omega arith;
     }
 
-pub returns-in_err-push_if_applies-clause-part : goal.returns-in_err-push_if_applies-clause-part
-returns-in_err-push_if_applies-clause-part g c =
+pub returns-in_err-push_if_applies-clause-text : goal.returns-in_err-push_if_applies-clause-text
+returns-in_err-push_if_applies-clause-text g c =
     let all = providers_of c.args.cloud.now in
     let asked = asked_of c.args.query.now in
     let told = λ (d : Difference). if applies all asked d then differs_line d else [] in
-    on_err c.from_residual.result _
-    (piece_part told c.all_differences-difference-items.result.now c.loop-difference.difference-index _ _ _ _ _ (omega arith) c.loop-difference.invariant.leaves c.in_err-push_if_applies.ensures.part)
+    pushed_within c.from_residual.result _ _ _ _ _ _ _ _ _ _ (next_piece told c.all_differences-difference-items.result.now c.loop-difference.difference-index _ _ _ _ (omega arith) c.loop-difference.invariant.leaves)
+    c.loop-difference.invariant.failures c.push_if_applies.ensures.failures c.from_residual.ensures.1 c.in_err-push_if_applies.ensures.text.0 c.in_err-push_if_applies.ensures.text.1

@@ -1,12 +1,9 @@
-use Rattle.std.proofs.Common.{refl}
 use Rattle.ac_answers.specs.Explanation.Candidates.{subtree_line}
-use Rattle.ac_answers.proofs.ItemsWritten.{part_behind, written_behind}
+use Rattle.ac_answers.proofs.Pushed.{pushed_on, pushed_told}
 use Rattle.ac_answers.proofs.explanation.without.push_subtree.Goals as goal
 
-pub returns-clause-ok : goal.returns-clause-ok
+pub returns-clause-text : goal.returns-clause-text
 unfolding subtree_line
-returns-clause-ok g c = written_behind c.push_all.result _ _ _ _ _ refl c.outcome.ensures c.in_ok-push_suffixes.ensures.ok c.push_all.ensures.ok
-
-pub returns-clause-part : goal.returns-clause-part
-unfolding subtree_line
-returns-clause-part g c = part_behind c.push_all.result _ _ _ _ _ refl c.outcome.ensures c.in_ok-push_suffixes.ensures.ok c.push_all.ensures.part
+returns-clause-text g c =
+    pushed_on c.push_all.result _ _ _ _ _ _ _ _ c.in_ok-push_suffixes.ensures.text c.push_suffixes.ensures.failures c.push_all.ensures.failures
+    (pushed_told c.push_all.result _ _ _ _ _ _ c.outcome.ensures c.push_all.ensures.ok c.push_all.ensures.part c.push_all.ensures.rises)
