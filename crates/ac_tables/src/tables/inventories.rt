@@ -212,7 +212,8 @@ impl Inventories {
         ids: Ids,
         rows: Vec<TableRow<ClassName, Inventory>>,
     ) -> Result<Inventories, AllocError>
-        requires said { (said : List InventoryRecord) × AreInventories ids.ids.items said rows.items }
+        requires said { (said : List InventoryRecord)
+            × AreInventories ids.ids.items said rows.items }
         requires few { length rows.items ≤ most_bytes }
         ensures ids { IfOk result (λ new. new.ids.ids.items ≡ ids.ids.items) }
         ensures rows { IfOk result (λ new. new.rows.rows.items ≡ rows.items) }
