@@ -1,11 +1,9 @@
--- Lists of one provider for each slot: those of a page, and those that ids name; and the ids of a token.
-use Rattle.std.proofs.Common.{◌≡◌, ℕ, suc, ◌<◌, Bool, true, List, [], ◌∷◌, length, Bor, Option, Some, None, refl, ap, subst}
-use Rattle.std.specs.Option.{option_copied, option_map, option_and_then}
+-- Lists of one provider for each slot: those of a page, and those that ids name.
+use Rattle.std.proofs.Common.{◌≡◌, ℕ, suc, ◌<◌, Bool, true, List, [], ◌∷◌, length, Option, Some, None, refl, ap, subst}
+use Rattle.std.specs.Option.{option_map, option_and_then}
 use Rattle.std.specs.List.{All, AllByRecursion as Each, filter}
 use Rattle.std.proofs.lemmas.List.Elements.{All-from_recursion}
 use Rattle.ac_query.specs.Asked.{Asked, slots_of}
-use Rattle.ac_query.specs.Tokens.{ids_of}
-use Rattle.ac_query.specs.declared.token.Token.{Token}
 use Rattle.ac_report.specs.Pages.{IsAssignment}
 use Rattle.ac_rules.proofs.Elements.{each_filter, each_weaker}
 use Rattle.ac_rules.proofs.Lists.ListLemmas.{each_all_lists}
@@ -47,8 +45,3 @@ pub located : (all : List Provider) (ids places : List ℕ) → Some places ≡ 
 located all [] [] e = (refl, tt)
 located all [] (p ∷ places) e = absurd (cc)
 located all (id ∷ ids) places e = one_more all id ids (place_of all id) (places_of all ids) places refl e (λ rest r. located all ids rest r)
-
--- the ids of a token that is lent
-pub lent_ids : (token : Option (Bor Token)) → option_map (λ t. ids_of t.now) token ≡ option_map ids_of (option_copied token)
-lent_ids None = refl
-lent_ids (Some t) = refl

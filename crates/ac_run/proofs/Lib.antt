@@ -5,5 +5,6 @@ pub mod WantedSaid
 pub mod Attempted
 pub mod Told
 pub mod HandedOn
+pub mod Delivering
 pub mod HostFound
 pub mod FaultsTold

@@ -1,6 +1,9 @@
 -- What is known after each part of a run.
-use Rattle.std.specs.Prelude.{◌≡◌, ℕ, List, [], Option, Some, None, ⊤}
+use Rattle.std.specs.Prelude.{◌≡◌, ◌≤◌, ℕ, List, [], Option, Some, None, Result, Err, IfOk, OnErr, ⊤}
 use Rattle.std.specs.Io.KnownBytes.{Appends}
+use Rattle.ac_base.specs.Devices.{Rises, TakesPart}
+use Rattle.ac_report.specs.declared.fault.PageFault.{PageFault}
+use Rattle.ac_report.specs.declared.fault.PageFault.TheVariants as page_fault
 use Rattle.ac_tables.specs.declared.fault.Table.{Table}
 use Rattle.ac_tables.specs.declared.fault.TableFault.{TableFault}
 use Rattle.ac_tables.specs.declared.fault.TableFault.TheVariants as fault
@@ -20,6 +23,15 @@ pub record IsWritten (outcome : Outcome) (old new : Option (List ℕ)) (given : 
   pub line : outcome.line ≡ []
   pub status : given ≡ outcome.status
   pub output : Appends old new outcome.output
+
+-- An outcome is written, by the answer of its writer: whole, with its status; after an error a first part of its output. A failed write raised the
+-- count of failures.
+pub record Delivers (outcome : Outcome) (result : Result ℕ PageFault) (old new : Option (List ℕ)) (before after : ℕ) : Type 0 where
+  pub few : IfOk result (λ status. status ≤ 1)
+  pub ok : IfOk result (IsWritten outcome old new)
+  pub part : OnErr result (TakesPart old new outcome.output)
+  pub failed : result ≡ Err page_fault.WriteFailed → Rises before after
+  pub failures : before ≤ after
 
 -- why there is no cloud: the first fault of the tables
 abbrev pub ExplainsTables : Option TableFault → Refusal → Type 0

@@ -13,7 +13,9 @@ ghost use Rattle.ac_run.specs.Asking.{AsksUnits, HasHost, HasIdForEachSlot, answ
 ghost use Rattle.ac_run.specs.Outputs.{counts, detailed_text, verdict_status, verdict_text};
 ghost use Rattle.ac_report.specs.declared.fault.PageFault.TheVariants as PageFault;
 ghost use Rattle.ac_rules.specs.declared.verdict.Verdict.TheVariants as Verdict;
-ghost use Rattle.ac_run.specs.Run.{IsWritten};
+ghost use Rattle.ac_report.specs.Pages.{IsAssignment};
+ghost use Rattle.ac_rules.specs.Pages.{rest};
+ghost use Rattle.ac_run.specs.Run.{Delivers, IsWritten};
 
 use crate::asking::Wanted;
 use crate::filling::write_fill;
@@ -27,26 +29,36 @@ use ac_explain::broken_detail;
 use ac_query::{Query, Token};
 use ac_report::{PageFault, write_list, write_shown_page, write_tokens};
 use ac_rules::{Assignment, InCloud, Rule, Verdict, verify};
-use ac_search::{Walk, all_slots, find_lacks, fitting_roots, tree_counts};
+use ac_search::{Source, Walk, all_slots, find_lacks, fitting_roots, tree_counts};
 use ac_tables::Cloud;
 use std::alloc::Global;
 
 // How much the tables told.
 fn write_counts<W: Sink>(cloud: &Cloud, out: &mut W) -> Result<u8, PageFault>
-    ensures few { IfOk result (λ status. status ≤ 1) }
-    ensures ok { IfOk result (IsWritten (written (counts (world_of cloud.now).sizes) 0)
-        (W.taken out.old) (W.taken out.new)) }
-    ensures part { OnErr result (TakesPart (W.taken out.old) (W.taken out.new)
-        (written (counts (world_of cloud.now).sizes) 0).output) }
-    ensures failed { result ≡ Err PageFault.WriteFailed
-        → Rises (W.failures out.old) (W.failures out.new) }
-    ensures failures { W.failures out.old ≤ W.failures out.new }
+    ensures { Delivers (written (counts (world_of cloud.now).sizes) 0) result (W.taken out.old)
+        (W.taken out.new) (W.failures out.old) (W.failures out.new) }
 {
     push_counts(out, &cloud.counts())?;
     Ok(0)
 }
 
+// The candidates after a token, or all of them.
+fn walk_after<'a>(
+    alloc: Global,
+    cloud: &'a Cloud,
+    query: &'a Query,
+    token: &Option<Token>,
+) -> Result<Walk<'a>, NoMemory>
+    ensures left { IfOk result (λ walk. ⟦<Walk<'a> as Source>⟧.left walk
+        ≡ rest (providers_of cloud.now) (asked_of query.now) (option_map ids_of token.now)) }
+    ensures assigned { IfOk result (λ walk. All (IsAssignment (providers_of cloud.now)
+        (asked_of query.now)) (⟦<Walk<'a> as Source>⟧.left walk)) }
+{
+    Walk::new(alloc, cloud, query, token.as_ref())
+}
+
 // The tokens of a page, a line each.
+#[tactic(auto, using(crate::proofs::Delivering::refused))]
 fn write_lines<W: Sink>(
     alloc: Global,
     cloud: &Cloud,
@@ -54,26 +66,17 @@ fn write_lines<W: Sink>(
     token: &Option<Token>,
     out: &mut W,
 ) -> Result<u8, PageFault>
-    ensures few { IfOk result (λ status. status ≤ 1) }
-    ensures ok { IfOk result (IsWritten (page_lines (providers_of cloud.now) (asked_of query.now)
-        (option_map ids_of token.now)) (W.taken out.old) (W.taken out.new)) }
-    ensures part { OnErr result (TakesPart (W.taken out.old) (W.taken out.new)
-        (page_lines (providers_of cloud.now) (asked_of query.now)
-        (option_map ids_of token.now)).output) }
-    ensures failed { result ≡ Err PageFault.WriteFailed
-        → Rises (W.failures out.old) (W.failures out.new) }
-    ensures failures { W.failures out.old ≤ W.failures out.new }
+    ensures { Delivers (page_lines (providers_of cloud.now) (asked_of query.now)
+        (option_map ids_of token.now)) result (W.taken out.old) (W.taken out.new) (W.failures out.old)
+        (W.failures out.new) }
 {
-    let Ok(mut source) = Walk::new(alloc, cloud, query, token.as_ref()) else {
-        return Err(PageFault::NoMemory);
-    };
-    match write_tokens(alloc, cloud, query, &mut source, out) {
-        Ok(_count) => Ok(0),
-        Err(fault) => Err(fault),
-    }
+    let mut source = walk_after(alloc, cloud, query, token)?;
+    write_tokens(alloc, cloud, query, &mut source, out)?;
+    Ok(0)
 }
 
 // The body of a page, with traits or without.
+#[tactic(auto, using(crate::proofs::Delivering::refused))]
 fn write_body<W: Sink>(
     alloc: Global,
     cloud: &Cloud,
@@ -82,26 +85,17 @@ fn write_body<W: Sink>(
     traits: bool,
     out: &mut W,
 ) -> Result<u8, PageFault>
-    ensures few { IfOk result (λ status. status ≤ 1) }
-    ensures ok { IfOk result (IsWritten (page_body (providers_of cloud.now) traits
-        (asked_of query.now) (option_map ids_of token.now)) (W.taken out.old) (W.taken out.new)) }
-    ensures part { OnErr result (TakesPart (W.taken out.old) (W.taken out.new)
-        (page_body (providers_of cloud.now) traits (asked_of query.now)
-        (option_map ids_of token.now)).output) }
-    ensures failed { result ≡ Err PageFault.WriteFailed
-        → Rises (W.failures out.old) (W.failures out.new) }
-    ensures failures { W.failures out.old ≤ W.failures out.new }
+    ensures { Delivers (page_body (providers_of cloud.now) traits (asked_of query.now)
+        (option_map ids_of token.now)) result (W.taken out.old) (W.taken out.new) (W.failures out.old)
+        (W.failures out.new) }
 {
-    let Ok(mut source) = Walk::new(alloc, cloud, query, token.as_ref()) else {
-        return Err(PageFault::NoMemory);
-    };
-    match write_shown_page(alloc, cloud, query, traits, &mut source, out) {
-        Ok(_count) => Ok(0),
-        Err(fault) => Err(fault),
-    }
+    let mut source = walk_after(alloc, cloud, query, token)?;
+    write_shown_page(alloc, cloud, query, traits, &mut source, out)?;
+    Ok(0)
 }
 
 // The rows of a page, with traits or without.
+#[tactic(auto, using(crate::proofs::Delivering::refused))]
 fn write_rows<W: Sink>(
     alloc: Global,
     cloud: &Cloud,
@@ -110,60 +104,35 @@ fn write_rows<W: Sink>(
     traits: bool,
     out: &mut W,
 ) -> Result<u8, PageFault>
-    ensures few { IfOk result (λ status. status ≤ 1) }
-    ensures ok { IfOk result (IsWritten (page_rows (providers_of cloud.now) traits
-        (asked_of query.now) (option_map ids_of token.now)) (W.taken out.old) (W.taken out.new)) }
-    ensures part { OnErr result (TakesPart (W.taken out.old) (W.taken out.new)
-        (page_rows (providers_of cloud.now) traits (asked_of query.now)
-        (option_map ids_of token.now)).output) }
-    ensures failed { result ≡ Err PageFault.WriteFailed
-        → Rises (W.failures out.old) (W.failures out.new) }
-    ensures failures { W.failures out.old ≤ W.failures out.new }
+    ensures { Delivers (page_rows (providers_of cloud.now) traits (asked_of query.now)
+        (option_map ids_of token.now)) result (W.taken out.old) (W.taken out.new) (W.failures out.old)
+        (W.failures out.new) }
 {
-    let Ok(mut source) = Walk::new(alloc, cloud, query, token.as_ref()) else {
-        return Err(PageFault::NoMemory);
-    };
-    match write_list(alloc, cloud, query, traits, &mut source, out) {
-        Ok(_count) => Ok(0),
-        Err(fault) => Err(fault),
-    }
+    let mut source = walk_after(alloc, cloud, query, token)?;
+    write_list(alloc, cloud, query, traits, &mut source, out)?;
+    Ok(0)
 }
 
 // A verdict alone.
 fn write_plain<W: Sink>(verdict: Verdict, out: &mut W) -> Result<u8, PageFault>
-    ensures few { IfOk result (λ status. status ≤ 1) }
-    ensures ok { IfOk result (IsWritten (written (verdict_text verdict) (verdict_status verdict))
-        (W.taken out.old) (W.taken out.new)) }
-    ensures part { OnErr result (TakesPart (W.taken out.old) (W.taken out.new)
-        (written (verdict_text verdict) (verdict_status verdict)).output) }
-    ensures failed { result ≡ Err PageFault.WriteFailed
-        → Rises (W.failures out.old) (W.failures out.new) }
-    ensures failures { W.failures out.old ≤ W.failures out.new }
+    ensures { Delivers (written (verdict_text verdict) (verdict_status verdict)) result
+        (W.taken out.old) (W.taken out.new) (W.failures out.old) (W.failures out.new) }
 {
     push_verdict(out, verdict)?;
     Ok(verdict_status(verdict))
 }
 
 // The rule that a list breaks, with the first thing by which it does.
-#[tactic(auto, using(ac_base::proofs::Leaving::part_none), unfolding(crate::specs::Outputs::detailed_text))]
+#[tactic(auto, using(crate::proofs::Delivering::refused), unfolding(crate::specs::Outputs::detailed_text))]
 fn write_broken<W: Sink>(
     alloc: Global,
     assignment: &Assignment<'_>,
     rule: Rule,
     out: &mut W,
 ) -> Result<u8, PageFault>
-    ensures few { IfOk result (λ status. status ≤ 1) }
-    ensures ok { IfOk result (IsWritten (written
-        (detailed_text (providers_of assignment.now.cloud.now)
-        (asked_of assignment.now.query.now) assignment.now.list.now (Verdict.Broken rule)) 1)
-        (W.taken out.old) (W.taken out.new)) }
-    ensures part { OnErr result (TakesPart (W.taken out.old) (W.taken out.new)
-        (written (detailed_text (providers_of assignment.now.cloud.now)
-        (asked_of assignment.now.query.now) assignment.now.list.now (Verdict.Broken rule))
-        1).output) }
-    ensures failed { result ≡ Err PageFault.WriteFailed
-        → Rises (W.failures out.old) (W.failures out.new) }
-    ensures failures { W.failures out.old ≤ W.failures out.new }
+    ensures { Delivers (written (detailed_text (providers_of assignment.now.cloud.now)
+        (asked_of assignment.now.query.now) assignment.now.list.now (Verdict.Broken rule)) 1) result
+        (W.taken out.old) (W.taken out.new) (W.failures out.old) (W.failures out.new) }
 {
     let detail = broken_detail(alloc, assignment, rule)?;
     let line = detailed_line(alloc, rule, &detail)?;
@@ -178,19 +147,10 @@ fn write_detailed<W: Sink>(
     verdict: Verdict,
     out: &mut W,
 ) -> Result<u8, PageFault>
-    ensures few { IfOk result (λ status. status ≤ 1) }
-    ensures ok { IfOk result (IsWritten (written
-        (detailed_text (providers_of assignment.now.cloud.now)
+    ensures { Delivers (written (detailed_text (providers_of assignment.now.cloud.now)
         (asked_of assignment.now.query.now) assignment.now.list.now verdict)
-        (verdict_status verdict))
-        (W.taken out.old) (W.taken out.new)) }
-    ensures part { OnErr result (TakesPart (W.taken out.old) (W.taken out.new)
-        (written (detailed_text (providers_of assignment.now.cloud.now)
-        (asked_of assignment.now.query.now) assignment.now.list.now verdict)
-        (verdict_status verdict)).output) }
-    ensures failed { result ≡ Err PageFault.WriteFailed
-        → Rises (W.failures out.old) (W.failures out.new) }
-    ensures failures { W.failures out.old ≤ W.failures out.new }
+        (verdict_status verdict)) result (W.taken out.old) (W.taken out.new) (W.failures out.old)
+        (W.failures out.new) }
 {
     match verdict {
         Verdict::Candidate => write_plain(verdict, out),
@@ -209,15 +169,9 @@ fn write_judged<W: Sink>(
 ) -> Result<u8, PageFault>
     requires slots { length list.now ≡ length (slots_of (asked_of query.now)) }
     requires providers { All (λ p. p < length (providers_of cloud.now)) list.now }
-    ensures few { IfOk result (λ status. status ≤ 1) }
-    ensures ok { IfOk result (IsWritten
-        (verdict_on (providers_of cloud.now) detail (asked_of query.now) (Some list.now))
-        (W.taken out.old) (W.taken out.new)) }
-    ensures part { OnErr result (TakesPart (W.taken out.old) (W.taken out.new)
-        (verdict_on (providers_of cloud.now) detail (asked_of query.now) (Some list.now)).output) }
-    ensures failed { result ≡ Err PageFault.WriteFailed
-        → Rises (W.failures out.old) (W.failures out.new) }
-    ensures failures { W.failures out.old ≤ W.failures out.new }
+    ensures { Delivers (verdict_on (providers_of cloud.now) detail (asked_of query.now)
+        (Some list.now)) result (W.taken out.old) (W.taken out.new) (W.failures out.old)
+        (W.failures out.new) }
 {
     let verdict = verify(cloud, query, list);
     if detail {
@@ -238,16 +192,9 @@ fn write_verdict<W: Sink>(
     out: &mut W,
 ) -> Result<u8, PageFault>
     requires { length (ids_of token.now) ≡ length (slots_of (asked_of query.now)) }
-    ensures few { IfOk result (λ status. status ≤ 1) }
-    ensures ok { IfOk result (IsWritten
-        (verdict_line (providers_of cloud.now) detail (asked_of query.now) (Some (ids_of token.now)))
-        (W.taken out.old) (W.taken out.new)) }
-    ensures part { OnErr result (TakesPart (W.taken out.old) (W.taken out.new)
-        (verdict_line (providers_of cloud.now) detail (asked_of query.now)
-        (Some (ids_of token.now))).output) }
-    ensures failed { result ≡ Err PageFault.WriteFailed
-        → Rises (W.failures out.old) (W.failures out.new) }
-    ensures failures { W.failures out.old ≤ W.failures out.new }
+    ensures { Delivers (verdict_line (providers_of cloud.now) detail (asked_of query.now)
+        (Some (ids_of token.now))) result (W.taken out.old) (W.taken out.new) (W.failures out.old)
+        (W.failures out.new) }
 {
     match token.locate(alloc, cloud) {
         Ok(Some(list)) => write_judged(alloc, cloud, query, &list, detail, out),
@@ -257,22 +204,15 @@ fn write_verdict<W: Sink>(
 }
 
 // How far a query comes, whether it has a candidate, or would have one without one thing, and where the service may answer otherwise.
-#[tactic(auto, using(ac_base::proofs::Leaving::appends_both, ac_base::proofs::Leaving::part_of_first, ac_base::proofs::Leaving::part_of_second), unfolding(ac_answers::specs::Explanation::explanation_text))]
+#[tactic(auto, using(crate::proofs::Delivering::refused, ac_base::proofs::Leaving::appends_both, ac_base::proofs::Leaving::part_of_first, ac_base::proofs::Leaving::part_of_second), unfolding(ac_answers::specs::Explanation::explanation_text))]
 fn write_explanation<W: Sink>(
     alloc: Global,
     cloud: &Cloud,
     question: &Question,
     out: &mut W,
 ) -> Result<u8, PageFault>
-    ensures few { IfOk result (λ status. status ≤ 1) }
-    ensures ok { IfOk result (IsWritten
-        (explanation (providers_of cloud.now) (asked_of question.now.query) None)
-        (W.taken out.old) (W.taken out.new)) }
-    ensures part { OnErr result (TakesPart (W.taken out.old) (W.taken out.new)
-        (explanation (providers_of cloud.now) (asked_of question.now.query) None).output) }
-    ensures failed { result ≡ Err PageFault.WriteFailed
-        → Rises (W.failures out.old) (W.failures out.new) }
-    ensures failures { W.failures out.old ≤ W.failures out.new }
+    ensures { Delivers (explanation (providers_of cloud.now) (asked_of question.now.query) None)
+        result (W.taken out.old) (W.taken out.new) (W.failures out.old) (W.failures out.new) }
 {
     let query = &question.query;
     let slots = all_slots(alloc, cloud, query)?;
@@ -285,22 +225,15 @@ fn write_explanation<W: Sink>(
 }
 
 // Which roots fit, and what the others lack.
-#[tactic(auto, using(ac_base::proofs::Leaving::part_none))]
+#[tactic(auto, using(crate::proofs::Delivering::refused))]
 fn write_hosts<W: Sink>(
     alloc: Global,
     cloud: &Cloud,
     query: &Query,
     out: &mut W,
 ) -> Result<u8, PageFault>
-    ensures few { IfOk result (λ status. status ≤ 1) }
-    ensures ok { IfOk result (IsWritten
-        (host_rows (providers_of cloud.now) (asked_of query.now) None)
-        (W.taken out.old) (W.taken out.new)) }
-    ensures part { OnErr result (TakesPart (W.taken out.old) (W.taken out.new)
-        (host_rows (providers_of cloud.now) (asked_of query.now) None).output) }
-    ensures failed { result ≡ Err PageFault.WriteFailed
-        → Rises (W.failures out.old) (W.failures out.new) }
-    ensures failures { W.failures out.old ≤ W.failures out.new }
+    ensures { Delivers (host_rows (providers_of cloud.now) (asked_of query.now) None) result
+        (W.taken out.old) (W.taken out.new) (W.failures out.old) (W.failures out.new) }
 {
     let fits = fitting_roots(alloc, cloud, query)?;
     let lacks = find_lacks(alloc, cloud, query, &fits)?;
@@ -309,7 +242,7 @@ fn write_hosts<W: Sink>(
 }
 
 // How far a query comes in the tree of a provider.
-#[tactic(auto, using(ac_base::proofs::Leaving::part_none))]
+#[tactic(auto, using(crate::proofs::Delivering::refused))]
 fn write_why<W: Sink>(
     alloc: Global,
     cloud: &Cloud,
@@ -318,15 +251,8 @@ fn write_why<W: Sink>(
     out: &mut W,
 ) -> Result<u8, PageFault>
     requires { host < length (providers_of cloud.now) }
-    ensures few { IfOk result (λ status. status ≤ 1) }
-    ensures ok { IfOk result (IsWritten
-        (why_not (providers_of cloud.now) (asked_of query.now) host)
-        (W.taken out.old) (W.taken out.new)) }
-    ensures part { OnErr result (TakesPart (W.taken out.old) (W.taken out.new)
-        (why_not (providers_of cloud.now) (asked_of query.now) host).output) }
-    ensures failed { result ≡ Err PageFault.WriteFailed
-        → Rises (W.failures out.old) (W.failures out.new) }
-    ensures failures { W.failures out.old ≤ W.failures out.new }
+    ensures { Delivers (why_not (providers_of cloud.now) (asked_of query.now) host) result
+        (W.taken out.old) (W.taken out.new) (W.failures out.old) (W.failures out.new) }
 {
     let (text, status) = why_at(alloc, cloud, query, root_place(cloud, host))?;
     push_text(out, &text, status)

@@ -1,14 +1,12 @@
 //! Placements one after another, each written with its status: their tokens, or how many there are.
 
-ghost use Rattle.std.specs.Prelude.{◌≡◌, ◌≤◌, ℕ, List, false, IfOk, OnErr, Err, None, length, min, string_bytes, true};
-ghost use Rattle.ac_base.specs.Devices.{Rises, TakesPart};
+ghost use Rattle.std.specs.Prelude.{◌≡◌, ◌≤◌, ℕ, List, false, IfOk, None, string_bytes, true};
 ghost use Rattle.ac_cloud.specs.Cloud.CloudWorld.{providers_of};
-ghost use Rattle.ac_fill.specs.Filled.{asks_units, filled};
+ghost use Rattle.ac_fill.specs.Filled.{asks_units};
 ghost use Rattle.ac_query.specs.Shown.Queries.{asked_of};
-ghost use Rattle.ac_report.specs.declared.fault.PageFault.TheVariants as PageFault;
-ghost use Rattle.ac_run.specs.Answer.{fills, written};
+ghost use Rattle.ac_run.specs.Answer.{fills};
 ghost use Rattle.ac_run.specs.Outputs.{counted, fill_status, sum_text};
-ghost use Rattle.ac_run.specs.Run.{IsWritten};
+ghost use Rattle.ac_run.specs.Run.{Delivers};
 
 use crate::outputs::push_text;
 use ac_base::{NoMemory, Sink};
@@ -36,7 +34,7 @@ fn sum_line(alloc: Global, least: u32, most: u128) -> Result<String, NoMemory>
 }
 
 // The tokens of placements.
-#[tactic(auto, using(ac_base::proofs::Leaving::part_none, ac_fill::proofs::Ordered::all_rest))]
+#[tactic(auto, using(crate::proofs::Delivering::refused, ac_fill::proofs::Ordered::all_rest))]
 fn write_placements<W: Sink>(
     alloc: Global,
     cloud: &Cloud,
@@ -44,25 +42,32 @@ fn write_placements<W: Sink>(
     out: &mut W,
 ) -> Result<u8, PageFault>
     requires { asks_units (asked_of query.now) ≡ true }
-    ensures few { IfOk result (λ status. status ≤ 1) }
-    ensures ok { IfOk result (IsWritten
-        (fills (providers_of cloud.now) false (asked_of query.now) None)
-        (W.taken out.old) (W.taken out.new)) }
-    ensures part { OnErr result (TakesPart (W.taken out.old) (W.taken out.new)
-        (fills (providers_of cloud.now) false (asked_of query.now) None).output) }
-    ensures failed { result ≡ Err PageFault.WriteFailed
-        → Rises (W.failures out.old) (W.failures out.new) }
-    ensures failures { W.failures out.old ≤ W.failures out.new }
+    ensures { Delivers (fills (providers_of cloud.now) false (asked_of query.now) None) result
+        (W.taken out.old) (W.taken out.new) (W.failures out.old) (W.failures out.new) }
 {
-    let Ok(mut source) = Walk::new(alloc, cloud, query, None) else {
-        return Err(PageFault::NoMemory);
-    };
+    let mut source = Walk::new(alloc, cloud, query, None)?;
     let filled = write_filled(alloc, cloud, query, &mut source, out)?;
     Ok(fill_status(filled.count))
 }
 
+// The line of the sum, with its status.
+#[tactic(auto, using(ac_fill::proofs::Ordered::all_rest))]
+fn sum_of(alloc: Global, cloud: &Cloud, query: &Query) -> Result<(String, u8), NoMemory>
+    requires { asks_units (asked_of query.now) ≡ true }
+    ensures line { IfOk result (λ sum. string_bytes sum.0
+        ≡ (fills (providers_of cloud.now) true (asked_of query.now) None).output) }
+    ensures status { IfOk result (λ sum.
+        sum.1 ≡ (fills (providers_of cloud.now) true (asked_of query.now) None).status) }
+    ensures few { IfOk result (λ sum. sum.1 ≤ 1) }
+{
+    let mut source = Walk::new(alloc, cloud, query, None)?;
+    let filled = count_filled(alloc, cloud, query, &mut source)?;
+    let line = sum_line(alloc, filled.count, most_placed(cloud, query))?;
+    Ok((line, fill_status(filled.count)))
+}
+
 // How many placements there are.
-#[tactic(auto, using(ac_base::proofs::Leaving::part_none, ac_fill::proofs::Ordered::all_rest))]
+#[tactic(auto, using(crate::proofs::Delivering::refused))]
 fn write_sum<W: Sink>(
     alloc: Global,
     cloud: &Cloud,
@@ -70,22 +75,11 @@ fn write_sum<W: Sink>(
     out: &mut W,
 ) -> Result<u8, PageFault>
     requires { asks_units (asked_of query.now) ≡ true }
-    ensures few { IfOk result (λ status. status ≤ 1) }
-    ensures ok { IfOk result (IsWritten
-        (fills (providers_of cloud.now) true (asked_of query.now) None)
-        (W.taken out.old) (W.taken out.new)) }
-    ensures part { OnErr result (TakesPart (W.taken out.old) (W.taken out.new)
-        (fills (providers_of cloud.now) true (asked_of query.now) None).output) }
-    ensures failed { result ≡ Err PageFault.WriteFailed
-        → Rises (W.failures out.old) (W.failures out.new) }
-    ensures failures { W.failures out.old ≤ W.failures out.new }
+    ensures { Delivers (fills (providers_of cloud.now) true (asked_of query.now) None) result
+        (W.taken out.old) (W.taken out.new) (W.failures out.old) (W.failures out.new) }
 {
-    let Ok(mut source) = Walk::new(alloc, cloud, query, None) else {
-        return Err(PageFault::NoMemory);
-    };
-    let filled = count_filled(alloc, cloud, query, &mut source)?;
-    let line = sum_line(alloc, filled.count, most_placed(cloud, query))?;
-    push_text(out, line.as_bytes(), fill_status(filled.count))
+    let (line, status) = sum_of(alloc, cloud, query)?;
+    push_text(out, line.as_bytes(), status)
 }
 
 /// Placements one after another: their tokens, or how many there are and how many there can be at most.
@@ -97,15 +91,8 @@ pub(crate) fn write_fill<W: Sink>(
     out: &mut W,
 ) -> Result<u8, PageFault>
     requires { asks_units (asked_of query.now) ≡ true }
-    ensures few { IfOk result (λ status. status ≤ 1) }
-    ensures ok { IfOk result (IsWritten
-        (fills (providers_of cloud.now) sum (asked_of query.now) None)
-        (W.taken out.old) (W.taken out.new)) }
-    ensures part { OnErr result (TakesPart (W.taken out.old) (W.taken out.new)
-        (fills (providers_of cloud.now) sum (asked_of query.now) None).output) }
-    ensures failed { result ≡ Err PageFault.WriteFailed
-        → Rises (W.failures out.old) (W.failures out.new) }
-    ensures failures { W.failures out.old ≤ W.failures out.new }
+    ensures { Delivers (fills (providers_of cloud.now) sum (asked_of query.now) None) result
+        (W.taken out.old) (W.taken out.new) (W.failures out.old) (W.failures out.new) }
 {
     if sum {
         write_sum(alloc, cloud, query, out)

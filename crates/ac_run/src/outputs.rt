@@ -1,13 +1,11 @@
 //! Small outputs: the counts of the tables, and the verdict on a list. But for the line with a detail they take no memory.
-ghost use Rattle.std.specs.Prelude.{◌≡◌, ◌≤◌, ◌∷◌, [], Err, IfOk, OnErr, codes, string_bytes};
-ghost use Rattle.ac_base.specs.Devices.{Rises, TakesPart};
+ghost use Rattle.std.specs.Prelude.{◌≡◌, ◌≤◌, ◌∷◌, [], IfOk, codes, string_bytes};
 ghost use Rattle.ac_cloud.specs.Cloud.CloudWorld.{sizes_of};
 ghost use Rattle.ac_run.specs.Outputs.{broken_line, broken_name, counts, verdict_status, verdict_text};
 ghost use Rattle.ac_answers.specs.Pieces.{newline, said};
 ghost use Rattle.ac_answers.specs.Writing.{Pushes};
-ghost use Rattle.ac_report.specs.declared.fault.PageFault.TheVariants as PageFault;
 ghost use Rattle.ac_run.specs.Answer.{written};
-ghost use Rattle.ac_run.specs.Run.{IsWritten};
+ghost use Rattle.ac_run.specs.Run.{Delivers};
 
 use ac_answers::{Digits, push_pieces};
 use ac_base::{NoMemory, Sink, WriteFailed, push_all};
@@ -105,14 +103,8 @@ pub(crate) fn push_counts<W: Sink>(out: &mut W, counted: &Counts) -> Result<(), 
 /// Pushes a text that is at hand, and gives its status.
 pub(crate) fn push_text<W: Sink>(out: &mut W, text: &[u8], status: u8) -> Result<u8, PageFault>
     requires { status ≤ 1 }
-    ensures few { IfOk result (λ status. status ≤ 1) }
-    ensures ok { IfOk result (IsWritten (written text.now status) (W.taken out.old)
-        (W.taken out.new)) }
-    ensures part { OnErr result (TakesPart (W.taken out.old) (W.taken out.new)
-        (written text.now status).output) }
-    ensures failed { result ≡ Err PageFault.WriteFailed
-        → Rises (W.failures out.old) (W.failures out.new) }
-    ensures failures { W.failures out.old ≤ W.failures out.new }
+    ensures { Delivers (written text.now status) result (W.taken out.old) (W.taken out.new)
+        (W.failures out.old) (W.failures out.new) }
 {
     push_all(out, text)?;
     Ok(status)
