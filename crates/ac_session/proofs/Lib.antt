@@ -4,6 +4,7 @@ pub mod Passing
 pub mod Leading
 pub mod Cuts
 pub mod Refused
+pub mod TextsWritten
 pub mod Turned
 pub mod Stood
 pub mod Ended

@@ -1,6 +1,6 @@
 -- A line that is passed over piece by piece.
-use Rattle.std.proofs.Common.{◌≡◌, ◌∙◌, ℕ, ◌+◌, ◌<◌, ◌≤◌, List, [], ◌++◌, length, Option, Some, None, IfSome, is_some, position, true, false, refl, sym, ap, arith}
-use Rattle.std.specs.Io.KnownBytes.{IsAtEnd, Keeps, prepend_known}
+use Rattle.std.proofs.Common.{◌≡◌, ◌∙◌, ℕ, ◌+◌, ◌<◌, ◌≤◌, List, ◌++◌, length, Option, Some, None, IfSome, is_some, position, true, false, sym, ap, arith}
+use Rattle.std.specs.Io.KnownBytes.{Keeps, prepend_known}
 use Rattle.std.specs.Prelude.{⊤}
 use Rattle.ac_session.specs.Lines.{behind_line, first_line, is_newline, most_passed}
 use Rattle.ac_session.proofs.Firsts.{after_in_front, after_later, after_missed, before_size, place_is_found, place_is_missed, place_later}
@@ -14,10 +14,6 @@ Passes (Some old) (Some new) n = (behind_line new ≡ behind_line old) × (n + l
 -- what is behind the line, where the line is short enough
 abbrev pub IsBehind : Option (List ℕ) → Option (List ℕ) → Type 0
 IsBehind old new = IfSome old (λ bytes. length (first_line bytes) < most_passed → new ≡ Some (behind_line bytes))
-
-pub passes_start : (a : Option (List ℕ)) → Passes a a 0
-passes_start None = tt
-passes_start (Some u) = (refl, omega arith)
 
 -- a newline was in the room: what stands behind it is left
 pub passes_found : (a b : Option (List ℕ)) (room : List ℕ) (n : ℕ) → Passes a (prepend_known room b) n → is_some (position is_newline room) ≡ true
@@ -44,17 +40,3 @@ passes_keeps None b c n h k = tt
 passes_keeps (Some u) None c n h k = absurd h
 passes_keeps (Some u) (Some v) None n h k = absurd k
 passes_keeps (Some u) (Some v) (Some w) n h k = (ap behind_line k ∙ h.0, omega (arith, h.1, ap (λ l. length (first_line l)) k))
-
--- nothing more came
-pub passes_end : (a b : Option (List ℕ)) (room : List ℕ) (n : ℕ) → Passes a (prepend_known room b) n → room ≡ [] → IsAtEnd b → IsBehind a (prepend_known room b)
-passes_end None b room n h none end = tt
-passes_end (Some u) None room n h none end = absurd h
-passes_end (Some u) (Some r) room n h none end =
-    let empty : room ++ r ≡ [] = ap (λ l. l ++ r) none ∙ end in
-    λ short. ap Some (empty ∙ sym (ap behind_line empty) ∙ h.0)
-
--- as many were passed over as no short line has
-pub passes_all : (a b : Option (List ℕ)) (n : ℕ) → Passes a b n → most_passed ≤ n → IsBehind a b
-passes_all None b n h many = tt
-passes_all (Some u) None n h many = absurd h
-passes_all (Some u) (Some v) n h many = λ short. absurd (omega (arith, h.1))

@@ -1,5 +1,5 @@
 -- A session between its questions: how it goes on, and what is known where it ends.
-use Rattle.std.proofs.Common.{◌≡◌, ◌∙◌, ℕ, ◌+◌, ◌<◌, ◌≤◌, Bool, true, false, List, [], ◌∷◌, ◌++◌, map, length, eqb, ltb, Option, Some, None, refl, sym, ap, subst, append-nil, append_assoc, arith, length-drop, if◌then◌else◌, IfSome, ◌≢◌}
+use Rattle.std.proofs.Common.{◌≡◌, ◌∙◌, ℕ, ◌+◌, ◌<◌, Bool, true, false, List, [], ◌∷◌, ◌++◌, map, length, eqb, ltb, Option, Some, None, refl, sym, ap, subst, append-nil, append_assoc, arith, length-drop, if◌then◌else◌, IfSome, ◌≢◌}
 use Rattle.std.specs.List.{position_or_len}
 use Rattle.std.specs.Io.KnownBytes.{Appends, append_known}
 use Rattle.std.proofs.lemmas.Bool.Decides.{nat_tests}
@@ -113,16 +113,6 @@ first_of_second (Some u) (Some v) (Some w) x y h k = (k.0, sym (append_assoc u x
 
 -- ---- from turn to turn
 
-pub stands_first : (version : Version) (world : World) (questions : List ℕ) (a remains : Option (List ℕ)) → remains ≡ Some questions → Stands version world questions a world remains a 0
-stands_first version world questions a remains e = record {
-  rest = questions;
-  left = e;
-  written = [];
-  taken = none_added a [] refl;
-  text = refl;
-  fewer = omega arith;
-}
-
 module _ (version : Version) (first : World) (questions : List ℕ) (a : Option (List ℕ)) (world : World) (remains b : Option (List ℕ)) (turns : ℕ)
     (stood : Stands version first questions a world remains b turns) where
   -- what is left has no more bytes than all
@@ -148,10 +138,6 @@ module _ (version : Version) (first : World) (questions : List ℕ) (a : Option 
       → IsFirstPart (append_known a (session_text version first (lines_in questions))) c
   stands_part c part =
       subst (λ text. IsFirstPart (append_known a text) c) (sym stood.text) (first_of_second a b c stood.written (session_text version world (lines_in stood.rest)) stood.taken part)
-
-  -- no text has so many questions
-  pub too_many : most_passed ≤ turns → length questions < most_passed → ⊥
-  too_many many few = omega (arith, stood.fewer)
 
 -- what a reader gave, where it is neither the end nor a failure
 pub given_there : (n : Next) → (n ≡ next.End → ⊥) → (n ≡ next.Failed → ⊥) → (given : Given) × (given_by n ≡ Some given) × (given ≡ end → ⊥)

@@ -1,8 +1,11 @@
 -- Where a session stands between its questions.
-use Rattle.std.specs.Prelude.{◌≡◌, ℕ, ◌+◌, ◌≤◌, List, ◌++◌, length, Option, Some}
+use Rattle.std.specs.Prelude.{◌≡◌, ℕ, ◌+◌, ◌≤◌, List, ◌++◌, length, Option, Some, Result, Err, OnOk, OnErr}
 use Rattle.std.specs.Io.KnownBytes.{Appends}
+use Rattle.ac_base.specs.Devices.{Rises, TakesPart}
 use Rattle.ac_cloud.specs.World.{World}
 use Rattle.ac_query.specs.declared.version.Version.{Version}
+use Rattle.ac_report.specs.declared.fault.PageFault.{PageFault}
+use Rattle.ac_report.specs.declared.fault.PageFault.TheVariants as fault
 use Rattle.ac_run.specs.Answer.{Outcome, refused}
 use Rattle.ac_run.specs.Lines.{memory_line, output_line}
 use Rattle.ac_run.specs.Refusals.{line_of, status_of}
@@ -22,6 +25,13 @@ pub record Stands (version : Version) (first : World) (questions : List ℕ) (be
   pub taken : Appends before after written
   pub text : session_text version first (lines_in questions) ≡ written ++ session_text version world (lines_in rest)
   pub fewer : length rest + turns ≤ length questions
+
+-- A text is written, by the answer of its writer: whole, or a first part of it. A failed write raised the count of failures.
+pub record WritesText {X : Type 0} (text : List ℕ) (result : Result X PageFault) (old new : Option (List ℕ)) (before after : ℕ) : Type 0 where
+  pub ok : OnOk result (Appends old new text)
+  pub part : OnErr result (TakesPart old new text)
+  pub failed : result ≡ Err fault.WriteFailed → Rises before after
+  pub failures : before ≤ after
 
 -- an outcome is this refusal; of want of memory nothing is said
 abbrev pub IsRefusal : Refusal → Outcome → Type 0

@@ -18,6 +18,7 @@ ghost use Rattle.ac_run.specs.Outputs.{counted, verdict_text};
 ghost use Rattle.ac_run.specs.Run.{IsWritten};
 ghost use Rattle.ac_run.specs.Jobs.{ExplainsAsked, task_of};
 ghost use Rattle.ac_session.specs.Questions.{HasItsToken, asked_in};
+ghost use Rattle.ac_session.specs.Standing.{WritesText};
 ghost use Rattle.ac_session.specs.Lines.{Given};
 ghost use Rattle.ac_session.specs.Reading.{given_by};
 ghost use Rattle.ac_session.specs.Turns.{after_fill, answer_text, assignment_task, claim_said, claim_turn, fill_turn, places_named, release_said, release_turn, turn_asked, turn_of, world_after};
@@ -46,13 +47,9 @@ fn answer_job<W: Sink>(
     out: &mut W,
 ) -> Result<(), PageFault>
     requires { HasToken job.now.command (option_map (λ token. token.now) job.now.token) }
-    ensures ok { OnOk result (Appends (W.taken out.old) (W.taken out.new)
-        (answer_text (answer_in job.now.command (task_of job.now) (world_of cloud.now)))) }
-    ensures part { OnErr result (TakesPart (W.taken out.old) (W.taken out.new)
-        (answer_text (answer_in job.now.command (task_of job.now) (world_of cloud.now)))) }
-    ensures failed { result ≡ Err PageFault.WriteFailed
-        → Rises (W.failures out.old) (W.failures out.new) }
-    ensures failures { W.failures out.old ≤ W.failures out.new }
+    ensures { WritesText
+        (answer_text (answer_in job.now.command (task_of job.now) (world_of cloud.now))) result
+        (W.taken out.old) (W.taken out.new) (W.failures out.old) (W.failures out.new) }
 {
     match read_wanted(alloc, job, cloud) {
         Ok(wanted) => {
@@ -105,15 +102,10 @@ fn read_assignment<'a>(
 }
 
 // The rule that a list breaks, as `verify` tells it.
-#[tactic(auto, using(ac_base::proofs::Leaving::appends_both, ac_base::proofs::Leaving::part_of_first, ac_base::proofs::Leaving::part_of_second))]
+#[tactic(auto, using(crate::proofs::TextsWritten::text_begun, crate::proofs::TextsWritten::text_on))]
 fn write_verdict<W: Sink>(verdict: Verdict, out: &mut W) -> Result<(), PageFault>
-    ensures ok { OnOk result (Appends (W.taken out.old) (W.taken out.new)
-        (answer_text (written (verdict_text verdict) 1))) }
-    ensures part { OnErr result (TakesPart (W.taken out.old) (W.taken out.new)
-        (answer_text (written (verdict_text verdict) 1))) }
-    ensures failed { result ≡ Err PageFault.WriteFailed
-        → Rises (W.failures out.old) (W.failures out.new) }
-    ensures failures { W.failures out.old ≤ W.failures out.new }
+    ensures { WritesText (answer_text (written (verdict_text verdict) 1)) result
+        (W.taken out.old) (W.taken out.new) (W.failures out.old) (W.failures out.new) }
 {
     push_verdict(out, verdict)?;
     end_answer(out, 1)
@@ -121,13 +113,8 @@ fn write_verdict<W: Sink>(verdict: Verdict, out: &mut W) -> Result<(), PageFault
 
 // What a claim says by the verdict.
 fn write_claimed<W: Sink>(verdict: Verdict, out: &mut W) -> Result<(), PageFault>
-    ensures ok { OnOk result (Appends (W.taken out.old) (W.taken out.new)
-        (answer_text (claim_said verdict))) }
-    ensures part { OnErr result (TakesPart (W.taken out.old) (W.taken out.new)
-        (answer_text (claim_said verdict))) }
-    ensures failed { result ≡ Err PageFault.WriteFailed
-        → Rises (W.failures out.old) (W.failures out.new) }
-    ensures failures { W.failures out.old ≤ W.failures out.new }
+    ensures { WritesText (answer_text (claim_said verdict)) result
+        (W.taken out.old) (W.taken out.new) (W.failures out.old) (W.failures out.new) }
 {
     match verdict {
         Verdict::Candidate => write_said(out, b"claimed\n", 0),
@@ -137,13 +124,8 @@ fn write_claimed<W: Sink>(verdict: Verdict, out: &mut W) -> Result<(), PageFault
 
 // What a release says by whether all is in use.
 fn write_released<W: Sink>(in_use: bool, out: &mut W) -> Result<(), PageFault>
-    ensures ok { OnOk result (Appends (W.taken out.old) (W.taken out.new)
-        (answer_text (release_said in_use))) }
-    ensures part { OnErr result (TakesPart (W.taken out.old) (W.taken out.new)
-        (answer_text (release_said in_use))) }
-    ensures failed { result ≡ Err PageFault.WriteFailed
-        → Rises (W.failures out.old) (W.failures out.new) }
-    ensures failures { W.failures out.old ≤ W.failures out.new }
+    ensures { WritesText (answer_text (release_said in_use)) result
+        (W.taken out.old) (W.taken out.new) (W.failures out.old) (W.failures out.new) }
 {
     if in_use {
         write_said(out, b"released\n", 0)
@@ -161,15 +143,11 @@ fn answer_claim<W: Sink>(
     token: &str,
     out: &mut W,
 ) -> Result<(), PageFault>
-    ensures ok { OnOk result (Appends (W.taken out.old) (W.taken out.new)
-        (claim_turn version query.now token.now (world_of cloud.old)).text) }
+    ensures text { WritesText
+        (claim_turn version query.now token.now (world_of cloud.old)).text result
+        (W.taken out.old) (W.taken out.new) (W.failures out.old) (W.failures out.new) }
     ensures world { OnOk result (world_of cloud.new
         ≡ (claim_turn version query.now token.now (world_of cloud.old)).world) }
-    ensures part { OnErr result (TakesPart (W.taken out.old) (W.taken out.new)
-        (claim_turn version query.now token.now (world_of cloud.old)).text) }
-    ensures failed { result ≡ Err PageFault.WriteFailed
-        → Rises (W.failures out.old) (W.failures out.new) }
-    ensures failures { W.failures out.old ≤ W.failures out.new }
 {
     let (query, list) = match read_assignment(alloc, cloud, version, query, token) {
         Ok(read) => read,
@@ -193,15 +171,11 @@ fn answer_release<W: Sink>(
     token: &str,
     out: &mut W,
 ) -> Result<(), PageFault>
-    ensures ok { OnOk result (Appends (W.taken out.old) (W.taken out.new)
-        (release_turn version query.now token.now (world_of cloud.old)).text) }
+    ensures text { WritesText
+        (release_turn version query.now token.now (world_of cloud.old)).text result
+        (W.taken out.old) (W.taken out.new) (W.failures out.old) (W.failures out.new) }
     ensures world { OnOk result (world_of cloud.new
         ≡ (release_turn version query.now token.now (world_of cloud.old)).world) }
-    ensures part { OnErr result (TakesPart (W.taken out.old) (W.taken out.new)
-        (release_turn version query.now token.now (world_of cloud.old)).text) }
-    ensures failed { result ≡ Err PageFault.WriteFailed
-        → Rises (W.failures out.old) (W.failures out.new) }
-    ensures failures { W.failures out.old ≤ W.failures out.new }
 {
     let (query, list) = match read_assignment(alloc, cloud, version, query, token) {
         Ok(read) => read,
@@ -277,15 +251,10 @@ fn answer_fill<W: Sink>(
     query: &str,
     out: &mut W,
 ) -> Result<(), PageFault>
-    ensures ok { OnOk result (Appends (W.taken out.old) (W.taken out.new)
-        (fill_turn version query.now (world_of cloud.old)).text) }
+    ensures text { WritesText (fill_turn version query.now (world_of cloud.old)).text result
+        (W.taken out.old) (W.taken out.new) (W.failures out.old) (W.failures out.new) }
     ensures world { OnOk result (world_of cloud.new
         ≡ (fill_turn version query.now (world_of cloud.old)).world) }
-    ensures part { OnErr result (TakesPart (W.taken out.old) (W.taken out.new)
-        (fill_turn version query.now (world_of cloud.old)).text) }
-    ensures failed { result ≡ Err PageFault.WriteFailed
-        → Rises (W.failures out.old) (W.failures out.new) }
-    ensures failures { W.failures out.old ≤ W.failures out.new }
 {
     let job = Job {
         command: Command::Fill,
@@ -308,13 +277,8 @@ fn answer_fill<W: Sink>(
 
 // The table of usages.
 fn answer_usages<W: Sink>(alloc: Global, cloud: &Cloud, out: &mut W) -> Result<(), PageFault>
-    ensures ok { OnOk result (Appends (W.taken out.old) (W.taken out.new)
-        (answer_text (usage_rows (providers_of cloud.now)))) }
-    ensures part { OnErr result (TakesPart (W.taken out.old) (W.taken out.new)
-        (answer_text (usage_rows (providers_of cloud.now)))) }
-    ensures failed { result ≡ Err PageFault.WriteFailed
-        → Rises (W.failures out.old) (W.failures out.new) }
-    ensures failures { W.failures out.old ≤ W.failures out.new }
+    ensures { WritesText (answer_text (usage_rows (providers_of cloud.now))) result
+        (W.taken out.old) (W.taken out.new) (W.failures out.old) (W.failures out.new) }
 {
     let status = write_usages(alloc, cloud, out)?;
     end_answer(out, status)
@@ -329,15 +293,11 @@ fn answer_question<W: Sink>(
     out: &mut W,
 ) -> Result<(), PageFault>
     requires { HasItsToken question }
-    ensures ok { OnOk result (Appends (W.taken out.old) (W.taken out.new)
-        (turn_asked version (world_of cloud.old) (asked_in question.entry)).text) }
+    ensures text { WritesText
+        (turn_asked version (world_of cloud.old) (asked_in question.entry)).text result
+        (W.taken out.old) (W.taken out.new) (W.failures out.old) (W.failures out.new) }
     ensures world { OnOk result (world_of cloud.new
         ≡ (turn_asked version (world_of cloud.old) (asked_in question.entry)).world) }
-    ensures part { OnErr result (TakesPart (W.taken out.old) (W.taken out.new)
-        (turn_asked version (world_of cloud.old) (asked_in question.entry)).text) }
-    ensures failed { result ≡ Err PageFault.WriteFailed
-        → Rises (W.failures out.old) (W.failures out.new) }
-    ensures failures { W.failures out.old ≤ W.failures out.new }
 {
     match question {
         Question::Job(job) => answer_job(alloc, cloud, &job, out),

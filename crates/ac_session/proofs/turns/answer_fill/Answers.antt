@@ -1,27 +1,21 @@
-use Rattle.std.proofs.Common.{◌∙◌, ℕ, ap, ap₂, false, sym}
+use Rattle.std.proofs.Common.{◌∙◌, ℕ, Err, ap, ap₂, false, sym}
 use Rattle.ac_cloud.specs.Cloud.CloudWorld.{providers_of, world_of}
 use Rattle.ac_query.specs.Asked.{Asked}
 use Rattle.ac_run.specs.Answer.{Outcome, fills, past_query}
-use Rattle.ac_session.proofs.Refused.{begun_part, ended_part, ended_whole, err_any, err_then, ok_any, ok_then}
+use Rattle.ac_session.proofs.Refused.{ok_any, ok_then}
+use Rattle.ac_session.proofs.TextsWritten.{answer_begun, answer_ended}
 use Rattle.ac_session.proofs.Turned.{asked_refused, refused_world}
 use Rattle.ac_session.specs.Turns.{after_fill, fill_task, fill_turn, world_after}
 use Rattle.ac_session.proofs.turns.answer_fill.Goals as goal
 
 -- ---- the query is refused
 
-pub returns-in-Err-clause-ok : goal.returns-in-Err-clause-ok
+pub returns-in-Err-clause-text : goal.returns-in-Err-clause-text
 unfolding fill_turn
-returns-in-Err-clause-ok g c =
+returns-in-Err-clause-text g c =
     let task = fill_task c.args.version c.args.query.now in
     let say = fills (providers_of c.args.cloud.now) false in
-    c.write_refusal.ensures.ok (past_query say task) (asked_refused task c.in-Err.refusal c.in-Err.ensures.fault say)
-
-pub returns-in-Err-clause-part : goal.returns-in-Err-clause-part
-unfolding fill_turn
-returns-in-Err-clause-part g c =
-    let task = fill_task c.args.version c.args.query.now in
-    let say = fills (providers_of c.args.cloud.now) false in
-    c.write_refusal.ensures.part (past_query say task) (asked_refused task c.in-Err.refusal c.in-Err.ensures.fault say)
+    c.write_refusal.ensures.text (past_query say task) (asked_refused task c.in-Err.refusal c.in-Err.ensures.fault say)
 
 pub returns-in-Err-clause-world : goal.returns-in-Err-clause-world
 unfolding fill_turn
@@ -34,23 +28,17 @@ returns-in-Err-clause-world g c =
 
 -- ---- it is placed
 
-pub returns-in_err-status-in-Ok-clause-part : goal.returns-in_err-status-in-Ok-clause-part
+pub returns-in_err-status-in-Ok-clause-text : goal.returns-in_err-status-in-Ok-clause-text
 unfolding fill_turn
-returns-in_err-status-in-Ok-clause-part g c =
+returns-in_err-status-in-Ok-clause-text g c =
     let said = c.in-Ok.ensures.said (fills (providers_of c.args.cloud.now) false) in
-    err_any c.from_residual.result _ (begun_part _ _ said _ _ c.in_err-status-in-Ok.ensures.part)
+    answer_begun c.from_residual.result _ _ said _ _ _ _ _ c.from_residual.ensures.1 c.in_err-status-in-Ok.ensures.part (λ is. c.in_err-status-in-Ok.ensures.failed (ap Err is)) c.place_all.ensures.failures
 
-pub returns-in_ok-status-in-Ok-clause-ok : goal.returns-in_ok-status-in-Ok-clause-ok
+pub returns-in_ok-status-in-Ok-clause-text : goal.returns-in_ok-status-in-Ok-clause-text
 unfolding fill_turn
-returns-in_ok-status-in-Ok-clause-ok g c =
+returns-in_ok-status-in-Ok-clause-text g c =
     let said = c.in-Ok.ensures.said (fills (providers_of c.args.cloud.now) false) in
-    ok_then c.end_answer.result _ _ (ended_whole _ _ said _ _ c.in_ok-status-in-Ok.status _ c.in_ok-status-in-Ok.ensures.ok) c.end_answer.ensures.ok
-
-pub returns-in_ok-status-in-Ok-clause-part : goal.returns-in_ok-status-in-Ok-clause-part
-unfolding fill_turn
-returns-in_ok-status-in-Ok-clause-part g c =
-    let said = c.in-Ok.ensures.said (fills (providers_of c.args.cloud.now) false) in
-    err_then c.end_answer.result _ _ (ended_part _ _ said _ _ c.in_ok-status-in-Ok.status _ c.in_ok-status-in-Ok.ensures.ok) c.end_answer.ensures.part
+    answer_ended c.end_answer.result _ _ said _ _ _ _ c.in_ok-status-in-Ok.status _ _ c.in_ok-status-in-Ok.ensures.ok c.place_all.ensures.failures c.end_answer.ensures
 
 pub returns-in_ok-status-in-Ok-clause-world : goal.returns-in_ok-status-in-Ok-clause-world
 unfolding fill_turn

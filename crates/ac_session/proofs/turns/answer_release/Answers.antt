@@ -1,32 +1,23 @@
 use Rattle.std.proofs.Common.{◌∙◌, ap, sym, subst, Some}
 use Rattle.std.specs.Option.{option_map}
-use Rattle.std.specs.Prelude.{OnErr, OnOk}
-use Rattle.std.specs.Io.KnownBytes.{Appends}
-use Rattle.ac_base.specs.Devices.{TakesPart}
 use Rattle.ac_cloud.specs.Cloud.CloudWorld.{providers_of, world_of}
 use Rattle.ac_query.specs.Shown.Queries.{asked_of}
 use Rattle.ac_rules.specs.Claims.{released}
 use Rattle.ac_run.specs.Answer.{Outcome, past_query}
 use Rattle.ac_session.proofs.Refused.{ok_any, ok_then}
 use Rattle.ac_session.proofs.Turned.{asked_refused, release_outcome, release_unknown, released_world, placed_read, refused_world, unknown_world}
+use Rattle.ac_session.specs.Standing.{WritesText}
 use Rattle.ac_session.specs.Turns.{answer_text, assignment_task, release_line, release_turn, placed_by}
 use Rattle.ac_session.proofs.turns.answer_release.Goals as goal
 
 -- ---- the query or the token is refused
 
-pub returns-in-Err-clause-ok : goal.returns-in-Err-clause-ok
+pub returns-in-Err-clause-text : goal.returns-in-Err-clause-text
 unfolding release_turn
-returns-in-Err-clause-ok g c =
+returns-in-Err-clause-text g c =
     let task = assignment_task c.args.version c.args.query.now c.args.token.now in
     let say = release_line (providers_of c.args.cloud.now) in
-    c.write_refusal.ensures.ok (past_query say task) (asked_refused task c.in-Err.refusal c.in-Err.ensures.fault say)
-
-pub returns-in-Err-clause-part : goal.returns-in-Err-clause-part
-unfolding release_turn
-returns-in-Err-clause-part g c =
-    let task = assignment_task c.args.version c.args.query.now c.args.token.now in
-    let say = release_line (providers_of c.args.cloud.now) in
-    c.write_refusal.ensures.part (past_query say task) (asked_refused task c.in-Err.refusal c.in-Err.ensures.fault say)
+    c.write_refusal.ensures.text (past_query say task) (asked_refused task c.in-Err.refusal c.in-Err.ensures.fault say)
 
 pub returns-in-Err-clause-world : goal.returns-in-Err-clause-world
 unfolding release_turn
@@ -39,19 +30,12 @@ returns-in-Err-clause-world g c =
 
 -- ---- a provider isn't there
 
-pub returns-clause-ok : goal.returns-clause-ok
+pub returns-clause-text : goal.returns-clause-text
 unfolding release_turn
-returns-clause-ok g c =
+returns-clause-text g c =
     let all = providers_of c.args.cloud.now in
     let e = release_unknown all (asked_of c.in-Ok.read.0) c.args.token.now _ (c.in-Ok.ensures.said (release_line all)) (ap (option_map (λ list. list.items)) (sym c.in-None.is) ∙ c.in-Ok.ensures.list) in
-    subst (λ (o : Outcome). OnOk c.write_said.result (Appends (g.W.Sink.taken c.args.out.now) (g.W.Sink.taken c.write_said.new.out) (answer_text o))) (sym e) c.write_said.ensures.ok
-
-pub returns-clause-part : goal.returns-clause-part
-unfolding release_turn
-returns-clause-part g c =
-    let all = providers_of c.args.cloud.now in
-    let e = release_unknown all (asked_of c.in-Ok.read.0) c.args.token.now _ (c.in-Ok.ensures.said (release_line all)) (ap (option_map (λ list. list.items)) (sym c.in-None.is) ∙ c.in-Ok.ensures.list) in
-    subst (λ (o : Outcome). OnErr c.write_said.result (TakesPart (g.W.Sink.taken c.args.out.now) (g.W.Sink.taken c.write_said.new.out) (answer_text o))) (sym e) c.write_said.ensures.part
+    subst (λ (o : Outcome). WritesText (answer_text o) c.write_said.result (g.W.Sink.taken c.args.out.now) (g.W.Sink.taken c.write_said.new.out) (g.W.Sink.failures c.args.out.now) (g.W.Sink.failures c.write_said.new.out)) (sym e) c.write_said.ensures
 
 pub returns-clause-world : goal.returns-clause-world
 unfolding release_turn
@@ -62,21 +46,13 @@ returns-clause-world g c =
 
 -- ---- the list is judged
 
-pub returns-in-Some-clause-ok : goal.returns-in-Some-clause-ok
+pub returns-in-Some-clause-text : goal.returns-in-Some-clause-text
 unfolding release_turn
-returns-in-Some-clause-ok g c =
+returns-in-Some-clause-text g c =
     let all = providers_of c.args.cloud.now in
     let named = ap Some c.deref.ensures.value ∙ ap (option_map (λ list. list.items)) (sym c.in-Some.is) ∙ c.in-Ok.ensures.list in
     let e = release_outcome all (asked_of c.in-Ok.read.0) c.args.token.now _ _ c.release-in_use.result (c.in-Ok.ensures.said (release_line all)) named c.release-in_use.ensures.in_use in
-    subst (λ (o : Outcome). OnOk c.write_released.result (Appends (g.W.Sink.taken c.args.out.now) (g.W.Sink.taken c.write_released.new.out) (answer_text o))) (sym e) c.write_released.ensures.ok
-
-pub returns-in-Some-clause-part : goal.returns-in-Some-clause-part
-unfolding release_turn
-returns-in-Some-clause-part g c =
-    let all = providers_of c.args.cloud.now in
-    let named = ap Some c.deref.ensures.value ∙ ap (option_map (λ list. list.items)) (sym c.in-Some.is) ∙ c.in-Ok.ensures.list in
-    let e = release_outcome all (asked_of c.in-Ok.read.0) c.args.token.now _ _ c.release-in_use.result (c.in-Ok.ensures.said (release_line all)) named c.release-in_use.ensures.in_use in
-    subst (λ (o : Outcome). OnErr c.write_released.result (TakesPart (g.W.Sink.taken c.args.out.now) (g.W.Sink.taken c.write_released.new.out) (answer_text o))) (sym e) c.write_released.ensures.part
+    subst (λ (o : Outcome). WritesText (answer_text o) c.write_released.result (g.W.Sink.taken c.args.out.now) (g.W.Sink.taken c.write_released.new.out) (g.W.Sink.failures c.args.out.now) (g.W.Sink.failures c.write_released.new.out)) (sym e) c.write_released.ensures
 
 pub returns-in-Some-clause-world : goal.returns-in-Some-clause-world
 unfolding release_turn
