@@ -3,8 +3,7 @@ pub mod Firsts
 pub mod Passing
 pub mod Leading
 pub mod Cuts
-pub mod Refused
-pub mod TextsWritten
+pub mod Written
 pub mod Turned
 pub mod Stood
 pub mod Ended

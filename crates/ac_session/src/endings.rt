@@ -24,7 +24,7 @@ pub(crate) fn end_answer<W: Sink>(out: &mut W, status: u8) -> Result<(), PageFau
 }
 
 /// A text that is at hand, with its status and the line that ends it.
-#[tactic(auto, using(crate::proofs::TextsWritten::text_begun, crate::proofs::TextsWritten::text_on))]
+#[tactic(auto, using(crate::proofs::Written::text_begun, crate::proofs::Written::text_on))]
 pub(crate) fn write_said<W: Sink>(out: &mut W, text: &[u8], status: u8) -> Result<(), PageFault>
     ensures { WritesText (answer_text (written text.now status)) result
         (W.taken out.old) (W.taken out.new) (W.failures out.old) (W.failures out.new) }

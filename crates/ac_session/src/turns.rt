@@ -102,7 +102,7 @@ fn read_assignment<'a>(
 }
 
 // The rule that a list breaks, as `verify` tells it.
-#[tactic(auto, using(crate::proofs::TextsWritten::text_begun, crate::proofs::TextsWritten::text_on))]
+#[tactic(auto, using(crate::proofs::Written::text_begun, crate::proofs::Written::text_on))]
 fn write_verdict<W: Sink>(verdict: Verdict, out: &mut W) -> Result<(), PageFault>
     ensures { WritesText (answer_text (written (verdict_text verdict) 1)) result
         (W.taken out.old) (W.taken out.new) (W.failures out.old) (W.failures out.new) }

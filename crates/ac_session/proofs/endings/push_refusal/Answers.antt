@@ -3,8 +3,7 @@ use Rattle.std.specs.Io.KnownBytes.{Appends}
 use Rattle.ac_base.proofs.Leaving.{appends_both}
 use Rattle.ac_run.specs.Refusals.{line_of}
 use Rattle.ac_session.specs.Standing.{WritesText}
-use Rattle.ac_session.proofs.Refused.{refused_by}
-use Rattle.ac_session.proofs.TextsWritten.{text_begun, text_on}
+use Rattle.ac_session.proofs.Written.{refused_by, text_begun, text_on}
 use Rattle.ac_session.proofs.endings.push_refusal.Goals as goal
 
 pub returns-in_err-push_mark : goal.returns-in_err-push_mark

@@ -3,7 +3,7 @@ use Rattle.ac_base.proofs.Leaving.{part_none}
 use Rattle.ac_run.specs.Answer.{Outcome}
 use Rattle.ac_session.specs.Standing.{WritesText}
 use Rattle.ac_session.specs.Turns.{answer_text}
-use Rattle.ac_session.proofs.Refused.{ok_any}
+use Rattle.ac_session.proofs.Written.{ok_any}
 use Rattle.ac_session.proofs.endings.write_refusal.Goals as goal
 
 pub returns-in-NoMemory : goal.returns-in-NoMemory

@@ -2,8 +2,8 @@ use Rattle.std.proofs.Common.{◌∙◌, ℕ, Err, ap, ap₂, false, sym}
 use Rattle.ac_cloud.specs.Cloud.CloudWorld.{providers_of, world_of}
 use Rattle.ac_query.specs.Asked.{Asked}
 use Rattle.ac_run.specs.Answer.{Outcome, fills, past_query}
-use Rattle.ac_session.proofs.Refused.{ok_any, ok_then}
-use Rattle.ac_session.proofs.TextsWritten.{answer_begun, answer_ended}
+use Rattle.std.proofs.lemmas.Result.{on_ok_weaker}
+use Rattle.ac_session.proofs.Written.{answer_begun, answer_ended, ok_any}
 use Rattle.ac_session.proofs.Turned.{asked_refused, refused_world}
 use Rattle.ac_session.specs.Turns.{after_fill, fill_task, fill_turn, world_after}
 use Rattle.ac_session.proofs.turns.answer_fill.Goals as goal
@@ -22,7 +22,7 @@ unfolding fill_turn
 returns-in-Err-clause-world g c =
     let task = fill_task c.args.version c.args.query.now in
     let say = fills (providers_of c.args.cloud.now) false in
-    ok_then c.write_refusal.result _ _
+    on_ok_weaker c.write_refusal.result
     (refused_world (world_of c.args.cloud.now) _ c.in-Err.refusal (past_query say task) (asked_refused task c.in-Err.refusal c.in-Err.ensures.fault say))
     c.write_refusal.ensures.told
 

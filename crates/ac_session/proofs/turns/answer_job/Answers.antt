@@ -2,7 +2,7 @@ use Rattle.std.proofs.Common.{Err, ap}
 use Rattle.ac_cloud.specs.Cloud.CloudWorld.{world_of}
 use Rattle.ac_run.specs.Answer.{answer_in}
 use Rattle.ac_run.specs.Jobs.{task_of}
-use Rattle.ac_session.proofs.TextsWritten.{answer_begun, answer_ended}
+use Rattle.ac_session.proofs.Written.{answer_begun, answer_ended}
 use Rattle.ac_session.proofs.Turned.{wanted_refused}
 use Rattle.ac_session.proofs.turns.answer_job.Goals as goal
 

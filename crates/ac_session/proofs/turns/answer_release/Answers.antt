@@ -4,7 +4,8 @@ use Rattle.ac_cloud.specs.Cloud.CloudWorld.{providers_of, world_of}
 use Rattle.ac_query.specs.Shown.Queries.{asked_of}
 use Rattle.ac_rules.specs.Claims.{released}
 use Rattle.ac_run.specs.Answer.{Outcome, past_query}
-use Rattle.ac_session.proofs.Refused.{ok_any, ok_then}
+use Rattle.std.proofs.lemmas.Result.{on_ok_weaker}
+use Rattle.ac_session.proofs.Written.{ok_any}
 use Rattle.ac_session.proofs.Turned.{asked_refused, release_outcome, release_unknown, released_world, placed_read, refused_world, unknown_world}
 use Rattle.ac_session.specs.Standing.{WritesText}
 use Rattle.ac_session.specs.Turns.{answer_text, assignment_task, release_line, release_turn, placed_by}
@@ -24,7 +25,7 @@ unfolding release_turn
 returns-in-Err-clause-world g c =
     let task = assignment_task c.args.version c.args.query.now c.args.token.now in
     let say = release_line (providers_of c.args.cloud.now) in
-    ok_then c.write_refusal.result _ _
+    on_ok_weaker c.write_refusal.result
     (refused_world (world_of c.args.cloud.now) _ c.in-Err.refusal (past_query say task) (asked_refused task c.in-Err.refusal c.in-Err.ensures.fault say))
     c.write_refusal.ensures.told
 

@@ -1,5 +1,5 @@
 use Rattle.std.proofs.Common.{Err, ap, refl}
-use Rattle.ac_session.proofs.TextsWritten.{answer_begun, answer_ended}
+use Rattle.ac_session.proofs.Written.{answer_begun, answer_ended}
 use Rattle.ac_session.proofs.turns.answer_usages.Goals as goal
 
 pub returns-in_err-status : goal.returns-in_err-status
