@@ -1,16 +1,13 @@
--- Small facts of numbers, of truth values, of options and of texts.
-use Rattle.std.proofs.Common.{◌≡◌, ◌≢◌, ◌&&◌, List, sym, option_map, ◌+◌, ◌<◌, ◌≤◌, ℕ, Bool, true, false, Option, Some, None, refl, arith, rules, inl, inr, ◌⊎◌, ◌==◌, ◌||◌, min, not, is_some, subst}
+-- Small facts of numbers, of truth values, of options, of results and of texts.
+use Rattle.std.proofs.Common.{◌≡◌, ◌≢◌, ◌&&◌, List, sym, option_map, ◌+◌, ◌<◌, ◌≤◌, ℕ, Bool, true, false, Option, Some, None, Result, Ok, Err, refl, arith, rules, inl, inr, ◌⊎◌, ◌==◌, ◌||◌, min, not, is_some, subst}
 use Rattle.std.proofs.lemmas.Bool.{cases_lt}
 use Rattle.std.specs.Cmp.{both_ways}
+use Rattle.std.specs.Result.{IfErr, IsErrAnd}
 use Rattle.std.specs.Str.{bytes_eq}
 use Rattle.std.proofs.lemmas.Slice.Eq.{bytes_eq-Decides}
 
 pub clash : (b : Bool) → b ≡ false → b ≡ true → ⊥
 clash b e f = cc
-
-pub not_true : (b : Bool) → not b ≡ true → b ≡ false
-not_true true e = absurd (cc)
-not_true false e = refl
 
 pub not_false : (b : Bool) → not b ≡ false → b ≡ true
 not_false true e = refl
@@ -75,3 +72,8 @@ both false b h = absurd (cc)
 pub none_unless : {X Y : Type 0} (f : X → Y) (o : Option X) → ((x : X) × (o ≡ Some x) → ⊥) → None ≡ option_map f o
 none_unless f None never = refl
 none_unless f (Some x) never = absurd (never (x, refl))
+
+-- what a `?` hands on, where both errors are of one type
+pub handed_on : {T E : Type 0} (r : Result T E) (e : E) (P : E → Type 0) → IsErrAnd r (λ y. y ≡ e) → P e → IfErr r P
+handed_on (Ok x) e P h p = tt
+handed_on (Err y) e P h p = subst P (sym h) p

@@ -50,10 +50,7 @@ fn make_ready<R: Feed>(
         (detailed_answer paths.now (task_of job.now)) inputs.old inputs.new
         refused.refusal refused.detail.items) }
 {
-    let cloud = match read_inputs_detailed(alloc, paths, inputs) {
-        Ok(cloud) => cloud,
-        Err(refused) => return Err(refused),
-    };
+    let cloud = read_inputs_detailed(alloc, paths, inputs)?;
     match read_wanted(alloc, job, &cloud) {
         Ok(wanted) => Ok(Ready { cloud, wanted }),
         Err(refusal) => {

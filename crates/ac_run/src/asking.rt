@@ -173,10 +173,8 @@ pub fn read_wanted(alloc: Global, job: &Job, cloud: &Cloud) -> Result<Wanted, Re
         }
         Command::Why => {
             let (query, _token) = read_asked(alloc, job)?;
-            match find_host(cloud, job.host) {
-                Ok(host) => Ok(Wanted::Why(query, host)),
-                Err(refusal) => Err(refusal),
-            }
+            let host = find_host(cloud, job.host)?;
+            Ok(Wanted::Why(query, host))
         }
     }
 }

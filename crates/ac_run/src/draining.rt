@@ -46,10 +46,7 @@ fn drain_some<R: Feed>(
 {
     match feed {
         None => Ok(None),
-        Some(feed) => match drain_table(alloc, table, feed) {
-            Ok(bytes) => Ok(Some(bytes)),
-            Err(refusal) => Err(refusal),
-        },
+        Some(feed) => Ok(Some(drain_table(alloc, table, feed)?)),
     }
 }
 
@@ -60,30 +57,11 @@ pub fn read_tables<R: Feed>(alloc: Global, inputs: &mut Inputs<R>) -> Result<Tex
     ensures few { IfOk result (λ texts. too_large (texts_shown texts) ≡ None) }
     ensures fault { IfErr result (ExplainsReading R.remaining R.failures inputs.old inputs.new) }
 {
-    let providers = match drain_table(alloc, Table::Providers, &mut inputs.providers) {
-        Ok(bytes) => bytes,
-        Err(refusal) => return Err(refusal),
-    };
-    let inventories = match drain_table(alloc, Table::Inventories, &mut inputs.inventories) {
-        Ok(bytes) => bytes,
-        Err(refusal) => return Err(refusal),
-    };
-    let usages = match drain_some(alloc, Table::Usages, &mut inputs.usages) {
-        Ok(bytes) => bytes,
-        Err(refusal) => return Err(refusal),
-    };
-    let traits = match drain_some(alloc, Table::Traits, &mut inputs.traits) {
-        Ok(bytes) => bytes,
-        Err(refusal) => return Err(refusal),
-    };
-    match drain_some(alloc, Table::Aggregates, &mut inputs.aggregates) {
-        Ok(aggregates) => Ok(Texts {
-            providers,
-            inventories,
-            usages,
-            traits,
-            aggregates,
-        }),
-        Err(refusal) => Err(refusal),
-    }
+    Ok(Texts {
+        providers: drain_table(alloc, Table::Providers, &mut inputs.providers)?,
+        inventories: drain_table(alloc, Table::Inventories, &mut inputs.inventories)?,
+        usages: drain_some(alloc, Table::Usages, &mut inputs.usages)?,
+        traits: drain_some(alloc, Table::Traits, &mut inputs.traits)?,
+        aggregates: drain_some(alloc, Table::Aggregates, &mut inputs.aggregates)?,
+    })
 }

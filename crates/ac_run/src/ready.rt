@@ -74,10 +74,7 @@ pub fn read_inputs<R: Feed>(alloc: Global, inputs: &mut Inputs<R>) -> Result<Clo
         → IsStated b (world_of cloud)) }
     ensures fault { IfErr result (ExplainsInputs R.remaining R.failures inputs.old inputs.new) }
 {
-    let texts = match read_tables(alloc, inputs) {
-        Ok(texts) => texts,
-        Err(refusal) => return Err(refusal),
-    };
+    let texts = read_tables(alloc, inputs)?;
     read_cloud(alloc, &texts)
 }
 
@@ -96,12 +93,7 @@ pub fn make_ready<R: Feed>(
     ensures fault { IfErr result (ExplainsUnready R.remaining R.failures
         (task_of job.now) inputs.old inputs.new) }
 {
-    let cloud = match read_inputs(alloc, inputs) {
-        Ok(cloud) => cloud,
-        Err(refusal) => return Err(refusal),
-    };
-    match read_wanted(alloc, job, &cloud) {
-        Ok(wanted) => Ok(Ready { cloud, wanted }),
-        Err(refusal) => Err(refusal),
-    }
+    let cloud = read_inputs(alloc, inputs)?;
+    let wanted = read_wanted(alloc, job, &cloud)?;
+    Ok(Ready { cloud, wanted })
 }

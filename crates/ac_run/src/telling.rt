@@ -103,10 +103,7 @@ fn push_whole<E: Sink>(err: &mut E, text: &[u8]) -> Result<(), WriteFailed>
         (E.failures err.new) text.now }
     ensures failures { E.failures err.old ≤ E.failures err.new }
 {
-    match push_all(err, text) {
-        Ok(()) => Ok(()),
-        Err(fault) => Err(fault),
-    }
+    push_all(err, text)
 }
 
 /// Pushes the line of a refusal.

@@ -87,7 +87,7 @@ impl<K: Ord + Drop, X: Drop> ProviderRows<K, X> {
     ghost use Rattle.ac_tables.specs.Reader.OwnRows.{own_rows};
     ghost use Rattle.ac_tables.specs.Reader.TableRows.{IsInOrder};
 
-    // Of rows in order.
+    // The rows of each provider, by rows that are in order.
     pub(crate) fn new(
         alloc: Global,
         count: usize,

@@ -61,27 +61,18 @@ pub(crate) fn read_providers(alloc: Global, text: &[u8]) -> Result<Providers, Ta
     ensures ok { IfOk result (λ _. providers_fault (records_of text.now) ≡ None) }
     ensures fault { IfErr result (λ e. Tells (providers_fault (records_of text.now)) e) }
 {
-    let rows = match read_rows(alloc, text) {
-        Ok(rows) => rows,
-        Err(fault) => return Err(fault),
-    };
+    let rows = read_rows(alloc, text)?;
     let ids = find_ids(alloc, &rows)?;
     // Called for what it ensures: there are no more providers than places fit a u32.
     let _count = ids.len();
     let parents = find_parents(alloc, &ids, &rows)?;
     let unknown = mark_unknown(alloc, &rows, &parents)?;
-    if let Err(fault) = check_marks(&rows, &unknown, TableKind::UnknownParent) {
-        return Err(fault);
-    }
+    check_marks(&rows, &unknown, TableKind::UnknownParent)?;
     let roots = find_tops(alloc, &parents)?;
     let endless = mark_endless(alloc, &parents, &roots)?;
-    if let Err(fault) = check_marks(&rows, &endless, TableKind::ParentCycle) {
-        return Err(fault);
-    }
+    check_marks(&rows, &endless, TableKind::ParentCycle)?;
     let other = mark_other_roots(alloc, &ids, &rows, &roots)?;
-    if let Err(fault) = check_marks(&rows, &other, TableKind::WrongRoot) {
-        return Err(fault);
-    }
+    check_marks(&rows, &other, TableKind::WrongRoot)?;
     let names = find_names(alloc, &rows)?;
     Ok(Providers {
         ids,

@@ -159,9 +159,6 @@ pub(crate) fn read_usages(
         inventories.now.rows.rows.items) → Tells
         (usages_fault inventories.now.ids.ids.items records (records_of text.now)) e) }
 {
-    let rows = match read_table::<UsageTable>(alloc, inventories, text) {
-        Ok(rows) => rows,
-        Err(fault) => return Err(fault),
-    };
+    let rows = read_table::<UsageTable>(alloc, inventories, text)?;
     Ok(ProviderRows::new(alloc, inventories.ids.len(), rows)?)
 }

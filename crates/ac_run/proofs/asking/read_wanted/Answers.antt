@@ -1,5 +1,6 @@
 use Rattle.std.proofs.Common.{◌∙◌, None, ap, sym}
 use Rattle.std.specs.Option.{option_map}
+use Rattle.ac_base.proofs.Small.{handed_on}
 use Rattle.ac_query.specs.Tokens.{ids_of}
 use Rattle.ac_query.specs.Shown.Queries.{asked_of}
 use Rattle.ac_query.specs.declared.query.Query.{Query}
@@ -39,13 +40,14 @@ pub returns-in-Hosts-clause-wanted : goal.returns-in-Hosts-clause-wanted
 returns-in-Hosts-clause-wanted c =
     said_hosts (task_of c.args.job.now) (world_of c.args.cloud.now) _ _ c.in_ok-query-in-Hosts.ensures.said c.in-Hosts.is
 
-pub returns-in-Ok-find_host-clause-wanted : goal.returns-in-Ok-find_host-clause-wanted
-returns-in-Ok-find_host-clause-wanted c =
-    said_why (task_of c.args.job.now) (world_of c.args.cloud.now) _ _ c.in_ok-query-in-Why.ensures.said c.in-Ok-find_host.ensures.found c.in-Why.is
+pub returns-clause-wanted : goal.returns-clause-wanted
+returns-clause-wanted c =
+    said_why (task_of c.args.job.now) (world_of c.args.cloud.now) _ _ c.in_ok-query-in-Why.ensures.said c.in_ok-host-in-Why.ensures.found c.in-Why.is
 
-pub returns-in-Ok-find_host-clause-host : goal.returns-in-Ok-find_host-clause-host
-returns-in-Ok-find_host-clause-host c = host_within (providers_of c.args.cloud.now) _ _ c.in-Ok-find_host.ensures.found
+pub returns-clause-host : goal.returns-clause-host
+returns-clause-host c = host_within (providers_of c.args.cloud.now) _ _ c.in_ok-host-in-Why.ensures.found
 
-pub returns-clause-fault : goal.returns-clause-fault
-returns-clause-fault c =
-    explains_host (task_of c.args.job.now) (world_of c.args.cloud.now) _ _ c.in_ok-query-in-Why.ensures.said c.in-Err-find_host.refusal c.in-Err-find_host.ensures.fault c.in-Why.is
+pub returns-in_err-host-in-Why-clause-fault : goal.returns-in_err-host-in-Why-clause-fault
+returns-in_err-host-in-Why-clause-fault c =
+    handed_on c.from_residual-in_err-host-in-Why.result _ _ c.from_residual-in_err-host-in-Why.ensures.1
+    (explains_host (task_of c.args.job.now) (world_of c.args.cloud.now) _ _ c.in_ok-query-in-Why.ensures.said c.in_err-host-in-Why.field-0.0 c.in_err-host-in-Why.ensures.fault c.in-Why.is)
