@@ -40,7 +40,7 @@ fn stage_shown(failed: Option<Stage>) -> &'static [u8]
     }
 }
 
-// Of what a provider fails a test of its slot.
+// The detail of a row: of what the provider fails that test of its slot; nothing where it fails none.
 fn detail_of(alloc: Global, placed: &Placed, failed: Option<Stage>) -> Result<String, NoMemory>
     ensures { IfOk result (λ text. string_bytes text ≡ detail_of
         (providers_of placed.now.cloud.now) (placed_of placed.now) failed) }
@@ -130,7 +130,7 @@ fn has_some_inventory(cloud: &Cloud, ix: u32, needs: &[Need]) -> bool
     needs.iter().any(|need| has_inventory(cloud, ix, need))
 }
 
-// The same; without classes each provider is looked at.
+// Whether a provider has an inventory of a class that is needed; where none is needed, each provider does.
 fn has_a_class(cloud: &Cloud, ix: u32, needs: &[Need]) -> bool
     requires { ix < length (providers_of cloud.now) }
     ensures { result ≡ has_a_class (provider_at (providers_of cloud.now) ix)

@@ -12,7 +12,7 @@ use Rattle.ac_session.specs.Sessions.{detailed_session, session_answer}
 use Rattle.ac_session.proofs.Stood.{first_none}
 use Rattle.ac_words.specs.Words.{Line}
 use Rattle.ac_words.specs.declared.words.Call.TheVariants.{Job, Session}
-use Rattle.ac_cli.specs.Program.{HeldSession, IsLine, RanCall, RanJob, RanSession, RanTask, Streams, Unread, UnreadInDetail, task_asked}
+use Rattle.ac_cli.specs.Program.{HeldSession, IsLine, RanCall, RanJob, RanSession, Streams, Unread, UnreadInDetail, task_asked}
 
 abbrev task_with : Command → List ℕ → Version → Option (List ℕ) → Option (List ℕ) → Bool → Bool → Bool → Task
 task_with command query version token host detail traits sum =
@@ -24,10 +24,6 @@ same_task {c} {q} {r} {v} {w} {t} {u} {h} {i} {a} {b} {d} {e} {f} {g} query vers
     ap (λ x. task_with c x v t h a d f) query ∙ ap (λ x. task_with c r x t h a d f) version ∙ ap (λ x. task_with c r w x h a d f) token
     ∙ ap (λ x. task_with c r w u x a d f) host ∙ ap (λ x. task_with c r w u i x d f) detail ∙ ap (λ x. task_with c r w u i b x f) traits
     ∙ ap (λ x. task_with c r w u i b e x) sum
-
-pub ran_same : {R : Type 0} (remaining : R → Option (List ℕ)) (failures : R → ℕ) (t u : Task) (from to : FiveTables R) (s : Streams) (given : ℕ) → t ≡ u
-    → RanTask remaining failures t from to s given → RanTask remaining failures u from to s given
-ran_same remaining failures t u from to s given e ran = subst (λ task. RanTask remaining failures task from to s given) e ran
 
 module _ {R Q : Type 0} (remaining : R → Option (List ℕ)) (failures : R → ℕ) (asked : Q → Option (List ℕ)) (fails : Q → ℕ) (line : Line) (paths : Paths)
     (from to : FiveTables R) (questions : Q) (s : Streams) (given : ℕ) where

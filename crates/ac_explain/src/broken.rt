@@ -59,7 +59,7 @@ pub(crate) fn first_misfit(assignment: &Assignment, rule: Rule) -> Option<usize>
     (0..assignment.list.len()).find(|s| !keeps(assignment, rule, *s))
 }
 
-// Of what a provider fails the test of its slot.
+// The words for that of which a provider breaks a rule of its slot; none for a rule of several slots.
 #[tactic(auto, unfolding(crate::specs::Broken::misfit_detail))]
 fn misfit_detail(alloc: Global, placed: &Placed, rule: Rule) -> Result<String, NoMemory>
     ensures { IfOk result (λ text. string_bytes text ≡ misfit_detail
@@ -76,7 +76,7 @@ fn misfit_detail(alloc: Global, placed: &Placed, rule: Rule) -> Result<String, N
     }
 }
 
-// The same behind the slot and the provider. Slots are numbered from 1.
+// The slot and the provider, and behind them that of which the provider breaks a rule. Slots are numbered from 1.
 #[tactic(auto, unfolding(crate::specs::Broken::misfit_text))]
 fn misfit_text(alloc: Global, placed: &Placed, rule: Rule) -> Result<String, NoMemory>
     ensures { IfOk result (λ text. string_bytes text ≡ misfit_text
@@ -88,7 +88,7 @@ fn misfit_text(alloc: Global, placed: &Placed, rule: Rule) -> Result<String, NoM
     Ok(format!(in alloc; "slot {number} on {id}, {detail}")?)
 }
 
-// Of what the first slot that breaks a rule does.
+// The words for the first slot whose provider breaks a rule; none where no slot does.
 fn slot_detail(alloc: Global, assignment: &Assignment, rule: Rule) -> Result<String, NoMemory>
     ensures { IfOk result (λ text. string_bytes text
         ≡ slot_detail (providers_of assignment.now.cloud.now)

@@ -113,29 +113,13 @@ fn least_from(numbers: &[u64], bound: u64, guess: usize) -> u64
     }
 }
 
-// The tree, or the part, of a key.
-fn tree_of(key: u64) -> usize {
-    (key >> 32) as usize
-}
-
-// By tree, or part, where the keys under it or a later one begin, up to the last that has some.
+// By tree, or part, where the keys under it or a later one begin, up to the last that has some; the keys rise.
 fn first_keys(alloc: Global, keys: &[u64]) -> Result<Vec<usize>, NoMemory> {
-    let trees = match keys.last() {
-        Some(key) => tree_of(*key).saturating_add(1),
-        None => 0,
-    };
-    let mut first = vec![in alloc; keys.len(); trees]?;
-    for i in 0..keys.len() {
-        let at = keys.len() - 1 - i;
-        let tree = tree_of(keys[at]);
-        if tree < first.len() {
-            first[tree] = at;
-        }
-    }
-    for i in 1..trees {
-        let tree = trees - 1 - i;
-        if tree + 1 < first.len() && first[tree] == keys.len() {
-            first[tree] = first[tree + 1];
+    let mut first = Vec::new(alloc);
+    for (at, key) in keys.iter().enumerate() {
+        let tree = (*key >> 32) as usize;
+        if first.len() <= tree {
+            first.resize(tree.saturating_add(1), at)?;
         }
     }
     Ok(first)

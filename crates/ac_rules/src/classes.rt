@@ -30,7 +30,7 @@ pub fn number_of(classes: &[&ClassName], class: &ClassName) -> usize
     classes.len()
 }
 
-// These classes and one more, unless it is one of them.
+// Adds a class to a list, unless it is there.
 fn with_class<'a>(
     classes: Vec<&'a ClassName>,
     class: &'a ClassName,
@@ -46,7 +46,7 @@ fn with_class<'a>(
     Ok(all)
 }
 
-// These classes and those of some needs, each once.
+// Adds the classes of some needs to a list, each once.
 fn with_classes<'a>(
     classes: Vec<&'a ClassName>,
     needs: &'a [Need],

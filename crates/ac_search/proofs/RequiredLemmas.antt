@@ -1,5 +1,5 @@
 -- Which marks of roots stay by the traits that the group without a suffix requires.
-use Rattle.std.proofs.Common.{◌≡◌, ◌∙◌, ◌<◌, ℕ, ◌+◌, Bool, true, false, not, ◌&&◌, ◌||◌, List, [], ◌∷◌, length, map, take, get_or, slice_index, slice_index_or, Option, Some, None, refl, sym, ap, arith}
+use Rattle.std.proofs.Common.{◌≡◌, ◌∙◌, ◌<◌, ℕ, ◌+◌, Bool, true, false, ◌&&◌, ◌||◌, List, [], ◌∷◌, length, map, take, get_or, slice_index, slice_index_or, Option, Some, None, refl, sym, ap, arith}
 use Rattle.std.specs.Prelude.{if◌then◌else◌}
 use Rattle.std.specs.List.{list_all, list_any, range_with_len}
 use Rattle.std.specs.Option.{is_some}
@@ -12,7 +12,6 @@ use Rattle.ac_cloud.specs.World.{Provider, provider_at, has_trait}
 use Rattle.ac_prune.specs.Ahead.{hosts_of}
 use Rattle.ac_prune.specs.Loads.{AreLimited}
 use Rattle.ac_rules.specs.Own.{has_any}
-use Rattle.ac_rules.specs.Together.{is_empty}
 use Rattle.ac_search.specs.Explained.{are_held, has_each_slot, holds_required, is_held, is_one_held, serves_unsuffixed}
 use Rattle.ac_search.specs.Shown.Explained.{AreKept, holding, requires_some, served_roots}
 use Rattle.ac_prune.proofs.Roots.RootLemmas.{hosts_low}
@@ -71,17 +70,7 @@ one_held s t (p ∷ ps) = grind (arith, one_held s t ps)
 pub held_alone : (all : List Provider) (asked : Asked) (r : ℕ) (name : List ℕ) → is_one_held all asked r (name ∷ []) ≡ is_held all asked r name
 held_alone all asked r name = one_held (serves_unsuffixed all asked) (λ p. has_trait (provider_at all p) name) (hosts_of all r)
 
-nothing_asked : (f : List ℕ → Bool) (g : List (List ℕ) → Bool) (xs : List (List ℕ)) (ys : List (List (List ℕ))) → not (is_empty xs && is_empty ys) ≡ false → (list_all f xs && list_all g ys) ≡ true
-nothing_asked f g [] [] h = refl
-nothing_asked f g [] (y ∷ ys) h = absurd (false≢true (sym h))
-nothing_asked f g (x ∷ xs) ys h = absurd (false≢true (sym h))
-
--- a group that requires nothing, or has a suffix
-pub held_anyway : (all : List Provider) (asked : Asked) (r : ℕ) (suffix : Option (List ℕ)) (g : Group) → requires_some suffix g ≡ false → (is_some suffix || are_held all asked r g) ≡ true
-held_anyway all asked r (Some s) g h = refl
-held_anyway all asked r None g h = nothing_asked (λ name. is_held all asked r name) (λ names. is_one_held all asked r names) g.required g.any_of h
-
--- one that requires something
+-- a group that requires something
 pub held_there : (all : List Provider) (asked : Asked) (r : ℕ) (suffix : Option (List ℕ)) (g : Group) → requires_some suffix g ≡ true → are_held all asked r g ≡ (is_some suffix || are_held all asked r g)
 held_there all asked r (Some s) g h = absurd (false≢true h)
 held_there all asked r None g h = refl

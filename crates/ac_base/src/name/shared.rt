@@ -46,7 +46,7 @@ struct KnownName {
 // Where a name is kept that was read lately.
 fn recent_index(text: &[u8]) -> usize {
     let mut hash = text.len();
-    for byte in text.iter().rev().take(TOLD_BY) {
+    for byte in &text[text.len().saturating_sub(TOLD_BY)..] {
         hash = hash.wrapping_mul(31).wrapping_add(*byte as usize);
     }
     hash % RECENT

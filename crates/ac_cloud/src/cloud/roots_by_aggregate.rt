@@ -40,7 +40,7 @@ impl Groups {
         }
     }
 
-    // These and one more root of an aggregate.
+    // Adds a root to those of an aggregate.
     fn with(self, alloc: Global, aggregate: Id, root: u32) -> Result<Groups, AllocError>
         ensures { IfOk result (λ new. (a r : ℕ) → is_met new.map a r
             ≡ (is_met self.map a r || ((root == r) && (aggregate == a)))) }
@@ -51,7 +51,7 @@ impl Groups {
         Ok(groups)
     }
 
-    // These and one more root of each of some aggregates.
+    // Adds a root to those of each aggregate of a list.
     fn with_all(self, alloc: Global, aggregates: &[Id], root: u32) -> Result<Groups, AllocError>
         ensures { IfOk result (λ new. (a r : ℕ) → is_met new.map a r
             ≡ (is_met self.map a r || ((root == r) && is_among a aggregates.now))) }
@@ -98,7 +98,7 @@ impl Groups {
         self.roots(aggregate).len() == 1
     }
 
-    // Those of these aggregates that are of several trees.
+    // The aggregates of a list that have members in several trees.
     fn wide(&self, alloc: Global, ids: &[Id]) -> Result<Vec<Id>, AllocError>
         ensures { IfOk result (λ list. list.items ≡ wide self.now.map ids.now) }
     {
@@ -129,7 +129,7 @@ impl Groups {
         Ok(asked)
     }
 
-    // The roots of all these aggregates.
+    // The roots of all aggregates of a list.
     fn union(&self, alloc: Global, aggregates: &[Id]) -> Result<BTreeSet<u32>, AllocError>
         ensures { IfOk result (λ set. (r : ℕ) → contains nat_cmp set r
             ≡ list_any (λ a. is_met self.now.map a r) aggregates.now) }
@@ -141,7 +141,7 @@ impl Groups {
         Ok(set)
     }
 
-    // The roots of all these aggregates, rising.
+    // The roots of all aggregates of a list, rising.
     pub(crate) fn join(&self, alloc: Global, aggregates: &[Id]) -> Result<Vec<u32>, AllocError>
         ensures rising { IfOk result (λ list. IsStrictlySortedBy nat_cmp list.items) }
         ensures roots { IfOk result (λ list. (r : ℕ)
@@ -154,7 +154,7 @@ impl Groups {
     }
 }
 
-// These roots and one more, unless it is the last of them.
+// Adds a root to a list, unless it is the last one there.
 fn with_root(roots: Vec<u32>, root: u32) -> Result<Vec<u32>, AllocError>
     ensures { IfOk result (λ new. (r : ℕ) → list_any (λ x. x == r) new.items
         ≡ (list_any (λ x. x == r) roots.items || (root == r))) }
@@ -175,7 +175,7 @@ fn shared_ids(shares: bool, ids: &[Id]) -> &[Id]
     if shares { ids } else { &[] }
 }
 
-// These roots and some more.
+// Adds the roots of a list to a set.
 fn with_roots(set: BTreeSet<u32>, roots: &[u32]) -> Result<BTreeSet<u32>, AllocError>
     ensures { IfOk result (λ new. (r : ℕ) → contains nat_cmp new r
         ≡ (contains nat_cmp set r || list_any (λ x. x == r) roots.now)) }

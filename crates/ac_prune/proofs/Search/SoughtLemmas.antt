@@ -2,7 +2,6 @@
 use Rattle.std.proofs.Common.{◌≡◌, ℕ, ◌<◌, ◌≤◌, suc, true, false, List, [], ◌∷◌, ◌++◌, inl, inr, length, get_or, sym, ap, ◌∙◌, subst, arith, append_assoc, length-append}
 use Rattle.std.specs.List.{AllPairs, AllByRecursion as Each}
 use Rattle.std.proofs.lemmas.Bool.{not-true, not_from_false, false_from_ne_true, false≢true}
-use Rattle.std.proofs.lemmas.List.{get_or_past}
 use Rattle.std.proofs.lemmas.List.Elements.{recursion_from_All}
 use Rattle.ac_rules.specs.Lists.{IsRising, lex_lt}
 use Rattle.ac_prune.specs.Search.{Search, sought, IsDead, choices_at, next_at}
@@ -63,10 +62,6 @@ choice_in m laws x t q s r h e =
 pub low_at : (m : Search) → IsSearch m → (d j : ℕ) → d < m.width → j < length (choices_at m d) → next_at m d j < m.count
 low_at m laws d j h l = each_at (λ r. r < m.count) (choices_at m d) j m.count (laws.low d h) l
 
--- the next choice is greater
-pub next_above : (m : Search) → IsSearch m → (d j : ℕ) → d < m.width → j < length (choices_at m d) → next_at m d j < next_at m d (suc j)
-next_above m laws d j h l = search (rules, get_or_past, low_at)
-
 -- the place of what is among a list
 pub place_of : (xs : List ℕ) (p : ℕ) → Among xs p → (k : ℕ) × (k < length xs) × ((d : ℕ) → get_or xs k d ≡ p)
 place_of [] p m = absurd m
@@ -76,11 +71,6 @@ place_of (x ∷ xs) p m = elim m [ inl e ↦ (0, omega arith, λ d. e) | inr m �
 pub least_from : (xs : List ℕ) (j v n r : ℕ) → AllPairs (λ x y. x < y) xs → ((i : ℕ) → i < j → i < length xs → get_or xs i n < v) → r < n → Among xs r → v ≤ r
     → get_or xs j n ≤ r
 least_from xs j v n r up before small m h = grind (arith, nat_tests, place_of)
-
--- and no choice lies between
-pub next_least : (m : Search) → IsSearch m → (d j r : ℕ) → d < m.width → j < length (choices_at m d) → Among (choices_at m d) r → r < m.count → next_at m d j < r
-    → next_at m d (suc j) ≤ r
-next_least m laws d j r h l a low g = search (rules, least_from)
 
 -- a list that isn't open is dead
 pub closed_dead : (m : Search) → IsSearch m → (q : List ℕ) → m.is_open q ≡ false → IsDead m q

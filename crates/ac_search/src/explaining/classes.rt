@@ -91,7 +91,7 @@ fn is_short(query: &Query, s: usize, counts: &SlotCounts) -> bool
     needs_at(query, s).len() > 1 && counts.room < counts.tree
 }
 
-// Of a slot of several classes, for which some provider has no room, how many have room for each class; of others nothing.
+// How many providers have room for each class of a slot; nothing where it has one class, or where each provider has room for all.
 fn rooms_of(
     alloc: Global,
     cloud: &Cloud,

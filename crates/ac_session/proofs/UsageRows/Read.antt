@@ -80,10 +80,6 @@ lookup_behind q xs x = ap (lookup (bytes_eq q)) (reverse-append (x ∷ []) xs) �
 abbrev IsApart : List ℕ → List Entry → Type 0
 IsApart q es = AllByRecursion (λ y. bytes_eq q y ≡ false) (keys_of es)
 
-none_had : (q : List ℕ) (es : List Entry) → IsApart q es → lookup (bytes_eq q) es ≡ None
-none_had q [] apart = refl
-none_had q (e ∷ es) apart = rw apart.0 (none_had q es apart.1)
-
 none_told : (q : List ℕ) (es : List Entry) → IsApart q es → lookup (bytes_eq q) (reverse (pairs es)) ≡ None
 none_told q [] apart = refl
 none_told q (e ∷ es) apart = elim (cases_Bool (is_used e)) [
