@@ -41,9 +41,6 @@ impl Question {
     pub fn again(&self, alloc: Global) -> Result<Query, NoMemory>
         ensures { IfOk result (λ query. asked_of query ≡ asked_of self.now.query) }
     {
-        match Query::read(alloc, self.text.as_str(), self.version) {
-            Ok(query) => Ok(query),
-            Err(_fault) => Err(NoMemory),
-        }
+        Query::read(alloc, self.text.as_str(), self.version).map_err(|_fault| NoMemory)
     }
 }

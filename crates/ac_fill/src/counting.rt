@@ -48,8 +48,5 @@ pub fn count_filled<'a, S: Source>(
         (filled (asked_of query.now).limit (providers_of cloud.now) (asked_of query.now))) }
     ensures fits { IfOk result (λ f. IsTakenOf (providers_of cloud.now) f.takings) }
 {
-    match write_filled(alloc, cloud, query, source, &mut Nowhere) {
-        Ok(filled) => Ok(filled),
-        Err(_) => Err(NoMemory),
-    }
+    write_filled(alloc, cloud, query, source, &mut Nowhere).map_err(|_| NoMemory)
 }

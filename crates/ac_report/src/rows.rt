@@ -13,11 +13,8 @@ pub fn write_row(rows: &mut Writer<Vec<u8>>, fields: &[&[u8]]) -> Result<(), NoM
     ensures { IfOk result (λ _. (before : List (List (List ℕ))) → HasRows rows.old before
         → HasRows rows.new (before ++ map (λ field. field.now) fields.now ∷ [])) }
 {
-    match rows.write_fields(fields) {
-        Ok(()) => Ok(()),
-        // A vector refuses a row for want of memory alone.
-        Err(_) => Err(NoMemory),
-    }
+    // A vector refuses a row for want of memory alone.
+    rows.write_fields(fields).map_err(|_| NoMemory)
 }
 
 /// No row yet.
@@ -41,8 +38,5 @@ pub fn end_rows(rows: Writer<Vec<u8>>) -> Result<Vec<u8>, NoMemory>
     ensures { (written : List (List (List ℕ))) → HasRows rows written
         → IfOk result (λ text. text.items ≡ flat_map (row_text default_writer) written) }
 {
-    match rows.into_inner() {
-        Ok(text) => Ok(text),
-        Err(_) => Err(NoMemory),
-    }
+    rows.into_inner().map_err(|_| NoMemory)
 }

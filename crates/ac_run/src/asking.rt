@@ -51,10 +51,7 @@ fn read_query(alloc: Global, text: &str, version: Version) -> Result<Query, Refu
     ensures asked { IfOk result (λ query. asked_of query ≡ asked_by version (pairs_of text.now)) }
     ensures fault { IfErr result (ExplainsQuery (query_fault version text.now)) }
 {
-    match Query::read(alloc, text, version) {
-        Ok(query) => Ok(query),
-        Err(fault) => Err(refusal_of(fault)),
-    }
+    Query::read(alloc, text, version).map_err(refusal_of)
 }
 
 // Want of memory is a refusal of its own.
@@ -117,10 +114,9 @@ fn find_host(cloud: &Cloud, host: Option<&str>) -> Result<u32, Refusal>
     ensures fault { IfErr result (ExplainsHost (host_found (providers_of cloud.now)
         (option_map (λ h. h.now) host.entry))) }
 {
-    match cloud.host(host.unwrap_or("").as_bytes()) {
-        Ok(place) => Ok(place),
-        Err(fault) => Err(Refusal::Host(fault)),
-    }
+    cloud
+        .host(host.unwrap_or("").as_bytes())
+        .map_err(|fault| Refusal::Host(fault))
 }
 
 /// What a job wants: its query is read, then its token, and its host is looked for.
