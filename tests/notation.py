@@ -1,6 +1,6 @@
 """Reads small clouds in a short notation, which docs/RULES.md uses too.
 
-A row is `provider | parent | inventories | traits | aggregates`; cells at the end may be missing. `P1` stands for the UUID
+A row is `provider | parent | inventories | traits | aggregates | name`; cells at the end may be missing. `P1` stands for the UUID
 00000000-0000-0000-0000-000000000001, `A1` for 00000000-0000-0000-0000-0000000000a1, in every text here. An inventory is
 `VCPU total 8`, perhaps with `, reserved 1`, `, allocation_ratio 1.5` and so on, or `, used 7`; two of them are joined by `;`."""
 from __future__ import annotations
@@ -37,7 +37,7 @@ def inventory(cell):
 
 
 def cells(row):
-    return [cell.strip() for cell in (row + '||||').split('|')[:5]]
+    return [cell.strip() for cell in (row + '|||||').split('|')[:6]]
 
 
 def root(parents, of):
@@ -47,12 +47,13 @@ def root(parents, of):
 
 
 def tables(cloud):
-    """The tables of a cloud, by name. Usages, traits and aggregates are left out if they have no rows."""
+    """The tables of a cloud, by name. Usages, traits and aggregates are left out if they have no rows, and names if no provider has one."""
     rows = [cells(row) for row in cloud.strip().splitlines()]
     parents = {row[0]: row[1] for row in rows}
+    headers = {**HEADERS, 'providers': HEADERS['providers'][:-1] + ',name\n'} if any(row[5] for row in rows) else HEADERS
     made = {name: [] for name in HEADERS}
-    for name, parent, inventories, traits, aggregates in rows:
-        made['providers'].append(f'{name},{root(parents, name)},{parent}')
+    for name, parent, inventories, traits, aggregates, shown in rows:
+        made['providers'].append(f'{name},{root(parents, name)},{parent}' + (f',{shown}' if headers is not HEADERS else ''))
         for cell in filter(None, inventories.split(';')):
             kind, numbers, used = inventory(cell)
             made['inventories'].append(','.join([name, kind, *numbers]))
@@ -60,5 +61,5 @@ def tables(cloud):
                 made['usages'].append(f'{name},{kind},{used}')
         made['traits'] += [f'{name},{trait}' for trait in traits.replace(',', ' ').split()]
         made['aggregates'] += [f'{name},{aggregate}' for aggregate in aggregates.replace(',', ' ').split()]
-    return {name: HEADERS[name] + ''.join(full(line) + '\n' for line in lines)
+    return {name: headers[name] + ''.join(full(line) + '\n' for line in lines)
             for name, lines in made.items() if lines or name in ('providers', 'inventories')}
