@@ -1,17 +1,18 @@
 #!/usr/bin/env python3
-"""tests/edits.py [--beside LOG] [--crates FOLDER] [--all] [--anew] [CRATE..]: tries the must-fail edits of each crate, and names those that the prover lets
-through.
+"""tests/edits.py [--all] [--anew] [--until SECONDS] [--base REVISION] [--crates FOLDER] [CRATE..]: tries the must-fail edits of each crate: wrong bodies that
+the prover must refuse. It prints for each edit, as it comes, which function is refused, and by which goals.
 
-Edits that change different functions are tried together: the prover judges each function by itself, and of the functions that it calls it knows only
-the contracts. So an edit is refused if a function whose body it changes isn't proved, for a reason of its own. If an edit changes a constant or a
-definition, lines `refused: FUNCTION` in it name the functions that it is about. An edit is tried alone if none of its functions is refused, or if none
-is known: first about its functions, and if that says nothing, the prover must refuse the crate. In each case the prover must be able to read the
-edited text.
+An edit is refused if a goal of a function that it changes stays open, one of what the function ensures or requires of others, or of an invariant. If only names
+of steps are gone that the function's proof file cites, or a sum may be too large, that shows nothing of a contract, and the edit counts as let through.
 
-FOLDER is the top of a clone (by default this repository), below which everything that the crates stand on must be built. What `rt check` has kept there
-is used. With --beside, the script waits for each crate: LOG is what `rt ci` writes while it proves the crates. With --all, the script names each edit
-and what refused it. What the prover said when it refused something is kept on this machine by the sum of all that it read, as `rt ci` keeps what it
-proved, and a check of the same is not run again; --anew runs all. The last line is `N passed, M failed`."""
+The gate tries crates/CRATE/must-fail/*.edit; with --all also those in must-fail/more. Edits of different functions are tried in one check, since the prover judges
+each function by itself, and of the functions that it calls knows only the contracts. If an edit changes a definition, a line `refused: FUNCTION` in it names each
+function that it is about. First come all edits of the crates that were changed since the revision, then for each other crate the first check, which has one edit
+for each of its public functions, then the rest. With --until no check begins that would last past that time, in seconds since 1970.
+
+FOLDER is the top of a clone (by default this repository) below which everything that the crates stand on is built. What the prover said when it refused something
+is kept on this machine by the sum of all that it read, and a check of the same is not run again; --anew runs all. The last line is `N passed, M failed`; the one
+before says how many edits were tried."""
 from __future__ import annotations
 
 import argparse
@@ -19,7 +20,6 @@ import contextlib
 import functools
 import glob
 import hashlib
-import itertools
 import json
 import os
 import re
@@ -31,16 +31,18 @@ import tempfile
 import threading
 import time
 from concurrent.futures import ThreadPoolExecutor
-from typing import NamedTuple
 
 ROOT = os.path.dirname(os.path.dirname(os.path.abspath(__file__)))
-UNREAD = re.compile(r'^(\./)?(src|specs)/\S+: error: .*(is not in scope|has no field|is no name|operand is missing|expected the end|cannot continue)',
-                    re.M)
-CALLS = re.compile(r"(; )?it calls .*, which (is|are) not proved")
-# The memory that must be free before one more check begins beside others.
-LEAST_FREE = 4 << 30
 KEPT = os.path.join(os.environ.get('XDG_CACHE_HOME') or os.path.expanduser('~/.cache'), 'ac_cli', 'edits')
 MOST_DAYS = 30
+# A check that begins beside others needs so much free memory.
+LEAST_FREE = 4 << 30
+# The prover can't read the text of an edit.
+UNREAD = re.compile(r'^(\./)?(src|specs)/\S+: error: .*(is not in scope|has no field|is no name|operand is missing|expected the end|cannot continue)', re.M)
+# What a function's proof file cites is gone.
+GONE = re.compile(r'has no (field|.* that can be named)|is not in scope')
+# Goals that no clause asks for: that a number fits, that an index is in range, and so on.
+SAFETY = re.compile(r'(overflow|underflow|index|divisor|shift|cast|slice|range|fits)[_-]')
 
 
 def read(path):
@@ -63,7 +65,7 @@ class Kept:
     """What the prover said in checks on this machine, by the sums of all that they read. A text is written apart and then renamed."""
 
     def __init__(self, folder, is_used):
-        self.folder, self.is_used, self.given, self.made = folder, is_used, [], []
+        self.folder, self.is_used, self.given, self.made = folder, is_used, 0, 0
         with contextlib.suppress(OSError):
             os.makedirs(folder, exist_ok=True)
             for path in glob.glob(os.path.join(folder, '*')):
@@ -101,7 +103,7 @@ class Edit:
                 self.changes.append((file, old, text))
             elif word == 'refused':
                 named.add(re.escape(text) + '$')
-        self.names_functions, self.functions = bool(named), named or self.bodies()
+        self.functions = named or self.bodies()
 
     def made(self, texts):
         """These texts, by their files, after this edit too; None if it can't be made."""
@@ -127,178 +129,81 @@ class Edit:
         return sorted(name for name in names if any(re.match(function, name) for function in self.functions))
 
 
+def heads(file, text):
+    """The functions of a source: whether each is public, its line, its indent, and a pattern of its name. It relies on the layout of `rt fmt`."""
+    module = re.sub(r'^src/|\.rt$', '', file).replace('/', '::')
+    path, kind = '' if module in ('lib', 'main') else module + '::', ''
+    for place, line in enumerate(text.split('\n')):
+        if found := re.match(r'impl(?:<.*?>)? (?:.* for )?(\w+)', line):
+            # a method is named after its type, wherever its `impl` stands
+            kind = r'(\w+::)*' + found[1] + r'\w*::'
+        if found := re.match(r'( *)(pub(?:\(\w+\))? )?fn (\w+)', line):
+            yield found[2] == 'pub ', place, found[1], (kind if found[1] else path) + found[3] + '$'
+
+
 def function_at(file, text, old):
-    """The function whose body has this text, as a pattern of its name, or None. It relies on the layout of `rt fmt`."""
+    """The function whose body has this text, as a pattern of its name, or None."""
     if not file.startswith('src/') or old not in text:
         return None
-    lines = text.split('\n')
-    at = text[:text.index(old)].count('\n')
-    heads = [(place, *found.groups()) for place, line in enumerate(lines[:at]) if (found := re.match(r'( *)(?:pub(?:\(\w+\))? )?fn (\w+)', line))]
-    if not heads:
+    lines, at = text.split('\n'), text[:text.index(old)].count('\n')
+    before = [head for head in heads(file, text) if head[1] < at]
+    if not before:
         return None
-    head, indent, name = heads[-1]
-    opens = [place for place in range(head, at) if lines[place] == indent + '{' or lines[place].endswith(' {') and (place == head or lines[place].startswith(indent + ')'))]
-    ends = [place for place in range(head, at) if lines[place] == indent + '}']
-    if not opens or ends:
-        return None
-    kinds = re.findall(r'^impl(?:<.*?>)? (?:.* for )?(\w+)', '\n'.join(lines[:head]), re.M) if indent else []
-    module = re.sub(r'^src/|\.rt$', '', file).replace('/', '::')
-    path = '' if module in ('lib', 'main') else module + '::'
-    # a method is named after its type, wherever its `impl` stands
-    return (r'(\w+::)*' + kinds[-1] + r'\w*::' if kinds else path) + name + '$'
+    _, head, indent, name = before[-1]
+    opens = any(lines[place] == indent + '{' or lines[place].endswith(' {') and (place == head or lines[place].startswith(indent + ')'))
+                for place in range(head, at))
+    return name if opens and indent + '}' not in lines[head:at] else None
 
 
 class Crate:
-    """A crate below a folder, what it stands on, and its edits, whose checks run in these lanes unless what they say is kept."""
+    """A crate, what it stands on below a folder, and its edits."""
 
-    def __init__(self, top, name, libraries, lanes, said):
-        self.name, self.folder, self.libraries, self.lanes, self.said = name, os.path.join(top, 'crates', name), libraries, lanes, said
-        own = os.path.join(ROOT, 'crates', name)
-        self.edits = [Edit(own, path) for path in sorted(glob.glob(os.path.join(own, 'must-fail', '*.edit')))]
-        self.own = own
+    def __init__(self, top, name, libraries):
+        self.name, self.libraries, self.top, self.turn, self.room = name, libraries, top, threading.Lock(), None
+        self.folder, self.own = os.path.join(top, 'crates', name), os.path.join(ROOT, 'crates', name)
 
-    def built_functions(self):
-        """The functions of this crate as its library names them; none if it isn't built, or is a program."""
+    def read_edits(self, with_more):
+        """Lists of edits that are tried together, since no two of them change one function; the first has one for each public function that has any."""
+        folders = ['must-fail', *(['must-fail/more'] if with_more else [])]
+        edits = [[Edit(self.own, path) for path in sorted(glob.glob(os.path.join(self.own, folder, '*.edit')))] for folder in folders]
+        public = {name for path in glob.glob(os.path.join(self.own, 'src', '**', '*.rt'), recursive=True)
+                  for is_public, _, _, name in heads(os.path.relpath(path, self.own), read(path)) if is_public}
+        for each in edits:
+            each.sort(key=lambda edit: not edit.functions & public)
+        self.edits = [edit for each in edits for edit in each]
+        self.rounds = rounds([edit for edit in self.edits if edit.made({})])
+        self.public = len(public), len(public & {name for edit in self.edits for name in edit.functions})
+
+    def known(self):
+        """The functions of this crate as its library names them; none if it is a program."""
         try:
             routines = json.loads(read(os.path.join(self.folder, 'out', 'rlib', f'{self.name}.rlib', 'toolchain', 'mir.json')))
             return {name.removeprefix(f'{self.name}::') for name, *_ in routines if name.startswith(f'{self.name}::') and not name.endswith('+decl')}
         except (OSError, ValueError, TypeError, AttributeError):
             return set()
 
+    def asked(self, edits):
+        """The names by which a check is asked about the functions of these edits."""
+        known = self.known()
+        return sorted({name for edit in edits for name in edit.among(known) or (re.sub(r'\\(.)', r'\1', function).rstrip('$') for function in edit.functions)})
+
     @functools.cached_property
     def rlib_sum(self):
         return sum_of(os.path.join(self.folder, 'out', 'rlib', f'{self.name}.rlib'))
 
-    def words(self, kit, built):
-        """The command that checks this crate."""
+    def words(self, kit, below):
+        """The command that checks this crate over those below it."""
         root = 'src/main.rt' if os.path.exists(os.path.join(self.own, 'src', 'main.rt')) else 'src/lib.rt'
         words = [f'{kit}/bin/rattle', 'check', '--crate-name', self.name, root, '-L', f'dependency={kit}/rlibs', '--links', f'{self.name}=']
         for name in ['std', *self.libraries]:
-            words += ['--extern', f'{name}={built.get(name, kit)}/{"out/rlib" if name in built else "rlibs"}/{name}.rlib']
-        for folder in built.values():
-            words += ['-L', f'dependency={folder}/out/rlib']
+            words += ['--extern', f'{name}={below[name].folder}/out/rlib/{name}.rlib' if name in below else f'{name}={kit}/rlibs/{name}.rlib']
+        for crate in below.values():
+            words += ['-L', f'dependency={crate.folder}/out/rlib']
         return [*words, '--antt-project', f'{kit}/rattle/logic/antt-project.json', '--logic-built', f'{kit}/logic_built', '--jobs', '1']
 
 
-class Seen(NamedTuple):
-    """What `rt ci` has written, the crates that it has proved, now or in an earlier run whose proofs it kept, and whether it has ended."""
-
-    said: str
-    proved: frozenset
-    has_ended: bool
-
-
-class Log:
-    """The log of `rt ci`, or none, as if one had ended."""
-
-    def __init__(self, path):
-        self.path, self.seen, self.next, self.turn = path, Seen('', frozenset(), path is None), 0.0, threading.Lock()
-
-    def now(self):
-        """What it has now. It is read at most once a second."""
-        with self.turn:
-            if self.path and time.monotonic() >= self.next:
-                said = read(self.path) if os.path.exists(self.path) else ''
-                proved = frozenset(re.findall(r'^rt: (\w+) (?:proved$|is kept: )', said, re.M))
-                self.seen = Seen(said, proved, re.search(r'^\d+ passed, \d+ failed$', said, re.M) is not None)
-                self.next = time.monotonic() + 1
-            return self.seen
-
-
-class Lanes:
-    """Room for checks side by side: one on each processor, but while `rt ci` goes on, one and those for which a processor is idle. Those of the crate
-    with the most edits go first, and of these the longest."""
-
-    def __init__(self, log):
-        self.log, self.taken, self.waiting, self.numbers, self.turn = log, 0, [], itertools.count(), threading.Condition()
-
-    def has_room(self):
-        processors = os.cpu_count() or 1
-        if not self.taken:
-            return True
-        if self.taken >= processors or free_memory() < LEAST_FREE:
-            return False
-        # this script is one of those that run
-        return self.log.now().has_ended or running() <= processors
-
-    @contextlib.contextmanager
-    def lane(self, *weights):
-        place = *(-weight for weight in weights), next(self.numbers)
-        with self.turn:
-            self.waiting.append(place)
-            while place != min(self.waiting) or not self.has_room():
-                self.turn.wait(1)
-            self.waiting.remove(place)
-            self.taken += 1
-        try:
-            yield
-        finally:
-            with self.turn:
-                self.taken -= 1
-                self.turn.notify_all()
-
-
-def free_memory():
-    found = re.search(r'^MemAvailable: *(\d+) kB', read('/proc/meminfo'), re.M)
-    return int(found[1]) << 10 if found else LEAST_FREE
-
-
-def running():
-    """How many threads run on this machine, or wait for a processor."""
-    return int(read('/proc/loadavg').split()[3].partition('/')[0])
-
-
-def link(one, other):
-    """Gives what was proved a second name: a check replaces such a file, and never writes into it."""
-    try:
-        if one.endswith('.oantt'):
-            return os.link(one, other)
-    except OSError:
-        pass
-    return shutil.copy2(one, other)
-
-
-def check(crate, command, texts, kept, names=()):
-    """What the prover says about the crate with these texts, or only about these functions. It goes on from what it proved before, and keeps there
-    what it proves now. A check that is killed, most likely for memory, runs once more."""
-    with tempfile.TemporaryDirectory(prefix='edit-') as room:
-        for part in ('src', 'specs', 'proofs'):
-            if os.path.isdir(os.path.join(crate.own, part)):
-                shutil.copytree(os.path.join(crate.own, part), os.path.join(room, part))
-        for path, text in texts.items():
-            with open(os.path.join(room, path), 'w', encoding='utf-8') as file:
-                file.write(text)
-        key = hashlib.sha256(repr((crate.below_sum, crate.name, sum_of(room), sorted(names))).encode()).hexdigest()
-        if said := crate.said.get(key):
-            crate.said.given.append(key)
-            return said
-        crate.said.made.append(key)
-        only = [word for name in sorted(names) for word in ('--only', name)]
-        for _ in range(2):
-            with crate.lanes.lane(len(crate.edits), len(names)):
-                ran = subprocess.run([*command, *only, '--incremental', kept], cwd=room, stdin=subprocess.DEVNULL, stdout=subprocess.PIPE,
-                                     stderr=subprocess.STDOUT, text=True, errors='replace')
-            if ran.returncode != -signal.SIGKILL:
-                break
-    if refused(ran.stdout):
-        crate.said.put(key, ran.stdout)
-    return ran.stdout
-
-
-def functions(said, crate):
-    return set(re.findall(rf'^fn {crate.name}::(\S+): ', said, re.M))
-
-
-def refused(said):
-    """The functions that aren't proved for a reason of their own; none if the prover couldn't read the texts."""
-    if UNREAD.search(said) or not re.search(r'^(logic=not-proved|only=)', said, re.M):
-        return set()
-    lines = [re.match(r'fn \w+::(\S+): (no proof|not proved)(.*)', line) for line in said.splitlines()]
-    return {line[1] for line in lines if line and (line[2] == 'not proved' or CALLS.sub('', line[3]).strip(': '))}
-
-
 def rounds(edits):
-    """Lists of edits to try together, since no two of them change one function; each list with the texts that its edits make."""
+    """Lists of edits to try together; each list with the texts that its edits make."""
     found = []
     for edit in edits:
         for together, texts in found:
@@ -313,101 +218,189 @@ def rounds(edits):
     return found
 
 
-def tried(crate, command, known):
-    """For each edit its name, the functions that refuse it (none if it is let through), and what the prover says then. A check only asks about the
-    functions that are changed. If none are known yet, the first check proves all others too, and so names them.
+def below(crate, crates):
+    """The crates of this repository that a crate stands on, by their names."""
+    found = {}
+    for name in crate.libraries:
+        if name in crates:
+            found |= below(crates[name], crates) | {name: crates[name]}
+    return found
 
-    If nothing is kept, a check of few edits comes first, and keeps what the changed functions stand on. All others begin with it, side by side. What
-    they prove is thrown away: it is of edited texts. Edits of definitions change what many functions stand on, so they are tried apart from those
-    of bodies. If a function is only refused since it calls another that an edit changes, its edit is tried once more without that one."""
-    made = [edit for edit in crate.edits if edit.made({})]
-    lists = [*rounds([edit for edit in made if not edit.names_functions]), *rounds([edit for edit in made if edit.names_functions])]
-    found = {edit.name: ([], 'it has no text to change, or one that does not stand once in its file') for edit in crate.edits if edit not in made}
-    with tempfile.TemporaryDirectory(prefix='edits-') as room, ThreadPoolExecutor(max(1, len(made))) as pool:
-        kept, before = os.path.join(room, 'kept'), os.path.join(crate.folder, 'out', 'incremental')
 
-        def asked(edits):
-            return {name for edit in edits for name in edit.among(known)}
+def goals(said, name):
+    """For each function that isn't proved for a reason of its own: the goals that stay open. None of any if the prover couldn't read the texts."""
+    if UNREAD.search(said) or not re.search(r'^(logic=not-proved|only=)', said, re.M):
+        return {}
+    found, noted = {}, []
+    for path, goal, why in re.findall(r'^\./proofs/(\S+)/(?:Answers|Invariants)\.antt:\S+ error: `([^`]*)`: (.*)', said, re.M):
+        found.setdefault(path.replace('/', '::'), set()).update([] if GONE.search(why) else [goal])
+    for line in said.splitlines():
+        if note := re.match(r'note: src/\S+: it is not proved .*\(`([^`]*)`\)', line):
+            noted.append(note[1])
+        elif told := re.match(rf'fn {name}::(\S+): (.*)', line):
+            if told[2] != 'proved' and (noted or 'did not prove' in told[2]):
+                found.setdefault(told[1], set()).update(noted, re.findall('`([^`]*)`', told[2].partition('did not prove')[2].partition(';')[0]))
+            noted = []
+    return {function: kept for function, open_goals in found.items() if (kept := sorted(goal for goal in open_goals if not SAFETY.match(goal)))}
 
-        def over_kept(texts, names=()):
-            with tempfile.TemporaryDirectory(prefix='over-', dir=room) as over:
-                shutil.copytree(kept, os.path.join(over, 'kept'), copy_function=link)
-                return check(crate, command, texts, os.path.join(over, 'kept'), names)
 
-        def note(lists, said):
-            for (edits, _), each in zip(lists, said):
-                names = refused(each)
-                found.update({edit.name: (by, '') for edit in edits if (by := edit.among(names))})
-            return [edit for edit in made if edit.name not in found]
+def link(one, other):
+    """Gives what was proved a second name: a check replaces such a file, and never writes into it."""
+    try:
+        if one.endswith('.oantt'):
+            return os.link(one, other)
+    except OSError:
+        pass
+    return shutil.copy2(one, other)
 
-        def beside(lists):
-            return note(lists, pool.map(lambda one: over_kept(one[1], asked(one[0])), lists))
 
-        def alone(edit):
-            said = over_kept(edit.made({}))
-            found[edit.name] = sorted(refused(said)), f'let through, or not read: {said[-300:]}'
+def free_memory():
+    found = re.search(r'^MemAvailable: *(\d+) kB', read('/proc/meminfo'), re.M)
+    return int(found[1]) << 10 if found else LEAST_FREE
 
-        if os.path.isdir(before):
-            shutil.copytree(before, kept, copy_function=link)
-        elif lists:
-            os.mkdir(kept)
-            edits, texts = first = lists.pop(min(1, len(lists) - 1))
-            said = check(crate, command, texts, kept, asked(edits))
-            known = known or functions(said, crate)
-            note([first], [said])
-        left = beside(lists)
-        left = beside(rounds([edit for edit in left if edit.among(known)])) if known else left
-        list(pool.map(alone, left))
-    return [(edit.name, *found[edit.name]) for edit in crate.edits]
+
+class Gate:
+    """Checks of edits side by side, one on each processor that is free and has memory."""
+
+    def __init__(self, kept, until):
+        self.kept, self.until, self.longest, self.taken, self.turn = kept, until, 0.0, 0, threading.Condition()
+        self.counts, self.untried, self.said = {True: 0, False: 0}, [], threading.Lock()
+
+    @contextlib.contextmanager
+    def lane(self):
+        with self.turn:
+            while self.taken and (self.taken >= (os.cpu_count() or 1) or free_memory() < LEAST_FREE):
+                self.turn.wait(1)
+            self.taken += 1
+        try:
+            yield
+        finally:
+            with self.turn:
+                self.taken -= 1
+                self.turn.notify_all()
+
+    def check(self, crate, texts, names, over):
+        """What the prover says of these functions of the crate with these texts, or None if there is no time. It goes on from what is kept in the folder
+        `over`, and keeps there what it proves. A check that is killed, most likely for memory, runs once more."""
+        with tempfile.TemporaryDirectory(prefix='edit-') as room:
+            for part in ('src', 'specs', 'proofs'):
+                if os.path.isdir(os.path.join(crate.own, part)):
+                    shutil.copytree(os.path.join(crate.own, part), os.path.join(room, part))
+            for path, text in texts.items():
+                with open(os.path.join(room, path), 'w', encoding='utf-8') as file:
+                    file.write(text)
+            key = hashlib.sha256(repr((crate.below_sum, crate.name, sum_of(room), names)).encode()).hexdigest()
+            if said := self.kept.get(key):
+                self.kept.given += 1
+                return said
+            only = [word for name in names for word in ('--only', name)]
+            for _ in range(2):
+                with self.lane():
+                    began = time.time()
+                    if self.until and began + self.longest > self.until:
+                        return None
+                    ran = subprocess.run([*crate.command, *only, '--incremental', over], cwd=room, stdin=subprocess.DEVNULL, stdout=subprocess.PIPE,
+                                         stderr=subprocess.STDOUT, text=True, errors='replace')
+                    self.longest = max(self.longest, time.time() - began)
+                if ran.returncode != -signal.SIGKILL:
+                    break
+            self.kept.made += 1
+        if goals(ran.stdout, crate.name):
+            self.kept.put(key, ran.stdout)
+        return ran.stdout
+
+    def try_together(self, crate, edits, texts):
+        """Tries edits in one check. The first check of a crate keeps what its functions stand on, and the others begin with a copy of that. An edit of a
+        function that calls another one of them may be judged by that one alone, so what seems to be let through is tried by itself."""
+        with tempfile.TemporaryDirectory(prefix='over-') as room:
+            over = os.path.join(room, 'kept')
+            with crate.turn:
+                is_first = crate.room is None
+                if is_first:
+                    crate.room = tempfile.mkdtemp(prefix='kept-')
+                    said = self.check(crate, texts, crate.asked(edits), crate.room)
+            if not is_first:
+                shutil.copytree(crate.room, over, copy_function=link)
+                said = self.check(crate, texts, crate.asked(edits), over)
+        if said is None:
+            self.untried += [(crate, edit) for edit in edits]
+            return
+        found = goals(said, crate.name)
+        for edit in edits:
+            by = edit.among(found)
+            if by or len(edits) == 1:
+                why = '; '.join(f'{function} by {", ".join(found[function])}' for function in by) if by else f'let through, or not read: {said[-300:]}'
+                self.note(crate, edit, bool(by), why)
+            else:
+                self.try_together(crate, [edit], edit.made({}))
+
+    def note(self, crate, edit, is_refused, why):
+        with self.said:
+            self.counts[is_refused] += 1
+            print(f'{crate.name}/{edit.name}: {"refused: " * is_refused}{why}', flush=True)
+
+
+def changed_since(revision):
+    """The crates with files that aren't as in this revision."""
+    words = ['git', '-C', ROOT, 'diff', '--name-only', revision, '--', 'crates']
+    said = subprocess.run(words, capture_output=True, text=True, check=False).stdout
+    return set(re.findall(r'^crates/(\w+)/', said, re.M))
 
 
 def main(given):
     parser = argparse.ArgumentParser()
-    parser.add_argument('--beside')
-    parser.add_argument('--crates', default=ROOT)
     parser.add_argument('--all', action='store_true')
     parser.add_argument('--anew', action='store_true')
+    parser.add_argument('--until', type=float)
+    parser.add_argument('--base')
+    parser.add_argument('--crates', default=ROOT)
     parser.add_argument('names', nargs='*')
     given = parser.parse_args(given)
-    if not os.path.isdir(os.path.join(given.crates, 'crates')):
-        sys.exit(f'tests/edits.py: {given.crates} has no folder crates: --crates wants the top of a clone')
     kit, version = (subprocess.run(['rt', word], capture_output=True, text=True, check=True).stdout.strip() for word in ('doc', 'version'))
-    kit = os.path.dirname(kit)
     lines = [line.partition(':') for line in read(os.path.join(ROOT, 'crates.txt')).splitlines() if not line.startswith('#')]
-    log = Log(given.beside)
-    lanes, said = Lanes(log), Kept(KEPT, not given.anew)
-    crates = {name: Crate(given.crates, name, libraries.split(), lanes, said) for name, _, libraries in lines}
+    crates = {name: Crate(given.crates, name, libraries.split()) for name, _, libraries in lines}
+    for crate in crates.values():
+        crate.read_edits(given.all)
+    wanted = [crate for crate in crates.values() if crate.edits and (not given.names or crate.name in given.names)]
+    missing = {name for crate in wanted for name, other in below(crate, crates).items() if not os.path.exists(f'{other.folder}/out/rlib/{name}.rlib')}
+    if missing:
+        sys.exit(f'tests/edits.py: not built below {given.crates}: {", ".join(sorted(missing))}')
+    for crate in wanted:
+        others = below(crate, crates)
+        crate.command = crate.words(os.path.dirname(kit), others)
+        crate.below_sum = version, [(name, other.rlib_sum) for name, other in sorted(others.items())]
 
-    def below(crate):
-        found = {}
-        for name in crate.libraries:
-            if name in crates:
-                found |= below(crates[name]) | {name: crates[name].folder}
-        return found
+    gate = Gate(Kept(KEPT, not given.anew), given.until)
+    changed = changed_since(given.base) if given.base else set()
+    # the heaviest crates begin
+    wanted.sort(key=lambda crate: -len(crate.edits))
+    phases = ([(crate, one) for crate in wanted if crate.name in changed for one in crate.rounds],
+              [(crate, one) for crate in wanted if crate.name not in changed for one in crate.rounds[:1]],
+              [(crate, one) for crate in wanted if crate.name not in changed for one in crate.rounds[1:]])
+    try:
+        for crate in wanted:
+            for edit in crate.edits:
+                if not edit.made({}):
+                    gate.note(crate, edit, False, 'it has no text to change, or one that does not stand once in its file')
+        for phase in phases:
+            with ThreadPoolExecutor(max(1, len(phase))) as pool:
+                list(pool.map(lambda each: gate.try_together(each[0], *each[1]), phase))
+    finally:
+        for crate in wanted:
+            if crate.room:
+                shutil.rmtree(crate.room, ignore_errors=True)
 
-    def work(crate):
-        built = below(crate)
-        while given.beside and not (seen := log.now()).proved >= {*built, crate.name}:
-            if seen.has_ended:
-                return [(crate.name, [], 'it is not proved, or what it stands on')]
-            time.sleep(1)
-        crate.below_sum = version, [(name, crates[name].rlib_sum) for name in sorted(built)]
-        return tried(crate, crate.words(kit, built), functions(log.now().said, crate) or crate.built_functions())
-
-    wanted = [crate for name, crate in crates.items() if crate.edits and (not given.names or name in given.names)]
-    missing = {name for crate in wanted for name, folder in below(crate).items() if not os.path.exists(f'{folder}/out/rlib/{name}.rlib')}
-    if missing and not given.beside:
-        sys.exit(f'tests/edits.py: not built below {given.crates}: {", ".join(sorted(missing))}; `rt check` in the crate above builds them')
-    count = [0, 0]
-    with ThreadPoolExecutor(max(1, len(wanted))) as pool:
-        for crate, found in zip(wanted, pool.map(work, wanted)):
-            for name, by, why in found:
-                count[not by] += 1
-                if given.all or not by:
-                    print(f'{crate.name}/{name}: {"refused: " + ", ".join(by) if by else why}', flush=True)
-    print(f'checks of edits: {len(said.made)} made in this run, {len(said.given)} kept from earlier runs on this machine')
-    print(f'{count[0]} passed, {count[1]} failed')
-    return 1 if count[1] else 0
+    first = {id(edit) for crate in wanted for edits, _ in crate.rounds[:1] for edit in edits}
+    for crate in wanted:
+        if lacking := [edit.name for other, edit in gate.untried if other is crate and (crate.name in changed or id(edit) in first)]:
+            gate.counts[False] += 1
+            print(f'{crate.name}: not tried for time, though {"the crate was changed" if crate.name in changed else "they are of public functions"}: {", ".join(lacking)}')
+    every, have = (sum(crate.public[place] for crate in wanted) for place in (0, 1))
+    print(f'checks of edits: {gate.kept.made} made in this run, {gate.kept.given} kept from earlier runs on this machine')
+    print(f'edits: {sum(gate.counts.values())} of {sum(len(crate.edits) for crate in wanted)} tried ({have} of {every} public functions have one of their own'
+          f'{"; all of " + ", ".join(sorted(changed & set(crates))) if changed & set(crates) else ""}); {len(gate.untried)} not tried for time')
+    print(f'{gate.counts[True]} passed, {gate.counts[False]} failed')
+    return 1 if gate.counts[False] else 0
 
 
 if __name__ == '__main__':
