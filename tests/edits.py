@@ -171,7 +171,7 @@ class Crate:
         for each in edits:
             each.sort(key=lambda edit: not edit.functions & public)
         self.edits = [edit for each in edits for edit in each]
-        self.rounds = rounds([edit for edit in self.edits if edit.made({})])
+        self.rounds = [one for each in edits for one in rounds([edit for edit in each if edit.made({})])]
         self.public = len(public), len(public & {name for edit in self.edits for name in edit.functions})
 
     def known(self):
