@@ -234,12 +234,14 @@ def goals(said, name):
     found, noted = {}, []
     for path, goal, why in re.findall(r'^\./proofs/(\S+)/(?:Answers|Invariants)\.antt:\S+ error: `([^`]*)`: (.*)', said, re.M):
         found.setdefault(path.replace('/', '::'), set()).update([] if GONE.search(why) else [goal])
+    for goal, path in re.findall(r'^note: `([^`]*)` of proofs/(\S+)/Answers\.antt must prove: ', said, re.M):
+        found.setdefault(path.replace('/', '::'), set()).add(goal)
     for line in said.splitlines():
         if note := re.match(r'note: src/\S+: it is not proved .*\(`([^`]*)`\)', line):
             noted.append(note[1])
         elif told := re.match(rf'fn {name}::(\S+): (.*)', line):
-            if told[2] != 'proved' and (noted or 'did not prove' in told[2]):
-                found.setdefault(told[1], set()).update(noted, re.findall('`([^`]*)`', told[2].partition('did not prove')[2].partition(';')[0]))
+            if told[2] != 'proved':
+                found.setdefault(told[1], set()).update(noted)
             noted = []
     return {function: kept for function, open_goals in found.items() if (kept := sorted(goal for goal in open_goals if not SAFETY.match(goal)))}
 
