@@ -198,7 +198,7 @@ fn a_byte_sets_the_count_of_interrupted_calls_back(rt: HostRuntime) -> Result<()
     Ok(())
 }
 
-// A run over tables of which the feed of one fails at this call: the table can't be read if so many calls, up to the one that tells its end, aren't made.
+// This call of the feed of one table fails, of each in turn: the table can't be read, unless so many calls, with the one that tells its end, came before.
 fn check_feeds(
     rt: &(impl Abort + AllocGlobal),
     turns: &[Turn],
