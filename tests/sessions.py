@@ -23,7 +23,7 @@ import subprocess
 import sys
 import tempfile
 
-from cases import CHILD, ONE, Case, full, lines, tables
+from cases import CHILD, ONE, SOME, Case, full, lines, tables
 from model import (LIST_HEADER, RULES, body, claim, draw_cloud, draw_query, explanation, has_candidate, host_rows, judgement, list_rows, names,
                    place_all, release, usage_rows, why_rows)
 from notation import HEADERS
@@ -135,6 +135,71 @@ TOO_MUCH = [
     ('usages', ended(HEADERS['usages'] + 'P1,VCPU,2147483647\n', 0)),
 ]
 
+# Words that are empty, that other bytes than blanks part, or that look like others; and what each kind of question answers.
+WORDS = [
+    (' ', ended('', 2, UNKNOWN)),
+    ('  ', ended('', 2, UNKNOWN)),
+    ('checks', ended('', 2, UNKNOWN)),
+    ('chec', ended('', 2, UNKNOWN)),
+    ('claims', ended('', 2, UNKNOWN)),
+    (f'explain\t{TWO}', ended('', 2, UNKNOWN)),
+    (f'verify {TWO}\tP1', ended('', 2, NUMBER)),
+    (f'explain  {TWO}', ended('', 2, NUMBER)),
+    (f'why {TWO}  ', ended('', 2, NUMBER)),
+    ('explain ', ended('', 4, 'query: NoResources')),
+    ('tokens  P1', ended('', 4, 'query: NoResources')),
+    (f'explain {TWO}\r\r', ended('', 4, 'query: pair 1: BadValue')),
+    ('explain \0', ended('', 4, 'query: pair 1: UnknownParameter')),
+    ('explain \u00e4', ended('', 4, 'query: pair 1: UnknownParameter')),
+    (f'tokens {TWO} P1', ended('', 0)),
+    (f'candidates {TWO} P1', ended('{"allocation_requests":[],"provider_summaries":{}}\n', 0)),
+    (f'verify {TWO} P1', ended('candidate\n', 0)),
+    (f'explain {TWO}', ended('slot 1 "" VCPU:2: units 1 of 1, traits 1, aggregates 1, tree 1, room 1\n'
+                             'trees 1: root traits 1, each slot 1, required traits 1\ncandidates: some\n', 0)),
+    (f'hosts {TWO}', ended('root,name,fits,slot,lacks\nP1,,yes,,\n', 0)),
+    (f'why {TWO} P1', ended('slot,suffix,provider,name,lacks,detail\n1,,P1,,,\n,,P1,,,\n,,P1,,,fits\n', 0)),
+]
+
+# Two hosts, of which the first has three units in use.
+THREE_USED = tables('P1 | | VCPU total 8, used 3\nP2 | | VCPU total 8')
+TURNS = [
+    (f'tokens {FIVE}', ended('P1\nP2\n', 0)),
+    (f'claim {FIVE} P1', ended('claimed\n', 0)),
+    # What was claimed isn't there any more.
+    (f'claim {FIVE} P1', ended('no: rule 6 Sums\n', 1)),
+    (f'tokens {FIVE}', ended('P2\n', 0)),
+    ('verify resources=VCPU:1 P1', ended('no: rule 6 Sums\n', 1)),
+    # Nor can more be released than is used.
+    ('release resources=VCPU:8 P2', ended('not in use\n', 1)),
+    (f'release {FIVE} P1', ended('released\n', 0)),
+    (f'tokens {FIVE}', ended('P1\nP2\n', 0)),
+    # Two slots of one provider take their sum, and give it back, also what the table had in use.
+    ('claim resources1=VCPU:2&resources2=VCPU:3&group_policy=none P1,P1', ended('claimed\n', 0)),
+    ('tokens resources=VCPU:1', ended('P2\n', 0)),
+    ('release resources1=VCPU:4&resources2=VCPU:5&group_policy=none P1,P1', ended('not in use\n', 1)),
+    ('release resources1=VCPU:4&resources2=VCPU:4&group_policy=none P1,P1', ended('released\n', 0)),
+    ('claim resources=VCPU:8 P1', ended('claimed\n', 0)),
+    # Providers that aren't there, and refusals.
+    ('claim resources=VCPU:1 P7', ended('unknown provider\n', 1)),
+    ('release resources=VCPU:1 P7', ended('unknown provider\n', 1)),
+    ('claim resources=VCPU:x P1', ended('', 4, 'query: pair 1: BadValue')),
+    ('release resources=VCPU:1 1', ended('', 5, 'token: BadToken')),
+    ('claim resources=VCPU:1 P1,P2', ended('', 5, 'token: WrongLength')),
+    ('check', ended('providers 2\ninventories 2\nusages 1\ntraits 0\naggregates 0\n', 0)),
+    ('why resources=VCPU:1 h', ended('', 5, 'host: Unknown')),
+    ('tokens resources=VCPU:9', ended('', 0)),
+    ('usages', ended(HEADERS['usages'] + 'P1,VCPU,8\n', 0)),
+]
+ASKING_NOTHING = '\nclaims\n\r\nclaim resources=VCPU:1\n  \nverify resources=VCPU:1 P1\r\n\nverify resources=VCPU:9 P1'
+
+# A child above its parent in the table, and a class of which none is in use.
+CLASSES = tables('P2 | P1 | VCPU total 8, used 12\nP1 | | VCPU total 8, used 3; DISK_GB total 9, used 9; MEMORY_MB total 64, used 0')
+
+# A table of no providers, and what is told of the inventories.
+NO_PROVIDERS = {**tables(ONE), 'providers': HEADERS['providers']}
+STRAY = ('inventories: record 2: UnknownProvider\n  ', full('inventories.csv, resource_provider "P1", VCPU: not in the table of providers; '
+                                                            'export all tables together, or take the record out\n'))
+
 
 def behind(name, asked, end='\n', **more):
     """A session that is given these lines, each with this at its end."""
@@ -164,6 +229,19 @@ ENDS = [
     session('a line that is no UTF-8', b'check \xff\n\xff\ntokens resources=VCPU:2\xff\ncheck\n', 3 * ended('', 2, UNKNOWN) + ended(COUNTS, 0)),
     session('zeros in a line', b'check\0\n\0\ncheck\n', 2 * ended('', 2, UNKNOWN) + ended(COUNTS, 0)),
     *(long_line(size, end) for size in (MOST - 1, MOST, MOST + 1, MOST + 2, 8 * MOST) for end in ('\n', '\r\n')),
+    behind('words', WORDS),
+    behind('two hosts, and more refusals', TURNS, made=THREE_USED),
+    session('lines that ask nothing end no session', ASKING_NOTHING, ended('', 2, UNKNOWN) + ended('', 2, NUMBER) + ended('', 2, UNKNOWN) + ended('candidate\n', 0)
+            + ended('no: rule 1 Units\n', 1)),
+    session('usages of several classes', 'usages\n', ended(HEADERS['usages'] + 'P1,DISK_GB,9\nP1,VCPU,3\nP2,VCPU,12\n', 0), made=CLASSES),
+    session('as much in use as a table can state', 'usages\n', ended(HEADERS['usages'] + 'P1,VCPU,2147483647\n', 0), made=tables('P1 | | VCPU total 8, used 2147483647')),
+    *(session(f'a line of {size} bytes at the end, without a newline', 'tokens '.ljust(size, 'a') + end, ended('', 2, LONG) if size + len(end) > MOST
+              else ended('', 4, 'query: QueryTooLong')) for size, end in ((MOST, ''), (MOST + 1, ''), (MOST - 1, '\r'), (MOST, '\r'), (300000, ''))),
+    session('a line of the most bytes behind a short one', 'nonsense\n' + 'tokens '.ljust(MOST, 'a') + '\ncheck', ended('', 2, UNKNOWN)
+            + ended('', 4, 'query: QueryTooLong') + ended(COUNTS, 0)),
+    session('a table without providers', b'check\n', '', made=NO_PROVIDERS, err=STRAY[0].partition('\n')[0] + '\n', status=3),
+    session('a table without providers, in detail', b'check\n', '', '--detail', made=NO_PROVIDERS, err=SOME, status=3, has=STRAY),
+    session('in detail, nothing stands behind an answer', b'check\nhosts required=x\n', ended(COUNTS, 0) + ended('', 4, 'query: pair 1: BadValue'), '--detail'),
     session('a refused table', b'check\n', '', made={**tables(ONE), 'providers': 'uuid\n'}, err='providers: record 1: MissingColumn\n', status=3),
     session('a full device', b'check\n', '', err='output: WriteFailed\n', status=6, to='/dev/full'),
     session('a full device, and nothing to write', b'\n', '', to='/dev/full'),

@@ -9,9 +9,6 @@ use ac_run::{Command, Inputs, Job, run, run_gathered};
 use std::alloc::{AllocError, Global};
 use std::process::Abort;
 
-mod crowded;
-mod cuts;
-mod details;
 mod devices;
 mod examples;
 mod refusals;
@@ -63,14 +60,12 @@ struct Texts {
 }
 
 // Each table's rows under its header.
-fn texts_under_headers(
-    alloc: Global,
-    providers: &str,
-    inventories: &str,
-    usages: &str,
-    traits: &str,
-    aggregates: &str,
-) -> Result<Texts, AllocError> {
+fn texts_of(alloc: Global, rows: &Rows) -> Result<Texts, AllocError> {
+    let providers = expanded(alloc, rows.providers)?;
+    let inventories = expanded(alloc, rows.inventories)?;
+    let usages = expanded(alloc, rows.usages)?;
+    let traits = expanded(alloc, rows.traits)?;
+    let aggregates = expanded(alloc, rows.aggregates)?;
     Ok(Texts {
         providers: format!(in alloc; "uuid,root_provider_uuid,parent_provider_uuid\n{providers}")?,
         inventories: format!(in alloc;
@@ -80,22 +75,6 @@ fn texts_under_headers(
         traits: format!(in alloc; "resource_provider,name\n{traits}")?,
         aggregates: format!(in alloc; "resource_provider,uuid\n{aggregates}")?,
     })
-}
-
-fn texts_of(alloc: Global, rows: &Rows) -> Result<Texts, AllocError> {
-    let providers = expanded(alloc, rows.providers)?;
-    let inventories = expanded(alloc, rows.inventories)?;
-    let usages = expanded(alloc, rows.usages)?;
-    let traits = expanded(alloc, rows.traits)?;
-    let aggregates = expanded(alloc, rows.aggregates)?;
-    texts_under_headers(
-        alloc,
-        providers.as_str(),
-        inventories.as_str(),
-        usages.as_str(),
-        traits.as_str(),
-        aggregates.as_str(),
-    )
 }
 
 // Which of the calls makes a run.
@@ -117,9 +96,6 @@ struct Turns<'a> {
     out: &'a [Turn],
     err: &'a [Turn],
     way: Way,
-    // After how many bytes the table ends.
-    providers_end: usize,
-    inventories_end: usize,
 }
 
 const SOUND: Turns<'static> = Turns {
@@ -131,8 +107,6 @@ const SOUND: Turns<'static> = Turns {
     out: &[],
     err: &[],
     way: Way::Plain,
-    providers_end: usize::MAX,
-    inventories_end: usize::MAX,
 };
 
 // Every device goes by these turns.
@@ -171,12 +145,6 @@ fn text_of(alloc: Global, bytes: &[u8]) -> Result<String, AllocError> {
     }
 }
 
-// The bytes of a table that ends after so many.
-fn front(text: &String, end: usize) -> &[u8] {
-    let bytes = text.as_bytes();
-    &bytes[..end.min(bytes.len())]
-}
-
 // The paths of the tables' files.
 const PATHS: Paths<'static> = Paths {
     providers: "p.csv",
@@ -186,19 +154,14 @@ const PATHS: Paths<'static> = Paths {
     aggregates: Some("a.csv"),
 };
 
-// A run over the five tables.
-fn run_texts(alloc: Global, texts: &Texts, job: &Job<'_>, turns: Turns) -> Result<Left, AllocError>
+// A run over the tables of these rows.
+fn run_over(alloc: Global, rows: &Rows, job: &Job<'_>, turns: Turns) -> Result<Left, AllocError>
     requires { HasToken job.now.command (option_map (λ token. token.now) job.now.token) }
 {
+    let texts = texts_of(alloc, rows)?;
     let mut inputs = Inputs {
-        providers: MemFeed::new(
-            front(&texts.providers, turns.providers_end),
-            turns.providers,
-        ),
-        inventories: MemFeed::new(
-            front(&texts.inventories, turns.inventories_end),
-            turns.inventories,
-        ),
+        providers: MemFeed::new(texts.providers.as_bytes(), turns.providers),
+        inventories: MemFeed::new(texts.inventories.as_bytes(), turns.inventories),
         usages: Some(MemFeed::new(texts.usages.as_bytes(), turns.usages)),
         traits: Some(MemFeed::new(texts.traits.as_bytes(), turns.traits)),
         aggregates: Some(MemFeed::new(texts.aggregates.as_bytes(), turns.aggregates)),
@@ -223,14 +186,6 @@ fn run_texts(alloc: Global, texts: &Texts, job: &Job<'_>, turns: Turns) -> Resul
         line: text_of(alloc, err.taken())?,
         status,
     })
-}
-
-// A run over the tables of these rows.
-fn run_over(alloc: Global, rows: &Rows, job: &Job<'_>, turns: Turns) -> Result<Left, AllocError>
-    requires { HasToken job.now.command (option_map (λ token. token.now) job.now.token) }
-{
-    let texts = texts_of(alloc, rows)?;
-    run_texts(alloc, &texts, job, turns)
 }
 
 // What a run is asked, and what it answers. In all texts `@1` stands for the UUID that ends with 1.
@@ -265,6 +220,59 @@ const TOKENS: Case = Case {
     line: "",
     status: 0,
 };
+
+// An answer of each command over one provider.
+static ANSWERS: [Case; 9] = [
+    Case {
+        output: "@1\n",
+        ..TOKENS
+    },
+    Case {
+        command: Command::Candidates,
+        output: ONE_BODY,
+        ..TOKENS
+    },
+    Case {
+        command: Command::Check,
+        output: "providers 1\ninventories 1\nusages 0\ntraits 0\naggregates 0\n",
+        ..TOKENS
+    },
+    Case {
+        command: Command::Verify,
+        token: Some("@1"),
+        output: "candidate\n",
+        ..TOKENS
+    },
+    Case {
+        command: Command::Explain,
+        output: "slot 1 \"\" VCPU:2: units 1 of 1, traits 1, aggregates 1, tree 1, room 1\n\
+            trees 1: root traits 1, each slot 1, required traits 1\n\
+            candidates: some\n",
+        ..TOKENS
+    },
+    Case {
+        command: Command::Hosts,
+        output: "root,name,fits,slot,lacks\n@1,,yes,,\n",
+        ..TOKENS
+    },
+    Case {
+        command: Command::Why,
+        host: Some("@1"),
+        output: "slot,suffix,provider,name,lacks,detail\n1,,@1,,,\n,,@1,,,\n,,@1,,,fits\n",
+        ..TOKENS
+    },
+    Case {
+        command: Command::List,
+        output: "#,allocation,resource provider,name,inventory used/capacity,traits\n1,VCPU=2,@1,,VCPU=0/8,\n",
+        ..TOKENS
+    },
+    Case {
+        command: Command::Fill,
+        query: "resources=VCPU:3",
+        output: "@1\n@1\n",
+        ..TOKENS
+    },
+];
 
 // What a case asks, written out.
 #[derive(Drop)]

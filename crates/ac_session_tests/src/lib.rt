@@ -4,8 +4,6 @@
 #[cfg(test)]
 mod lines;
 #[cfg(test)]
-mod questions;
-#[cfg(test)]
 mod sessions;
 #[cfg(test)]
 mod usages;

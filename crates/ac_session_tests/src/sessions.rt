@@ -7,19 +7,11 @@ use ac_session::{Lines, run_session, run_session_detailed};
 use std::alloc::{AllocError, Global};
 use std::process::Abort;
 
-mod claims;
 mod devices;
 mod refusals;
 
 // Two providers with eight units of a class; of the first one three are used. `@1` stands for the UUID that ends with 1.
 const PROVIDERS: &str = "uuid,root_provider_uuid,parent_provider_uuid\n@1,@1,\n@2,@2,\n";
-
-// A table without a provider, and what is then told of the inventories in detail.
-const NO_PROVIDERS: &str = "uuid,root_provider_uuid,parent_provider_uuid\n";
-
-const UNKNOWN: &str =
-    "inventories: record 2: UnknownProvider\n  i.csv, resource_provider \"00000000-0000-0000-0000-000000000001\", VCPU: \
-    not in the table of providers; export all tables together, or take the record out\n";
 
 const INVENTORIES: &str =
     "resource_provider,resource_class,total,reserved,min_unit,max_unit,step_size,allocation_ratio\n\
@@ -36,7 +28,6 @@ fn expanded(alloc: Global, text: &str) -> Result<String, AllocError> {
 struct Turns<'a> {
     detail: bool,
     providers: &'a [Turn],
-    others: &'a [Turn],
     questions: &'a [Turn],
     out: &'a [Turn],
     err: &'a [Turn],
@@ -45,7 +36,6 @@ struct Turns<'a> {
 const SOUND: Turns<'static> = Turns {
     detail: false,
     providers: &[],
-    others: &[],
     questions: &[],
     out: &[],
     err: &[],
@@ -88,8 +78,8 @@ const PATHS: Paths<'static> = Paths {
 fn run_texts(alloc: Global, texts: &Texts, turns: Turns) -> Result<Left, AllocError> {
     let mut inputs = Inputs {
         providers: MemFeed::new(texts.providers.as_bytes(), turns.providers),
-        inventories: MemFeed::new(texts.inventories.as_bytes(), turns.others),
-        usages: Some(MemFeed::new(texts.usages.as_bytes(), turns.others)),
+        inventories: MemFeed::new(texts.inventories.as_bytes(), &[]),
+        usages: Some(MemFeed::new(texts.usages.as_bytes(), &[])),
         traits: None,
         aggregates: None,
     };

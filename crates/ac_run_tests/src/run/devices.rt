@@ -1,39 +1,36 @@
-//! Devices that fail.
+//! Devices that fail, each at each of its calls, and what they leave of an answer or of a line.
 use super::{
-    Case, Left, ONE, ONE_BODY, SOUND, TOKENS, Texts, Turns, Way, alike, check_case, expanded,
-    expect_left, left_by, texts_of,
+    ANSWERS, Case, Left, ONE, ONE_BODY, Rows, SOUND, TOKENS, Turns, Way, alike, check_case,
+    expanded, expect_left, left_by,
 };
 use ac_base::Turn;
 use ac_run::Command;
-use ac_tables::Table;
 use std::alloc::AllocError;
 use std::process::Abort;
 use std::test::Fail;
-
-const CANDIDATES: Case = Case {
-    command: Command::Candidates,
-    ..TOKENS
-};
 
 const ONE_TOKEN: Case = Case {
     output: "@1\n",
     ..TOKENS
 };
 
-const FAILED_OUTPUT: Case = Case {
-    line: "output: WriteFailed\n",
-    status: 6,
+const BODY: Case = Case {
+    command: Command::Candidates,
+    output: ONE_BODY,
     ..TOKENS
 };
 
-const FAILED_BODY: Case = Case {
-    command: Command::Candidates,
-    ..FAILED_OUTPUT
+// A command that asks for no query.
+const COUNTS: Case = Case {
+    command: Command::Check,
+    query: "",
+    output: "providers 1\ninventories 1\nusages 0\ntraits 0\naggregates 0\n",
+    ..TOKENS
 };
 
-const FAILED_TABLE: Case = Case {
-    line: "inventories: Unreadable\n",
-    status: 3,
+const NO_QUERY: Case = Case {
+    query: "",
+    status: 4,
     ..TOKENS
 };
 
@@ -48,48 +45,38 @@ const GATHERED: Turns<'static> = Turns {
     ..SOUND
 };
 
-// Devices that fail, and what a run over them leaves.
-static FAILING: [(Turns<'static>, Case); 16] = [
-    // A feed that fails is not at its end.
-    (
-        Turns {
-            inventories: &[Turn::Up(20), Turn::Failed],
-            ..SOUND
-        },
-        FAILED_TABLE,
-    ),
-    (
-        Turns {
-            inventories: &[Turn::Up(20), Turn::Failed],
-            ..GATHERED
-        },
-        FAILED_TABLE,
-    ),
-    // A sink that fails keeps what it took.
-    (
-        Turns {
-            out: &[Turn::Up(10), Turn::Failed],
-            ..SOUND
-        },
-        Case {
-            output: "{\"allocati",
-            ..FAILED_BODY
-        },
-    ),
-    // An error sink that fails leaves the status.
-    (
-        Turns {
-            err: &[Turn::Up(5), Turn::Failed],
-            ..SOUND
-        },
-        Case {
-            query: "",
-            line: "query",
-            status: 4,
-            ..TOKENS
-        },
-    ),
-    // A thousand interrupted calls in a row are borne, by a feed and by a sink, and one more is a failure.
+pub(super) const DETAILED: Turns<'static> = Turns {
+    way: Way::Detailed,
+    ..SOUND
+};
+
+// An output that fails keeps what it took. One that takes nothing has failed, at its first call and after some bytes: it isn't asked again. A thousand
+// interrupted calls in a row are borne, and one more is a failure.
+static FAILING_OUTPUTS: [(&[Turn], &str); 4] = [
+    (&[Turn::Up(10), Turn::Failed], "{\"allocati"),
+    (&[Turn::Up(0)], ""),
+    (&[Turn::Up(5), Turn::Up(0)], "{\"all"),
+    (ONCE_MORE, ""),
+];
+
+// The same where the output is gathered: it is pushed at the end, and its failure is told once.
+#[test]
+fn outputs_that_fail(rt: HostRuntime) -> Result<(), Fail> {
+    for (number, (out, output)) in FAILING_OUTPUTS.iter().enumerate() {
+        let case = Case {
+            output,
+            line: "output: WriteFailed\n",
+            status: 6,
+            ..BODY
+        };
+        check_case(&rt, &case, Turns { out, ..SOUND }, number)?;
+        check_case(&rt, &case, Turns { out, ..GATHERED }, number)?;
+    }
+    Ok(())
+}
+
+// Feeds and error sinks that fail or are interrupted, and what a run over them leaves.
+static FAILING: [(Turns<'static>, Case); 8] = [
     (
         Turns {
             providers: AGAIN,
@@ -100,24 +87,6 @@ static FAILING: [(Turns<'static>, Case); 16] = [
     ),
     (
         Turns {
-            providers: ONCE_MORE,
-            ..SOUND
-        },
-        Case {
-            line: "providers: Unreadable\n",
-            ..FAILED_TABLE
-        },
-    ),
-    (
-        Turns {
-            out: ONCE_MORE,
-            ..SOUND
-        },
-        FAILED_OUTPUT,
-    ),
-    // The same where the output is gathered: it is pushed at the end, and its failure is told once.
-    (
-        Turns {
             out: AGAIN,
             ..GATHERED
         },
@@ -125,57 +94,44 @@ static FAILING: [(Turns<'static>, Case); 16] = [
     ),
     (
         Turns {
-            out: ONCE_MORE,
-            ..GATHERED
-        },
-        FAILED_OUTPUT,
-    ),
-    // A sink that takes nothing has failed, at its first call and after some bytes: it isn't asked again.
-    (
-        Turns {
-            out: &[Turn::Up(0)],
-            ..SOUND
-        },
-        FAILED_BODY,
-    ),
-    (
-        Turns {
-            out: &[Turn::Up(0)],
-            ..GATHERED
-        },
-        FAILED_BODY,
-    ),
-    (
-        Turns {
-            out: &[Turn::Up(5), Turn::Up(0)],
+            providers: ONCE_MORE,
             ..SOUND
         },
         Case {
-            output: "{\"all",
-            ..FAILED_BODY
+            line: "providers: Unreadable\n",
+            status: 3,
+            ..TOKENS
         },
     ),
+    // A feed that fails is not at its end.
     (
         Turns {
-            out: &[Turn::Up(5), Turn::Up(0)],
+            inventories: &[Turn::Up(20), Turn::Failed],
             ..GATHERED
         },
         Case {
-            output: "{\"all",
-            ..FAILED_BODY
+            line: "inventories: Unreadable\n",
+            status: 3,
+            ..TOKENS
         },
     ),
-    // An error sink that fails at its first call is left empty, and the status is what it would have been.
+    // An error sink that fails keeps what it took, and the status is what it would have been.
+    (
+        Turns {
+            err: &[Turn::Up(5), Turn::Failed],
+            ..SOUND
+        },
+        Case {
+            line: "query",
+            ..NO_QUERY
+        },
+    ),
     (
         Turns {
             err: FAILED,
             ..SOUND
         },
-        Case {
-            query: "",
-            status: 4,
-            ..TOKENS
-        },
+        NO_QUERY,
     ),
     (
         Turns {
@@ -218,111 +174,102 @@ fn a_byte_sets_the_count_of_interrupted_calls_back(rt: HostRuntime) -> Result<()
 
     let mut once_more = [Turn::Again; 2002];
     once_more[1000] = Turn::Up(1);
-    let feed = Case {
-        line: "traits: Unreadable\n",
-        ..FAILED_TABLE
-    };
-    check_case(&rt, &feed, feed_of(Table::Traits, &once_more), 1)?;
-    let sink = Case {
-        output: "0",
-        ..FAILED_OUTPUT
-    };
-    check_case(&rt, &sink, out_of(&once_more), 2)?;
-    Ok(())
-}
-
-// The output goes by these turns.
-fn out_of<'a>(turns: &'a [Turn]) -> Turns<'a> {
-    Turns {
-        out: turns,
+    let feed = Turns {
+        traits: &once_more,
         ..SOUND
-    }
-}
-
-// One table's feed goes by these turns.
-fn feed_of<'a>(table: Table, turns: &'a [Turn]) -> Turns<'a> {
-    match table {
-        Table::Providers => Turns {
-            providers: turns,
-            ..SOUND
-        },
-        Table::Inventories => Turns {
-            inventories: turns,
-            ..SOUND
-        },
-        Table::Usages => Turns {
-            usages: turns,
-            ..SOUND
-        },
-        Table::Traits => Turns {
-            traits: turns,
-            ..SOUND
-        },
-        Table::Aggregates => Turns {
-            aggregates: turns,
-            ..SOUND
-        },
-    }
-}
-
-fn size_of(texts: &Texts, table: Table) -> usize {
-    match table {
-        Table::Providers => texts.providers.len(),
-        Table::Inventories => texts.inventories.len(),
-        Table::Usages => texts.usages.len(),
-        Table::Traits => texts.traits.len(),
-        Table::Aggregates => texts.aggregates.len(),
-    }
-}
-
-const COUNTS: Case = Case {
-    command: Command::Check,
-    output: "providers 1\ninventories 1\nusages 0\ntraits 0\naggregates 0\n",
-    ..TOKENS
-};
-
-const UNASKED: Case = Case {
-    query: "",
-    ..COUNTS
-};
-
-// Each call of one feed fails in turn, where each gives a byte: the one that would tell the end, too.
-fn check_feed(
-    rt: &(impl Abort + AllocGlobal),
-    table: Table,
-    line: &'static str,
-) -> Result<(), AllocError> {
-    let alloc = rt.alloc();
-    let case = Case {
-        output: "",
-        line,
-        status: 3,
-        ..UNASKED
     };
-    let texts = texts_of(alloc, &ONE)?;
-    let mut turns = Vec::new(alloc);
-    for call in 0..=size_of(&texts, table) {
-        turns.push(Turn::Failed)?;
-        check_case(rt, &case, feed_of(table, &turns), call)?;
-        let _failed = turns.pop();
-        turns.push(Turn::Up(1))?;
-    }
-    turns.push(Turn::Failed)?;
-    let left = left_by(rt, &UNASKED, feed_of(table, &turns))?;
-    assert_eq!(rt; left.status, 0);
+    let unreadable = Case {
+        line: "traits: Unreadable\n",
+        status: 3,
+        ..TOKENS
+    };
+    check_case(&rt, &unreadable, feed, 1)?;
+    let sink = Turns {
+        out: &once_more,
+        ..SOUND
+    };
+    let failed = Case {
+        output: "0",
+        line: "output: WriteFailed\n",
+        status: 6,
+        ..TOKENS
+    };
+    check_case(&rt, &failed, sink, 2)?;
     Ok(())
 }
 
+// This call of the feed of one table fails, of each in turn: the table can't be read, unless so many calls, with the one that tells its end, came before.
+fn check_feeds(
+    rt: &(impl Abort + AllocGlobal),
+    turns: &[Turn],
+    call: usize,
+) -> Result<(), AllocError> {
+    for (feed, line, calls) in [
+        (
+            Turns {
+                providers: turns,
+                ..SOUND
+            },
+            "providers: Unreadable\n",
+            121,
+        ),
+        (
+            Turns {
+                inventories: turns,
+                ..SOUND
+            },
+            "inventories: Unreadable\n",
+            150,
+        ),
+        (
+            Turns {
+                usages: turns,
+                ..SOUND
+            },
+            "usages: Unreadable\n",
+            40,
+        ),
+        (
+            Turns {
+                traits: turns,
+                ..SOUND
+            },
+            "traits: Unreadable\n",
+            24,
+        ),
+        (
+            Turns {
+                aggregates: turns,
+                ..SOUND
+            },
+            "aggregates: Unreadable\n",
+            24,
+        ),
+    ] {
+        let failed = Case {
+            output: "",
+            line,
+            status: 3,
+            ..COUNTS
+        };
+        if call < calls {
+            check_case(rt, &failed, feed, call)?;
+        } else if call == calls {
+            check_case(rt, &COUNTS, feed, call)?;
+        }
+    }
+    Ok(())
+}
+
+// Each call of each feed fails in turn, where each gives a byte.
 #[test]
 fn each_call_of_a_feed_fails(rt: HostRuntime) -> Result<(), Fail> {
-    for (table, line) in [
-        (Table::Providers, "providers: Unreadable\n"),
-        (Table::Inventories, "inventories: Unreadable\n"),
-        (Table::Usages, "usages: Unreadable\n"),
-        (Table::Traits, "traits: Unreadable\n"),
-        (Table::Aggregates, "aggregates: Unreadable\n"),
-    ] {
-        check_feed(&rt, table, line)?;
+    let mut turns = Vec::new(rt.alloc());
+    for call in 0..151 {
+        turns.push(Turn::Failed)?;
+        check_feeds(&rt, &turns, call)?;
+        let _failed = turns.pop();
+        turns.push(Turn::Up(1))?;
     }
     Ok(())
 }
@@ -334,11 +281,6 @@ fn expect_part(rt: &impl Abort, left: &Left, body: &str, call: usize) {
     assert_eq!(rt; left.status, 6);
 }
 
-const BODY: Case = Case {
-    output: ONE_BODY,
-    ..CANDIDATES
-};
-
 // Each call of the output fails in turn, where each takes a byte: it has taken one byte a call before.
 #[test]
 fn each_call_of_the_output_fails(rt: HostRuntime) -> Result<(), Fail> {
@@ -347,14 +289,22 @@ fn each_call_of_the_output_fails(rt: HostRuntime) -> Result<(), Fail> {
     let mut turns = Vec::new(alloc);
     for call in 0..body.len() {
         turns.push(Turn::Failed)?;
-        let left = left_by(&rt, &BODY, out_of(&turns))?;
+        let out = Turns {
+            out: &turns,
+            ..SOUND
+        };
+        let left = left_by(&rt, &BODY, out)?;
         assert_eq!(rt; left.output.len(), call);
         expect_part(&rt, &left, body.as_str(), call);
         let _failed = turns.pop();
         turns.push(Turn::Up(1))?;
     }
     turns.push(Turn::Failed)?;
-    check_case(&rt, &BODY, out_of(&turns), body.len())?;
+    let out = Turns {
+        out: &turns,
+        ..SOUND
+    };
+    check_case(&rt, &BODY, out, body.len())?;
     Ok(())
 }
 
@@ -366,7 +316,11 @@ fn check_pushes(rt: &(impl Abort + AllocGlobal), case: &Case) -> Result<(), Allo
     let mut taken = 0;
     for call in 0..100 {
         turns.push(Turn::Failed)?;
-        let left = left_by(rt, case, out_of(&turns))?;
+        let out = Turns {
+            out: &turns,
+            ..SOUND
+        };
+        let left = left_by(rt, case, out)?;
         assert!(rt; left.output.len() > taken || call == 0, "call {call}");
         taken = left.output.len();
         if left.status == 0 {
@@ -380,57 +334,81 @@ fn check_pushes(rt: &(impl Abort + AllocGlobal), case: &Case) -> Result<(), Allo
     Ok(())
 }
 
-// The one push of a gathered output fails.
-fn check_gathered(rt: &(impl Abort + AllocGlobal), case: &Case) -> Result<(), AllocError> {
-    let failed = Case {
-        output: "",
-        line: "output: WriteFailed\n",
-        status: 6,
-        ..*case
-    };
-    let turns = Turns {
-        out: FAILED,
-        ..GATHERED
-    };
-    check_case(rt, &failed, turns, 0)
-}
-
-static PIECES: [Case; 7] = [
-    COUNTS,
-    BODY,
-    ONE_TOKEN,
-    Case {
-        command: Command::Verify,
-        token: Some("@1"),
-        output: "candidate\n",
-        ..TOKENS
-    },
-    Case {
-        command: Command::Explain,
-        output: "slot 1 \"\" VCPU:2: units 1 of 1, traits 1, aggregates 1, tree 1, room 1\n\
-            trees 1: root traits 1, each slot 1, required traits 1\n\
-            candidates: some\n",
-        ..TOKENS
-    },
-    Case {
-        command: Command::Hosts,
-        output: "root,name,fits,slot,lacks\n@1,,yes,,\n",
-        ..TOKENS
-    },
-    Case {
-        command: Command::Why,
-        host: Some("@1"),
-        output: "slot,suffix,provider,name,lacks,detail\n1,,@1,,,\n,,@1,,,\n,,@1,,,fits\n",
-        ..TOKENS
-    },
-];
-
-// A failed output is told as one, and never as want of memory.
+// A failed output is told as one, and never as want of memory; so is the one push of a gathered one.
 #[test]
 fn each_whole_piece_of_an_output_fails(rt: HostRuntime) -> Result<(), Fail> {
-    for case in &PIECES {
+    for (number, case) in ANSWERS.iter().enumerate() {
         check_pushes(&rt, case)?;
-        check_gathered(&rt, case)?;
+        let failed = Case {
+            output: "",
+            line: "output: WriteFailed\n",
+            status: 6,
+            ..*case
+        };
+        let out = Turns {
+            out: FAILED,
+            ..GATHERED
+        };
+        check_case(&rt, &failed, out, number)?;
     }
+    Ok(())
+}
+
+// A usage of a class of which there is no inventory, in detail.
+pub(super) const FAULTY: Case = Case {
+    rows: Rows {
+        usages: "@1,MEMORY_MB,1\n",
+        ..ONE
+    },
+    command: Command::Check,
+    line: "usages: record 2: NoInventory\n  u.csv, resource_class \"MEMORY_MB\", \
+        provider 00000000-0000-0000-0000-000000000001: the provider has no inventory of this class; \
+        export all tables together, or take the record out\n",
+    status: 3,
+    ..TOKENS
+};
+
+const WHOLE: Turn = Turn::Up(30);
+
+// In detail, an error sink that fails in the second line keeps what it took, and nothing is pushed behind a first line that failed.
+static FAILING_LINES: [(&[Turn], &str); 3] = [
+    (
+        // The first line is pushed in six pieces, the second in one.
+        &[
+            WHOLE,
+            WHOLE,
+            WHOLE,
+            WHOLE,
+            WHOLE,
+            WHOLE,
+            Turn::Up(8),
+            Turn::Failed,
+        ],
+        "usages: record 2: NoInventory\n  u.csv,",
+    ),
+    (&[Turn::Up(5), Turn::Failed], "usage"),
+    (FAILED, ""),
+];
+
+#[test]
+fn error_sinks_that_fail_in_detail(rt: HostRuntime) -> Result<(), Fail> {
+    for (err, line) in &FAILING_LINES {
+        let left = left_by(&rt, &FAULTY, Turns { err, ..DETAILED })?;
+        expect_left(&rt, &left, "", line, 3, 0);
+    }
+    Ok(())
+}
+
+// A table of which reading fails in the middle tells its path.
+#[test]
+fn a_feed_that_fails_in_detail(rt: HostRuntime) -> Result<(), Fail> {
+    let turns = Turns {
+        inventories: &[Turn::Up(20), Turn::Failed],
+        ..DETAILED
+    };
+    let line =
+        "inventories: Unreadable\n  i.csv: reading failed, as it does of a folder; give the path of a file that can be read\n";
+    let left = left_by(&rt, &TOKENS, turns)?;
+    expect_left(&rt, &left, "", line, 3, 0);
     Ok(())
 }

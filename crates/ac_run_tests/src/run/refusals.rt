@@ -1,13 +1,8 @@
 //! Runs with each growth refused in turn: the whole answer, or `out of memory` with status 7 and a first part of it.
-use super::details::{DETAILED, WHAT_TO_DO};
-use super::{Case, ONE, ONE_BODY, Rows, SOUND, TOKENS, Turns, expanded, expect_left, left_by};
+use super::devices::{DETAILED, FAULTY};
+use super::{ANSWERS, Case, ONE, Rows, SOUND, TOKENS, Turns, expanded, expect_left, left_by};
 use ac_run::Command;
 use std::process::Abort;
-
-const ONE_TOKEN: Case = Case {
-    output: "@1\n",
-    ..TOKENS
-};
 
 // A parent and its child, with eight units each, and a group for each.
 const PAIR: Case = Case {
@@ -36,39 +31,18 @@ fn check(rt: &(impl Abort + AllocGlobal), case: &Case, turns: Turns) {
     }
 }
 
-fn check_all(rt: &(impl Abort + AllocGlobal), cases: &[Case]) {
+fn check_all(rt: &(impl Abort + AllocGlobal), cases: &[Case], turns: Turns) {
     for case in cases {
-        check(rt, case, SOUND);
+        check(rt, case, turns);
     }
 }
 
-static ANSWERS_OF_ONE_PROVIDER: [Case; 3] = [
-    ONE_TOKEN,
-    Case {
-        command: Command::Candidates,
-        output: ONE_BODY,
-        ..TOKENS
-    },
-    Case {
-        command: Command::Check,
-        output: "providers 1\ninventories 1\nusages 0\ntraits 0\naggregates 0\n",
-        ..TOKENS
-    },
-];
-
 #[test]
-fn answers_of_one_provider(rt: HostRuntime) {
-    check_all(&rt, &ANSWERS_OF_ONE_PROVIDER);
+fn an_answer_of_each_command(rt: HostRuntime) {
+    check_all(&rt, &ANSWERS, SOUND);
 }
 
-static EXPLANATIONS: [Case; 2] = [
-    Case {
-        command: Command::Explain,
-        output: "slot 1 \"\" VCPU:2: units 1 of 1, traits 1, aggregates 1, tree 1, room 1\n\
-            trees 1: root traits 1, each slot 1, required traits 1\n\
-            candidates: some\n",
-        ..TOKENS
-    },
+static SUMS_AND_NONE: [Case; 5] = [
     Case {
         command: Command::Explain,
         query: "resources=VCPU:2&required=CUSTOM_A",
@@ -80,35 +54,10 @@ static EXPLANATIONS: [Case; 2] = [
         status: 1,
         ..TOKENS
     },
-];
-
-#[test]
-fn explanations(rt: HostRuntime) {
-    check_all(&rt, &EXPLANATIONS);
-}
-
-static ROWS_OF_ROOTS: [Case; 1] = [Case {
-    command: Command::Hosts,
-    output: "root,name,fits,slot,lacks\n@1,,yes,,\n",
-    ..TOKENS
-}];
-
-#[test]
-fn rows_of_roots(rt: HostRuntime) {
-    check_all(&rt, &ROWS_OF_ROOTS);
-}
-
-const FITS: Case = Case {
-    command: Command::Why,
-    host: Some("@1"),
-    output: "slot,suffix,provider,name,lacks,detail\n1,,@1,,,\n,,@1,,,\n,,@1,,,fits\n",
-    ..TOKENS
-};
-
-static ROWS_OF_A_HOST: [Case; 3] = [
-    FITS,
     Case {
+        command: Command::Why,
         query: "resources1=VCPU:2&member_of1=!in:@a,@b&root_required=CUSTOM_R",
+        host: Some("@1"),
         rows: Rows {
             aggregates: "@1,@a\n",
             ..ONE
@@ -118,38 +67,6 @@ static ROWS_OF_A_HOST: [Case; 3] = [
             ,,@1,,root traits,CUSTOM_R missing\n\
             ,,@1,,root traits,does not fit\n",
         status: 1,
-        ..FITS
-    },
-    Case {
-        host: Some("h"),
-        output: "",
-        line: "host: Unknown\n",
-        status: 5,
-        ..FITS
-    },
-];
-
-#[test]
-fn rows_of_a_host(rt: HostRuntime) {
-    check_all(&rt, &ROWS_OF_A_HOST);
-}
-
-static ROWS_OF_A_PAGE: [Case; 1] = [Case {
-    command: Command::List,
-    output: "#,allocation,resource provider,name,inventory used/capacity,traits\n1,VCPU=2,@1,,VCPU=0/8,\n",
-    ..TOKENS
-}];
-
-#[test]
-fn rows_of_a_page(rt: HostRuntime) {
-    check_all(&rt, &ROWS_OF_A_PAGE);
-}
-
-static PLACEMENTS: [Case; 3] = [
-    Case {
-        command: Command::Fill,
-        query: "resources=VCPU:3",
-        output: "@1\n@1\n",
         ..TOKENS
     },
     Case {
@@ -165,19 +82,6 @@ static PLACEMENTS: [Case; 3] = [
         status: 1,
         ..TOKENS
     },
-];
-
-#[test]
-fn placements(rt: HostRuntime) {
-    check_all(&rt, &PLACEMENTS);
-}
-
-static VERDICTS: [Case; 2] = [
-    Case {
-        token: Some("@1,@2"),
-        output: "candidate\n",
-        ..PAIR
-    },
     Case {
         token: Some("@1,@7"),
         output: "unknown provider\n",
@@ -187,8 +91,8 @@ static VERDICTS: [Case; 2] = [
 ];
 
 #[test]
-fn verdicts(rt: HostRuntime) {
-    check_all(&rt, &VERDICTS);
+fn sums_and_none(rt: HostRuntime) {
+    check_all(&rt, &SUMS_AND_NONE, SOUND);
 }
 
 // Lists that break a rule, and of what they do.
@@ -200,7 +104,12 @@ const CROWDED: Case = Case {
     ..PAIR
 };
 
-static DETAILS: [Case; 6] = [
+static VERDICTS: [Case; 7] = [
+    Case {
+        token: Some("@1,@2"),
+        output: "candidate\n",
+        ..PAIR
+    },
     CROWDED,
     Case {
         query: "resources1=VCPU:9&resources2=VCPU:5&group_policy=none",
@@ -239,25 +148,17 @@ static DETAILS: [Case; 6] = [
 ];
 
 #[test]
-fn details_of_verdicts(rt: HostRuntime) {
-    check_all(&rt, &DETAILS);
+fn verdicts(rt: HostRuntime) {
+    check_all(&rt, &VERDICTS, SOUND);
 }
 
-static FAULTS: [Case; 3] = [
+static FAULTS: [Case; 4] = [
     Case {
-        rows: Rows {
-            usages: "@1,MEMORY_MB,1\n",
-            ..ONE
-        },
-        command: Command::Check,
-        output: "",
         line: "usages: record 2: NoInventory\n",
-        status: 3,
-        ..TOKENS
+        ..FAULTY
     },
     Case {
         query: "resources1=VCPU:1&same_subtree=1,2",
-        output: "",
         line: "query: group \"2\": UnknownSuffix\n",
         status: 4,
         ..TOKENS
@@ -265,21 +166,62 @@ static FAULTS: [Case; 3] = [
     Case {
         command: Command::Tokens,
         token: Some("@1"),
-        output: "",
         line: "token: WrongLength\n",
         status: 5,
         ..PAIR
+    },
+    Case {
+        command: Command::Why,
+        host: Some("h"),
+        line: "host: Unknown\n",
+        status: 5,
+        ..TOKENS
     },
 ];
 
 #[test]
 fn faults(rt: HostRuntime) {
-    check_all(&rt, &FAULTS);
+    check_all(&rt, &FAULTS, SOUND);
 }
+
+// An answer has nothing behind it, a verdict of no neither.
+static WHAT_TO_DO: [Case; 6] = [
+    Case {
+        output: "@1\n",
+        ..TOKENS
+    },
+    Case {
+        command: Command::Verify,
+        query: "resources=VCPU:9",
+        token: Some("@1"),
+        output: "no: rule 1 Units\n",
+        status: 1,
+        ..TOKENS
+    },
+    FAULTY,
+    Case {
+        query: "resources=VCPU:2&required=hw_cpu",
+        line: "query: pair 2: BadValue\n  required=\"hw_cpu\": a trait is written A-Z, 0-9 and _; HW_CPU?\n",
+        status: 4,
+        ..TOKENS
+    },
+    Case {
+        token: Some("@1,@1"),
+        line: "token: WrongLength\n  UUIDs 2, slots 1: one for each of VCPU, in this order\n",
+        status: 5,
+        ..TOKENS
+    },
+    Case {
+        command: Command::Why,
+        host: Some("nowhere"),
+        line: "host: Unknown\n  \"nowhere\": no provider has this UUID or this name: \
+            give one that is in the table of providers\n",
+        status: 5,
+        ..TOKENS
+    },
+];
 
 #[test]
 fn what_to_do(rt: HostRuntime) {
-    for case in &WHAT_TO_DO {
-        check(&rt, case, DETAILED);
-    }
+    check_all(&rt, &WHAT_TO_DO, DETAILED);
 }

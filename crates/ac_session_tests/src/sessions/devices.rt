@@ -1,5 +1,5 @@
 //! Devices of a session that fail.
-use super::{NO_PROVIDERS, SOUND, Turns, UNKNOWN, expect_left, run_lines, run_over};
+use super::{SOUND, Turns, expect_left, run_lines};
 use ac_base::Turn;
 use std::test::Fail;
 
@@ -47,38 +47,14 @@ fn an_error_sink_that_fails_leaves_the_status(rt: HostRuntime) -> Result<(), Fai
     Ok(())
 }
 
-// Tables are refused before any question is answered.
+// A table can't be read, and no question is answered.
 #[test]
-fn tables_that_are_refused(rt: HostRuntime) -> Result<(), Fail> {
+fn a_table_that_fails(rt: HostRuntime) -> Result<(), Fail> {
     let turns = Turns {
         providers: &[Turn::Up(5), Turn::Failed],
         ..SOUND
     };
     let left = run_lines(rt.alloc(), "check\n", turns)?;
     expect_left(&rt, &left, "", "providers: Unreadable\n", 3);
-    let left = run_over(rt.alloc(), NO_PROVIDERS, "check\n", SOUND)?;
-    expect_left(
-        &rt,
-        &left,
-        "",
-        "inventories: record 2: UnknownProvider\n",
-        3,
-    );
-    Ok(())
-}
-
-// In detail, what to do stands behind that line, and behind nothing else.
-#[test]
-fn tables_that_are_refused_in_detail(rt: HostRuntime) -> Result<(), Fail> {
-    let turns = Turns {
-        detail: true,
-        ..SOUND
-    };
-    let left = run_over(rt.alloc(), NO_PROVIDERS, "check\n", turns)?;
-    expect_left(&rt, &left, "", UNKNOWN, 3);
-    let left = run_lines(rt.alloc(), "check\nhosts required=x\n", turns)?;
-    let answers =
-        "providers 2\ninventories 2\nusages 1\ntraits 0\naggregates 0\n= 0\n= 4 query: pair 1: BadValue\n";
-    expect_left(&rt, &left, answers, "", 0);
     Ok(())
 }

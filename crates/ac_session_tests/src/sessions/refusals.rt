@@ -1,5 +1,5 @@
 //! Sessions with each growth refused in turn: all answers, or `out of memory` with status 7 and a first part of them.
-use super::{NO_PROVIDERS, SOUND, Turns, UNKNOWN, expanded, expect_left, run_lines, run_over};
+use super::{SOUND, Turns, expanded, expect_left, run_lines, run_over};
 use std::process::Abort;
 
 fn check(rt: &(impl Abort + AllocGlobal), questions: &str, answers: &str) {
@@ -34,6 +34,13 @@ fn refused_questions(rt: HostRuntime) {
         "= 5 token: BadToken\nno: rule 1 Units\n= 1\nunknown provider\n= 1\n= 2 session: unknown command\n",
     );
 }
+
+// A table without a provider, and what is told of the inventories.
+const NO_PROVIDERS: &str = "uuid,root_provider_uuid,parent_provider_uuid\n";
+
+const UNKNOWN: &str =
+    "inventories: record 2: UnknownProvider\n  i.csv, resource_provider \"00000000-0000-0000-0000-000000000001\", VCPU: \
+    not in the table of providers; export all tables together, or take the record out\n";
 
 #[test]
 fn refused_tables_in_detail(rt: HostRuntime) {

@@ -1,9 +1,12 @@
 //! The table of usages, with each of its growths refused in turn.
-use super::{USED, USED_TEXT};
+use super::USED;
 use ac_base::MemSink;
 use ac_example_clouds::{cloud_of, expanded};
 use ac_report::PageFault;
 use ac_session::write_usages;
+
+const USED_TEXT: &str =
+    "resource_provider,resource_class,usage\n@01,DISK_GB,9\n@01,VCPU,3\n@02,VCPU,12\n";
 
 #[test]
 fn table(rt: HostRuntime) {
