@@ -476,6 +476,70 @@ TABLES = [
       for table in HEADERS for column in COLUMNS[table][:1]),
 ]
 
+
+def bad_headers(table):
+    """No record, a column that isn't there, and one that is there twice; and where both are so, the one that isn't there."""
+    columns = COLUMNS[table]
+    for kind, why, header in (('NoHeader', 'no record', []), ('NoHeader', 'empty lines', ['\n\r\n']), ('MissingColumn', 'all but the first', columns[1:]),
+                              ('MissingColumn', 'all but the last', columns[:-1]), ('MissingColumn', 'all but the last, twice', columns[:-1] * 2),
+                              ('DoubleColumn', 'all but the first, twice', columns + columns[1:])):
+        yield bad_table(f'{table}: record 1: {kind}', why=why, **{table: ','.join(header)})
+
+
+NAMED = 'name,' + HEADERS['providers']
+LETTERS, FINE = 'A' * 255, (1, 1, 0, 0, 0)
+RECORDS = [
+    ('providers', '2: Width', 'P1,P1,,'), ('providers', '2: BadUuid', 'P1,xyz,'), ('providers', '2: BadUuid', 'P1,P1,xyz'),
+    ('inventories', '2: BadUuid', 'xyz,VCPU,8,0,1,8,1,1'), ('inventories', '2: BadClass', 'P1,,8,0,1,8,1,1'),
+    ('inventories', '2: BadNumber', 'P1,VCPU,8,-1,1,8,1,1'), ('inventories', '2: BadNumber', 'P1,VCPU,8,0,,8,1,1'),
+    ('inventories', '2: BadNumber', 'P1,VCPU,8,0,1,2147483648,1,1'), ('inventories', '2: BadNumber', 'P1,VCPU,8,0,1,8,+1,1'),
+    ('inventories', '4: Duplicate', 'P1,VCPU,8,0,1,8,1,1', 'P1,PGPU,8,0,1,8,1,1', 'P1,VCPU,9,0,1,8,1,1'),
+    ('usages', '2: Width', 'P1,VCPU'), ('usages', '2: BadUuid', 'xyz,VCPU,1'), ('usages', '2: BadClass', 'P1,vcpu,1'),
+    ('usages', '2: BadNumber', 'P1,VCPU,1.0'), ('usages', '2: UnknownProvider', 'P2,VCPU,1'), ('usages', '2: NoInventory', f'P1,{LETTERS},1'),
+    ('traits', '2: Width', 'P1,A,'), ('traits', '2: BadUuid', 'xyz,A'), ('traits', '2: BadTrait', 'P1,'), ('traits', '3: UnknownProvider', 'P1,A', 'P2,A'),
+    ('aggregates', '2: Width', 'P1'), ('aggregates', '2: BadUuid', 'xyz,A1'), ('aggregates', '3: UnknownProvider', 'P1,A1', 'P2,A1'),
+    # Names, numbers and UUIDs that are too long, a little and much.
+    *(('inventories', '2: BadClass', f'P1,{"A" * size},8,0,1,8,1,1.0') for size in (300, 100000)),
+    *(('usages', '2: BadClass', f'P1,{"A" * size},1') for size in (256, 300, 100000)),
+    *(('traits', '2: BadTrait', f'P1,{"A" * size}') for size in (256, 300, 100000)),
+    *(('inventories', '2: BadNumber', f'P1,VCPU,{"0" * size}8,0,1,8,1,1.{"0" * size}') for size in (10, 300, 100000)),
+    *(('inventories', '2: BadRatio', f'P1,VCPU,8,0,1,8,1,1.{"0" * size}1') for size in (9, 10, 300, 100000)),
+    *(('providers', '2: BadUuid', f'{"0" * size},P1,') for size in (37, 300, 100000)),
+    *(('aggregates', '2: BadUuid', f'P1,{"0" * size}') for size in (37, 300, 100000)),
+]
+
+TABLES += [
+    *(case for table in HEADERS for case in bad_headers(table)),
+    *(bad_table(f'{table}: record {line}', why='; '.join(records)[:60], **{table: rows(table, *records)}) for table, line, *records in RECORDS),
+    *(bad_table(f'providers: record {line}', why=f'{why}, beside a name', providers=rows('providers', *records, header=NAMED)) for line, why, *records in (
+        ('2: Width', 'two names', 'a,b,P1,P1,'), ('2: BadUuid', 'no UUID', 'a,x,P1,'), ('3: Duplicate', 'one provider twice', 'a,P1,P1,', 'b,P1,P1,'))),
+    bad_table('providers: record 1: MissingColumn', why='a name alone', providers='name'),
+    counted('a trait of 255 letters', (1, 1, 0, 1, 0), traits=rows('traits', f'P1,{LETTERS}')),
+    counted('a class of 255 letters', FINE, inventories=one_inventory(kind=LETTERS)),
+    counted('zeros before a number, and behind a ratio', FINE, inventories=one_inventory(total='0' * 9 + '8', allocation_ratio='1.' + '0' * 9)),
+    # Columns that aren't needed, before those that are: none is too many, and each record has them all.
+    *(case for count in (62, 65, 300, 5000) for more, least, needed in [('note,' * count, 'x,' * count, HEADERS['providers'])] for case in (
+        counted(f'{count} columns that are not needed', FINE, providers=more + needed + full(f'{least}P1,P1,\n')),
+        bad_table('providers: record 2: Width', why=f'{count} columns', providers=more + needed + full('P1,P1,\n')),
+        bad_table('providers: record 1: MissingColumn', why=f'{count} columns', providers=more + needed.removeprefix('uuid,')),
+        bad_table('providers: record 1: DoubleColumn', why=f'{count} columns', providers='uuid,' + more + needed))),
+]
+
+
+def named_host(name, host, shown, found, *records, header=NAMED):
+    """`why` must find this provider by a text, in a table of providers with names; one class of it has room. Its name is shown in this way."""
+    out = 'slot,suffix,provider,name,lacks,detail\n' + ''.join(full(f'{slot},,{found},{shown},,{end}\n') for slot, end in (('1', ''), ('', ''), ('', 'fits')))
+    return Case(f'why: {name}', ['why', 'resources=VCPU:2', host], out, tables={**tables(ONE), 'providers': rows('providers', *records, header=header)})
+
+
+HOSTS = [
+    named_host('a host by a name of two lines', 'two\nlines', 'two?lines', 'P1', '"two\nlines",P1,P1,'),
+    *(named_host(f'a host by a name of {size} bytes', 'n,' * (size // 2), '"' + 'n,' * (size // 2) + '"', 'P1', f'"{"n," * (size // 2)}",P1,P1,') for size in (256, 65536)),
+    named_host('a host by its name in the first of two columns', 'cmp-1', 'cmp-1', 'P1', 'cmp-1,P1,P1,,cmp-2', header=NAMED.strip() + ',name\n'),
+    Case('why: a name in the second of two columns', ['why', 'resources=VCPU:2', 'cmp-2'], err='host: Unknown\n', status=5,
+         tables={**tables(ONE), 'providers': rows('providers', 'cmp-1,P1,P1,,cmp-2', header=NAMED.strip() + ',name\n')}),
+]
+
 QUERIES = [
     bad_query('QueryTooLong', 'a' * 65537, shown='65537 letters'),
     bad_query('pair 2: UnknownParameter', 'resources=VCPU:1&colour=red'),
@@ -534,7 +598,7 @@ MANY_GROUPS = [
     judged('64 groups fill 8 providers', EIGHT, SIXTY_FOUR, EIGHT_EACH, 'candidate'),
 ]
 
-SMALL = [*QUANTITIES, *RULES, *DETAILS, *LISTS, *FILLED, *PAGES, *TOKENS, *TABLES, *QUERIES, *MANY_GROUPS]
+SMALL = [*QUANTITIES, *RULES, *DETAILS, *LISTS, *FILLED, *PAGES, *TOKENS, *TABLES, *HOSTS, *QUERIES, *MANY_GROUPS]
 
 
 def cuts():
