@@ -376,6 +376,8 @@ TOKENS = [
     bad_token('WrongLength', FIVE_AND_FIVE, 'P7', 'verify'),
     bad_token('WrongLength', 'resources=VCPU:2', ','.join(['P1'] * 65), cloud=ONE),
     bad_token('WrongLength', 'resources=VCPU:2', ','.join(['P1'] * 65), 'verify', cloud=ONE),
+    *(bad_token('WrongLength', 'resources=VCPU:2', ','.join(['P1'] * count), cloud=ONE) for count in (2, 67, 3067)),
+    *(bad_token('BadToken', 'resources=VCPU:2', 'A' * count, cloud=ONE) for count in (37, 300)),
 ]
 
 CYCLE = rows('providers', 'P1,P2,P2', 'P2,P1,P1')
@@ -514,6 +516,9 @@ TABLES += [
     *(bad_table(f'providers: record {line}', why=f'{why}, beside a name', providers=rows('providers', *records, header=NAMED)) for line, why, *records in (
         ('2: Width', 'two names', 'a,b,P1,P1,'), ('2: BadUuid', 'no UUID', 'a,x,P1,'), ('3: Duplicate', 'one provider twice', 'a,P1,P1,', 'b,P1,P1,'))),
     bad_table('providers: record 1: MissingColumn', why='a name alone', providers='name'),
+    bad_table('inventories: record 2: BadClass', why='a hyphen', inventories=one_inventory(kind='CUSTOM-GOLD')),
+    *(counted(f'a ratio of {text}', FINE, inventories=one_inventory(allocation_ratio=text)) for text in ('0', '0.125', '1.2345670000', '999999.999999')),
+    *(bad_table('inventories: record 2: BadRatio', why=repr(text), inventories=one_inventory(allocation_ratio=text)) for text in ('1.23456700001', '1.234567 ')),
     counted('a trait of 255 letters', (1, 1, 0, 1, 0), traits=rows('traits', f'P1,{LETTERS}')),
     counted('a class of 255 letters', FINE, inventories=one_inventory(kind=LETTERS)),
     counted('zeros before a number, and behind a ratio', FINE, inventories=one_inventory(total='0' * 9 + '8', allocation_ratio='1.' + '0' * 9)),
@@ -534,11 +539,14 @@ def named_host(name, host, shown, found, *records, header=NAMED):
 
 HOSTS = [
     named_host('a host by a name of two lines', 'two\nlines', 'two?lines', 'P1', '"two\nlines",P1,P1,'),
-    *(named_host(f'a host by a name of {size} bytes', 'n,' * (size // 2), '"' + 'n,' * (size // 2) + '"', 'P1', f'"{"n," * (size // 2)}",P1,P1,') for size in (256, 65536)),
+    *(named_host(f'a host by a name of {len(name)} bytes', name, f'"{name}"', 'P1', f'"{name}",P1,P1,') for name in ('n,' * 128, 'n,' * 32768)),
     named_host('a host by its name in the first of two columns', 'cmp-1', 'cmp-1', 'P1', 'cmp-1,P1,P1,,cmp-2', header=NAMED.strip() + ',name\n'),
     Case('why: a name in the second of two columns', ['why', 'resources=VCPU:2', 'cmp-2'], err='host: Unknown\n', status=5,
          tables={**tables(ONE), 'providers': rows('providers', 'cmp-1,P1,P1,,cmp-2', header=NAMED.strip() + ',name\n')}),
 ]
+
+# Nearly 65536 bytes: 1900 groups, each with a list that names it.
+MANY_LISTED = '&'.join(['resources=VCPU:1', *(f'required{n}=A' for n in range(1900)), *(f'same_subtree={n}' for n in range(1900))])
 
 QUERIES = [
     bad_query('QueryTooLong', 'a' * 65537, shown='65537 letters'),
@@ -583,6 +591,61 @@ QUERIES = [
     found('the slot of 10 comes before that of 2', MEMORY, 'resources2=VCPU:1&resources10=MEMORY_MB:1&group_policy=none', 'P1,P1', 'P1,P2'),
     found('a query in another form', ONE, '&resources=VCPU%3A2&', 'P1'),
     found('256 classes in one group', ONE, 'resources1=' + ','.join(f'C{n}:1' for n in range(1, 257))),
+    # Names as long as they may be, and longer, a little and much.
+    *(found(f'{shown} of {count} letters', ONE, query.replace('#', 'A' * count), *hosts) if count <= most
+      else bad_query(fault, query.replace('#', 'A' * count), shown=f'{shown} of {count} letters')
+      for shown, query, most, fault, *hosts in (('a class', 'resources=#:1', 255, 'pair 1: BadValue'), ('a trait', 'resources=VCPU:1&required=#', 255, 'pair 2: BadValue'),
+                                                ('a suffix', 'resources#=VCPU:1', 64, 'pair 1: UnknownParameter', 'P1'))
+      for count in (64, 65, 255, 256, 300, 60000)),
+    bad_query('pair 1: UnknownParameter', 'a' * 65536, shown='65536 letters'),
+    *(bad_query(line, '&'.join([MANY_LISTED, *more]), shown='1900 groups in lists')
+      for line, *more in (('TooManySlots',), ('group "-": UnknownSuffix', 'same_subtree=-'))),
+]
+
+WORDS_NEEDED = 'error: the following required arguments were not provided:\n'
+WORDS_BESIDE = "error: the argument '--tables <DIR>' cannot be used with:\n"
+WORDS_VERSION = "error: invalid value '1.40' for '--microversion <VERSION>': it is 1.36 or 1.39\n"
+WORDS_USAGE = '\nUsage: ac_cli tokens [OPTIONS] --tables <DIR> <QUERY>\n       ac_cli tokens [OPTIONS] --providers <FILE> --inventories <FILE> <QUERY>\n'
+
+
+def words_told(line, *says):
+    """Words that are refused in these lines and no other, and with how `tokens` is used."""
+    return Case(f'refused words: {line}', line.split(' '), err=SOME, status=2, has=(''.join(says) + WORDS_USAGE,))
+
+
+def each_file(*names):
+    return [f'  --{name} <FILE>\n' for name in names]
+
+
+WORDS = [
+    *(Case(f'refused words: {line}', line.split(' '), err=SOME, status=2) for line in (
+        'help other', 'check', 'check --inventories b --usages c --traits d --aggregates e', '--tables d check', 'tokens q --providers a --inventories',
+        'tokens q --providers a --inventories b --usages', 'tokens q --providers a --inventories b --after -t',
+        'candidates q --providers a --inventories b --traits c --traits c', 'candidates q --providers a --inventories b --after t --after t',
+        'verify q -t --providers a --inventories b', 'verify q t t --providers a --inventories b', 'why --providers a --inventories b',
+        '--detail', 'check --detail=true --tables d', 'session --details --tables d', 'verify q t --tables --detail',
+        'tokens q --detail=yes --tables d', 'verify q t --providers a --inventories b --microversion=1.390')),
+    words_told('tokens q --usages c --traits d --aggregates e', WORDS_NEEDED, *each_file('providers', 'inventories')),
+    words_told('tokens q --providers a', WORDS_NEEDED, *each_file('inventories')),
+    words_told('tokens q --inventories b', WORDS_NEEDED, *each_file('providers')),
+    words_told('tokens q --tables d --providers a', WORDS_BESIDE, *each_file('providers')),
+    words_told('tokens q --inventories b --tables d', WORDS_BESIDE, *each_file('inventories')),
+    words_told('tokens --tables d --usages c q', WORDS_BESIDE, *each_file('usages')),
+    words_told('tokens q --tables=d --traits=d', WORDS_BESIDE, *each_file('traits')),
+    words_told('tokens q --tables= --aggregates=', WORDS_BESIDE, *each_file('aggregates')),
+    words_told('tokens q --providers a --tables d --inventories b', WORDS_BESIDE, *each_file('providers', 'inventories')),
+    # A version that isn't known is told before the tables.
+    words_told('tokens q --microversion 1.40', WORDS_VERSION),
+    words_told('tokens q --microversion 1.40 --tables d --traits d', WORDS_VERSION),
+    # Options in front of other words and behind them, with blanks and with equals signs; behind `--` a word like any other.
+    *(Case(f'words: {line}', full(line).split(' '), out, err, status, tables=tables(CHILD)) for line, out, err, status in (
+        ('tokens --after=P1 resources=VCPU:8', lines('P2'), '', 0), ('tokens --detail --microversion=1.36 resources=VCPU:8 --after P1', lines('P2'), '', 0),
+        ('fill --sum --detail resources=VCPU:8', 'at least 2, at most 2\n', '', 0), ('fill resources=VCPU:8 --microversion 1.39 --sum', 'at least 2, at most 2\n', '', 0),
+        ('verify resources=VCPU:8 --microversion 1.39 P2', 'candidate\n', '', 0), ('verify --detail a?resources=VCPU:9 P2', full(f'no: rule 1 Units: slot 1 on P2, {NOT_WITHIN}\n'), '', 1),
+        ('verify a?resources=VCPU:8 b?P2', '', 'token: BadToken\n', 5), ('verify  ', '', 'query: NoResources\n', 4), ('tokens resources=VCPU:8 --after ', '', 'token: BadToken\n', 5))),
+    *(Case(f'words: {line}', line.split(' '), '', err, status) for line, err, status in (
+        ('tokens --tables examples/cloud -- --detail', 'query: pair 1: UnknownParameter\n', 4), ('verify resources=VCPU:1 --tables examples/cloud -- -t', 'token: BadToken\n', 5),
+        ('verify --detail --tables examples/cloud -- resources=VCPU:1 -t', SOME, 5), ('why --tables=examples/cloud --detail -- resources=VCPU:1 -h', SOME, 5))),
 ]
 
 SIXTY_FOUR = '&'.join(f'resources{n}=VCPU:1' for n in range(1, 65)) + '&group_policy=none'
@@ -598,7 +661,7 @@ MANY_GROUPS = [
     judged('64 groups fill 8 providers', EIGHT, SIXTY_FOUR, EIGHT_EACH, 'candidate'),
 ]
 
-SMALL = [*QUANTITIES, *RULES, *DETAILS, *LISTS, *FILLED, *PAGES, *TOKENS, *TABLES, *HOSTS, *QUERIES, *MANY_GROUPS]
+SMALL = [*QUANTITIES, *RULES, *DETAILS, *LISTS, *FILLED, *PAGES, *TOKENS, *TABLES, *HOSTS, *QUERIES, *WORDS, *MANY_GROUPS]
 
 
 def cuts():
