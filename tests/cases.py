@@ -386,6 +386,8 @@ TOKENS = [
     bad_token('WrongLength', FIVE_AND_FIVE, 'P7', 'verify'),
     bad_token('WrongLength', 'resources=VCPU:2', ','.join(['P1'] * 65), cloud=ONE),
     bad_token('WrongLength', 'resources=VCPU:2', ','.join(['P1'] * 65), 'verify', cloud=ONE),
+    *(bad_token('WrongLength', 'resources=VCPU:2', ','.join(['P1'] * count), cloud=ONE) for count in (2, 67, 3067)),
+    *(bad_token('BadToken', 'resources=VCPU:2', 'A' * count, cloud=ONE) for count in (37, 300)),
 ]
 
 CYCLE = rows('providers', 'P1,P2,P2', 'P2,P1,P1')
@@ -486,6 +488,76 @@ TABLES = [
       for table in HEADERS for column in COLUMNS[table][:1]),
 ]
 
+
+def bad_headers(table):
+    """No record, a column that isn't there, and one that is there twice; and where both are so, the one that isn't there."""
+    columns = COLUMNS[table]
+    for kind, why, header in (('NoHeader', 'no record', []), ('NoHeader', 'empty lines', ['\n\r\n']), ('MissingColumn', 'all but the first', columns[1:]),
+                              ('MissingColumn', 'all but the last', columns[:-1]), ('MissingColumn', 'all but the last, twice', columns[:-1] * 2),
+                              ('DoubleColumn', 'all but the first, twice', columns + columns[1:])):
+        yield bad_table(f'{table}: record 1: {kind}', why=why, **{table: ','.join(header)})
+
+
+NAMED = 'name,' + HEADERS['providers']
+LETTERS, FINE = 'A' * 255, (1, 1, 0, 0, 0)
+RECORDS = [
+    ('providers', '2: Width', 'P1,P1,,'), ('providers', '2: BadUuid', 'P1,xyz,'), ('providers', '2: BadUuid', 'P1,P1,xyz'),
+    ('inventories', '2: BadUuid', 'xyz,VCPU,8,0,1,8,1,1'), ('inventories', '2: BadClass', 'P1,,8,0,1,8,1,1'),
+    ('inventories', '2: BadNumber', 'P1,VCPU,8,-1,1,8,1,1'), ('inventories', '2: BadNumber', 'P1,VCPU,8,0,,8,1,1'),
+    ('inventories', '2: BadNumber', 'P1,VCPU,8,0,1,2147483648,1,1'), ('inventories', '2: BadNumber', 'P1,VCPU,8,0,1,8,+1,1'),
+    ('inventories', '4: Duplicate', 'P1,VCPU,8,0,1,8,1,1', 'P1,PGPU,8,0,1,8,1,1', 'P1,VCPU,9,0,1,8,1,1'),
+    ('usages', '2: Width', 'P1,VCPU'), ('usages', '2: BadUuid', 'xyz,VCPU,1'), ('usages', '2: BadClass', 'P1,vcpu,1'),
+    ('usages', '2: BadNumber', 'P1,VCPU,1.0'), ('usages', '2: UnknownProvider', 'P2,VCPU,1'), ('usages', '2: NoInventory', f'P1,{LETTERS},1'),
+    ('traits', '2: Width', 'P1,A,'), ('traits', '2: BadUuid', 'xyz,A'), ('traits', '2: BadTrait', 'P1,'), ('traits', '3: UnknownProvider', 'P1,A', 'P2,A'),
+    ('aggregates', '2: Width', 'P1'), ('aggregates', '2: BadUuid', 'xyz,A1'), ('aggregates', '3: UnknownProvider', 'P1,A1', 'P2,A1'),
+    # Names, numbers and UUIDs that are too long, a little and much.
+    *(('inventories', '2: BadClass', f'P1,{"A" * size},8,0,1,8,1,1.0') for size in (300, 100000)),
+    *(('usages', '2: BadClass', f'P1,{"A" * size},1') for size in (256, 300, 100000)),
+    *(('traits', '2: BadTrait', f'P1,{"A" * size}') for size in (256, 300, 100000)),
+    *(('inventories', '2: BadNumber', f'P1,VCPU,{"0" * size}8,0,1,8,1,1.{"0" * size}') for size in (10, 300, 100000)),
+    *(('inventories', '2: BadRatio', f'P1,VCPU,8,0,1,8,1,1.{"0" * size}1') for size in (9, 10, 300, 100000)),
+    *(('providers', '2: BadUuid', f'{"0" * size},P1,') for size in (37, 300, 100000)),
+    *(('aggregates', '2: BadUuid', f'P1,{"0" * size}') for size in (37, 300, 100000)),
+]
+
+TABLES += [
+    *(case for table in HEADERS for case in bad_headers(table)),
+    *(bad_table(f'{table}: record {line}', why='; '.join(records)[:60], **{table: rows(table, *records)}) for table, line, *records in RECORDS),
+    *(bad_table(f'providers: record {line}', why=f'{why}, beside a name', providers=rows('providers', *records, header=NAMED)) for line, why, *records in (
+        ('2: Width', 'two names', 'a,b,P1,P1,'), ('2: BadUuid', 'no UUID', 'a,x,P1,'), ('3: Duplicate', 'one provider twice', 'a,P1,P1,', 'b,P1,P1,'))),
+    bad_table('providers: record 1: MissingColumn', why='a name alone', providers='name'),
+    bad_table('inventories: record 2: BadClass', why='a hyphen', inventories=one_inventory(kind='CUSTOM-GOLD')),
+    *(counted(f'a ratio of {text}', FINE, inventories=one_inventory(allocation_ratio=text)) for text in ('0', '0.125', '1.2345670000', '999999.999999')),
+    *(bad_table('inventories: record 2: BadRatio', why=repr(text), inventories=one_inventory(allocation_ratio=text)) for text in ('1.23456700001', '1.234567 ')),
+    counted('a trait of 255 letters', (1, 1, 0, 1, 0), traits=rows('traits', f'P1,{LETTERS}')),
+    counted('a class of 255 letters', FINE, inventories=one_inventory(kind=LETTERS)),
+    counted('zeros before a number, and behind a ratio', FINE, inventories=one_inventory(total='0' * 9 + '8', allocation_ratio='1.' + '0' * 9)),
+    # Columns that aren't needed, before those that are: none is too many, and each record has them all.
+    *(case for count in (62, 65, 300, 5000) for more, least, needed in [('note,' * count, 'x,' * count, HEADERS['providers'])] for case in (
+        counted(f'{count} columns that are not needed', FINE, providers=more + needed + full(f'{least}P1,P1,\n')),
+        bad_table('providers: record 2: Width', why=f'{count} columns', providers=more + needed + full('P1,P1,\n')),
+        bad_table('providers: record 1: MissingColumn', why=f'{count} columns', providers=more + needed.removeprefix('uuid,')),
+        bad_table('providers: record 1: DoubleColumn', why=f'{count} columns', providers='uuid,' + more + needed))),
+]
+
+
+def named_host(name, host, shown, found, *records, header=NAMED):
+    """`why` must find this provider by a text, in a table of providers with names; one class of it has room. Its name is shown in this way."""
+    out = 'slot,suffix,provider,name,lacks,detail\n' + ''.join(full(f'{slot},,{found},{shown},,{end}\n') for slot, end in (('1', ''), ('', ''), ('', 'fits')))
+    return Case(f'why: {name}', ['why', 'resources=VCPU:2', host], out, tables={**tables(ONE), 'providers': rows('providers', *records, header=header)})
+
+
+HOSTS = [
+    named_host('a host by a name of two lines', 'two\nlines', 'two?lines', 'P1', '"two\nlines",P1,P1,'),
+    *(named_host(f'a host by a name of {len(name)} bytes', name, f'"{name}"', 'P1', f'"{name}",P1,P1,') for name in ('n,' * 128, 'n,' * 32768)),
+    named_host('a host by its name in the first of two columns', 'cmp-1', 'cmp-1', 'P1', 'cmp-1,P1,P1,,cmp-2', header=NAMED.strip() + ',name\n'),
+    Case('why: a name in the second of two columns', ['why', 'resources=VCPU:2', 'cmp-2'], err='host: Unknown\n', status=5,
+         tables={**tables(ONE), 'providers': rows('providers', 'cmp-1,P1,P1,,cmp-2', header=NAMED.strip() + ',name\n')}),
+]
+
+# Nearly 65536 bytes: 1900 groups, each with a list that names it.
+MANY_LISTED = '&'.join(['resources=VCPU:1', *(f'required{n}=A' for n in range(1900)), *(f'same_subtree={n}' for n in range(1900))])
+
 QUERIES = [
     bad_query('QueryTooLong', 'a' * 65537, shown='65537 letters'),
     bad_query('pair 2: UnknownParameter', 'resources=VCPU:1&colour=red'),
@@ -529,6 +601,61 @@ QUERIES = [
     found('the slot of 10 comes before that of 2', MEMORY, 'resources2=VCPU:1&resources10=MEMORY_MB:1&group_policy=none', 'P1,P1', 'P1,P2'),
     found('a query in another form', ONE, '&resources=VCPU%3A2&', 'P1'),
     found('256 classes in one group', ONE, 'resources1=' + ','.join(f'C{n}:1' for n in range(1, 257))),
+    # Names as long as they may be, and longer, a little and much.
+    *(found(f'{shown} of {count} letters', ONE, query.replace('#', 'A' * count), *hosts) if count <= most
+      else bad_query(fault, query.replace('#', 'A' * count), shown=f'{shown} of {count} letters')
+      for shown, query, most, fault, *hosts in (('a class', 'resources=#:1', 255, 'pair 1: BadValue'), ('a trait', 'resources=VCPU:1&required=#', 255, 'pair 2: BadValue'),
+                                                ('a suffix', 'resources#=VCPU:1', 64, 'pair 1: UnknownParameter', 'P1'))
+      for count in (64, 65, 255, 256, 300, 60000)),
+    bad_query('pair 1: UnknownParameter', 'a' * 65536, shown='65536 letters'),
+    *(bad_query(line, '&'.join([MANY_LISTED, *more]), shown='1900 groups in lists')
+      for line, *more in (('TooManySlots',), ('group "-": UnknownSuffix', 'same_subtree=-'))),
+]
+
+WORDS_NEEDED = 'error: the following required arguments were not provided:\n'
+WORDS_BESIDE = "error: the argument '--tables <DIR>' cannot be used with:\n"
+WORDS_VERSION = "error: invalid value '1.40' for '--microversion <VERSION>': it is 1.36 or 1.39\n"
+WORDS_USAGE = '\nUsage: ac_cli tokens [OPTIONS] --tables <DIR> <QUERY>\n       ac_cli tokens [OPTIONS] --providers <FILE> --inventories <FILE> <QUERY>\n'
+
+
+def words_told(line, *says):
+    """Words that are refused in these lines and no other, and with how `tokens` is used."""
+    return Case(f'refused words: {line}', line.split(' '), err=SOME, status=2, has=(''.join(says) + WORDS_USAGE,))
+
+
+def each_file(*names):
+    return [f'  --{name} <FILE>\n' for name in names]
+
+
+WORDS = [
+    *(Case(f'refused words: {line}', line.split(' '), err=SOME, status=2) for line in (
+        'help other', 'check', 'check --inventories b --usages c --traits d --aggregates e', '--tables d check', 'tokens q --providers a --inventories',
+        'tokens q --providers a --inventories b --usages', 'tokens q --providers a --inventories b --after -t',
+        'candidates q --providers a --inventories b --traits c --traits c', 'candidates q --providers a --inventories b --after t --after t',
+        'verify q -t --providers a --inventories b', 'verify q t t --providers a --inventories b', 'why --providers a --inventories b',
+        '--detail', 'check --detail=true --tables d', 'session --details --tables d', 'verify q t --tables --detail',
+        'tokens q --detail=yes --tables d', 'verify q t --providers a --inventories b --microversion=1.390')),
+    words_told('tokens q --usages c --traits d --aggregates e', WORDS_NEEDED, *each_file('providers', 'inventories')),
+    words_told('tokens q --providers a', WORDS_NEEDED, *each_file('inventories')),
+    words_told('tokens q --inventories b', WORDS_NEEDED, *each_file('providers')),
+    words_told('tokens q --tables d --providers a', WORDS_BESIDE, *each_file('providers')),
+    words_told('tokens q --inventories b --tables d', WORDS_BESIDE, *each_file('inventories')),
+    words_told('tokens --tables d --usages c q', WORDS_BESIDE, *each_file('usages')),
+    words_told('tokens q --tables=d --traits=d', WORDS_BESIDE, *each_file('traits')),
+    words_told('tokens q --tables= --aggregates=', WORDS_BESIDE, *each_file('aggregates')),
+    words_told('tokens q --providers a --tables d --inventories b', WORDS_BESIDE, *each_file('providers', 'inventories')),
+    # A version that isn't known is told before the tables.
+    words_told('tokens q --microversion 1.40', WORDS_VERSION),
+    words_told('tokens q --microversion 1.40 --tables d --traits d', WORDS_VERSION),
+    # Options in front of other words and behind them, with blanks and with equals signs; behind `--` a word like any other.
+    *(Case(f'words: {line}', full(line).split(' '), out, err, status, tables=tables(CHILD)) for line, out, err, status in (
+        ('tokens --after=P1 resources=VCPU:8', lines('P2'), '', 0), ('tokens --detail --microversion=1.36 resources=VCPU:8 --after P1', lines('P2'), '', 0),
+        ('fill --sum --detail resources=VCPU:8', 'at least 2, at most 2\n', '', 0), ('fill resources=VCPU:8 --microversion 1.39 --sum', 'at least 2, at most 2\n', '', 0),
+        ('verify resources=VCPU:8 --microversion 1.39 P2', 'candidate\n', '', 0), ('verify --detail a?resources=VCPU:9 P2', full(f'no: rule 1 Units: slot 1 on P2, {NOT_WITHIN}\n'), '', 1),
+        ('verify a?resources=VCPU:8 b?P2', '', 'token: BadToken\n', 5), ('verify  ', '', 'query: NoResources\n', 4), ('tokens resources=VCPU:8 --after ', '', 'token: BadToken\n', 5))),
+    *(Case(f'words: {line}', line.split(' '), '', err, status) for line, err, status in (
+        ('tokens --tables examples/cloud -- --detail', 'query: pair 1: UnknownParameter\n', 4), ('verify resources=VCPU:1 --tables examples/cloud -- -t', 'token: BadToken\n', 5),
+        ('verify --detail --tables examples/cloud -- resources=VCPU:1 -t', SOME, 5), ('why --tables=examples/cloud --detail -- resources=VCPU:1 -h', SOME, 5))),
 ]
 
 SIXTY_FOUR = '&'.join(f'resources{n}=VCPU:1' for n in range(1, 65)) + '&group_policy=none'
@@ -544,7 +671,7 @@ MANY_GROUPS = [
     judged('64 groups fill 8 providers', EIGHT, SIXTY_FOUR, EIGHT_EACH, 'candidate'),
 ]
 
-SMALL = [*QUANTITIES, *RULES, *DETAILS, *LISTS, *FILLED, *PAGES, *TOKENS, *TABLES, *QUERIES, *MANY_GROUPS]
+SMALL = [*QUANTITIES, *RULES, *DETAILS, *LISTS, *FILLED, *PAGES, *TOKENS, *TABLES, *HOSTS, *QUERIES, *WORDS, *MANY_GROUPS]
 
 
 def cuts():

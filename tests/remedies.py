@@ -22,6 +22,7 @@ AGGREGATES = 'UUIDs of aggregates and no names: one, or several between commas b
 POLICY = 'add group_policy=none, and groups may share a provider, or group_policy=isolate, and each has its own'
 SLOTS = 'a query has at most 64 slots, and 256 classes over all groups: ask for less, or in several queries'
 LATER = '--microversion', '1.39'
+LONG = ('0123456789abcdef' * 4)[:63]
 
 
 class Asked(NamedTuple):
@@ -106,6 +107,7 @@ def asked():
     why = 'why', 'resources=VCPU:1'
     yield Asked('host: Unknown', [*why, 'cmp'], '"cmp": no provider has this UUID or this name: give one that is in the table of providers',
                 [[*why, 'host'], [*why, 'P1']])
+    yield Asked('host: Unknown', [*why, 'cmp\x1b'], r'"cmp\x1b": no provider has this UUID or this name: give one that is in the table of providers', [[*why, 'P1']])
     yield Asked('host: Ambiguous', [*why, 'twin'], '"twin": several providers have this name: give the UUID of one of them', [[*why, 'P3']])
 
 
@@ -118,6 +120,7 @@ def slots(number):
 NAME = 'is written A-Z, 0-9 and _; give its name as the cloud has it'
 NUMBER = '1 to 10 digits, at most 2147483647; write no sign, point or blank'
 UUID = 'not a UUID; give one of 32 hexadecimal digits, and take out a header between records'
+WIDTH = 'a record has as many fields as the header; put a field with a comma in quotes'
 TWICE = 'an earlier record has the same; take one of them out'
 STRAY = 'not in the table of providers; export all tables together, or take the record out'
 WRONG_ROOT = "not the root of the provider's tree; give the UUID of its topmost parent, or its own if it has none"
@@ -126,7 +129,7 @@ ROWS = {
         Row('record 1: MissingColumn', 'root_provider_uuid,', 'root,', ', root_provider_uuid: the header lacks this column; export the table with all its columns'),
         Row('record 1: DoubleColumn', 'name\n', 'uuid\n', ', uuid: the header has this column twice; take one of them out'),
         Row('record 2: Width', ',host\n', ',host, old\n',
-            ', fields 5, header 4, provider P1: a record has as many fields as the header; put a field with a comma in quotes', [',"host, old"\n']),
+            f', fields 5, header 4, provider P1: {WIDTH}', [',"host, old"\n']),
         Row('record 3: BadUuid', 'P2,P1,P1', 'P2,P1,host', f', parent_provider_uuid "host", provider P2: {UUID}'),
         Row('record 3: BadUuid', 'P2,', 'uuid,root_provider_uuid,parent_provider_uuid,name\nP2,', f', uuid "uuid": {UUID}'),
         Row('record 4: Duplicate', 'P3,', 'P1,', f', uuid "P1": {TWICE}'),
@@ -134,6 +137,8 @@ ROWS = {
         Row('record 2: ParentCycle', 'P1,P1,,', 'P1,P1,P2,', ', parent_provider_uuid "P2", provider P1: the parents from here on go in a circle; correct one of them'),
         Row('record 3: WrongRoot', 'P2,P1,P1', 'P2,P2,P1', f', root_provider_uuid "P2", provider P2: {WRONG_ROOT}'),
         Row('record 2: WrongRoot', 'P1,P1,', 'P1,P2,', f', root_provider_uuid "P2", provider P1: {WRONG_ROOT}'),
+        Row('record 3: BadUuid', 'P2,P1,P1', 'P2,host,x', f', root_provider_uuid "host", provider P2: {UUID}'),
+        Row('record 4: Width', 'P3,P3,,twin', 'P3', f', fields 1, header 4, provider P3: {WIDTH}'),
     ],
     'inventories': [
         Row('record 4: BadClass', 'VF', 'vf', f', resource_class "vf", provider P2: a class {NAME}'),
@@ -146,15 +151,33 @@ ROWS = {
             ', reserved "5", total "4", provider P2, VF: reserved is at most total; lower it in the cloud, and export again', ['VF,4,4']),
         Row('record 3: Duplicate', 'DISK_GB', 'VCPU', f', resource_class "VCPU", provider P1: {TWICE}'),
         Row('record 2: UnknownProvider', 'P1,VCPU', 'P9,VCPU', f', resource_provider "P9", VCPU: {STRAY}'),
+        Row('record 2: BadUuid', 'P1,VCPU,8', 'host,VCPU,x', f', resource_provider "host", VCPU: {UUID}'),
+        Row('record 2: BadNumber', '0,1,8,1', '0,-1,8.0,1', f', min_unit "-1", provider P1, VCPU: {NUMBER}'),
+        Row('record 2: BadNumber', '8,1,1.0', '8,2147483648,1.0', f', step_size "2147483648", provider P1, VCPU: {NUMBER}'),
+        Row('record 3: Width', '100,1,1.0', '100,1', f', fields 7, header 8, provider P1, DISK_GB: {WIDTH}'),
     ],
     'usages': [
         Row('record 1: NoHeader', TABLES['usages'], '', ': the file has no record; export the table again, with its header'),
         Row('record 2: NoInventory', 'P1,VCPU,2\n', 'P1,MEMORY_MB,2\n',
             ', resource_class "MEMORY_MB", provider P1: the provider has no inventory of this class; export all tables together, or take the record out', ['']),
+        Row('record 2: NoInventory', 'P1,VCPU,2\n', '{P1},IPV4_ADDRESS,1\n',
+            ', resource_class "IPV4_ADDRESS", provider P1: the provider has no inventory of this class; export all tables together, or take the record out', ['']),
+        Row('record 2: UnknownProvider', 'P1,VCPU,2\n', '{P9},VCPU,2\n', f', resource_provider "{{P9}}", VCPU: {STRAY}', ['']),
+        Row('record 2: BadNumber', 'VCPU,2', 'VCPU,x', f', usage "x", provider P1, VCPU: {NUMBER}'),
+        # The first column that is at fault in the order of the table, whatever the order of the header.
+        Row('record 1: MissingColumn', 'resource_provider,resource_class,usage\n', 'resource_provider\n',
+            ', resource_class: the header lacks this column; export the table with all its columns'),
+        Row('record 1: DoubleColumn', 'resource_provider,resource_class,usage\n', 'usage,usage,resource_class,resource_class,resource_provider\n',
+            ', resource_class: the header has this column twice; take one of them out'),
     ],
     'traits': [
         Row('record 3: BadTrait', 'P1,CUSTOM_A', 'P1,custom_a', f', name "custom_a", provider P1: a trait {NAME}'),
         Row('record 4: UnknownProvider', 'P2,CUSTOM_A\n', 'P9,CUSTOM_A\n', f', resource_provider "P9": {STRAY}', ['']),
+        Row('record 1: NoHeader', TABLES['traits'], '\n\r\n', ': the file has no record; export the table again, with its header'),
+        # Values that would harm a terminal, and long ones.
+        *(Row('record 2: BadTrait', 'HW_CPU', value, f', name {shown}, provider P1: a trait {NAME}') for value, shown in [
+            ('', '""'), ('\x1b[2J\t~ \x7f', r'"\x1b[2J\x09~ \x7f"'), ('"a""b\\\nc"', r'"a\x22b\x5c\x0ac"'), ('é', r'"\xc3\xa9"'),
+            (LONG + 'f', f'"{LONG}f"'), (LONG + 'é', rf'"{LONG}\xc3"..')]),
     ],
     'aggregates': [
         Row('record 2: BadUuid', 'P1,A1', 'P1,az1', f', uuid "az1", provider P1: {UUID}'),

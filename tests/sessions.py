@@ -200,6 +200,29 @@ NO_PROVIDERS = {**tables(ONE), 'providers': HEADERS['providers']}
 STRAY = ('inventories: record 2: UnknownProvider\n  ', full('inventories.csv, resource_provider "P1", VCPU: not in the table of providers; '
                                                             'export all tables together, or take the record out\n'))
 
+# Claims and releases, what each of them answers, and how much VCPU is in use behind it.
+UNEQUAL = 'resources1=VCPU:3&resources2=VCPU:4&group_policy=none'
+APART = UNEQUAL.replace('none', 'isolate')
+IN_ONE = [
+    (f'claim {APART} P1,P1', 'no: rule 7 Isolate', {}), ('claim resources=VCPU:5 P1', 'claimed', {'P1': 5}), ('claim resources=VCPU:4 P1', 'no: rule 6 Sums', {'P1': 5}),
+    ('claim resources=VCPU:3 P1', 'claimed', {'P1': 8}), ('release resources=VCPU:3 P1', 'released', {'P1': 5}), ('release resources=VCPU:6 P1', 'not in use', {'P1': 5}),
+    ('release resources=VCPU:5 P1', 'released', {}), ('release resources=VCPU:5 P1', 'not in use', {}), (f'claim {UNEQUAL} P1,P1', 'claimed', {'P1': 7}),
+    (f'claim {UNEQUAL} P1,P1', 'no: rule 6 Sums', {'P1': 7}), (f'release {APART} P1,P1', 'released', {}), (f'claim {UNEQUAL} P1,P1', 'claimed', {'P1': 7}),
+    ('release resources=VCPU:1 P1', 'released', {'P1': 6}), (f'release {UNEQUAL} P1,P1', 'not in use', {'P1': 6}), ('release resources=DISK_GB:1 P1', 'not in use', {'P1': 6}),
+]
+IN_TWO = [
+    (f'claim {UNEQUAL} P1,P2', 'claimed', {'P1': 3, 'P2': 4}), (f'claim {UNEQUAL} P2,P1', 'claimed', {'P1': 7, 'P2': 7}),
+    (f'claim {UNEQUAL} P1,P2', 'no: rule 6 Sums', {'P1': 7, 'P2': 7}), (f'release {UNEQUAL} P1,P2', 'released', {'P1': 4, 'P2': 3}),
+    ('claim resources=DISK_GB:1 P2', 'no: rule 1 Units', {'P1': 4, 'P2': 3}),
+]
+
+
+def stepped(steps):
+    """The lines of these steps, each with `usages` behind it."""
+    for line, said, used in steps:
+        yield line, ended(said + '\n', 0 if said in ('claimed', 'released') else 1)
+        yield 'usages', ended(HEADERS['usages'] + ''.join(f'{name},VCPU,{amount}\n' for name, amount in used.items()), 0)
+
 
 def behind(name, asked, end='\n', **more):
     """A session that is given these lines, each with this at its end."""
@@ -218,6 +241,8 @@ ENDS = [
     behind('the same, with carriage returns', FAULTS[:6] + FAULTS[7:], '\r\n'),
     behind('a name that looks like the end of an answer', LIKE_ENDS, made=NAMED),
     behind('claims and releases', PLACED, made=tables(CHILD)),
+    behind('claims and releases on one provider', list(stepped(IN_ONE))),
+    behind('claims and releases on two providers', list(stepped(IN_TWO)), made=tables(CHILD)),
     behind('more in use than a table can state', TOO_MUCH, made=GREAT),
     session('no question at all', b'', ''),
     session('empty lines ask nothing', b'\n\r\n\ncheck\n\n', ended(COUNTS, 0)),

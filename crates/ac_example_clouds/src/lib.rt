@@ -67,8 +67,8 @@ pub fn cloud_of(alloc: Global, rows: Rows) -> Result<Option<Cloud>, AllocError> 
     Ok(Cloud::read(alloc, &src).ok())
 }
 
-/// A query as 1.39 reads it: what 1.36 accepts, both read alike.
-pub fn query_of(alloc: Global, text: &str) -> Result<Option<Query>, AllocError> {
+// A query as 1.39 reads it: what 1.36 accepts, both read alike.
+fn query_of(alloc: Global, text: &str) -> Result<Option<Query>, AllocError> {
     let text = expanded(alloc, text)?;
     Ok(Query::read(alloc, text.as_str(), Version::V139).ok())
 }

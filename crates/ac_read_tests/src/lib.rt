@@ -1,5 +1,5 @@
-//! What no clause says of quantities, devices, queries and command lines, shown over their public calls: worked values, each fault, growths that are
-//! refused.
+//! What no clause says of quantities, devices, queries and command lines, shown over their public calls: readers by themselves, devices that fail, growths
+//! that are refused. What is accepted and what is refused is shown by the program's own tests.
 #![tactic(auto)]
 
 #[cfg(test)]

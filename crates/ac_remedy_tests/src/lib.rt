@@ -1,8 +1,5 @@
-//! What no clause says of second lines, shown over their public calls: each as it is printed, values that would harm a terminal,
-//! growths that are refused.
+//! What no clause says of second lines: growths that are refused. Their texts are shown by the program's own tests.
 #![tactic(auto)]
 
 #[cfg(test)]
-mod queries;
-#[cfg(test)]
-mod tables;
+mod lines;

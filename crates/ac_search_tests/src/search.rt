@@ -1,22 +1,13 @@
 //! Searches over small clouds: what the modules below share.
-ghost use Rattle.std.specs.Prelude.{◌<◌, length, IfOk};
-ghost use Rattle.std.specs.List.{All};
-ghost use Rattle.ac_cloud.specs.Cloud.CloudWorld.{providers_of};
-
-use ac_base::Id;
-use ac_example_clouds::{Rows, Scene, expanded, scene_of};
+use ac_example_clouds::{NONE, Rows, Scene, scene_of};
 use ac_query::Query;
 use ac_rules::rules::anchor::takes_root;
-use ac_rules::slots::count_slots;
-use ac_rules::{Plain, Source, Verdict, verify};
+use ac_rules::{Plain, Source};
 use ac_search::{Walk, fitting_roots};
 use ac_tables::Cloud;
 use std::alloc::{AllocError, Global};
 
 mod candidates;
-mod claims;
-mod explained;
-mod hosts;
 mod refusals;
 mod tight;
 mod tries;
@@ -24,38 +15,21 @@ mod tries;
 // Two groups, of which each asks for five.
 const FIVES: &str = "resources1=VCPU:5&resources2=VCPU:5&group_policy=none";
 
-// The places of ids; an unknown one is left out.
-fn places(alloc: Global, cloud: &Cloud, ids: &str) -> Result<Vec<u32>, AllocError>
-    ensures { IfOk result (λ list. All (λ p. p < length (providers_of cloud.now)) list.items) }
-{
-    let mut list = Vec::new(alloc);
-    for piece in ids.split(',') {
-        let Some(id) = Id::read(piece.as_bytes()) else {
-            continue;
-        };
-        let Some(ix) = cloud.index_of(id) else {
-            continue;
-        };
-        list.push(ix)?;
-    }
-    Ok(list)
+// What stands between the bars of a text; nothing where there are fewer.
+fn part(text: &str, number: usize) -> &str {
+    text.split('|').nth(number).unwrap_or("")
 }
 
-fn verdict_of(
-    alloc: Global,
-    rows: Rows,
-    query: &str,
-    ids: &str,
-) -> Result<Option<Verdict>, AllocError> {
-    let Some(scene) = scene_of(alloc, rows, query, None)? else {
-        return Ok(None);
-    };
-    let ids = expanded(alloc, ids)?;
-    let list = places(alloc, &scene.cloud, ids.as_str())?;
-    if list.len() != count_slots(&scene.query) {
-        return Ok(None);
+// The rows of five tables, between bars.
+fn rows_of(text: &str) -> Rows<'_> {
+    Rows {
+        providers: part(text, 0),
+        inventories: part(text, 1),
+        usages: part(text, 2),
+        traits: part(text, 3),
+        aggregates: part(text, 4),
+        ..NONE
     }
-    Ok(Some(verify(&scene.cloud, &scene.query, list.as_slice())))
 }
 
 // The last two digits of each id of a list.

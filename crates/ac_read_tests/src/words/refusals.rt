@@ -1,5 +1,5 @@
 //! Words read with each growth refused in turn: what they say, or want of memory.
-use super::words_of;
+use super::{CHECK, words_of};
 use ac_query::{Command, Job, Version};
 use ac_tables::Table;
 use ac_words::{WordFault, read_words};
@@ -15,10 +15,7 @@ fn accepted(rt: HostRuntime) {
         query: "q",
         version: Version::V139,
         token: Some("t"),
-        host: None,
-        detail: false,
-        traits: true,
-        sum: false,
+        ..CHECK
     };
     match read_words(rt.alloc(), given.as_slice()) {
         Ok(words) => {

@@ -3,6 +3,7 @@
 use super::gives;
 use ac_example_clouds::{NONE, Rows};
 use std::alloc::{AllocError, Global};
+use std::process::Abort;
 use std::test::Fail;
 
 mod placements;
@@ -217,33 +218,35 @@ fn agree(alloc: Global, dice: &mut Dice, odds: &Odds) -> Result<bool, AllocError
     Ok(!text.as_str().is_empty())
 }
 
-#[test]
-fn both_sources_agree_on_tight_clouds(rt: HostRuntime) -> Result<(), Fail> {
+// The same of thirty clouds, one behind another.
+fn all_agree(rt: &(impl Abort + AllocGlobal), odds: &Odds) -> Result<(), AllocError> {
     let mut dice = Dice { state: 20 };
-    let odds = Odds {
-        full: 4,
-        sharing: 3,
-        member: 2,
-        aggregates: 2,
-    };
     for _ in 0..30 {
-        assert!(rt; agree(rt.alloc(), &mut dice, &odds)?);
+        assert!(rt; agree(rt.alloc(), &mut dice, odds)?);
     }
     Ok(())
+}
+
+const SOME_FULL: Odds = Odds {
+    full: 4,
+    sharing: 3,
+    member: 2,
+    aggregates: 2,
+};
+
+#[test]
+fn both_sources_agree_on_tight_clouds(rt: HostRuntime) -> Result<(), Fail> {
+    Ok(all_agree(&rt, &SOME_FULL)?)
 }
 
 // All of them are in one aggregate, half of them share, and half of what they have is used up.
 #[test]
 fn both_sources_agree_where_what_is_shared_is_full(rt: HostRuntime) -> Result<(), Fail> {
-    let mut dice = Dice { state: 20 };
     let odds = Odds {
         full: 2,
         sharing: 2,
         member: 1,
         aggregates: 1,
     };
-    for _ in 0..30 {
-        assert!(rt; agree(rt.alloc(), &mut dice, &odds)?);
-    }
-    Ok(())
+    Ok(all_agree(&rt, &odds)?)
 }

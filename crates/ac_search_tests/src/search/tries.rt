@@ -1,7 +1,7 @@
 //! How often a walk tries, counted by hand: once for each choice that it looks at, whether it passes over it or tests it.
 //! Choices of other trees and parts, and those behind a path that has too little left, aren't looked at.
-use super::{FIVES, walk_gives};
-use ac_example_clouds::{NONE, Rows, Scene, scene_of};
+use super::{FIVES, part, rows_of, walk_gives};
+use ac_example_clouds::{Scene, scene_of};
 use ac_rules::Source;
 use ac_search::Walk;
 use std::alloc::{AllocError, Global};
@@ -65,10 +65,6 @@ fn written_out(alloc: Global, many: &Many, query: &str) -> Result<String, AllocE
     Ok(text)
 }
 
-fn part(text: &str, number: usize) -> &str {
-    text.split('|').nth(number).unwrap_or("")
-}
-
 fn scene_of_many(
     alloc: Global,
     many: &Many,
@@ -77,15 +73,7 @@ fn scene_of_many(
 ) -> Result<Option<Scene>, AllocError> {
     let text = written_out(alloc, many, query)?;
     let text = text.as_str();
-    let rows = Rows {
-        providers: part(text, 0),
-        inventories: part(text, 1),
-        usages: part(text, 2),
-        traits: part(text, 3),
-        aggregates: part(text, 4),
-        ..NONE
-    };
-    scene_of(alloc, rows, part(text, 5), after)
+    scene_of(alloc, rows_of(text), part(text, 5), after)
 }
 
 // How many tries a walk has made after each call, up to the one that gives `None`.

@@ -1,8 +1,26 @@
-//! Feeds that fail, are interrupted, or give too much: how often they are asked.
-use super::{LIMIT, drains};
+//! Feeds that fail, are interrupted, or give too much: what is drained, and how often they are asked.
+use super::LIMIT;
 use ac_base::{Feed, FromRead, MemFeed, Pull, Turn};
 use ac_tables::{ReadFault, drain};
+use std::alloc::Global;
 use std::io::{self, Read};
+
+// Whether draining three bytes gives them all.
+fn drains(alloc: Global, turns: &[Turn]) -> Result<bool, ReadFault> {
+    let mut feed = MemFeed::new(b"abc", turns);
+    Ok(drain(alloc, &mut feed)?.as_slice() == b"abc".as_slice())
+}
+
+// A thousand interrupted calls in a row are borne, and one more is a failure.
+#[test]
+fn drains_a_feed(rt: HostRuntime) {
+    let whole = drains(rt.alloc(), &[Turn::Up(1), Turn::Again]);
+    assert!(rt; whole == Ok(true), "all bytes");
+    let borne = drains(rt.alloc(), &[Turn::Again; 1000]);
+    assert!(rt; borne == Ok(true), "1000 are borne");
+    let many = drains(rt.alloc(), &[Turn::Again; 1001]);
+    assert!(rt; many == Err(ReadFault::Unreadable), "1001 aren't");
+}
 
 // Nothing is asked of a feed after a failure: the turn behind it is still there.
 #[test]

@@ -6,9 +6,9 @@ ghost use Rattle.ac_fill.specs.Filled.{asks_units};
 ghost use Rattle.ac_fill.specs.Shown.{IsTakenOf};
 ghost use Rattle.ac_query.specs.Shown.Queries.{asked_of};
 
-use super::{Dice, Odds, rows_of, thrown};
+use super::{Dice, SOME_FULL, rows_of, thrown};
 use ac_base::MemSink;
-use ac_example_clouds::{PAIR, Rows, cloud_of, expanded};
+use ac_example_clouds::{Rows, cloud_of};
 use ac_fill::{Takings, write_filled};
 use ac_query::{Query, Version};
 use ac_rules::slots::count_slots;
@@ -20,13 +20,12 @@ use std::test::Fail;
 
 // The query of a text, where it is accepted.
 #[tactic(auto, using(ac_fill::proofs::Accepted::accepted_ask))]
-fn accepted(alloc: Global, text: &str) -> Result<Option<Query>, AllocError>
-    ensures { IfOk result (λ query. IfSome query (λ q. asks_units (asked_of q) ≡ true)) }
+fn accepted(alloc: Global, text: &str) -> Option<Query>
+    ensures { IfSome result (λ query. asks_units (asked_of query) ≡ true) }
 {
-    let text = expanded(alloc, text)?;
-    match Query::read(alloc, text.as_str(), Version::V139) {
-        Ok(query) => Ok(Some(query)),
-        Err(_) => Ok(None),
+    match Query::read(alloc, text, Version::V139) {
+        Ok(query) => Some(query),
+        Err(_) => None,
     }
 }
 
@@ -74,7 +73,7 @@ fn push_line(text: &mut Vec<u8>, cloud: &Cloud, list: &[u32]) -> Result<(), Allo
 // Claims the first candidate again and again, and gives the tokens of what was claimed.
 fn claimed(alloc: Global, cloud: &mut Cloud, query: &Query) -> Result<Vec<u8>, AllocError> {
     let mut text = Vec::new(alloc);
-    for _ in 0..query.limit().unwrap_or(100) {
+    for _ in 0..100 {
         let Some(list) = first(alloc, cloud, query)? else {
             return Ok(text);
         };
@@ -129,62 +128,29 @@ fn use_the_same(cloud: &Cloud, other: &Cloud) -> bool {
     })
 }
 
-// The lines of placements, where claims write the same and leave the same.
-fn placed(alloc: Global, rows: Rows, query: &str) -> Result<Option<Vec<u8>>, AllocError> {
-    let Some(query) = accepted(alloc, query)? else {
-        return Ok(None);
+// Whether claims place the same, and leave the same.
+fn places_the_same(alloc: Global, rows: Rows, query: &str) -> Result<bool, AllocError> {
+    let Some(query) = accepted(alloc, query) else {
+        return Ok(false);
     };
     let Some(mut plain) = cloud_of(alloc, rows)? else {
-        return Ok(None);
+        return Ok(false);
     };
     let Some(mut cloud) = cloud_of(alloc, rows)? else {
-        return Ok(None);
+        return Ok(false);
     };
     let lines = filled(alloc, &mut cloud, &query)?;
     let wanted = claimed(alloc, &mut plain, &query)?;
-    if lines.as_slice() == wanted.as_slice() && use_the_same(&cloud, &plain) {
-        Ok(Some(lines))
-    } else {
-        Ok(None)
-    }
-}
-
-// Whether these are placed, one after another.
-fn gives(alloc: Global, query: &str, wanted: &str) -> Result<bool, AllocError> {
-    let wanted = expanded(alloc, wanted)?;
-    match placed(alloc, PAIR, query)? {
-        Some(lines) => Ok(lines.as_slice() == wanted.as_bytes()),
-        None => Ok(false),
-    }
-}
-
-// A provider with 8 units, and another with 8 below it.
-#[test]
-fn fills_two_providers(rt: HostRuntime) -> Result<(), Fail> {
-    let alloc = rt.alloc();
-    assert!(rt; gives(alloc, "resources=VCPU:3", "@01\n@01\n@02\n@02\n")?);
-    assert!(rt; gives(alloc, "resources=VCPU:3&limit=3", "@01\n@01\n@02\n")?);
-    assert!(rt; gives(alloc, "resources=VCPU:9", "")?);
-    let threes = "resources1=VCPU:3&resources2=VCPU:3&group_policy=none";
-    assert!(rt; gives(alloc, threes, "@01,@01\n@02,@02\n")?);
-    let apart = "resources1=VCPU:3&resources2=VCPU:5&group_policy=isolate";
-    assert!(rt; gives(alloc, apart, "@01,@02\n@02,@01\n")?);
-    Ok(())
+    Ok(lines.as_slice() == wanted.as_slice() && use_the_same(&cloud, &plain))
 }
 
 #[test]
 fn placements_are_claims_on_tight_clouds(rt: HostRuntime) -> Result<(), Fail> {
     let alloc = rt.alloc();
     let mut dice = Dice { state: 7 };
-    let odds = Odds {
-        full: 4,
-        sharing: 3,
-        member: 2,
-        aggregates: 2,
-    };
     for _ in 0..40 {
-        let tight = thrown(alloc, &mut dice, &odds)?;
-        assert!(rt; placed(alloc, rows_of(&tight), tight.query.as_str())?.is_some());
+        let tight = thrown(alloc, &mut dice, &SOME_FULL)?;
+        assert!(rt; places_the_same(alloc, rows_of(&tight), tight.query.as_str())?);
     }
     Ok(())
 }
