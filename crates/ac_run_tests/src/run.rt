@@ -6,6 +6,7 @@ use ac_base::{MemFeed, MemSink, Turn};
 use ac_detail::{Paths, run_detailed};
 use ac_query::Version;
 use ac_run::{Command, Inputs, Job, run, run_gathered};
+use crate::left::{Left, expanded, text_of};
 use std::alloc::{AllocError, Global};
 use std::process::Abort;
 
@@ -44,10 +45,6 @@ const ONE_BODY: &str =
     "{\"allocation_requests\":[{\"allocations\":{\"@1\":{\"resources\":{\"VCPU\":2}}},\
     \"mappings\":{\"\":[\"@1\"]}}],\"provider_summaries\":{\"@1\":{\"parent_provider_uuid\":null,\
     \"resources\":{\"VCPU\":{\"capacity\":8,\"used\":0}},\"root_provider_uuid\":\"@1\",\"traits\":[]}}}\n";
-
-fn expanded(alloc: Global, text: &str) -> Result<String, AllocError> {
-    text.replace(alloc, "@", "00000000-0000-0000-0000-00000000000")
-}
 
 // The texts of the tables.
 #[derive(Drop)]
@@ -123,26 +120,11 @@ fn alike<'a>(turns: &'a [Turn]) -> Turns<'a> {
     }
 }
 
-// What a run leaves.
-#[derive(Drop)]
-struct Left {
-    output: String,
-    line: String,
-    status: u8,
-}
-
 // What a run is to leave; the number says which run it is.
 fn expect_left(rt: &impl Abort, left: &Left, output: &str, line: &str, status: u8, number: usize) {
     assert_eq!(rt; left.output.as_str(), output, "output of run {number}");
     assert_eq!(rt; left.line.as_str(), line, "line of run {number}");
     assert_eq!(rt; left.status, status, "status of run {number}");
-}
-
-fn text_of(alloc: Global, bytes: &[u8]) -> Result<String, AllocError> {
-    match std::str::from_utf8(bytes) {
-        Ok(text) => String::from_str(alloc, text),
-        Err(_) => String::from_str(alloc, "no text"),
-    }
 }
 
 // The paths of the tables' files.
