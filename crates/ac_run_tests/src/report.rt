@@ -6,8 +6,8 @@ ghost use Rattle.ac_query.specs.Shown.Queries.{asked_of};
 ghost use Rattle.ac_cloud.specs.Cloud.CloudWorld.{providers_of};
 ghost use Rattle.ac_report.specs.Pages.{IsAssignment};
 
-use ac_base::{MemSink, Sink, Turn};
 use crate::clouds::{ONE, expanded, scene_of};
+use ac_base::{MemSink, Sink, Turn};
 use ac_query::Query;
 use ac_report::{PageFault, write_list, write_page, write_tokens};
 use ac_rules::Source;

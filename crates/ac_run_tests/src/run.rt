@@ -2,11 +2,11 @@
 ghost use Rattle.std.specs.Option.{option_map};
 ghost use Rattle.ac_query.specs.Jobs.{HasToken};
 
+use crate::left::{Left, expanded, text_of};
 use ac_base::{MemFeed, MemSink, Turn};
 use ac_detail::{Paths, run_detailed};
 use ac_query::Version;
 use ac_run::{Command, Inputs, Job, run, run_gathered};
-use crate::left::{Left, expanded, text_of};
 use std::alloc::{AllocError, Global};
 use std::process::Abort;
 

@@ -1,10 +1,10 @@
 //! Sessions over devices in memory.
+use crate::left::{Left, expanded, text_of};
 use ac_base::{MemFeed, MemSink, Turn};
 use ac_detail::Paths;
 use ac_query::Version;
 use ac_run::Inputs;
 use ac_session::{Lines, run_session, run_session_detailed};
-use crate::left::{Left, expanded, text_of};
 use std::alloc::{AllocError, Global};
 use std::process::Abort;
 

@@ -1,6 +1,6 @@
 //! The table of usages of a small cloud, over a sink that fails.
-use ac_base::{MemSink, Turn};
 use crate::clouds::{NONE, Rows, cloud_of};
+use ac_base::{MemSink, Turn};
 use ac_report::PageFault;
 use ac_session::write_usages;
 use std::test::Fail;

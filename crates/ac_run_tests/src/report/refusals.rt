@@ -1,7 +1,7 @@
 //! Texts and writers, run with each of their growths refused in turn: all of the text, or want of memory and a first part of it.
 use super::{BODY, Writer, Written, is_assignment, run_writer};
-use ac_base::NoMemory;
 use crate::clouds::{ONE, cloud_of, expanded, scene_of};
+use ac_base::NoMemory;
 use ac_report::{PageFault, request_text, shown_name, summary_text};
 use std::alloc::Global;
 use std::process::Abort;

@@ -1,8 +1,8 @@
 //! What takes memory, made with each of its growths refused in turn: all candidates, the counts of trees, or want of memory. What a source gives
 //! takes none, so it is given with all growths refused too.
 use super::FIVES;
-use ac_base::NoMemory;
 use crate::clouds::{NONE, PAIR, Rows, Scene, scene_of};
+use ac_base::NoMemory;
 use ac_rules::{Plain, Source};
 use ac_search::{SlotCounts, TreeCounts, Walk, all_slots, fitting_roots, tree_counts};
 use std::alloc::{AllocError, Global};

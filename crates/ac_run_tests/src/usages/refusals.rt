@@ -1,7 +1,7 @@
 //! The table of usages, with each of its growths refused in turn.
 use super::USED;
-use ac_base::MemSink;
 use crate::clouds::{cloud_of, expanded};
+use ac_base::MemSink;
 use ac_report::PageFault;
 use ac_session::write_usages;
 

@@ -7,8 +7,8 @@ ghost use Rattle.ac_fill.specs.Shown.{IsTakenOf};
 ghost use Rattle.ac_query.specs.Shown.Queries.{asked_of};
 
 use super::{Dice, SOME_FULL, rows_of, thrown};
-use ac_base::MemSink;
 use crate::clouds::{Rows, cloud_of};
+use ac_base::MemSink;
 use ac_fill::{Takings, write_filled};
 use ac_query::{Query, Version};
 use ac_rules::slots::count_slots;
