@@ -1,5 +1,5 @@
 //! Runs over slow devices, and jobs that no command line asks for.
-use super::{ANSWERS, Case, SOUND, TOKENS, alike, check_case};
+use super::{ANSWERS, Case, TOKENS, alike, check_case};
 use ac_base::Turn;
 use ac_run::Command;
 use std::alloc::{AllocError, Global};
@@ -19,16 +19,21 @@ fn interrupted(alloc: Global) -> Result<Vec<Turn>, AllocError> {
     Ok(turns)
 }
 
-// Each case answers so, also where each call of a device moves one byte, and where one is interrupted before each.
-fn check(rt: &(impl Abort + AllocGlobal), cases: &[Case]) -> Result<(), Fail> {
-    let one_byte = vec![in rt.alloc(); Turn::Up(1); MANY]?;
-    let again = interrupted(rt.alloc())?;
-    for (number, case) in cases.iter().enumerate() {
-        check_case(rt, case, SOUND, number)?;
-        check_case(rt, case, alike(one_byte.as_slice()), number)?;
-        check_case(rt, case, alike(again.as_slice()), number)?;
+// Each case answers so over devices that all go by these turns.
+fn check_over(rt: &(impl Abort + AllocGlobal), cases: &[Case], turns: &[Turn]) -> Result<(), Fail> {
+    for (place, case) in cases.iter().enumerate() {
+        check_case(rt, case, alike(turns), place)?;
     }
     Ok(())
+}
+
+// The answers are the same where each call of a device moves one byte, and where one is interrupted before each.
+fn check(rt: &(impl Abort + AllocGlobal), cases: &[Case]) -> Result<(), Fail> {
+    check_over(rt, cases, &[])?;
+    let one_byte = vec![in rt.alloc(); Turn::Up(1); MANY]?;
+    check_over(rt, cases, one_byte.as_slice())?;
+    let again = interrupted(rt.alloc())?;
+    check_over(rt, cases, again.as_slice())
 }
 
 #[test]
