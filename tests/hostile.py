@@ -101,6 +101,10 @@ CROWDED = [
     ('that a root may not have', 'resources=VCPU:2&limit=1&root_required=' + ','.join(f'!{name}' for name in OTHERS), True),
 ]
 
+# One chain, in which the root has a disk, and each provider is below it: a candidate for each, which asks who is above whom over up to 65535 steps.
+DEEP = {'providers': lambda: chain(MOST_PROVIDERS), 'inventories': lambda: vcpu(MOST_PROVIDERS) + f'{P1},DISK_GB,9,0,1,9,1,1.0\n'}
+BELOW = 'resources1=DISK_GB:1&resources2=VCPU:1&same_subtree=1,2&group_policy=none'
+
 TOKENS = [
     ('131000 letters', 'z' * 131000, 'BadToken'),
     ('130000 commas', ',' * 130000, 'BadToken'),
@@ -129,6 +133,8 @@ def hostile(program):
     for name, query, is_found in CROWDED:
         yield Case(f'hostile query: 9000 traits {name}, over 65536 providers', [*limited, 'tokens', query, '--microversion', '1.39'],
                    lines('P1') if is_found else '', '', 0, CROWD)
+    yield Case('hostile query: a group of the root of a chain of 65536, and one of each provider below it', [*limited, 'tokens', BELOW],
+               ''.join(f'{P1},{id}\n' for id in ids(MOST_PROVIDERS)), tables=DEEP)
     for name, token, says in TOKENS:
         for command in ['tokens', 'resources=VCPU:2', f'--after={token}'], ['verify', 'resources=VCPU:2', token]:
             yield Case(f'hostile token: {name}, {command[0]}', [*limited, *command], '', f'token: {says}\n', 5, tables('P1 | | VCPU total 8'))

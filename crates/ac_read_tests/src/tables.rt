@@ -1,7 +1,7 @@
-//! What a small cloud answers, and a deep one.
+//! What a small cloud answers.
 use ac_base::{ClassName, Id, NoMemory, TraitName};
 use ac_tables::{Cloud, Counts, FromTables, Sources, TableFault};
-use std::alloc::{AllocError, Global};
+use std::alloc::Global;
 use std::test::Fail;
 
 mod draining;
@@ -140,52 +140,5 @@ fn answers_of_a_small_cloud(rt: HostRuntime) -> Result<(), Fail> {
     assert!(rt; has_sharing(&cloud), "sharing");
     assert!(rt; has_ids(&cloud, p9, a1), "ids");
     assert!(rt; has_names(rt.alloc(), &cloud)?, "names");
-    Ok(())
-}
-
-// A chain of 65536 providers, each below the one before it, in rows that stand far apart.
-fn chain(alloc: Global) -> Result<String, AllocError> {
-    let mut text = String::from_str(alloc, NONE[0])?;
-    for turn in 1..65_537u32 {
-        let number = turn.wrapping_mul(40_503) % 65_536;
-        let row = if number > 0 {
-            let above = number - 1;
-            format!(in alloc; "{number:032x},{:032x},{above:032x}\n", 0u32)?
-        } else {
-            format!(in alloc; "{number:032x},{number:032x},\n")?
-        };
-        text.push_str(row.as_str())?;
-    }
-    Ok(text)
-}
-
-// Whether a provider is above itself and all behind it. By climbing, the calls for 8 providers of the chain would take minutes.
-fn is_above_all(cloud: &Cloud, ix: u32) -> bool {
-    for below in ix..cloud.len() {
-        if !cloud.is_ancestor(ix, below) {
-            return false;
-        }
-    }
-    true
-}
-
-fn has_one_root(cloud: &Cloud) -> bool {
-    cloud.len() == 65_536
-        && cloud.root(65_535) == 0
-        && cloud.parent(40_000) == Some(39_999)
-        && !cloud.is_ancestor(40_001, 40_000)
-}
-
-#[test]
-fn reads_a_chain_of_65536(rt: HostRuntime) -> Result<(), Fail> {
-    let text = chain(rt.alloc())?;
-    let cloud = read(
-        rt.alloc(),
-        [text.as_str(), NONE[1], NONE[2], NONE[3], NONE[4]],
-    )?;
-    assert!(rt; has_one_root(&cloud), "the chain");
-    for ix in 0..8u32 {
-        assert!(rt; is_above_all(&cloud, ix), "above all behind {ix}");
-    }
     Ok(())
 }
