@@ -310,9 +310,9 @@ NAMES = [(b'', ''), (b'cmp-az1-050', 'cmp-az1-050'), (b'rack 1, "top"', '"rack 1
          (b'\0\x1f \x7f~', '?? ?~'), ('Z\u00fcrich \u20ac5 \U0001f600'.encode(), 'Z\u00fcrich \u20ac5 \U0001f600'), (b'?', '?'), (b'\xff', '?'), (b'\x80', '?'),
          (b'a\xc3', 'a?'), (b'a\xe2\x82b', 'a??b'), (b'\xf0\x9f\x98x', '???x'), (b'\xc0\x80', '??'), (b'\xed\xa0\x80', '???'), (b'\xf5\x80\x80\x80', '????'),
          (b'\xc3\xa9\xff\xc3\xa9\n\xfe\xfe', '\u00e9?\u00e9???')]
-NAMED = b'uuid,root_provider_uuid,parent_provider_uuid,name\n' + b''.join(
+SHOWN = b'uuid,root_provider_uuid,parent_provider_uuid,name\n' + b''.join(
     full(f'P{place},P{place},,').encode() + b'"' + name.replace(b'"', b'""') + b'"\n' for place, (name, _) in enumerate(NAMES, 1))
-NAMED_ROWS = 'root,name,fits,slot,lacks\n' + ''.join(full(f'P{place},{shown},no,1,units\n') for place, (_, shown) in enumerate(NAMES, 1))
+SHOWN_ROWS = 'root,name,fits,slot,lacks\n' + ''.join(full(f'P{place},{shown},no,1,units\n') for place, (_, shown) in enumerate(NAMES, 1))
 
 PAGES = [
     page('one host', ONE, 'resources=VCPU:2', ONE_BODY),
@@ -361,7 +361,7 @@ PAGES = [
     listed('what is used may be more than the capacity', 'P1 | | VCPU total 8, used 9; PGPU total 1', 'resources=PGPU:1', ['1,PGPU=1,P1,,"PGPU=0/1,VCPU=9/8",']),
     listed('a name with a comma, a quote and a newline', ONE, 'resources=VCPU:2', ['1,VCPU=2,P1,"a,""b""?c",VCPU=0/8,'],
            providers='uuid,name,root_provider_uuid,parent_provider_uuid\n' + full('P1,"a,""b""\nc",P1,\n')),
-    Case('hosts: names that would harm a terminal, or that are no text', ['hosts', 'resources=VCPU:9'], NAMED_ROWS, status=1, tables={**tables(ONE), 'providers': NAMED}),
+    Case('hosts: names that would harm a terminal, or that are no text', ['hosts', 'resources=VCPU:9'], SHOWN_ROWS, status=1, tables={**tables(ONE), 'providers': SHOWN}),
     found('after the first', SHARED, 'resources=DISK_GB:10,VCPU:1', 'P9,P3', after='P9,P1'),
     found('after the first, with a limit', SHARED, 'resources=DISK_GB:10,VCPU:1&limit=1', 'P9,P3', after='P9,P1'),
     found('after a token with a provider of no table', CHILD, FIVE_AND_FIVE, 'P2,P1', after='P1,P7'),
