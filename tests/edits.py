@@ -331,7 +331,8 @@ class Gate:
         for edit in edits:
             by = edit.among(found)
             if by or len(edits) == 1:
-                why = '; '.join(f'{function} by {", ".join(found[function])}' for function in by) if by else f'let through, or not read: {said[-300:]}'
+                error = next((line for line in said.splitlines() if 'error:' in line), said.strip().rpartition('\n')[2])
+                why = '; '.join(f'{function} by {", ".join(found[function])}' for function in by) or f'let through, or refused by no goal: {error[:300]}'
                 self.note(crate, edit, bool(by), why)
             else:
                 self.try_together(crate, [edit], edit.made({}))

@@ -387,7 +387,7 @@ GROWTHS = [
 
 # Each call of the libraries that takes memory, by itself.
 REFUSALS = [Case(f'each growth refused, in the tests of {name}', ['sh', '-c', f'exec python3 -B tests/memory/refusals.py {name}'], SOME)
-            for name in ('ac_read_tests', 'ac_run_tests')]
+            for name in ('ac_read_tests', 'ac_search_tests', 'ac_run_tests')]
 
 KNOWN = Case('a fault is told though a growth behind it is refused', ['sh', '-c', 'exec python3 -B tests/memory/known_faults.py "$0"', PROGRAM], SOME)
 

@@ -1,17 +1,17 @@
 //! The table of usages, with each of its growths refused in turn.
-use super::USED;
-use crate::clouds::{cloud_of, expanded};
+use super::used_cloud;
+use crate::left::expanded;
 use ac_base::MemSink;
 use ac_report::PageFault;
 use ac_session::write_usages;
 
 const USED_TEXT: &str =
-    "resource_provider,resource_class,usage\n@01,DISK_GB,9\n@01,VCPU,3\n@02,VCPU,12\n";
+    "resource_provider,resource_class,usage\n@1,DISK_GB,9\n@1,VCPU,3\n@2,VCPU,12\n";
 
 #[test]
 fn table(rt: HostRuntime) {
     let alloc = rt.alloc();
-    let Ok(Some(cloud)) = cloud_of(alloc, USED) else {
+    let Ok(Some(cloud)) = used_cloud(alloc) else {
         return;
     };
     let Ok(want) = expanded(alloc, USED_TEXT) else {

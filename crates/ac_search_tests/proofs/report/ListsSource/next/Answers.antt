@@ -2,7 +2,7 @@ use Rattle.std.proofs.Common.{◌≡◌, ◌+◌, ◌<◌, ℕ, List, Some, leng
 use Rattle.std.proofs.lemmas.List.{drop_more}
 use Rattle.std.specs.Borrow.{Bor}
 use Rattle.ac_rules.specs.Lists.{head_of, tail_of}
-use Rattle.ac_run_tests.proofs.report.ListsSource.next.Goals as goal
+use Rattle.ac_search_tests.proofs.report.ListsSource.next.Goals as goal
 
 -- the first list that is left, and those behind it
 step : (lists : List (Bor (List ℕ))) (at : ℕ) (list : Bor (List ℕ)) → at < length lists
