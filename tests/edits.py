@@ -159,7 +159,7 @@ class Crate:
     """A crate, what it stands on below a folder, and its edits."""
 
     def __init__(self, top, name, libraries):
-        self.name, self.libraries, self.top, self.turn, self.room = name, libraries, top, threading.Lock(), None
+        self.name, self.libraries, self.turn, self.room = name, libraries, threading.Lock(), None
         self.folder, self.own = os.path.join(top, 'crates', name), os.path.join(ROOT, 'crates', name)
 
     def read_edits(self, with_more):
