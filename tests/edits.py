@@ -232,8 +232,11 @@ def goals(said, name):
     if UNREAD.search(said) or not re.search(r'^(logic=not-proved|only=)', said, re.M):
         return {}
     found, noted = {}, []
+    wrong = {name for name, why in re.findall(r'^\./proofs/\S+ error: `([^`]*)`: (.*)', said, re.M) if not GONE.search(why)}
     for path, goal, why in re.findall(r'^\./proofs/(\S+)/(?:Answers|Invariants)\.antt:\S+ error: `([^`]*)`: (.*)', said, re.M):
         found.setdefault(path.replace('/', '::'), set()).update([] if GONE.search(why) else [goal])
+    for path, lemma, rest in re.findall(r'^\./proofs/(\S+)/Answers\.antt:\S+ error: .* on `([^`]*)`, which was not admitted, .*not checked: (.*)', said, re.M):
+        found.setdefault(path.replace('/', '::'), set()).update(rest.split(', ') if lemma in wrong else [])
     for goal, path in re.findall(r'^note: `([^`]*)` of proofs/(\S+)/Answers\.antt must prove: ', said, re.M):
         found.setdefault(path.replace('/', '::'), set()).add(goal)
     for line in said.splitlines():

@@ -28,10 +28,11 @@ fn used_cloud(alloc: Global) -> Result<Option<Cloud>, AllocError> {
     if providers.len() > LIMIT || inventories.len() > LIMIT || usages.len() > LIMIT {
         return Ok(None);
     }
+    let usages = Some(usages.as_bytes());
     let src = Sources {
         providers: providers.as_bytes(),
         inventories: inventories.as_bytes(),
-        usages: Some(usages.as_bytes()),
+        usages,
         traits: None,
         aggregates: None,
     };
