@@ -25,16 +25,25 @@ fn used_cloud(alloc: Global) -> Result<Option<Cloud>, AllocError> {
     let providers = expanded(alloc, PROVIDERS)?;
     let inventories = expanded(alloc, INVENTORIES)?;
     let usages = expanded(alloc, USAGES)?;
-    if providers.len() > LIMIT || inventories.len() > LIMIT || usages.len() > LIMIT {
+    let traits = expanded(alloc, "resource_provider,name\n")?;
+    let aggregates = expanded(alloc, "resource_provider,uuid\n")?;
+    if providers.len() > LIMIT
+        || inventories.len() > LIMIT
+        || usages.len() > LIMIT
+        || traits.len() > LIMIT
+        || aggregates.len() > LIMIT
+    {
         return Ok(None);
     }
     let usages = Some(usages.as_bytes());
+    let traits = Some(traits.as_bytes());
+    let aggregates = Some(aggregates.as_bytes());
     let src = Sources {
         providers: providers.as_bytes(),
         inventories: inventories.as_bytes(),
         usages,
-        traits: None,
-        aggregates: None,
+        traits,
+        aggregates,
     };
     Ok(Cloud::read(alloc, &src).ok())
 }
