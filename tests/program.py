@@ -16,7 +16,8 @@ import tempfile
 from concurrent.futures import ThreadPoolExecutor
 
 sys.dont_write_bytecode = True
-sys.path.append(os.path.join(os.path.dirname(os.path.dirname(os.path.abspath(__file__))), 'tools'))
+HERE = os.path.dirname(os.path.abspath(__file__))
+sys.path += [os.path.join(os.path.dirname(HERE), 'tools'), os.path.join(HERE, 'documents')]
 
 from cases import CHILD, ONE, SHARED, SMALL, SOME, Case, cuts, full, lines, tables
 from database import database_exports

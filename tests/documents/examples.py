@@ -16,7 +16,7 @@ import shlex
 
 from cases import Case, full, tables
 
-FOLDER = os.path.join(os.path.dirname(os.path.abspath(__file__)), 'examples')
+FOLDER = os.path.join(os.path.dirname(os.path.dirname(os.path.abspath(__file__))), 'examples')
 CLOUD = re.compile(r'^\| provider \|.*\n\|[-|]+\n((?:\|.*\n)*)\n((?:(?:- `|  ).*\n)+)', re.M)
 LINE = re.compile(r'- `([^`]*)`(?: (ends|is refused) with (\d))?: (nothing|`[^`]*`(?: `[^`]*`)*)$')
 
