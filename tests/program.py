@@ -115,7 +115,7 @@ HELP = [
     *(Case(f'help: {" ".join(words)}', words, help_text(name)) for name, each in HELP_WORDS.items() for words in each),
     *(without_program(' '.join(words), './ac_cli ' + ' '.join(words), help_text(name)) for name, each in HELP_WORDS.items() for words in each),
     *(example_of(name) for name in ('ac_cli', *COMMANDS)),
-    Case('version: the logic is that of the toolchain', ['--version'], f"ac_cli 1.0.0, proved with Rattle's {logic()}\n"),
+    Case('version: the logic is that of the toolchain', ['--version'], f"ac_cli 1.1.0, proved with Rattle's {logic()}\n"),
     Case('the manual page and what shells complete are as the help says', ['sh', '-c', 'python3 -B tests/documents/help.py']),
     without_program('a word that is no command', './ac_cli token x', err='ac_cli: no command token; ./ac_cli --help tells the commands\n', status=2),
     without_program('an option in place of a command', './ac_cli --tables x check',

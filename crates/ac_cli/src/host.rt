@@ -32,10 +32,12 @@ pub trait Host {
     // No file could be opened at a path, for this reason.
     ghost refuses: { Self → List ℕ → List ℕ → Type 0 };
 
+    /// The words of the command line, the program's name first.
     fn words(&self) -> Result<Vec<String>, Unworded>
         ensures given { IfOk result (λ words. gives self.now (map string_bytes words.items)) }
         ensures no_text { result ≡ Err Unworded.NotText → garbles self.now };
 
+    /// Opens the file at a path, or says why it can't be opened.
     fn open(&self, path: &str) -> Result<Self::File, &'static str>
         ensures file { IfOk result (opens self.now path.now) }
         ensures fault { IfErr result (λ reason. refuses self.now path.now reason.now) };

@@ -13,6 +13,7 @@ pub struct Digits {
 impl Digits {
     ghost use Rattle.ac_answers.specs.Writing.Digits.{digits_shown};
 
+    /// The decimal digits of a number, without zeros before it.
     pub fn of(number: u32) -> Digits
         ensures { digits_shown result ≡ decimal number }
     {
@@ -38,6 +39,7 @@ impl Digits {
         }
     }
 
+    /// The digits, as bytes of text.
     pub fn as_bytes(&self) -> &[u8]
         ensures { result.now ≡ digits_shown self.now }
     {

@@ -25,6 +25,7 @@ pub struct FromRead<R> {
 }
 
 impl<R: Read> FromRead<R> {
+    /// A feed of what this reader still gives, that has not failed yet.
     pub fn new(reader: R) -> Self
         ensures remaining { ⟦<FromRead<R> as Feed>⟧.remaining result ≡ R.remaining reader }
         ensures failures { ⟦<FromRead<R> as Feed>⟧.failures result ≡ 0 }

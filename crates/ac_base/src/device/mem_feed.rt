@@ -18,6 +18,7 @@ pub struct MemFeed<'a> {
 impl<'a> MemFeed<'a> {
     ghost use Rattle.ac_base.specs.Turns.{feed_bytes, feed_turns};
 
+    /// A feed of these bytes, whose calls go as the turns say.
     pub fn new(bytes: &'a [u8], turns: &'a [Turn]) -> Self
         ensures remaining { ⟦<MemFeed<'a> as Feed>⟧.remaining result ≡ Some bytes.now }
         ensures bytes { feed_bytes result ≡ bytes.now }

@@ -21,6 +21,7 @@ pub struct MemSink<'a> {
 impl<'a> MemSink<'a> {
     ghost use Rattle.ac_base.specs.Turns.{sink_turns, sink_room};
 
+    /// A sink that writes into this room, whose calls go as the turns say.
     pub fn new(room: Vec<u8>, turns: &'a [Turn]) -> Self
         ensures taken { ⟦<MemSink<'a> as Sink>⟧.taken result ≡ Some [] }
         ensures failures { ⟦<MemSink<'a> as Sink>⟧.failures result ≡ 0 }

@@ -25,6 +25,7 @@ pub struct ToWrite<W> {
 }
 
 impl<W: Write> ToWrite<W> {
+    /// A sink over this writer, that has not failed yet.
     pub fn new(writer: W) -> Self
         ensures taken { ⟦<ToWrite<W> as Sink>⟧.taken result ≡ W.contents writer }
         ensures failures { ⟦<ToWrite<W> as Sink>⟧.failures result ≡ 0 }

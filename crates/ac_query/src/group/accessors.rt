@@ -11,6 +11,7 @@ use super::{AggregateRule, AnyOf, Group, Need};
 use ac_base::{ClassName, Id, Suffix, TraitName};
 
 impl Need {
+    /// The class of which something is asked for.
     pub fn class(&self) -> &ClassName
         ensures { class_bytes result.now ≡ need_class self.now }
     {

@@ -16,8 +16,8 @@ use ac_base::ClassName;
 use ac_cloud::Cloud;
 use ac_query::Need;
 
-// The most of a class that one assignment may take of a provider: `max_unit`, or what is left of the capacity.
-// `None` where it has none of the class, or more is used than there is.
+/// The most of a class that one assignment may take of a provider: `max_unit`, or what is left of the capacity.
+/// `None` where it has none of the class, or more is used than there is.
 pub fn room_at(cloud: &Cloud, ix: u32, class: &ClassName) -> Option<u64>
     requires { ix < length (providers_of cloud.now) }
     ensures { result

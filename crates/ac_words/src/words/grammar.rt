@@ -10,7 +10,7 @@ use clap::{Arg, ArgAction, Command};
 use std::alloc::{AllocError, Global};
 
 // The program's version, and the logic by which it is proved, as `rt version` names it: toolchains of several names have it.
-const VERSION: &str = "1.0.0, proved with Rattle's logic dac8208d650f15bf";
+const VERSION: &str = "1.1.0, proved with Rattle's logic dac8208d650f15bf";
 
 // A word that has to be given.
 fn word<'a>(alloc: Global, name: &'a str, shown: &'a str, help: &'a str) -> Arg<'a>
