@@ -35,7 +35,7 @@ wanted form.Tree = codes "the UUID of a provider and no name"
 wanted form.Policy = codes "none or isolate"
 wanted form.Suffixes = codes "suffixes of groups between commas, in A-Z, a-z, 0-9, _ and -"
 wanted form.Limit = codes "a number from 1 to 2147483647"
-wanted form.Unknown = codes "docs/FORMATS.md says how values are written"
+wanted form.Unknown = codes "docs/REFERENCE.md says how values are written"
 
 -- whether each item is the name of a trait, perhaps behind `!`
 abbrev pub is_marked : List ℕ → Bool

@@ -62,7 +62,7 @@ fn wanted(form: Form) -> &'static [u8]
         Form::Policy => b"none or isolate",
         Form::Suffixes => b"suffixes of groups between commas, in A-Z, a-z, 0-9, _ and -",
         Form::Limit => b"a number from 1 to 2147483647",
-        Form::Unknown => b"docs/FORMATS.md says how values are written",
+        Form::Unknown => b"docs/REFERENCE.md says how values are written",
     }
 }
 
