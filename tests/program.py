@@ -17,7 +17,7 @@ from concurrent.futures import ThreadPoolExecutor
 
 sys.dont_write_bytecode = True
 HERE = os.path.dirname(os.path.abspath(__file__))
-sys.path += [os.path.join(os.path.dirname(HERE), 'tools'), os.path.join(HERE, 'documents')]
+sys.path += [os.path.join(os.path.dirname(HERE), 'tools'), *(os.path.join(HERE, folder) for folder in ('documents', 'release'))]
 
 from cases import CHILD, ONE, SHARED, SMALL, SOME, Case, cuts, full, lines, tables
 from database import database_exports
@@ -28,6 +28,7 @@ from hostile import hostile
 from large import LARGE, MOST_PROVIDERS, QUERY_BYTES, roots, vcpu
 from model import difference_line, drawn, headings, words_of
 from notation import HEADERS, provider
+from release import NO_PROGRAM, UNBUILT, clone, releases, without_program
 from remedies import second_lines
 from sessions import sessions, untried
 from try_with_service import answers, differences, short, told
@@ -45,9 +46,7 @@ ONE_HOST = '2b7d9e54-61c8-4f03-8a9d-c4e1b05f3a27\n'
 COMMANDS = 'check', 'candidates', 'tokens', 'list', 'fill', 'verify', 'explain', 'hosts', 'why', 'session'
 STATUSES = {'no: rule': 1, 'unknown provider': 1, 'query': 4, 'token': 5, 'host:': 5, 'output': 6, 'out of memory': 7,
             **dict.fromkeys(('providers:', 'inventories:', 'usages:', 'traits:', 'aggregates:'), 3)}
-NOT_BUILT = 70
 SHELLS = [shell for shell in ('bash', 'dash', 'zsh') if shutil.which(shell)]
-UNBUILT = "ac_cli: the program isn't built, or is older than its sources; ./ac_cli without words proves and builds it\n"
 SECONDS = 60
 
 
@@ -64,11 +63,17 @@ def check(*tables):
 
 
 def logic():
-    """The logic of the toolchain, as `rt version` names it."""
+    """The logic of the toolchain, as `rt version` names it; of another program than that in `out`, the one that the release's manifest names."""
     try:
-        return re.search(r'logic \w+', subprocess.run(['rt', 'version'], capture_output=True, text=True, check=True).stdout)[0]
+        told = contents(os.path.join(ROOT, 'release', 'MANIFEST')) if 'AC_CLI' in os.environ else subprocess.run(['rt', 'version'], capture_output=True, check=True).stdout
+        return re.search(r'logic \w+', told.decode())[0]
     except (OSError, subprocess.CalledProcessError, TypeError):
         return 'logic that is missing: `rt version` names none'
+
+
+def version():
+    """The version of which CHANGELOG.md tells first."""
+    return re.search(r'^## (\S+)', contents(os.path.join(ROOT, 'CHANGELOG.md')).decode(), re.M)[1]
 
 
 def refused(name, words, *says):
@@ -97,13 +102,6 @@ HELP_WORDS = {
 }
 
 
-def without_program(name, script, out='', err='', status=0):
-    """A case that runs ./ac_cli as in a fresh clone, on a machine without `rt`."""
-    made = 'room=$(mktemp -d) && cp -r ac_cli crates.txt "$room" && mkdir "$room/docs" && cp -r docs/help "$room/docs" && cd "$room" || exit'
-    called = f'{made}; PATH=/usr/bin:/bin; {script}; status=$?; rm -r "$room"; exit $status'
-    return Case(f'without a program: {name}', ['sh', '-c', called], out, err, status)
-
-
 def example_of(name):
     """A case that runs the command at the end of a text of help, over the example cloud."""
     command = help_text(name).rstrip('\n').rpartition('\n')[2].strip()
@@ -115,13 +113,13 @@ HELP = [
     *(Case(f'help: {" ".join(words)}', words, help_text(name)) for name, each in HELP_WORDS.items() for words in each),
     *(without_program(' '.join(words), './ac_cli ' + ' '.join(words), help_text(name)) for name, each in HELP_WORDS.items() for words in each),
     *(example_of(name) for name in ('ac_cli', *COMMANDS)),
-    Case('version: the logic is that of the toolchain', ['--version'], f"ac_cli 1.1.0, proved with Rattle's {logic()}\n"),
+    Case('version: the newest of CHANGELOG.md, and the logic of the toolchain', ['--version'], f"ac_cli {version()}, proved with Rattle's {logic()}\n"),
     Case('the manual page and what shells complete are as the help says', ['sh', '-c', 'python3 -B tests/documents/help.py']),
     without_program('a word that is no command', './ac_cli token x', err='ac_cli: no command token; ./ac_cli --help tells the commands\n', status=2),
     without_program('an option in place of a command', './ac_cli --tables x check',
                     err='ac_cli: no command --tables; ./ac_cli --help tells the commands\n', status=2),
     without_program('help of a word that is no command', './ac_cli help token', err='ac_cli: no command token; ./ac_cli --help tells the commands\n', status=2),
-    *(without_program(f'no build is begun: {words}', f'AC_CLI_NO_BUILD=yes ./ac_cli {words}', err=UNBUILT, status=NOT_BUILT)
+    *(without_program(f'no build is begun: {words}', f'AC_CLI_NO_BUILD=yes ./ac_cli {words}', err=UNBUILT, status=NO_PROGRAM)
       for words in ('', 'check --tables x', 'check --help --tables')),
 ]
 
@@ -400,20 +398,22 @@ def status_of(text):
     return next((status for start, status in STATUSES.items() if text.startswith(start)), 0)
 
 
-def shown(page, shells=('sh',)):
-    """Cases for the commands that a page shows: a block `sh` with one call of ./ac_cli, of tools/draw-cloud.py or of examples/scheduler.py, perhaps with
-    lines that it is given up to END, and, right after it, a block `text` or `json` with what it prints. Without such a block it may print anything. A
-    picture that it writes to /tmp must be the one in examples. Each of these shells must read it."""
+def shown(page, shells=('sh',), launcher=LAUNCHER):
+    """Cases for the commands that a page shows: a block `sh` with one call of ./ac_cli, of tools/draw-cloud.py or of examples/scheduler.py, perhaps behind a line
+    that makes a folder, perhaps with lines that it is given up to END, and, right after it, a block `text` or `json` with what it prints. Without such a
+    block it may print anything. The status of a pipe is 0. A picture that it writes to /tmp must be the one in examples. Each of these shells must read it."""
     path = os.path.join(ROOT, page)
     text = contents(path).decode() if os.path.isfile(path) else ''
-    for block in re.finditer(r'^```sh\n((?:\./ac_cli|tools/draw-cloud\.py|examples/scheduler\.py)\b(?:.*\\\n)*.*?( <<\'END\'\n(?:.*\n)*?END)?)\n```\n'
+    for block in re.finditer(r'^```sh\n((?:mkdir .*\n)?(?:\./ac_cli|tools/draw-cloud\.py|examples/scheduler\.py)\b(?:.*\\\n)*.*?( <<\'END\'\n(?:.*\n)*?END)?)\n```\n'
                              r'(?:\n*```(?:text|json)\n((?:.*\n)*?)```$)?', text, re.M):
         command, lines_given, says = block[1].replace('\\\n', ' '), block[2], block[3]
-        called, pictures = re.subn(r' >/tmp/(\w+\.svg)$', r' | cmp - examples/\1', re.sub(r'^\./ac_cli', lambda _: shlex.quote(LAUNCHER), command))
+        own = re.sub(r'^\./ac_cli', lambda _: shlex.quote(launcher), command, flags=re.M)
+        called, pictures = re.subn(r' >/tmp/(\w+\.svg)$', r' | cmp - examples/\1', own)
         says = '' if pictures else says
         for shell in shells:
-            name = f'{page}: {command.splitlines()[0]}' + ('' if shell == 'sh' else f', by {shell}')
-            yield Case(name, ['sh', '-c', 'exec "$0" -c "$1"', shell, f'exec 2>&1; {called}\n'], says, status=0 if lines_given else status_of(says or ''))
+            name = f'{page}: {command.splitlines()[-1 if command.startswith("mkdir") else 0]}' + ('' if shell == 'sh' else f', by {shell}')
+            yield Case(name + ('' if launcher == LAUNCHER else ', by a release'), ['sh', '-c', 'exec "$0" -c "$1"', shell, f'exec 2>&1; {called}\n'], says,
+                       status=0 if lines_given or ' | ' in command else status_of(says or ''))
 
 
 def remade(page):
@@ -426,30 +426,20 @@ def remade(page):
 
 def ruled(page):
     """Cases for the examples of a page: a table in the notation of notation.py, and below it lines with a query, and with what it gives or how it is
-    refused. Indented lines are about something else."""
+    refused, or with an assignment and the verdict on it. Indented lines are about something else."""
     text = contents(os.path.join(ROOT, page)).decode()
     for table in re.finditer(r'^\| provider \|.*\n\|[-|]+\n((?:\|.*\n)+)\n((?:- `.*\n(?:  .*\n)*)+)', text, re.M):
         cloud = '\n'.join(row.strip('|') for row in table[1].splitlines())
         for line in re.findall('^- .*', table[2], re.M):
             query, *names = re.findall(r'`([^`]*)`', line)
             version = ['--microversion', '1.39'] if ' by 1.39' in line else []
-            words = {'tokens': [full(query)], 'verify': [full(query), full(names[0])] if names else []}
             if ', assignment `' in line:
-                yield Case(f'{page}: {line}', ['verify', *words['verify'], *version], names[1] + '\n', status=status_of(names[1]), tables=tables(cloud))
-            elif ' is explained by `' in line:
-                says = ''.join(full(name) + '\n' for name in names)
-                yield Case(f'{page}: {line}', ['explain', full(query), *version], says, status=status_of(says), tables=tables(cloud))
-            elif ', hosts `' in line:
-                rows = ''.join(full(name) + '\n' for name in ['root,name,fits,slot,lacks', *names])
-                yield Case(f'{page}: {line}', ['hosts', full(query), *version], rows, status=0 if ',yes,' in rows else 1, tables=tables(cloud))
-            elif ', host `' in line:
-                rows = ''.join(full(name) + '\n' for name in ['slot,suffix,provider,name,lacks,detail', *names[1:]])
-                yield Case(f'{page}: {line}', ['why', full(query), full(names[0]), *version], rows, status=status_of(rows), tables=tables(cloud))
+                yield Case(f'{page}: {line}', ['verify', full(query), full(names[0]), *version], names[1] + '\n', status=status_of(names[1]), tables=tables(cloud))
             elif ' is refused: `' in line:
                 yield Case(f'{page}: {line}', ['tokens', full(query), *version], err=names[0] + '\n', status=status_of(names[0]), tables=tables(cloud))
             else:
                 after = ['--after', full(names.pop(0))] if ' after `' in line else []
-                yield Case(f'{page}: {line}', ['tokens', *words['tokens'], *after, *version], lines(*names), tables=tables(cloud))
+                yield Case(f'{page}: {line}', ['tokens', full(query), *after, *version], lines(*names), tables=tables(cloud))
 
 
 def named(heading, cloud, query, said, lacks, others):
@@ -492,6 +482,7 @@ STATIC = [Case('linked statically, it answers as by itself',
                lambda: run(Case('', ['candidates', 'resources=VCPU:8,DISK_GB:80', '--tables', 'examples/private']))[0])]
 
 PAGES = Case('the documents name what is there', ['sh', '-c', 'python3 -B tests/documents/pages.py'])
+CRATES = Case('the picture of the crates is that of crates.txt', ['sh', '-c', 'python3 -B tools/draw-crates.py | cmp - docs/crates.svg'])
 DRAWING = Case('a picture of a cloud is that of its tables', ['sh', '-c', 'python3 -B tests/documents/drawing.py'])
 
 
@@ -540,19 +531,21 @@ def wrong(case):
 def main(*given):
     words = [text for text in given if text != '--all']
     _, said, status = run(Case('build', []), seconds=None, program=LAUNCHER)
-    if status == NOT_BUILT:
+    if status == NO_PROGRAM:
         print(f'FAILED to build the program:\n{said}\n0 passed, 1 failed')
         return 1
     rules = [case for page in ('docs/RULES.md', 'docs/DIFFERENCES.md') for case in ruled(page)]
     if len({case.out for case in rules if case.out.startswith('no: rule')}) < 9:
         print('FAILED to find an example of each rule in docs/RULES.md\n0 passed, 1 failed')
         return 1
-    pages = [case for page in ('README.md', 'examples/README.md', 'examples/private/README.md', 'docs/NO-VALID-HOST.md', 'docs/RULES.md', 'docs/FORMATS.md', 'docs/EXPORT.md')
+    pages = [case for page in ('README.md', 'examples/README.md', 'docs/GUIDE.md', 'docs/RULES.md', 'docs/REFERENCE.md', 'docs/EXPORT.md', 'tests/examples/commands.txt')
              for case in shown(page)]
     pages += shown('docs/SESSION.md', SHELLS)
+    if 'AC_CLI' not in os.environ:
+        pages += [*releases(lines('P1')), *shown('README.md', launcher=os.path.join(clone(), 'ac_cli'))]
     chance = [*drawn(150), *drawn_tables(200), *drawn_queries(200)]
     linked = STATIC if os.path.isfile(os.path.join(ROOT, 'out', 'ac_cli.o')) and 'AC_CLI' not in os.environ else []
-    cases = [PAGES, DRAWING, *linked, *HELP, *WORDS, *FILES, *FOLDERS, *DETAILS, *second_lines(), *PASTED, *DEVICES, *GROWTHS, KNOWN, *REFUSALS, *SMALL, *pages, remade('examples/private/README.md'),
+    cases = [PAGES, CRATES, DRAWING, *linked, *HELP, *WORDS, *FILES, *FOLDERS, *DETAILS, *second_lines(), *PASTED, *DEVICES, *GROWTHS, KNOWN, *REFUSALS, *SMALL, *pages, remade('examples/private/README.md'),
              *rules, *examples(), *concerned(), *exports(), *database_exports(), *sessions(PROGRAM), *chance, *LARGE, *hostile(PROGRAM), FEW_BYTES, *cuts()]
     cases = [case for case in cases if all(word in case.name for word in words)]
     failed = 0
