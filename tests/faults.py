@@ -1,4 +1,4 @@
-"""A model of the faults of tables, queries and tokens, as docs/FORMATS.md has them, and cases with random faults. It takes nothing from the program.
+"""A model of the faults of tables, queries and tokens, as docs/REFERENCE.md has them, and cases with random faults. It takes nothing from the program.
 What has no fault must be accepted: `check` then counts the rows, and `tokens` over no providers finds nothing."""
 from __future__ import annotations
 

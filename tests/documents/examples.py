@@ -1,4 +1,4 @@
-"""Cases of tests/examples: pages with tables of a cloud in the notation of notation.py, each followed by lines that say what the program answers over it:
+"""Cases of tests/examples: texts with tables of a cloud in the notation of notation.py, each followed by lines that say what the program answers over it:
 
 - `tokens resources=VCPU:2`: `P1` `P2`
 - `tokens resources=VCPU:9`: nothing
@@ -6,7 +6,7 @@
 - `tokens resources=VCPU:0` is refused with 4: `query: pair 1: BadValue`
 
 The first text has the words of the call, as a shell splits them; the others are the lines that it writes, to standard error if it is refused. Without a
-number the status is 0. All values are worked out by hand from docs/RULES.md and docs/FORMATS.md; none is taken from the program."""
+number the status is 0. All values are worked out by hand from docs/RULES.md and docs/REFERENCE.md; none is taken from the program."""
 from __future__ import annotations
 
 import glob
@@ -22,8 +22,8 @@ LINE = re.compile(r'- `([^`]*)`(?: (ends|is refused) with (\d))?: (nothing|`[^`]
 
 
 def examples():
-    """The cases of all these pages."""
-    for path in sorted(glob.glob(os.path.join(FOLDER, '*.md'))):
+    """The cases of all these texts."""
+    for path in sorted(glob.glob(os.path.join(FOLDER, '*.txt'))):
         with open(path, encoding='utf-8') as page:
             text = page.read()
         count = 0

@@ -1,10 +1,8 @@
-# What bash completes after `ac_cli`: commands, options, versions, folders and files. Source this file in ~/.bashrc, or copy it as `ac_cli` into
+# What bash completes after `ac_cli`. tools/make-help.py makes this file of the texts in docs/help. Source it in ~/.bashrc, or copy it as `ac_cli` into
 # ~/.local/share/bash-completion/completions.
 
 _ac_cli() {
-    local word=$2 before=$3
-    local common='--tables --providers --inventories --usages --traits --aggregates --detail --help'
-    local commands='check candidates tokens list fill verify explain hosts why session help'
+    local word=$2 before=$3 offered=
     COMPREPLY=()
     case $before in
     --tables)
@@ -25,17 +23,21 @@ _ac_cli() {
         return
         ;;
     esac
-    local offered=''
     if [[ $COMP_CWORD == 1 ]]; then
-        offered="$commands --help --version"
+        offered='check candidates tokens list fill verify explain hosts why session help --help --version'
     else
         case ${COMP_WORDS[1]} in
-        check) offered=$common ;;
-        tokens) offered="$common --microversion --after" ;;
-        candidates | list) offered="$common --microversion --after --no-traits" ;;
-        fill) offered="$common --microversion --sum" ;;
-        verify | explain | hosts | why | session) offered="$common --microversion" ;;
-        help) offered=$commands ;;
+        check) offered='--tables --providers --inventories --usages --traits --aggregates --detail --help' ;;
+        candidates) offered='--tables --providers --inventories --usages --traits --aggregates --detail --microversion --after --no-traits --help' ;;
+        tokens) offered='--tables --providers --inventories --usages --traits --aggregates --detail --microversion --after --help' ;;
+        list) offered='--tables --providers --inventories --usages --traits --aggregates --detail --microversion --after --no-traits --help' ;;
+        fill) offered='--tables --providers --inventories --usages --traits --aggregates --detail --microversion --sum --help' ;;
+        verify) offered='--tables --providers --inventories --usages --traits --aggregates --detail --microversion --help' ;;
+        explain) offered='--tables --providers --inventories --usages --traits --aggregates --detail --microversion --help' ;;
+        hosts) offered='--tables --providers --inventories --usages --traits --aggregates --detail --microversion --help' ;;
+        why) offered='--tables --providers --inventories --usages --traits --aggregates --detail --microversion --help' ;;
+        session) offered='--tables --providers --inventories --usages --traits --aggregates --detail --microversion --help' ;;
+        help) offered='check candidates tokens list fill verify explain hosts why session help' ;;
         esac
     fi
     mapfile -t COMPREPLY < <(compgen -W "$offered" -- "$word")
