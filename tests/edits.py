@@ -269,7 +269,7 @@ class Gate:
 
     def __init__(self, kept, until):
         self.kept, self.until, self.longest, self.taken, self.turn = kept, until, 0.0, 0, threading.Condition()
-        self.counts, self.untried, self.said = {True: 0, False: 0}, [], threading.Lock()
+        self.counts, self.tried, self.untried, self.said = {True: 0, False: 0}, 0, [], threading.Lock()
 
     @contextlib.contextmanager
     def lane(self):
@@ -343,6 +343,7 @@ class Gate:
     def note(self, crate, edit, is_refused, why):
         with self.said:
             self.counts[is_refused] += 1
+            self.tried += 1
             print(f'{crate.name}/{edit.name}: {"refused: " * is_refused}{why}', flush=True)
 
 
@@ -403,7 +404,7 @@ def main(given):
             print(f'{crate.name}: not tried for time, though {"the crate was changed" if crate.name in changed else "they are of public functions"}: {", ".join(lacking)}')
     every, have = (sum(crate.public[place] for crate in wanted) for place in (0, 1))
     print(f'checks of edits: {gate.kept.made} made in this run, {gate.kept.given} kept from earlier runs on this machine')
-    print(f'edits: {sum(gate.counts.values())} of {sum(len(crate.edits) for crate in wanted)} tried ({have} of {every} public functions have one of their own'
+    print(f'edits: {gate.tried} of {sum(len(crate.edits) for crate in wanted)} tried ({have} of {every} public functions have one of their own'
           f'{"; all of " + ", ".join(sorted(changed & set(crates))) if changed & set(crates) else ""}); {len(gate.untried)} not tried for time')
     print(f'{gate.counts[True]} passed, {gate.counts[False]} failed')
     return 1 if gate.counts[False] else 0
