@@ -85,6 +85,6 @@ def releases(sample):
     yield released('a build is wanted', f'{FAKE}; AC_CLI_BUILD=yes ./ac_cli >/dev/null 2>&1; status=$?; grep -o "^ci" asked | uniq; exit $status', 'ci\n', status=NO_PROGRAM)
     yield released('it is what the package has, installed in a folder of its own',
                    'tools/package /tmp/$$.deb >/dev/null && dpkg-deb -x /tmp/$$.deb there; rm -f /tmp/$$.deb; cd there/usr && bin/ac_cli && '
-                   'bin/ac_cli check --tables share/doc/ac-cli/examples/cloud >/dev/null && man -l --warnings share/man/man1/ac_cli.1.gz 2>&1 >/dev/null | head -3; '
+                   'bin/ac_cli check --tables share/doc/ac-cli/examples/cloud >/dev/null && if command -v man >/dev/null; then man -l --warnings share/man/man1/ac_cli.1.gz 2>&1 >/dev/null | head -3; fi; '
                    'ls share/bash-completion/completions share/zsh/vendor-completions share/doc/ac-cli',
                    f'{sample}share/bash-completion/completions:\nac_cli\n\nshare/doc/ac-cli:\ncopyright\nexamples\n\nshare/zsh/vendor-completions:\n_ac_cli\n')
