@@ -98,10 +98,12 @@ abbrev pub note_of : Command → Option (List ℕ) → ℕ → List ℕ
 note_of Check None zero = usages_note
 note_of _ _ _ = []
 
--- A task was run in detail over feeds that were these before and after, and then a note was told.
+-- A task was run in detail over feeds that were these before and after, and then a note was told. In between the error stream had failed no more often than
+-- in the end, so a line that is missing there failed to be written.
 pub record RanInDetail {R : Type 0} (remaining : R → Option (List ℕ)) (failures : R → ℕ) (paths : Paths) (task : Task) (from to : FiveTables R) (s : Streams) (given : ℕ) : Type 0 where
   pub err : Option (List ℕ)
   pub count : ℕ
+  pub later : count ≤ s.err_after
   pub ran : Ran remaining (detailed_answer paths task) (UnreadInDetail failures paths from to (record s { err_new = err; err_after = count })) from
       (record s { err_new = err; err_after = count }) given
   pub note : TakesLine err s.err_new count s.err_after (note_of task.command (option_map (λ path. path.now) paths.usages) given)

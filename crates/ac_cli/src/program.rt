@@ -1,5 +1,5 @@
 //! The program around a run: its words, its files and its streams.
-ghost use Rattle.std.specs.Prelude.{◌≡◌, [], is_some, map, option_map, string_bytes, true};
+ghost use Rattle.std.specs.Prelude.{◌≡◌, ◌≤◌, [], is_some, map, option_map, string_bytes, true};
 ghost use Rattle.std.specs.Option.{unwrap_or};
 ghost use Rattle.std.specs.Io.KnownBytes.{Appends};
 ghost use Rattle.ac_base.specs.Devices.{Rises, TakesPart};
@@ -26,6 +26,7 @@ fn tell_text<E: Sink>(err: &mut E, text: &[u8])
     ensures part { TakesPart (E.taken err.old) (E.taken err.new) text.now }
     ensures whole { (Rises (E.failures err.old) (E.failures err.new) → ⊥)
         → Appends (E.taken err.old) (E.taken err.new) text.now }
+    ensures failures { E.failures err.old ≤ E.failures err.new }
 {
     let _ = push_all(err, text);
 }

@@ -6,6 +6,7 @@ returns g c =
     record {
       err = g.E.Sink.taken c.run_detailed-status.new.err;
       count = g.E.Sink.failures c.run_detailed-status.new.err;
+      later = c.tell_text.ensures.failures;
       ran = record {
         written = said.written;
         tables = said.tables;
