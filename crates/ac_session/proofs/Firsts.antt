@@ -1,6 +1,6 @@
 -- The first element that passes a test: where a list was searched in part, or goes on.
 use Rattle.std.proofs.Common.{◌≡◌, ◌∙◌, ℕ, zero, suc, ◌+◌, ◌<◌, ◌≤◌, Bool, true, false, not, cond, eqb, ltb, List, [], ◌∷◌, ◌++◌, take, drop, get_or, length, Some, None, Contains, is_some, position, refl, sym, ap, arith, length-drop, length-take, option_map}
-use Rattle.std.specs.List.{position_or_len, before_first, after_first}
+use Rattle.std.specs.List.{position_or_len, before_first, after_first, list_all}
 use Rattle.std.proofs.lemmas.Bool.Decides.{nat_tests}
 use Rattle.std.proofs.lemmas.Grind.{common_steps}
 use Rattle.std.proofs.lemmas.List.{take-append-drop, drop-append-le, drop_all, drop-drop, drop_at, take-append-le, take_all}
@@ -90,3 +90,27 @@ module _ {X : Type 0} (p : X → Bool) where
   still_missed xs ys front missed =
       let whole : ys ≡ xs ++ drop (length xs) ys = sym (take-append-drop (length xs) ys) ∙ ap (λ l. l ++ drop (length xs) ys) front in
       omega (arith, ap (position_or_len p) whole, place_later xs (drop (length xs) ys) (place_is_missed xs missed))
+
+  -- up to the first is all, where none passes
+  pub up_to_missed : (xs : List X) → position p xs ≡ None → xs ≡ take (position_or_len p xs + 1) xs
+  up_to_missed xs none =
+      let all = place_is_missed xs (ap is_some none) in
+      sym (take_all (position_or_len p xs + 1) xs (omega (arith, all)))
+
+  -- what stands before the first, item by item
+  pub before_here : (x : X) (xs : List X) → p x ≡ true → before_first p (x ∷ xs) ≡ []
+  before_here x xs e = ap (λ b. take (cond (not b) (1 + position_or_len p xs) 0) (x ∷ xs)) e
+
+  pub before_next : (x : X) (xs : List X) → p x ≡ false → before_first p (x ∷ xs) ≡ x ∷ before_first p xs
+  before_next x xs e =
+      let next : 1 + position_or_len p xs ≡ suc (position_or_len p xs) = omega arith in
+      ap (λ b. take (cond (not b) (1 + position_or_len p xs) 0) (x ∷ xs)) e ∙ ap (λ n. take n (x ∷ xs)) next
+
+  -- none of it passes
+  pub before_plain : (xs : List X) → list_all (λ x. not (p x)) (before_first p xs) ≡ true
+  before_plain [] = refl
+  before_plain (x ∷ xs) = by (p x) refl (before_plain xs)
+    where
+      by : (b : Bool) → p x ≡ b → list_all (λ x. not (p x)) (before_first p xs) ≡ true → list_all (λ x. not (p x)) (before_first p (x ∷ xs)) ≡ true
+      by true e later = ap (list_all (λ x. not (p x))) (before_here x xs e)
+      by false e later = ap (list_all (λ x. not (p x))) (before_next x xs e) ∙ rw e later

@@ -3,9 +3,11 @@ pub mod Firsts
 pub mod Passing
 pub mod Leading
 pub mod Cuts
-pub mod Written
+pub mod Escaped
+pub mod Plain
+pub mod Apart
 pub mod Turned
 pub mod Stood
+pub mod Written
 pub mod Ended
 pub mod UsageRows
-pub mod Unmarked

@@ -15,7 +15,7 @@ use Rattle.ac_session.specs.Reading.{given_by}
 use Rattle.ac_session.specs.Standing.{Stands}
 use Rattle.ac_session.specs.declared.lines.Next.{Next}
 use Rattle.ac_session.specs.declared.lines.Next.TheVariants as next
-use Rattle.ac_session.specs.Turns.{given_line, lines_in, session_text, turn_of}
+use Rattle.ac_session.specs.Turns.{given_line, lines_in, session_text, text_of, turn_of}
 
 -- ---- the first line of a text
 
@@ -44,24 +44,24 @@ lines_missed bytes missed =
 -- what is written for a text is the turn of its first line, and what is written for the lines behind it
 module _ (version : Version) (world after : World) (bytes : List ℕ) (given : Given) where
   whole_turn : given_line (first_line bytes) ≡ given → after ≡ (turn_of version world given).world
-      → session_text version world (lines_in bytes) ≡ (turn_of version world given).text ++ session_text version after (lines_in (behind_line bytes))
+      → session_text version world (lines_in bytes) ≡ text_of (turn_of version world given) ++ session_text version after (lines_in (behind_line bytes))
   whole_turn same on = by (ltb (position_or_len is_newline bytes) (length bytes)) refl
     where
       by : (b : Bool) → ltb (position_or_len is_newline bytes) (length bytes) ≡ b
-          → session_text version world (lines_in bytes) ≡ (turn_of version world given).text ++ session_text version after (lines_in (behind_line bytes))
+          → session_text version world (lines_in bytes) ≡ text_of (turn_of version world given) ++ session_text version after (lines_in (behind_line bytes))
       by true e =
           ap (session_text version world) (lines_found bytes (grind (arith, nat_tests)))
-          ∙ ap (λ g. (turn_of version world g).text ++ session_text version (turn_of version world g).world (lines_in (behind_line bytes))) same
-          ∙ ap (λ w. (turn_of version world given).text ++ session_text version w (lines_in (behind_line bytes))) (sym on)
+          ∙ ap (λ g. text_of (turn_of version world g) ++ session_text version (turn_of version world g).world (lines_in (behind_line bytes))) same
+          ∙ ap (λ w. text_of (turn_of version world given) ++ session_text version w (lines_in (behind_line bytes))) (sym on)
       by false e =
           let inside = place_inside is_newline bytes in
           let missed : position_or_len is_newline bytes ≡ length bytes = grind (arith, nat_tests) in
           ap (session_text version world) (lines_missed bytes missed)
-          ∙ ap (λ g. (turn_of version world g).text ++ []) same
-          ∙ ap (λ l. (turn_of version world given).text ++ l) (sym (ap (λ b. session_text version after (lines_in b)) (after_missed is_newline bytes missed) ∙ empty_text version after))
+          ∙ ap (λ g. text_of (turn_of version world g) ++ []) same
+          ∙ ap (λ l. text_of (turn_of version world given) ++ l) (sym (ap (λ b. session_text version after (lines_in b)) (after_missed is_newline bytes missed) ∙ empty_text version after))
 
   pub one_turn : given ≡ given_first bytes → 0 < length bytes → after ≡ (turn_of version world given).world
-      → session_text version world (lines_in bytes) ≡ (turn_of version world given).text ++ session_text version after (lines_in (behind_line bytes))
+      → session_text version world (lines_in bytes) ≡ text_of (turn_of version world given) ++ session_text version after (lines_in (behind_line bytes))
   one_turn first some on = whole_turn (sym (first ∙ given_is bytes some)) on
 
 -- the end is given of no bytes alone
@@ -160,15 +160,15 @@ module _ (version : Version) (world : World) (q : List ℕ) (a c old : Option (L
       (subst (λ (b : Option (List ℕ)). IfSome b (λ bytes. IfSome told (λ given. given ≡ given_first bytes))) known gives)
 
   -- a part of its answer is a part of all answers
-  pub line_part : IsFirstPart (append_known a (turn_of version world given).text) c → IsFirstPart (append_known a (session_text version world (lines_in q))) c
+  pub line_part : IsFirstPart (append_known a (text_of (turn_of version world given))) c → IsFirstPart (append_known a (session_text version world (lines_in q))) c
   line_part h =
       subst (λ (text : List ℕ). IsFirstPart (append_known a text) c)
       (sym (one_turn version world (turn_of version world given).world q given is_first (some_bytes q given is_first isnt) refl))
-      (first_of_first a c (turn_of version world given).text (session_text version (turn_of version world given).world (lines_in (behind_line q))) h)
+      (first_of_first a c (text_of (turn_of version world given)) (session_text version (turn_of version world given).world (lines_in (behind_line q))) h)
 
   -- and then what is behind it is left
   pub line_stands : (after : World) (remains : Option (List ℕ)) → (told ≢ None → IfSome old (λ bytes. length (first_line bytes) < most_passed → remains ≡ Some (behind_line bytes)))
-      → length q < most_passed → Appends a c (turn_of version world given).text → after ≡ (turn_of version world given).world → Stands version world q a after remains c 1
+      → length q < most_passed → Appends a c (text_of (turn_of version world given)) → after ≡ (turn_of version world given).world → Stands version world q a after remains c 1
   line_stands after remains behind few taken on =
       let some = some_bytes q given is_first isnt in
       let short : length (first_line q) < most_passed = omega (arith, before_size is_newline q, place_inside is_newline q) in
@@ -176,7 +176,7 @@ module _ (version : Version) (world : World) (q : List ℕ) (a c old : Option (L
       record {
         rest = behind_line q;
         left = left short;
-        written = (turn_of version world given).text;
+        written = text_of (turn_of version world given);
         taken = taken;
         text = one_turn version world after q given is_first some on;
         fewer = omega (arith, length-drop (position_or_len is_newline q + 1) q);

@@ -3,7 +3,9 @@ pub mod Reading
 pub mod Rooms
 pub mod Finds
 pub mod Questions
-pub mod EndLines
+pub mod LineFaults
+pub mod Frames
+pub mod Escapes
 pub mod UsageRows
 pub mod Turns
 pub mod Sessions

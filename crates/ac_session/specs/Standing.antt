@@ -1,5 +1,5 @@
 -- Where a session stands between its questions.
-use Rattle.std.specs.Prelude.{◌≡◌, ℕ, ◌+◌, ◌≤◌, List, ◌++◌, length, Option, Some, Result, Err, OnOk, OnErr}
+use Rattle.std.specs.Prelude.{◌≡◌, ℕ, ◌+◌, ◌≤◌, List, [], ◌∷◌, ◌++◌, codes, decimal, length, Option, Some, Result, Err, IfOk, OnErr}
 use Rattle.std.specs.Io.KnownBytes.{Appends}
 use Rattle.ac_base.specs.Devices.{Rises, TakesPart}
 use Rattle.ac_cloud.specs.World.{World}
@@ -11,8 +11,12 @@ use Rattle.ac_run.specs.Lines.{memory_line, output_line}
 use Rattle.ac_run.specs.Refusals.{line_of, status_of}
 use Rattle.ac_run.specs.declared.refusal.Refusal.{Refusal}
 use Rattle.ac_run.specs.declared.refusal.Refusal.TheVariants as why
+use Rattle.ac_session.specs.Frames.{end_line}
+use Rattle.ac_session.specs.LineFaults.{fault_line, fault_status}
 use Rattle.ac_session.specs.Sessions.{questions_line}
-use Rattle.ac_session.specs.Turns.{lines_in, session_text}
+use Rattle.ac_session.specs.Turns.{end_of, lines_in, output_of, session_text}
+use Rattle.ac_session.specs.declared.endings.Ending.{Ending}
+use Rattle.ac_session.specs.declared.endings.Ending.TheVariants as ending
 use Rattle.ac_session.specs.declared.session.Stop.{Stop}
 use Rattle.ac_session.specs.declared.session.Stop.TheVariants as stop
 
@@ -26,10 +30,26 @@ pub record Stands (version : Version) (first : World) (questions : List ℕ) (be
   pub text : session_text version first (lines_in questions) ≡ written ++ session_text version world (lines_in rest)
   pub fewer : length rest + turns ≤ length questions
 
--- A text is written, by the answer of its writer: whole, or a first part of it. A failed write raised the count of failures.
-pub record WritesText {X : Type 0} (text : List ℕ) (result : Result X PageFault) (old new : Option (List ℕ)) (before after : ℕ) : Type 0 where
-  pub ok : OnOk result (Appends old new text)
-  pub part : OnErr result (TakesPart old new text)
+-- what stands before the line of a refusal
+unfoldable pub mark_of : ℕ → List ℕ
+mark_of status = codes "= " ++ (decimal status ++ 32 ∷ [])
+
+-- the line that an ending writes
+abbrev pub end_told : Ending → List ℕ
+end_told (ending.Given status) = end_line status []
+end_told (ending.Refused refusal) = end_line (status_of refusal) (line_of refusal)
+end_told (ending.Faulted f) = end_line fault_status (fault_line f)
+end_told ending.Unasked = []
+
+-- The output of an answer was written whole, and this is how it ends.
+pub record IsGiven (answer : Option Outcome) (old new : Option (List ℕ)) (ending : Ending) : Type 0 where
+  pub output : Appends old new (output_of answer)
+  pub ends : end_told ending ≡ end_of answer
+
+-- An answer is given by its writer: its output whole, with its ending, or a first part of it. A failed write raised the count of failures.
+pub record Gives (answer : Option Outcome) (result : Result Ending PageFault) (old new : Option (List ℕ)) (before after : ℕ) : Type 0 where
+  pub ok : IfOk result (IsGiven answer old new)
+  pub part : OnErr result (TakesPart old new (output_of answer))
   pub failed : result ≡ Err fault.WriteFailed → Rises before after
   pub failures : before ≤ after
 

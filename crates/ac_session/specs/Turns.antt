@@ -19,31 +19,46 @@ use Rattle.ac_rules.specs.declared.verdict.Verdict.{Verdict}
 use Rattle.ac_rules.specs.declared.verdict.Verdict.TheVariants as verdict
 use Rattle.ac_run.specs.Answer.{Outcome, Says, Task, answer_in, fills, past_query, refused, written}
 use Rattle.ac_run.specs.Outputs.{verdict_text}
-use Rattle.ac_session.specs.EndLines.{end_line, fault_line, fault_status}
+use Rattle.ac_session.specs.Frames.{end_line, lines_written}
+use Rattle.ac_session.specs.LineFaults.{fault_line, fault_status}
 use Rattle.ac_session.specs.Lines.{Given, line, too_long, end, is_newline, most_bytes, without_return}
 use Rattle.ac_session.specs.Questions.{Asked, job, fill, claim, release, usages, nothing, unknown, wrong_number, asked_of}
 use Rattle.ac_session.specs.UsageRows.{usage_rows}
-use Rattle.ac_session.specs.declared.end_lines.LineFault.{LineFault}
-use Rattle.ac_session.specs.declared.end_lines.LineFault.TheVariants as fault
+use Rattle.ac_session.specs.declared.line_faults.LineFault.{LineFault}
+use Rattle.ac_session.specs.declared.line_faults.LineFault.TheVariants as fault
 
--- what a question does: what is written, and the world as it stands behind it
+-- what a question does: what is answered, if anything is, and the world as it stands behind it
 pub record Turn : Type 0 where
-  pub text : List ℕ
+  pub answer : Option Outcome
   pub world : World
 
 -- ---- an answer
 
--- what is written of an outcome: its output, and the line that ends it
-abbrev pub answer_text : Outcome → List ℕ
-answer_text o = o.output ++ end_line o.status o.line
+-- the output of an answer; where nothing is answered there is none
+abbrev pub output_of : Option Outcome → List ℕ
+output_of None = []
+output_of (Some o) = o.output
+
+-- the line that ends an answer
+abbrev pub end_of : Option Outcome → List ℕ
+end_of None = []
+end_of (Some o) = end_line o.status o.line
+
+-- what is written of an answer: the lines of its output, and the line that ends it
+abbrev pub answer_text : Option Outcome → List ℕ
+answer_text answer = lines_written (output_of answer) ++ end_of answer
+
+-- what is written for a question
+abbrev pub text_of : Turn → List ℕ
+text_of turn = answer_text turn.answer
 
 -- an answer, and nothing changes
 abbrev pub answers : World → Outcome → Turn
-answers world o = record { text = answer_text o; world = world }
+answers world o = record { answer = Some o; world = world }
 
--- nothing is written, and nothing changes
+-- nothing is answered, and nothing changes
 abbrev pub passes : World → Turn
-passes world = record { text = []; world = world }
+passes world = record { answer = None; world = world }
 
 -- what is wrong with a line that asks nothing
 abbrev pub faulted : LineFault → Outcome
@@ -57,7 +72,7 @@ world_after world status all = if status == 0 then record world { providers = al
 
 -- an answer; where its status is 0, the providers are these afterwards
 abbrev pub settles : World → Outcome → List Provider → Turn
-settles world o all = record { text = answer_text o; world = world_after world o.status all }
+settles world o all = record { answer = Some o; world = world_after world o.status all }
 
 -- the task of a claim or of a release: that of `verify`
 abbrev pub assignment_task : Version → List ℕ → List ℕ → Task
@@ -160,4 +175,4 @@ lines_in bytes = map given_line (slice_split is_newline bytes)
 abbrev pub session_text : Version → World → List Given → List ℕ
 session_text version world [] = []
 session_text version world (given ∷ others) =
-    (turn_of version world given).text ++ session_text version (turn_of version world given).world others
+    text_of (turn_of version world given) ++ session_text version (turn_of version world given).world others

@@ -1,77 +1,121 @@
-//! The lines that end answers, and answers that are no more than such a line.
-ghost use Rattle.std.specs.Prelude.{◌≡◌, [], OnOk};
-ghost use Rattle.ac_run.specs.Answer.{Outcome, refused, written};
-ghost use Rattle.ac_run.specs.Refusals.{line_of, status_of};
+//! How answers end, and answers of which no more is to be said than that.
+ghost use Rattle.std.specs.Prelude.{◌≡◌, ◌≤◌, ◌++◌, ℕ, List, Option, OnErr, OnOk, Some};
+ghost use Rattle.std.specs.Io.KnownBytes.{Appends, append_known};
+ghost use Rattle.ac_answers.specs.Writing.{Pushes};
+ghost use Rattle.ac_base.specs.Devices.{Rises};
+ghost use Rattle.ac_base.specs.Gathered.{IsFirstPart};
+ghost use Rattle.ac_run.specs.Answer.{Outcome, written};
+ghost use Rattle.ac_run.specs.Refusals.{line_of};
 ghost use Rattle.ac_run.specs.declared.refusal.Refusal.TheVariants as Refusal;
-ghost use Rattle.ac_session.specs.EndLines.{end_line, mark_of};
-ghost use Rattle.ac_session.specs.Standing.{IsRefusal, WritesText};
-ghost use Rattle.ac_session.specs.Turns.{answer_text, faulted};
+ghost use Rattle.ac_session.specs.Escapes.{begun};
+ghost use Rattle.ac_session.specs.Frames.{lines_written};
+ghost use Rattle.ac_session.specs.Standing.{Gives, IsRefusal, end_told, mark_of};
 
-use crate::end_lines::LineFault;
+use crate::escaping::Escaping;
+use crate::line_faults::LineFault;
 use ac_answers::{Digits, push_pieces};
-use ac_base::{Sink, push_all};
+use ac_base::{Sink, WriteFailed, push_all};
 use ac_report::PageFault;
 use ac_run::{Refusal, push_line, status_of};
 
-/// Ends an answer that isn't refused.
-pub(crate) fn end_answer<W: Sink>(out: &mut W, status: u8) -> Result<(), PageFault>
-    ensures { WritesText (end_line status []) result
-        (W.taken out.old) (W.taken out.new) (W.failures out.old) (W.failures out.new) }
-{
-    let digits = Digits::of(u32::from(status));
-    push_pieces(out, &[b"= ", digits.as_bytes(), b"\n"])?;
-    Ok(())
+/// How an answer ends.
+#[derive(Debug, Drop)]
+pub(crate) enum Ending {
+    /// It was given, with this status.
+    Given(u8),
+    /// What is asked is refused.
+    Refused(Refusal),
+    /// The line asks nothing.
+    Faulted(LineFault),
+    /// There is no answer: the line is empty.
+    Unasked,
 }
 
-/// A text that is at hand, with its status and the line that ends it.
-#[tactic(auto, using(crate::proofs::Written::text_begun, crate::proofs::Written::text_on))]
-pub(crate) fn write_said<W: Sink>(out: &mut W, text: &[u8], status: u8) -> Result<(), PageFault>
-    ensures { WritesText (answer_text (written text.now status)) result
-        (W.taken out.old) (W.taken out.new) (W.failures out.old) (W.failures out.new) }
+// What stands before the line of a refusal.
+#[tactic(auto, unfolding(crate::specs::Standing::mark_of))]
+fn push_mark<W: Sink>(out: &mut W, status: u8) -> Result<(), WriteFailed>
+    ensures text { Pushes result (W.taken out.old) (W.taken out.new) (W.failures out.old)
+        (W.failures out.new) (mark_of status) }
+    ensures failures { W.failures out.old ≤ W.failures out.new }
 {
-    push_all(out, text)?;
-    end_answer(out, status)
+    push_pieces(
+        out,
+        &[b"= ", Digits::of(u32::from(status)).as_bytes(), b" "],
+    )
 }
 
-// The mark of a refusal, with its status.
-fn push_mark<W: Sink>(out: &mut W, status: u8) -> Result<(), PageFault>
-    ensures { WritesText (mark_of status) result
-        (W.taken out.old) (W.taken out.new) (W.failures out.old) (W.failures out.new) }
+// The status of a refusal, and then its line.
+#[tactic(auto, using(ac_base::proofs::Leaving::appends_both, ac_base::proofs::Leaving::part_of_first, ac_base::proofs::Leaving::part_of_second))]
+fn push_refused<W: Sink>(out: &mut W, status: u8, refusal: &Refusal) -> Result<(), WriteFailed>
+    ensures text { Pushes result (W.taken out.old) (W.taken out.new) (W.failures out.old)
+        (W.failures out.new) (mark_of status ++ line_of refusal.now) }
+    ensures failures { W.failures out.old ≤ W.failures out.new }
 {
-    let digits = Digits::of(u32::from(status));
-    push_pieces(out, &[b"= ", digits.as_bytes(), b" "])?;
-    Ok(())
+    push_mark(out, status)?;
+    push_line(out, refusal)
 }
 
-// The line of a refusal behind its mark.
-fn push_refusal<W: Sink>(out: &mut W, refusal: &Refusal) -> Result<(), PageFault>
-    ensures { WritesText
-        (answer_text (refused (line_of refusal.now) (status_of refusal.now))) result
-        (W.taken out.old) (W.taken out.new) (W.failures out.old) (W.failures out.new) }
+// The line that ends an answer.
+fn push_ending<W: Sink>(out: &mut W, ending: &Ending) -> Result<(), WriteFailed>
+    ensures text { Pushes result (W.taken out.old) (W.taken out.new) (W.failures out.old)
+        (W.failures out.new) (end_told ending.now) }
+    ensures failures { W.failures out.old ≤ W.failures out.new }
 {
-    push_mark(out, status_of(refusal))?;
-    push_line(out, refusal)?;
-    Ok(())
-}
-
-/// The line of a refusal, in place of an answer; want of memory ends the session instead.
-pub(crate) fn write_refusal<W: Sink>(out: &mut W, refusal: &Refusal) -> Result<(), PageFault>
-    ensures text { (o : Outcome) → IsRefusal refusal.now o
-        → WritesText (answer_text o) result (W.taken out.old) (W.taken out.new)
-        (W.failures out.old) (W.failures out.new) }
-    ensures told { OnOk result (refusal.now ≡ Refusal.NoMemory → ⊥) }
-{
-    match refusal {
-        Refusal::NoMemory => Err(PageFault::NoMemory),
-        _ => push_refusal(out, refusal),
+    match ending {
+        Ending::Given(status) => {
+            push_pieces(
+                out,
+                &[b"= ", Digits::of(u32::from(*status)).as_bytes(), b"\n"],
+            )
+        }
+        Ending::Refused(refusal) => push_refused(out, status_of(refusal), refusal),
+        Ending::Faulted(fault) => push_pieces(out, &[b"= 2 ", fault.line().as_bytes()]),
+        Ending::Unasked => Ok(()),
     }
 }
 
-/// The line of a line that asks nothing, in place of an answer.
-pub(crate) fn write_fault<W: Sink>(out: &mut W, fault: LineFault) -> Result<(), PageFault>
-    ensures { WritesText (answer_text (faulted fault)) result
+/// Ends an answer: its last line, and then the line that ends it. Gives the sink below back.
+pub(crate) fn end_answer<W: Sink>(
+    frame: Escaping<W>,
+    ending: &Ending,
+) -> (Result<(), WriteFailed>, W)
+    ensures ok { OnOk result.0 ((old : Option (List ℕ)) (text : List ℕ)
+        → Appends (begun old) (⟦<Escaping<W> as Sink>⟧.taken frame) text
+        → Appends old (W.taken result.1) (lines_written text ++ end_told ending.now)) }
+    ensures part { (old : Option (List ℕ)) (text : List ℕ)
+        → Appends (begun old) (⟦<Escaping<W> as Sink>⟧.taken frame) text
+        → IsFirstPart (append_known old (lines_written text ++ end_told ending.now))
+        (W.taken result.1) }
+    ensures rises { OnErr result.0 (Rises (⟦<Escaping<W> as Sink>⟧.failures frame)
+        (W.failures result.1)) }
+    ensures failures { ⟦<Escaping<W> as Sink>⟧.failures frame ≤ W.failures result.1 }
+{
+    match frame.finish() {
+        (Ok(()), mut out) => {
+            let ended = push_ending(&mut out, ending);
+            (ended, out)
+        }
+        (Err(fault), out) => (Err(fault), out),
+    }
+}
+
+/// A text that is at hand, with its status.
+pub(crate) fn write_said<W: Sink>(out: &mut W, text: &[u8], status: u8) -> Result<Ending, PageFault>
+    ensures { Gives (Some (written text.now status)) result
         (W.taken out.old) (W.taken out.new) (W.failures out.old) (W.failures out.new) }
 {
-    push_all(out, fault.end_line().as_bytes())?;
-    Ok(())
+    push_all(out, text)?;
+    Ok(Ending::Given(status))
+}
+
+/// A refusal in place of an answer; want of memory ends the session instead.
+pub(crate) fn refused(refusal: Refusal) -> Result<Ending, PageFault>
+    ensures text { (o : Outcome) → IsRefusal refusal o → (old : Option (List ℕ)) (count : ℕ)
+        → Gives (Some o) result old old count count }
+    ensures told { OnOk result (refusal ≡ Refusal.NoMemory → ⊥) }
+{
+    match refusal {
+        Refusal::NoMemory => Err(PageFault::NoMemory),
+        _ => Ok(Ending::Refused(refusal)),
+    }
 }

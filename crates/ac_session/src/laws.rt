@@ -1,5 +1,5 @@
 //! Laws of the definitions. Each function does nothing: its contract is the law.
-ghost use Rattle.ac_session.specs.Laws.Apart.{AnswersApart, NamesStay, SessionsApart};
+ghost use Rattle.ac_session.specs.Laws.Apart.{AnswersApart, SessionsApart};
 ghost use Rattle.ac_session.specs.Laws.{AskingLeavesAll, ClaimTurnsNarrow, ReadsBack, ReleaseTurnUndoes, SessionsGoOn, UsagesReadBack};
 
 /// What is written as a line of words is read as these words, and what is written behind it is left.
@@ -27,17 +27,14 @@ pub fn release_turn_undoes()
     ensures { ReleaseTurnUndoes }
 {}
 
-/// Who reads up to the first line that begins with `=` has read what is written for a line of a session, whatever stands behind it.
+/// Who reads up to the first line that begins with `=` has read what is written for a line of a session, whatever it says and whatever stands behind it.
+#[tactic(auto, using(crate::proofs::Apart::answers_apart))]
 pub fn answers_apart()
     ensures { AnswersApart }
 {}
 
-/// Each class and each trait of what accepted tables state is a name, and whatever is asked, it stays so.
-pub fn names_stay()
-    ensures { NamesStay }
-{}
-
 /// Who reads a session answer by answer reads what is written for one line after another.
+#[tactic(auto, using(crate::proofs::Apart::sessions_apart))]
 pub fn sessions_apart()
     ensures { SessionsApart }
 {}

@@ -4,9 +4,10 @@
 #![tactic(auto)]
 
 mod detailed;
-pub mod end_lines;
 mod endings;
+mod escaping;
 pub mod laws;
+pub mod line_faults;
 pub mod lines;
 pub mod questions;
 mod session;
@@ -14,7 +15,7 @@ mod turns;
 pub mod usages;
 
 pub use detailed::run_session_detailed;
-pub use end_lines::LineFault;
+pub use line_faults::LineFault;
 pub use lines::{Lines, Next};
 pub use questions::{Question, read_question};
 pub use session::run_session;

@@ -1,6 +1,6 @@
 //! A session: questions from a feed, each answered whole before the next is read.
-ghost use Rattle.std.specs.Prelude.{◌≡◌, ◌≢◌, ◌≤◌, ◌<◌, ◌⊎◌, ℕ, List, ◌∷◌, [], Contains, Err, Ok, OnErr, OnOk, Option, Some, length};
-ghost use Rattle.std.specs.Io.KnownBytes.{Appends, Keeps, append_known};
+ghost use Rattle.std.specs.Prelude.{◌≡◌, ◌≢◌, ◌≤◌, ◌<◌, ◌++◌, ◌⊎◌, ℕ, List, ◌∷◌, [], Contains, Err, Ok, OnErr, OnOk, Option, Some, length};
+ghost use Rattle.std.specs.Io.KnownBytes.{Appends, append_known};
 ghost use Rattle.ac_answers.specs.Writing.{TakesLine};
 ghost use Rattle.ac_base.specs.Devices.{Rises};
 ghost use Rattle.ac_base.specs.Gathered.{IsFirstPart};
@@ -9,15 +9,19 @@ ghost use Rattle.ac_report.specs.declared.fault.PageFault.TheVariants as PageFau
 ghost use Rattle.ac_run.specs.Feeds.{Bytes, FeedRose, TellBytes};
 ghost use Rattle.ac_run.specs.Lines.{memory_line, output_line};
 ghost use Rattle.ac_run.specs.Run.{FailsOr, IsAnswered, IsRefused, IsUnread};
+ghost use Rattle.ac_session.specs.Escapes.{begun};
+ghost use Rattle.ac_session.specs.Frames.{lines_written};
 ghost use Rattle.ac_session.specs.Lines.{Given, most_passed};
 ghost use Rattle.ac_session.specs.Reading.{feed_in, given_by, left};
 ghost use Rattle.ac_session.specs.Sessions.{AreUnread, held, session_answer};
-ghost use Rattle.ac_session.specs.Standing.{Stands, stop_line, stop_status};
-ghost use Rattle.ac_session.specs.Turns.{lines_in, session_text, turn_of};
+ghost use Rattle.ac_session.specs.Standing.{Stands, end_told, stop_line, stop_status};
+ghost use Rattle.ac_session.specs.Turns.{lines_in, session_text, text_of, turn_of};
 ghost use Rattle.ac_session.specs.declared.session.Step.TheVariants as Step;
 ghost use Rattle.ac_session.specs.declared.session.Stop.TheVariants as Stop;
 ghost use Rattle.ac_tables.specs.declared.fault.Table.{Table};
 
+use crate::endings::{Ending, end_answer};
+use crate::escaping::Escaping;
 use crate::lines::{Lines, Next};
 use crate::turns::answer_next;
 use ac_base::{Feed, Gathering, Sink, push_all};
@@ -51,6 +55,32 @@ enum Step {
     Stopped(Stop),
 }
 
+// Ends an answer, and hands on what of it is gathered.
+fn end_gathered<W: Sink + Drop>(
+    frame: Escaping<Gathering<W>>,
+    ending: &Ending,
+) -> (Result<(), PageFault>, W)
+    ensures ok { OnOk result.0 ((old : Option (List ℕ)) (text : List ℕ)
+        → Appends (begun old) (⟦<Escaping<Gathering<W>> as Sink>⟧.taken frame) text
+        → Appends old (W.taken result.1) (lines_written text ++ end_told ending.now)) }
+    ensures part { (old : Option (List ℕ)) (text : List ℕ)
+        → Appends (begun old) (⟦<Escaping<Gathering<W>> as Sink>⟧.taken frame) text
+        → IsFirstPart (append_known old (lines_written text ++ end_told ending.now))
+        (W.taken result.1) }
+    ensures failed { OnErr result.0
+        (Rises (⟦<Escaping<Gathering<W>> as Sink>⟧.failures frame) (W.failures result.1)) }
+    ensures failures { ⟦<Escaping<Gathering<W>> as Sink>⟧.failures frame
+        ≤ W.failures result.1 }
+{
+    match end_answer(frame, ending) {
+        (Ok(()), gathering) => match gathering.finish() {
+            (Ok(()), out) => (Ok(()), out),
+            (Err(_), out) => (Err(PageFault::WriteFailed), out),
+        },
+        (Err(_), gathering) => (Err(PageFault::WriteFailed), gathering.into_inner()),
+    }
+}
+
 // Answers what a reader of lines gave, and hands the answer on whole.
 fn hand_on<W: Sink + Drop>(
     alloc: Global,
@@ -61,13 +91,13 @@ fn hand_on<W: Sink + Drop>(
 ) -> (Result<(), PageFault>, W)
     ensures ok { (given : Given) → given_by next.entry ≡ Some given
         → OnOk result.0 (Appends (W.taken out)
-        (W.taken result.1) (turn_of version (world_of cloud.old) given).text) }
+        (W.taken result.1) (text_of (turn_of version (world_of cloud.old) given))) }
     ensures world { (given : Given) → given_by next.entry ≡ Some given
         → OnOk result.0 (world_of cloud.new
         ≡ (turn_of version (world_of cloud.old) given).world) }
     ensures part { (given : Given) → given_by next.entry ≡ Some given
         → IsFirstPart (append_known (W.taken out)
-        (turn_of version (world_of cloud.old) given).text) (W.taken result.1) }
+        (text_of (turn_of version (world_of cloud.old) given))) (W.taken result.1) }
     ensures failed { result.0 ≡ Err PageFault.WriteFailed
         → Rises (W.failures out) (W.failures result.1) }
     ensures failures { W.failures out ≤ W.failures result.1 }
@@ -75,13 +105,10 @@ fn hand_on<W: Sink + Drop>(
     let Ok(room) = vec![in alloc; 0u8; ROOM] else {
         return (Err(PageFault::NoMemory), out);
     };
-    let mut gathering = Gathering::new(out, room);
-    match answer_next(alloc, cloud, version, next, &mut gathering) {
-        Ok(()) => match gathering.finish() {
-            (Ok(()), out) => (Ok(()), out),
-            (Err(_), out) => (Err(PageFault::WriteFailed), out),
-        },
-        Err(fault) => (Err(fault), gathering.into_inner()),
+    let mut frame = Escaping::new(Gathering::new(out, room));
+    match answer_next(alloc, cloud, version, next, &mut frame) {
+        Ok(ending) => end_gathered(frame, &ending),
+        Err(fault) => (Err(fault), frame.into_inner().into_inner()),
     }
 }
 

@@ -18,14 +18,14 @@ ghost use Rattle.ac_run.specs.Outputs.{counted, verdict_text};
 ghost use Rattle.ac_run.specs.Run.{IsWritten};
 ghost use Rattle.ac_run.specs.Jobs.{ExplainsAsked, task_of};
 ghost use Rattle.ac_session.specs.Questions.{HasItsToken, asked_in};
-ghost use Rattle.ac_session.specs.Standing.{WritesText};
+ghost use Rattle.ac_session.specs.Standing.{Gives, IsGiven};
 ghost use Rattle.ac_session.specs.Lines.{Given};
 ghost use Rattle.ac_session.specs.Reading.{given_by};
-ghost use Rattle.ac_session.specs.Turns.{after_fill, answer_text, assignment_task, claim_said, claim_turn, fill_turn, places_named, release_said, release_turn, turn_asked, turn_of, world_after};
+ghost use Rattle.ac_session.specs.Turns.{after_fill, assignment_task, claim_said, claim_turn, fill_turn, output_of, places_named, release_said, release_turn, turn_asked, turn_of, world_after};
 ghost use Rattle.ac_session.specs.UsageRows.{usage_rows};
 
-use crate::end_lines::LineFault;
-use crate::endings::{end_answer, write_fault, write_refusal, write_said};
+use crate::endings::{Ending, refused, write_said};
+use crate::line_faults::LineFault;
 use crate::lines::Next;
 use crate::questions::{Question, read_question};
 use crate::usages::write_usages;
@@ -45,18 +45,14 @@ fn answer_job<W: Sink>(
     cloud: &Cloud,
     job: &Job,
     out: &mut W,
-) -> Result<(), PageFault>
+) -> Result<Ending, PageFault>
     requires { HasToken job.now.command (option_map (λ token. token.now) job.now.token) }
-    ensures { WritesText
-        (answer_text (answer_in job.now.command (task_of job.now) (world_of cloud.now))) result
+    ensures { Gives (Some (answer_in job.now.command (task_of job.now) (world_of cloud.now))) result
         (W.taken out.old) (W.taken out.new) (W.failures out.old) (W.failures out.new) }
 {
     match read_wanted(alloc, job, cloud) {
-        Ok(wanted) => {
-            let status = write_answer(alloc, cloud, &wanted, out)?;
-            end_answer(out, status)
-        }
-        Err(refusal) => write_refusal(out, &refusal),
+        Ok(wanted) => Ok(Ending::Given(write_answer(alloc, cloud, &wanted, out)?)),
+        Err(refusal) => refused(refusal),
     }
 }
 
@@ -102,18 +98,17 @@ fn read_assignment<'a>(
 }
 
 // The rule that a list breaks, as `verify` tells it.
-#[tactic(auto, using(crate::proofs::Written::text_begun, crate::proofs::Written::text_on))]
-fn write_verdict<W: Sink>(verdict: Verdict, out: &mut W) -> Result<(), PageFault>
-    ensures { WritesText (answer_text (written (verdict_text verdict) 1)) result
+fn write_verdict<W: Sink>(verdict: Verdict, out: &mut W) -> Result<Ending, PageFault>
+    ensures { Gives (Some (written (verdict_text verdict) 1)) result
         (W.taken out.old) (W.taken out.new) (W.failures out.old) (W.failures out.new) }
 {
     push_verdict(out, verdict)?;
-    end_answer(out, 1)
+    Ok(Ending::Given(1))
 }
 
 // What a claim says by the verdict.
-fn write_claimed<W: Sink>(verdict: Verdict, out: &mut W) -> Result<(), PageFault>
-    ensures { WritesText (answer_text (claim_said verdict)) result
+fn write_claimed<W: Sink>(verdict: Verdict, out: &mut W) -> Result<Ending, PageFault>
+    ensures { Gives (Some (claim_said verdict)) result
         (W.taken out.old) (W.taken out.new) (W.failures out.old) (W.failures out.new) }
 {
     match verdict {
@@ -123,8 +118,8 @@ fn write_claimed<W: Sink>(verdict: Verdict, out: &mut W) -> Result<(), PageFault
 }
 
 // What a release says by whether all is in use.
-fn write_released<W: Sink>(in_use: bool, out: &mut W) -> Result<(), PageFault>
-    ensures { WritesText (answer_text (release_said in_use)) result
+fn write_released<W: Sink>(in_use: bool, out: &mut W) -> Result<Ending, PageFault>
+    ensures { Gives (Some (release_said in_use)) result
         (W.taken out.old) (W.taken out.new) (W.failures out.old) (W.failures out.new) }
 {
     if in_use {
@@ -142,16 +137,16 @@ fn answer_claim<W: Sink>(
     query: &str,
     token: &str,
     out: &mut W,
-) -> Result<(), PageFault>
-    ensures text { WritesText
-        (claim_turn version query.now token.now (world_of cloud.old)).text result
+) -> Result<Ending, PageFault>
+    ensures answer { Gives
+        (claim_turn version query.now token.now (world_of cloud.old)).answer result
         (W.taken out.old) (W.taken out.new) (W.failures out.old) (W.failures out.new) }
     ensures world { OnOk result (world_of cloud.new
         ≡ (claim_turn version query.now token.now (world_of cloud.old)).world) }
 {
     let (query, list) = match read_assignment(alloc, cloud, version, query, token) {
         Ok(read) => read,
-        Err(refusal) => return write_refusal(out, &refusal),
+        Err(refusal) => return refused(refusal),
     };
     match list {
         Some(list) => {
@@ -170,16 +165,16 @@ fn answer_release<W: Sink>(
     query: &str,
     token: &str,
     out: &mut W,
-) -> Result<(), PageFault>
-    ensures text { WritesText
-        (release_turn version query.now token.now (world_of cloud.old)).text result
+) -> Result<Ending, PageFault>
+    ensures answer { Gives
+        (release_turn version query.now token.now (world_of cloud.old)).answer result
         (W.taken out.old) (W.taken out.new) (W.failures out.old) (W.failures out.new) }
     ensures world { OnOk result (world_of cloud.new
         ≡ (release_turn version query.now token.now (world_of cloud.old)).world) }
 {
     let (query, list) = match read_assignment(alloc, cloud, version, query, token) {
         Ok(read) => read,
-        Err(refusal) => return write_refusal(out, &refusal),
+        Err(refusal) => return refused(refusal),
     };
     match list {
         Some(list) => {
@@ -250,8 +245,8 @@ fn answer_fill<W: Sink>(
     version: Version,
     query: &str,
     out: &mut W,
-) -> Result<(), PageFault>
-    ensures text { WritesText (fill_turn version query.now (world_of cloud.old)).text result
+) -> Result<Ending, PageFault>
+    ensures answer { Gives (fill_turn version query.now (world_of cloud.old)).answer result
         (W.taken out.old) (W.taken out.new) (W.failures out.old) (W.failures out.new) }
     ensures world { OnOk result (world_of cloud.new
         ≡ (fill_turn version query.now (world_of cloud.old)).world) }
@@ -267,21 +262,17 @@ fn answer_fill<W: Sink>(
         sum: false,
     };
     match read_asked(alloc, &job) {
-        Ok((query, _token)) => {
-            let status = place_all(alloc, cloud, &query, out)?;
-            end_answer(out, status)
-        }
-        Err(refusal) => write_refusal(out, &refusal),
+        Ok((query, _token)) => Ok(Ending::Given(place_all(alloc, cloud, &query, out)?)),
+        Err(refusal) => refused(refusal),
     }
 }
 
 // The table of usages.
-fn answer_usages<W: Sink>(alloc: Global, cloud: &Cloud, out: &mut W) -> Result<(), PageFault>
-    ensures { WritesText (answer_text (usage_rows (providers_of cloud.now))) result
+fn answer_usages<W: Sink>(alloc: Global, cloud: &Cloud, out: &mut W) -> Result<Ending, PageFault>
+    ensures { Gives (Some (usage_rows (providers_of cloud.now))) result
         (W.taken out.old) (W.taken out.new) (W.failures out.old) (W.failures out.new) }
 {
-    let status = write_usages(alloc, cloud, out)?;
-    end_answer(out, status)
+    Ok(Ending::Given(write_usages(alloc, cloud, out)?))
 }
 
 // Answers a question, and changes the cloud where it is a claim, a release or placements.
@@ -291,10 +282,10 @@ fn answer_question<W: Sink>(
     version: Version,
     question: Question<'_>,
     out: &mut W,
-) -> Result<(), PageFault>
+) -> Result<Ending, PageFault>
     requires { HasItsToken question }
-    ensures text { WritesText
-        (turn_asked version (world_of cloud.old) (asked_in question.entry)).text result
+    ensures answer { Gives
+        (turn_asked version (world_of cloud.old) (asked_in question.entry)).answer result
         (W.taken out.old) (W.taken out.new) (W.failures out.old) (W.failures out.new) }
     ensures world { OnOk result (world_of cloud.new
         ≡ (turn_asked version (world_of cloud.old) (asked_in question.entry)).world) }
@@ -307,13 +298,13 @@ fn answer_question<W: Sink>(
             answer_release(alloc, cloud, version, query, token, out)
         }
         Question::Usages => answer_usages(alloc, cloud, out),
-        Question::Nothing => Ok(()),
-        Question::Unknown => write_fault(out, LineFault::UnknownCommand),
-        Question::WrongNumber => write_fault(out, LineFault::WrongNumber),
+        Question::Nothing => Ok(Ending::Unasked),
+        Question::Unknown => Ok(Ending::Faulted(LineFault::UnknownCommand)),
+        Question::WrongNumber => Ok(Ending::Faulted(LineFault::WrongNumber)),
     }
 }
 
-/// Answers what a reader of lines gave. A failure gives nothing, and nothing is answered.
+/// Answers what a reader of lines gave: writes the output, and gives how the answer ends. A failure gives nothing, and nothing is answered.
 #[tactic(auto, unfolding(crate::specs::Turns::turn_of))]
 pub(crate) fn answer_next<W: Sink>(
     alloc: Global,
@@ -321,14 +312,16 @@ pub(crate) fn answer_next<W: Sink>(
     version: Version,
     next: Next<'_>,
     out: &mut W,
-) -> Result<(), PageFault>
-    ensures ok { (given : Given) → given_by next.entry ≡ Some given → OnOk result (Appends
-        (W.taken out.old) (W.taken out.new) (turn_of version (world_of cloud.old) given).text) }
+) -> Result<Ending, PageFault>
+    ensures ok { (given : Given) → given_by next.entry ≡ Some given → IfOk result
+        (IsGiven (turn_of version (world_of cloud.old) given).answer
+        (W.taken out.old) (W.taken out.new)) }
     ensures world { (given : Given) → given_by next.entry ≡ Some given
         → OnOk result (world_of cloud.new
         ≡ (turn_of version (world_of cloud.old) given).world) }
     ensures part { (given : Given) → given_by next.entry ≡ Some given → OnErr result (TakesPart
-        (W.taken out.old) (W.taken out.new) (turn_of version (world_of cloud.old) given).text) }
+        (W.taken out.old) (W.taken out.new)
+        (output_of (turn_of version (world_of cloud.old) given).answer)) }
     ensures failed { result ≡ Err PageFault.WriteFailed
         → Rises (W.failures out.old) (W.failures out.new) }
     ensures failures { W.failures out.old ≤ W.failures out.new }
@@ -337,7 +330,7 @@ pub(crate) fn answer_next<W: Sink>(
         Next::Line(line) => {
             answer_question(alloc, cloud, version, read_question(line, version), out)
         }
-        Next::TooLong => write_fault(out, LineFault::TooLong),
-        Next::End | Next::Failed => Ok(()),
+        Next::TooLong => Ok(Ending::Faulted(LineFault::TooLong)),
+        Next::End | Next::Failed => Ok(Ending::Unasked),
     }
 }

@@ -4,22 +4,20 @@ use Rattle.std.specs.Prelude.{◌==◌, cond, if◌then◌else◌}
 use Rattle.std.specs.List.{AllByRecursion, filter}
 use Rattle.std.specs.Option.{is_none}
 use Rattle.ac_base.specs.Quantities.{InventoryNumbers}
-use Rattle.ac_query.proofs.Pairs.Named.{all_entered, in_order}
-use Rattle.ac_query.specs.Laws.Named.{AreNames, IsName}
+use Rattle.ac_query.proofs.Pairs.Named.{all_entered}
+use Rattle.ac_query.specs.Laws.Named.{IsName}
 use Rattle.ac_base.specs.Texts.{is_name, name_value}
-use Rattle.ac_tables.specs.Tables.{Tables, gathered, ids_of, inventories_of, names_of, tables_fault, with_used, world_stated}
+use Rattle.ac_tables.specs.Tables.{Tables, ids_of, inventories_of, tables_fault}
 use Rattle.ac_tables.specs.Tables.Checks.{Check, Row, first_failing, record_checks, told_at}
 use Rattle.ac_tables.specs.Tables.Columns.{header_checks, text_in}
-use Rattle.ac_tables.specs.Tables.InventoryTable.{InventoryRecord, class_checks, class_name, inventories_said, inventory_checks, inventory_columns, inventory_field_checks, inventory_record_checks, inventory_said, known_checks, number_checks, once_checks, owner_checks}
+use Rattle.ac_tables.specs.Tables.InventoryTable.{InventoryRecord, class_checks, class_name, inventories_said, inventory_checks, inventory_columns, inventory_field_checks, inventory_record_checks, inventory_said, number_checks, once_checks, owner_checks}
 use Rattle.ac_tables.specs.Tables.ProviderTable.{provider_checks}
 use Rattle.ac_tables.specs.Tables.AggregateTable.{aggregate_checks}
-use Rattle.ac_tables.specs.Tables.ProviderTable.{name_name}
-use Rattle.ac_tables.specs.Tables.TraitTable.{TraitRecord, name_checks, trait_checks, trait_columns, trait_field_checks, trait_record_checks, trait_said, traits_said}
+use Rattle.ac_tables.specs.Tables.TraitTable.{trait_checks}
 use Rattle.ac_tables.specs.Tables.UsageTable.{usage_checks}
 use Rattle.ac_tables.specs.declared.fault.Table.{Table}
 use Rattle.ac_tables.specs.declared.fault.Table.TheVariants as table
 use Rattle.ac_tables.specs.declared.fault.TableFault.{TableFault}
-use Rattle.ac_session.specs.Laws.Apart.{HaveNames}
 
 -- ---- checks of which none fails
 
@@ -129,55 +127,3 @@ module _ (t : Tables) where
       let three = none_before (provider_checks t.providers ++ inventory_checks (ids_of t.providers) t.inventories) (usage_checks (ids_of t.providers) (inventories_said t.inventories) t.usages) four.0 in
       let two = none_before (provider_checks t.providers) (inventory_checks (ids_of t.providers) t.inventories) three.0 in
       record { providers = two.0; inventories = two.1; usages = three.1; traits = four.1; aggregates = five.1 }
-
-used_keyed : (m : List (List ℕ × ℕ)) (es : List (List ℕ × InventoryNumbers)) → AllByRecursion (λ e. is_name e.0 ≡ true) es → AllByRecursion (λ e. is_name e.0 ≡ true) (with_used m es)
-used_keyed m [] all = tt
-used_keyed m (e ∷ es) all = (all.0, used_keyed m es all.1)
-
--- ---- traits
-
-abbrev IsOfTrait : TraitRecord → Type 0
-IsOfTrait m = is_name m.name ≡ true
-
-trait_named : (ids : List ℕ) (header row : Row) (before : List TraitRecord) → first_failing (trait_record_checks ids header before row) ≡ None → IsOfTrait (trait_said header row)
-unfolding trait_record_checks trait_field_checks name_checks trait_said
-trait_named ids header row before h =
-    let fields = (none_before (trait_field_checks header row) (known_checks ids _) h).0 in
-    named_value (text_in header name_name row) (none_of_first _ [] (none_before (owner_checks header row) (name_checks header row) fields).1)
-
-traits_named : (ids : List ℕ) (header : Row) (before : List TraitRecord) (rows : List Row)
-    → first_failing (record_checks table.Traits (trait_said header) (trait_record_checks ids header) before rows) ≡ None → AllByRecursion IsOfTrait (map (trait_said header) rows)
-traits_named ids header before [] h = tt
-traits_named ids header before (row ∷ rows) h =
-    let parts = none_before (told_at table.Traits (length before + 2) (trait_record_checks ids header before row)) _ h in
-    (trait_named ids header row before (none_told table.Traits (length before + 2) (trait_record_checks ids header before row) parts.0), traits_named ids header (before ++ trait_said header row ∷ []) rows parts.1)
-
-marks_named : (ids : List ℕ) (rows : List Row) → first_failing (trait_checks ids rows) ≡ None → AllByRecursion IsOfTrait (traits_said rows)
-marks_named ids [] h = tt
-marks_named ids (header ∷ rows) h = traits_named ids header [] rows (none_before (told_at table.Traits 1 (header_checks trait_columns header)) _ h).1
-
-names_kept : (test : TraitRecord → Bool) (ms : List TraitRecord) → AllByRecursion IsOfTrait ms → AreNames (map (λ m. m.name) (filter test ms))
-names_kept test [] all = tt
-names_kept test (m ∷ ms) all = by (test m) (names_kept test ms all.1)
-  where
-    by : (b : Bool) → AreNames (map (λ m. m.name) (filter test ms)) → AreNames (map (λ m. m.name) (cond b (m ∷ filter test ms) (filter test ms)))
-    by true later = (all.0, later)
-    by false later = later
-
-traits_of_one : (ms : List TraitRecord) (id : ℕ) → AllByRecursion IsOfTrait ms → AreNames (names_of ms id)
-unfolding names_of
-traits_of_one ms id all = in_order IsName [] _ tt (names_kept (λ m. m.provider == id) ms all)
-
-pub names_stated : (t : Tables) → tables_fault t ≡ None → HaveNames (world_stated t).providers
-unfolding world_stated
-names_stated t h = each (ids_of t.providers)
-  where
-    named : AllByRecursion IsOfClass (inventories_said t.inventories)
-    named = table_named (ids_of t.providers) t.inventories (each_accepted t h).inventories
-
-    marked : AllByRecursion IsOfTrait (traits_said t.traits)
-    marked = marks_named (ids_of t.providers) t.traits (each_accepted t h).traits
-
-    each : (ids : List ℕ) → HaveNames (map (gathered t) ids)
-    each [] = tt
-    each (id ∷ ids) = ((used_keyed _ _ (classes_named (inventories_said t.inventories) id named), traits_of_one (traits_said t.traits) id marked), each ids)

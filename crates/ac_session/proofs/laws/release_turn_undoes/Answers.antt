@@ -19,7 +19,7 @@ use Rattle.ac_rules.specs.declared.verdict.Verdict.TheVariants as verdict
 use Rattle.ac_run.specs.Answer.{Outcome, Says, past_query, past_token, refused, token_refusal, told, written}
 use Rattle.ac_run.specs.Lines.{query_line, token_line}
 use Rattle.ac_session.specs.Laws.{ReleaseTurnUndoes}
-use Rattle.ac_session.specs.Turns.{answer_text, assignment_task, claim_line, claim_of, claim_said, claim_turn, places_named, placed_by, release_line, release_of, release_said, release_turn, settles, world_after}
+use Rattle.ac_session.specs.Turns.{assignment_task, claim_line, claim_of, claim_said, claim_turn, places_named, placed_by, release_line, release_of, release_said, release_turn, settles, world_after}
 use Rattle.ac_session.proofs.laws.release_turn_undoes.Goals as goal
 
 -- ---- the same places are named where ids have the same places
@@ -113,11 +113,11 @@ module _ (version : Version) (query token : List ℕ) (world : World) (made : pa
   unfolding claim_turn
   is_between = ap (λ o. world_after world o.status new) made
 
-  undone : release_turn version query token between ≡ record { text = answer_text (written (codes "released\n") 0); world = world }
+  undone : release_turn version query token between ≡ record { answer = Some (written (codes "released\n") 0); world = world }
   unfolding release_turn
   undone =
       ap (λ o. settles between o (released new (placed_by version new query token))) released_said
-      ∙ ap (λ ps. record { text = answer_text (written (codes "released\n") 0); world = record between { providers = ps } }) given_back
+      ∙ ap (λ ps. record { answer = Some (written (codes "released\n") 0); world = record between { providers = ps } }) given_back
 
 release_turn_undoes : ReleaseTurnUndoes
 release_turn_undoes version query token world made =

@@ -1,28 +1,31 @@
-use Rattle.std.proofs.Common.{refl}
-use Rattle.ac_run.proofs.HandedOn.{from_err, from_ok, later_rise, part_more, same_rise, text_more, whole_text}
-use Rattle.ac_session.proofs.Stood.{first_whole}
+use Rattle.std.proofs.Common.{◌∙◌, refl}
+use Rattle.std.proofs.lemmas.Result.{on_ok_weaker}
+use Rattle.ac_cloud.specs.Cloud.CloudWorld.{world_of}
+use Rattle.ac_run.proofs.HandedOn.{from_err, later_rise, same_rise}
+use Rattle.ac_session.proofs.Written.{handed_begun, handed_part, handed_whole, ok_any}
+use Rattle.ac_session.specs.Turns.{turn_of}
 use Rattle.ac_session.proofs.session.hand_on.Goals as goal
 
-pub returns-in-Ok-default-clause-ok : goal.returns-in-Ok-default-clause-ok
-returns-in-Ok-default-clause-ok g c = λ given e.
-    whole_text (g.W.Sink.taken c.args.out) _ _ (g.W.Sink.taken c.finish.result.1) _ c.new-gathering.ensures.taken (c.in-Ok-answer_next.ensures.ok given e)
-    (from_ok c.finish.result.0 _ _ c.in-Ok-default.is-0 c.finish.ensures.ok)
+pub returns-in-Ok-answer_next-clause-ok : goal.returns-in-Ok-answer_next-clause-ok
+returns-in-Ok-answer_next-clause-ok g c = λ given e.
+    on_ok_weaker c.end_gathered.result.0
+    (λ hands. handed_whole (turn_of c.args.version (world_of c.args.cloud.now) given).answer (g.W.Sink.taken c.args.out) _ _ _ _ c.new.ensures.taken c.new-frame.ensures.taken _
+    (c.in-Ok-answer_next.ensures.ok given e) hands) c.end_gathered.ensures.ok
 
-pub returns-in-Ok-default-clause-part : goal.returns-in-Ok-default-clause-part
-returns-in-Ok-default-clause-part g c = λ given e.
-    first_whole _ _ _
-    (whole_text (g.W.Sink.taken c.args.out) _ _ (g.W.Sink.taken c.finish.result.1) _ c.new-gathering.ensures.taken (c.in-Ok-answer_next.ensures.ok given e)
-    (from_ok c.finish.result.0 _ _ c.in-Ok-default.is-0 c.finish.ensures.ok))
+pub returns-in-Ok-answer_next-clause-world : goal.returns-in-Ok-answer_next-clause-world
+returns-in-Ok-answer_next-clause-world g c = λ given e. ok_any c.end_gathered.result.0 _ (c.in-Ok-answer_next.ensures.world given e)
 
-pub returns-in-Err-default-clause-part : goal.returns-in-Err-default-clause-part
-returns-in-Err-default-clause-part g c = λ given e.
-    text_more (g.W.Sink.taken c.args.out) _ _ _ _ c.new-gathering.ensures.taken (c.in-Ok-answer_next.ensures.ok given e) c.finish.ensures.part
+pub returns-in-Ok-answer_next-clause-part : goal.returns-in-Ok-answer_next-clause-part
+returns-in-Ok-answer_next-clause-part g c = λ given e.
+    handed_part (turn_of c.args.version (world_of c.args.cloud.now) given).answer (g.W.Sink.taken c.args.out) _ _ _ _ c.new.ensures.taken c.new-frame.ensures.taken _
+    (c.in-Ok-answer_next.ensures.ok given e) c.end_gathered.ensures.part
 
-pub returns-in-Err-default-clause-failed : goal.returns-in-Err-default-clause-failed
-returns-in-Err-default-clause-failed g c = λ is.
-    same_rise _ _ _ _ c.new-gathering.ensures.failures refl
-    (later_rise _ _ _ c.answer_next.ensures.failures c.finish.ensures.failures (from_err c.finish.result.0 _ _ c.in-Err-default.is-0 c.finish.ensures.rises))
+pub returns-in-Ok-answer_next-clause-failed : goal.returns-in-Ok-answer_next-clause-failed
+returns-in-Ok-answer_next-clause-failed g c = λ is.
+    same_rise _ _ _ _ (c.new-frame.ensures.failures ∙ c.new.ensures.failures) refl
+    (later_rise _ _ _ c.answer_next.ensures.failures c.end_gathered.ensures.failures (from_err c.end_gathered.result.0 _ _ is c.end_gathered.ensures.failed))
 
 pub returns-in-Err-clause-part : goal.returns-in-Err-clause-part
 returns-in-Err-clause-part g c = λ given e.
-    part_more (g.W.Sink.taken c.args.out) _ _ _ _ c.new-gathering.ensures.taken (c.in-Err.ensures.part given e) c.into_inner.ensures.part
+    handed_begun (turn_of c.args.version (world_of c.args.cloud.now) given).answer (g.W.Sink.taken c.args.out) _ _ _ _ c.new.ensures.taken c.new-frame.ensures.taken _
+    (c.in-Err.ensures.part given e) c.into_inner.ensures.part c.into_inner-in-Err.ensures.part

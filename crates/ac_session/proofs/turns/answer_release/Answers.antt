@@ -7,36 +7,36 @@ use Rattle.ac_run.specs.Answer.{Outcome, past_query}
 use Rattle.std.proofs.lemmas.Result.{on_ok_weaker}
 use Rattle.ac_session.proofs.Written.{ok_any}
 use Rattle.ac_session.proofs.Turned.{asked_refused, release_outcome, release_unknown, released_world, placed_read, refused_world, unknown_world}
-use Rattle.ac_session.specs.Standing.{WritesText}
-use Rattle.ac_session.specs.Turns.{answer_text, assignment_task, release_line, release_turn, placed_by}
+use Rattle.ac_session.specs.Standing.{Gives}
+use Rattle.ac_session.specs.Turns.{assignment_task, release_line, release_turn, placed_by}
 use Rattle.ac_session.proofs.turns.answer_release.Goals as goal
 
 -- ---- the query or the token is refused
 
-pub returns-in-Err-clause-text : goal.returns-in-Err-clause-text
+pub returns-in-Err-clause-answer : goal.returns-in-Err-clause-answer
 unfolding release_turn
-returns-in-Err-clause-text g c =
+returns-in-Err-clause-answer g c =
     let task = assignment_task c.args.version c.args.query.now c.args.token.now in
     let say = release_line (providers_of c.args.cloud.now) in
-    c.write_refusal.ensures.text (past_query say task) (asked_refused task c.in-Err.refusal c.in-Err.ensures.fault say)
+    c.refused.ensures.text (past_query say task) (asked_refused task c.in-Err.refusal c.in-Err.ensures.fault say) _ _
 
 pub returns-in-Err-clause-world : goal.returns-in-Err-clause-world
 unfolding release_turn
 returns-in-Err-clause-world g c =
     let task = assignment_task c.args.version c.args.query.now c.args.token.now in
     let say = release_line (providers_of c.args.cloud.now) in
-    on_ok_weaker c.write_refusal.result
+    on_ok_weaker c.refused.result
     (refused_world (world_of c.args.cloud.now) _ c.in-Err.refusal (past_query say task) (asked_refused task c.in-Err.refusal c.in-Err.ensures.fault say))
-    c.write_refusal.ensures.told
+    c.refused.ensures.told
 
 -- ---- a provider isn't there
 
-pub returns-clause-text : goal.returns-clause-text
+pub returns-clause-answer : goal.returns-clause-answer
 unfolding release_turn
-returns-clause-text g c =
+returns-clause-answer g c =
     let all = providers_of c.args.cloud.now in
     let e = release_unknown all (asked_of c.in-Ok.read.0) c.args.token.now _ (c.in-Ok.ensures.said (release_line all)) (ap (option_map (λ list. list.items)) (sym c.in-None.is) ∙ c.in-Ok.ensures.list) in
-    subst (λ (o : Outcome). WritesText (answer_text o) c.write_said.result (g.W.Sink.taken c.args.out.now) (g.W.Sink.taken c.write_said.new.out) (g.W.Sink.failures c.args.out.now) (g.W.Sink.failures c.write_said.new.out)) (sym e) c.write_said.ensures
+    subst (λ (o : Outcome). Gives (Some o) c.write_said.result (g.W.Sink.taken c.args.out.now) (g.W.Sink.taken c.write_said.new.out) (g.W.Sink.failures c.args.out.now) (g.W.Sink.failures c.write_said.new.out)) (sym e) c.write_said.ensures
 
 pub returns-clause-world : goal.returns-clause-world
 unfolding release_turn
@@ -47,13 +47,13 @@ returns-clause-world g c =
 
 -- ---- the list is judged
 
-pub returns-in-Some-clause-text : goal.returns-in-Some-clause-text
+pub returns-in-Some-clause-answer : goal.returns-in-Some-clause-answer
 unfolding release_turn
-returns-in-Some-clause-text g c =
+returns-in-Some-clause-answer g c =
     let all = providers_of c.args.cloud.now in
     let named = ap Some c.deref.ensures.value ∙ ap (option_map (λ list. list.items)) (sym c.in-Some.is) ∙ c.in-Ok.ensures.list in
     let e = release_outcome all (asked_of c.in-Ok.read.0) c.args.token.now _ _ c.release-in_use.result (c.in-Ok.ensures.said (release_line all)) named c.release-in_use.ensures.in_use in
-    subst (λ (o : Outcome). WritesText (answer_text o) c.write_released.result (g.W.Sink.taken c.args.out.now) (g.W.Sink.taken c.write_released.new.out) (g.W.Sink.failures c.args.out.now) (g.W.Sink.failures c.write_released.new.out)) (sym e) c.write_released.ensures
+    subst (λ (o : Outcome). Gives (Some o) c.write_released.result (g.W.Sink.taken c.args.out.now) (g.W.Sink.taken c.write_released.new.out) (g.W.Sink.failures c.args.out.now) (g.W.Sink.failures c.write_released.new.out)) (sym e) c.write_released.ensures
 
 pub returns-in-Some-clause-world : goal.returns-in-Some-clause-world
 unfolding release_turn
