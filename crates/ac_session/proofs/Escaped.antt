@@ -1,14 +1,15 @@
 -- Lines that are escaped are read back as they were, and a sink that escapes them goes on from text to text.
-use Rattle.std.proofs.Common.{◌≡◌, ◌∙◌, ℕ, zero, suc, ◌+◌, ◌-◌, ◌≤◌, Bool, true, false, List, [], ◌∷◌, ◌++◌, Option, Some, None, map, take, drop, length, refl, sym, ap, ap₂, subst, arith, inl, inr, append_assoc, append-nil}
+use Rattle.std.proofs.Common.{◌≡◌, ◌∙◌, ℕ, zero, suc, ◌+◌, ◌-◌, ◌<◌, ◌≤◌, Bool, true, false, List, [], ◌∷◌, ◌++◌, Option, Some, None, map, take, drop, length, refl, sym, ap, ap₂, subst, arith, inl, inr, append_assoc, append-nil}
 use Rattle.std.proofs.lemmas.Bool.{cases_Bool}
-use Rattle.std.proofs.lemmas.List.{length-take, take-take}
+use Rattle.std.proofs.lemmas.List.{drop-drop, length-drop, length-take, take-take, take_all}
 use Rattle.std.proofs.lemmas.Bool.Decides.{nat_tests}
-use Rattle.std.specs.Prelude.{OnOk, OnErr, Result, Ok, Err, ◌==◌, nat_eq}
+use Rattle.std.specs.Prelude.{slice_index, ◌&&◌, if◌then◌else◌, OnOk, OnErr, Result, Ok, Err, ◌==◌, nat_eq}
 use Rattle.std.specs.Io.KnownBytes.{Appends, append_known}
-use Rattle.std.specs.List.{position_or_len, slice_get}
+use Rattle.std.specs.List.{slice_get}
 use Rattle.ac_base.specs.Devices.{TakesPart}
+use Rattle.memchr.specs.Find.{IsFirstByte, is_byte}
 use Rattle.ac_base.specs.Gathered.{IsFirstPart}
-use Rattle.ac_session.specs.Escapes.{begins_since, begun, escaped_since, marked_off, needs_blank, owed_bytes, plain, taken_since, text_since}
+use Rattle.ac_session.specs.Escapes.{begins_since, begun, escaped_since, marked_off, needs_blank, owed_bytes, plain, plain_length, taken_since, text_since}
 use Rattle.ac_session.specs.Frames.{begins_line, escaped, is_marked, last_newline, lines_written}
 use Rattle.ac_session.specs.Lines.{is_newline}
 
@@ -75,35 +76,106 @@ one_marked byte h = first_marked byte [] h
 pub marked_begins : (byte : ℕ) → is_marked byte ≡ true → false ≡ begins_line true (byte ∷ [])
 marked_begins byte h = sym (marked_inner byte h)
 
--- within a line, and up to its newline, a text is written as it is
-inner_line : (n : ℕ) (text : List ℕ) → n ≤ position_or_len is_newline text + 1 → escaped false (take n text) ≡ take n text
-inner_line zero text h = refl
-inner_line (suc n) [] h = refl
-inner_line (suc n) (byte ∷ text) h = ap (λ l. byte ∷ l) (by (is_newline byte) refl (inner_line n text))
-  where
-    by : (b : Bool) → is_newline byte ≡ b → (n ≤ position_or_len is_newline text + 1 → escaped false (take n text) ≡ take n text) → escaped (is_newline byte) (take n text) ≡ take n text
-    by true e later = subst (λ n. escaped (is_newline byte) (take n text) ≡ take n text) (sym (let none : n ≡ 0 = grind (arith, e, h) in none)) (ap (λ b. escaped b []) e)
-    by false e later = ap (λ b. escaped b (take n text)) e ∙ later (grind (arith, e, h))
-
 begun_line : (b : Bool) (n : ℕ) (text : List ℕ) → needs_blank b text ≡ false → escaped b (take n text) ≡ escaped false (take n text)
 begun_line true zero text h = refl
 begun_line true (suc n) [] h = refl
 begun_line true (suc n) (byte ∷ text) h = first_other byte (take n text) h
 begun_line false n text h = refl
 
-pub one_line : (b : Bool) (n : ℕ) (text : List ℕ) → needs_blank b text ≡ false → n ≤ position_or_len is_newline text + 1 → escaped b (take n text) ≡ take n text
-one_line b n text h few = begun_line b n text h ∙ inner_line n text few
+-- a first part that is written as it is
+plain_part : (n : ℕ) (text : List ℕ) → n ≤ plain_length text → escaped false (take n text) ≡ take n text
+plain_part zero text h = refl
+plain_part (suc n) [] h = refl
+plain_part (suc n) (byte ∷ text) h = ap (λ l. byte ∷ l) (by (is_newline byte) (needs_blank true text) refl refl h (plain_part n text))
+  where
+    by : (b c : Bool) → is_newline byte ≡ b → needs_blank true text ≡ c → suc n ≤ suc (if b && c then 0 else plain_length text)
+        → (n ≤ plain_length text → escaped false (take n text) ≡ take n text) → escaped (is_newline byte) (take n text) ≡ take n text
+    by true true e d few later = subst (λ n. escaped (is_newline byte) (take n text) ≡ take n text) (sym (let none : n ≡ 0 = omega (arith, few) in none)) (ap (λ b. escaped b []) e)
+    by true false e d few later = ap (λ b. escaped b (take n text)) e ∙ begun_line true n text d ∙ later (omega (arith, few))
+    by false true e d few later = ap (λ b. escaped b (take n text)) e ∙ later (omega (arith, few))
+    by false false e d few later = ap (λ b. escaped b (take n text)) e ∙ later (omega (arith, few))
 
--- a first part of the first line, with its newline
-pub in_line : (b : Bool) (n : ℕ) (text line : List ℕ) → line ≡ take (position_or_len is_newline text + 1) text → n ≤ length line → needs_blank b text ≡ false
-    → (n ≤ length text) × (take n line ≡ take n text) × (take n line ≡ escaped b (take n text))
-in_line b n text line is few clear =
-    let most = position_or_len is_newline text + 1 in
+plain_few : (text : List ℕ) → plain_length text ≤ length text
+plain_few [] = omega arith
+plain_few (byte ∷ text) = by (is_newline byte && needs_blank true text) (plain_few text)
+  where
+    by : (b : Bool) → plain_length text ≤ length text → suc (if b then 0 else plain_length text) ≤ suc (length text)
+    by true later = omega arith
+    by false later = omega (arith, later)
+
+-- ---- newline by newline
+
+-- up to the first newline, and behind it
+plain_ahead : (ahead : ℕ) (text : List ℕ) → ahead < length text → ((k : ℕ) → k < ahead → is_newline (slice_index text k) ≡ false) → is_newline (slice_index text ahead) ≡ true
+    → plain_length text ≡ ahead + suc (if needs_blank true (drop (suc ahead) text) then 0 else plain_length (drop (suc ahead) text))
+plain_ahead ahead [] low none here = absurd (omega (arith, low))
+plain_ahead zero (byte ∷ text) low none here = ap (λ b. suc (if b && needs_blank true text then 0 else plain_length text)) here ∙ omega arith
+plain_ahead (suc ahead) (byte ∷ text) low none here =
+    let inner : is_newline byte ≡ false = none 0 (omega arith) in
+    let later = plain_ahead ahead text (omega (arith, low)) (λ k l. none (suc k) (omega (arith, l))) here in
+    ap (λ b. suc (if b && needs_blank true text then 0 else plain_length text)) inner ∙ ap suc later ∙ omega arith
+
+plain_all : (text : List ℕ) → ((k : ℕ) → k < length text → is_newline (slice_index text k) ≡ false) → plain_length text ≡ length text
+plain_all [] none = refl
+plain_all (byte ∷ text) none =
+    let inner : is_newline byte ≡ false = none 0 (omega arith) in
+    ap (λ b. suc (if b && needs_blank true text then 0 else plain_length text)) inner ∙ ap suc (plain_all text (λ k l. none (suc k) (omega (arith, l))))
+
+not_newline : (b : Bool) → (b ≡ true → ⊥) → b ≡ false
+not_newline true h = absurd (h refl)
+not_newline false h = refl
+
+-- all that is behind a place
+pub rest_whole : (text : List ℕ) (place : ℕ) → take (length text - place) (drop place text) ≡ drop place text
+rest_whole text place = take_all (length text - place) (drop place text) (omega (arith, length-drop place text))
+
+module _ (text : List ℕ) (place : ℕ) (inside : place ≤ length text) (known : plain_length text ≡ place + plain_length (drop place text)) where
+  -- no newline is left
+  pub plain_end : IsFirstByte (is_byte 10) (take (length text - place) (drop place text)) None → text ≡ take (plain_length text) text
+  plain_end none =
+      let clear = subst (λ rest. IsFirstByte (is_byte 10) rest None) (rest_whole text place) none in
+      let rest = plain_all (drop place text) (λ k low. not_newline (is_newline (slice_index (drop place text) k)) (clear k (omega arith) low)) in
+      let most : plain_length text ≡ length text = known ∙ ap (λ n. place + n) rest ∙ (omega (arith, length-drop place text, inside)) in
+      sym (take_all (plain_length text) text (omega (arith, most)))
+
+  module _ (ahead : ℕ) (found : IsFirstByte (is_byte 10) (take (length text - place) (drop place text)) (Some ahead)) where
+    first : IsFirstByte (is_byte 10) (drop place text) (Some ahead)
+    first = subst (λ rest. IsFirstByte (is_byte 10) rest (Some ahead)) (rest_whole text place) found
+
+    pub further : place + (ahead + 1) ≤ length text
+    further = omega (arith, first.0.high, length-drop place text, inside)
+
+    step : plain_length text ≡ place + (ahead + suc (if needs_blank true (drop (place + (ahead + 1)) text) then 0 else plain_length (drop (place + (ahead + 1)) text)))
+    step =
+        let rest = drop place text in
+        let line = plain_ahead ahead rest first.0.high (λ k low. not_newline (is_newline (slice_index rest k)) (first.0.before k (omega arith) low)) first.1 in
+        let behind : drop (suc ahead) rest ≡ drop (place + (ahead + 1)) text = drop-drop (suc ahead) place text ∙ ap (λ n. drop n text) (omega arith) in
+        known ∙ ap (λ n. place + n) line ∙ ap (λ (l : List ℕ). place + (ahead + suc (if needs_blank true l then 0 else plain_length l))) behind
+
+    blank_said : (b : Bool) → b ≡ needs_blank true (take (length text - (place + (ahead + 1))) (drop (place + (ahead + 1)) text))
+        → plain_length text ≡ place + (ahead + suc (if b then 0 else plain_length (drop (place + (ahead + 1)) text)))
+    blank_said b said =
+        step
+        ∙ ap (λ b. place + (ahead + suc (if b then 0 else plain_length (drop (place + (ahead + 1)) text)))) (sym (said ∙ ap (needs_blank true) (rest_whole text (place + (ahead + 1)))))
+
+    -- the next line gets a blank
+    pub plain_stop : true ≡ needs_blank true (take (length text - (place + (ahead + 1))) (drop (place + (ahead + 1)) text)) → take (place + (ahead + 1)) text ≡ take (plain_length text) text
+    plain_stop blank = ap (λ n. take n text) (sym (blank_said true blank ∙ omega arith))
+
+    pub plain_on : false ≡ needs_blank true (take (length text - (place + (ahead + 1))) (drop (place + (ahead + 1)) text))
+        → plain_length text ≡ place + (ahead + 1) + plain_length (drop (place + (ahead + 1)) text)
+    plain_on clear = blank_said false clear ∙ omega arith
+
+-- what of it was handed on
+pub in_part : (b : Bool) (n : ℕ) (text part : List ℕ) → part ≡ take (plain_length text) text → n ≤ length part → needs_blank b text ≡ false
+    → (n ≤ length text) × (take n part ≡ take n text) × (take n part ≡ escaped b (take n text))
+in_part b n text part is few clear =
+    let most = plain_length text in
     let size = length-take most text in
     let within : n ≤ most = grind (arith, is, few, size, ap length is) in
     let inside : n ≤ length text = grind (arith, is, few, size, ap length is) in
-    let same : take n line ≡ take n text = ap (take n) is ∙ take-take n most text within in
-    (inside, same, same ∙ sym (one_line b n text clear within))
+    let same : take n part ≡ take n text = ap (take n) is ∙ take-take n most text within in
+    (inside, same, same ∙ sym (begun_line b n text clear ∙ plain_part n text within))
 
 -- ---- what was before stands apart from the text
 

@@ -91,12 +91,6 @@ module _ {X : Type 0} (p : X → Bool) where
       let whole : ys ≡ xs ++ drop (length xs) ys = sym (take-append-drop (length xs) ys) ∙ ap (λ l. l ++ drop (length xs) ys) front in
       omega (arith, ap (position_or_len p) whole, place_later xs (drop (length xs) ys) (place_is_missed xs missed))
 
-  -- up to the first is all, where none passes
-  pub up_to_missed : (xs : List X) → position p xs ≡ None → xs ≡ take (position_or_len p xs + 1) xs
-  up_to_missed xs none =
-      let all = place_is_missed xs (ap is_some none) in
-      sym (take_all (position_or_len p xs + 1) xs (omega (arith, all)))
-
   -- what stands before the first, item by item
   pub before_here : (x : X) (xs : List X) → p x ≡ true → before_first p (x ∷ xs) ≡ []
   before_here x xs e = ap (λ b. take (cond (not b) (1 + position_or_len p xs) 0) (x ∷ xs)) e

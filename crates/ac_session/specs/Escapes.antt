@@ -1,6 +1,6 @@
 -- What a sink that escapes lines has taken, and what of it stands in the sink below. What that had before is told apart: each of its bytes stands one
 -- higher, and behind them a zero.
-use Rattle.std.specs.Prelude.{⊤, ℕ, suc, ◌==◌, ◌≤◌, Bool, true, false, List, [], ◌∷◌, ◌++◌, map, drop, length, Option, Some, None, if◌then◌else◌}
+use Rattle.std.specs.Prelude.{⊤, ℕ, suc, ◌==◌, ◌&&◌, ◌≤◌, Bool, true, false, List, [], ◌∷◌, ◌++◌, map, drop, length, Option, Some, None, if◌then◌else◌}
 use Rattle.std.specs.Io.KnownBytes.{append_known}
 use Rattle.std.specs.Option.{option_map, unwrap_or}
 use Rattle.ac_base.specs.declared.device.Push.{Push}
@@ -49,6 +49,11 @@ begins_since begins (Some before) now owed = begins_line true (text_since before
 abbrev pub needs_blank : Bool → List ℕ → Bool
 needs_blank true (byte ∷ text) = is_marked byte
 needs_blank _ _ = false
+
+-- how many of the first bytes of a text are written as they are within a line: those up to a line that gets a blank before it
+abbrev pub plain_length : List ℕ → ℕ
+plain_length [] = 0
+plain_length (byte ∷ text) = suc (if is_newline byte && needs_blank true text then 0 else plain_length text)
 
 -- of one byte at most
 abbrev pub OneAtMost : Push → Type 0

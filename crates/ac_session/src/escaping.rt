@@ -1,16 +1,14 @@
 //! A sink that escapes the lines of an answer, so that none begins with `=`.
-ghost use Rattle.std.specs.Prelude.{◌≡◌, ◌≤◌, ◌+◌, ◌++◌, ◌∷◌, [], ℕ, List, None, Option, OnErr, OnOk, false, take, true};
+ghost use Rattle.std.specs.Prelude.{◌≡◌, ◌≤◌, ◌++◌, ◌∷◌, [], ℕ, List, None, Option, OnErr, OnOk, false, length, nat_lt, take, true};
 ghost use Rattle.std.specs.Io.KnownBytes.{Appends, Keeps, append_known};
-ghost use Rattle.std.specs.List.{position_or_len};
 ghost use Rattle.ac_base.specs.Devices.{PushTakes, Rises, TakesPart, breaks_after_push, failures_after_push};
 ghost use Rattle.ac_base.specs.declared.device.Push.TheVariants as Push;
 ghost use Rattle.ac_base.specs.Gathered.{IsFirstPart};
-ghost use Rattle.ac_session.specs.Escapes.{OneAtMost, begins_since, begun, escaped_since, needs_blank, owed_bytes, taken_since};
+ghost use Rattle.ac_session.specs.Escapes.{OneAtMost, begins_since, begun, escaped_since, needs_blank, owed_bytes, plain_length, taken_since};
 ghost use Rattle.ac_session.specs.Frames.{begins_line, is_marked, last_newline, lines_written};
-ghost use Rattle.ac_session.specs.Lines.{is_newline};
 
-use crate::lines::newline_in;
 use ac_base::{Push, Sink, WriteFailed, push_all};
+use memchr::memchr;
 use std::snapshot::Snapshot;
 
 /// A sink above another, to which it hands on the lines of an answer: one that begins with `=` or a blank gets a blank before it.
@@ -27,22 +25,36 @@ pub(crate) struct Escaping<W: Sink> {
     ghost line: { begins ≡ begins_since begins (W.taken before.value) (W.taken sink) owed },
 }
 
-// What stands up to the first newline, with it; all of a text without one.
-#[tactic(auto, using(crate::proofs::Firsts::place_found, crate::proofs::Firsts::up_to_missed))]
-fn first_line(text: &[u8]) -> &[u8]
-    ensures { result.now ≡ take (position_or_len is_newline text.now + 1) text.now }
-{
-    match newline_in(text) {
-        Some(place) => &text[..place + 1],
-        None => text,
-    }
-}
-
 // Whether a byte at the beginning of a line is to have a blank before it.
 fn is_marked(byte: u8) -> bool
     ensures { result ≡ is_marked byte }
 {
     byte == b'=' || byte == b' '
+}
+
+// Whether a text at the beginning of a line is to have a blank before it.
+fn starts_marked(text: &[u8]) -> bool
+    ensures { result ≡ needs_blank true text.now }
+{
+    match text.first() {
+        Some(byte) => is_marked(*byte),
+        None => false,
+    }
+}
+
+// What of a text is written as it is within a line: all up to a line that gets a blank before it.
+fn plain_part(text: &[u8]) -> &[u8]
+    ensures part { result.now ≡ take (plain_length text.now) text.now }
+    ensures some { nat_lt 0 (length result.now) ≡ nat_lt 0 (length text.now) }
+{
+    let mut place = 0;
+    while let Some(ahead) = memchr(b'\n', &text[place..]) {
+        place += ahead + 1;
+        if starts_marked(&text[place..]) {
+            return &text[..place];
+        }
+    }
+    text
 }
 
 // Whether a line begins behind a text.
@@ -131,7 +143,7 @@ impl<W: Sink> Escaping<W> {
         answer
     }
 
-    // Hands on what stands up to the first newline.
+    // Hands on what is written as it is.
     fn hand_on(&mut self, text: &[u8]) -> Push
         requires paid { self.old.owed ≡ None }
         requires plain { needs_blank self.old.begins text.now ≡ false }
@@ -142,10 +154,10 @@ impl<W: Sink> Escaping<W> {
         ensures breaks { ⟦<Escaping<W> as Sink>⟧.breaks self.new
             ≡ breaks_after_push (⟦<Escaping<W> as Sink>⟧.breaks self.old) result text.now }
     {
-        let line = first_line(text);
-        let answer = self.sink.push(line);
+        let part = plain_part(text);
+        let answer = self.sink.push(part);
         if let Push::Took(count) = answer {
-            self.begins = begins_behind(self.begins, &line[..count]);
+            self.begins = begins_behind(self.begins, &part[..count]);
         }
         answer
     }

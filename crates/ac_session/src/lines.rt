@@ -45,8 +45,8 @@ enum Found {
     End,
 }
 
-/// The place of the first newline.
-pub(crate) fn newline_in(bytes: &[u8]) -> Option<usize>
+// The place of the first newline.
+fn newline_in(bytes: &[u8]) -> Option<usize>
     ensures { result ≡ position is_newline bytes.now }
 {
     bytes.iter().position(|byte| *byte == b'\n')
