@@ -34,20 +34,9 @@ use Rattle.ac_answers.specs.HostRows.{hosts_status, hosts_text}
 use Rattle.ac_answers.specs.WhyRows.{root_place, why_status, why_text}
 use Rattle.ac_run.specs.Feeds.{Bytes, too_large}
 use Rattle.ac_run.specs.Lines.{too_large_line, record_line, query_line, token_line, host_line, memory_line}
-use Rattle.ac_query.specs.declared.job.Command.{Command}
-use Rattle.ac_query.specs.declared.job.Command.TheVariants as command
-
--- what is asked: the query, the version that reads it, perhaps a token or a host, whether it is said of what a rule is broken, whether traits are
--- written, and whether the number of placements stands in place of their tokens
-pub record Task : Type 0 where
-  pub command : Command
-  pub query : List ℕ
-  pub version : Version
-  pub token : Option (List ℕ)
-  pub host : Option (List ℕ)
-  pub detail : Bool
-  pub traits : Bool
-  pub sum : Bool
+use Rattle.ac_run.specs.Details.{detail_of}
+use Rattle.ac_run.specs.Tables.{tables_in}
+use Rattle.ac_run.specs.Tasks.{Command, Paths, Task, candidates, check, explain, fill, hosts, list, tokens, verify, why}
 
 -- what is answered
 pub record Outcome : Type 0 where
@@ -81,11 +70,6 @@ verdict_on all true asked (Some list) = written (detailed_text all asked list (j
 -- the ids of a token, where there is one that is accepted
 abbrev pub ids_given : Option (List ℕ) → Option (List ℕ)
 ids_given token = option_and_then ids_value token
-
--- what is wrong with a token, where there is one
-abbrev pub token_refusal : Asked → Option (List ℕ) → Option TokenFault
-token_refusal asked None = None
-token_refusal asked (Some text) = token_fault asked text
 
 -- ---- the answer
 
@@ -128,33 +112,33 @@ abbrev pub on_host : Result ℕ HostFault → (ℕ → Outcome) → Outcome
 on_host (Ok host) say = say host
 on_host (Err f) say = refused (host_line f) 5
 
--- the provider that a host names; without a host none is named
-abbrev pub host_found : List Provider → Option (List ℕ) → Result ℕ HostFault
-host_found all host = host_of all (unwrap_or host [])
-
-abbrev pub why_rows : List Provider → Option (List ℕ) → Says
-why_rows all host asked ids = on_host (host_found all host) (λ host. why_not all asked host)
+abbrev pub why_rows : List Provider → List ℕ → Says
+why_rows all host asked ids = on_host (host_of all host) (λ host. why_not all asked host)
 
 -- what is said, unless the token is refused
 abbrev pub past_token : Says → Option (List ℕ) → Asked → Outcome
 past_token say token asked = told (token_refusal asked token) (λ f. refused (token_line f) 5) (say asked (ids_given token))
 
--- what is said, unless the query or the token is refused
-abbrev pub past_query : Says → Task → Outcome
-past_query say task =
-    told (query_fault task.version task.query) (λ f. refused (query_line f) 4) (past_token say task.token (asked_by task.version (pairs_of task.query)))
+-- what is said of a query, as a version reads it, and of a token, unless one of them is refused
+abbrev pub past_query : Says → Option (List ℕ) → Version → List ℕ → Outcome
+past_query say token version query =
+    told (query_fault version query) (λ f. refused (query_line f) 4) (past_token say token (asked_by version (pairs_of query)))
 
--- the answer of a command in a world
-abbrev pub answer_in : Command → Task → World → Outcome
-answer_in command.Check task world = written (counts world.sizes) 0
-answer_in command.Candidates task world = past_query (page_body world.providers task.traits) task
-answer_in command.Tokens task world = past_query (page_lines world.providers) task
-answer_in command.Fill task world = past_query (fills world.providers task.sum) task
-answer_in command.List task world = past_query (page_rows world.providers task.traits) task
-answer_in command.Verify task world = past_query (verdict_line world.providers task.detail) task
-answer_in command.Explain task world = past_query (explanation world.providers) task
-answer_in command.Hosts task world = past_query (host_rows world.providers) task
-answer_in command.Why task world = past_query (why_rows world.providers task.host) task
+-- the answer of a command in a world, with more told or not
+abbrev pub answer_by : Command → Bool → Version → List ℕ → World → Outcome
+answer_by check detail version query world = written (counts world.sizes) 0
+answer_by (candidates after traits) detail version query world = past_query (page_body world.providers traits) after version query
+answer_by (tokens after) detail version query world = past_query (page_lines world.providers) after version query
+answer_by (list after traits) detail version query world = past_query (page_rows world.providers traits) after version query
+answer_by (fill sum) detail version query world = past_query (fills world.providers sum) None version query
+answer_by (verify token) detail version query world = past_query (verdict_line world.providers detail) (Some token) version query
+answer_by explain detail version query world = past_query (explanation world.providers) None version query
+answer_by hosts detail version query world = past_query (host_rows world.providers) None version query
+answer_by (why host) detail version query world = past_query (why_rows world.providers host) None version query
+
+-- the answer to a task in a world
+abbrev pub answer_in : Task → World → Outcome
+answer_in task world = answer_by task.command (is_some task.detail) task.version task.query world
 
 abbrev pub table_refused : TableFault → Outcome
 table_refused (fault.At t row kind) = refused (record_line t row kind) 3
@@ -162,18 +146,23 @@ table_refused fault.NoMemory = refused memory_line 7
 
 -- the answer over the records of five tables
 unfoldable pub answer_over : Task → Tables → Outcome
-answer_over task tables = told (tables_fault tables) table_refused (answer_in task.command task (world_stated tables))
+answer_over task tables = told (tables_fault tables) table_refused (answer_in task (world_stated tables))
 
--- the records of five tables; one that isn't there is its header alone
-abbrev pub tables_in : Bytes → Tables
-tables_in b = record {
-  providers = records_of b.providers;
-  inventories = records_of b.inventories;
-  usages = records_or_header usage_columns b.usages;
-  traits = records_or_header trait_columns b.traits;
-  aggregates = records_or_header aggregate_columns b.aggregates;
-}
+-- the answer to a task over the bytes of five tables, without what is to be done about a refusal
+unfoldable pub short_answer : Task → Bytes → Outcome
+short_answer task b = told (too_large b) (λ t. refused (too_large_line t) 3) (answer_over task (tables_in b))
+
+-- ---- with what is to be done about a refusal
+
+-- a refusal, which has a status above 2, with this text behind its line; any other outcome as it is
+abbrev pub with_detail : List ℕ → Outcome → Outcome
+with_detail text o = if nat_lt 2 o.status then record o { line = o.line ++ text } else o
+
+-- where more is told, with the text that is said so
+abbrev pub in_detail : Option Paths → (Paths → List ℕ) → Outcome → Outcome
+in_detail None said o = o
+in_detail (Some paths) said o = with_detail (said paths) o
 
 -- the answer to a task over the bytes of five tables
 unfoldable pub answer : Task → Bytes → Outcome
-answer task b = told (too_large b) (λ t. refused (too_large_line t) 3) (answer_over task (tables_in b))
+answer task b = in_detail task.detail (λ paths. detail_of paths task b) (short_answer task b)

@@ -6,9 +6,9 @@ use ac_cloud::HostFault;
 use ac_query::{QueryFault, TokenFault};
 use ac_tables::{Table, TableKind};
 
-/// Why there is no answer.
+/// Why the tables are no cloud.
 #[derive(Debug, Drop)]
-pub enum Refusal {
+pub enum TablesRefusal {
     /// The bytes of a table can't be had.
     Unreadable(Table),
     /// A table has more bytes than it may.
@@ -19,12 +19,28 @@ pub enum Refusal {
         row: u32,
         kind: TableKind,
     },
+    /// A growth was refused.
+    NoMemory,
+}
+
+/// Why what is asked of a cloud has no answer.
+#[derive(Debug, Drop)]
+pub enum AskRefusal {
     /// What is wrong with the query.
     Query(QueryFault),
     /// What is wrong with the token.
     Token(TokenFault),
     /// Why no provider is named.
     Host(HostFault),
+    /// A growth was refused.
+    NoMemory,
+}
+
+/// Why there is no answer.
+#[derive(Debug, Drop)]
+pub enum Refusal {
+    Tables(TablesRefusal),
+    Asked(AskRefusal),
     /// The output can't be written.
     Output,
     /// A growth was refused.
