@@ -1,5 +1,5 @@
 -- What a run answers: its output, its line on the error sink, and its status.
-use Rattle.std.specs.Prelude.{ℕ, Bool, true, false, List, [], codes, Option, Some, None, Result, Ok, Err}
+use Rattle.std.specs.Prelude.{ℕ, Bool, true, false, List, [], ◌++◌, codes, is_some, nat_lt, Option, Some, None, Result, Ok, Err, if◌then◌else◌}
 use Rattle.std.specs.Option.{option_and_then, unwrap_or}
 use Rattle.ac_tables.specs.Tables.Rows.{records_of}
 use Rattle.ac_tables.specs.Tables.AggregateTable.{aggregate_columns}
@@ -35,8 +35,9 @@ use Rattle.ac_answers.specs.WhyRows.{root_place, why_status, why_text}
 use Rattle.ac_run.specs.Feeds.{Bytes, too_large}
 use Rattle.ac_run.specs.Lines.{too_large_line, record_line, query_line, token_line, host_line, memory_line}
 use Rattle.ac_run.specs.Details.{detail_of}
-use Rattle.ac_run.specs.Tables.{tables_in}
-use Rattle.ac_run.specs.Tasks.{Command, Paths, Task, candidates, check, explain, fill, hosts, list, tokens, verify, why}
+use Rattle.ac_run.specs.Given.{tables_in, token_refusal}
+use Rattle.ac_run.specs.Tasks.{Command, Paths, Task}
+use Rattle.ac_run.specs.Tasks as command
 
 -- what is answered
 pub record Outcome : Type 0 where
@@ -126,15 +127,15 @@ past_query say token version query =
 
 -- the answer of a command in a world, with more told or not
 abbrev pub answer_by : Command → Bool → Version → List ℕ → World → Outcome
-answer_by check detail version query world = written (counts world.sizes) 0
-answer_by (candidates after traits) detail version query world = past_query (page_body world.providers traits) after version query
-answer_by (tokens after) detail version query world = past_query (page_lines world.providers) after version query
-answer_by (list after traits) detail version query world = past_query (page_rows world.providers traits) after version query
-answer_by (fill sum) detail version query world = past_query (fills world.providers sum) None version query
-answer_by (verify token) detail version query world = past_query (verdict_line world.providers detail) (Some token) version query
-answer_by explain detail version query world = past_query (explanation world.providers) None version query
-answer_by hosts detail version query world = past_query (host_rows world.providers) None version query
-answer_by (why host) detail version query world = past_query (why_rows world.providers host) None version query
+answer_by command.check detail version query world = written (counts world.sizes) 0
+answer_by (command.candidates after traits) detail version query world = past_query (page_body world.providers traits) after version query
+answer_by (command.tokens after) detail version query world = past_query (page_lines world.providers) after version query
+answer_by (command.list after traits) detail version query world = past_query (page_rows world.providers traits) after version query
+answer_by (command.fill sum) detail version query world = past_query (fills world.providers sum) None version query
+answer_by (command.verify token) detail version query world = past_query (verdict_line world.providers detail) (Some token) version query
+answer_by command.explain detail version query world = past_query (explanation world.providers) None version query
+answer_by command.hosts detail version query world = past_query (host_rows world.providers) None version query
+answer_by (command.why host) detail version query world = past_query (why_rows world.providers host) None version query
 
 -- the answer to a task in a world
 abbrev pub answer_in : Task → World → Outcome

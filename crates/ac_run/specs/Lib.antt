@@ -9,4 +9,5 @@ pub mod Wanted
 pub mod Outputs
 pub mod Answer
 pub mod Run
+pub mod Refused
 pub mod Laws

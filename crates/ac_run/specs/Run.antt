@@ -45,10 +45,10 @@ ExplainsTables first (tables.Record t row k) = first ≡ Some (fault.At t row k)
 ExplainsTables first tables.NoMemory = ⊤
 ExplainsTables first _ = ⊥
 
--- what stands behind the line of a table that can't be read, where more is told
-abbrev pub unread_detail : Option Paths → Table → List ℕ
-unread_detail None t = []
-unread_detail (Some paths) t = unread_text paths t
+-- the line of a table that can't be read, with what stands behind it where more is told
+abbrev pub unread_line : Option Paths → Table → List ℕ
+unread_line None t = unreadable_line t
+unread_line (Some paths) t = unreadable_line t ++ unread_text paths t
 
 -- the tables of these bytes are few enough and have no fault, and they state this world
 pub record IsStated (b : Bytes) (world : World) : Type 0 where
@@ -64,18 +64,12 @@ ExplainsInputs remaining failures from to (tables.Record t row k) =
     (b : Bytes) → TellBytes remaining from b → (too_large b ≡ None) × (tables_fault (tables_in b) ≡ Some (fault.At t row k))
 ExplainsInputs remaining failures from to tables.NoMemory = ⊤
 
--- the answer to a task is this refusal, with this text behind its line
-abbrev pub IsTheAnswer : {R : Type 0} → (R → Option (List ℕ)) → Task → FiveTables R → Refusal → List ℕ → Type 0
-IsTheAnswer remaining task from refusal text = (b : Bytes) → TellBytes remaining from b → answer task b ≡ refused (line_of refusal ++ text) (status_of refusal)
-
--- why a run ended before its output, and what stands behind that line: a feed failed, or the answer is this very refusal; or memory gave out
-abbrev pub ExplainsUnready : {R : Type 0} → (R → Option (List ℕ)) → (R → ℕ) → Task → FiveTables R → FiveTables R → Refusal → List ℕ → Type 0
-ExplainsUnready remaining failures task from to (why.Tables (tables.Unreadable t)) text = FeedRose failures from to t × (text ≡ unread_detail task.detail t)
-ExplainsUnready remaining failures task from to (why.Tables tables.NoMemory) text = text ≡ []
-ExplainsUnready remaining failures task from to (why.Asked ask.NoMemory) text = text ≡ []
-ExplainsUnready remaining failures task from to why.NoMemory text = text ≡ []
-ExplainsUnready remaining failures task from to why.Output text = ⊥
-ExplainsUnready remaining failures task from to refusal text = IsTheAnswer remaining task from refusal text
+-- Why a run ended before its output, by the line that tells it and its status: a feed failed, the answer is this very refusal, or memory gave out.
+abbrev pub ExplainsUnready : {R : Type 0} → (R → Option (List ℕ)) → (R → ℕ) → Task → FiveTables R → FiveTables R → List ℕ → ℕ → Type 0
+ExplainsUnready remaining failures task from to line status =
+    ((t : Table) × FeedRose failures from to t × (line ≡ unread_line task.detail t) × (status ≡ 3))
+    ⊎ (((3 ≤ status) × (status ≤ 5) × ((b : Bytes) → TellBytes remaining from b → answer task b ≡ refused line status))
+    ⊎ ((line ≡ memory_line) × (status ≡ 7)))
 
 -- The answer was given whole: its output, its line and its status.
 pub record IsAnswered (outcome : Outcome) (out_old out_new err_old err_new : Option (List ℕ)) (given : ℕ) : Type 0 where
@@ -92,7 +86,7 @@ pub record IsRefused (outcome : Outcome) (err_old err_new : Option (List ℕ)) (
 -- The feed of a table failed, which the line says, with what stands behind it.
 pub record IsUnread (rose : Type 0) (detail : Option Paths) (table : Table) (err_old err_new : Option (List ℕ)) (before after : ℕ) : Type 0 where
   pub rises : rose
-  pub line : TakesLine err_old err_new before after (unreadable_line table ++ unread_detail detail table)
+  pub line : TakesLine err_old err_new before after (unread_line detail table)
 
 -- the feed of a table failed, or, where none is named, the tables have a fault
 abbrev pub FailsOr : (Table → Type 0) → Type 0 → Option Table → Type 0

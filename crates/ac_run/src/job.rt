@@ -46,7 +46,7 @@ impl<'a> Command<'a> {
 
     /// The token to judge, or to begin after.
     pub fn token(self) -> Option<&'a str>
-        ensures { option_map (λ t. t.now) result ≡ token_in (command_shown self) }
+        ensures { option_map (λ t. t.now) result ≡ token_in (command_shown self.entry) }
     {
         match self {
             Command::Candidates { after, .. } | Command::Tokens { after } | Command::List { after, .. } => {

@@ -5,24 +5,26 @@
 
 mod answering;
 mod asking;
+mod details;
 mod draining;
 mod filling;
-pub mod gathered;
+pub mod job;
 pub mod laws;
 mod outputs;
 mod ready;
 pub mod refusal;
+mod refused;
 pub mod running;
 pub mod telling;
 
-pub use ac_query::{Command, Job};
 pub use answering::write_answer;
 pub use asking::{Wanted, read_asked, read_wanted};
-pub use draining::{Inputs, Texts, read_tables};
+pub use draining::Inputs;
 pub use filling::fill_status;
-pub use gathered::{run_gathered, write_gathered};
+pub use job::{Command, Job, Paths};
 pub use outputs::push_verdict;
-pub use ready::{read_cloud, read_inputs, sources_of};
-pub use refusal::Refusal;
+pub use ready::read_inputs;
+pub use refusal::{AskRefusal, Refusal, TablesRefusal};
+pub use refused::Refused;
 pub use running::run;
-pub use telling::{push_line, status_of, tell};
+pub use telling::{asked_status, push_asked_line, tell};
