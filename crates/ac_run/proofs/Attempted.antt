@@ -3,14 +3,14 @@ use Rattle.std.proofs.Common.{◌≡◌, ◌≢◌, ◌∙◌, ℕ, ◌≤◌, B
 use Rattle.std.proofs.lemmas.Bool.Decides.{nat_tests}
 use Rattle.std.specs.Prelude.{nat_lt}
 use Rattle.ac_cloud.specs.World.{World}
-use Rattle.ac_run.specs.Answer.{Outcome, answer, answer_in, answer_over, in_detail, refused, short_answer, table_refused, with_detail}
-use Rattle.ac_run.specs.Details.{asked_text, detail_of, tables_text}
+use Rattle.ac_run.specs.Answer.{Outcome, in_detail, past_tables, refused, table_refused, with_detail}
+use Rattle.ac_run.specs.Details.{fault_text, size_text}
 use Rattle.ac_run.specs.Draining.{ExplainsReading}
 use Rattle.ac_run.specs.Feeds.{Bytes, TellBytes, too_large}
 use Rattle.ac_run.specs.Given.{tables_in}
 use Rattle.ac_run.specs.Lines.{too_large_line}
 use Rattle.ac_run.specs.Run.{ExplainsInputs, ExplainsTables, IsStated}
-use Rattle.ac_run.specs.Tasks.{Paths, Task}
+use Rattle.ac_run.specs.Tasks.{Paths}
 use Rattle.ac_run.specs.declared.refusal.TablesRefusal.{TablesRefusal}
 use Rattle.ac_run.specs.declared.refusal.TablesRefusal.TheVariants as tables
 use Rattle.ac_tables.specs.Tables.{tables_fault, world_stated}
@@ -33,25 +33,18 @@ refused_in_detail None said line text status high none some = ap (λ l. refused 
 refused_in_detail (Some paths) said line text status high none some =
     (let h : nat_lt 2 status ≡ true = grind (arith, nat_tests) in rw h refl) ∙ ap (λ t. refused (line ++ t) status) (some paths refl)
 
--- ---- the answer, by cases
+-- ---- what is said past the tables
 
-module _ (task : Task) (b : Bytes) where
-  pub too_long : (t : Table) → too_large b ≡ Some t → short_answer task b ≡ refused (too_large_line t) 3
-  unfolding short_answer
+module _ (detail : Option Paths) (b : Bytes) (say : World → Outcome) where
+  too_long : (t : Table) → too_large b ≡ Some t → past_tables detail b say ≡ in_detail detail (λ paths. size_text paths t) (refused (too_large_line t) 3)
   too_long t h = rw h refl
 
-  pub faulty : (f : TableFault) → too_large b ≡ None → tables_fault (tables_in b) ≡ Some f → short_answer task b ≡ table_refused f
-  unfolding short_answer answer_over
+  faulty : (f : TableFault) → too_large b ≡ None → tables_fault (tables_in b) ≡ Some f
+      → past_tables detail b say ≡ in_detail detail (λ paths. fault_text paths (tables_in b) f) (table_refused f)
   faulty f few h = rw (few, h) refl
 
-  pub in_world : (world : World) → IsStated b world → short_answer task b ≡ answer_in task world
-  unfolding short_answer answer_over
-  in_world world stated = rw (stated.few, stated.fine) (ap (answer_in task) (sym stated.states))
-
-  -- what is said of tables that state a world
-  pub said_in_world : (paths : Paths) (world : World) → IsStated b world → detail_of paths task b ≡ asked_text world.providers task
-  unfolding detail_of
-  said_in_world paths world stated = rw (stated.few, stated.fine) (ap (λ (w : World). asked_text w.providers task) (sym stated.states))
+  pub in_world : (world : World) → IsStated b world → past_tables detail b say ≡ say world
+  in_world world stated = rw (stated.few, stated.fine) (ap say (sym stated.states))
 
 -- ---- why there is no world
 

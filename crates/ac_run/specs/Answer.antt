@@ -34,7 +34,7 @@ use Rattle.ac_answers.specs.HostRows.{hosts_status, hosts_text}
 use Rattle.ac_answers.specs.WhyRows.{root_place, why_status, why_text}
 use Rattle.ac_run.specs.Feeds.{Bytes, too_large}
 use Rattle.ac_run.specs.Lines.{too_large_line, record_line, query_line, token_line, host_line, memory_line}
-use Rattle.ac_run.specs.Details.{detail_of}
+use Rattle.ac_run.specs.Details.{asked_text, fault_text, size_text}
 use Rattle.ac_run.specs.Given.{tables_in, token_refusal}
 use Rattle.ac_run.specs.Tasks.{Command, Paths, Task}
 use Rattle.ac_run.specs.Tasks as command
@@ -145,14 +145,6 @@ abbrev pub table_refused : TableFault → Outcome
 table_refused (fault.At t row kind) = refused (record_line t row kind) 3
 table_refused fault.NoMemory = refused memory_line 7
 
--- the answer over the records of five tables
-unfoldable pub answer_over : Task → Tables → Outcome
-answer_over task tables = told (tables_fault tables) table_refused (answer_in task (world_stated tables))
-
--- the answer to a task over the bytes of five tables, without what is to be done about a refusal
-unfoldable pub short_answer : Task → Bytes → Outcome
-short_answer task b = told (too_large b) (λ t. refused (too_large_line t) 3) (answer_over task (tables_in b))
-
 -- ---- with what is to be done about a refusal
 
 -- a refusal, which has a status above 2, with this text behind its line; any other outcome as it is
@@ -164,6 +156,16 @@ abbrev pub in_detail : Option Paths → (Paths → List ℕ) → Outcome → Out
 in_detail None said o = o
 in_detail (Some paths) said o = with_detail (said paths) o
 
+-- what is said of the world that the bytes of five tables state, unless they are refused
+abbrev pub past_tables : Option Paths → Bytes → (World → Outcome) → Outcome
+past_tables detail b say =
+    told (too_large b) (λ t. in_detail detail (λ paths. size_text paths t) (refused (too_large_line t) 3))
+    (told (tables_fault (tables_in b)) (λ f. in_detail detail (λ paths. fault_text paths (tables_in b) f) (table_refused f)) (say (world_stated (tables_in b))))
+
+-- the answer to a task in a world, with what is to be done
+abbrev pub answer_within : Task → World → Outcome
+answer_within task world = in_detail task.detail (λ paths. asked_text world.providers task) (answer_in task world)
+
 -- the answer to a task over the bytes of five tables
 unfoldable pub answer : Task → Bytes → Outcome
-answer task b = in_detail task.detail (λ paths. detail_of paths task b) (short_answer task b)
+answer task b = past_tables task.detail b (answer_within task)

@@ -52,11 +52,6 @@ abbrev pub fault_text : Paths → Tables → TableFault → List ℕ
 fault_text paths tables (fault.At t row kind) = record_remedy (path_in paths t) tables t row kind
 fault_text paths tables fault.NoMemory = []
 
--- of what is wrong with the tables; else this
-abbrev pub tables_text : Paths → Bytes → List ℕ → List ℕ
-tables_text paths b otherwise =
-    text_of (too_large b) (size_text paths) (text_of (tables_fault (tables_in b)) (fault_text paths (tables_in b)) otherwise)
-
 -- ---- of what is asked
 
 abbrev pub host_said : List ℕ → Result ℕ HostFault → List ℕ
@@ -78,10 +73,6 @@ abbrev pub asked_text : List Provider → Task → List ℕ
 asked_text all task =
     text_of (query_fault task.version task.query) (λ f. query_remedy task.version task.query (Some f))
     (token_text all task.command (asked_by task.version (pairs_of task.query)))
-
--- of what is wrong with a task over the bytes of five tables
-unfoldable pub detail_of : Paths → Task → Bytes → List ℕ
-detail_of paths task b = tables_text paths b (asked_text (world_stated (tables_in b)).providers task)
 
 -- ---- of a refusal
 

@@ -1,13 +1,10 @@
 -- What is told where a run has no answer.
-use Rattle.std.specs.Prelude.{◌≡◌, ℕ, List, [], ◌++◌, Option, Result, Ok, Err}
+use Rattle.std.specs.Prelude.{◌≡◌, ℕ, List, [], ◌++◌, Result, Ok, Err}
 use Rattle.std.specs.Global.{Vec}
 use Rattle.ac_run.specs.Refusals.{line_of, status_of}
-use Rattle.ac_run.specs.Run.{ExplainsUnready}
-use Rattle.ac_run.specs.Tasks.{Task}
 use Rattle.ac_run.specs.declared.refusal.Refusal.{Refusal}
 use Rattle.ac_run.specs.declared.refusal.Refusal.TheVariants as why
 use Rattle.ac_run.specs.declared.refused.Refused.{Refused}
-use Rattle.ac_tables.specs.declared.read.FiveTables.{FiveTables}
 
 -- the line of a refusal, with what stands behind it
 abbrev pub line_told : Refused → List ℕ
@@ -20,7 +17,3 @@ status_told told = status_of told.refusal
 abbrev pub IsRefusalWith : {F : Type 0} → Refusal → Result (Vec ℕ) F → Refused → Type 0
 IsRefusalWith refusal (Ok text) told = (told.refusal ≡ refusal) × (told.detail ≡ text)
 IsRefusalWith refusal (Err e) told = (told.refusal ≡ why.NoMemory) × (told.detail.items ≡ [])
-
--- why there is no answer to a task: a feed failed, or the answer is what is told; or memory gave out
-abbrev pub ExplainsRefused : {R : Type 0} → (R → Option (List ℕ)) → (R → ℕ) → Task → FiveTables R → FiveTables R → Refused → Type 0
-ExplainsRefused remaining failures task from to told = ExplainsUnready remaining failures task from to (line_told told) (status_told told)

@@ -1,5 +1,5 @@
 -- What is known after each part of a run.
-use Rattle.std.specs.Prelude.{◌≡◌, ◌≤◌, ℕ, List, [], ◌++◌, Option, Some, None, Result, Err, IfOk, OnErr, ⊤}
+use Rattle.std.specs.Prelude.{◌≡◌, ◌⊎◌, ◌≤◌, ℕ, List, [], ◌++◌, Option, Some, None, Result, Err, IfOk, OnErr, ⊤}
 use Rattle.std.specs.Io.KnownBytes.{Appends}
 use Rattle.ac_base.specs.Devices.{Rises, TakesPart}
 use Rattle.ac_report.specs.declared.fault.PageFault.{PageFault}
@@ -9,12 +9,12 @@ use Rattle.ac_tables.specs.declared.fault.TableFault.{TableFault}
 use Rattle.ac_tables.specs.declared.fault.TableFault.TheVariants as fault
 use Rattle.ac_tables.specs.Tables.{tables_fault, world_stated}
 use Rattle.ac_cloud.specs.World.{World}
-use Rattle.ac_run.specs.Answer.{Outcome, answer, refused}
+use Rattle.ac_run.specs.Answer.{Outcome, refused}
 use Rattle.ac_run.specs.Details.{unread_text}
 use Rattle.ac_run.specs.Given.{tables_in}
 use Rattle.ac_run.specs.Tasks.{Paths, Task}
 use Rattle.ac_run.specs.Feeds.{Bytes, TellBytes, FeedRose, too_large}
-use Rattle.ac_run.specs.Lines.{unreadable_line}
+use Rattle.ac_run.specs.Lines.{memory_line, unreadable_line}
 use Rattle.ac_run.specs.Refusals.{line_of, status_of}
 use Rattle.ac_answers.specs.Writing.{TakesLine}
 use Rattle.ac_tables.specs.declared.read.FiveTables.{FiveTables}
@@ -64,11 +64,12 @@ ExplainsInputs remaining failures from to (tables.Record t row k) =
     (b : Bytes) → TellBytes remaining from b → (too_large b ≡ None) × (tables_fault (tables_in b) ≡ Some (fault.At t row k))
 ExplainsInputs remaining failures from to tables.NoMemory = ⊤
 
--- Why a run ended before its output, by the line that tells it and its status: a feed failed, the answer is this very refusal, or memory gave out.
-abbrev pub ExplainsUnready : {R : Type 0} → (R → Option (List ℕ)) → (R → ℕ) → Task → FiveTables R → FiveTables R → List ℕ → ℕ → Type 0
-ExplainsUnready remaining failures task from to line status =
-    ((t : Table) × FeedRose failures from to t × (line ≡ unread_line task.detail t) × (status ≡ 3))
-    ⊎ (((3 ≤ status) × (status ≤ 5) × ((b : Bytes) → TellBytes remaining from b → answer task b ≡ refused line status))
+-- Why nothing was answered, by the line that tells it and its status, where this is said of bytes: a feed failed, what is said is this very refusal, or memory
+-- gave out.
+abbrev pub Explains : {R : Type 0} → (R → Option (List ℕ)) → (R → ℕ) → Option Paths → (Bytes → Outcome) → FiveTables R → FiveTables R → List ℕ → ℕ → Type 0
+Explains remaining failures detail said from to line status =
+    ((t : Table) × FeedRose failures from to t × (line ≡ unread_line detail t) × (status ≡ 3))
+    ⊎ (((3 ≤ status) × (status ≤ 5) × ((b : Bytes) → TellBytes remaining from b → said b ≡ refused line status))
     ⊎ ((line ≡ memory_line) × (status ≡ 7)))
 
 -- The answer was given whole: its output, its line and its status.

@@ -11,6 +11,7 @@ use Rattle.ac_query.specs.Pairs.{pairs_of}
 use Rattle.ac_query.specs.Shown.Faults.{fault_shown}
 use Rattle.ac_query.specs.Shown.Queries.{asked_of}
 use Rattle.ac_query.specs.Tokens.{ids_of}
+use Rattle.ac_query.specs.declared.token.TokenFault.{TokenFault}
 use Rattle.ac_query.specs.declared.version.Version.{Version}
 use Rattle.ac_run.specs.Answer.{Outcome, answer_in, explanation, fills, host_rows, page_body, page_lines, page_rows, refused, verdict_line, why_not, written}
 use Rattle.ac_run.specs.Details.{asked_remedy, asked_text}
@@ -51,6 +52,12 @@ HasHost all (wanted.Why query host) = host < length all
 HasHost all _ = ⊤
 
 -- ---- why what is asked is refused
+
+-- what is wrong with a token, or want of memory
+abbrev pub ExplainsToken : Option TokenFault → AskRefusal → Type 0
+ExplainsToken fault (ask.Token f) = fault ≡ Some f
+ExplainsToken fault ask.NoMemory = ⊤
+ExplainsToken fault _ = ⊥
 
 -- what is wrong with a query, and else with a token; or memory gave out
 abbrev pub ExplainsAsked : Version → List ℕ → Option (List ℕ) → AskRefusal → Type 0

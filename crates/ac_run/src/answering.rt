@@ -9,7 +9,7 @@ ghost use Rattle.ac_query.specs.Asked.{slots_of};
 ghost use Rattle.ac_query.specs.Shown.Queries.{asked_of};
 ghost use Rattle.ac_query.specs.Tokens.{ids_of};
 ghost use Rattle.ac_run.specs.Answer.{explanation, host_rows, page_body, page_lines, page_rows, verdict_line, verdict_on, why_not, written};
-ghost use Rattle.ac_run.specs.Asking.{AsksUnits, HasHost, HasIdForEachSlot, answer_to};
+ghost use Rattle.ac_run.specs.Wanted.{AsksUnits, HasHost, HasIdForEachSlot, answer_to};
 ghost use Rattle.ac_run.specs.Outputs.{counts, detailed_text, verdict_status, verdict_text};
 ghost use Rattle.ac_report.specs.declared.fault.PageFault.TheVariants as PageFault;
 ghost use Rattle.ac_rules.specs.declared.verdict.Verdict.TheVariants as Verdict;

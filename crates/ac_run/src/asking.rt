@@ -11,16 +11,19 @@ ghost use Rattle.ac_query.specs.Tokens.{ids_of};
 ghost use Rattle.ac_cloud.specs.Cloud.CloudWorld.{providers_of, world_of};
 ghost use Rattle.ac_fill.specs.Filled.{asks_units};
 ghost use Rattle.ac_run.specs.Answer.{Says, answer_in, ids_given, past_query};
+ghost use Rattle.ac_cloud.specs.Cloud.Hosts.{host_of};
+ghost use Rattle.ac_cloud.specs.declared.cloud.naming.HostFault.{HostFault};
 ghost use Rattle.ac_run.specs.Given.{token_refusal};
-ghost use Rattle.ac_run.specs.Wanted.{AsksUnits, ExplainsAsked, ExplainsWanted, HasHost, HasIdForEachSlot, answer_to};
+ghost use Rattle.ac_run.specs.declared.refusal.AskRefusal.TheVariants as AskRefusal;
+ghost use Rattle.ac_run.specs.Wanted.{AsksUnits, ExplainsAsked, ExplainsToken, ExplainsWanted, HasHost, HasIdForEachSlot, answer_to};
 ghost use Rattle.ac_run.specs.Tasks.{command_shown, task_of, token_in};
 
 use crate::job::{Command, Job};
 use crate::refusal::AskRefusal;
 use ac_answers::Question;
 use ac_base::NoMemory;
-use ac_query::{Query, QueryFault, Token, TokenFault, Version};
 use ac_cloud::Cloud;
+use ac_query::{Query, QueryFault, Token, TokenFault, Version};
 use std::alloc::Global;
 
 /// What a job wants of a cloud, its query and its token read, and its host found.
@@ -127,8 +130,7 @@ fn wanted_of(
     cloud: &Cloud,
     query: Query,
     token: Option<Token>,
-) -> Result<Wanted, AskRefusal>
-{
+) -> Result<Wanted, AskRefusal> {
     match job.command {
         Command::Check => Ok(Wanted::Counts),
         Command::Candidates { traits, .. } => Ok(Wanted::Body(query, token, traits)),

@@ -1,6 +1,5 @@
 //! What stands behind the line of a refusal where more is told: what is to be done.
 ghost use Rattle.std.specs.Prelude.{◌≡◌, ◌≢◌, [], IfOk, None, option_map};
-ghost use Rattle.ac_run.specs.Answer.{in_paths};
 ghost use Rattle.ac_run.specs.Details.{asked_remedy, path_in, tables_remedy};
 ghost use Rattle.ac_run.specs.Draining.{texts_shown};
 ghost use Rattle.ac_run.specs.Feeds.{too_large};
@@ -12,7 +11,9 @@ use crate::job::{Command, Job, Paths};
 use crate::ready::sources_of;
 use crate::refusal::{AskRefusal, TablesRefusal};
 use ac_query::{Query, TokenFault};
-use ac_remedies::{host_remedy, query_remedy, record_remedy, size_remedy, token_remedy, unread_remedy};
+use ac_remedies::{
+    host_remedy, query_remedy, record_remedy, size_remedy, token_remedy, unread_remedy,
+};
 use ac_tables::Table;
 use std::alloc::{AllocError, Global};
 
@@ -34,8 +35,7 @@ pub(crate) fn unread_detail(
     alloc: Global,
     paths: Option<&Paths>,
     refusal: &TablesRefusal,
-) -> Result<Vec<u8>, AllocError>
-{
+) -> Result<Vec<u8>, AllocError> {
     match (paths, refusal) {
         (Some(paths), TablesRefusal::Unreadable(table)) => {
             unread_remedy(alloc, path_of(paths, *table), None)
@@ -68,8 +68,7 @@ pub(crate) fn record_detail(
 }
 
 // Of a token, whose query is read again, for its slots.
-fn token_detail(alloc: Global, job: &Job, fault: TokenFault) -> Result<Vec<u8>, AllocError>
-{
+fn token_detail(alloc: Global, job: &Job, fault: TokenFault) -> Result<Vec<u8>, AllocError> {
     match Query::read(alloc, job.query, job.version) {
         Ok(query) => token_remedy(alloc, job.command.token().unwrap_or(""), &query, fault),
         Err(_) => Err(AllocError),
@@ -77,8 +76,7 @@ fn token_detail(alloc: Global, job: &Job, fault: TokenFault) -> Result<Vec<u8>, 
 }
 
 // The host that a command asks about.
-fn host_of<'a>(command: Command<'a>) -> &'a str
-{
+fn host_of<'a>(command: Command<'a>) -> &'a str {
     match command {
         Command::Why { host } => host,
         _ => "",
@@ -90,8 +88,7 @@ pub(crate) fn asked_detail(
     alloc: Global,
     job: &Job,
     refusal: &AskRefusal,
-) -> Result<Vec<u8>, AllocError>
-{
+) -> Result<Vec<u8>, AllocError> {
     if job.detail.is_none() {
         return Ok(Vec::new(alloc));
     }

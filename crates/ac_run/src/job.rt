@@ -11,21 +11,35 @@ pub enum Command<'a> {
     /// Checks the tables, and writes the size of each.
     Check,
     /// Writes the candidates after a token, or all, as JSON with summaries of their providers; with or without traits.
-    Candidates { after: Option<&'a str>, traits: bool },
+    Candidates {
+        after: Option<&'a str>,
+        traits: bool,
+    },
     /// Writes each candidate after a token, or all, as a token, one a line.
-    Tokens { after: Option<&'a str> },
+    Tokens {
+        after: Option<&'a str>,
+    },
     /// Writes a row for each provider of each candidate after a token, or of all, as a table; with or without traits.
-    List { after: Option<&'a str>, traits: bool },
+    List {
+        after: Option<&'a str>,
+        traits: bool,
+    },
     /// Places again and again, each time at the first candidate that is left, and writes each placement as a token, or how many there are.
-    Fill { sum: bool },
+    Fill {
+        sum: bool,
+    },
     /// Writes whether a token is a candidate.
-    Verify { token: &'a str },
+    Verify {
+        token: &'a str,
+    },
     /// Writes how many providers and roots come how far, and whether there is a candidate.
     Explain,
     /// Writes at which roots candidates stand, and what the others lack.
     Hosts,
     /// Writes how far each provider of a host comes, and what it lacks. A host is a provider's UUID, or a name that no other provider has.
-    Why { host: &'a str },
+    Why {
+        host: &'a str,
+    },
 }
 
 /// What is to be done, for which query.
@@ -49,9 +63,9 @@ impl<'a> Command<'a> {
         ensures { option_map (λ t. t.now) result ≡ token_in (command_shown self.entry) }
     {
         match self {
-            Command::Candidates { after, .. } | Command::Tokens { after } | Command::List { after, .. } => {
-                after
-            }
+            Command::Candidates { after, .. }
+            | Command::Tokens { after }
+            | Command::List { after, .. } => { after }
             Command::Verify { token } => Some(token),
             _ => None,
         }

@@ -3,19 +3,20 @@ ghost use Rattle.std.specs.Prelude.{◌≡◌, IfOk, IfErr, OnOk, None};
 ghost use Rattle.std.specs.Option.{option_map};
 ghost use Rattle.ac_tables.specs.Source.{AreFew, tables_of};
 ghost use Rattle.ac_tables.specs.Tables.{tables_fault, world_stated};
+ghost use Rattle.ac_cloud.specs.World.{World};
 ghost use Rattle.ac_cloud.specs.Cloud.CloudWorld.{providers_of, world_of};
-ghost use Rattle.ac_run.specs.Answer.{answer};
+ghost use Rattle.ac_run.specs.Answer.{Outcome, answer, past_tables};
 ghost use Rattle.ac_run.specs.Given.{tables_in};
 ghost use Rattle.ac_run.specs.Wanted.{AsksUnits, HasHost, HasIdForEachSlot, answer_to};
 ghost use Rattle.ac_run.specs.Draining.{texts_shown};
 ghost use Rattle.ac_run.specs.Feeds.{Bytes, TellBytes, too_large};
-ghost use Rattle.ac_run.specs.Tasks.{task_of};
-ghost use Rattle.ac_run.specs.Refused.{ExplainsRefused, HasTablesText};
-ghost use Rattle.ac_run.specs.Run.{ExplainsTables, IsStated};
+ghost use Rattle.ac_run.specs.Tasks.{paths_shown, task_of};
+ghost use Rattle.ac_run.specs.Refused.{line_told, status_told};
+ghost use Rattle.ac_run.specs.Run.{Explains, ExplainsTables, IsStated};
 
 use crate::asking::{Wanted, read_wanted};
-use crate::draining::{Inputs, Texts, read_tables};
 use crate::details::{asked_detail, record_detail, unread_detail};
+use crate::draining::{Inputs, Texts, read_tables};
 use crate::job::{Job, Paths};
 use crate::refusal::{Refusal, TablesRefusal};
 use crate::refused::Refused;
@@ -79,8 +80,10 @@ pub fn read_inputs<R: Feed>(
 ) -> Result<Cloud, Refused>
     ensures stated { IfOk result (λ cloud. (b : Bytes) → TellBytes R.remaining inputs.old b
         → IsStated b (world_of cloud)) }
-    ensures fault { IfErr result (HasTablesText R.remaining R.failures
-        (option_map (λ p. paths_shown p.now) detail.entry) inputs.old inputs.new) }
+    ensures fault { IfErr result (λ told. (say : World → Outcome) → Explains R.remaining R.failures
+        (option_map (λ p. paths_shown p.now) detail.entry)
+        (λ b. past_tables (option_map (λ p. paths_shown p.now) detail.entry) b say)
+        inputs.old inputs.new (line_told told) (status_told told)) }
 {
     let texts = match read_tables(alloc, inputs) {
         Ok(texts) => texts,
@@ -109,8 +112,8 @@ pub(crate) fn make_ready<R: Feed>(
     ensures slots { IfOk result (λ ready. HasIdForEachSlot ready.wanted) }
     ensures host { IfOk result (λ ready. HasHost (providers_of ready.cloud) ready.wanted) }
     ensures units { IfOk result (λ ready. AsksUnits ready.wanted) }
-    ensures fault { IfErr result (ExplainsRefused R.remaining R.failures (task_of job.now)
-        inputs.old inputs.new) }
+    ensures fault { IfErr result (λ told. Explains R.remaining R.failures (task_of job.now).detail
+        (answer (task_of job.now)) inputs.old inputs.new (line_told told) (status_told told)) }
 {
     let cloud = read_inputs(alloc, job.detail, inputs)?;
     match read_wanted(alloc, job, &cloud) {

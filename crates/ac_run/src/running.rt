@@ -1,5 +1,5 @@
 //! A run: from feeds and a job to sinks and a status.
-ghost use Rattle.std.specs.Prelude.{◌≡◌, ◌≢◌, ◌≤◌, Option, option_map, ◌∷◌, [], Contains};
+ghost use Rattle.std.specs.Prelude.{◌≡◌, ◌≢◌, ◌≤◌, IfOk, Option, ◌∷◌, [], Contains};
 ghost use Rattle.std.specs.Io.KnownBytes.{Keeps};
 ghost use Rattle.ac_base.specs.Devices.{Rises, TakesPart};
 ghost use Rattle.ac_tables.specs.declared.fault.Table.{Table};
@@ -28,12 +28,24 @@ fn answer_job<R: Feed, W: Sink>(
     inputs: &mut Inputs<R>,
     out: &mut W,
 ) -> Result<u8, Refused>
+    ensures few { IfOk result (λ status. status ≤ 1) }
+    ensures ok { IfOk result (λ status. (b : Bytes) → TellBytes R.remaining inputs.old b
+        → IsWritten (answer (task_of job.now) b) (W.taken out.old) (W.taken out.new) status) }
+    ensures failures { W.failures out.old ≤ W.failures out.new }
 {
     let ready = make_ready(alloc, job, inputs)?;
     match write_answer(alloc, &ready.cloud, &ready.wanted, out) {
         Ok(status) => Ok(status),
-        Err(PageFault::WriteFailed) => Err(Refused::new(alloc, Refusal::Output, Ok(Vec::new(alloc)))),
-        Err(PageFault::NoMemory) => Err(Refused::new(alloc, Refusal::NoMemory, Ok(Vec::new(alloc)))),
+        Err(PageFault::WriteFailed) => Err(Refused::new(
+            alloc,
+            Refusal::Output,
+            Ok(Vec::new(alloc)),
+        )),
+        Err(PageFault::NoMemory) => Err(Refused::new(
+            alloc,
+            Refusal::NoMemory,
+            Ok(Vec::new(alloc)),
+        )),
     }
 }
 

@@ -5,8 +5,8 @@ ghost use Rattle.ac_run.specs.Lines.{pair_line, group_line, record_line};
 ghost use Rattle.ac_run.specs.Refusals.{line_of, line_of_asked, line_of_query, line_of_tables, status_of, status_of_asked};
 ghost use Rattle.ac_answers.specs.Writing.{Pushes, TakesLine};
 
-use crate::refused::Refused;
 use crate::refusal::{AskRefusal, Refusal, TablesRefusal, kind_name, table_name};
+use crate::refused::Refused;
 use ac_answers::{Digits, push_pieces};
 use ac_base::{Sink, WriteFailed, push_all};
 use ac_cloud::HostFault;
