@@ -2,13 +2,13 @@
 //! at, a row for the root, and what `hosts` says of it.
 ghost use Rattle.std.specs.Prelude.{◌≡◌, ◌+◌, ◌&&◌, ◌++◌, ◌∷◌, ◌<◌, ◌≤◌, ℕ, List, [], IfOk, length, map, string_bytes};
 ghost use Rattle.std.specs.List.{list_any};
+ghost use Rattle.ac_cloud.specs.Providers.{provider_of};
 ghost use Rattle.ac_cloud.specs.World.{is_available_at, provider_at};
 ghost use Rattle.ac_cloud.specs.Cloud.CloudWorld.{providers_of};
 ghost use Rattle.ac_query.specs.Asked.{slots_of};
 ghost use Rattle.ac_query.specs.Shown.Groups.{need_entry};
 ghost use Rattle.ac_query.specs.Shown.Queries.{asked_of};
 ghost use Rattle.ac_report.specs.Rows.{HasRows};
-ghost use Rattle.ac_rules.specs.Placed.{slot_at};
 ghost use Rattle.ac_rules.specs.Shown.Assignments.{placed_of};
 ghost use Rattle.ac_search.specs.Hosts.{fits_at};
 ghost use Rattle.ac_search.specs.Lacking.{lack_at};
@@ -18,6 +18,7 @@ ghost use Rattle.ac_answers.specs.WhyRows.{detail_of, fits_shown, has_a_class, h
 use crate::lacks::{lack_name, slot_digits, stage_name};
 use crate::pieces::digits::Digits;
 use ac_base::NoMemory;
+use ac_cloud::{Cloud, Provider};
 use ac_explain::details::{
     aggregates_detail, room_detail, root_detail, traits_detail, tree_detail, units_detail,
 };
@@ -25,9 +26,8 @@ use ac_query::{Need, Query};
 use ac_report::{begin_rows, end_rows, shown_name, suffix_text, write_row};
 use ac_rules::Placed;
 use ac_rules::rules::anchor::takes_root;
-use ac_rules::slots::{count_slots, group_at, needs_at};
+use ac_rules::slots::count_slots;
 use ac_search::{Lack, Stage, find_lacks, first_failed, fitting_roots};
-use ac_tables::Cloud;
 use csv::Writer;
 use std::alloc::Global;
 
@@ -104,7 +104,7 @@ fn write_placed(alloc: Global, rows: &mut Writer<Vec<u8>>, placed: &Placed) -> R
         placed.cloud,
         placed.provider,
         Digits::of(placed.slot as u32 + 1).as_bytes(),
-        suffix_text(group_at(placed.query, placed.slot)).as_bytes(),
+        suffix_text(placed.group()).as_bytes(),
         stage_shown(failed),
         detail.as_bytes(),
     )
@@ -112,43 +112,37 @@ fn write_placed(alloc: Global, rows: &mut Writer<Vec<u8>>, placed: &Placed) -> R
 
 // Whether a provider has an inventory of a class.
 #[tactic(auto, unfolding(crate::specs::WhyRows::has_inventory))]
-fn has_inventory(cloud: &Cloud, ix: u32, need: &Need) -> bool
-    requires { ix < length (providers_of cloud.now) }
-    ensures { result ≡ has_inventory (provider_at (providers_of cloud.now) ix)
-        (need_entry need.now).0 }
+fn has_inventory(provider: &Provider, need: &Need) -> bool
+    ensures { result ≡ has_inventory (provider_of provider.now) (need_entry need.now).0 }
 {
-    cloud.inventory(ix, need.class()).is_some()
+    provider.inventory(need.class()).is_some()
 }
 
 // Whether a provider has an inventory of one of these classes.
-fn has_some_inventory(cloud: &Cloud, ix: u32, needs: &[Need]) -> bool
-    requires { ix < length (providers_of cloud.now) }
-    ensures { result ≡ list_any (λ need.
-        has_inventory (provider_at (providers_of cloud.now) ix) need.0)
+fn has_some_inventory(provider: &Provider, needs: &[Need]) -> bool
+    ensures { result ≡ list_any (λ need. has_inventory (provider_of provider.now) need.0)
         (map need_entry needs.now) }
 {
-    needs.iter().any(|need| has_inventory(cloud, ix, need))
+    needs.iter().any(|need| has_inventory(provider, need))
 }
 
 // Whether a provider has an inventory of a class that is needed; where none is needed, each provider does.
-fn has_a_class(cloud: &Cloud, ix: u32, needs: &[Need]) -> bool
-    requires { ix < length (providers_of cloud.now) }
-    ensures { result ≡ has_a_class (provider_at (providers_of cloud.now) ix)
-        (map need_entry needs.now) }
+fn has_a_class(provider: &Provider, needs: &[Need]) -> bool
+    ensures { result ≡ has_a_class (provider_of provider.now) (map need_entry needs.now) }
 {
-    needs.is_empty() || has_some_inventory(cloud, ix, needs)
+    needs.is_empty() || has_some_inventory(provider, needs)
 }
 
-// Whether a provider is looked at for a slot at a root.
-fn is_looked_at(cloud: &Cloud, query: &Query, root: u32, s: usize, ix: u32) -> bool
-    requires root { root < length (providers_of cloud.now) }
-    requires slot { s < length (slots_of (asked_of query.now)) }
-    requires provider { ix < length (providers_of cloud.now) }
-    ensures { result ≡ (is_available_at (providers_of cloud.now) ix root
-        && has_a_class (provider_at (providers_of cloud.now) ix)
-        (slot_at (asked_of query.now) s).needs) }
+// Whether a provider is looked at for its slot at a root.
+fn is_looked_at(placed: &Placed, root: u32) -> bool
+    requires { root < length (providers_of placed.now.cloud.now) }
+    ensures { result
+        ≡ (is_available_at (providers_of placed.now.cloud.now) placed.now.provider root
+        && has_a_class (provider_at (providers_of placed.now.cloud.now) placed.now.provider)
+        (placed_of placed.now).slot.needs) }
 {
-    cloud.available(ix, root) && has_a_class(cloud, ix, needs_at(query, s))
+    placed.cloud.available(placed.provider, root)
+        && has_a_class(&placed.its_provider(), placed.needs())
 }
 
 // Writes the rows of a slot.
@@ -167,13 +161,13 @@ fn write_slot(
         ++ slot_rows (providers_of cloud.now) (asked_of query.now) root s)) }
 {
     for ix in 0..cloud.len() {
-        if is_looked_at(cloud, query, root, s, ix) {
-            let placed = Placed {
-                cloud,
-                query,
-                slot: s,
-                provider: ix,
-            };
+        let placed = Placed {
+            cloud,
+            query,
+            slot: s,
+            provider: ix,
+        };
+        if is_looked_at(&placed, root) {
             write_placed(alloc, rows, &placed)?;
         }
     }
@@ -213,7 +207,7 @@ fn write_root(
         ++ root_row (providers_of cloud.now) (asked_of query.now) root ∷ [])) }
 {
     let lacks = root_lack(takes_root(cloud, query, root));
-    let detail = root_detail(alloc, cloud, query, root)?;
+    let detail = root_detail(alloc, &cloud.provider(root), query)?;
     write_provider(alloc, rows, cloud, root, b"", b"", lacks, detail.as_bytes())
 }
 

@@ -1,7 +1,10 @@
 pub mod Common
 pub mod Trees
 pub mod Places
+pub mod PlacesInOrder
+pub mod Ranges
 pub mod Rising
+pub mod Roots
 pub mod ListFacts
 pub mod InOrder
 pub mod Amounts

@@ -5,3 +5,4 @@ pub mod Cloud
 pub mod ListBounds
 pub mod ListsOf
 pub mod Laws
+pub mod Providers

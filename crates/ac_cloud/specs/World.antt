@@ -1,10 +1,10 @@
 -- The world: what accepted tables state, with its trees and what is available in them.
-use Rattle.std.specs.Prelude.{ℕ, Bool, ◌&&◌, ◌||◌, ◌==◌, not, List, [], codes, length, get_or, Option, None}
+use Rattle.std.specs.Prelude.{ℕ, Bool, ◌&&◌, ◌||◌, ◌==◌, ◌-◌, not, List, [], codes, length, get_or, Option, Some, None}
 use Rattle.std.specs.Option.{unwrap_or, is_none, is_some, option_map, option_and_then}
 use Rattle.std.specs.List.{list_any, position_from, filter, range_with_len}
 use Rattle.std.specs.Str.{bytes_eq}
 use Rattle.std.specs.Map.{lookup}
-use Rattle.ac_base.specs.Quantities.{InventoryNumbers}
+use Rattle.ac_base.specs.Quantities.{InventoryNumbers, capacity}
 use Rattle.ac_base.specs.Sorted.{TextMap}
 use Rattle.ac_cloud.specs.Trees.{top, is_in_chain}
 
@@ -66,6 +66,10 @@ parent_of all id = option_and_then (λ ix. (provider_at all ix).parent) (place_o
 abbrev pub root_of : List Provider → ℕ → ℕ
 root_of all id = top (parent_of all) (length all) id
 
+-- the provider at the root of a provider's tree
+abbrev pub root_provider : List Provider → Provider → Provider
+root_provider all p = provider_at all (unwrap_or (place_of all (root_of all p.id)) (length all))
+
 -- a is above b, or is b
 abbrev pub is_above : List Provider → ℕ → ℕ → Bool
 is_above all a b = is_in_chain (parent_of all) (length all) a b
@@ -77,6 +81,11 @@ entry_in p class = lookup (bytes_eq class) p.entries
 -- how much of it is used: 0 where it has none
 abbrev pub used_of : Provider → List ℕ → ℕ
 used_of p class = unwrap_or (option_map (λ h. h.used) (entry_in p class)) 0
+
+-- what is left of an inventory beside what is used, where there is one
+abbrev pub left_of : Option InventoryNumbers → ℕ → ℕ
+left_of None used = 0
+left_of (Some i) used = capacity i - used
 
 abbrev pub has_trait : Provider → List ℕ → Bool
 has_trait p name = list_any (bytes_eq name) p.traits

@@ -144,7 +144,7 @@ impl Cloud {
     }
 
     // Where a class stands among a provider's entries.
-    fn find_entry(&self, ix: u32, class: &ClassName) -> Option<&Entry>
+    pub(crate) fn find_entry(&self, ix: u32, class: &ClassName) -> Option<&Entry>
         requires { ix < length (providers_of self.now) }
         ensures { option_map entry_value (option_copied result)
             ≡ entry_in (provider_at (providers_of self.now) ix) (class_bytes class.now) }

@@ -6,9 +6,11 @@
 pub mod cloud;
 pub mod laws;
 pub mod lists;
+pub mod provider;
 
 pub use cloud::entry::Entry;
 pub use cloud::naming::HostFault;
 pub use cloud::provider_index::{Expected, Ids};
 pub use cloud::{Cloud, Counts};
 pub use lists::Lists;
+pub use provider::Provider;

@@ -7,9 +7,9 @@ use Rattle.std.specs.Str.{bytes_eq}
 use Rattle.ac_base.specs.Quantities.{InventoryNumbers, capacity}
 use Rattle.ac_query.specs.Pairs.Values.{AggregateRule}
 use Rattle.ac_query.specs.Asked.{Asked, Group, Slot, slots_of, is_isolated}
-use Rattle.ac_cloud.specs.World.{Provider, provider_at, id_at, parent_of, used_of, is_member, is_root, shares}
+use Rattle.ac_cloud.specs.World.{Provider, provider_at, id_at, parent_of, used_of, is_member, is_root, root_provider, shares}
 use Rattle.ac_rules.specs.Placed.{Placed, slot_at, placed_at}
-use Rattle.ac_rules.specs.Own.{inventory_of, units_fit, traits_fit, aggregates_fit, tree_fits, root_provider}
+use Rattle.ac_rules.specs.Own.{inventory_of, units_fit, traits_fit, fits}
 use Rattle.ac_rules.specs.Together.{amount_of, is_empty}
 use Rattle.ac_differences.specs.declared.differing.Difference.{Difference}
 use Rattle.ac_differences.specs.declared.differing.Difference.TheVariants as difference
@@ -72,11 +72,7 @@ may_share asked s = is_none (slot_at asked s).suffix && is_none (slot_at asked s
 abbrev pub some_provider : List Provider → Asked → ℕ → (Placed → Bool) → Bool
 some_provider all asked s test = list_any (λ p. test (placed_at asked s p)) (range_with_len 0 (length all))
 
--- the provider meets the rules of its slot alone
-abbrev pub fits : List Provider → Placed → Bool
-fits all x = units_fit all x && traits_fit all x && aggregates_fit all x && tree_fits all x
-
--- it is a sharing provider, and meets them
+-- it is a sharing provider, and meets the rules of its slot alone
 abbrev pub lends : List Provider → Placed → Bool
 lends all x = shares (provider_at all x.provider) && fits all x
 
@@ -111,7 +107,7 @@ abbrev pub lends_by_its_root : List Provider → Placed → Bool
 lends_by_its_root all x = lends all x && not (are_met_by (provider_at all x.provider) x.slot.group)
 
 -- a provider that meets the rules on aggregates only together with its root
-abbrev pub fits_with_its_root : List Provider → Placed → Bool
+unfoldable pub fits_with_its_root : List Provider → Placed → Bool
 fits_with_its_root all x =
     fits all x
     && not (are_met_by (provider_at all x.provider) x.slot.group)

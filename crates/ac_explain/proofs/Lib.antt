@@ -1,3 +1,2 @@
 pub mod DetailsWritten
 pub mod Places
-pub mod Providers

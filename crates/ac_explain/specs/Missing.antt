@@ -1,29 +1,33 @@
 -- What nobody in a cloud has, and no root.
-use Rattle.std.specs.Prelude.{ℕ, ◌&&◌, Bool, List}
-use Rattle.std.specs.List.{list_any}
+use Rattle.std.specs.Prelude.{ℕ, ◌&&◌, Bool, List, length}
+use Rattle.std.specs.List.{list_any, range_with_len}
 use Rattle.std.specs.Option.{is_some}
-use Rattle.ac_cloud.specs.World.{Provider, entry_in, has_trait, is_member, is_root, place_of}
+use Rattle.ac_cloud.specs.World.{Provider, entry_in, has_trait, is_member, is_root, place_of, provider_at}
 use Rattle.ac_rules.specs.Own.{has_any}
+
+-- some provider passes a test, by its place
+abbrev pub someone : List Provider → (Provider → Bool) → Bool
+someone all test = list_any (λ ix. test (provider_at all ix)) (range_with_len 0 (length all))
 
 -- some provider has an inventory of a class, however much is left of it
 unfoldable pub somebody_has_class : List Provider → List ℕ → Bool
-somebody_has_class all class = list_any (λ p. is_some (entry_in p class)) all
+somebody_has_class all class = someone all (λ p. is_some (entry_in p class))
 
 -- some provider has a trait
 unfoldable pub somebody_has_trait : List Provider → List ℕ → Bool
-somebody_has_trait all name = list_any (λ p. has_trait p name) all
+somebody_has_trait all name = someone all (λ p. has_trait p name)
 
 -- some provider has one of these traits
 unfoldable pub somebody_has_one : List Provider → List (List ℕ) → Bool
-somebody_has_one all names = list_any (λ p. has_any p names) all
+somebody_has_one all names = someone all (λ p. has_any p names)
 
 -- some root has a trait
 unfoldable pub some_root_has : List Provider → List ℕ → Bool
-some_root_has all name = list_any (λ p. is_root all p.id && has_trait p name) all
+some_root_has all name = someone all (λ p. is_root all p.id && has_trait p name)
 
 -- some provider is in an aggregate
 unfoldable pub somebody_is_member : List Provider → ℕ → Bool
-somebody_is_member all aggregate = list_any (λ p. is_member p aggregate) all
+somebody_is_member all aggregate = someone all (λ p. is_member p aggregate)
 
 -- some provider is in one of these aggregates
 unfoldable pub somebody_is_in : List Provider → List ℕ → Bool

@@ -1,7 +1,7 @@
 //! Of what a list of providers breaks a rule, in words: the first thing that does. Nothing where there is none.
 ghost use Rattle.std.specs.Prelude.{◌≡◌, ◌<◌, IfOk, IfSome, length, string_bytes};
 ghost use Rattle.ac_base.specs.Texts.{id_text};
-ghost use Rattle.ac_cloud.specs.World.{id_at};
+ghost use Rattle.ac_cloud.specs.Providers.{provider_of};
 ghost use Rattle.ac_cloud.specs.Cloud.CloudWorld.{providers_of};
 ghost use Rattle.ac_query.specs.Shown.Queries.{asked_of};
 ghost use Rattle.ac_rules.specs.Shown.Assignments.{assigned_of, placed_of};
@@ -18,18 +18,16 @@ use self::rivals::isolate_detail;
 use self::unserved::collective_detail;
 use crate::details::{aggregates_detail, traits_detail, tree_detail, units_detail};
 use ac_base::NoMemory;
-use ac_cloud::Cloud;
+use ac_cloud::Provider;
 use ac_query::write_ids;
 use ac_rules::{Assignment, Placed, Rule};
 use std::alloc::Global;
 
 // A provider's UUID.
-pub(crate) fn id_text(alloc: Global, cloud: &Cloud, ix: u32) -> Result<String, NoMemory>
-    requires { ix < length (providers_of cloud.now) }
-    ensures { IfOk result (λ text. string_bytes text
-        ≡ id_text (id_at (providers_of cloud.now) ix)) }
+pub(crate) fn id_text(alloc: Global, provider: &Provider) -> Result<String, NoMemory>
+    ensures { IfOk result (λ text. string_bytes text ≡ id_text (provider_of provider.now).id) }
 {
-    write_ids(alloc, &[cloud.id(ix)])
+    write_ids(alloc, &[provider.id()])
 }
 
 // Whether a slot's provider keeps a rule; the other rules are of all slots together.
@@ -83,7 +81,7 @@ fn misfit_text(alloc: Global, placed: &Placed, rule: Rule) -> Result<String, NoM
         (providers_of placed.now.cloud.now) placed.now.slot (placed_of placed.now) rule) }
 {
     let number = placed.slot + 1;
-    let id = id_text(alloc, placed.cloud, placed.provider)?;
+    let id = id_text(alloc, &placed.its_provider())?;
     let detail = misfit_detail(alloc, placed, rule)?;
     Ok(format!(in alloc; "slot {number} on {id}, {detail}")?)
 }

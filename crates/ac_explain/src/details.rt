@@ -1,9 +1,7 @@
 //! Of what a provider fails a test of its slot, in words: the first thing in the order in which the query keeps it. Nothing where it
 //! passes the test.
-ghost use Rattle.std.specs.Prelude.{◌≡◌, ◌-◌, IfOk, map, string_bytes};
+ghost use Rattle.std.specs.Prelude.{◌≡◌, IfOk, map, string_bytes};
 ghost use Rattle.std.specs.Option.{option_map};
-ghost use Rattle.ac_base.specs.Names.{class_bytes};
-ghost use Rattle.ac_base.specs.Quantities.{capacity};
 ghost use Rattle.ac_cloud.specs.World.{provider_at, used_of};
 ghost use Rattle.ac_cloud.specs.Cloud.CloudWorld.{providers_of};
 ghost use Rattle.ac_query.specs.Shown.Groups.{need_entry, rule_shown};
@@ -14,11 +12,10 @@ ghost use Rattle.ac_explain.specs.Details.{aggregates_detail, first_short, first
 pub(crate) mod traits;
 
 pub use self::traits::{root_detail, traits_detail};
-use ac_base::{ClassName, Id, Inventory, NoMemory};
+use ac_base::{Id, NoMemory};
 use ac_query::{AggregateRule, Need, write_ids};
 use ac_rules::Placed;
 use ac_rules::rules::sums::has_room_of;
-use ac_rules::slots::{group_at, needs_at};
 use std::alloc::Global;
 
 /// A class, and that nothing is told of it.
@@ -36,7 +33,7 @@ fn units_text(alloc: Global, placed: &Placed, need: &Need) -> Result<String, NoM
         (need_entry need.now).0)) }
 {
     let class = need.class().text();
-    let Some(inventory) = placed.cloud.inventory(placed.provider, need.class()) else {
+    let Some(inventory) = placed.its_provider().inventory(need.class()) else {
         return none_text(alloc, class);
     };
     let amount = need.amount();
@@ -63,20 +60,10 @@ pub fn units_detail(alloc: Global, placed: &Placed) -> Result<String, NoMemory>
         (provider_at (providers_of placed.now.cloud.now) placed.now.provider)
         (placed_of placed.now).slot.needs) }
 {
-    match first_unadmitted(placed, needs_at(placed.query, placed.slot)) {
+    match first_unadmitted(placed, placed.needs()) {
         Some(need) => units_text(alloc, placed, need),
         None => Ok(String::new(alloc)),
     }
-}
-
-/// What is left of an inventory's capacity beside what is used of its class.
-pub(crate) fn left_of(placed: &Placed, class: &ClassName, inventory: &Inventory) -> u64
-    ensures { result ≡ capacity inventory.now - used_of
-        (provider_at (providers_of placed.now.cloud.now) placed.now.provider)
-        (class_bytes class.now) }
-{
-    let used = placed.cloud.used(placed.provider, class);
-    inventory.capacity().saturating_sub(used)
 }
 
 // A class with what is left of its capacity beside what is used, and the capacity.
@@ -89,10 +76,11 @@ fn room_text(alloc: Global, placed: &Placed, need: &Need) -> Result<String, NoMe
         (need_entry need.now).0)) }
 {
     let class = need.class().text();
-    let Some(inventory) = placed.cloud.inventory(placed.provider, need.class()) else {
+    let provider = placed.its_provider();
+    let Some(inventory) = provider.inventory(need.class()) else {
         return none_text(alloc, class);
     };
-    let left = left_of(placed, need.class(), inventory);
+    let left = provider.left(need.class());
     let capacity = inventory.capacity();
     Ok(format!(in alloc; "{class}: {left} of {capacity} left")?)
 }
@@ -105,7 +93,7 @@ fn first_short<'a>(placed: &Placed, needs: &'a [Need]) -> Option<&'a Need>
 {
     needs
         .iter()
-        .find(|need| !has_room_of(placed.cloud, placed.provider, need))
+        .find(|need| !has_room_of(&placed.its_provider(), need))
 }
 
 /// The first class of which the provider has no room for the amount, with what is left of its capacity.
@@ -114,7 +102,7 @@ pub fn room_detail(alloc: Global, placed: &Placed) -> Result<String, NoMemory>
         (provider_at (providers_of placed.now.cloud.now) placed.now.provider)
         (placed_of placed.now).slot.needs) }
 {
-    match first_short(placed, needs_at(placed.query, placed.slot)) {
+    match first_short(placed, placed.needs()) {
         Some(need) => room_text(alloc, placed, need),
         None => Ok(String::new(alloc)),
     }
@@ -157,7 +145,7 @@ pub fn aggregates_detail(alloc: Global, placed: &Placed) -> Result<String, NoMem
         (providers_of placed.now.cloud.now) (placed_of placed.now)
         (placed_of placed.now).slot.group.member_of) }
 {
-    match first_unmet(placed, group_at(placed.query, placed.slot).member_of()) {
+    match first_unmet(placed, placed.group().member_of()) {
         Some(rule) => rule_text(alloc, rule),
         None => Ok(String::new(alloc)),
     }
@@ -168,7 +156,7 @@ pub fn tree_detail(alloc: Global, placed: &Placed) -> Result<String, NoMemory>
     ensures { IfOk result (λ text. string_bytes text
         ≡ tree_detail (placed_of placed.now).slot.group.in_tree) }
 {
-    match group_at(placed.query, placed.slot).in_tree() {
+    match placed.group().in_tree() {
         Some(id) => {
             let id = write_ids(alloc, &[id])?;
             Ok(format!(in alloc; "in_tree={id}")?)

@@ -8,14 +8,13 @@ use Rattle.std.proofs.lemmas.List.Sums.{sum_by-cons}
 use Rattle.std.proofs.lemmas.Nat.{le-div}
 use Rattle.std.proofs.lemmas.Slice.Eq.{bytes_eq-Decides}
 use Rattle.std.proofs.Math.Nat.{div-mul-le_self, suc-mul}
-use Rattle.ac_cloud.specs.World.{Provider, UsedInventory, entry_in, provider_at}
+use Rattle.ac_cloud.specs.World.{Provider, UsedInventory, entry_in, left_of, provider_at}
 use Rattle.ac_cloud.proofs.Amounts.{amounts_size, entries}
-use Rattle.ac_prune.specs.QuerySearch.{fits}
 use Rattle.ac_query.specs.Asked.{Asked, Slot, slots_of}
 use Rattle.ac_rules.specs.Claims.{claimed}
 use Rattle.ac_rules.specs.Judge.{is_candidate}
 use Rattle.ac_rules.specs.Lists.{IsListBelow}
-use Rattle.ac_rules.specs.Own.{units_fit, traits_fit, aggregates_fit, tree_fits}
+use Rattle.ac_rules.specs.Own.{units_fit, traits_fit, aggregates_fit, tree_fits, fits}
 use Rattle.ac_rules.specs.Placed.{Placed, assigned, placed}
 use Rattle.ac_rules.specs.Together.{amount_of, has_room, holds, holds_sums, sum_on, sums}
 use Rattle.ac_rules.proofs.Elements.{Among, each_append, among_flat_map, among_filter, among_map, each_map}
@@ -61,6 +60,11 @@ parts_fall u s a some much room =
     let q = (u - s) / a in
     let whole : q * a ≤ u - s = div-mul-le_self (u - s) a in
     le-div (suc q) u a some (rw (suc-mul q a) (omega (arith, whole, much, room)))
+
+-- what is left of an inventory beside what is used of it
+pub left_units : (o : Option UsedInventory) → left_of (option_map (λ had. had.inventory) o) (unwrap_or (option_map (λ had. had.used) o) 0) ≡ units_of o
+left_units None = refl
+left_units (Some had) = refl
 
 -- ---- a claim
 

@@ -2,7 +2,7 @@
 use Rattle.std.specs.Prelude.{ℕ, ◌/◌, min, nat_lt, List, length, map, sum_by, Option, Some, None, unwrap_or, if◌then◌else◌}
 use Rattle.std.specs.List.{filter, flat_map, fold, range_with_len}
 use Rattle.ac_cloud.specs.World.{Provider, UsedInventory, entry_in, provider_at}
-use Rattle.ac_prune.specs.QuerySearch.{fits}
+use Rattle.ac_rules.specs.Own.{fits}
 use Rattle.ac_query.specs.Asked.{Asked, Slot, slots_of}
 use Rattle.ac_fill.specs.Filled.{units_in}
 

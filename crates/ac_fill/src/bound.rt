@@ -2,43 +2,28 @@
 
 ghost use Rattle.std.specs.Prelude.{◌≡◌, ◌<◌, length, Some};
 ghost use Rattle.std.specs.List.{fold};
-ghost use Rattle.ac_base.specs.Names.{class_bytes};
 ghost use Rattle.ac_cloud.specs.Cloud.CloudWorld.{providers_of};
-ghost use Rattle.ac_cloud.specs.World.{entry_in, provider_at};
 ghost use Rattle.ac_query.specs.Asked.{slots_of};
 ghost use Rattle.ac_query.specs.Shown.Groups.{need_entry};
 ghost use Rattle.ac_query.specs.Shown.Queries.{asked_of};
 ghost use Rattle.ac_rules.specs.Placed.{slot_at};
-ghost use Rattle.ac_fill.specs.Bounds.{lesser, most_placed, slot_times, times, times_at, units_of};
+ghost use Rattle.ac_rules.specs.Shown.Assignments.{placed_of};
+ghost use Rattle.ac_fill.specs.Bounds.{lesser, most_placed, slot_times, times, times_at};
 
-use ac_base::ClassName;
 use ac_cloud::Cloud;
-use ac_prune::fits_slot;
 use ac_query::{Need, Query};
+use ac_rules::Placed;
 use ac_rules::slots::{count_slots, needs_at};
 
-// What is left of a class of a provider.
-fn units_left(cloud: &Cloud, ix: u32, class: &ClassName) -> u64
-    requires { ix < length (providers_of cloud.now) }
-    ensures { result ≡ units_of
-        (entry_in (provider_at (providers_of cloud.now) ix) (class_bytes class.now)) }
-{
-    match cloud.inventory(ix, class) {
-        Some(inventory) => inventory.capacity().saturating_sub(cloud.used(ix, class)),
-        None => 0,
-    }
-}
-
 // How often a provider has what a slot asks of a class; never where a rule of the slot alone refuses it.
-fn times_at(cloud: &Cloud, query: &Query, s: usize, need: &Need, ix: u32) -> u64
-    requires slot { s < length (slots_of (asked_of query.now)) }
-    requires provider { ix < length (providers_of cloud.now) }
-    requires some { 0 < (need_entry need.now).1 }
-    ensures { result ≡ times_at (providers_of cloud.now) (slot_at (asked_of query.now) s)
-        (need_entry need.now) ix }
+#[tactic(auto, using(crate::proofs::Bounded::left_units))]
+fn times_at(placed: &Placed, need: &Need) -> u64
+    requires { 0 < (need_entry need.now).1 }
+    ensures { result ≡ times_at (providers_of placed.now.cloud.now) (placed_of placed.now).slot
+        (need_entry need.now) placed.now.provider }
 {
-    if fits_slot(cloud, query, s, ix) {
-        units_left(cloud, ix, need.class()) / u64::from(need.amount())
+    if placed.fits() {
+        placed.its_provider().left(need.class()) / u64::from(need.amount())
     } else {
         0
     }
@@ -54,7 +39,13 @@ fn times(cloud: &Cloud, query: &Query, s: usize, need: &Need) -> u128
 {
     let mut total = 0u128;
     for ix in 0..cloud.len() {
-        total += u128::from(times_at(cloud, query, s, need, ix));
+        let placed = Placed {
+            cloud,
+            query,
+            slot: s,
+            provider: ix,
+        };
+        total += u128::from(times_at(&placed, need));
     }
     total
 }

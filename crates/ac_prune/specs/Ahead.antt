@@ -9,7 +9,7 @@ use Rattle.ac_prune.specs.Left.{room_on}
 use Rattle.ac_prune.specs.Marks.{needs_own}
 use Rattle.ac_rules.specs.Together.{amount_of, sum_on, holds, is_set_apart, takes_root, hosts_all}
 use Rattle.ac_rules.specs.Judge.{is_candidate, is_open}
-use Rattle.ac_prune.specs.QuerySearch.{fits}
+use Rattle.ac_rules.specs.Own.{fits}
 
 -- ---- Weights: each item puts an amount into a box
 

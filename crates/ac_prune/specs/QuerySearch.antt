@@ -4,14 +4,10 @@ use Rattle.std.specs.List.{list_all, filter, range_with_len}
 use Rattle.ac_query.specs.Asked.{Asked, Slot, slots_of}
 use Rattle.ac_cloud.specs.World.{Provider, provider_at}
 use Rattle.ac_rules.specs.Placed.{Placed, assigned}
-use Rattle.ac_rules.specs.Own.{units_fit, traits_fit, aggregates_fit, tree_fits}
+use Rattle.ac_rules.specs.Own.{fits}
 use Rattle.ac_rules.specs.Together.{collective, holds, subtree}
 use Rattle.ac_rules.specs.Judge.{is_candidate, is_open}
 use Rattle.ac_prune.specs.Search.{Search}
-
--- the rules of a slot alone
-unfoldable pub fits : List Provider → Placed → Bool
-fits all x = units_fit all x && traits_fit all x && aggregates_fit all x && tree_fits all x
 
 -- the provider has room, in each of the slot's classes, for what the slot alone asks
 unfoldable pub has_room_alone : List Provider → Placed → Bool

@@ -9,7 +9,8 @@ ghost use Rattle.ac_rules.specs.Placed.{placed_at, assigned};
 ghost use Rattle.ac_rules.specs.Judge.{is_open};
 ghost use Rattle.ac_prune.specs.Left.Accounts.{providers_in, asked_in, Accounts};
 ghost use Rattle.ac_prune.specs.Loads.{choice_in, choices_in};
-ghost use Rattle.ac_prune.specs.QuerySearch.{fits, has_room_alone};
+ghost use Rattle.ac_rules.specs.Own.{fits};
+ghost use Rattle.ac_prune.specs.QuerySearch.{has_room_alone};
 
 use crate::ledger::Ledger;
 use ac_base::NoMemory;
@@ -18,22 +19,6 @@ use ac_query::Query;
 use ac_rules::slots::count_slots;
 use ac_rules::{Assignment, Placed};
 use std::alloc::Global;
-
-/// Whether a provider meets the rules of a slot alone.
-#[tactic(auto, unfolding(crate::specs::QuerySearch::fits))]
-pub fn fits_slot(cloud: &Cloud, query: &Query, s: usize, ix: u32) -> bool
-    requires slot { s < length (slots_of (asked_of query.now)) }
-    requires provider { ix < length (providers_of cloud.now) }
-    ensures { result ≡ fits (providers_of cloud.now) (placed_at (asked_of query.now) s ix) }
-{
-    let placed = Placed {
-        cloud,
-        query,
-        slot: s,
-        provider: ix,
-    };
-    placed.has_units() && placed.has_slot_traits() && placed.has_aggregates() && placed.is_in_tree()
-}
 
 // Whether a list, each of whose providers meets the rules of its slot alone, is open.
 #[tactic(auto, using(crate::proofs::Search::OpenLemmas::open_together))]
@@ -62,7 +47,7 @@ fn is_choice(ledger: &Ledger, s: usize, ix: u32, opens: bool) -> bool
         (placed_at (asked_in ledger.now) s ix)
         && has_room_alone (providers_in ledger.now) (placed_at (asked_in ledger.now) s ix))) }
 {
-    opens && fits_slot(ledger.cloud, ledger.query, s, ix) && ledger.has_enough(s, ix)
+    opens && Placed::new(ledger.cloud, ledger.query, s, ix).fits() && ledger.has_enough(s, ix)
 }
 
 // The providers that meet the rules of a slot alone and have room for it, in order; none where not even the empty list is

@@ -10,7 +10,7 @@ ghost use Rattle.ac_query.specs.Shown.Queries.{asked_of};
 ghost use Rattle.ac_rules.specs.Placed.{slot_at, assigned};
 ghost use Rattle.ac_rules.specs.Together.{takes_root};
 ghost use Rattle.ac_rules.specs.Judge.{is_open};
-ghost use Rattle.ac_prune.specs.QuerySearch.{fits};
+ghost use Rattle.ac_rules.specs.Own.{fits};
 ghost use Rattle.ac_rules.specs.Room.{IsKnown};
 ghost use Rattle.ac_prune.specs.Left.{ask_pair, numbered, AreSmall, suffices};
 ghost use Rattle.ac_prune.specs.Marks.{needs_own, stand_at_marked};

@@ -16,7 +16,7 @@ mod lookout;
 mod trees;
 mod tuning;
 
-pub use choices::{all_choices, fits_slot};
+pub use choices::all_choices;
 pub use front::{Front, bound_by};
 pub use hosts::limit;
 pub use ledger::Ledger;

@@ -1,6 +1,5 @@
 -- Slots with their providers, one after another.
-use Rattle.std.proofs.Common.{◌≡◌, ℕ, ◌+◌, ◌-◌, ◌<◌, ◌≤◌, suc, List, [], ◌∷◌, ◌++◌, length, drop, refl, ap, arith, slice_index, slice_index_or}
-use Rattle.std.specs.List.{range_with_len}
+use Rattle.std.proofs.Common.{◌≡◌, ℕ, ◌+◌, ◌<◌, ◌≤◌, List, [], ◌∷◌, ◌++◌, length, drop, refl, ap, slice_index, slice_index_or}
 use Rattle.std.proofs.lemmas.List.{drop_more, drop_all}
 use Rattle.ac_query.specs.Asked.{Slot}
 use Rattle.ac_rules.specs.Placed.{placed}
@@ -28,10 +27,3 @@ placed_whole ss t i h = rw h refl
 -- nothing is left past the end
 pub placed_end : (ss : List Slot) (t : List ℕ) (i : ℕ) → length t ≤ i → placed (drop i ss) (drop i t) ≡ []
 placed_end ss t i h = rw (drop_all i t h) (placed_none (drop i ss))
-
--- the numbers from k on below n: k, and then the rest
-pub range_more : (n k : ℕ) → k < n → range_with_len k (n - k) ≡ k ∷ range_with_len (k + 1) (n - (k + 1))
-range_more n k h = let less : n - k ≡ suc (n - (k + 1)) = omega arith in ap (range_with_len k) less
-
-pub range_end : (n k : ℕ) → n ≤ k → range_with_len k (n - k) ≡ []
-range_end n k h = let none : n - k ≡ 0 = omega arith in ap (range_with_len k) none

@@ -1,11 +1,11 @@
 -- The four rules of a single slot and its provider.
-use Rattle.std.specs.Prelude.{ℕ, ◌==◌, ◌&&◌, ◌||◌, Bool, true, false, not, List, length, Option, None, Some, if◌then◌else◌}
+use Rattle.std.specs.Prelude.{ℕ, ◌==◌, ◌&&◌, ◌||◌, Bool, true, false, not, List, Option, None, Some, if◌then◌else◌}
 use Rattle.std.specs.List.{list_all, list_any}
-use Rattle.std.specs.Option.{is_none, is_some, option_map, unwrap_or}
+use Rattle.std.specs.Option.{is_none, is_some, option_map}
 use Rattle.ac_base.specs.Quantities.{InventoryNumbers, units}
 use Rattle.ac_query.specs.Pairs.Values.{AggregateRule}
 use Rattle.ac_query.specs.Asked.{Group}
-use Rattle.ac_cloud.specs.World.{Provider, provider_at, place_of, root_of, entry_in, has_trait, is_member}
+use Rattle.ac_cloud.specs.World.{Provider, provider_at, place_of, root_of, root_provider, entry_in, has_trait, is_member}
 use Rattle.ac_rules.specs.Placed.{Placed}
 
 -- ---- Units
@@ -50,10 +50,6 @@ traits_fit all x =
 
 -- ---- Aggregates
 
--- the provider at the root of a provider's tree
-abbrev pub root_provider : List Provider → Provider → Provider
-root_provider all p = provider_at all (unwrap_or (place_of all (root_of all p.id)) (length all))
-
 -- an aggregate counts as the provider's: it is its own, or in the unsuffixed group its root's
 abbrev pub counts_in : List Provider → Placed → ℕ → Bool
 counts_in all x aggregate =
@@ -79,3 +75,9 @@ is_in_tree all p (Some id) = is_some (place_of all id) && (root_of all p.id == r
 -- Tree: where the group names a provider, the slot's provider is in its tree.
 unfoldable pub tree_fits : List Provider → Placed → Bool
 tree_fits all x = is_in_tree all (provider_at all x.provider) x.slot.group.in_tree
+
+-- ---- All four
+
+-- the rules of a slot alone
+unfoldable pub fits : List Provider → Placed → Bool
+fits all x = units_fit all x && traits_fit all x && aggregates_fit all x && tree_fits all x

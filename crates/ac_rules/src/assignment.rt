@@ -1,14 +1,15 @@
 //! Providers in slots: one provider in one slot, and a provider for each of the first slots of a query.
 
-ghost use Rattle.std.specs.Prelude.{◌≡◌, ◌-◌, ◌<◌, ◌≤◌, length, slice_index};
+ghost use Rattle.std.specs.Prelude.{◌≡◌, ◌-◌, ◌<◌, ◌≤◌, length, map, slice_index};
 ghost use Rattle.std.specs.Iterator.{YieldsFirstBy, at_most};
 ghost use Rattle.std.specs.List.{All};
 ghost use Rattle.ac_cloud.specs.Cloud.CloudWorld.{providers_of};
 ghost use Rattle.ac_query.specs.Asked.{slots_of};
 ghost use Rattle.ac_query.specs.Shown.Queries.{asked_of};
 
-use ac_cloud::Cloud;
-use ac_query::Query;
+use crate::slots::{group_at, needs_at};
+use ac_cloud::{Cloud, Provider};
+use ac_query::{Group, Need, Query};
 
 /// A slot of a query, and a provider of a cloud in it.
 #[derive(Clone, Copy)]
@@ -36,6 +37,54 @@ pub struct Assignment<'a> {
 pub(crate) struct Slots<'a> {
     whole: Assignment<'a>,
     next: usize,
+}
+
+impl<'a> Placed<'a> {
+    ghost use Rattle.ac_query.specs.Shown.Groups.{group_entry, need_entry};
+    ghost use Rattle.ac_rules.specs.Placed.{placed_at};
+    ghost use Rattle.ac_rules.specs.Shown.Assignments.{placed_of};
+
+    /// A provider of a cloud in a slot of a query.
+    pub fn new(cloud: &'a Cloud, query: &'a Query, slot: usize, provider: u32) -> Placed<'a>
+        requires slot { slot < length (slots_of (asked_of query.now)) }
+        requires provider { provider < length (providers_of cloud.now) }
+        ensures placed { placed_of result ≡ placed_at (asked_of query.now) slot provider }
+        ensures cloud { result.cloud.now ≡ cloud.now }
+        ensures query { result.query.now ≡ query.now }
+    {
+        Placed {
+            cloud,
+            query,
+            slot,
+            provider,
+        }
+    }
+
+    /// The provider.
+    pub fn its_provider(&self) -> Provider<'a>
+        ensures cloud { result.cloud.now ≡ self.now.cloud.now }
+        ensures place { result.ix ≡ self.now.provider }
+    {
+        Provider {
+            cloud: self.cloud,
+            ix: self.provider,
+        }
+    }
+
+    /// The group of the slot.
+    pub fn group(&self) -> &'a Group
+        ensures { group_entry result.now
+            ≡ ((placed_of self.now).slot.suffix, (placed_of self.now).slot.group) }
+    {
+        group_at(self.query, self.slot)
+    }
+
+    /// What the slot needs.
+    pub fn needs(&self) -> &'a [Need]
+        ensures { map need_entry result.now ≡ (placed_of self.now).slot.needs }
+    {
+        needs_at(self.query, self.slot)
+    }
 }
 
 impl<'a> Assignment<'a> {

@@ -6,10 +6,10 @@ use Rattle.std.proofs.lemmas.Bool.{and_parts, and_from, false≢true, false_from
 use Rattle.ac_query.specs.Asked.{Asked, Group, Slot, slots_of}
 use Rattle.ac_cloud.specs.World.{Provider, provider_at, has_trait}
 use Rattle.ac_prune.specs.Ahead.{hosts_of, serves, IsHosted}
-use Rattle.ac_prune.specs.QuerySearch.{fits, has_room_alone}
+use Rattle.ac_prune.specs.QuerySearch.{has_room_alone}
 use Rattle.ac_rules.specs.Judge.{is_candidate, tests}
 use Rattle.ac_rules.specs.Lists.{IsListBelow, all_lists}
-use Rattle.ac_rules.specs.Own.{has_any}
+use Rattle.ac_rules.specs.Own.{has_any, fits}
 use Rattle.ac_rules.specs.Pages.{candidates}
 use Rattle.ac_rules.specs.Placed.{Placed, placed, assigned}
 use Rattle.ac_rules.specs.Together.{amount_of, are_brought, collective, is_brought, is_one_brought, sum_on, takes_root, hosts_all, anchor}

@@ -17,11 +17,11 @@ pub(crate) mod required;
 
 use ac_base::NoMemory;
 use ac_cloud::Cloud;
-use ac_prune::{fits_slot, limit, taken_roots};
+use ac_prune::{limit, taken_roots};
 use ac_query::Query;
 use ac_rules::Placed;
 use ac_rules::rules::sums::has_room_of;
-use ac_rules::slots::{count_slots, needs_at};
+use ac_rules::slots::count_slots;
 pub use classes::{SlotTold, all_slots};
 use required::limit_required;
 pub use required::requires_some;
@@ -58,14 +58,11 @@ pub struct TreeCounts {
 
 // Whether a provider has room for what a slot alone asks.
 #[tactic(auto, unfolding(ac_prune::specs::QuerySearch::has_room_alone))]
-fn has_room_alone(cloud: &Cloud, query: &Query, s: usize, ix: u32) -> bool
-    requires slot { s < length (slots_of (asked_of query.now)) }
-    requires provider { ix < length (providers_of cloud.now) }
-    ensures { result
-        ≡ has_room_alone (providers_of cloud.now) (placed_at (asked_of query.now) s ix) }
+fn has_room_alone(placed: &Placed) -> bool
+    ensures { result ≡ has_room_alone (providers_of placed.now.cloud.now) (placed_of placed.now) }
 {
-    for need in needs_at(query, s) {
-        if !has_room_of(cloud, ix, need) {
+    for need in placed.needs() {
+        if !has_room_of(&placed.its_provider(), need) {
             return false;
         }
     }
@@ -97,7 +94,7 @@ pub(crate) fn count_met(placed: &Placed) -> u32
     if !placed.is_in_tree() {
         return 3;
     }
-    if !has_room_alone(placed.cloud, placed.query, placed.slot, placed.provider) {
+    if !has_room_alone(placed) {
         return 4;
     }
     5
@@ -116,13 +113,7 @@ pub fn slot_counts(cloud: &Cloud, query: &Query, s: usize) -> SlotCounts
     let mut tree = 0;
     let mut room = 0;
     for ix in 0..cloud.len() {
-        let placed = Placed {
-            cloud,
-            query,
-            slot: s,
-            provider: ix,
-        };
-        let met = count_met(&placed);
+        let met = count_met(&Placed::new(cloud, query, s, ix));
         units += u32::from(met > 0);
         traits += u32::from(met > 1);
         aggregates += u32::from(met > 2);
@@ -138,23 +129,19 @@ pub fn slot_counts(cloud: &Cloud, query: &Query, s: usize) -> SlotCounts
     }
 }
 
-// Whether a provider meets the rules of a slot.
-#[tactic(auto, unfolding(ac_prune::specs::QuerySearch::fits))]
-fn meets_rules(cloud: &Cloud, query: &Query, s: usize, ix: u32) -> bool
-    requires slot { s < length (slots_of (asked_of query.now)) }
-    requires provider { ix < length (providers_of cloud.now) }
-    ensures { result ≡ meets_tree (providers_of cloud.now) (placed_at (asked_of query.now) s ix) }
+// Whether a provider meets the rules of its slot.
+#[tactic(auto, unfolding(ac_rules::specs::Own::fits))]
+fn meets_rules(placed: &Placed) -> bool
+    ensures { result ≡ meets_tree (providers_of placed.now.cloud.now) (placed_of placed.now) }
 {
-    fits_slot(cloud, query, s, ix)
+    placed.fits()
 }
 
-// Whether a provider meets all that a slot asks, room included.
-fn serves(cloud: &Cloud, query: &Query, s: usize, ix: u32) -> bool
-    requires slot { s < length (slots_of (asked_of query.now)) }
-    requires provider { ix < length (providers_of cloud.now) }
-    ensures { result ≡ meets_room (providers_of cloud.now) (placed_at (asked_of query.now) s ix) }
+// Whether a provider meets all that its slot asks, room included.
+fn serves(placed: &Placed) -> bool
+    ensures { result ≡ meets_room (providers_of placed.now.cloud.now) (placed_of placed.now) }
 {
-    meets_rules(cloud, query, s, ix) && has_room_alone(cloud, query, s, ix)
+    meets_rules(placed) && has_room_alone(placed)
 }
 
 // 1 for each provider that meets all that a slot asks, and else 0.
@@ -163,11 +150,8 @@ fn serving(alloc: Global, cloud: &Cloud, query: &Query, s: usize) -> Result<Vec<
     ensures { IfOk result (λ serving.
         serving.items ≡ served (providers_of cloud.now) (slot_at (asked_of query.now) s)) }
 {
-    let mut serving = Vec::new(alloc);
-    for ix in 0..cloud.len() {
-        serving.push(u64::from(serves(cloud, query, s, ix)))?;
-    }
-    Ok(serving)
+    let serving = (0..cloud.len()).map(|ix| u64::from(serves(&Placed::new(cloud, query, s, ix))));
+    Ok(serving.collect(alloc)?)
 }
 
 // Drops the roots at which some slot has no provider.
@@ -190,14 +174,14 @@ fn limit_slots(
 }
 
 // How many roots there are.
-#[tactic(auto, using(crate::proofs::ExplainedLemmas::count_more, crate::proofs::ExplainedLemmas::count_few, ac_rules::proofs::EachSlot::AnchorLemmas::available_itself))]
+#[tactic(auto, using(crate::proofs::ExplainedLemmas::count_more, crate::proofs::ExplainedLemmas::count_few))]
 fn count_roots(cloud: &Cloud) -> u32
     ensures { result ≡ count_of (providers_of cloud.now)
         (λ r. is_root (providers_of cloud.now) (id_at (providers_of cloud.now) r)) }
 {
     let mut count = 0;
     for ix in 0..cloud.len() {
-        count += u32::from(cloud.available(ix, ix));
+        count += u32::from(cloud.provider(ix).is_root());
     }
     count
 }

@@ -123,7 +123,7 @@ pub(crate) fn is_policy_none(query: &Query) -> bool
 }
 
 /// Whether one of the slots before a place is that of a group with a suffix.
-#[tactic(auto, using(ac_rules::proofs::PlacedLemmas::range_more, ac_rules::proofs::PlacedLemmas::range_end))]
+#[tactic(auto, using(ac_cloud::proofs::Ranges::range_more, ac_cloud::proofs::Ranges::range_end))]
 pub(crate) fn has_suffix_before(query: &Query, s: usize) -> bool
     requires { s ≤ length (slots_of (asked_of query.now)) }
     ensures { result ≡ has_suffix_before (asked_of query.now) s }
@@ -132,7 +132,7 @@ pub(crate) fn has_suffix_before(query: &Query, s: usize) -> bool
 }
 
 /// Whether there are two groups with suffixes.
-#[tactic(auto, using(ac_rules::proofs::PlacedLemmas::range_more, ac_rules::proofs::PlacedLemmas::range_end))]
+#[tactic(auto, using(ac_cloud::proofs::Ranges::range_more, ac_cloud::proofs::Ranges::range_end))]
 pub(crate) fn has_two_suffixes(query: &Query) -> bool
     ensures { result ≡ has_two_suffixes (asked_of query.now) }
 {

@@ -6,14 +6,14 @@ ghost use Rattle.ac_cloud.specs.Cloud.CloudWorld.{providers_of};
 ghost use Rattle.ac_query.specs.Asked.{slots_of};
 ghost use Rattle.ac_query.specs.Shown.Groups.{need_entry};
 ghost use Rattle.ac_query.specs.Shown.Queries.{asked_of};
-ghost use Rattle.ac_rules.specs.Placed.{placed_at, slot_at};
+ghost use Rattle.ac_rules.specs.Shown.Assignments.{placed_of};
 ghost use Rattle.ac_rules.specs.Together.{amount_of};
 ghost use Rattle.ac_differences.specs.Differing.{gives_last, may_fall_short, some_provider, takes_last, takes_last_unit, total_of};
 
-use super::fitting::fits;
 use ac_base::{ClassName, Inventory};
 use ac_cloud::Cloud;
 use ac_query::{Need, Query};
+use ac_rules::Placed;
 use ac_rules::slots::{count_slots, needs_at};
 
 // Whether the capacity of an inventory is whole before it is rounded, and binary fractions don't hold its ratio.
@@ -58,55 +58,53 @@ fn takes_all(query: &Query, need: &Need, left: u64) -> bool
 }
 
 // Whether that is so of an inventory that may fall short.
-fn takes_last(cloud: &Cloud, query: &Query, ix: u32, need: &Need) -> bool
-    requires { ix < length (providers_of cloud.now) }
-    ensures { result ≡ takes_last (providers_of cloud.now) (asked_of query.now) ix
-        (need_entry need.now) }
+fn takes_last(placed: &Placed, need: &Need) -> bool
+    ensures { result ≡ takes_last (providers_of placed.now.cloud.now)
+        (asked_of placed.now.query.now) placed.now.provider (need_entry need.now) }
 {
-    let Some(inventory) = cloud.inventory(ix, need.class()) else {
+    let provider = placed.its_provider();
+    let Some(inventory) = provider.inventory(need.class()) else {
         return false;
     };
     if !may_fall_short(inventory) {
         return false;
     }
-    let used = cloud.used(ix, need.class());
-    takes_all(query, need, inventory.capacity().saturating_sub(used))
+    let used = provider.used(need.class());
+    takes_all(
+        placed.query,
+        need,
+        inventory.capacity().saturating_sub(used),
+    )
 }
 
 // Whether a slot has such a need.
-fn takes_last_of(cloud: &Cloud, query: &Query, s: usize, ix: u32) -> bool
-    requires slot { s < length (slots_of (asked_of query.now)) }
-    requires provider { ix < length (providers_of cloud.now) }
-    ensures { result ≡ list_any (takes_last (providers_of cloud.now) (asked_of query.now) ix)
-        (slot_at (asked_of query.now) s).needs }
+fn takes_last_of(placed: &Placed) -> bool
+    ensures { result ≡ list_any (takes_last (providers_of placed.now.cloud.now)
+        (asked_of placed.now.query.now) placed.now.provider) (placed_of placed.now).slot.needs }
 {
-    needs_at(query, s)
-        .iter()
-        .any(|need| takes_last(cloud, query, ix, need))
+    placed.needs().iter().any(|need| takes_last(placed, need))
 }
 
-// Whether a provider meets the rules of a slot, and may give the last unit of one of its classes.
-fn gives_last(cloud: &Cloud, query: &Query, s: usize, ix: u32) -> bool
-    requires slot { s < length (slots_of (asked_of query.now)) }
-    requires provider { ix < length (providers_of cloud.now) }
-    ensures { result ≡ gives_last (providers_of cloud.now) (asked_of query.now)
-        (placed_at (asked_of query.now) s ix) }
+// Whether a provider meets the rules of its slot, and may give the last unit of one of its classes.
+fn gives_last(placed: &Placed) -> bool
+    ensures { result ≡ gives_last (providers_of placed.now.cloud.now)
+        (asked_of placed.now.query.now) (placed_of placed.now) }
 {
-    takes_last_of(cloud, query, s, ix) && fits(cloud, query, s, ix)
+    takes_last_of(placed) && placed.fits()
 }
 
-// Whether some provider does.
-#[tactic(auto, using(ac_rules::proofs::PlacedLemmas::range_more, ac_rules::proofs::PlacedLemmas::range_end))]
+// Whether some provider meets the rules of a slot, and may give the last unit of one of its classes.
+#[tactic(auto, using(ac_cloud::proofs::Ranges::range_more, ac_cloud::proofs::Ranges::range_end))]
 fn some_gives_last(cloud: &Cloud, query: &Query, s: usize) -> bool
     requires { s < length (slots_of (asked_of query.now)) }
     ensures { result ≡ some_provider (providers_of cloud.now) (asked_of query.now) s
         (gives_last (providers_of cloud.now) (asked_of query.now)) }
 {
-    (0..cloud.len()).any(|ix| gives_last(cloud, query, s, ix))
+    (0..cloud.len()).any(|ix| gives_last(&Placed::new(cloud, query, s, ix)))
 }
 
-/// Whether some provider does for some slot.
-#[tactic(auto, using(ac_rules::proofs::PlacedLemmas::range_more, ac_rules::proofs::PlacedLemmas::range_end), unfolding(crate::specs::Differing::takes_last_unit))]
+/// Whether of some slot some provider meets the rules, and may give the last unit of one of its classes.
+#[tactic(auto, using(ac_cloud::proofs::Ranges::range_more, ac_cloud::proofs::Ranges::range_end), unfolding(crate::specs::Differing::takes_last_unit))]
 pub(crate) fn takes_last_unit(cloud: &Cloud, query: &Query) -> bool
     ensures { result ≡ takes_last_unit (providers_of cloud.now) (asked_of query.now) }
 {

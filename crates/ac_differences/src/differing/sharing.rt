@@ -2,7 +2,8 @@
 ghost use Rattle.std.specs.Prelude.{◌≡◌, ◌<◌, ◌&&◌, ◌||◌, not, length};
 ghost use Rattle.std.specs.List.{list_all, list_any};
 ghost use Rattle.std.specs.Option.{is_some};
-ghost use Rattle.ac_cloud.specs.World.{id_at, is_member, is_root, provider_at};
+ghost use Rattle.ac_cloud.specs.Providers.{provider_of};
+ghost use Rattle.ac_cloud.specs.World.{is_member, is_root};
 ghost use Rattle.ac_cloud.specs.Cloud.CloudWorld.{providers_of};
 ghost use Rattle.ac_query.specs.Asked.{slots_of};
 ghost use Rattle.ac_query.specs.Shown.Groups.{rule_shown};
@@ -15,8 +16,9 @@ use super::fitting::{
     fits_with_its_root, is_in_any, is_lent, lends_by_its_root, lends_from_below, lends_outside,
 };
 use ac_base::Id;
-use ac_cloud::Cloud;
+use ac_cloud::{Cloud, Provider};
 use ac_query::{AggregateRule, Query};
+use ac_rules::Placed;
 use ac_rules::slots::{count_slots, group_at, is_suffixed, needs_at};
 
 // Whether a slot asks for no resources.
@@ -44,7 +46,7 @@ fn may_share(query: &Query, s: usize) -> bool
 }
 
 // Whether some slot has no suffix.
-#[tactic(auto, using(ac_rules::proofs::PlacedLemmas::range_more, ac_rules::proofs::PlacedLemmas::range_end))]
+#[tactic(auto, using(ac_cloud::proofs::Ranges::range_more, ac_cloud::proofs::Ranges::range_end))]
 fn has_unsuffixed(query: &Query) -> bool
     ensures { result ≡ list_any (λ s. not (is_suffixed (asked_of query.now) s))
         (slot_places (asked_of query.now)) }
@@ -63,7 +65,7 @@ fn is_left_to_share(cloud: &Cloud, query: &Query, s: usize) -> bool
 }
 
 // Whether each slot is.
-#[tactic(auto, using(ac_rules::proofs::PlacedLemmas::range_more, ac_rules::proofs::PlacedLemmas::range_end))]
+#[tactic(auto, using(ac_cloud::proofs::Ranges::range_more, ac_cloud::proofs::Ranges::range_end))]
 fn are_left_to_share(cloud: &Cloud, query: &Query) -> bool
     ensures { result ≡ list_all (λ s. is_suffixed (asked_of query.now) s
         || (may_share (asked_of query.now) s
@@ -84,17 +86,17 @@ pub(crate) fn shares_whole_group(cloud: &Cloud, query: &Query) -> bool
 }
 
 // Whether some sharing provider below a parent meets the rules of a slot.
-#[tactic(auto, using(ac_rules::proofs::PlacedLemmas::range_more, ac_rules::proofs::PlacedLemmas::range_end))]
+#[tactic(auto, using(ac_cloud::proofs::Ranges::range_more, ac_cloud::proofs::Ranges::range_end))]
 fn is_lent_from_below(cloud: &Cloud, query: &Query, s: usize) -> bool
     requires { s < length (slots_of (asked_of query.now)) }
     ensures { result ≡ some_provider (providers_of cloud.now) (asked_of query.now) s
         (lends_from_below (providers_of cloud.now)) }
 {
-    (0..cloud.len()).any(|ix| lends_from_below(cloud, query, s, ix))
+    (0..cloud.len()).any(|ix| lends_from_below(&Placed::new(cloud, query, s, ix)))
 }
 
 /// Whether some sharing provider below a parent meets the rules of a slot that the service may fill from another tree.
-#[tactic(auto, using(ac_rules::proofs::PlacedLemmas::range_more, ac_rules::proofs::PlacedLemmas::range_end))]
+#[tactic(auto, using(ac_cloud::proofs::Ranges::range_more, ac_cloud::proofs::Ranges::range_end))]
 pub(crate) fn some_lends_from_below(cloud: &Cloud, query: &Query) -> bool
     ensures { result ≡ some_sharing (providers_of cloud.now) (asked_of query.now)
         (lends_from_below (providers_of cloud.now)) }
@@ -103,17 +105,17 @@ pub(crate) fn some_lends_from_below(cloud: &Cloud, query: &Query) -> bool
 }
 
 // Whether some sharing provider meets the rules of a slot, but those on aggregates only by its root.
-#[tactic(auto, using(ac_rules::proofs::PlacedLemmas::range_more, ac_rules::proofs::PlacedLemmas::range_end))]
+#[tactic(auto, using(ac_cloud::proofs::Ranges::range_more, ac_cloud::proofs::Ranges::range_end))]
 fn is_lent_by_a_root(cloud: &Cloud, query: &Query, s: usize) -> bool
     requires { s < length (slots_of (asked_of query.now)) }
     ensures { result ≡ some_provider (providers_of cloud.now) (asked_of query.now) s
         (lends_by_its_root (providers_of cloud.now)) }
 {
-    (0..cloud.len()).any(|ix| lends_by_its_root(cloud, query, s, ix))
+    (0..cloud.len()).any(|ix| lends_by_its_root(&Placed::new(cloud, query, s, ix)))
 }
 
 /// Whether one does so for a slot that the service may fill from another tree.
-#[tactic(auto, using(ac_rules::proofs::PlacedLemmas::range_more, ac_rules::proofs::PlacedLemmas::range_end))]
+#[tactic(auto, using(ac_cloud::proofs::Ranges::range_more, ac_cloud::proofs::Ranges::range_end))]
 pub(crate) fn some_lends_by_its_root(cloud: &Cloud, query: &Query) -> bool
     ensures { result ≡ some_sharing (providers_of cloud.now) (asked_of query.now)
         (lends_by_its_root (providers_of cloud.now)) }
@@ -122,17 +124,17 @@ pub(crate) fn some_lends_by_its_root(cloud: &Cloud, query: &Query) -> bool
 }
 
 // Whether some provider meets the rules of a slot, but those on aggregates only together with its root.
-#[tactic(auto, using(ac_rules::proofs::PlacedLemmas::range_more, ac_rules::proofs::PlacedLemmas::range_end))]
+#[tactic(auto, using(ac_cloud::proofs::Ranges::range_more, ac_cloud::proofs::Ranges::range_end))]
 fn is_met_in_halves(cloud: &Cloud, query: &Query, s: usize) -> bool
     requires { s < length (slots_of (asked_of query.now)) }
     ensures { result ≡ some_provider (providers_of cloud.now) (asked_of query.now) s
         (fits_with_its_root (providers_of cloud.now)) }
 {
-    (0..cloud.len()).any(|ix| fits_with_its_root(cloud, query, s, ix))
+    (0..cloud.len()).any(|ix| fits_with_its_root(&Placed::new(cloud, query, s, ix)))
 }
 
 /// Whether one does so for a slot without a suffix.
-#[tactic(auto, using(ac_rules::proofs::PlacedLemmas::range_more, ac_rules::proofs::PlacedLemmas::range_end), unfolding(crate::specs::Differing::meets_in_halves))]
+#[tactic(auto, using(ac_cloud::proofs::Ranges::range_more, ac_cloud::proofs::Ranges::range_end), unfolding(crate::specs::Differing::meets_in_halves))]
 pub(crate) fn meets_in_halves(cloud: &Cloud, query: &Query) -> bool
     ensures { result ≡ meets_in_halves (providers_of cloud.now) (asked_of query.now) }
 {
@@ -140,31 +142,29 @@ pub(crate) fn meets_in_halves(cloud: &Cloud, query: &Query) -> bool
 }
 
 // Whether a provider is a root in one of these aggregates.
-#[tactic(auto, using(ac_rules::proofs::EachSlot::AnchorLemmas::available_itself))]
-fn is_root_in(cloud: &Cloud, ix: u32, ids: &[Id]) -> bool
-    requires { ix < length (providers_of cloud.now) }
-    ensures { result ≡ (is_root (providers_of cloud.now) (id_at (providers_of cloud.now) ix)
-        && list_any (is_member (provider_at (providers_of cloud.now) ix)) ids.now) }
+fn is_root_in(provider: &Provider, ids: &[Id]) -> bool
+    ensures { result ≡ (is_root (providers_of provider.now.cloud.now) (provider_of provider.now).id
+        && list_any (is_member (provider_of provider.now)) ids.now) }
 {
-    cloud.available(ix, ix) && is_in_any(cloud, ix, ids)
+    provider.is_root() && is_in_any(provider, ids)
 }
 
 // Whether some root is in one of these aggregates.
-#[tactic(auto, using(ac_rules::proofs::PlacedLemmas::range_more, ac_rules::proofs::PlacedLemmas::range_end))]
+#[tactic(auto, using(ac_cloud::proofs::Ranges::range_more, ac_cloud::proofs::Ranges::range_end))]
 fn has_root_in(cloud: &Cloud, ids: &[Id]) -> bool
     ensures { result ≡ has_root_in (providers_of cloud.now) ids.now }
 {
-    (0..cloud.len()).any(|ix| is_root_in(cloud, ix, ids))
+    (0..cloud.len()).any(|ix| is_root_in(&cloud.provider(ix), ids))
 }
 
 // Whether some sharing provider has what a slot asks for, and meets a rule by its own aggregates.
-#[tactic(auto, using(ac_rules::proofs::PlacedLemmas::range_more, ac_rules::proofs::PlacedLemmas::range_end))]
+#[tactic(auto, using(ac_cloud::proofs::Ranges::range_more, ac_cloud::proofs::Ranges::range_end))]
 fn is_lent_outside(cloud: &Cloud, query: &Query, s: usize, rule: &AggregateRule) -> bool
     requires { s < length (slots_of (asked_of query.now)) }
     ensures { result ≡ some_provider (providers_of cloud.now) (asked_of query.now) s
         (lends_outside (providers_of cloud.now) (rule_shown rule.now)) }
 {
-    (0..cloud.len()).any(|ix| lends_outside(cloud, query, s, rule, ix))
+    (0..cloud.len()).any(|ix| lends_outside(&Placed::new(cloud, query, s, ix), rule))
 }
 
 // Whether a rule forbids aggregates that some root is in, and some sharing provider with what a slot asks for isn't.
@@ -190,7 +190,7 @@ fn is_lent_beside_forbidden(cloud: &Cloud, query: &Query, s: usize) -> bool
 }
 
 /// Whether one of the rules does of some slot that the service may fill from another tree.
-#[tactic(auto, using(ac_rules::proofs::PlacedLemmas::range_more, ac_rules::proofs::PlacedLemmas::range_end), unfolding(crate::specs::Differing::lends_beside_forbidden))]
+#[tactic(auto, using(ac_cloud::proofs::Ranges::range_more, ac_cloud::proofs::Ranges::range_end), unfolding(crate::specs::Differing::lends_beside_forbidden))]
 pub(crate) fn lends_beside_forbidden(cloud: &Cloud, query: &Query) -> bool
     ensures { result ≡ lends_beside_forbidden (providers_of cloud.now) (asked_of query.now) }
 {
@@ -209,7 +209,7 @@ fn is_lent_in_tree(cloud: &Cloud, query: &Query, s: usize) -> bool
 }
 
 /// Whether some slot has.
-#[tactic(auto, using(ac_rules::proofs::PlacedLemmas::range_more, ac_rules::proofs::PlacedLemmas::range_end), unfolding(crate::specs::Differing::lends_in_tree))]
+#[tactic(auto, using(ac_cloud::proofs::Ranges::range_more, ac_cloud::proofs::Ranges::range_end), unfolding(crate::specs::Differing::lends_in_tree))]
 pub(crate) fn lends_in_tree(cloud: &Cloud, query: &Query) -> bool
     ensures { result ≡ lends_in_tree (providers_of cloud.now) (asked_of query.now) }
 {
@@ -217,7 +217,7 @@ pub(crate) fn lends_in_tree(cloud: &Cloud, query: &Query) -> bool
 }
 
 // Whether some slot asks for no resources.
-#[tactic(auto, using(ac_rules::proofs::PlacedLemmas::range_more, ac_rules::proofs::PlacedLemmas::range_end))]
+#[tactic(auto, using(ac_cloud::proofs::Ranges::range_more, ac_cloud::proofs::Ranges::range_end))]
 fn has_bare_slot(query: &Query) -> bool
     ensures { result ≡ list_any (λ s. is_bare_slot (asked_of query.now) s)
         (slot_places (asked_of query.now)) }
@@ -226,7 +226,7 @@ fn has_bare_slot(query: &Query) -> bool
 }
 
 // Whether some sharing provider meets the rules of a slot that asks for no resources.
-#[tactic(auto, using(ac_rules::proofs::PlacedLemmas::range_more, ac_rules::proofs::PlacedLemmas::range_end))]
+#[tactic(auto, using(ac_cloud::proofs::Ranges::range_more, ac_cloud::proofs::Ranges::range_end))]
 fn is_bare_lent(cloud: &Cloud, query: &Query) -> bool
     ensures { result ≡ list_any (λ s. is_bare_slot (asked_of query.now) s
         && is_lent (providers_of cloud.now) (asked_of query.now) s)
@@ -236,7 +236,7 @@ fn is_bare_lent(cloud: &Cloud, query: &Query) -> bool
 }
 
 // Whether for each slot with resources some sharing provider meets its rules.
-#[tactic(auto, using(ac_rules::proofs::PlacedLemmas::range_more, ac_rules::proofs::PlacedLemmas::range_end))]
+#[tactic(auto, using(ac_cloud::proofs::Ranges::range_more, ac_cloud::proofs::Ranges::range_end))]
 fn are_others_lent(cloud: &Cloud, query: &Query) -> bool
     ensures { result ≡ list_all (λ s. is_bare_slot (asked_of query.now) s
         || is_lent (providers_of cloud.now) (asked_of query.now) s)

@@ -9,10 +9,10 @@ ghost use Rattle.ac_rules.specs.Shown.Assignments.{assigned_of, placed_of};
 ghost use Rattle.ac_explain.specs.Broken.{class_text, crowded_detail, first_crowded, left_text, sum_text, sums_detail};
 
 use super::{first_misfit, id_text};
-use crate::details::{left_of, none_text};
-use ac_base::{ClassName, Inventory, NoMemory};
+use crate::details::none_text;
+use ac_base::{ClassName, NoMemory};
+use ac_cloud::Provider;
 use ac_query::Need;
-use ac_rules::slots::needs_at;
 use ac_rules::{Assignment, Placed, Rule};
 use std::alloc::Global;
 
@@ -21,7 +21,8 @@ fn first_crowded<'a>(assignment: &Assignment<'a>, placed: &Placed<'a>) -> Option
     ensures { option_map (λ need. need_entry need.now) result ≡ first_crowded
         (providers_of placed.now.cloud.now) (assigned_of assignment.now) (placed_of placed.now) }
 {
-    needs_at(placed.query, placed.slot)
+    placed
+        .needs()
         .iter()
         .find(|need| !assignment.has_room_for(placed, need.class()))
 }
@@ -42,27 +43,25 @@ fn sum_text(alloc: Global, class: &str, id: &str, left: &str, sum: u128) -> Resu
     Ok(format!(in alloc; "{class} on {id}, {left}, {sum} asked")?)
 }
 
-// That of a class of which a provider has an inventory, and else that it has none.
+// A class of which a provider has too little: what is left of it and the sum that is asked, or that it has none.
 fn class_text(
     alloc: Global,
     assignment: &Assignment,
-    placed: &Placed,
+    provider: &Provider,
     class: &ClassName,
 ) -> Result<String, NoMemory>
     ensures { IfOk result (λ text. string_bytes text ≡ class_text
-        (providers_of placed.now.cloud.now) (assigned_of assignment.now) placed.now.provider
+        (providers_of provider.now.cloud.now) (assigned_of assignment.now) provider.now.ix
         (class_bytes class.now)) }
 {
-    match placed.cloud.inventory(placed.provider, class) {
-        Some(inventory) => {
-            let id = id_text(alloc, placed.cloud, placed.provider)?;
-            let left = left_of(placed, class, inventory);
-            let left = left_text(alloc, left, inventory.capacity(), inventory.max_unit())?;
-            let sum = assignment.sum_on(placed.provider, class);
-            sum_text(alloc, class.text(), &id, &left, sum)
-        }
-        None => none_text(alloc, class.text()),
-    }
+    let Some(inventory) = provider.inventory(class) else {
+        return none_text(alloc, class.text());
+    };
+    let id = id_text(alloc, provider)?;
+    let left = provider.left(class);
+    let left = left_text(alloc, left, inventory.capacity(), inventory.max_unit())?;
+    let sum = assignment.sum_on(provider.ix, class);
+    sum_text(alloc, class.text(), &id, &left, sum)
 }
 
 fn crowded_detail(
@@ -74,7 +73,7 @@ fn crowded_detail(
         (providers_of placed.now.cloud.now) (assigned_of assignment.now) (placed_of placed.now)) }
 {
     match first_crowded(assignment, placed) {
-        Some(need) => class_text(alloc, assignment, placed, need.class()),
+        Some(need) => class_text(alloc, assignment, &placed.its_provider(), need.class()),
         None => Ok(String::new(alloc)),
     }
 }

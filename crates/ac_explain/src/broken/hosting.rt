@@ -13,7 +13,7 @@ use super::id_text;
 use crate::details::root_detail;
 use crate::details::traits::push_part;
 use ac_base::{NoMemory, Suffix};
-use ac_cloud::Cloud;
+use ac_cloud::Provider;
 use ac_query::Query;
 use ac_rules::Assignment;
 use std::alloc::Global;
@@ -58,7 +58,7 @@ pub(crate) fn subtree_detail(alloc: Global, assignment: &Assignment) -> Result<S
 }
 
 // Whether a provider is a root in whose tree every provider is available.
-#[tactic(auto, using(ac_rules::proofs::EachSlot::AnchorLemmas::available_itself, ac_rules::proofs::EachSlot::AnchorLemmas::hosts_list))]
+#[tactic(auto, using(ac_cloud::proofs::Roots::available_itself, ac_rules::proofs::EachSlot::AnchorLemmas::hosts_list))]
 fn hosts_all(assignment: &Assignment, root: u32) -> bool
     requires { root < length (providers_of assignment.now.cloud.now) }
     ensures { result
@@ -81,13 +81,12 @@ fn first_host(assignment: &Assignment) -> Option<u32>
 
 // A root, and what the query asks of it.
 #[tactic(auto, unfolding(crate::specs::Broken::host_text))]
-fn host_text(alloc: Global, cloud: &Cloud, query: &Query, root: u32) -> Result<String, NoMemory>
-    requires { root < length (providers_of cloud.now) }
+fn host_text(alloc: Global, root: &Provider, query: &Query) -> Result<String, NoMemory>
     ensures { IfOk result (λ text. string_bytes text
-        ≡ host_text (providers_of cloud.now) (asked_of query.now) root) }
+        ≡ host_text (providers_of root.now.cloud.now) (asked_of query.now) root.now.ix) }
 {
-    let id = id_text(alloc, cloud, root)?;
-    let detail = root_detail(alloc, cloud, query, root)?;
+    let id = id_text(alloc, root)?;
+    let detail = root_detail(alloc, root, query)?;
     Ok(format!(in alloc; "on {id}, {detail}")?)
 }
 
@@ -98,7 +97,13 @@ pub(crate) fn anchor_detail(alloc: Global, assignment: &Assignment) -> Result<St
         (asked_of assignment.now.query.now) (assigned_of assignment.now)) }
 {
     match first_host(assignment) {
-        Some(root) => host_text(alloc, assignment.cloud, assignment.query, root),
+        Some(ix) => {
+            let root = Provider {
+                cloud: assignment.cloud,
+                ix,
+            };
+            host_text(alloc, &root, assignment.query)
+        }
         None => Ok(String::from_str(alloc, "no root gives all of them")?),
     }
 }

@@ -35,7 +35,7 @@ fn pair_text(alloc: Global, assignment: &Assignment, s: usize, t: usize) -> Resu
     ensures { IfOk result (λ text. string_bytes text ≡ pair_text
         (providers_of assignment.now.cloud.now) assignment.now.list.now s t) }
 {
-    let id = id_text(alloc, assignment.cloud, assignment.list[s])?;
+    let id = id_text(alloc, &assignment.slot(s).its_provider())?;
     let first = s + 1;
     let second = t + 1;
     Ok(format!(in alloc; "slots {first} and {second} on {id}")?)

@@ -1,7 +1,8 @@
 //! Which trait a provider lacks, and which it may not have.
-ghost use Rattle.std.specs.Prelude.{◌≡◌, ◌++◌, ◌<◌, IfOk, OnOk, length, map, string_bytes};
+ghost use Rattle.std.specs.Prelude.{◌≡◌, ◌++◌, IfOk, OnOk, map, string_bytes};
 ghost use Rattle.std.specs.Option.{option_map};
 ghost use Rattle.ac_base.specs.Names.{trait_bytes};
+ghost use Rattle.ac_cloud.specs.Providers.{provider_of};
 ghost use Rattle.ac_cloud.specs.World.{provider_at};
 ghost use Rattle.ac_cloud.specs.Cloud.CloudWorld.{providers_of};
 ghost use Rattle.ac_query.specs.Shown.Groups.{any_of_shown, group_asked};
@@ -10,11 +11,10 @@ ghost use Rattle.ac_rules.specs.Shown.Assignments.{placed_of};
 ghost use Rattle.ac_explain.specs.Details.{choice_detail, disabled_note, first_had, first_missing, first_unserved, forbidden_detail, forbidden_text, missing_text, none_of_text, part_text, required_detail, root_detail, root_forbidden_detail, root_forbidden_text, traits_detail};
 
 use ac_base::{NoMemory, TraitName};
-use ac_cloud::Cloud;
+use ac_cloud::Provider;
 use ac_query::{AnyOf, Group, Query};
 use ac_rules::Placed;
 use ac_rules::rules::traits::has_any;
-use ac_rules::slots::group_at;
 use std::alloc::Global;
 
 /// A trait that is missing.
@@ -58,67 +58,56 @@ pub(crate) fn none_of_text(alloc: Global, names: &[TraitName]) -> Result<String,
 }
 
 // The first of some traits that a provider hasn't.
-fn first_missing<'a>(cloud: &Cloud, ix: u32, names: &'a [TraitName]) -> Option<&'a TraitName>
-    requires { ix < length (providers_of cloud.now) }
+fn first_missing<'a>(provider: &Provider, names: &'a [TraitName]) -> Option<&'a TraitName>
     ensures { option_map (λ name. trait_bytes name.now) result
-        ≡ first_missing (provider_at (providers_of cloud.now) ix) (map trait_bytes names.now) }
+        ≡ first_missing (provider_of provider.now) (map trait_bytes names.now) }
 {
-    names.iter().find(|name| !cloud.has_trait(ix, name))
+    names.iter().find(|name| !provider.has_trait(name))
 }
 
 // The first of some traits that a provider has.
-fn first_had<'a>(cloud: &Cloud, ix: u32, names: &'a [TraitName]) -> Option<&'a TraitName>
-    requires { ix < length (providers_of cloud.now) }
+fn first_had<'a>(provider: &Provider, names: &'a [TraitName]) -> Option<&'a TraitName>
     ensures { option_map (λ name. trait_bytes name.now) result
-        ≡ first_had (provider_at (providers_of cloud.now) ix) (map trait_bytes names.now) }
+        ≡ first_had (provider_of provider.now) (map trait_bytes names.now) }
 {
-    names.iter().find(|name| cloud.has_trait(ix, name))
+    names.iter().find(|name| provider.has_trait(name))
 }
 
 // The first of some lists none of whose traits a provider has.
-fn first_unserved<'a>(cloud: &Cloud, ix: u32, lists: &'a [AnyOf]) -> Option<&'a AnyOf>
-    requires { ix < length (providers_of cloud.now) }
+fn first_unserved<'a>(provider: &Provider, lists: &'a [AnyOf]) -> Option<&'a AnyOf>
     ensures { option_map (λ list. any_of_shown list.now) result
-        ≡ first_unserved (provider_at (providers_of cloud.now) ix) (map any_of_shown lists.now) }
+        ≡ first_unserved (provider_of provider.now) (map any_of_shown lists.now) }
 {
-    lists.iter().find(|list| !has_any(cloud, ix, list.names()))
+    lists.iter().find(|list| !has_any(provider, list.names()))
 }
 
-fn forbidden_detail(
-    alloc: Global,
-    cloud: &Cloud,
-    ix: u32,
-    group: &Group,
-) -> Result<String, NoMemory>
-    requires { ix < length (providers_of cloud.now) }
+fn forbidden_detail(alloc: Global, provider: &Provider, group: &Group) -> Result<String, NoMemory>
     ensures { IfOk result (λ text. string_bytes text ≡ forbidden_detail
-        (provider_at (providers_of cloud.now) ix) (group_asked group.now)) }
+        (provider_of provider.now) (group_asked group.now)) }
 {
-    match first_had(cloud, ix, group.forbidden()) {
+    match first_had(provider, group.forbidden()) {
         Some(name) => forbidden_text(alloc, name),
         None => Ok(String::new(alloc)),
     }
 }
 
-fn choice_detail(alloc: Global, cloud: &Cloud, ix: u32, group: &Group) -> Result<String, NoMemory>
-    requires { ix < length (providers_of cloud.now) }
+fn choice_detail(alloc: Global, provider: &Provider, group: &Group) -> Result<String, NoMemory>
     ensures { IfOk result (λ text. string_bytes text ≡ choice_detail
-        (provider_at (providers_of cloud.now) ix) (group_asked group.now)) }
+        (provider_of provider.now) (group_asked group.now)) }
 {
-    match first_unserved(cloud, ix, group.any_of()) {
+    match first_unserved(provider, group.any_of()) {
         Some(list) => none_of_text(alloc, list.names()),
-        None => forbidden_detail(alloc, cloud, ix, group),
+        None => forbidden_detail(alloc, provider, group),
     }
 }
 
-fn required_detail(alloc: Global, cloud: &Cloud, ix: u32, group: &Group) -> Result<String, NoMemory>
-    requires { ix < length (providers_of cloud.now) }
+fn required_detail(alloc: Global, provider: &Provider, group: &Group) -> Result<String, NoMemory>
     ensures { IfOk result (λ text. string_bytes text ≡ required_detail
-        (provider_at (providers_of cloud.now) ix) (group_asked group.now)) }
+        (provider_of provider.now) (group_asked group.now)) }
 {
-    match first_missing(cloud, ix, group.required()) {
+    match first_missing(provider, group.required()) {
         Some(name) => missing_text(alloc, name),
-        None => choice_detail(alloc, cloud, ix, group),
+        None => choice_detail(alloc, provider, group),
     }
 }
 
@@ -128,11 +117,11 @@ pub fn traits_detail(alloc: Global, placed: &Placed) -> Result<String, NoMemory>
         (provider_at (providers_of placed.now.cloud.now) placed.now.provider)
         (placed_of placed.now).slot.suffix (placed_of placed.now).slot.group) }
 {
-    let group = group_at(placed.query, placed.slot);
+    let group = placed.group();
     if group.suffix().is_some() {
-        required_detail(alloc, placed.cloud, placed.provider, group)
+        required_detail(alloc, &placed.its_provider(), group)
     } else {
-        forbidden_detail(alloc, placed.cloud, placed.provider, group)
+        forbidden_detail(alloc, &placed.its_provider(), group)
     }
 }
 
@@ -155,35 +144,23 @@ fn root_forbidden_text(alloc: Global, name: &TraitName) -> Result<String, NoMemo
     Ok(format!(in alloc; "{name} forbidden{note}")?)
 }
 
-fn root_forbidden_detail(
-    alloc: Global,
-    cloud: &Cloud,
-    query: &Query,
-    root: u32,
-) -> Result<String, NoMemory>
-    requires { root < length (providers_of cloud.now) }
+fn root_forbidden_detail(alloc: Global, root: &Provider, query: &Query) -> Result<String, NoMemory>
     ensures { IfOk result (λ text. string_bytes text ≡ root_forbidden_detail
-        (provider_at (providers_of cloud.now) root) (asked_of query.now)) }
+        (provider_of root.now) (asked_of query.now)) }
 {
-    match first_had(cloud, root, query.root_forbidden()) {
+    match first_had(root, query.root_forbidden()) {
         Some(name) => root_forbidden_text(alloc, name),
         None => Ok(String::new(alloc)),
     }
 }
 
 /// What is wrong with the traits of a root: the first required one that it hasn't, else the first forbidden one that it has.
-pub fn root_detail(
-    alloc: Global,
-    cloud: &Cloud,
-    query: &Query,
-    root: u32,
-) -> Result<String, NoMemory>
-    requires { root < length (providers_of cloud.now) }
+pub fn root_detail(alloc: Global, root: &Provider, query: &Query) -> Result<String, NoMemory>
     ensures { IfOk result (λ text. string_bytes text ≡ root_detail
-        (provider_at (providers_of cloud.now) root) (asked_of query.now)) }
+        (provider_of root.now) (asked_of query.now)) }
 {
-    match first_missing(cloud, root, query.root_required()) {
+    match first_missing(root, query.root_required()) {
         Some(name) => missing_text(alloc, name),
-        None => root_forbidden_detail(alloc, cloud, query, root),
+        None => root_forbidden_detail(alloc, root, query),
     }
 }

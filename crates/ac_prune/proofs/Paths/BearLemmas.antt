@@ -7,11 +7,10 @@ use Rattle.std.proofs.Math.Nat.{le-div_iff_mul-le}
 use Rattle.ac_query.specs.Asked.{Asked, Slot, slots_of, is_isolated}
 use Rattle.ac_cloud.specs.World.{Provider}
 use Rattle.ac_rules.specs.Placed.{Placed, placed, assigned}
-use Rattle.ac_rules.specs.Own.{units_fit, traits_fit, aggregates_fit, tree_fits}
+use Rattle.ac_rules.specs.Own.{units_fit, traits_fit, aggregates_fit, tree_fits, fits}
 use Rattle.ac_prune.specs.Left.{room_on}
 use Rattle.ac_rules.specs.Together.{amount_of, sum_on, holds_sums, sums, is_set_apart, are_apart, all_apart, isolate}
 use Rattle.ac_rules.specs.Judge.{is_open}
-use Rattle.ac_prune.specs.QuerySearch.{fits}
 use Rattle.ac_prune.specs.Ahead.{weight_on, later, Bears, left_on, asks_much, asks_own, lone_much, serves}
 use Rattle.ac_rules.proofs.Elements.{each_weaker, each_both}
 use Rattle.ac_rules.proofs.PlacedLemmas.{placed_append}

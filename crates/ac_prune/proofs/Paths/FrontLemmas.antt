@@ -4,7 +4,8 @@ use Rattle.std.specs.List.{AllByRecursion as Each}
 use Rattle.std.proofs.lemmas.List.Elements.{recursion_from_All}
 use Rattle.ac_rules.specs.Lists.{IsListBelow}
 use Rattle.ac_prune.specs.Search.{IsDead}
-use Rattle.ac_prune.specs.QuerySearch.{choice_of, fits}
+use Rattle.ac_rules.specs.Own.{fits}
+use Rattle.ac_prune.specs.QuerySearch.{choice_of}
 use Rattle.ac_rules.specs.Placed.{placed_at, slot_at}
 use Rattle.ac_rules.specs.Judge.{is_open}
 use Rattle.ac_rules.proofs.SlotLemmas.{each_at}

@@ -27,7 +27,8 @@ use Rattle.ac_cloud.specs.World.{Provider, provider_at, anchors_of}
 use Rattle.ac_rules.specs.Placed.{placed, placed_at, slot_at, no_slot, assigned}
 use Rattle.ac_rules.specs.Together.{amount_of, sum_on, holds, sums, isolate, takes_root}
 use Rattle.ac_rules.specs.Judge.{is_open}
-use Rattle.ac_prune.specs.QuerySearch.{fits, has_room_alone}
+use Rattle.ac_rules.specs.Own.{fits}
+use Rattle.ac_prune.specs.QuerySearch.{has_room_alone}
 use Rattle.ac_rules.specs.Laws.{AskAmounts}
 use Rattle.ac_rules.specs.Room.{class_number, IsKnown}
 use Rattle.ac_prune.specs.Left.{AreLeft, AreRooms, ask_pair, numbered, wanted, wanted_at, has_each, suffices}

@@ -16,7 +16,8 @@ use Rattle.ac_prune.specs.Marks.{stand_at, stand_at_marked}
 use Rattle.ac_prune.specs.Search.{IsDead}
 use Rattle.ac_rules.specs.Placed.{Placed, placed, slot_at, no_slot, assigned}
 use Rattle.ac_rules.specs.Together.{amount_of, sum_on, holds, takes_root}
-use Rattle.ac_prune.specs.QuerySearch.{fits, choice_of, search_of}
+use Rattle.ac_rules.specs.Own.{fits}
+use Rattle.ac_prune.specs.QuerySearch.{choice_of, search_of}
 use Rattle.ac_rules.specs.Room.{class_number, IsKnown}
 use Rattle.ac_prune.specs.Left.{ask_pair, numbered, wanted}
 use Rattle.ac_prune.specs.Left.Accounts.{providers_in, asked_in, texts_in, left_in}

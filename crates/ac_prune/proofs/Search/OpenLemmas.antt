@@ -15,7 +15,8 @@ use Rattle.ac_rules.specs.Placed.{Placed, placed, placed_at, slot_at, no_slot, a
 use Rattle.ac_rules.specs.Together.{amount_of, sum_on, holds, holds_sums, sums, isolate, anchor}
 use Rattle.ac_rules.specs.Judge.{tests, is_candidate, is_open, is_open_at}
 use Rattle.ac_prune.specs.Search.{choices_at}
-use Rattle.ac_prune.specs.QuerySearch.{fits, has_room_alone, choice_of, completes, search_of}
+use Rattle.ac_rules.specs.Own.{fits}
+use Rattle.ac_prune.specs.QuerySearch.{has_room_alone, choice_of, completes, search_of}
 use Rattle.ac_rules.proofs.Elements.{Among, each_filter, each_weaker, each_all, among_filter, filter_none}
 use Rattle.ac_rules.proofs.Lists.ListLemmas.{among_range}
 use Rattle.ac_rules.proofs.EachSlot.AnchorLemmas.{each_range}

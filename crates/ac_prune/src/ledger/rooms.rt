@@ -72,7 +72,7 @@ fn push_row(
     ensures small { IfOk result (λ _. (i : ℕ) → slice_index rooms.new.items i < 2 ^ 64) }
 {
     for class in classes {
-        rooms.push(room_at(cloud, ix, class).unwrap_or(0))?;
+        rooms.push(room_at(&cloud.provider(ix), class).unwrap_or(0))?;
     }
     Ok(())
 }

@@ -13,26 +13,6 @@ use Rattle.ac_rules.specs.Placed.{placed}
 use Rattle.ac_rules.specs.Together.{takes_root, hosts_all, anchor}
 use Rattle.ac_rules.proofs.Elements.{each_weaker, each_filter}
 
--- who has no parent stays
-stays : (parent : ℕ → Option ℕ) (k p : ℕ) → parent p ≡ None → climb (up parent) k p ≡ p
-stays parent zero p h = refl
-stays parent (suc k) p h = rw h (stays parent k p h)
-
-none_is : (o : Option ℕ) → is_none o ≡ true → o ≡ None
-none_is None h = refl
-none_is (Some x) h = absurd (false≢true h)
-
-own_root : (all : List Provider) (id : ℕ) → is_root all id ≡ true → root_of all id ≡ id
-own_root all id h =
-    stays (parent_of all) (length all) id (none_is (parent_of all id) (and_parts (is_some (place_of all id)) (is_none (parent_of all id)) h).1)
-
--- a provider is available in its own tree exactly where it is a root
-pub available_itself : (all : List Provider) (r : ℕ) → is_available_at all r r ≡ is_root all (id_at all r)
-available_itself all r = elim (cases_Bool (is_root all (id_at all r))) [
-  | inl e ↦ let same = eq-eqb (root_of all (id_at all r)) (id_at all r) (own_root all (id_at all r) e) in rw (e, same) refl
-  | inr e ↦ rw e refl
-]
-
 -- a test of those that pass another
 pub any_filter : (f g : ℕ → Bool) (zs : List ℕ) → list_any f (filter g zs) ≡ list_any (λ z. g z && f z) zs
 any_filter f g [] = refl

@@ -6,12 +6,12 @@ use Rattle.std.proofs.lemmas.Bool.Decides.{nat_tests}
 use Rattle.ac_query.specs.Asked.{Asked, Group}
 use Rattle.ac_query.specs.Pairs.Values.{AggregateRule}
 use Rattle.ac_cloud.specs.Amounts.{provider_using, with_amounts}
-use Rattle.ac_cloud.specs.World.{UsedInventory, Provider, provider_at, id_at, place_of, root_of, entry_in, used_of, has_trait, is_member, is_above, is_root}
+use Rattle.ac_cloud.specs.World.{UsedInventory, Provider, provider_at, id_at, place_of, root_of, root_provider, entry_in, used_of, has_trait, is_member, is_above, is_root}
 use Rattle.ac_cloud.proofs.Amounts.{above, amounts_again, amounts_alone, amounts_here, amounts_kept, amounts_same, amounts_size, are_roots, available, entries, places, roots}
 use Rattle.ac_rules.specs.Claims.{claimed, released, is_in_use, uses_sums}
 use Rattle.ac_rules.specs.Judge.{tests, all_hold, is_candidate}
 use Rattle.ac_rules.specs.Laws.{ClaimsAlone, ClaimsNarrow, ClaimsInUse, ReleaseUndoes}
-use Rattle.ac_rules.specs.Own.{inventory_of, admits, units_fit, traits_fit, has_none, has_all, has_required, counts_in, root_provider, meets_rule, aggregates_fit, is_in_tree, tree_fits}
+use Rattle.ac_rules.specs.Own.{inventory_of, admits, units_fit, traits_fit, has_none, has_all, has_required, counts_in, meets_rule, aggregates_fit, is_in_tree, tree_fits}
 use Rattle.ac_rules.specs.Placed.{Placed, assigned}
 use Rattle.ac_rules.specs.Together.{is_brought, is_one_brought, are_brought, collective, sum_on, has_room, holds, holds_sums, sums, listed, is_top, subtree, takes_root, hosts_all, anchor}
 use Rattle.ac_rules.proofs.EachSlot.FrontLemmas.{all_weaker}

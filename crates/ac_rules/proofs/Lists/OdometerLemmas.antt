@@ -7,7 +7,7 @@ use Rattle.std.proofs.lemmas.List.Elements.{All-from_recursion, recursion_from_A
 use Rattle.ac_rules.specs.Lists.{all_lists}
 use Rattle.ac_rules.specs.Shown.Odometer.{successor, successor_by, headed, lists_after, ahead, start}
 use Rattle.ac_rules.specs.declared.plain.odometer.Stage.TheVariants.{Given}
-use Rattle.ac_rules.proofs.PlacedLemmas.{range_more, range_end}
+use Rattle.ac_cloud.proofs.Ranges.{range_more, range_end}
 
 -- the lists with a first number from a on begin with a and zeros
 headed_first : (n k a : ℕ) → a < n → all_lists n k ≡ replicate k 0 ∷ lists_after n (replicate k 0)

@@ -9,22 +9,23 @@ ghost use Rattle.ac_rules.specs.Together.{takes_root, anchor};
 
 use crate::assignment::Assignment;
 use crate::rules::traits::{has_all, has_none};
-use ac_cloud::Cloud;
+use ac_cloud::{Cloud, Provider};
 use ac_query::Query;
 
 /// Whether a provider is a root that has what the query asks of the root.
-#[tactic(auto, using(crate::proofs::EachSlot::AnchorLemmas::available_itself), unfolding(crate::specs::Together::takes_root))]
+#[tactic(auto, unfolding(crate::specs::Together::takes_root))]
 pub fn takes_root(cloud: &Cloud, query: &Query, root: u32) -> bool
     requires { root < length (providers_of cloud.now) }
     ensures { result ≡ takes_root (providers_of cloud.now) (asked_of query.now) root }
 {
-    cloud.available(root, root)
-        && has_all(cloud, root, query.root_required())
-        && has_none(cloud, root, query.root_forbidden())
+    let root = Provider { cloud, ix: root };
+    root.is_root()
+        && has_all(&root, query.root_required())
+        && has_none(&root, query.root_forbidden())
 }
 
 // Whether the query takes some root of the cloud, which may host nothing.
-#[tactic(auto, using(crate::proofs::PlacedLemmas::range_more, crate::proofs::PlacedLemmas::range_end))]
+#[tactic(auto, using(ac_cloud::proofs::Ranges::range_more, ac_cloud::proofs::Ranges::range_end))]
 fn takes_some_root(cloud: &Cloud, query: &Query) -> bool
     ensures { result ≡ list_any (λ r. takes_root (providers_of cloud.now) (asked_of query.now) r)
         (range_with_len 0 (length (providers_of cloud.now))) }

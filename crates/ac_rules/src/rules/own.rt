@@ -5,11 +5,11 @@ ghost use Rattle.std.specs.List.{list_any};
 ghost use Rattle.ac_cloud.specs.World.{provider_at};
 ghost use Rattle.ac_cloud.specs.Cloud.CloudWorld.{providers_of};
 ghost use Rattle.ac_query.specs.Shown.Groups.{need_entry, rule_shown};
-ghost use Rattle.ac_rules.specs.Own.{inventory_of, admits, units_fit, traits_fit, counts_in, meets_rule, aggregates_fit, tree_fits};
+ghost use Rattle.ac_rules.specs.Own.{inventory_of, admits, units_fit, traits_fit, counts_in, meets_rule, aggregates_fit, tree_fits, fits};
 
 use crate::assignment::Placed;
 use crate::rules::traits::{has_none, has_required};
-use crate::slots::{group_at, is_suffixed, needs_at};
+use crate::slots::is_suffixed;
 use ac_base::Id;
 use ac_query::{AggregateRule, Need};
 
@@ -22,7 +22,7 @@ impl<'a> Placed<'a> {
             ≡ admits (inventory_of (provider_at (providers_of self.now.cloud.now) self.now.provider)
             (need_entry need.now).0) (need_entry need.now).1 }
     {
-        match self.cloud.inventory(self.provider, need.class()) {
+        match self.its_provider().inventory(need.class()) {
             Some(inventory) => inventory.unit_ok(u64::from(need.amount())),
             None => false,
         }
@@ -33,9 +33,7 @@ impl<'a> Placed<'a> {
     pub fn has_units(&self) -> bool
         ensures { result ≡ units_fit (providers_of self.now.cloud.now) (placed_of self.now) }
     {
-        needs_at(self.query, self.slot)
-            .iter()
-            .all(|need| self.admits_need(need))
+        self.needs().iter().all(|need| self.admits_need(need))
     }
 
     /// SlotTraits: whether the provider has no forbidden trait, and in a suffixed group what is required.
@@ -43,9 +41,10 @@ impl<'a> Placed<'a> {
     pub fn has_slot_traits(&self) -> bool
         ensures { result ≡ traits_fit (providers_of self.now.cloud.now) (placed_of self.now) }
     {
-        let group = group_at(self.query, self.slot);
-        has_none(self.cloud, self.provider, group.forbidden())
-            && (group.suffix().is_none() || has_required(self.cloud, self.provider, group))
+        let group = self.group();
+        let provider = self.its_provider();
+        has_none(&provider, group.forbidden())
+            && (group.suffix().is_none() || has_required(&provider, group))
     }
 
     // Whether an aggregate counts as the provider's: it is its own, or in the unsuffixed group its root's.
@@ -53,11 +52,9 @@ impl<'a> Placed<'a> {
         ensures { result
             ≡ counts_in (providers_of self.now.cloud.now) (placed_of self.now) aggregate }
     {
-        self.cloud.in_aggregate(self.provider, aggregate)
-            || (!is_suffixed(self.query, self.slot)
-                && self
-                    .cloud
-                    .in_aggregate(self.cloud.root(self.provider), aggregate))
+        let provider = self.its_provider();
+        provider.in_aggregate(aggregate)
+            || (!is_suffixed(self.query, self.slot) && provider.root().in_aggregate(aggregate))
     }
 
     // Whether one of the aggregates counts as the provider's.
@@ -83,7 +80,7 @@ impl<'a> Placed<'a> {
     pub fn has_aggregates(&self) -> bool
         ensures { result ≡ aggregates_fit (providers_of self.now.cloud.now) (placed_of self.now) }
     {
-        group_at(self.query, self.slot)
+        self.group()
             .member_of()
             .iter()
             .all(|rule| self.meets_rule(rule))
@@ -94,12 +91,20 @@ impl<'a> Placed<'a> {
     pub fn is_in_tree(&self) -> bool
         ensures { result ≡ tree_fits (providers_of self.now.cloud.now) (placed_of self.now) }
     {
-        match group_at(self.query, self.slot).in_tree() {
+        match self.group().in_tree() {
             None => true,
             Some(id) => match self.cloud.index_of(id) {
                 None => false,
                 Some(named) => self.cloud.root(self.provider) == self.cloud.root(named),
             },
         }
+    }
+
+    /// Whether the provider meets the four rules of the slot alone.
+    #[tactic(auto, unfolding(crate::specs::Own::fits))]
+    pub fn fits(&self) -> bool
+        ensures { result ≡ fits (providers_of self.now.cloud.now) (placed_of self.now) }
+    {
+        self.has_units() && self.has_slot_traits() && self.has_aggregates() && self.is_in_tree()
     }
 }

@@ -1,7 +1,8 @@
 //! Sums: what all slots ask of each provider together.
 
-ghost use Rattle.std.specs.Prelude.{◌≡◌, ◌<◌, ◌^◌, nat_le, length, map};
+ghost use Rattle.std.specs.Prelude.{◌≡◌, ◌<◌, ◌^◌, nat_le, map};
 ghost use Rattle.ac_base.specs.Names.{class_bytes};
+ghost use Rattle.ac_cloud.specs.Providers.{provider_of};
 ghost use Rattle.ac_cloud.specs.World.{provider_at, used_of};
 ghost use Rattle.ac_cloud.specs.Cloud.CloudWorld.{providers_of};
 ghost use Rattle.ac_query.specs.Shown.Groups.{need_entry};
@@ -13,29 +14,27 @@ ghost use Rattle.ac_rules.specs.Together.{amount_of, sum_on, holds, holds_sums, 
 use crate::assignment::{Assignment, Placed};
 use crate::slots::{count_slots, needs_at};
 use ac_base::ClassName;
-use ac_cloud::Cloud;
+use ac_cloud::Provider;
 use ac_query::Need;
 
 /// The most of a class that one assignment may take of a provider: `max_unit`, or what is left of the capacity.
 /// `None` where it has none of the class, or more is used than there is.
-pub fn room_at(cloud: &Cloud, ix: u32, class: &ClassName) -> Option<u64>
-    requires { ix < length (providers_of cloud.now) }
+pub fn room_at(provider: &Provider, class: &ClassName) -> Option<u64>
     ensures { result
-        ≡ room_in (inventory_of (provider_at (providers_of cloud.now) ix) (class_bytes class.now))
-        (used_of (provider_at (providers_of cloud.now) ix) (class_bytes class.now)) }
+        ≡ room_in (inventory_of (provider_of provider.now) (class_bytes class.now))
+        (used_of (provider_of provider.now) (class_bytes class.now)) }
 {
-    let inventory = cloud.inventory(ix, class)?;
-    let unused = inventory.capacity().checked_sub(cloud.used(ix, class))?;
+    let inventory = provider.inventory(class)?;
+    let unused = inventory.capacity().checked_sub(provider.used(class))?;
     Some(unused.min(u64::from(inventory.max_unit())))
 }
 
 /// Whether a provider has room for an amount of a class.
-pub fn has_room_of(cloud: &Cloud, ix: u32, need: &Need) -> bool
-    requires { ix < length (providers_of cloud.now) }
-    ensures { result ≡ holds (provider_at (providers_of cloud.now) ix)
+pub fn has_room_of(provider: &Provider, need: &Need) -> bool
+    ensures { result ≡ holds (provider_of provider.now)
         (need_entry need.now).0 (need_entry need.now).1 }
 {
-    match room_at(cloud, ix, need.class()) {
+    match room_at(provider, need.class()) {
         Some(room) => u64::from(need.amount()) <= room,
         None => false,
     }
@@ -113,7 +112,7 @@ impl<'a> Assignment<'a> {
             (class_bytes class.now)
             (sum_on (assigned_of self.now) placed.now.provider (class_bytes class.now)) }
     {
-        match room_at(placed.cloud, placed.provider, class) {
+        match room_at(&placed.its_provider(), class) {
             Some(room) => self.suffices(room, placed.provider, class),
             None => false,
         }
@@ -125,7 +124,8 @@ impl<'a> Assignment<'a> {
         ensures { result ≡ holds_sums (providers_of placed.now.cloud.now) (assigned_of self.now)
             (placed_of placed.now) }
     {
-        needs_at(placed.query, placed.slot)
+        placed
+            .needs()
             .iter()
             .all(|need| self.has_room_for(placed, need.class()))
     }
@@ -144,8 +144,8 @@ impl<'a> Assignment<'a> {
         ensures { result ≡ uses_sums (providers_of placed.now.cloud.now) (assigned_of self.now)
             (placed_of placed.now) }
     {
-        needs_at(placed.query, placed.slot).iter().all(|need| {
-            let used = placed.cloud.used(placed.provider, need.class());
+        placed.needs().iter().all(|need| {
+            let used = placed.its_provider().used(need.class());
             self.suffices(used, placed.provider, need.class())
         })
     }

@@ -28,7 +28,7 @@ impl<'a> Assignment<'a> {
         ensures { result ≡ is_brought (providers_of self.now.cloud.now) (assigned_of self.now)
             (trait_bytes name.now) }
     {
-        self.slots().any(|x| !is_suffixed(x.query, x.slot) && x.cloud.has_trait(x.provider, name))
+        self.slots().any(|x| !is_suffixed(x.query, x.slot) && x.its_provider().has_trait(name))
     }
 
     // Whether each of these traits is brought.
@@ -46,7 +46,7 @@ impl<'a> Assignment<'a> {
         ensures { result ≡ is_one_brought (providers_of self.now.cloud.now) (assigned_of self.now)
             (map trait_bytes names.now) }
     {
-        self.slots().any(|x| !is_suffixed(x.query, x.slot) && has_any(x.cloud, x.provider, names))
+        self.slots().any(|x| !is_suffixed(x.query, x.slot) && has_any(&x.its_provider(), names))
     }
 
     // Whether of each of these lists one trait is brought.

@@ -9,7 +9,7 @@ use Rattle.ac_query.specs.Asked.{slots_of}
 use Rattle.ac_rules.specs.Placed.{placed_at, slot_at, assigned}
 use Rattle.ac_rules.specs.Judge.{is_open}
 use Rattle.ac_prune.specs.Search.{choices_at, next_at}
-use Rattle.ac_prune.specs.QuerySearch.{fits}
+use Rattle.ac_rules.specs.Own.{fits}
 use Rattle.ac_search.specs.Search.{next_front, IsSound}
 use Rattle.ac_search.specs.Shown.Walk.{cloud_in, query_in, search_in, place_in, slot_in, front_in, path_in}
 use Rattle.ac_search.specs.Search.Steps.{IsNext}

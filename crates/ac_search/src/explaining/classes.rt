@@ -15,6 +15,7 @@ use super::{SlotCounts, meets_rules, slot_counts};
 use ac_base::NoMemory;
 use ac_cloud::Cloud;
 use ac_query::{Need, Query};
+use ac_rules::Placed;
 use ac_rules::rules::sums::has_room_of;
 use ac_rules::slots::{count_slots, needs_at};
 use std::alloc::Global;
@@ -34,11 +35,8 @@ fn fitting(alloc: Global, cloud: &Cloud, query: &Query, s: usize) -> Result<Vec<
     ensures { IfOk result (λ marks.
         marks.items ≡ fitting (providers_of cloud.now) (slot_at (asked_of query.now) s)) }
 {
-    let mut marks = Vec::new(alloc);
-    for ix in 0..cloud.len() {
-        marks.push(meets_rules(cloud, query, s, ix))?;
-    }
-    Ok(marks)
+    let marks = (0..cloud.len()).map(|ix| meets_rules(&Placed::new(cloud, query, s, ix)));
+    Ok(marks.collect(alloc)?)
 }
 
 // Whether a provider is marked, and has room for an amount of a class.
@@ -49,7 +47,7 @@ fn has_room_marked(cloud: &Cloud, marks: &[bool], ix: u32, need: &Need) -> bool
         && holds (provider_at (providers_of cloud.now) ix)
         (need_entry need.now).0 (need_entry need.now).1) }
 {
-    marks[ix as usize] && has_room_of(cloud, ix, need)
+    marks[ix as usize] && has_room_of(&cloud.provider(ix), need)
 }
 
 // How many of the marked providers have room for an amount of a class.

@@ -17,6 +17,8 @@ use ac_base::{NoMemory, TraitName};
 use ac_cloud::Cloud;
 use ac_prune::limit;
 use ac_query::{AnyOf, Group, Query};
+use ac_rules::Placed;
+use ac_rules::rules::traits::has_any_of_few;
 use ac_rules::slots::{count_slots, group_at};
 use std::alloc::Global;
 use std::slice;
@@ -27,20 +29,20 @@ fn serves_unsuffixed(cloud: &Cloud, query: &Query, ix: u32) -> bool
     ensures { result ≡ serves_unsuffixed (providers_of cloud.now) (asked_of query.now) ix }
 {
     for s in 0..count_slots(query) {
-        if group_at(query, s).suffix().is_none() && serves(cloud, query, s, ix) {
+        if group_at(query, s).suffix().is_none() && serves(&Placed::new(cloud, query, s, ix)) {
             return true;
         }
     }
     false
 }
 
-// Whether a provider has one of these traits.
-fn has_any(cloud: &Cloud, ix: u32, names: &[TraitName]) -> bool
-    requires { ix < length (providers_of cloud.now) }
-    ensures { result ≡ has_any (provider_at (providers_of cloud.now) ix)
-        (map trait_bytes names.now) }
+// Which providers meet all that some slot without a suffix asks.
+fn mark_unsuffixed(alloc: Global, cloud: &Cloud, query: &Query) -> Result<Vec<bool>, NoMemory>
+    ensures { IfOk result (λ marks.
+        marks.items ≡ unsuffixed (providers_of cloud.now) (asked_of query.now)) }
 {
-    names.iter().any(|name| cloud.has_trait(ix, name))
+    let marks = (0..cloud.len()).map(|ix| serves_unsuffixed(cloud, query, ix));
+    Ok(marks.collect(alloc)?)
 }
 
 // The providers that meet all that some slot without a suffix asks.
@@ -57,10 +59,7 @@ impl<'a> Unsuffixed<'a> {
         ensures cloud { IfOk result (λ unsuffixed. unsuffixed.cloud ≡ cloud.entry) }
         ensures query { IfOk result (λ unsuffixed. unsuffixed.query ≡ query.entry) }
     {
-        let mut serving = Vec::new(alloc);
-        for ix in 0..cloud.len() {
-            serving.push(serves_unsuffixed(cloud, query, ix))?;
-        }
+        let serving = mark_unsuffixed(alloc, cloud, query)?;
         Ok(Unsuffixed {
             cloud,
             query,
@@ -85,7 +84,7 @@ impl<'a> Unsuffixed<'a> {
             && has_any (provider_at (providers_of self.now.cloud.now) ix)
             (map trait_bytes names.now)) }
     {
-        self.has(ix) && has_any(self.cloud, ix, names)
+        self.has(ix) && has_any_of_few(&self.cloud.provider(ix), names)
     }
 
     // 1 for each of them that has one of these traits, and else 0.
@@ -94,11 +93,8 @@ impl<'a> Unsuffixed<'a> {
             ≡ holding (providers_of self.now.cloud.now) (asked_of self.now.query.now)
             (map trait_bytes names.now)) }
     {
-        let mut holding = Vec::new(alloc);
-        for ix in 0..self.cloud.len() {
-            holding.push(u64::from(self.holds(ix, names)))?;
-        }
-        Ok(holding)
+        let holding = (0..self.cloud.len()).map(|ix| u64::from(self.holds(ix, names)));
+        Ok(holding.collect(alloc)?)
     }
 
     // Drops the roots at which none of them has one of these traits.

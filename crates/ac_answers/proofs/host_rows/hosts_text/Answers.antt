@@ -6,7 +6,7 @@ use Rattle.ac_base.specs.Texts.{id_text}
 use Rattle.ac_cloud.specs.World.{id_at, is_root, provider_at}
 use Rattle.ac_cloud.specs.Cloud.CloudWorld.{providers_of}
 use Rattle.ac_query.specs.Shown.Queries.{asked_of}
-use Rattle.ac_rules.proofs.EachSlot.AnchorLemmas.{available_itself}
+use Rattle.ac_cloud.proofs.Roots.{available_itself}
 use Rattle.ac_search.specs.Hosts.{fits_at}
 use Rattle.ac_search.specs.Lacking.{lack_at}
 use Rattle.ac_search.proofs.LackingLemmas.{at_place}

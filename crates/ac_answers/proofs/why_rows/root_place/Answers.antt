@@ -3,7 +3,7 @@ use Rattle.std.specs.Option.{unwrap_or}
 use Rattle.ac_cloud.specs.World.{id_at, root_of}
 use Rattle.ac_cloud.specs.Cloud.CloudWorld.{providers_of}
 use Rattle.ac_cloud.proofs.InOrder.{cloud_in_order}
-use Rattle.ac_rules.proofs.PlaceLemmas.{place_in_order}
+use Rattle.ac_cloud.proofs.PlacesInOrder.{place_in_order}
 use Rattle.ac_answers.proofs.why_rows.root_place.Goals as goal
 
 pub returns-clause-place : goal.returns-clause-place

@@ -2,7 +2,8 @@ use Rattle.std.proofs.Common.{ℕ, ◌&&◌, arith, append-nil, ◌∙◌}
 use Rattle.std.proofs.lemmas.Grind.{common_steps}
 use Rattle.ac_prune.specs.Left.Accounts.{providers_in, asked_in}
 use Rattle.ac_rules.specs.Placed.{placed_at, slot_at}
-use Rattle.ac_prune.specs.QuerySearch.{fits, has_room_alone}
+use Rattle.ac_rules.specs.Own.{fits}
+use Rattle.ac_prune.specs.QuerySearch.{has_room_alone}
 use Rattle.ac_prune.proofs.Search.OpenLemmas.{choice_more, choice_all}
 use Rattle.ac_prune.proofs.choices.slot_choices.Goals as goal
 use Rattle.ac_prune.proofs.choices.slot_choices.Goals.{then-is_choice+in_ok-push, else-is_choice}

@@ -2,7 +2,8 @@ use Rattle.std.proofs.Common.{◌≡◌, ℕ, ◌&&◌}
 use Rattle.std.specs.List.{filter, range_with_len}
 use Rattle.ac_prune.specs.Left.Accounts.{providers_in, asked_in}
 use Rattle.ac_rules.specs.Placed.{placed_at}
-use Rattle.ac_prune.specs.QuerySearch.{fits, has_room_alone}
+use Rattle.ac_rules.specs.Own.{fits}
+use Rattle.ac_prune.specs.QuerySearch.{has_room_alone}
 use Rattle.ac_prune.proofs.choices.slot_choices.Given as goal
 
 abbrev pub invariant-loop-ix : goal.invariant-loop-ix

@@ -2,7 +2,7 @@ use Rattle.std.proofs.Common.{◌∙◌, ◌++◌, [], ◌∷◌, ap, length, sy
 use Rattle.std.specs.List.{filter}
 use Rattle.serde_json.specs.Written.{comma_if}
 use Rattle.ac_cloud.specs.Cloud.CloudWorld.{providers_of}
-use Rattle.ac_rules.proofs.PlacedLemmas.{range_end, range_more}
+use Rattle.ac_cloud.proofs.Ranges.{range_end, range_more}
 use Rattle.ac_report.specs.Marks.{is_summarized, summaries}
 use Rattle.ac_report.specs.Texts.{shown_providers, summary_piece}
 use Rattle.ac_report.proofs.Pages.Writing.{stopped, wrote_none, wrote_on}

@@ -8,5 +8,5 @@ use Rattle.ac_search.proofs.explaining.has_room_alone.Given as goal
 
 abbrev pub invariant-loop-need : goal.invariant-loop-need
 invariant-loop-need l =
-    let fits = λ (need : List ℕ × ℕ). holds (provider_at (providers_of l.cloud) l.ix) need.0 need.1 in
+    let fits = λ (need : List ℕ × ℕ). holds (provider_at (providers_of l.placed.cloud.now) l.placed.provider) need.0 need.1 in
     list_all fits (map need_entry (drop l.need-index l.need-items)) ≡ list_all fits (map need_entry l.need-items)

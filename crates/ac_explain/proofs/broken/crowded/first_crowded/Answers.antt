@@ -14,6 +14,6 @@ pub returns : goal.returns
 returns c =
     let p = provider_at (providers_of c.args.placed.now.cloud.now) c.args.placed.now.provider in
     let test = λ (need : List ℕ × ℕ). not (holds p need.0 (sum_on (assigned_of c.args.assignment.now) c.args.placed.now.provider need.0)) in
-    found_shown need_entry test c.needs_at.result.now c.find.result
-    (find_from_yields_List (λ x. test (need_entry x)) _ _ c.find.result c.find.ensures.ran (YieldsList-from_slice c.needs_at.result.now cc) (λ x b q k. search (rules, tests)))
-    ∙ ap (find test) c.needs_at.ensures
+    found_shown need_entry test c.needs.result.now c.find.result
+    (find_from_yields_List (λ x. test (need_entry x)) _ _ c.find.result c.find.ensures.ran (YieldsList-from_slice c.needs.result.now cc) (λ x b q k. search (rules, tests)))
+    ∙ ap (find test) c.needs.ensures

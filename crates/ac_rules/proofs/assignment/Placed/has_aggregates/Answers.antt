@@ -8,4 +8,4 @@ use Rattle.ac_rules.proofs.assignment.Placed.has_aggregates.Goals as goal
 pub returns : goal.returns
 unfolding aggregates_fit
 returns c = all_items rule_shown _ _ _ _ _ c.all.ensures.ran c.iter.ensures.rest (λ x b q k. search rules)
-    ∙ ap (list_all _) (c.member_of.ensures ∙ ap (λ entry. entry.1.member_of) c.group_at.ensures)
+    ∙ ap (list_all _) (c.member_of.ensures ∙ ap (λ entry. entry.1.member_of) c.group.ensures)

@@ -6,4 +6,4 @@ use Rattle.ac_rules.proofs.assignment.Placed.has_units.Goals as goal
 
 pub returns : goal.returns
 unfolding units_fit
-returns c = rw (← c.needs_at.ensures) (all_items need_entry _ _ _ _ _ c.all.ensures.ran c.iter.ensures.rest (λ x b q k. search rules))
+returns c = rw (← c.needs.ensures) (all_items need_entry _ _ _ _ _ c.all.ensures.ran c.iter.ensures.rest (λ x b q k. search rules))

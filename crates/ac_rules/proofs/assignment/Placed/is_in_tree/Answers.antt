@@ -4,7 +4,8 @@ use Rattle.ac_cloud.specs.World.{id_at, root_of}
 use Rattle.ac_cloud.specs.Cloud.CloudWorld.{providers_of}
 use Rattle.ac_cloud.proofs.InOrder.{cloud_in_order}
 use Rattle.ac_rules.specs.Placed.{placed_at}
-use Rattle.ac_rules.proofs.PlaceLemmas.{found_within, place_in_order, tree_at}
+use Rattle.ac_cloud.proofs.PlacesInOrder.{place_in_order}
+use Rattle.ac_rules.proofs.PlaceLemmas.{found_within, tree_at}
 use Rattle.ac_rules.proofs.assignment.Placed.is_in_tree.Goals as goal
 
 pub root-requires-in-Some-index_of : goal.root-requires-in-Some-index_of
@@ -19,6 +20,6 @@ returns-in-Some-index_of c =
     let place = c.in-Some-index_of.named in
     tree_at all (placed_at (asked_of c.args.self.now.query.now) c.args.self.now.slot ix) c.in-Some.id place
     c.root.result c.root-in-Some-index_of.result
-    (sym (ap (λ entry. entry.1.in_tree) c.group_at.ensures) ∙ sym c.in-Some.ensures) (sym c.in-Some-index_of.ensures)
+    (sym (ap (λ entry. entry.1.in_tree) c.group.ensures) ∙ sym c.in-Some.ensures) (sym c.in-Some-index_of.ensures)
     (place_in_order all order (root_of all (id_at all ix)) c.root.result c.root.ensures.inside c.root.ensures.id)
     (place_in_order all order (root_of all (id_at all place)) c.root-in-Some-index_of.result c.root-in-Some-index_of.ensures.inside c.root-in-Some-index_of.ensures.id)
