@@ -101,10 +101,7 @@ impl Cloud {
     {
         // Called for what it ensures: a place fits a u32.
         let _count = self.ids.len();
-        match self.ids.find(id) {
-            Some(place) => Some(place as u32),
-            None => None,
-        }
+        Some(self.ids.find(id)? as u32)
     }
 
     /// The place of a provider's parent, where it has one.
@@ -158,10 +155,7 @@ impl Cloud {
         ensures { option_copied result ≡ option_map (λ h. h.inventory)
             (entry_in (provider_at (providers_of self.now) ix) (class_bytes class.now)) }
     {
-        match self.find_entry(ix, class) {
-            Some(entry) => Some(entry.inventory()),
-            None => None,
-        }
+        Some(self.find_entry(ix, class)?.inventory())
     }
 
     /// How much of a class is used of a provider, 0 where it has none.

@@ -52,19 +52,15 @@ fn is_choice(ledger: &Ledger, s: usize, ix: u32, opens: bool) -> bool
 
 // The providers that meet the rules of a slot alone and have room for it, in order; none where not even the empty list is
 // open.
+#[tactic(auto, unfolding(crate::specs::QuerySearch::choice_of))]
 fn slot_choices(alloc: Global, ledger: &Ledger, s: usize, opens: bool) -> Result<Vec<u32>, NoMemory>
     requires slot { s < length (slots_of (asked_in ledger.now)) }
     requires empty { Accounts ledger.now [] }
     requires opens { opens ≡ is_open (providers_in ledger.now) (asked_in ledger.now) [] }
     ensures { IfOk result (λ choices. choices.items ≡ choice_in ledger.now s) }
 {
-    let mut choices = Vec::new(alloc);
-    for ix in 0..ledger.cloud.len() {
-        if is_choice(ledger, s, ix, opens) {
-            choices.push(ix)?;
-        }
-    }
-    Ok(choices)
+    let choices = (0..ledger.cloud.len()).filter(|ix| is_choice(ledger, s, *ix, opens));
+    Ok(choices.collect(alloc)?)
 }
 
 /// The choices of all slots, beside the ledger that they are of.

@@ -20,7 +20,8 @@ pub fn requests_differ()
     ensures { RequestsDiffer }
 {}
 
-/// The same of the providers that any tables state and of what any pairs ask for, so of each cloud and each query that is accepted.
+/// Two different assignments have different requests, over the providers that any tables state and for what any pairs ask for: so it is
+/// of each cloud and each query that is accepted.
 #[tactic(auto, using(crate::proofs::Assigning::stated_requests_differ))]
 pub fn stated_requests_differ()
     ensures { StatedRequestsDiffer }

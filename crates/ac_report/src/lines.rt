@@ -29,10 +29,7 @@ pub fn is_over(wanted: Option<u32>) -> bool
 pub fn one_less(wanted: Option<u32>) -> Option<u32>
     ensures { result ≡ one_less wanted }
 {
-    match wanted {
-        Some(count) => Some(count.saturating_sub(1)),
-        None => None,
-    }
+    Some(wanted?.saturating_sub(1))
 }
 
 /// Pushes a piece.

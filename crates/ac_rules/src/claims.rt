@@ -58,7 +58,7 @@ impl Change {
         }
     }
 
-    // Changes it of each class that a slot needs.
+    // Changes how much is used of a provider of each class that a slot needs.
     fn apply_needs(self, cloud: &mut Cloud, ix: u32, needs: &[Need])
         requires { ix < length (providers_of cloud.old) }
         ensures providers { providers_of cloud.new
@@ -71,7 +71,7 @@ impl Change {
         }
     }
 
-    // Changes it of each slot's provider.
+    // Changes how much is used of each slot's provider.
     fn apply_all(self, cloud: &mut Cloud, query: &Query, list: &[u32])
         requires slots { length list.now ≡ length (slots_of (asked_of query.now)) }
         requires providers { All (λ p. p < length (providers_of cloud.old)) list.now }

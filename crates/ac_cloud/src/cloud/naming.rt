@@ -38,8 +38,8 @@ impl Cloud {
         !name.is_empty() && self.name(ix) == name
     }
 
-    #[tactic(auto, unfolding(crate::specs::Cloud::Hosts::host_of))]
     // The only provider of this name.
+    #[tactic(auto, unfolding(crate::specs::Cloud::Hosts::host_of))]
     fn only_named(&self, name: &[u8]) -> Result<u32, HostFault>
         ensures { result ≡ only_one (places_named (providers_of self.now) name.now) }
     {

@@ -57,7 +57,7 @@ fn takes_all(query: &Query, need: &Need, left: u64) -> bool
     u64::from(need.amount()) <= left && without_all(query, need.class(), left) == 0
 }
 
-// Whether that is so of an inventory that may fall short.
+// Whether a provider's inventory may fall short, what is left of it suffices for a need, and all slots together ask for all of it.
 fn takes_last(placed: &Placed, need: &Need) -> bool
     ensures { result ≡ takes_last (providers_of placed.now.cloud.now)
         (asked_of placed.now.query.now) placed.now.provider (need_entry need.now) }
@@ -77,7 +77,7 @@ fn takes_last(placed: &Placed, need: &Need) -> bool
     )
 }
 
-// Whether a slot has such a need.
+// Whether a slot has a need by which it may take the last unit of its provider's inventory.
 fn takes_last_of(placed: &Placed) -> bool
     ensures { result ≡ list_any (takes_last (providers_of placed.now.cloud.now)
         (asked_of placed.now.query.now) placed.now.provider) (placed_of placed.now).slot.needs }

@@ -64,7 +64,7 @@ fn is_left_to_share(cloud: &Cloud, query: &Query, s: usize) -> bool
     is_suffixed(query, s) || (may_share(query, s) && is_lent(cloud, query, s))
 }
 
-// Whether each slot is.
+// Whether each slot has a suffix, or may be filled from another tree, and by some sharing provider.
 #[tactic(auto, using(ac_cloud::proofs::Ranges::range_more, ac_cloud::proofs::Ranges::range_end))]
 fn are_left_to_share(cloud: &Cloud, query: &Query) -> bool
     ensures { result ≡ list_all (λ s. is_suffixed (asked_of query.now) s
@@ -114,7 +114,8 @@ fn is_lent_by_a_root(cloud: &Cloud, query: &Query, s: usize) -> bool
     (0..cloud.len()).any(|ix| lends_by_its_root(&Placed::new(cloud, query, s, ix)))
 }
 
-/// Whether one does so for a slot that the service may fill from another tree.
+/// Whether some sharing provider meets the rules of a slot that the service may fill from another tree, but those on aggregates
+/// only by its root.
 #[tactic(auto, using(ac_cloud::proofs::Ranges::range_more, ac_cloud::proofs::Ranges::range_end))]
 pub(crate) fn some_lends_by_its_root(cloud: &Cloud, query: &Query) -> bool
     ensures { result ≡ some_sharing (providers_of cloud.now) (asked_of query.now)
@@ -133,7 +134,7 @@ fn is_met_in_halves(cloud: &Cloud, query: &Query, s: usize) -> bool
     (0..cloud.len()).any(|ix| fits_with_its_root(&Placed::new(cloud, query, s, ix)))
 }
 
-/// Whether one does so for a slot without a suffix.
+/// Whether some provider meets the rules of a slot without a suffix, but those on aggregates only together with its root.
 #[tactic(auto, using(ac_cloud::proofs::Ranges::range_more, ac_cloud::proofs::Ranges::range_end), unfolding(crate::specs::Differing::meets_in_halves))]
 pub(crate) fn meets_in_halves(cloud: &Cloud, query: &Query) -> bool
     ensures { result ≡ meets_in_halves (providers_of cloud.now) (asked_of query.now) }
@@ -176,7 +177,7 @@ fn forbids_a_root(cloud: &Cloud, query: &Query, s: usize, rule: &AggregateRule) 
     rule.forbids() && has_root_in(cloud, rule.ids()) && is_lent_outside(cloud, query, s, rule)
 }
 
-// Whether one of a slot's rules does.
+// Whether one of a slot's rules forbids aggregates that some root is in, and some sharing provider with what the slot asks for isn't.
 fn is_lent_beside_forbidden(cloud: &Cloud, query: &Query, s: usize) -> bool
     requires { s < length (slots_of (asked_of query.now)) }
     ensures { result
@@ -189,7 +190,8 @@ fn is_lent_beside_forbidden(cloud: &Cloud, query: &Query, s: usize) -> bool
         .any(|rule| forbids_a_root(cloud, query, s, rule))
 }
 
-/// Whether one of the rules does of some slot that the service may fill from another tree.
+/// Whether of some slot that the service may fill from another tree a rule forbids aggregates that some root is in, and some sharing
+/// provider with what the slot asks for isn't.
 #[tactic(auto, using(ac_cloud::proofs::Ranges::range_more, ac_cloud::proofs::Ranges::range_end), unfolding(crate::specs::Differing::lends_beside_forbidden))]
 pub(crate) fn lends_beside_forbidden(cloud: &Cloud, query: &Query) -> bool
     ensures { result ≡ lends_beside_forbidden (providers_of cloud.now) (asked_of query.now) }
@@ -208,7 +210,7 @@ fn is_lent_in_tree(cloud: &Cloud, query: &Query, s: usize) -> bool
     !is_suffixed(query, s) && names_a_tree(query, s) && is_lent(cloud, query, s)
 }
 
-/// Whether some slot has.
+/// Whether some slot has no suffix, and its group names a tree of which some sharing provider meets its rules.
 #[tactic(auto, using(ac_cloud::proofs::Ranges::range_more, ac_cloud::proofs::Ranges::range_end), unfolding(crate::specs::Differing::lends_in_tree))]
 pub(crate) fn lends_in_tree(cloud: &Cloud, query: &Query) -> bool
     ensures { result ≡ lends_in_tree (providers_of cloud.now) (asked_of query.now) }

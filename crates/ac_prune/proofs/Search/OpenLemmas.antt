@@ -124,11 +124,6 @@ map_range_more f i = search (rules, range_with_len_more, map-append)
 pub choice_more : (f : ℕ → Bool) (i : ℕ) → filter f (range_with_len 0 (i + 1)) ≡ filter f (range_with_len 0 i) ++ cond (f i) (i ∷ []) []
 choice_more f i = rw (range_with_len_more 0 i, filter-append f (range_with_len 0 i) ((0 + i) ∷ [])) (ap (λ (p : ℕ). filter f (range_with_len 0 i) ++ cond (f p) (p ∷ []) []) (omega arith))
 
-pub choice_all : (all : List Provider) (asked : Asked) (slot : Slot) (o : Bool) (n : ℕ) → o ≡ is_open all asked [] → n ≡ length all
-    → filter (λ p. o && (fits all (record { slot = slot; provider = p }) && has_room_alone all (record { slot = slot; provider = p }))) (range_with_len 0 n) ≡ choice_of all asked slot
-unfolding choice_of
-choice_all all asked slot o n e h = rw (e, h) refl
-
 begins : (all : List Provider) (asked : Asked) → 0 < length (choices_at (search_of all asked) 0) → is_open all asked [] ≡ true
 unfolding choices_at
 begins all asked h = elim (cases_Bool (is_open all asked [])) [

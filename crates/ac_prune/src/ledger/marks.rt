@@ -43,11 +43,8 @@ pub fn taken_roots(alloc: Global, cloud: &Cloud, query: &Query) -> Result<Vec<bo
         ≡ map (takes_root (providers_of cloud.now) (asked_of query.now))
         (range_with_len 0 (length (providers_of cloud.now)))) }
 {
-    let mut taken = Vec::new(alloc);
-    for root in 0..cloud.len() {
-        taken.push(takes_root(cloud, query, root))?;
-    }
-    Ok(taken)
+    let taken = (0..cloud.len()).map(|root| takes_root(cloud, query, root));
+    Ok(taken.collect(alloc)?)
 }
 
 /// Counts one more at a provider, where it is for a slot that needs one for itself.

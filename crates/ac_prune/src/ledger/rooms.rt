@@ -96,7 +96,7 @@ pub(crate) fn all_rooms(
     Ok(rooms)
 }
 
-/// Whether a row of rooms has for each ask its amount.
+/// Whether a row of rooms has what each ask wants of its class.
 pub(crate) fn has_each(rooms: &[u64], row: usize, asks: &[Ask]) -> bool
     requires { All (λ a. row + a.class < length rooms.now) asks.now }
     ensures { result ≡ has_each (λ k. slice_index rooms.now (row + k)) (map ask_pair asks.now) }

@@ -1,13 +1,10 @@
 -- Roots, and the anchors of one provider of a list.
-use Rattle.std.proofs.Common.{◌≡◌, ◌&&◌, ℕ, ◌+◌, ◌<◌, ◌≤◌, zero, suc, Bool, true, List, [], ◌∷◌, length, inl, inr, Option, None, Some, refl, sym, ap, ◌∙◌, arith, slice_get}
+use Rattle.std.proofs.Common.{◌≡◌, ◌&&◌, ℕ, ◌+◌, ◌<◌, ◌≤◌, zero, suc, Bool, List, [], ◌∷◌, length, None, Some, refl, sym, ap, ◌∙◌, arith, slice_get}
 use Rattle.std.specs.List.{list_all, list_any, filter, range_with_len, All, AllByRecursion as Each}
-use Rattle.std.specs.Option.{is_some, is_none}
 use Rattle.std.proofs.Math.Bool.{and-true}
-use Rattle.std.proofs.lemmas.Bool.{cases_Bool, and_parts, eq-eqb, false≢true}
 use Rattle.std.proofs.lemmas.List.Elements.{All-from_recursion}
 use Rattle.ac_base.proofs.Sorted.SearchFacts.{any_same}
-use Rattle.ac_cloud.specs.Trees.{up, climb}
-use Rattle.ac_cloud.specs.World.{Provider, id_at, place_of, parent_of, root_of, is_root, is_available_at, anchors_of}
+use Rattle.ac_cloud.specs.World.{Provider, is_available_at, anchors_of}
 use Rattle.ac_query.specs.Asked.{Asked, Slot}
 use Rattle.ac_rules.specs.Placed.{placed}
 use Rattle.ac_rules.specs.Together.{takes_root, hosts_all, anchor}
