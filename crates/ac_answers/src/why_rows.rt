@@ -27,7 +27,7 @@ use ac_report::{begin_rows, end_rows, shown_name, suffix_text, write_row};
 use ac_rules::Placed;
 use ac_rules::rules::anchor::takes_root;
 use ac_rules::slots::count_slots;
-use ac_search::{Lack, Stage, find_lacks, first_failed, fitting_roots};
+use ac_search::{Lack, Stage, find_lack, first_failed, fits_root};
 use csv::Writer;
 use std::alloc::Global;
 
@@ -301,9 +301,8 @@ pub fn why_at(
         ≡ why_status (fits_at (providers_of cloud.now) (asked_of query.now) root)) }
     ensures few { IfOk result (λ answer. answer.1 ≤ 1) }
 {
-    let fits = fitting_roots(alloc, cloud, query)?;
-    let lacks = find_lacks(alloc, cloud, query, &fits)?;
-    let at = root as usize;
-    let text = why_text(alloc, cloud, query, root, fits[at], lacks[at])?;
-    Ok((text, why_status(fits[at])))
+    let fits = fits_root(alloc, cloud, query, root)?;
+    let lacks = find_lack(alloc, cloud, query, root, fits)?;
+    let text = why_text(alloc, cloud, query, root, fits, lacks)?;
+    Ok((text, why_status(fits)))
 }

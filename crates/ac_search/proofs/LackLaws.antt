@@ -1,5 +1,5 @@
 -- Where a candidate stands, nothing is lacking; and there is one exactly where some root fits.
-use Rattle.std.proofs.Common.{inl, inr, ◌≡◌, ◌∙◌, ◌<◌, ◌≤◌, ℕ, ◌+◌, Bool, true, false, not, ◌&&◌, ◌||◌, List, [], ◌∷◌, length, Option, None, Some, refl, sym, ap, ap₂, arith}
+use Rattle.std.proofs.Common.{inl, inr, ◌≡◌, ◌∙◌, ℕ, ◌+◌, Bool, true, false, not, ◌&&◌, List, [], ◌∷◌, length, Option, None, Some, refl, sym, ap, arith}
 use Rattle.std.specs.List.{filter, list_all, list_any, range_with_len, AllByRecursion as Each}
 use Rattle.std.specs.Option.{is_none}
 use Rattle.std.proofs.lemmas.Bool.{and_parts, and_from, cases_Bool, false≢true}
@@ -14,16 +14,15 @@ use Rattle.ac_rules.specs.Placed.{assigned}
 use Rattle.ac_rules.specs.Together.{hosts_all, is_empty, takes_root, anchor}
 use Rattle.ac_search.specs.Explained.{holds_required, in_slot, is_served, meets_units, meets_traits, meets_aggregates, meets_tree, meets_room}
 use Rattle.ac_search.specs.Hosts.{fits_at}
-use Rattle.ac_search.specs.Lacking.{first_lack, first_unserved, lack_at, unreached}
+use Rattle.ac_search.specs.Lacking.{first_lack, first_unserved, unreached}
 use Rattle.ac_search.specs.Laws.{LackNothing, SomeFits}
 use Rattle.ac_search.specs.declared.lacking.Lack.{Lack}
-use Rattle.ac_rules.proofs.EachSlot.AnchorLemmas.{each_range, hosts_list}
+use Rattle.ac_rules.proofs.EachSlot.AnchorLemmas.{hosts_list}
 use Rattle.ac_rules.proofs.EachSlot.FrontLemmas.{any_weaker}
 use Rattle.ac_rules.proofs.Elements.{each_filter, each_weaker}
 use Rattle.ac_rules.proofs.Lists.ListLemmas.{each_all_lists}
 use Rattle.ac_prune.proofs.Paths.BearLemmas.{each_serves}
 use Rattle.ac_prune.proofs.Roots.HostLemmas.{behind_hosts, candidate_open, candidate_parts}
-use Rattle.ac_prune.proofs.Roots.RootLemmas.{any_within}
 use Rattle.ac_prune.proofs.Roots.TreeLemmas.{or_left}
 use Rattle.ac_search.proofs.NoneLemmas.{each_served, required_held}
 

@@ -6,7 +6,7 @@ ghost use Rattle.ac_cloud.specs.World.{id_at, is_root};
 ghost use Rattle.ac_cloud.specs.Cloud.CloudWorld.{providers_of};
 ghost use Rattle.ac_query.specs.Asked.{slots_of};
 ghost use Rattle.ac_query.specs.Shown.Queries.{asked_of};
-ghost use Rattle.ac_rules.specs.Placed.{placed_at, slot_at};
+ghost use Rattle.ac_rules.specs.Placed.{slot_at};
 ghost use Rattle.ac_search.specs.Explained.{count_of, meets_units, meets_traits, meets_aggregates, meets_tree, meets_room, slot_counts, tree_counts};
 ghost use Rattle.ac_prune.specs.QuerySearch.{has_room_alone};
 ghost use Rattle.ac_rules.specs.Shown.Assignments.{placed_of};

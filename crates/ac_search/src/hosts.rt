@@ -1,8 +1,9 @@
 //! The roots at which candidates stand: one walk, which leaves each root with the first candidate there.
-ghost use Rattle.std.specs.Prelude.{◌≡◌, ◌<◌, length, IfOk};
+ghost use Rattle.std.specs.Prelude.{◌≡◌, ◌==◌, ◌<◌, length, map, IfOk};
+ghost use Rattle.std.specs.List.{range_with_len};
 ghost use Rattle.ac_cloud.specs.Cloud.CloudWorld.{providers_of};
 ghost use Rattle.ac_query.specs.Shown.Queries.{asked_of};
-ghost use Rattle.ac_search.specs.Hosts.{fitting};
+ghost use Rattle.ac_search.specs.Hosts.{fits_at, fitting};
 ghost use Rattle.ac_search.specs.Shown.Hosts.{Settles, IsSettled};
 ghost use Rattle.ac_search.specs.Shown.Walk.{cloud_in, query_in};
 
@@ -11,6 +12,7 @@ use ac_base::NoMemory;
 use ac_cloud::Cloud;
 use ac_prune::taken_roots;
 use ac_query::Query;
+use ac_rules::rules::anchor::takes_root;
 use std::alloc::Global;
 
 // Goes through the candidates that stand at a root that is looked at, until there is no such root left.
@@ -26,6 +28,30 @@ fn settle(walk: &mut Walk)
         }
         walk.leave_roots();
     }
+}
+
+// One root alone, marked among all providers.
+fn mark_alone(alloc: Global, cloud: &Cloud, root: u32) -> Result<Vec<bool>, NoMemory>
+    ensures { IfOk result (λ marks. marks.items
+        ≡ map (λ ix. ix == root) (range_with_len 0 (length (providers_of cloud.now)))) }
+{
+    let marks = (0..cloud.len()).map(|ix| ix == root);
+    Ok(marks.collect(alloc)?)
+}
+
+/// Whether a root fits: the query takes it, and all providers of some candidate are available in its tree. The search looks at no other root.
+pub fn fits_root(alloc: Global, cloud: &Cloud, query: &Query, root: u32) -> Result<bool, NoMemory>
+    requires { root < length (providers_of cloud.now) }
+    ensures { IfOk result (λ fits.
+        fits ≡ fits_at (providers_of cloud.now) (asked_of query.now) root) }
+{
+    if !takes_root(cloud, query, root) {
+        return Ok(false);
+    }
+    let roots = mark_alone(alloc, cloud, root)?;
+    let mut walk = Walk::at_roots(alloc, cloud, query, roots)?;
+    let fits = walk.advance();
+    Ok(fits)
 }
 
 /// For each provider by its place, whether it is a root that fits: the query takes it, and all providers of some

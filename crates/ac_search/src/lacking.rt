@@ -9,8 +9,8 @@ ghost use Rattle.ac_rules.specs.Placed.{slot_at};
 ghost use Rattle.ac_rules.specs.Shown.Assignments.{placed_of};
 ghost use Rattle.ac_prune.specs.Trees.Keys.{is_there};
 ghost use Rattle.ac_search.specs.Explained.{holds_required};
-ghost use Rattle.ac_search.specs.Hosts.{fitting};
-ghost use Rattle.ac_search.specs.Lacking.{first_failed, first_lack, lacks_of};
+ghost use Rattle.ac_search.specs.Hosts.{fits_at, fitting};
+ghost use Rattle.ac_search.specs.Lacking.{first_failed, first_lack, lack_at, lacks_of};
 ghost use Rattle.ac_search.specs.Shown.Lacking.{AreNoted, AreReached, lack_behind, stage_behind, unserved};
 
 use crate::explaining::count_met;
@@ -112,10 +112,8 @@ pub fn first_failed(placed: &Placed) -> Option<Stage>
 fn lack_behind(slot: u32, passed: u32) -> Option<Lack>
     ensures { result ≡ lack_behind slot passed }
 {
-    match stage_behind(passed) {
-        Some(stage) => Some(Lack::Slot { slot, stage }),
-        None => None,
-    }
+    let stage = stage_behind(passed)?;
+    Some(Lack::Slot { slot, stage })
 }
 
 // Notes what is lacking of a slot at each root that lacks nothing of the slots before it.
@@ -176,6 +174,63 @@ fn first_lack(takes: bool, slot: Option<Lack>, holds: bool, fits: bool) -> Optio
     }
 }
 
+// What is lacking at each root of the slots by themselves, and at which all is held that the group without a suffix requires.
+#[derive(Drop)]
+struct Found<'a> {
+    cloud: &'a Cloud,
+    query: &'a Query,
+    slots: Vec<Option<Lack>>,
+    holds: Vec<bool>,
+    ghost told: { slots.items ≡ unserved (providers_of cloud.now) (slots_of (asked_of query.now)) },
+    ghost held: { holds.items ≡ map (holds_required (providers_of cloud.now) (asked_of query.now)) (range_with_len 0 (length (providers_of cloud.now))) },
+}
+
+impl<'a> Found<'a> {
+    fn new(alloc: Global, cloud: &'a Cloud, query: &'a Query) -> Result<Found<'a>, NoMemory>
+        ensures cloud { IfOk result (λ found. found.cloud.now ≡ cloud.now) }
+        ensures query { IfOk result (λ found. found.query.now ≡ query.now) }
+    {
+        let slots = lacks_of_slots(alloc, cloud, query)?;
+        let holds = holding_roots(alloc, cloud, query)?;
+        Ok(Found {
+            cloud,
+            query,
+            slots,
+            holds,
+        })
+    }
+
+    // What a root lacks, by whether it fits.
+    fn lack(&self, root: u32, fits: bool) -> Option<Lack>
+        requires root { root < length (providers_of self.now.cloud.now) }
+        requires fits { fits
+            ≡ fits_at (providers_of self.now.cloud.now) (asked_of self.now.query.now) root }
+        ensures { result
+            ≡ lack_at (providers_of self.now.cloud.now) (asked_of self.now.query.now) root }
+    {
+        let at = root as usize;
+        let takes = takes_root(self.cloud, self.query, root);
+        first_lack(takes, self.slots[at], self.holds[at], fits)
+    }
+}
+
+/// What a root lacks, where it is known whether it fits.
+pub fn find_lack(
+    alloc: Global,
+    cloud: &Cloud,
+    query: &Query,
+    root: u32,
+    fits: bool,
+) -> Result<Option<Lack>, NoMemory>
+    requires root { root < length (providers_of cloud.now) }
+    requires fits { fits ≡ fits_at (providers_of cloud.now) (asked_of query.now) root }
+    ensures { IfOk result (λ lacks.
+        lacks ≡ lack_at (providers_of cloud.now) (asked_of query.now) root) }
+{
+    let found = Found::new(alloc, cloud, query)?;
+    Ok(found.lack(root, fits))
+}
+
 /// What each provider lacks as a root, by its place, where it is known which of them fit: the first of what the query asks of
 /// a root, of each slot by itself, of the traits that the group without a suffix requires, and of all together. A root that
 /// lacks nothing fits; a provider that isn't a root lacks what is asked of one.
@@ -189,13 +244,10 @@ pub fn find_lacks(
     ensures { IfOk result (λ lacks.
         lacks.items ≡ lacks_of (providers_of cloud.now) (asked_of query.now)) }
 {
-    let slots = lacks_of_slots(alloc, cloud, query)?;
-    let holds = holding_roots(alloc, cloud, query)?;
+    let found = Found::new(alloc, cloud, query)?;
     let mut lacks = Vec::new(alloc);
     for root in 0..cloud.len() {
-        let at = root as usize;
-        let takes = takes_root(cloud, query, root);
-        lacks.push(first_lack(takes, slots[at], holds[at], fits[at]))?;
+        lacks.push(found.lack(root, fits[root as usize]))?;
     }
     Ok(lacks)
 }

@@ -16,6 +16,6 @@ pub use ac_rules::{Plain, Rule, Source, Verdict, verify};
 pub use explaining::{
     SlotCounts, SlotTold, TreeCounts, all_slots, requires_some, slot_counts, tree_counts,
 };
-pub use hosts::fitting_roots;
-pub use lacking::{Lack, Stage, find_lacks, first_failed};
+pub use hosts::{fits_root, fitting_roots};
+pub use lacking::{Lack, Stage, find_lack, find_lacks, first_failed};
 pub use walk::Walk;

@@ -1,8 +1,8 @@
 -- A walk leaves roots at which it has found a candidate, until none is left that has one.
 use Rattle.std.proofs.Common.{◌≡◌, ◌∙◌, ℕ, ◌<◌, Bool, true, false, not, ◌&&◌, List, [], ◌∷◌, length, map, Option, Some, None, inl, inr, refl, sym, ap, ap₂, subst, arith, slice_index_or, ◌≤◌}
-use Rattle.std.specs.Prelude.{IsSome}
+use Rattle.std.specs.Prelude.{◌==◌, IsSome, MatchBool}
 use Rattle.std.specs.List.{All, filter, list_any, range_with_len, AllByRecursion as Each}
-use Rattle.std.proofs.lemmas.Bool.{cases_Bool, and_parts, and_from, false≢true}
+use Rattle.std.proofs.lemmas.Bool.{cases_Bool, cases_eq, and_parts, and_from, eq-eqb, ne_eqb, false≢true}
 use Rattle.ac_query.specs.Asked.{Asked}
 use Rattle.ac_cloud.specs.World.{Provider}
 use Rattle.ac_rules.specs.Together.{takes_root}
@@ -54,6 +54,10 @@ any_none : {X : Type 0} (f g : X → Bool) → ((x : X) → g x ≡ true → f x
 any_none f g weaker [] is = refl
 any_none f g weaker (x ∷ xs) is = grind (arith, weaker x, any_none f g weaker xs)
 
+any_some : {X : Type 0} (f g : X → Bool) → ((x : X) → f x ≡ true → g x ≡ true) → (xs more : List X) (y : X) → filter f xs ≡ y ∷ more → list_any g xs ≡ true
+any_some f g stronger [] more y is = absurd (cc)
+any_some f g stronger (x ∷ xs) more y is = grind (arith, stronger x, any_some f g stronger xs more y)
+
 -- the marks that stay where a list stands no more
 abbrev pub AreLeft : List Provider → List ℕ → Option (List Bool) → Option (List Bool) → Type 0
 AreLeft all y old new = (r : ℕ) → r < length all → is_looked_at new r ≡ (is_looked_at old r && not (stand_at all y r))
@@ -75,6 +79,28 @@ marked_stands : (all : List Provider) (marks : List Bool) (r : ℕ) → r < leng
 unfolding stand_at_marked
 marked_stands all marks r low marked t here =
     any_there (λ z. slice_index_or marks z false && stand_at all t z) (range_with_len 0 (length all)) r (range_there (length all) r low) (and_from _ _ marked here)
+
+-- what stands at a root that is marked alone stands there
+stands_alone : (all : List Provider) (marks : List Bool) (r : ℕ) → marks ≡ map (λ q. q == r) (range_with_len 0 (length all)) → (t : List ℕ) → stand_at_marked all marks t ≡ true → stand_at all t r ≡ true
+unfolding stand_at_marked
+stands_alone all marks r are t h = elim (cases_Bool (stand_at all t r)) [
+  | inl here ↦ here
+  | inr away ↦ absurd (false≢true (sym (any_false (λ q. slice_index_or marks q false && stand_at all t q) (range_with_len 0 (length all)) (at_each (length all) _ (λ q low.
+      let is : slice_index_or marks q false ≡ (q == r) = rw are (mapped_at (λ q. q == r) (length all) q low) in
+      elim (cases_eq q r) [
+        | inl e ↦ rw (e, away) (grind arith)
+        | inr e ↦ rw (is, ne_eqb q r e) refl
+      ]))) ∙ h))
+]
+
+-- a root that the query takes and that is marked alone fits exactly where a candidate is left
+pub fits_alone : (all : List Provider) (asked : Asked) (marks : List Bool) (r : ℕ) → r < length all → marks ≡ map (λ q. q == r) (range_with_len 0 (length all)) → takes_root all asked r ≡ true
+    → (old new : Walk) (b : Bool) → left_of old ≡ filter (stand_at_marked all marks) (candidates all asked) → MatchBool b (Advances old new) (Finishes old new) → b ≡ fits_at all asked r
+fits_alone all asked marks r low are takes old new true left on =
+    sym (and_from _ _ takes (any_some (stand_at_marked all marks) (λ t. stand_at all t r) (stands_alone all marks r are) (candidates all asked) (left_of new) new.path.items (sym left ∙ on.head)))
+fits_alone all asked marks r low are takes old new false left end =
+    let marked : slice_index_or marks r false ≡ true = rw are (mapped_at (λ q. q == r) (length all) r low) ∙ eq-eqb r r refl in
+    rw (takes, any_none (stand_at_marked all marks) (λ t. stand_at all t r) (marked_stands all marks r low marked) (candidates all asked) (sym left ∙ end.nothing)) refl
 
 module _ (all : List Provider) (asked : Asked) where
   -- what is known of the roots that aren't looked at

@@ -1,4 +1,4 @@
-use Rattle.std.proofs.Common.{◌≡◌, ◌∙◌, ◌<◌, ◌&&◌, ℕ, true, false, length, replicate, slice_index_or, ap, arith}
+use Rattle.std.proofs.Common.{◌≡◌, ◌∙◌, ◌&&◌, true, false, length, slice_index_or, ap, arith}
 use Rattle.std.proofs.lemmas.List.{get_or-replicate, length-replicate, with_items_is}
 use Rattle.std.proofs.lemmas.List.FromFn.{fill_by_all}
 use Rattle.ac_cloud.specs.Cloud.CloudWorld.{providers_of}

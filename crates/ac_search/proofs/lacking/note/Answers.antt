@@ -1,7 +1,6 @@
-use Rattle.std.proofs.Common.{◌≡◌, ◌∙◌, ◌<◌, None, length, slice_index, slice_index_or, ap, arith}
+use Rattle.std.proofs.Common.{◌∙◌, ◌<◌, None, length, slice_index_or, ap, arith}
 use Rattle.std.specs.Option.{option_or}
 use Rattle.std.proofs.lemmas.List.{get_or-set_other, length-set}
-use Rattle.ac_search.specs.Shown.Lacking.{lack_behind}
 use Rattle.ac_search.proofs.LackingLemmas.{noted_more}
 use Rattle.ac_search.proofs.lacking.note.Goals as goal
 

@@ -1,4 +1,4 @@
-use Rattle.std.proofs.Common.{◌≤◌, [], drop, List}
+use Rattle.std.proofs.Common.{◌≤◌, [], drop}
 use Rattle.std.specs.Prelude.{if◌then◌else◌}
 use Rattle.std.specs.List.{flat_map}
 use Rattle.ac_base.proofs.Leaving.{Leaves}
