@@ -29,12 +29,12 @@ pub use self::without::{FoundWithout, find_without};
 use crate::pieces::digits::Digits;
 use crate::pieces::push_pieces;
 use ac_base::{NoMemory, Sink, WriteFailed, push_all};
+use ac_cloud::Cloud;
 use ac_query::{Need, Query};
 use ac_report::suffix_text;
 use ac_rules::Source;
 use ac_rules::slots::{count_slots, group_at, needs_at};
 use ac_search::{SlotCounts, SlotTold, TreeCounts, Walk};
-use ac_tables::Cloud;
 use std::alloc::Global;
 
 // A class with its amount, behind a mark.

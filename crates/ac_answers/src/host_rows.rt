@@ -13,10 +13,10 @@ ghost use Rattle.ac_answers.specs.HostRows.{host_fields, hosts_status, hosts_tex
 
 use crate::lacks::{lack_name, slot_digits};
 use ac_base::NoMemory;
+use ac_cloud::Cloud;
 use ac_query::Query;
 use ac_report::{begin_rows, end_rows, shown_name, write_row};
 use ac_search::Lack;
-use ac_tables::Cloud;
 use csv::Writer;
 use std::alloc::Global;
 

@@ -8,15 +8,11 @@ use Rattle.ac_base.specs.Texts.{id_value}
 use Rattle.ac_cloud.specs.Laws.{AreProviders}
 use Rattle.ac_cloud.specs.World.{Provider, id_at}
 use Rattle.ac_query.specs.Asked.{Group, slots_from, class_slot}
-use Rattle.ac_query.specs.Laws.Gathered.{asked_by}
 use Rattle.ac_query.specs.Laws.InOrder.{AreNeeds, IsFirstPlain}
-use Rattle.ac_query.proofs.Pairs.Ordered.{query_in_order}
 use Rattle.ac_query.proofs.WrittenIds.{id_reads}
 use Rattle.ac_rules.specs.Placed.{placed}
 use Rattle.ac_rules.specs.Together.{sum_on}
-use Rattle.ac_tables.specs.Tables.{world_stated}
-use Rattle.ac_tables.proofs.ProvidersStated.{providers_in_order}
-use Rattle.ac_report.specs.Laws.{RequestsDiffer, StatedRequestsDiffer}
+use Rattle.ac_report.specs.Laws.{RequestsDiffer}
 use Rattle.ac_report.specs.Trees.{hosts}
 use Rattle.ac_report.proofs.Differing.{classes_agree, classes_hosts, suffixed_agree}
 use Rattle.ac_report.proofs.Trees.Finding.{AreTold, hosts_agree}
@@ -45,7 +41,3 @@ requests_differ all asked t u are order at au e =
     agree asked.groups (length all) t u order.first order.needs at.long au.long (recursion_from_All _ _ at.below)
     (hosts_agree all (are_told all are) asked order.names t u at.below au.below e)
     (sums_agree all (are_told all are) asked t u at au e)
-
-pub stated_requests_differ : StatedRequestsDiffer
-stated_requests_differ tables version pairs t u =
-    requests_differ (world_stated tables).providers (asked_by version pairs) t u (providers_in_order tables) (query_in_order version pairs)

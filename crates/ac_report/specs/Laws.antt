@@ -1,11 +1,8 @@
 -- What holds of pages.
 use Rattle.std.specs.Prelude.{◌≡◌, ℕ, List}
 use Rattle.ac_cloud.specs.Laws.{AreProviders}
-use Rattle.ac_tables.specs.Tables.{Tables, world_stated}
 use Rattle.ac_cloud.specs.World.{Provider}
-use Rattle.ac_query.specs.declared.version.Version.{Version}
 use Rattle.ac_query.specs.Asked.{Asked}
-use Rattle.ac_query.specs.Laws.Gathered.{asked_by}
 use Rattle.ac_query.specs.Laws.InOrder.{IsInOrder}
 use Rattle.ac_report.specs.Pages.{IsAssignment}
 use Rattle.ac_report.specs.Texts.{body, pieces, joined}
@@ -19,10 +16,3 @@ IsInPieces all asked lists = body all asked lists ≡ joined (pieces all asked l
 abbrev pub RequestsDiffer : Type 0
 RequestsDiffer = (all : List Provider) (asked : Asked) (t u : List ℕ) → AreProviders all → IsInOrder asked → IsAssignment all asked t → IsAssignment all asked u
     → request all asked t ≡ request all asked u → t ≡ u
-
--- the same of the providers that tables state and of what pairs ask for, be they accepted or not
-abbrev pub StatedRequestsDiffer : Type 0
-StatedRequestsDiffer = (tables : Tables) (version : Version) (pairs : List (List ℕ × List ℕ)) (t u : List ℕ)
-    → IsAssignment (world_stated tables).providers (asked_by version pairs) t
-    → IsAssignment (world_stated tables).providers (asked_by version pairs) u
-    → request (world_stated tables).providers (asked_by version pairs) t ≡ request (world_stated tables).providers (asked_by version pairs) u → t ≡ u

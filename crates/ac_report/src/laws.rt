@@ -4,7 +4,7 @@ ghost use Rattle.std.specs.Prelude.{ℕ, List};
 ghost use Rattle.ac_cloud.specs.Laws.{AreProviders};
 ghost use Rattle.ac_cloud.specs.World.{Provider};
 ghost use Rattle.ac_query.specs.Asked.{Asked};
-ghost use Rattle.ac_report.specs.Laws.{IsInPieces, RequestsDiffer, StatedRequestsDiffer};
+ghost use Rattle.ac_report.specs.Laws.{IsInPieces, RequestsDiffer};
 
 /// The body of any lists is its pieces, joined.
 pub fn body_pieces()
@@ -13,16 +13,8 @@ pub fn body_pieces()
 {}
 
 /// Two different assignments have different requests, so each candidate that is printed is printed once. What it asks of the providers
-/// and of the query holds of all that tables state and texts ask for, by the laws `ac_tables::laws::providers_in_order` and
-/// `ac_query::laws::query_in_order`.
+/// and of the query holds of all that tables state and texts ask for: `ac_run::laws::stated_requests_differ` says the same of those.
 #[tactic(auto, using(crate::proofs::Assigning::requests_differ))]
 pub fn requests_differ()
     ensures { RequestsDiffer }
-{}
-
-/// Two different assignments have different requests, over the providers that any tables state and for what any pairs ask for: so it is
-/// of each cloud and each query that is accepted.
-#[tactic(auto, using(crate::proofs::Assigning::stated_requests_differ))]
-pub fn stated_requests_differ()
-    ensures { StatedRequestsDiffer }
 {}

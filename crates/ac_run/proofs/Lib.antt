@@ -8,3 +8,4 @@ pub mod HandedOn
 pub mod Delivering
 pub mod HostFound
 pub mod FaultsTold
+pub mod StatedRequests

@@ -7,3 +7,4 @@ pub mod Outputs
 pub mod Answer
 pub mod Run
 pub mod Jobs
+pub mod Laws

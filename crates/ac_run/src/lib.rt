@@ -8,6 +8,7 @@ mod asking;
 mod draining;
 mod filling;
 pub mod gathered;
+pub mod laws;
 mod outputs;
 mod ready;
 pub mod refusal;

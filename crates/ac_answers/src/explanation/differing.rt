@@ -8,9 +8,9 @@ ghost use Rattle.ac_answers.specs.Writing.{Pushes};
 
 use crate::pieces::push_pieces;
 use ac_base::{Sink, WriteFailed};
+use ac_cloud::Cloud;
 use ac_differences::{Difference, all_differences, applies};
 use ac_query::Query;
-use ac_tables::Cloud;
 
 // The heading of docs/DIFFERENCES.md that a difference stands under.
 #[tactic(auto, unfolding(crate::specs::Explanation::Differing::heading))]

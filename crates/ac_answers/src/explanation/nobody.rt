@@ -12,12 +12,12 @@ ghost use Rattle.ac_answers.specs.Writing.{Pushes};
 
 use crate::pieces::{push_marked, push_pieces};
 use ac_base::{Id, Sink, TraitName, WriteFailed, push_all};
+use ac_cloud::Cloud;
 use ac_explain::{
     some_root_has, somebody_has_class, somebody_has_one, somebody_has_trait, somebody_is,
     somebody_is_in,
 };
 use ac_query::{AggregateRule, AnyOf, Group, Need, Query};
-use ac_tables::Cloud;
 
 // A line of a name.
 #[tactic(auto, unfolding(crate::specs::Explanation::Nobody::line_of))]

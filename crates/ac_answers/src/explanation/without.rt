@@ -12,9 +12,9 @@ use super::has_candidate;
 use crate::pieces::push_marked;
 use crate::question::Question;
 use ac_base::{NoMemory, Sink, Suffix, WriteFailed, push_all};
+use ac_cloud::Cloud;
 use ac_query::Query;
 use ac_search::{requires_some, tree_counts};
-use ac_tables::Cloud;
 use std::alloc::Global;
 use std::collections::BTreeSet;
 
