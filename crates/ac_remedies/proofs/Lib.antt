@@ -1,4 +1,3 @@
 mod ItemsTold
 mod NamesOpposed
-mod RowsFound
 mod SlotsTold

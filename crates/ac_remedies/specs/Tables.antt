@@ -1,13 +1,13 @@
 -- The second line of a fault of a table: its path, where in it the fault stands, and what to do.
 pub mod Columns
 pub mod Places
-use Rattle.std.specs.Prelude.{ℕ, ◌-◌, List, [], ◌∷◌, ◌++◌, codes, Option, None, Some}
-use Rattle.std.specs.List.{flat_map, slice_get}
+use Rattle.std.specs.Prelude.{ℕ, List, [], ◌∷◌, ◌++◌, codes, Option, None, Some}
+use Rattle.std.specs.List.{flat_map}
 use Rattle.std.specs.Option.{option_map_or}
+use Rattle.ac_tables.specs.Found.{beside_header, records_in}
 use Rattle.ac_tables.specs.Tables.{Tables}
 use Rattle.ac_tables.specs.Tables.Checks.{Row}
 use Rattle.ac_tables.specs.declared.fault.Table.{Table}
-use Rattle.ac_tables.specs.declared.fault.Table.TheVariants as table
 use Rattle.ac_tables.specs.declared.fault.TableKind.{TableKind}
 use Rattle.ac_tables.specs.declared.fault.TableKind.TheVariants as kind
 use Rattle.ac_remedies.specs.Quoted.{said, shown}
@@ -46,25 +46,13 @@ unread_text (Some reason) = said (reason ∷ codes "; give the path of a file th
 unfoldable pub line_of : List ℕ → List ℕ → List ℕ → List ℕ
 line_of path place remedy = said (codes "  " ∷ flat_map shown path ∷ place ∷ codes ": " ∷ remedy ∷ codes "\n" ∷ [])
 
--- the records of one of the tables
-unfoldable pub rows_of : Tables → Table → List Row
-rows_of t table.Providers = t.providers
-rows_of t table.Inventories = t.inventories
-rows_of t table.Usages = t.usages
-rows_of t table.Traits = t.traits
-rows_of t table.Aggregates = t.aggregates
-
--- records are numbered from 1
-abbrev pub record_at : List Row → ℕ → Option Row
-record_at rows n = slice_get rows (n - 1)
-
 -- where in a table a fault stands; nothing where there is no such record
 unfoldable pub place_in : List Row → Table → ℕ → TableKind → List ℕ
-place_in rows t n k = option_map_or (λ header. option_map_or (place_text t k header) (record_at rows n) []) (record_at rows 1) []
+place_in rows t n k = option_map_or (λ found. place_text t k found.0 found.1) (beside_header rows n) []
 
 -- the second line of a fault of a record, of a table that is too large, and of one that can't be read
 unfoldable pub record_remedy : List ℕ → Tables → Table → ℕ → TableKind → List ℕ
-record_remedy path tables t n k = line_of path (place_in (rows_of tables t) t n k) (remedy_text k)
+record_remedy path tables t n k = line_of path (place_in (records_in tables t) t n k) (remedy_text k)
 
 unfoldable pub size_remedy : List ℕ → List ℕ
 size_remedy path = line_of path [] size_text

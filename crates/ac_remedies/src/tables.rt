@@ -2,64 +2,37 @@
 ghost use Rattle.std.specs.Prelude.{◌≡◌, ◌++◌, IfOk, OnOk, string_bytes};
 ghost use Rattle.std.specs.Option.{option_map};
 ghost use Rattle.ac_tables.specs.Source.{tables_of};
-ghost use Rattle.ac_tables.specs.SourceText.{text_or};
-ghost use Rattle.ac_tables.specs.Tables.Rows.{records_of};
-ghost use Rattle.ac_remedies.specs.Tables.{line_of, place_in, record_remedy, rows_of, size_remedy, unread_remedy, unread_text};
+ghost use Rattle.ac_tables.specs.Found.{records_in};
+ghost use Rattle.ac_remedies.specs.Tables.{line_of, place_in, record_remedy, size_remedy, unread_remedy, unread_text};
 
 mod columns;
 mod places;
-mod reading;
 mod remedies;
 
 use crate::quoted::{push_all, push_each};
 use crate::tables::places::push_place;
-use crate::tables::reading::{Found, read_record};
 use crate::tables::remedies::remedy_text;
 use ac_base::NoMemory;
-use ac_tables::{Sources, Table, TableKind};
+use ac_tables::{Found, Sources, Table, TableKind};
 use std::alloc::{AllocError, Global};
-
-// A text, or this header where there is none.
-fn text_or<'a>(text: Option<&'a [u8]>, header: &'a [u8]) -> &'a [u8]
-    ensures { result.now ≡ text_or text.entry header.now }
-{
-    text.unwrap_or(header)
-}
-
-// The text of one of the tables; one that isn't there is its header alone.
-#[tactic(auto, unfolding(crate::specs::Tables::rows_of), using(ac_tables::proofs::Records::AllFaults::usage_text, ac_tables::proofs::Records::AllFaults::trait_text, ac_tables::proofs::Records::AllFaults::aggregate_text))]
-fn source_text<'a>(src: &Sources<'a>, table: Table) -> &'a [u8]
-    ensures { records_of result.now ≡ rows_of (tables_of src.now) table }
-{
-    match table {
-        Table::Providers => src.providers,
-        Table::Inventories => src.inventories,
-        Table::Usages => text_or(src.usages, b"resource_provider,resource_class,usage"),
-        Table::Traits => text_or(src.traits, b"resource_provider,name"),
-        Table::Aggregates => text_or(src.aggregates, b"resource_provider,uuid"),
-    }
-}
 
 // Puts where in a table a fault stands behind a text; nothing where there is no such record.
 #[tactic(auto, unfolding(crate::specs::Tables::place_in))]
 fn push_place_in(
     alloc: Global,
     text: &mut Vec<u8>,
-    source: &[u8],
+    src: &Sources,
     table: Table,
     row: u32,
     kind: TableKind,
 ) -> Result<(), NoMemory>
-    ensures { OnOk result (text.new.items
-        ≡ text.old.items ++ place_in (records_of source.now) table row kind) }
+    ensures { OnOk result (text.new.items ≡ text.old.items
+        ++ place_in (records_in (tables_of src.now) table) table row kind) }
 {
-    let Some(header) = read_record(alloc, source, 1)? else {
-        return Ok(());
-    };
-    let Some(row) = read_record(alloc, source, row)? else {
-        return Ok(());
-    };
-    push_place(alloc, text, table, kind, &Found { header, row })
+    match Found::read(alloc, src, table, row)? {
+        Some(found) => push_place(alloc, text, table, kind, &found),
+        None => Ok(()),
+    }
 }
 
 // The line of a path, of what stands behind it, and of what to do.
@@ -89,7 +62,7 @@ pub fn record_remedy(
         ≡ record_remedy path.now (tables_of src.now) table row kind) }
 {
     let mut place = Vec::new(alloc);
-    match push_place_in(alloc, &mut place, source_text(src, table), table, row, kind) {
+    match push_place_in(alloc, &mut place, src, table, row, kind) {
         Ok(()) => line_of(alloc, path, &place, remedy_text(kind)),
         Err(NoMemory) => Err(AllocError),
     }

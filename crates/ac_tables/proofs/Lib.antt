@@ -8,3 +8,4 @@ mod Literals
 pub mod NameFacts
 pub mod StatedWorld
 pub mod ProvidersStated
+pub mod FoundRows

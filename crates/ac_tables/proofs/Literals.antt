@@ -4,9 +4,10 @@ use Rattle.uuid.proofs.OnLiterals.{uuid_on_literals}
 use Rattle.csv.proofs.OnLiterals.{csv_on_literals}
 use Rattle.ac_base.specs.Texts.{number, count_value, in_millionths, ratio_value}
 use Rattle.ac_tables.specs.Tables.Columns.{header_checks}
-use Rattle.ac_tables.specs.Tables.ProviderTable.{name_name, uuid_name, root_name, parent_name, provider_columns, provider_said, place_of, provider_field_checks, place_checks, provider_record_checks}
-use Rattle.ac_tables.specs.Tables.InventoryTable.{provider_name, class_name, total_name, reserved_name, min_unit_name, max_unit_name, step_size_name, ratio_name, inventory_columns, numbers_said, inventory_said, number_checks, owner_checks, class_checks, inventory_field_checks, once_checks, inventory_record_checks}
-use Rattle.ac_tables.specs.Tables.UsageTable.{usage_name, usage_columns}
+use Rattle.ac_tables.specs.Tables.ProviderTable.{provider_said, place_of, provider_field_checks, place_checks, provider_record_checks}
+use Rattle.ac_tables.specs.Tables.InventoryTable.{numbers_said, inventory_said, number_checks, owner_checks, class_checks, inventory_field_checks, once_checks, inventory_record_checks}
+use Rattle.ac_tables.specs.Tables.Names.{columns_needed, name_of}
+use Rattle.ac_tables.specs.Tables.UsageTable.{usage_columns}
 use Rattle.ac_tables.specs.Tables.TraitTable.{trait_columns}
 use Rattle.ac_tables.specs.Tables.AggregateTable.{aggregate_columns}
 use Rattle.ac_tables.specs.Tables.{ids_of, tables_fault}
@@ -49,5 +50,5 @@ cases =
     ∷ []
 
 each_told : map (λ c. fault_of c.0 c.1) cases ≡ map (λ c. c.2) cases
-unfolding csv_on_literals uuid_on_literals tables_fault header_checks provider_columns uuid_name root_name parent_name provider_said place_of provider_field_checks place_checks provider_record_checks provider_name class_name total_name reserved_name min_unit_name max_unit_name step_size_name ratio_name inventory_columns numbers_said inventory_said number_checks owner_checks class_checks inventory_field_checks once_checks inventory_record_checks ids_of number count_value in_millionths ratio_value usage_name usage_columns name_name trait_columns aggregate_columns
+unfolding csv_on_literals uuid_on_literals name_of columns_needed tables_fault header_checks provider_said place_of provider_field_checks place_checks provider_record_checks numbers_said inventory_said number_checks owner_checks class_checks inventory_field_checks once_checks inventory_record_checks ids_of number count_value in_millionths ratio_value
 each_told = refl

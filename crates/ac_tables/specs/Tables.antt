@@ -5,6 +5,7 @@ pub mod UsageTable
 pub mod TraitTable
 pub mod AggregateTable
 pub mod Checks
+pub mod Names
 pub mod Columns
 pub mod Rows
 use Rattle.std.specs.Prelude.{ℕ, Bool, ◌==◌, List, [], ◌∷◌, ◌++◌, map, length, Option, Some, None}

@@ -3,7 +3,9 @@
 //! It knows nothing of queries or of searches.
 #![tactic(auto)]
 
+pub mod columns;
 pub mod fault;
+pub mod found;
 pub mod laws;
 pub mod read;
 mod reader;
@@ -11,6 +13,8 @@ pub mod reading;
 mod tables;
 
 pub use ac_cloud::{Cloud, Counts, Entry, HostFault};
+pub use columns::{Column, columns_needed};
 pub use fault::{Table, TableFault, TableKind};
+pub use found::Found;
 pub use read::{FiveTables, FromTables, Sources};
 pub use reading::{ReadFault, drain};

@@ -1,11 +1,12 @@
 //! Reading the tables of a cloud.
 ghost use Rattle.std.specs.Prelude.{◌≡◌, ◌≤◌, None, length, IfOk, IfErr};
+ghost use Rattle.std.specs.Option.{option_map};
 ghost use Rattle.ac_tables.specs.Tables.Checks.{Tells};
 ghost use Rattle.ac_tables.specs.Tables.{tables_fault, world_stated};
 ghost use Rattle.ac_tables.specs.SourceText.{text_or};
 ghost use Rattle.ac_tables.specs.Tables.Rows.{records_of};
 
-use crate::fault::TableFault;
+use crate::fault::{Table, TableFault};
 use crate::tables::aggregates::read_aggregates;
 use crate::tables::entries::join;
 use crate::tables::inventories::Inventories;
@@ -24,6 +25,23 @@ pub struct FiveTables<T> {
     pub usages: Option<T>,
     pub traits: Option<T>,
     pub aggregates: Option<T>,
+}
+
+impl<T> FiveTables<T> {
+    ghost use Rattle.ac_tables.specs.FiveTables.{table_in};
+
+    /// What stands for a table, where it is there.
+    pub fn get(&self, table: Table) -> Option<&T>
+        ensures { option_map (λ one. one.now) result ≡ table_in self.now table }
+    {
+        match table {
+            Table::Providers => Some(&self.providers),
+            Table::Inventories => Some(&self.inventories),
+            Table::Usages => self.usages.as_ref(),
+            Table::Traits => self.traits.as_ref(),
+            Table::Aggregates => self.aggregates.as_ref(),
+        }
+    }
 }
 
 /// The texts of the tables. A table that isn't there is its header alone.

@@ -6,8 +6,9 @@ use Rattle.std.specs.Str.{bytes_eq}
 use Rattle.ac_base.specs.Texts.{id_text, id_value, name_value}
 use Rattle.ac_tables.specs.Tables.Checks.{Row}
 use Rattle.ac_tables.specs.Tables.Columns.{text_or_none}
-use Rattle.ac_tables.specs.Tables.ProviderTable.{uuid_name}
-use Rattle.ac_tables.specs.Tables.InventoryTable.{class_name, provider_name, total_name}
+use Rattle.ac_tables.specs.Tables.Names.{name_of}
+use Rattle.ac_tables.specs.declared.columns.Column.{Column}
+use Rattle.ac_tables.specs.declared.columns.Column.TheVariants as column
 use Rattle.ac_tables.specs.declared.fault.Table.{Table}
 use Rattle.ac_tables.specs.declared.fault.Table.TheVariants as table
 use Rattle.ac_tables.specs.declared.fault.TableKind.{TableKind}
@@ -16,17 +17,17 @@ use Rattle.ac_remedies.specs.Quoted.{quoted, said}
 use Rattle.ac_remedies.specs.Tables.Columns.{columns_of, first_broken}
 
 -- a column of a record, with its value
-unfoldable pub field_text : Row → Row → List ℕ → List ℕ
-field_text header row name = said (codes ", " ∷ name ∷ codes " " ∷ quoted (text_or_none header name row) ∷ [])
+unfoldable pub field_text : Row → Row → Column → List ℕ
+field_text header row c = said (codes ", " ∷ name_of c ∷ codes " " ∷ quoted (text_or_none header (name_of c) row) ∷ [])
 
 -- how many fields a record has, and how many the header
 unfoldable pub width_text : Row → Row → List ℕ
 width_text header row = said (codes ", fields " ∷ decimal (length row) ∷ codes ", header " ∷ decimal (length header) ∷ [])
 
 -- the column that says whose record it is
-unfoldable pub owner_column : Table → List ℕ
-owner_column table.Providers = uuid_name
-owner_column _ = provider_name
+unfoldable pub owner_column : Table → Column
+owner_column table.Providers = column.Uuid
+owner_column _ = column.Owner
 
 -- a provider and a class behind a comma
 unfoldable pub provider_mark : ℕ → List ℕ
@@ -36,30 +37,30 @@ unfoldable pub class_mark : List ℕ → List ℕ
 class_mark class = said (codes ", " ∷ class ∷ [])
 
 -- those that a record names, where it names them
-unfoldable pub named_provider : Row → Row → List ℕ → List ℕ
-named_provider header row name = option_map_or provider_mark (id_value (text_or_none header name row)) []
+unfoldable pub named_provider : Row → Row → Column → List ℕ
+named_provider header row c = option_map_or provider_mark (id_value (text_or_none header (name_of c) row)) []
 
 unfoldable pub named_class : Row → Row → List ℕ
-named_class header row = option_map_or class_mark (name_value (text_or_none header class_name row)) []
+named_class header row = option_map_or class_mark (name_value (text_or_none header (name_of column.Class) row)) []
 
 -- the same, unless their column is told already
 unfoldable pub provider_text : Table → Row → Row → List ℕ → List ℕ
-provider_text t header row told = if bytes_eq told (owner_column t) then [] else named_provider header row (owner_column t)
+provider_text t header row told = if bytes_eq told (name_of (owner_column t)) then [] else named_provider header row (owner_column t)
 
 unfoldable pub class_text : Row → Row → List ℕ → List ℕ
-class_text header row told = if bytes_eq told class_name then [] else named_class header row
+class_text header row told = if bytes_eq told (name_of column.Class) then [] else named_class header row
 
 -- whose record it is, but for the column that is told already
 unfoldable pub owner_text : Table → Row → Row → List ℕ → List ℕ
 owner_text t header row told = provider_text t header row told ++ class_text header row told
 
 -- a column that breaks a check, and whose record it is; a column of the header stands alone
-unfoldable pub broken_text : Table → TableKind → Row → Row → List ℕ → List ℕ
-broken_text t kind.MissingColumn header row name = codes ", " ++ name
-broken_text t kind.DoubleColumn header row name = codes ", " ++ name
-broken_text t kind.ReservedOverTotal header row name =
-    field_text header row name ++ field_text header row total_name ++ owner_text t header row name
-broken_text t _ header row name = field_text header row name ++ owner_text t header row name
+unfoldable pub broken_text : Table → TableKind → Row → Row → Column → List ℕ
+broken_text t kind.MissingColumn header row c = codes ", " ++ name_of c
+broken_text t kind.DoubleColumn header row c = codes ", " ++ name_of c
+broken_text t kind.ReservedOverTotal header row c =
+    field_text header row c ++ field_text header row column.Total ++ owner_text t header row (name_of c)
+broken_text t _ header row c = field_text header row c ++ owner_text t header row (name_of c)
 
 -- where a fault of a column stands; where it is of a whole record, whose record it is
 unfoldable pub column_place : Table → TableKind → Row → Row → List ℕ

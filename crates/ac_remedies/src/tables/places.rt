@@ -5,20 +5,19 @@ ghost use Rattle.ac_base.specs.Names.{class_bytes};
 ghost use Rattle.ac_remedies.specs.Tables.Places.{broken_text, class_mark, class_text, column_place, field_text, named_class, named_provider, owner_column, owner_text, place_text, provider_mark, provider_text, width_text};
 
 use crate::quoted::{push_all, push_quoted};
-use crate::tables::columns::{CLASS, OWNER, TOTAL, UUID, columns_of, first_broken};
-use crate::tables::reading::Found;
+use crate::tables::columns::{columns_of, first_broken};
 use ac_base::{ClassName, Id, NoMemory};
-use ac_tables::{Table, TableKind};
+use ac_tables::{Column, Found, Table, TableKind};
 use std::alloc::{AllocError, Global};
 
 // Puts a column of a record with its value behind a text.
 #[tactic(auto, unfolding(crate::specs::Tables::Places::field_text))]
-fn push_field(text: &mut Vec<u8>, found: &Found, name: &[u8]) -> Result<(), AllocError>
+fn push_field(text: &mut Vec<u8>, found: &Found, column: Column) -> Result<(), AllocError>
     ensures { OnOk result (text.new.items ≡ text.old.items
-        ++ field_text (fields_of found.now.header) (fields_of found.now.row) name.now) }
+        ++ field_text (fields_of found.now.header) (fields_of found.now.row) column) }
 {
-    push_all(text, &[b", ", name, b" "])?;
-    push_quoted(text, found.field(name))
+    push_all(text, &[b", ", column.name(), b" "])?;
+    push_quoted(text, found.field(column))
 }
 
 // Puts how many fields a record and the header have behind a text.
@@ -34,13 +33,13 @@ fn push_width(alloc: Global, text: &mut Vec<u8>, found: &Found) -> Result<(), Al
 }
 
 // The column that says whose record it is.
-#[tactic(auto, unfolding(crate::specs::Tables::Places::owner_column, ac_tables::specs::Tables::ProviderTable::uuid_name, ac_tables::specs::Tables::InventoryTable::provider_name))]
-fn owner_column(table: Table) -> &'static [u8]
-    ensures { result.now ≡ owner_column table }
+#[tactic(auto, unfolding(crate::specs::Tables::Places::owner_column))]
+fn owner_column(table: Table) -> Column
+    ensures { result ≡ owner_column table }
 {
     match table {
-        Table::Providers => UUID,
-        _ => OWNER,
+        Table::Providers => Column::Uuid,
+        _ => Column::Owner,
     }
 }
 
@@ -63,23 +62,23 @@ fn push_name(text: &mut Vec<u8>, class: &ClassName) -> Result<(), AllocError>
 
 // Puts the provider that a column names behind a text.
 #[tactic(auto, unfolding(crate::specs::Tables::Places::named_provider))]
-fn push_named_provider(text: &mut Vec<u8>, found: &Found, name: &[u8]) -> Result<(), AllocError>
+fn push_named_provider(text: &mut Vec<u8>, found: &Found, column: Column) -> Result<(), AllocError>
     ensures { OnOk result (text.new.items ≡ text.old.items
-        ++ named_provider (fields_of found.now.header) (fields_of found.now.row) name.now) }
+        ++ named_provider (fields_of found.now.header) (fields_of found.now.row) column) }
 {
-    match Id::read(found.field(name)) {
+    match Id::read(found.field(column)) {
         Some(id) => push_id(text, id),
         None => Ok(()),
     }
 }
 
 // Puts the class that a record names behind a text.
-#[tactic(auto, unfolding(crate::specs::Tables::Places::named_class, ac_tables::specs::Tables::InventoryTable::class_name))]
+#[tactic(auto, unfolding(crate::specs::Tables::Places::named_class))]
 fn push_named_class(alloc: Global, text: &mut Vec<u8>, found: &Found) -> Result<(), NoMemory>
     ensures { OnOk result (text.new.items ≡ text.old.items
         ++ named_class (fields_of found.now.header) (fields_of found.now.row)) }
 {
-    match ClassName::read(alloc, found.field(CLASS))? {
+    match ClassName::read(alloc, found.field(Column::Class))? {
         Some(class) => Ok(push_name(text, &class)?),
         None => Ok(()),
     }
@@ -97,19 +96,19 @@ fn push_provider(
         ++ provider_text table (fields_of found.now.header) (fields_of found.now.row) told.now) }
 {
     let owner = owner_column(table);
-    if told == owner {
+    if told == owner.name() {
         return Ok(());
     }
     push_named_provider(text, found, owner)
 }
 
 // Puts the class of a record behind a text, unless its column is told already.
-#[tactic(auto, unfolding(crate::specs::Tables::Places::class_text, ac_tables::specs::Tables::InventoryTable::class_name))]
+#[tactic(auto, unfolding(crate::specs::Tables::Places::class_text))]
 fn push_class(alloc: Global, text: &mut Vec<u8>, found: &Found, told: &[u8]) -> Result<(), NoMemory>
     ensures { OnOk result (text.new.items ≡ text.old.items
         ++ class_text (fields_of found.now.header) (fields_of found.now.row) told.now) }
 {
-    if told == CLASS {
+    if told == Column::Class.name() {
         return Ok(());
     }
     push_named_class(alloc, text, found)
@@ -132,30 +131,30 @@ fn push_owner(
 }
 
 // Puts a column of a record and whose record it is behind a text, with the total where the amount reserved is above it.
-#[tactic(auto, unfolding(crate::specs::Tables::Places::broken_text, ac_tables::specs::Tables::InventoryTable::total_name))]
+#[tactic(auto, unfolding(crate::specs::Tables::Places::broken_text))]
 fn push_broken(
     alloc: Global,
     text: &mut Vec<u8>,
     table: Table,
     kind: TableKind,
     found: &Found,
-    name: &[u8],
+    column: Column,
 ) -> Result<(), NoMemory>
     ensures { OnOk result (text.new.items ≡ text.old.items
-        ++ broken_text table kind (fields_of found.now.header) (fields_of found.now.row) name.now) }
+        ++ broken_text table kind (fields_of found.now.header) (fields_of found.now.row) column) }
 {
     match kind {
         TableKind::MissingColumn | TableKind::DoubleColumn => {
-            Ok(push_all(text, &[b", ", name])?)
+            Ok(push_all(text, &[b", ", column.name()])?)
         }
         TableKind::ReservedOverTotal => {
-            push_field(text, found, name)?;
-            push_field(text, found, TOTAL)?;
-            push_owner(alloc, text, table, found, name)
+            push_field(text, found, column)?;
+            push_field(text, found, Column::Total)?;
+            push_owner(alloc, text, table, found, column.name())
         }
         _ => {
-            push_field(text, found, name)?;
-            push_owner(alloc, text, table, found, name)
+            push_field(text, found, column)?;
+            push_owner(alloc, text, table, found, column.name())
         }
     }
 }
@@ -173,7 +172,7 @@ fn push_column(
         ++ column_place table kind (fields_of found.now.header) (fields_of found.now.row)) }
 {
     match first_broken(columns_of(table, kind), kind, found) {
-        Some(name) => push_broken(alloc, text, table, kind, found, name),
+        Some(column) => push_broken(alloc, text, table, kind, found, column),
         None => push_owner(alloc, text, table, found, b""),
     }
 }

@@ -1,40 +1,42 @@
 -- The checks of a header, and then those of the records.
-use Rattle.ac_tables.proofs.Common.{◌≡◌, ◌∙◌, ◌++◌, ℕ, Bool, true, false, List, [], ◌∷◌, map, Option, Some, None, refl, sym, ap, inl, inr, Bor, cases_Bool, list_any, Row, Check, first_failing, record_checks, told_at, Tells, table_checks, Table, TableKind, TableFault}
+use Rattle.ac_tables.proofs.Common.{◌≡◌, ◌∙◌, ◌++◌, ℕ, Bool, true, false, List, [], ◌∷◌, map, Option, Some, None, refl, sym, ap, inl, inr, cases_Bool, list_any, Row, Check, first_failing, record_checks, told_at, Tells, table_checks, Table, TableKind, TableFault}
 use Rattle.ac_tables.specs.Tables.Checks.{told}
-use Rattle.ac_tables.specs.Tables.Columns.{is_missing, is_double, header_checks, header_fault, said_by, bytes_of}
+use Rattle.ac_tables.specs.Tables.Columns.{is_missing, is_double, header_checks, header_fault, said_by}
+use Rattle.ac_tables.specs.Tables.Names.{name_of}
+use Rattle.ac_tables.specs.declared.columns.Column.{Column}
 use Rattle.ac_tables.specs.declared.fault.TableKind.TheVariants as kind
 use Rattle.ac_tables.specs.declared.fault.TableFault.TheVariants as fault
 use Rattle.ac_tables.proofs.FirstFailing.{append_none, append_some, told_none, told_some}
 
-some_fails : (p : List ℕ → Bool) (k : TableKind) (names : List (Bor (List ℕ))) → list_any (λ n. p n.now) names ≡ true → first_failing (map (λ n. (p n, k)) (bytes_of names)) ≡ Some k
+some_fails : (p : List ℕ → Bool) (k : TableKind) (names : List Column) → list_any (λ n. p (name_of n)) names ≡ true → first_failing (map (λ n. (p n, k)) (map name_of names)) ≡ Some k
 some_fails p k [] h = absurd (cc)
-some_fails p k (n ∷ ns) h = elim (cases_Bool (p n.now)) [ inl e ↦ rw e refl | inr e ↦ rw e (some_fails p k ns (rw e at h)) ]
+some_fails p k (n ∷ ns) h = elim (cases_Bool (p (name_of n))) [ inl e ↦ rw e refl | inr e ↦ rw e (some_fails p k ns (rw e at h)) ]
 
-none_fails : (p : List ℕ → Bool) (k : TableKind) (names : List (Bor (List ℕ))) → list_any (λ n. p n.now) names ≡ false → first_failing (map (λ n. (p n, k)) (bytes_of names)) ≡ None
+none_fails : (p : List ℕ → Bool) (k : TableKind) (names : List Column) → list_any (λ n. p (name_of n)) names ≡ false → first_failing (map (λ n. (p n, k)) (map name_of names)) ≡ None
 none_fails p k [] h = refl
-none_fails p k (n ∷ ns) h = elim (cases_Bool (p n.now)) [ inl e ↦ absurd (cc (rw e at h)) | inr e ↦ rw e (none_fails p k ns (rw e at h)) ]
+none_fails p k (n ∷ ns) h = elim (cases_Bool (p (name_of n))) [ inl e ↦ absurd (cc (rw e at h)) | inr e ↦ rw e (none_fails p k ns (rw e at h)) ]
 
-abbrev missing_checks : List (Bor (List ℕ)) → Row → List Check
-missing_checks names header = map (λ n. (is_missing header n, kind.MissingColumn)) (bytes_of names)
+abbrev missing_checks : List Column → Row → List Check
+missing_checks names header = map (λ n. (is_missing header n, kind.MissingColumn)) (map name_of names)
 
-abbrev double_checks : List (Bor (List ℕ)) → Row → List Check
-double_checks names header = map (λ n. (is_double header n, kind.DoubleColumn)) (bytes_of names)
+abbrev double_checks : List Column → Row → List Check
+double_checks names header = map (λ n. (is_double header n, kind.DoubleColumn)) (map name_of names)
 
-pub lacks : (names : List (Bor (List ℕ))) (header : Row) → list_any (λ n. is_missing header n.now) names ≡ true
-    → Some kind.MissingColumn ≡ first_failing (header_checks (bytes_of names) header)
+pub lacks : (names : List Column) (header : Row) → list_any (λ n. is_missing header (name_of n)) names ≡ true
+    → Some kind.MissingColumn ≡ first_failing (header_checks (map name_of names) header)
 unfolding header_checks
 lacks names header h =
     sym (append_some (missing_checks names header) (double_checks names header) kind.MissingColumn (some_fails (is_missing header) kind.MissingColumn names h))
 
-pub doubles : (names : List (Bor (List ℕ))) (header : Row) → list_any (λ n. is_missing header n.now) names ≡ false → list_any (λ n. is_double header n.now) names ≡ true
-    → Some kind.DoubleColumn ≡ first_failing (header_checks (bytes_of names) header)
+pub doubles : (names : List Column) (header : Row) → list_any (λ n. is_missing header (name_of n)) names ≡ false → list_any (λ n. is_double header (name_of n)) names ≡ true
+    → Some kind.DoubleColumn ≡ first_failing (header_checks (map name_of names) header)
 unfolding header_checks
 doubles names header h d =
     sym (append_none (missing_checks names header) (double_checks names header) (none_fails (is_missing header) kind.MissingColumn names h)
     ∙ some_fails (is_double header) kind.DoubleColumn names d)
 
-pub fine : (names : List (Bor (List ℕ))) (header : Row) → list_any (λ n. is_missing header n.now) names ≡ false → list_any (λ n. is_double header n.now) names ≡ false
-    → None ≡ first_failing (header_checks (bytes_of names) header)
+pub fine : (names : List Column) (header : Row) → list_any (λ n. is_missing header (name_of n)) names ≡ false → list_any (λ n. is_double header (name_of n)) names ≡ false
+    → None ≡ first_failing (header_checks (map name_of names) header)
 unfolding header_checks
 fine names header h d =
     sym (append_none (missing_checks names header) (double_checks names header) (none_fails (is_missing header) kind.MissingColumn names h)

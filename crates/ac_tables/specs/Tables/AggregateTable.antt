@@ -4,6 +4,7 @@ use Rattle.ac_tables.specs.Tables.Checks.{Row, Check, first_failing}
 use Rattle.ac_tables.specs.Tables.Columns.{table_checks, said_by, id_in, bad_id}
 use Rattle.ac_tables.specs.Tables.ProviderTable.{uuid_name}
 use Rattle.ac_tables.specs.Tables.InventoryTable.{provider_name, owner_checks, known_checks}
+use Rattle.ac_tables.specs.Tables.Names.{names_needed}
 use Rattle.ac_tables.specs.declared.fault.Table.TheVariants as table
 use Rattle.ac_tables.specs.declared.fault.TableFault.{TableFault}
 
@@ -13,8 +14,8 @@ pub record AggregateRecord : Type 0 where
   pub aggregate : ℕ
 
 -- the needed columns, in the order in which they are checked
-unfoldable pub aggregate_columns : List (List ℕ)
-aggregate_columns = provider_name ∷ uuid_name ∷ []
+abbrev pub aggregate_columns : List (List ℕ)
+aggregate_columns = names_needed table.Aggregates
 
 -- what a record says
 unfoldable pub aggregate_said : Row → Row → AggregateRecord

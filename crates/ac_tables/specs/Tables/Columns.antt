@@ -3,7 +3,6 @@ use Rattle.std.specs.Prelude.{Some, ℕ, Bool, true, nat_lt, List, [], ◌∷◌
 use Rattle.std.specs.Option.{unwrap_or, is_none, option_map}
 use Rattle.std.specs.List.{count_by, position_from}
 use Rattle.std.specs.Str.{bytes_eq}
-use Rattle.std.specs.Borrow.{Bor}
 use Rattle.ac_base.specs.Texts.{id_value, count_value}
 use Rattle.ac_tables.specs.Tables.Checks.{Row, Check, told, told_at, first_failing, record_checks}
 use Rattle.ac_tables.specs.declared.fault.Table.{Table}
@@ -40,10 +39,6 @@ header_checks names header =
 unfoldable pub header_fault : Table → List (List ℕ) → List Row → Option TableFault
 header_fault table names [] = Some (fault.At table 1 kind.NoHeader)
 header_fault table names (header ∷ rows) = told table 1 (first_failing (header_checks names header))
-
--- the texts of a list of them
-abbrev pub bytes_of : List (Bor (List ℕ)) → List (List ℕ)
-bytes_of names = map (λ name. name.now) names
 
 -- All checks of a table of these columns: there is a header, then the header, then its records.
 abbrev pub table_checks : {V : Type 0} → Table → List (List ℕ) → (Row → Row → V) → (Row → List V → Row → List Check) → List Row → List (Bool × TableFault)

@@ -1,5 +1,5 @@
 -- The table of inventories.
-use Rattle.std.specs.Prelude.{◌&&◌, ℕ, Bool, ◌==◌, not, nat_lt, Option, List, [], ◌∷◌, ◌++◌, codes}
+use Rattle.std.specs.Prelude.{◌&&◌, ℕ, Bool, ◌==◌, not, nat_lt, Option, List, [], ◌∷◌, ◌++◌}
 use Rattle.std.specs.Option.{unwrap_or, is_none}
 use Rattle.std.specs.List.{list_any}
 use Rattle.std.specs.Str.{bytes_eq}
@@ -8,6 +8,8 @@ use Rattle.ac_base.specs.Quantities.{InventoryNumbers}
 use Rattle.ac_base.specs.Sorted.{is_one_of}
 use Rattle.ac_tables.specs.Tables.Checks.{Row, Check, first_failing}
 use Rattle.ac_tables.specs.Tables.Columns.{table_checks, said_by, text_in, id_in, number_in, bad_width, bad_id, bad_number}
+use Rattle.ac_tables.specs.Tables.Names.{name_of, names_needed}
+use Rattle.ac_tables.specs.declared.columns.Column.TheVariants as column
 use Rattle.ac_tables.specs.declared.fault.Table.TheVariants as table
 use Rattle.ac_tables.specs.declared.fault.TableKind.TheVariants as kind
 use Rattle.ac_tables.specs.declared.fault.TableFault.{TableFault}
@@ -18,34 +20,33 @@ pub record InventoryRecord : Type 0 where
   pub class : List ℕ
   pub inventory : InventoryNumbers
 
-unfoldable pub provider_name : List ℕ
-provider_name = codes "resource_provider"
+abbrev pub provider_name : List ℕ
+provider_name = name_of column.Owner
 
-unfoldable pub class_name : List ℕ
-class_name = codes "resource_class"
+abbrev pub class_name : List ℕ
+class_name = name_of column.Class
 
-unfoldable pub total_name : List ℕ
-total_name = codes "total"
+abbrev pub total_name : List ℕ
+total_name = name_of column.Total
 
-unfoldable pub reserved_name : List ℕ
-reserved_name = codes "reserved"
+abbrev pub reserved_name : List ℕ
+reserved_name = name_of column.Reserved
 
-unfoldable pub min_unit_name : List ℕ
-min_unit_name = codes "min_unit"
+abbrev pub min_unit_name : List ℕ
+min_unit_name = name_of column.MinUnit
 
-unfoldable pub max_unit_name : List ℕ
-max_unit_name = codes "max_unit"
+abbrev pub max_unit_name : List ℕ
+max_unit_name = name_of column.MaxUnit
 
-unfoldable pub step_size_name : List ℕ
-step_size_name = codes "step_size"
+abbrev pub step_size_name : List ℕ
+step_size_name = name_of column.StepSize
 
-unfoldable pub ratio_name : List ℕ
-ratio_name = codes "allocation_ratio"
+abbrev pub ratio_name : List ℕ
+ratio_name = name_of column.Ratio
 
 -- the needed columns, in the order in which they are checked
-unfoldable pub inventory_columns : List (List ℕ)
-inventory_columns =
-    provider_name ∷ class_name ∷ total_name ∷ reserved_name ∷ min_unit_name ∷ max_unit_name ∷ step_size_name ∷ ratio_name ∷ []
+abbrev pub inventory_columns : List (List ℕ)
+inventory_columns = names_needed table.Inventories
 
 -- what a record says; 0 stands for what is no value, and a check tells that
 unfoldable pub numbers_said : Row → Row → InventoryNumbers

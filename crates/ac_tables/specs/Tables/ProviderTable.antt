@@ -7,6 +7,8 @@ use Rattle.ac_base.specs.Texts.{id_value}
 use Rattle.ac_tables.specs.Tables.Checks.{Row, Check, first_failing, pass}
 use Rattle.ac_tables.specs.Tables.Columns.{table_checks, said_by, text_in, text_or_none, id_in, bad_width, bad_id}
 use Rattle.ac_cloud.specs.Trees.{top, is_endless}
+use Rattle.ac_tables.specs.Tables.Names.{name_of, names_needed}
+use Rattle.ac_tables.specs.declared.columns.Column.TheVariants as column
 use Rattle.ac_tables.specs.declared.fault.Table.TheVariants as table
 use Rattle.ac_tables.specs.declared.fault.TableKind.TheVariants as kind
 use Rattle.ac_tables.specs.declared.fault.TableFault.{TableFault}
@@ -18,22 +20,22 @@ pub record ProviderRecord : Type 0 where
   pub parent : Option ℕ
   pub name : List ℕ
 
-unfoldable pub uuid_name : List ℕ
-uuid_name = codes "uuid"
+abbrev pub uuid_name : List ℕ
+uuid_name = name_of column.Uuid
 
-unfoldable pub root_name : List ℕ
-root_name = codes "root_provider_uuid"
+abbrev pub root_name : List ℕ
+root_name = name_of column.Root
 
-unfoldable pub parent_name : List ℕ
-parent_name = codes "parent_provider_uuid"
+abbrev pub parent_name : List ℕ
+parent_name = name_of column.Parent
 
 -- a column that may be left out
-unfoldable pub name_name : List ℕ
-name_name = codes "name"
+abbrev pub name_name : List ℕ
+name_name = name_of column.Name
 
 -- the needed columns, in the order in which they are checked
-unfoldable pub provider_columns : List (List ℕ)
-provider_columns = uuid_name ∷ root_name ∷ parent_name ∷ []
+abbrev pub provider_columns : List (List ℕ)
+provider_columns = names_needed table.Providers
 
 -- a field that says that there is no parent
 abbrev pub says_none : List ℕ → Bool

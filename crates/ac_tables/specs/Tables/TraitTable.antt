@@ -6,6 +6,7 @@ use Rattle.ac_tables.specs.Tables.Checks.{Row, Check, first_failing}
 use Rattle.ac_tables.specs.Tables.Columns.{table_checks, said_by, text_in, id_in}
 use Rattle.ac_tables.specs.Tables.InventoryTable.{provider_name, owner_checks, known_checks}
 use Rattle.ac_tables.specs.Tables.ProviderTable.{name_name}
+use Rattle.ac_tables.specs.Tables.Names.{names_needed}
 use Rattle.ac_tables.specs.declared.fault.Table.TheVariants as table
 use Rattle.ac_tables.specs.declared.fault.TableKind.TheVariants as kind
 use Rattle.ac_tables.specs.declared.fault.TableFault.{TableFault}
@@ -16,8 +17,8 @@ pub record TraitRecord : Type 0 where
   pub name : List ℕ
 
 -- the needed columns, in the order in which they are checked
-unfoldable pub trait_columns : List (List ℕ)
-trait_columns = provider_name ∷ name_name ∷ []
+abbrev pub trait_columns : List (List ℕ)
+trait_columns = names_needed table.Traits
 
 -- what a record says
 unfoldable pub trait_said : Row → Row → TraitRecord

@@ -1,11 +1,13 @@
 -- The table of usages.
-use Rattle.std.specs.Prelude.{Option, ◌&&◌, ℕ, Bool, ◌==◌, not, List, [], ◌∷◌, ◌++◌, codes}
+use Rattle.std.specs.Prelude.{Option, ◌&&◌, ℕ, Bool, ◌==◌, not, List, [], ◌∷◌, ◌++◌}
 use Rattle.std.specs.List.{list_any}
 use Rattle.std.specs.Str.{bytes_eq}
 use Rattle.ac_tables.specs.Tables.Checks.{Row, Check, first_failing}
 use Rattle.ac_tables.specs.Tables.Columns.{table_checks, said_by, text_in, id_in, number_in, bad_number}
 use Rattle.ac_tables.specs.Tables.InventoryTable.{InventoryRecord, provider_name, class_name, owner_checks, class_checks, is_inventory_of}
 use Rattle.ac_base.specs.Sorted.{is_one_of}
+use Rattle.ac_tables.specs.Tables.Names.{name_of, names_needed}
+use Rattle.ac_tables.specs.declared.columns.Column.TheVariants as column
 use Rattle.ac_tables.specs.declared.fault.Table.TheVariants as table
 use Rattle.ac_tables.specs.declared.fault.TableKind.TheVariants as kind
 use Rattle.ac_tables.specs.declared.fault.TableFault.{TableFault}
@@ -16,12 +18,12 @@ pub record UsageRecord : Type 0 where
   pub class : List ℕ
   pub amount : ℕ
 
-unfoldable pub usage_name : List ℕ
-usage_name = codes "usage"
+abbrev pub usage_name : List ℕ
+usage_name = name_of column.Usage
 
 -- the needed columns, in the order in which they are checked
-unfoldable pub usage_columns : List (List ℕ)
-usage_columns = provider_name ∷ class_name ∷ usage_name ∷ []
+abbrev pub usage_columns : List (List ℕ)
+usage_columns = names_needed table.Usages
 
 -- what a record says
 unfoldable pub usage_said : Row → Row → UsageRecord

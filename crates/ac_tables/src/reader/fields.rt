@@ -12,11 +12,6 @@ use crate::reader::records::text_at;
 use ac_base::{ClassName, Id, Names};
 use csv::ByteRecord;
 
-// The columns of the provider to which a record belongs, and of its class.
-pub(crate) const OWNER: &[u8] = b"resource_provider";
-
-pub(crate) const CLASS: &[u8] = b"resource_class";
-
 // The provider to which a record belongs.
 #[tactic(auto, unfolding(crate::specs::Tables::InventoryTable::owner_checks))]
 pub(crate) fn read_owner(

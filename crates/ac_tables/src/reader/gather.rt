@@ -3,6 +3,7 @@ ghost use Rattle.std.specs.Prelude.{◌≡◌, ◌≤◌, true, false, None, [],
 ghost use Rattle.csv.specs.Records.{fields_of};
 ghost use Rattle.ac_tables.specs.Tables.Checks.{rows_fault, first_failing, fault_at, Tells};
 ghost use Rattle.ac_tables.specs.Tables.Columns.{table_checks, said_by};
+ghost use Rattle.ac_tables.specs.Tables.Names.{names_needed};
 ghost use Rattle.ac_tables.specs.Drain.{most_bytes};
 ghost use Rattle.ac_tables.specs.Reader.TableRows.{is_past, IsReadUpTo, IsLeastRepeat, IsTable};
 ghost use Rattle.ac_tables.specs.Tables.Rows.{IsReading, rows_left, records_of};
@@ -142,13 +143,13 @@ pub(crate) fn read_table<T: Record>(
         IsTable T.Key.cmp (T.shown beside.now) (T.count beside.now) T.UNIQUE
         (said_by T.says (records_of text.now)) rows.items) }
     ensures ok { IfOk result (λ _.
-        first_failing (table_checks T.TABLE T.NAMES T.says (T.checks beside.now)
+        first_failing (table_checks T.TABLE (names_needed T.TABLE) T.says (T.checks beside.now)
         (records_of text.now)) ≡ None) }
     ensures fault { IfErr result (λ e.
-        Tells (first_failing (table_checks T.TABLE T.NAMES T.says (T.checks beside.now)
+        Tells (first_failing (table_checks T.TABLE (names_needed T.TABLE) T.says (T.checks beside.now)
         (records_of text.now))) e) }
 {
     let mut header = ByteRecord::new(alloc);
-    let mut reader = open_table(alloc, T::TABLE, T::names(), text, &mut header)?;
+    let mut reader = open_table(alloc, T::TABLE, text, &mut header)?;
     gather::<T>(alloc, beside, &mut reader, &header)
 }

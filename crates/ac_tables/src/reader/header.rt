@@ -1,21 +1,24 @@
 //! The columns of a table, found by their names in the header.
-ghost use Rattle.std.specs.Prelude.{◌≡◌, ◌≤◌, None, length, IfOk, IfErr, ◌∷◌};
+ghost use Rattle.std.specs.Prelude.{◌≡◌, ◌≤◌, None, length, map, IfOk, IfErr, ◌∷◌};
 ghost use Rattle.std.specs.List.{list_any};
 ghost use Rattle.std.specs.Option.{unwrap_or};
 ghost use Rattle.csv.specs.Records.{fields_of};
 ghost use Rattle.ac_tables.specs.Tables.Checks.{first_failing, Tells};
-ghost use Rattle.ac_tables.specs.Tables.Columns.{column, is_missing, is_double, header_checks, header_fault, bytes_of};
+ghost use Rattle.ac_tables.specs.Tables.Columns.{column, is_missing, is_double, header_checks, header_fault};
+ghost use Rattle.ac_tables.specs.Tables.Names.{name_of, names_needed};
 ghost use Rattle.ac_tables.specs.Tables.Rows.{records_of, rows_left, IsReading};
 
+use crate::columns::{Column, columns_needed};
 use crate::fault::{Table, TableFault, TableKind};
 use crate::reader::records::{next_row, open_rows, text_at};
 use csv::{ByteRecord, Reader};
 use std::alloc::Global;
 
 // The place of the first column of this name.
-pub(crate) fn find_column(header: &ByteRecord, name: &[u8]) -> Option<usize>
-    ensures { result ≡ column (fields_of header.now) name.now }
+pub(crate) fn find_column(header: &ByteRecord, wanted: Column) -> Option<usize>
+    ensures { result ≡ column (fields_of header.now) (name_of wanted) }
 {
+    let name = wanted.name();
     for place in 0..header.len() {
         if name == text_at(header, place) {
             return Some(place);
@@ -25,16 +28,17 @@ pub(crate) fn find_column(header: &ByteRecord, name: &[u8]) -> Option<usize>
 }
 
 // The place of a column that the header is known to have.
-pub(crate) fn column_at(header: &ByteRecord, name: &[u8]) -> usize
-    ensures { result ≡ unwrap_or (column (fields_of header.now) name.now) 0 }
+pub(crate) fn column_at(header: &ByteRecord, wanted: Column) -> usize
+    ensures { result ≡ unwrap_or (column (fields_of header.now) (name_of wanted)) 0 }
 {
-    find_column(header, name).unwrap_or(0)
+    find_column(header, wanted).unwrap_or(0)
 }
 
 // Whether a column of this name is there twice.
-fn is_double(header: &ByteRecord, name: &[u8]) -> bool
-    ensures { result ≡ is_double (fields_of header.now) name.now }
+pub(crate) fn is_double(header: &ByteRecord, wanted: Column) -> bool
+    ensures { result ≡ is_double (fields_of header.now) (name_of wanted) }
 {
+    let name = wanted.name();
     let mut count = 0usize;
     for place in 0..header.len() {
         if name == text_at(header, place) {
@@ -44,26 +48,33 @@ fn is_double(header: &ByteRecord, name: &[u8]) -> bool
     count > 1
 }
 
-fn lacks_one(header: &ByteRecord, names: &[&[u8]]) -> bool
-    ensures { result ≡ list_any (λ name. is_missing (fields_of header.now) name.now) names.now }
+// Whether the header lacks one of these columns.
+fn lacks_one(header: &ByteRecord, needed: &[Column]) -> bool
+    ensures { result
+        ≡ list_any (λ c. is_missing (fields_of header.now) (name_of c)) needed.now }
 {
-    names.iter().any(|name| find_column(header, name).is_none())
+    needed
+        .iter()
+        .any(|wanted| find_column(header, *wanted).is_none())
 }
 
-fn doubles_one(header: &ByteRecord, names: &[&[u8]]) -> bool
-    ensures { result ≡ list_any (λ name. is_double (fields_of header.now) name.now) names.now }
+// Whether one of these columns is there twice.
+fn doubles_one(header: &ByteRecord, needed: &[Column]) -> bool
+    ensures { result
+        ≡ list_any (λ c. is_double (fields_of header.now) (name_of c)) needed.now }
 {
-    names.iter().any(|name| is_double(header, name))
+    needed.iter().any(|wanted| is_double(header, *wanted))
 }
 
 // The first fault of a header that needs these columns.
-fn find_fault(header: &ByteRecord, names: &[&[u8]]) -> Option<TableKind>
-    ensures { result ≡ first_failing (header_checks (bytes_of names.now) (fields_of header.now)) }
+fn find_fault(header: &ByteRecord, needed: &[Column]) -> Option<TableKind>
+    ensures { result
+        ≡ first_failing (header_checks (map name_of needed.now) (fields_of header.now)) }
 {
-    if lacks_one(header, names) {
+    if lacks_one(header, needed) {
         return Some(TableKind::MissingColumn);
     }
-    if doubles_one(header, names) {
+    if doubles_one(header, needed) {
         return Some(TableKind::DoubleColumn);
     }
     None
@@ -85,22 +96,21 @@ fn fault_of_header(table: Table, kind: TableKind) -> TableFault
 pub(crate) fn open_table<'a>(
     alloc: Global,
     table: Table,
-    names: &[&[u8]],
     text: &'a [u8],
     header: &mut ByteRecord,
 ) -> Result<Reader<&'a [u8]>, TableFault>
     ensures reading { IfOk result (λ reader. IsReading reader) }
     ensures rows { IfOk result (λ reader. records_of text.now
         ≡ fields_of header.new ∷ rows_left reader) }
-    ensures ok { IfOk result (λ _. header_fault table (bytes_of names.now) (records_of text.now)
-        ≡ None) }
+    ensures ok { IfOk result (λ _.
+        header_fault table (names_needed table) (records_of text.now) ≡ None) }
     ensures few { IfOk result (λ reader. length (rows_left reader) ≤ length text.now) }
     ensures fault { IfErr result (λ e.
-        Tells (header_fault table (bytes_of names.now) (records_of text.now)) e) }
+        Tells (header_fault table (names_needed table) (records_of text.now)) e) }
 {
     let mut reader = open_rows(alloc, text);
     if next_row(&mut reader, header)? {
-        if let Some(kind) = find_fault(header, names) {
+        if let Some(kind) = find_fault(header, columns_needed(table)) {
             return Err(fault_of_header(table, kind));
         }
         return Ok(reader);

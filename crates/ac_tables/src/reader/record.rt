@@ -5,7 +5,6 @@ ghost use Rattle.csv.specs.Records.{fields_of};
 ghost use Rattle.std.specs.Ordering.{nat_cmp, ordering_then, is_eq};
 ghost use Rattle.ac_tables.specs.Reader.TableRows.{IsKeyed};
 ghost use Rattle.ac_tables.specs.Tables.Checks.{Row, Check, first_failing, TellsKind};
-ghost use Rattle.ac_tables.specs.Tables.Columns.{bytes_of};
 
 use crate::fault::{RecordFault, Table};
 use ac_base::Names;
@@ -38,9 +37,6 @@ pub(crate) trait Record {
 
     ghost TABLE: { Table };
 
-    // the needed columns, in the order in which they are checked
-    ghost NAMES: { List (List ℕ) };
-
     // Whether no two records may have one key.
     const UNIQUE: bool;
 
@@ -72,9 +68,6 @@ pub(crate) trait Record {
     ghost shown: { Self.Beside → ℕ → Self.Key → Self.Value → Said };
 
     ghost places: { Row → Self.Columns };
-
-    fn names() -> &'static [&'static [u8]]
-        ensures { bytes_of result.now ≡ NAMES };
 
     fn columns(header: &ByteRecord) -> Self::Columns
         ensures { result ≡ places (fields_of header.now) };

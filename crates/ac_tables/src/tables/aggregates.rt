@@ -4,7 +4,7 @@ ghost use Rattle.csv.specs.Records.{fields_of};
 ghost use Rattle.ac_tables.specs.Tables.Checks.{first_failing, TellsKind, Tells};
 ghost use Rattle.ac_tables.specs.Tables.Columns.{id_in, bad_id};
 ghost use Rattle.ac_tables.specs.Tables.ProviderTable.{uuid_name};
-ghost use Rattle.ac_tables.specs.Tables.AggregateTable.{aggregate_said, AggregateRecord, aggregate_columns, aggregate_record_checks, aggregates_said, aggregates_fault};
+ghost use Rattle.ac_tables.specs.Tables.AggregateTable.{aggregate_said, AggregateRecord, aggregate_record_checks, aggregates_said, aggregates_fault};
 ghost use Rattle.ac_tables.specs.Reader.ColumnPlaces.{place_in, aggregate_places};
 ghost use Rattle.ac_tables.specs.Tables.InventoryTable.{provider_name};
 ghost use Rattle.ac_tables.specs.Reader.RecordLaws.{aggregates_keyed, aggregates_apart};
@@ -14,8 +14,9 @@ ghost use Rattle.ac_tables.specs.Tables.Rows.{records_of};
 ghost use Rattle.ac_tables.specs.Tables.{aggregates_of};
 ghost use Rattle.ac_tables.specs.declared.fault.Table.TheVariants as table;
 
+use crate::columns::Column;
 use crate::fault::{RecordFault, Table, TableFault, TableKind};
-use crate::reader::fields::{OWNER, read_owner};
+use crate::reader::fields::read_owner;
 use crate::reader::gather::read_table;
 use crate::reader::header::column_at;
 use crate::reader::keys::keys_of;
@@ -27,10 +28,6 @@ use ac_base::Id;
 use ac_cloud::{Ids, Lists};
 use csv::ByteRecord;
 use std::alloc::Global;
-
-const UUID: &[u8] = b"uuid";
-
-const AGGREGATE_COLUMNS: [&[u8]; 2] = [OWNER, UUID];
 
 // Where the columns stand.
 #[derive(Clone, Copy, Debug, PartialEq, Eq)]
@@ -71,8 +68,6 @@ impl Record for AggregateTable {
 
     ghost TABLE = { table.Aggregates };
 
-    ghost NAMES = { aggregate_columns };
-
     const UNIQUE: bool = false;
 
     ghost UNIQUE = { false };
@@ -97,16 +92,11 @@ impl Record for AggregateTable {
 
     ghost places = { aggregate_places };
 
-    #[tactic(auto, unfolding(crate::specs::Tables::AggregateTable::aggregate_columns, crate::specs::Tables::InventoryTable::provider_name, crate::specs::Tables::ProviderTable::uuid_name))]
-    fn names() -> &'static [&'static [u8]] {
-        &AGGREGATE_COLUMNS
-    }
-
-    #[tactic(auto, unfolding(crate::specs::Reader::ColumnPlaces::aggregate_places, crate::specs::Tables::InventoryTable::provider_name, crate::specs::Tables::ProviderTable::uuid_name))]
+    #[tactic(auto, unfolding(crate::specs::Reader::ColumnPlaces::aggregate_places))]
     fn columns(header: &ByteRecord) -> AggregateColumns {
         AggregateColumns {
-            provider: column_at(header, OWNER),
-            aggregate: column_at(header, UUID),
+            provider: column_at(header, Column::Owner),
+            aggregate: column_at(header, Column::Uuid),
         }
     }
 

@@ -4,7 +4,7 @@ ghost use Rattle.csv.specs.Records.{fields_of};
 ghost use Rattle.ac_base.specs.Names.{class_bytes};
 ghost use Rattle.ac_tables.specs.Tables.Checks.{first_failing, unless, Tells};
 ghost use Rattle.ac_tables.specs.Tables.Columns.{id_in};
-ghost use Rattle.ac_tables.specs.Tables.InventoryTable.{provider_name, class_name, numbers_said, number_checks, inventory_field_checks, InventoryRecord, inventory_columns, inventory_said, inventory_record_checks, known_checks, is_inventory_of, inventories_said, inventories_fault};
+ghost use Rattle.ac_tables.specs.Tables.InventoryTable.{provider_name, class_name, numbers_said, number_checks, inventory_field_checks, InventoryRecord, inventory_said, inventory_record_checks, known_checks, is_inventory_of, inventories_said, inventories_fault};
 ghost use Rattle.ac_tables.specs.Reader.ColumnPlaces.{inventory_places};
 ghost use Rattle.ac_tables.specs.Reader.RecordLaws.{inventories_keyed, keys_apart};
 ghost use Rattle.std.specs.List.{All, list_any};
@@ -19,8 +19,9 @@ ghost use Rattle.ac_tables.specs.Tables.Rows.{records_of};
 ghost use Rattle.ac_tables.specs.Tables.{inventories_of};
 ghost use Rattle.ac_tables.specs.declared.fault.Table.TheVariants as table;
 
+use crate::columns::Column;
 use crate::fault::{RecordFault, Table, TableFault, TableKind};
-use crate::reader::fields::{CLASS, OWNER, read_class, read_owner};
+use crate::reader::fields::{read_class, read_owner};
 use crate::reader::gather::read_table;
 use crate::reader::header::column_at;
 use crate::reader::provider_rows::ProviderRows;
@@ -31,22 +32,6 @@ use ac_base::{ClassName, Inventory, Ratio, read_count};
 use ac_cloud::Ids;
 use csv::ByteRecord;
 use std::alloc::{AllocError, Global};
-
-const TOTAL: &[u8] = b"total";
-
-const RESERVED: &[u8] = b"reserved";
-
-const MIN_UNIT: &[u8] = b"min_unit";
-
-const MAX_UNIT: &[u8] = b"max_unit";
-
-const STEP_SIZE: &[u8] = b"step_size";
-
-const RATIO: &[u8] = b"allocation_ratio";
-
-const INVENTORY_COLUMNS: [&[u8]; 8] = [
-    OWNER, CLASS, TOTAL, RESERVED, MIN_UNIT, MAX_UNIT, STEP_SIZE, RATIO,
-];
 
 // Where the columns stand.
 #[derive(Clone, Copy, Debug, PartialEq, Eq)]
@@ -119,8 +104,6 @@ impl Record for InventoryTable {
 
     ghost TABLE = { table.Inventories };
 
-    ghost NAMES = { inventory_columns };
-
     const UNIQUE: bool = true;
 
     ghost UNIQUE = { true };
@@ -145,22 +128,17 @@ impl Record for InventoryTable {
 
     ghost places = { inventory_places };
 
-    #[tactic(auto, unfolding(crate::specs::Tables::InventoryTable::inventory_columns, crate::specs::Tables::InventoryTable::provider_name, crate::specs::Tables::InventoryTable::class_name, crate::specs::Tables::InventoryTable::total_name, crate::specs::Tables::InventoryTable::reserved_name, crate::specs::Tables::InventoryTable::min_unit_name, crate::specs::Tables::InventoryTable::max_unit_name, crate::specs::Tables::InventoryTable::step_size_name, crate::specs::Tables::InventoryTable::ratio_name))]
-    fn names() -> &'static [&'static [u8]] {
-        &INVENTORY_COLUMNS
-    }
-
-    #[tactic(auto, unfolding(crate::specs::Reader::ColumnPlaces::inventory_places, crate::specs::Tables::InventoryTable::provider_name, crate::specs::Tables::InventoryTable::class_name, crate::specs::Tables::InventoryTable::total_name, crate::specs::Tables::InventoryTable::reserved_name, crate::specs::Tables::InventoryTable::min_unit_name, crate::specs::Tables::InventoryTable::max_unit_name, crate::specs::Tables::InventoryTable::step_size_name, crate::specs::Tables::InventoryTable::ratio_name))]
+    #[tactic(auto, unfolding(crate::specs::Reader::ColumnPlaces::inventory_places))]
     fn columns(header: &ByteRecord) -> InventoryColumns {
         InventoryColumns {
-            provider: column_at(header, OWNER),
-            class: column_at(header, CLASS),
-            total: column_at(header, TOTAL),
-            reserved: column_at(header, RESERVED),
-            min_unit: column_at(header, MIN_UNIT),
-            max_unit: column_at(header, MAX_UNIT),
-            step_size: column_at(header, STEP_SIZE),
-            ratio: column_at(header, RATIO),
+            provider: column_at(header, Column::Owner),
+            class: column_at(header, Column::Class),
+            total: column_at(header, Column::Total),
+            reserved: column_at(header, Column::Reserved),
+            min_unit: column_at(header, Column::MinUnit),
+            max_unit: column_at(header, Column::MaxUnit),
+            step_size: column_at(header, Column::StepSize),
+            ratio: column_at(header, Column::Ratio),
         }
     }
 

@@ -5,10 +5,11 @@ ghost use Rattle.csv.specs.Records.{fields_of};
 ghost use Rattle.ac_base.specs.Texts.{id_value};
 ghost use Rattle.ac_tables.specs.Reader.ColumnPlaces.{place_in, provider_places};
 ghost use Rattle.ac_tables.specs.Tables.Columns.{column, text_in, text_or_none};
-ghost use Rattle.ac_tables.specs.Tables.ProviderTable.{says_none, parent_name, name_name, parent_value, is_bad_parent, ProviderRecord, is_at, provider_said, provider_field_checks, provider_record_checks, provider_columns};
+ghost use Rattle.ac_tables.specs.Tables.ProviderTable.{says_none, parent_name, name_name, parent_value, is_bad_parent, ProviderRecord, is_at, provider_said, provider_field_checks, provider_record_checks};
 ghost use Rattle.ac_tables.specs.Reader.ProviderLaws.{name_bytes, provider_shown, providers_keyed, providers_apart};
 ghost use Rattle.ac_tables.specs.declared.fault.Table.TheVariants as table;
 
+use crate::columns::Column;
 use crate::fault::{RecordFault, Table, TableKind};
 use crate::reader::header::{column_at, find_column};
 use crate::reader::record::{Record, Seen};
@@ -16,18 +17,6 @@ use crate::reader::records::text_at;
 use ac_base::{Id, Names};
 use csv::ByteRecord;
 use std::alloc::{AllocError, Global};
-
-const UUID: &[u8] = b"uuid";
-
-const ROOT: &[u8] = b"root_provider_uuid";
-
-const PARENT: &[u8] = b"parent_provider_uuid";
-
-// A column that may be left out.
-const NAME: &[u8] = b"name";
-
-// The needed columns, in the order in which they are checked.
-const PROVIDER_COLUMNS: [&[u8]; 3] = [UUID, ROOT, PARENT];
 
 // Where the columns stand.
 #[derive(Clone, Copy, Debug, PartialEq, Eq)]
@@ -124,8 +113,6 @@ impl Record for ProviderTable {
 
     ghost TABLE = { table.Providers };
 
-    ghost NAMES = { provider_columns };
-
     const UNIQUE: bool = true;
 
     ghost UNIQUE = { true };
@@ -150,18 +137,13 @@ impl Record for ProviderTable {
 
     ghost places = { provider_places };
 
-    #[tactic(auto, unfolding(crate::specs::Tables::ProviderTable::provider_columns, crate::specs::Tables::ProviderTable::uuid_name, crate::specs::Tables::ProviderTable::root_name, crate::specs::Tables::ProviderTable::parent_name))]
-    fn names() -> &'static [&'static [u8]] {
-        &PROVIDER_COLUMNS
-    }
-
-    #[tactic(auto, unfolding(crate::specs::Reader::ColumnPlaces::provider_places, crate::specs::Tables::ProviderTable::uuid_name, crate::specs::Tables::ProviderTable::root_name, crate::specs::Tables::ProviderTable::parent_name, crate::specs::Tables::ProviderTable::name_name))]
+    #[tactic(auto, unfolding(crate::specs::Reader::ColumnPlaces::provider_places))]
     fn columns(header: &ByteRecord) -> ProviderColumns {
         ProviderColumns {
-            id: column_at(header, UUID),
-            root: column_at(header, ROOT),
-            parent: column_at(header, PARENT),
-            name: find_column(header, NAME),
+            id: column_at(header, Column::Uuid),
+            root: column_at(header, Column::Root),
+            parent: column_at(header, Column::Parent),
+            name: find_column(header, Column::Name),
         }
     }
 

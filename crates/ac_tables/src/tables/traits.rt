@@ -7,7 +7,7 @@ ghost use Rattle.ac_tables.specs.Tables.Columns.{text_in};
 ghost use Rattle.ac_tables.specs.Reader.ColumnPlaces.{place_in, trait_places};
 ghost use Rattle.ac_tables.specs.Tables.InventoryTable.{provider_name};
 ghost use Rattle.ac_tables.specs.Tables.ProviderTable.{name_name};
-ghost use Rattle.ac_tables.specs.Tables.TraitTable.{name_checks, TraitRecord, trait_columns, trait_said, trait_record_checks, traits_said, traits_fault};
+ghost use Rattle.ac_tables.specs.Tables.TraitTable.{name_checks, TraitRecord, trait_said, trait_record_checks, traits_said, traits_fault};
 ghost use Rattle.ac_tables.specs.Reader.RecordLaws.{traits_keyed, traits_apart};
 ghost use Rattle.ac_tables.specs.Drain.{most_bytes};
 ghost use Rattle.ac_cloud.specs.ListsOf.{lists_of};
@@ -15,8 +15,9 @@ ghost use Rattle.ac_tables.specs.Tables.Rows.{records_of};
 ghost use Rattle.ac_tables.specs.Tables.{names_of};
 ghost use Rattle.ac_tables.specs.declared.fault.Table.TheVariants as table;
 
+use crate::columns::Column;
 use crate::fault::{RecordFault, Table, TableFault, TableKind};
-use crate::reader::fields::{OWNER, read_owner};
+use crate::reader::fields::read_owner;
 use crate::reader::gather::read_table;
 use crate::reader::header::column_at;
 use crate::reader::keys::keys_of;
@@ -28,10 +29,6 @@ use ac_base::{Names, TraitName};
 use ac_cloud::{Ids, Lists};
 use csv::ByteRecord;
 use std::alloc::Global;
-
-const NAME: &[u8] = b"name";
-
-const TRAIT_COLUMNS: [&[u8]; 2] = [OWNER, NAME];
 
 // Where the columns stand.
 #[derive(Clone, Copy, Debug, PartialEq, Eq)]
@@ -78,8 +75,6 @@ impl Record for TraitTable {
 
     ghost TABLE = { table.Traits };
 
-    ghost NAMES = { trait_columns };
-
     const UNIQUE: bool = false;
 
     ghost UNIQUE = { false };
@@ -104,16 +99,11 @@ impl Record for TraitTable {
 
     ghost places = { trait_places };
 
-    #[tactic(auto, unfolding(crate::specs::Tables::TraitTable::trait_columns, crate::specs::Tables::InventoryTable::provider_name, crate::specs::Tables::ProviderTable::name_name))]
-    fn names() -> &'static [&'static [u8]] {
-        &TRAIT_COLUMNS
-    }
-
-    #[tactic(auto, unfolding(crate::specs::Reader::ColumnPlaces::trait_places, crate::specs::Tables::InventoryTable::provider_name, crate::specs::Tables::ProviderTable::name_name))]
+    #[tactic(auto, unfolding(crate::specs::Reader::ColumnPlaces::trait_places))]
     fn columns(header: &ByteRecord) -> TraitColumns {
         TraitColumns {
-            provider: column_at(header, OWNER),
-            name: column_at(header, NAME),
+            provider: column_at(header, Column::Owner),
+            name: column_at(header, Column::Name),
         }
     }
 

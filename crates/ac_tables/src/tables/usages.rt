@@ -6,7 +6,7 @@ ghost use Rattle.ac_tables.specs.Tables.Checks.{first_failing, unless, Tells};
 ghost use Rattle.ac_tables.specs.Tables.Columns.{id_in, text_in, number_in};
 ghost use Rattle.ac_tables.specs.Reader.ColumnPlaces.{place_in, usage_places};
 ghost use Rattle.ac_tables.specs.Tables.InventoryTable.{provider_name, class_name, InventoryRecord};
-ghost use Rattle.ac_tables.specs.Tables.UsageTable.{usage_name, amount_checks, usage_field_checks, UsageRecord, usage_columns, usage_said, usage_row_checks, is_usage, usages_said, usages_fault};
+ghost use Rattle.ac_tables.specs.Tables.UsageTable.{usage_name, amount_checks, usage_field_checks, UsageRecord, usage_said, usage_row_checks, is_usage, usages_said, usages_fault};
 ghost use Rattle.ac_tables.specs.Reader.InventoryRows.{inventory_records_shown, class_pair};
 ghost use Rattle.ac_tables.specs.Reader.RecordLaws.{lone_checks, usages_keyed, keys_apart};
 ghost use Rattle.std.specs.List.Sorted.{IsPermutation};
@@ -16,8 +16,9 @@ ghost use Rattle.ac_tables.specs.Tables.Rows.{records_of};
 ghost use Rattle.ac_tables.specs.Tables.{amounts_of};
 ghost use Rattle.ac_tables.specs.declared.fault.Table.TheVariants as table;
 
+use crate::columns::Column;
 use crate::fault::{RecordFault, Table, TableFault, TableKind};
-use crate::reader::fields::{CLASS, OWNER, read_class, read_owner};
+use crate::reader::fields::{read_class, read_owner};
 use crate::reader::gather::read_table;
 use crate::reader::header::column_at;
 use crate::reader::provider_rows::ProviderRows;
@@ -27,10 +28,6 @@ use crate::tables::inventories::Inventories;
 use ac_base::{ClassName, read_count};
 use csv::ByteRecord;
 use std::alloc::Global;
-
-const USAGE: &[u8] = b"usage";
-
-const USAGE_COLUMNS: [&[u8]; 3] = [OWNER, CLASS, USAGE];
 
 // Where the columns stand.
 #[derive(Clone, Copy, Debug, PartialEq, Eq)]
@@ -70,8 +67,6 @@ impl Record for UsageTable {
 
     ghost TABLE = { table.Usages };
 
-    ghost NAMES = { usage_columns };
-
     const UNIQUE: bool = true;
 
     ghost UNIQUE = { true };
@@ -96,17 +91,12 @@ impl Record for UsageTable {
 
     ghost places = { usage_places };
 
-    #[tactic(auto, unfolding(crate::specs::Tables::UsageTable::usage_columns, crate::specs::Tables::InventoryTable::provider_name, crate::specs::Tables::InventoryTable::class_name, crate::specs::Tables::UsageTable::usage_name))]
-    fn names() -> &'static [&'static [u8]] {
-        &USAGE_COLUMNS
-    }
-
-    #[tactic(auto, unfolding(crate::specs::Reader::ColumnPlaces::usage_places, crate::specs::Tables::InventoryTable::provider_name, crate::specs::Tables::InventoryTable::class_name, crate::specs::Tables::UsageTable::usage_name))]
+    #[tactic(auto, unfolding(crate::specs::Reader::ColumnPlaces::usage_places))]
     fn columns(header: &ByteRecord) -> UsageColumns {
         UsageColumns {
-            provider: column_at(header, OWNER),
-            class: column_at(header, CLASS),
-            amount: column_at(header, USAGE),
+            provider: column_at(header, Column::Owner),
+            class: column_at(header, Column::Class),
+            amount: column_at(header, Column::Usage),
         }
     }
 
