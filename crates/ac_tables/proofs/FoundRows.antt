@@ -1,10 +1,10 @@
 -- The record of a number, by the rows that are left behind those before it.
-use Rattle.ac_tables.proofs.Common.{◌≡◌, ℕ, suc, zero, Bool, true, false, List, Option, None, Some, refl, Bor, option_map, Row, Table, records_or_header}
+use Rattle.ac_tables.proofs.Common.{◌≡◌, ℕ, suc, zero, Bool, true, false, List, Option, None, Some, refl, Bor, Row, Table}
 use Rattle.std.specs.List.{slice_get}
 use Rattle.ac_tables.specs.FiveTables.{table_in}
 use Rattle.ac_tables.specs.Found.{records_in}
 use Rattle.ac_tables.specs.Source.{tables_of}
-use Rattle.ac_tables.specs.Tables.Names.{names_needed}
+use Rattle.ac_tables.specs.Tables.{rows_given}
 use Rattle.ac_tables.specs.Tables.Rows.{Gives}
 use Rattle.ac_tables.specs.declared.fault.Table.TheVariants as table
 use Rattle.ac_tables.specs.declared.read.FiveTables.{FiveTables}
@@ -24,7 +24,7 @@ module _ (left : List Row) (row : Row) (after : List Row) where
   row_none false k gives e = rw gives refl
 
 -- the records of a table by its text, where it is there
-pub source_rows : (s : FiveTables (Bor (List ℕ))) (t : Table) → records_in (tables_of s) t ≡ records_or_header (names_needed t) (option_map (λ text. text.now) (table_in s t))
+pub source_rows : (s : FiveTables (Bor (List ℕ))) (t : Table) → records_in (tables_of s) t ≡ rows_given t (table_in s t)
 unfolding records_in
 source_rows s table.Providers = refl
 source_rows s table.Inventories = refl

@@ -9,7 +9,8 @@ pub mod Names
 pub mod Columns
 pub mod Rows
 use Rattle.std.specs.Prelude.{ℕ, Bool, ◌==◌, List, [], ◌∷◌, ◌++◌, map, length, Option, Some, None}
-use Rattle.std.specs.Option.{unwrap_or}
+use Rattle.std.specs.Borrow.{Bor}
+use Rattle.std.specs.Option.{option_map, unwrap_or}
 use Rattle.std.specs.List.{filter, sum_by}
 use Rattle.std.specs.Map.{lookup}
 use Rattle.std.specs.Ordering.{nat_cmp}
@@ -17,7 +18,9 @@ use Rattle.std.specs.Str.{bytes_eq}
 use Rattle.ac_base.specs.Texts.{text_cmp}
 use Rattle.ac_base.specs.Quantities.{InventoryNumbers}
 use Rattle.ac_tables.specs.Tables.Checks.{Row, first_failing}
+use Rattle.ac_tables.specs.Tables.Names.{names_needed}
 use Rattle.ac_tables.specs.Tables.Rows.{records_of}
+use Rattle.ac_tables.specs.declared.fault.Table.{Table}
 use Rattle.ac_base.specs.Sorted.{TextMap, rising, map_of}
 use Rattle.ac_tables.specs.Tables.ProviderTable.{providers_said, said_name, said_parent, provider_checks}
 use Rattle.ac_tables.specs.Tables.InventoryTable.{InventoryRecord, inventories_said, inventory_checks}
@@ -39,6 +42,10 @@ pub record Tables : Type 0 where
 abbrev pub records_or_header : List (List ℕ) → Option (List ℕ) → List Row
 records_or_header names None = names ∷ []
 records_or_header names (Some bytes) = records_of bytes
+
+-- the records of one of the tables by its text, where it is there
+abbrev pub rows_given : Table → Option (Bor (List ℕ)) → List Row
+rows_given t text = records_or_header (names_needed t) (option_map (λ bytes. bytes.now) text)
 
 -- the ids of all providers, rising
 unfoldable pub ids_of : List Row → List ℕ

@@ -1,10 +1,9 @@
 //! Reading the tables of a cloud.
-ghost use Rattle.std.specs.Prelude.{◌≡◌, ◌≤◌, None, length, IfOk, IfErr};
+ghost use Rattle.std.specs.Prelude.{◌≡◌, None, IfOk, IfErr};
 ghost use Rattle.std.specs.Option.{option_map};
+ghost use Rattle.ac_tables.specs.FiveTables.{IsMapped};
 ghost use Rattle.ac_tables.specs.Tables.Checks.{Tells};
 ghost use Rattle.ac_tables.specs.Tables.{tables_fault, world_stated};
-ghost use Rattle.ac_tables.specs.SourceText.{text_or};
-ghost use Rattle.ac_tables.specs.Tables.Rows.{records_of};
 
 use crate::fault::{Table, TableFault};
 use crate::tables::aggregates::read_aggregates;
@@ -27,8 +26,19 @@ pub struct FiveTables<T> {
     pub aggregates: Option<T>,
 }
 
+// What a function gives of what stands for a table, where it is there.
+fn map_one<T, U, F: Fn(T) -> U>(one: Option<T>, f: &F) -> Option<U>
+    requires { F.IsAlwaysCallable f.now }
+    ensures { IsMapped (F.post f.now) one result }
+{
+    match one {
+        Some(one) => Some(f(one)),
+        None => None,
+    }
+}
+
 impl<T> FiveTables<T> {
-    ghost use Rattle.ac_tables.specs.FiveTables.{table_in};
+    ghost use Rattle.ac_tables.specs.FiveTables.{AreMapped, table_in};
 
     /// What stands for a table, where it is there.
     pub fn get(&self, table: Table) -> Option<&T>
@@ -42,59 +52,44 @@ impl<T> FiveTables<T> {
             Table::Aggregates => self.aggregates.as_ref(),
         }
     }
+
+    /// A reference to what stands for each table.
+    pub fn as_ref(&self) -> FiveTables<&T>
+        ensures { AreMapped (λ one shown. shown.now ≡ one) self.now result }
+    {
+        FiveTables {
+            providers: &self.providers,
+            inventories: &self.inventories,
+            usages: self.usages.as_ref(),
+            traits: self.traits.as_ref(),
+            aggregates: self.aggregates.as_ref(),
+        }
+    }
+
+    /// What a function gives of what stands for each table.
+    pub fn map<U, F: Fn(T) -> U>(self, f: F) -> FiveTables<U>
+        requires { F.IsAlwaysCallable f }
+        ensures { AreMapped (F.post f) self result }
+    {
+        let FiveTables {
+            providers,
+            inventories,
+            usages,
+            traits,
+            aggregates,
+        } = self;
+        FiveTables {
+            providers: f(providers),
+            inventories: f(inventories),
+            usages: map_one(usages, &f),
+            traits: map_one(traits, &f),
+            aggregates: map_one(aggregates, &f),
+        }
+    }
 }
 
 /// The texts of the tables. A table that isn't there is its header alone.
 pub type Sources<'a> = FiveTables<&'a [u8]>;
-
-const USAGES_HEADER: &[u8] = b"resource_provider,resource_class,usage";
-
-const TRAITS_HEADER: &[u8] = b"resource_provider,name";
-
-const AGGREGATES_HEADER: &[u8] = b"resource_provider,uuid";
-
-// A text, or this one where there is none.
-fn text_or<'a>(text: Option<&'a [u8]>, header: &'a [u8]) -> &'a [u8]
-    ensures { result.now ≡ text_or text.entry header.now }
-{
-    match text {
-        Some(text) => text,
-        None => header,
-    }
-}
-
-// The texts of the tables that may not be there.
-impl<'a> FiveTables<&'a [u8]> {
-    ghost use Rattle.ac_tables.specs.Source.{tables_of, AreFew};
-    ghost use Rattle.ac_tables.specs.Drain.{most_bytes};
-
-    #[tactic(auto, using(crate::proofs::Records::AllFaults::usage_text))]
-    fn usages_text(&self) -> &'a [u8]
-        requires { AreFew self.now }
-        ensures few { length result.now ≤ most_bytes }
-        ensures records { records_of result.now ≡ (tables_of self.now).usages }
-    {
-        text_or(self.usages, USAGES_HEADER)
-    }
-
-    #[tactic(auto, using(crate::proofs::Records::AllFaults::trait_text))]
-    fn traits_text(&self) -> &'a [u8]
-        requires { AreFew self.now }
-        ensures few { length result.now ≤ most_bytes }
-        ensures records { records_of result.now ≡ (tables_of self.now).traits }
-    {
-        text_or(self.traits, TRAITS_HEADER)
-    }
-
-    #[tactic(auto, using(crate::proofs::Records::AllFaults::aggregate_text))]
-    fn aggregates_text(&self) -> &'a [u8]
-        requires { AreFew self.now }
-        ensures few { length result.now ≤ most_bytes }
-        ensures records { records_of result.now ≡ (tables_of self.now).aggregates }
-    {
-        text_or(self.aggregates, AGGREGATES_HEADER)
-    }
-}
 
 /// What is read from tables: `Cloud::read`.
 pub trait FromTables: Sized {
@@ -128,9 +123,9 @@ impl FromTables for Cloud {
             names,
         } = providers;
         let inventories = Inventories::read(alloc, ids, src.inventories)?;
-        let usages = read_usages(alloc, &inventories, src.usages_text())?;
-        let traits = read_traits(alloc, &inventories.ids, src.traits_text())?;
-        let aggregates = read_aggregates(alloc, &inventories.ids, src.aggregates_text())?;
+        let usages = read_usages(alloc, &inventories, src.usages)?;
+        let traits = read_traits(alloc, &inventories.ids, src.traits)?;
+        let aggregates = read_aggregates(alloc, &inventories.ids, src.aggregates)?;
         let counts = Counts {
             providers: inventories.ids.len() as u32,
             inventories: inventories.rows.count() as u32,

@@ -1,11 +1,15 @@
 -- The checks of a header, and then those of the records.
-use Rattle.ac_tables.proofs.Common.{◌≡◌, ◌∙◌, ◌++◌, ℕ, Bool, true, false, List, [], ◌∷◌, map, Option, Some, None, refl, sym, ap, inl, inr, cases_Bool, list_any, Row, Check, first_failing, record_checks, told_at, Tells, table_checks, Table, TableKind, TableFault}
+use Rattle.ac_tables.proofs.Common.{◌≡◌, ◌∙◌, ◌++◌, ℕ, Bool, true, false, List, [], ◌∷◌, map, ◌<◌, arith, Option, Some, None, IsTable, TableRow, Ordering, refl, sym, ap, inl, inr, cases_Bool, list_any, Row, Check, first_failing, record_checks, told_at, Tells, table_checks, Table, TableKind, TableFault}
 use Rattle.ac_tables.specs.Tables.Checks.{told}
 use Rattle.ac_tables.specs.Tables.Columns.{is_missing, is_double, header_checks, header_fault, said_by}
-use Rattle.ac_tables.specs.Tables.Names.{name_of}
+use Rattle.ac_tables.specs.Tables.Names.{columns_needed, name_of, names_needed}
+use Rattle.ac_tables.specs.declared.fault.Table.TheVariants as table
 use Rattle.ac_tables.specs.declared.columns.Column.{Column}
 use Rattle.ac_tables.specs.declared.fault.TableKind.TheVariants as kind
 use Rattle.ac_tables.specs.declared.fault.TableFault.TheVariants as fault
+use Rattle.std.specs.List.Sorted.{IsStrictlySortedBy}
+use Rattle.std.proofs.lemmas.List.Elements.{All-nil}
+use Rattle.std.proofs.lemmas.List.Sorted.{IsPermutation-refl}
 use Rattle.ac_tables.proofs.FirstFailing.{append_none, append_some, told_none, told_some}
 
 some_fails : (p : List ℕ → Bool) (k : TableKind) (names : List Column) → list_any (λ n. p (name_of n)) names ≡ true → first_failing (map (λ n. (p n, k)) (map name_of names)) ≡ Some k
@@ -68,3 +72,29 @@ unfolding header_fault
 records_left t names value checks rows rest header e h =
     let none : first_failing (header_checks names header) ≡ None = no_kind _ t 1 (rw e at h) in
     (rw e (told_none t 1 (header_checks names header) (record_checks t (value header) (checks header) [] rest) none), ap (said_by value) e)
+
+-- the header of a table that isn't there has no fault
+needed_fit : (t : Table) → first_failing (header_checks (names_needed t) (names_needed t)) ≡ None
+unfolding header_checks name_of columns_needed
+needed_fit table.Providers = refl
+needed_fit table.Inventories = refl
+needed_fit table.Usages = refl
+needed_fit table.Traits = refl
+needed_fit table.Aggregates = refl
+
+pub absent_fine : {V : Type 0} (t : Table) (value : Row → Row → V) (checks : Row → List V → Row → List Check)
+    → first_failing (table_checks t (names_needed t) value checks (names_needed t ∷ [])) ≡ None
+absent_fine t value checks = told_none t 1 (header_checks (names_needed t) (names_needed t)) [] (needed_fit t)
+
+-- no rows show a table without records
+pub no_rows : {V K X : Type 0} (cmp : K → K → Ordering) (shown : ℕ → K → X → V) (count : ℕ) (unique : Bool) → IsTable cmp shown count unique [] []
+unfolding IsStrictlySortedBy
+no_rows {V} {K} {X} cmp shown count unique = record {
+  read = [];
+  shows = refl;
+  same = IsPermutation-refl [];
+  order = record { turn = λ place. place; apart = λ p q same. same; sorted = λ k d low below. absurd (omega (arith, below)) };
+  inside = All-nil (λ (r : TableRow K X). r.place < count);
+  numbered = λ k d below. absurd (omega (arith, below));
+  strict = λ is. tt;
+}

@@ -3,6 +3,7 @@ ghost use Rattle.std.specs.Prelude.{◌≡◌, ◌≤◌, true, false, None, [],
 ghost use Rattle.csv.specs.Records.{fields_of};
 ghost use Rattle.ac_tables.specs.Tables.Checks.{rows_fault, first_failing, fault_at, Tells};
 ghost use Rattle.ac_tables.specs.Tables.Columns.{table_checks, said_by};
+ghost use Rattle.ac_tables.specs.Tables.{rows_given};
 ghost use Rattle.ac_tables.specs.Tables.Names.{names_needed};
 ghost use Rattle.ac_tables.specs.Drain.{most_bytes};
 ghost use Rattle.ac_tables.specs.Reader.TableRows.{is_past, IsReadUpTo, IsLeastRepeat, IsTable};
@@ -152,4 +153,29 @@ pub(crate) fn read_table<T: Record>(
     let mut header = ByteRecord::new(alloc);
     let mut reader = open_table(alloc, T::TABLE, text, &mut header)?;
     gather::<T>(alloc, beside, &mut reader, &header)
+}
+
+// The same of a table that may not be there, which has no records then.
+#[tactic(auto, using(crate::proofs::Gathered::Header::no_rows))]
+pub(crate) fn read_given<T: Record>(
+    alloc: Global,
+    beside: &T::Beside,
+    text: Option<&[u8]>,
+) -> Result<Vec<TableRow<T::Key, T::Value>>, TableFault>
+    requires { IfSome text (λ t. length t.now ≤ most_bytes) }
+    ensures few { IfOk result (λ rows. length rows.items ≤ most_bytes) }
+    ensures rows { IfOk result (λ rows.
+        IsTable T.Key.cmp (T.shown beside.now) (T.count beside.now) T.UNIQUE
+        (said_by T.says (rows_given T.TABLE text.entry)) rows.items) }
+    ensures ok { IfOk result (λ _.
+        first_failing (table_checks T.TABLE (names_needed T.TABLE) T.says (T.checks beside.now)
+        (rows_given T.TABLE text.entry)) ≡ None) }
+    ensures fault { IfErr result (λ e.
+        Tells (first_failing (table_checks T.TABLE (names_needed T.TABLE) T.says
+        (T.checks beside.now) (rows_given T.TABLE text.entry))) e) }
+{
+    match text {
+        Some(text) => read_table::<T>(alloc, beside, text),
+        None => Ok(Vec::new(alloc)),
+    }
 }

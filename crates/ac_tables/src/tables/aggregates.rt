@@ -1,5 +1,5 @@
 //! The table of aggregates: what a record of it says, and the aggregates of all providers.
-ghost use Rattle.std.specs.Prelude.{◌≡◌, false, [], ◌∷◌, length, get_or, ◌≤◌, None, map, IfOk, IfErr};
+ghost use Rattle.std.specs.Prelude.{◌≡◌, false, [], ◌∷◌, length, get_or, ◌≤◌, None, map, IfOk, IfErr, IfSome};
 ghost use Rattle.csv.specs.Records.{fields_of};
 ghost use Rattle.ac_tables.specs.Tables.Checks.{first_failing, TellsKind, Tells};
 ghost use Rattle.ac_tables.specs.Tables.Columns.{id_in, bad_id};
@@ -10,14 +10,13 @@ ghost use Rattle.ac_tables.specs.Tables.InventoryTable.{provider_name};
 ghost use Rattle.ac_tables.specs.Reader.RecordLaws.{aggregates_keyed, aggregates_apart};
 ghost use Rattle.ac_tables.specs.Drain.{most_bytes};
 ghost use Rattle.ac_cloud.specs.ListsOf.{lists_of};
-ghost use Rattle.ac_tables.specs.Tables.Rows.{records_of};
-ghost use Rattle.ac_tables.specs.Tables.{aggregates_of};
+ghost use Rattle.ac_tables.specs.Tables.{aggregates_of, rows_given};
 ghost use Rattle.ac_tables.specs.declared.fault.Table.TheVariants as table;
 
 use crate::columns::Column;
 use crate::fault::{RecordFault, Table, TableFault, TableKind};
 use crate::reader::fields::read_owner;
-use crate::reader::gather::read_table;
+use crate::reader::gather::read_given;
 use crate::reader::header::column_at;
 use crate::reader::keys::keys_of;
 use crate::reader::provider_rows::ProviderRows;
@@ -127,18 +126,18 @@ impl Record for AggregateTable {
 pub(crate) fn read_aggregates(
     alloc: Global,
     ids: &Ids,
-    text: &[u8],
+    text: Option<&[u8]>,
 ) -> Result<Lists<Id>, TableFault>
-    requires { length text.now ≤ most_bytes }
+    requires { IfSome text (λ t. length t.now ≤ most_bytes) }
     ensures value { IfOk result (λ all. lists_of all
-        ≡ map (aggregates_of (aggregates_said (records_of text.now))) ids.now.ids.items) }
+        ≡ map (aggregates_of (aggregates_said (rows_given table.Aggregates text.entry))) ids.now.ids.items) }
     ensures few { IfOk result (λ new. length new.items.items ≤ most_bytes) }
-    ensures ok { IfOk result (λ _. aggregates_fault ids.now.ids.items (records_of text.now)
+    ensures ok { IfOk result (λ _. aggregates_fault ids.now.ids.items (rows_given table.Aggregates text.entry)
         ≡ None) }
     ensures err { IfErr result (λ e.
-        Tells (aggregates_fault ids.now.ids.items (records_of text.now)) e) }
+        Tells (aggregates_fault ids.now.ids.items (rows_given table.Aggregates text.entry)) e) }
 {
-    let mut rows = read_table::<AggregateTable>(alloc, ids, text)?;
+    let mut rows = read_given::<AggregateTable>(alloc, ids, text)?;
     keep_first(&mut rows);
     let own = ProviderRows::new(alloc, ids.len(), rows)?;
     Ok(keys_of(alloc, &own)?)

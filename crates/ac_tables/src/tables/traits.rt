@@ -1,5 +1,5 @@
 //! The table of traits: what a record of it says, and the traits of all providers.
-ghost use Rattle.std.specs.Prelude.{◌≡◌, None, IfOk, IfErr, false, [], length, get_or, ◌≤◌, map};
+ghost use Rattle.std.specs.Prelude.{◌≡◌, None, IfOk, IfErr, IfSome, false, [], length, get_or, ◌≤◌, map};
 ghost use Rattle.csv.specs.Records.{fields_of};
 ghost use Rattle.ac_base.specs.Names.{trait_bytes};
 ghost use Rattle.ac_tables.specs.Tables.Checks.{first_failing, TellsKind, Tells};
@@ -11,14 +11,13 @@ ghost use Rattle.ac_tables.specs.Tables.TraitTable.{name_checks, TraitRecord, tr
 ghost use Rattle.ac_tables.specs.Reader.RecordLaws.{traits_keyed, traits_apart};
 ghost use Rattle.ac_tables.specs.Drain.{most_bytes};
 ghost use Rattle.ac_cloud.specs.ListsOf.{lists_of};
-ghost use Rattle.ac_tables.specs.Tables.Rows.{records_of};
-ghost use Rattle.ac_tables.specs.Tables.{names_of};
+ghost use Rattle.ac_tables.specs.Tables.{names_of, rows_given};
 ghost use Rattle.ac_tables.specs.declared.fault.Table.TheVariants as table;
 
 use crate::columns::Column;
 use crate::fault::{RecordFault, Table, TableFault, TableKind};
 use crate::reader::fields::read_owner;
-use crate::reader::gather::read_table;
+use crate::reader::gather::read_given;
 use crate::reader::header::column_at;
 use crate::reader::keys::keys_of;
 use crate::reader::provider_rows::ProviderRows;
@@ -134,17 +133,17 @@ impl Record for TraitTable {
 pub(crate) fn read_traits(
     alloc: Global,
     ids: &Ids,
-    text: &[u8],
+    text: Option<&[u8]>,
 ) -> Result<Lists<TraitName>, TableFault>
-    requires { length text.now ≤ most_bytes }
+    requires { IfSome text (λ t. length t.now ≤ most_bytes) }
     ensures value { IfOk result (λ names. map (map trait_bytes) (lists_of names)
-        ≡ map (names_of (traits_said (records_of text.now))) ids.now.ids.items) }
+        ≡ map (names_of (traits_said (rows_given table.Traits text.entry))) ids.now.ids.items) }
     ensures few { IfOk result (λ new. length new.items.items ≤ most_bytes) }
-    ensures ok { IfOk result (λ _. traits_fault ids.now.ids.items (records_of text.now) ≡ None) }
+    ensures ok { IfOk result (λ _. traits_fault ids.now.ids.items (rows_given table.Traits text.entry) ≡ None) }
     ensures err { IfErr result (λ e.
-        Tells (traits_fault ids.now.ids.items (records_of text.now)) e) }
+        Tells (traits_fault ids.now.ids.items (rows_given table.Traits text.entry)) e) }
 {
-    let mut rows = read_table::<TraitTable>(alloc, ids, text)?;
+    let mut rows = read_given::<TraitTable>(alloc, ids, text)?;
     keep_first(&mut rows);
     let own = ProviderRows::new(alloc, ids.len(), rows)?;
     Ok(keys_of(alloc, &own)?)

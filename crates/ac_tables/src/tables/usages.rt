@@ -1,5 +1,5 @@
 //! The table of usages: what a record of it says, and how much of their inventories the providers have used.
-ghost use Rattle.std.specs.Prelude.{◌≡◌, None, IfOk, IfErr, ◌<◌, ◌++◌, true, length, get_or, ◌≤◌, List, map};
+ghost use Rattle.std.specs.Prelude.{◌≡◌, None, IfOk, IfErr, IfSome, ◌<◌, ◌++◌, true, length, get_or, ◌≤◌, List, map};
 ghost use Rattle.csv.specs.Records.{fields_of};
 ghost use Rattle.ac_base.specs.Names.{class_bytes};
 ghost use Rattle.ac_tables.specs.Tables.Checks.{first_failing, unless, Tells};
@@ -12,14 +12,13 @@ ghost use Rattle.ac_tables.specs.Reader.RecordLaws.{lone_checks, usages_keyed, k
 ghost use Rattle.std.specs.List.Sorted.{IsPermutation};
 ghost use Rattle.ac_tables.specs.Drain.{most_bytes};
 ghost use Rattle.ac_tables.specs.Reader.OwnRows.{own_rows};
-ghost use Rattle.ac_tables.specs.Tables.Rows.{records_of};
-ghost use Rattle.ac_tables.specs.Tables.{amounts_of};
+ghost use Rattle.ac_tables.specs.Tables.{amounts_of, rows_given};
 ghost use Rattle.ac_tables.specs.declared.fault.Table.TheVariants as table;
 
 use crate::columns::Column;
 use crate::fault::{RecordFault, Table, TableFault, TableKind};
 use crate::reader::fields::{read_class, read_owner};
-use crate::reader::gather::read_table;
+use crate::reader::gather::read_given;
 use crate::reader::header::column_at;
 use crate::reader::provider_rows::ProviderRows;
 use crate::reader::record::{Record, Seen};
@@ -130,25 +129,25 @@ impl Record for UsageTable {
 pub(crate) fn read_usages(
     alloc: Global,
     inventories: &Inventories,
-    text: &[u8],
+    text: Option<&[u8]>,
 ) -> Result<ProviderRows<ClassName, u32>, TableFault>
-    requires { length text.now ≤ most_bytes }
+    requires { IfSome text (λ t. length t.now ≤ most_bytes) }
     ensures value { IfOk result (λ used. map (map class_pair) (own_rows used)
-        ≡ map (amounts_of (usages_said (records_of text.now))) inventories.now.ids.ids.items) }
+        ≡ map (amounts_of (usages_said (rows_given table.Usages text.entry))) inventories.now.ids.ids.items) }
     ensures count { IfOk result (λ used. length used.rows.items
-        ≡ length (usages_said (records_of text.now))) }
+        ≡ length (usages_said (rows_given table.Usages text.entry))) }
     ensures length { IfOk result (λ used.
         length (own_rows used) ≡ length inventories.now.ids.ids.items) }
     ensures few { IfOk result (λ new. length new.rows.items ≤ most_bytes) }
     ensures ok { IfOk result (λ _. (records : List InventoryRecord)
         → IsPermutation records (inventory_records_shown inventories.now.ids.ids.items
         inventories.now.rows.rows.items) → usages_fault inventories.now.ids.ids.items records
-        (records_of text.now) ≡ None) }
+        (rows_given table.Usages text.entry) ≡ None) }
     ensures err { IfErr result (λ e. (records : List InventoryRecord)
         → IsPermutation records (inventory_records_shown inventories.now.ids.ids.items
         inventories.now.rows.rows.items) → Tells
-        (usages_fault inventories.now.ids.ids.items records (records_of text.now)) e) }
+        (usages_fault inventories.now.ids.ids.items records (rows_given table.Usages text.entry)) e) }
 {
-    let rows = read_table::<UsageTable>(alloc, inventories, text)?;
+    let rows = read_given::<UsageTable>(alloc, inventories, text)?;
     Ok(ProviderRows::new(alloc, inventories.ids.len(), rows)?)
 }

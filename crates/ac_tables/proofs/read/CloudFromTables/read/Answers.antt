@@ -1,4 +1,4 @@
-use Rattle.ac_tables.proofs.Common.{IsStrictlySortedBy, text_cmp, TextMap, UsedInventory, ◌≡◌, ◌∙◌, ℕ, Option, List, map, length, refl, sym, ap, subst, sum_by, length-map, trait_bytes, Row, records_of, providers_said, said_name, said_parent, inventories_said, usages_said, traits_said, aggregates_said, inventories_of, amounts_of, names_of, aggregates_of, gathered, option_and_then, rank, AreKin, class_pair, with_used_lists, lists_of, own_rows, map-id, length_permutation}
+use Rattle.ac_tables.proofs.Common.{IsStrictlySortedBy, text_cmp, TextMap, UsedInventory, ◌≡◌, ◌∙◌, ℕ, Option, List, map, length, refl, sym, ap, subst, sum_by, length-map, trait_bytes, records_of, providers_said, said_name, said_parent, inventories_said, traits_said, aggregates_said, inventories_of, names_of, aggregates_of, gathered, option_and_then, rank, AreKin, class_pair, with_used_lists, lists_of, own_rows, map-id, length_permutation}
 use Rattle.ac_tables.specs.Tables.{ids_of, world_stated}
 use Rattle.ac_cloud.specs.Cloud.Numbered.{numbered}
 use Rattle.ac_cloud.specs.Cloud.CloudWorld.{sizes_of}
@@ -29,13 +29,10 @@ returns-clause-world c =
     let first = c.in_ok-providers.providers.ids.ids.items in
     let same : ids ≡ first = c.in_ok-inventories.ensures.ids in
     let all : ids ≡ ids_of t.providers = same ∙ c.in_ok-providers.ensures.ids in
-    let usage_rows = c.usages_text.ensures.records in
-    let trait_rows = c.traits_text.ensures.records in
-    let aggregate_rows = c.aggregates_text.ensures.records in
     let inventories = c.in_ok-inventories.ensures.value ∙ ap (map (inventories_of (inventories_said t.inventories))) (sym same) in
-    let usages = c.in_ok-usages.ensures.value ∙ ap (λ (rows : List Row). map (amounts_of (usages_said rows)) ids) usage_rows in
-    let names = c.in_ok-traits.ensures.value ∙ ap (λ (rows : List Row). map (names_of (traits_said rows)) ids) trait_rows in
-    let aggregates = c.in_ok-aggregates.ensures.value ∙ ap (λ (rows : List Row). map (aggregates_of (aggregates_said rows)) ids) aggregate_rows in
+    let usages = c.in_ok-usages.ensures.value in
+    let names = c.in_ok-traits.ensures.value in
+    let aggregates = c.in_ok-aggregates.ensures.value in
     let said = providers_said t.providers in
     let kin = subst (λ (l : List ℕ). AreKin l said) (sym same) c.in_ok-providers.ensures.kin in
     let entries = c.in_ok-entries.ensures.entries in
@@ -54,7 +51,7 @@ returns-clause-world c =
     ∙ ap (map (gathered t)) all in
     let s1 = c.len.ensures.value ∙ ap length all in
     let s2 = c.count.ensures ∙ sym (length-map c.in_ok-inventories.inventories.rows.rows.items _) ∙ length_permutation _ _ c.in_ok-inventories.ensures.said in
-    let s3 = c.count-2.ensures ∙ c.in_ok-usages.ensures.count ∙ ap (λ (rows : List Row). length (usages_said rows)) usage_rows in
+    let s3 = c.count-2.ensures ∙ c.in_ok-usages.ensures.count in
     let s4 = c.count-3.ensures.sum
     ∙ counted (map trait_bytes) (λ l. length-map l trait_bytes) (lists_of c.in_ok-traits.traits) (names_of (traits_said t.traits)) ids names
     ∙ ap (sum_by (λ id. length (names_of (traits_said t.traits) id))) all in

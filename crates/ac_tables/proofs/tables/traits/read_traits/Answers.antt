@@ -1,5 +1,6 @@
-use Rattle.ac_tables.proofs.Common.{◌≡◌, ◌∙◌, ◌==◌, ℕ, false, List, map, length, filter, range_with_len, get_or, refl, ap, Ordering, on_total, dedup, nat_list_cmp_total, exact_bytes, trait_bytes, text_cmp, TraitName, row_ties, TraitRecord, traits_said, records_of, same_place, map-map, TableRow}
-use Rattle.ac_tables.specs.Tables.{names_of}
+use Rattle.ac_tables.proofs.Common.{◌≡◌, ◌∙◌, ◌==◌, ℕ, false, List, map, length, filter, range_with_len, get_or, refl, ap, Ordering, on_total, dedup, nat_list_cmp_total, exact_bytes, trait_bytes, text_cmp, TraitName, row_ties, TraitRecord, traits_said, same_place, map-map, TableRow}
+use Rattle.ac_tables.specs.Tables.{names_of, rows_given}
+use Rattle.ac_tables.specs.declared.fault.Table.TheVariants as table
 use Rattle.ac_tables.proofs.Gathered.OwnRows.{lists_shown, own_lists}
 use Rattle.ac_tables.proofs.Sorted.ProviderSets.{shown_set}
 use Rattle.ac_tables.proofs.Sorted.RowLists.{of_each}
@@ -15,7 +16,7 @@ pub returns-clause-value : goal.returns-clause-value
 unfolding names_of
 returns-clause-value c =
     let ids = c.args.ids.now.ids.items in
-    let said = traits_said (records_of c.args.text.now) in
+    let said = traits_said (rows_given table.Traits c.args.text) in
     let lists = own_lists c.in_ok-own.own (length c.args.ids.now.ids.items) (c.in_ok-own.ensures.count ∙ c.len.ensures.value)
     ∙ ap (λ (rows : List (TableRow TraitName (Unit {0}))). map (λ p. filter (λ r. r.place == p) rows) (range_with_len 0 (length c.args.ids.now.ids.items))) (c.in_ok-own.ensures.rows ∙ c.keep_first.ensures.value) in
     lists_shown (λ (name other : TraitName). trait_bytes other ≡ trait_bytes name) trait_bytes (λ x y e. e) _ _ c.in_ok-keys_of.ensures.lists ∙ map-map (map trait_bytes) (map (λ r. r.key)) _

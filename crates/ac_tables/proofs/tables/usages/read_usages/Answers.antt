@@ -1,6 +1,7 @@
 use Rattle.ac_base.proofs.Small.{handed_on}
-use Rattle.ac_tables.proofs.Common.{◌∙◌, ◌==◌, ℕ, List, map, length, filter, range_with_len, get_or, refl, sym, ap, length-map, length_permutation, class_bytes, text_cmp, ClassName, row_shown, UsageRecord, usages_said, records_of, class_pair, inventory_records_shown, same_place, TableRow}
-use Rattle.ac_tables.specs.Tables.{amounts_of}
+use Rattle.ac_tables.proofs.Common.{◌∙◌, ◌==◌, ℕ, List, map, length, filter, range_with_len, get_or, refl, sym, ap, length-map, length_permutation, class_bytes, text_cmp, ClassName, row_shown, UsageRecord, usages_said, class_pair, inventory_records_shown, same_place, TableRow}
+use Rattle.ac_tables.specs.Tables.{amounts_of, rows_given}
+use Rattle.ac_tables.specs.declared.fault.Table.TheVariants as table
 use Rattle.ac_tables.proofs.Gathered.OwnRows.{own_lists}
 use Rattle.ac_tables.proofs.Sorted.ProviderMaps.{shown_map}
 use Rattle.ac_tables.proofs.Sorted.RowLists.{of_each}
@@ -14,7 +15,7 @@ pub returns-clause-value : goal.returns-clause-value
 unfolding amounts_of
 returns-clause-value c =
     let ids = c.args.inventories.now.ids.ids.items in
-    let said = usages_said (records_of c.args.text.now) in
+    let said = usages_said (rows_given table.Usages c.args.text) in
     let lists = own_lists c.in_ok-new.field-0 (length c.args.inventories.now.ids.ids.items) (c.in_ok-new.ensures.count ∙ c.len.ensures.value)
     ∙ ap (λ (rows : List (TableRow ClassName ℕ)). map (λ p. filter (λ r. r.place == p) rows) (range_with_len 0 (length c.args.inventories.now.ids.ids.items))) c.in_ok-new.ensures.rows in
     of_each c.in_ok-rows.rows.items (map class_pair) (amounts_of said) ids _ lists (λ p h.
@@ -30,9 +31,9 @@ returns-clause-count c =
 
 pub returns-in_err-rows-clause-err : goal.returns-in_err-rows-clause-err
 returns-in_err-rows-clause-err c =
-    handed_on c.from_residual.result _ _ c.from_residual.ensures.1 (λ records same. rw (← same_fault c.args.inventories.now.ids.ids.items records (inventory_records_shown c.args.inventories.now.ids.ids.items c.args.inventories.now.rows.rows.items) (records_of c.args.text.now) same) c.in_err-rows.ensures.fault)
+    handed_on c.from_residual.result _ _ c.from_residual.ensures.1 (λ records same. rw (← same_fault c.args.inventories.now.ids.ids.items records (inventory_records_shown c.args.inventories.now.ids.ids.items c.args.inventories.now.rows.rows.items) (rows_given table.Usages c.args.text) same) c.in_err-rows.ensures.fault)
 
 pub returns-clause-ok : goal.returns-clause-ok
 returns-clause-ok c = λ records same.
-    sym (same_fault c.args.inventories.now.ids.ids.items records (inventory_records_shown c.args.inventories.now.ids.ids.items c.args.inventories.now.rows.rows.items) (records_of c.args.text.now) same)
+    sym (same_fault c.args.inventories.now.ids.ids.items records (inventory_records_shown c.args.inventories.now.ids.ids.items c.args.inventories.now.rows.rows.items) (rows_given table.Usages c.args.text) same)
     ∙ c.in_ok-rows.ensures.ok
