@@ -1,5 +1,6 @@
 //! The tables and what can be wrong with them.
 ghost use Rattle.std.specs.Prelude.{◌≡◌};
+ghost use Rattle.ac_tables.specs.Tables.Names.{kind_name, table_name};
 
 use ac_base::NoMemory;
 use std::alloc::{AllocError, AllocFailed};
@@ -17,6 +18,22 @@ pub enum Table {
     Traits,
     /// The aggregates of each provider.
     Aggregates,
+}
+
+impl Table {
+    /// The name of the table, as it is printed.
+    #[tactic(auto, unfolding(crate::specs::Tables::Names::table_name))]
+    pub fn name(self) -> &'static str
+        ensures { result.now ≡ table_name self }
+    {
+        match self {
+            Table::Providers => "providers",
+            Table::Inventories => "inventories",
+            Table::Usages => "usages",
+            Table::Traits => "traits",
+            Table::Aggregates => "aggregates",
+        }
+    }
 }
 
 /// What is wrong with a table.
@@ -58,6 +75,35 @@ pub enum TableKind {
     ParentCycle,
     /// The root that a record names isn't the top of the provider's tree.
     WrongRoot,
+}
+
+impl TableKind {
+    /// The name of the fault, as it is printed.
+    #[tactic(auto, unfolding(crate::specs::Tables::Names::kind_name))]
+    pub fn name(self) -> &'static str
+        ensures { result.now ≡ kind_name self }
+    {
+        match self {
+            TableKind::NoHeader => "NoHeader",
+            TableKind::MissingColumn => "MissingColumn",
+            TableKind::DoubleColumn => "DoubleColumn",
+            TableKind::Width => "Width",
+            TableKind::BadUuid => "BadUuid",
+            TableKind::BadClass => "BadClass",
+            TableKind::BadTrait => "BadTrait",
+            TableKind::BadNumber => "BadNumber",
+            TableKind::BadRatio => "BadRatio",
+            TableKind::ZeroStep => "ZeroStep",
+            TableKind::ReservedOverTotal => "ReservedOverTotal",
+            TableKind::Duplicate => "Duplicate",
+            TableKind::UnknownProvider => "UnknownProvider",
+            TableKind::NoInventory => "NoInventory",
+            TableKind::TooManyProviders => "TooManyProviders",
+            TableKind::UnknownParent => "UnknownParent",
+            TableKind::ParentCycle => "ParentCycle",
+            TableKind::WrongRoot => "WrongRoot",
+        }
+    }
 }
 
 /// The first fault of the tables, or a refused growth.
