@@ -18,8 +18,9 @@ use Rattle.ac_query.proofs.WrittenIds.{id_reads}
 use Rattle.ac_query.specs.Laws.Named.{IsName}
 use Rattle.ac_tables.proofs.FirstFailing.{told_none}
 use Rattle.ac_tables.specs.Tables.Checks.{first_failing, record_checks}
-use Rattle.ac_tables.specs.Tables.InventoryTable.{InventoryRecord, class_checks, class_name, is_inventory_of, owner_checks, provider_name}
-use Rattle.ac_tables.specs.Tables.UsageTable.{UsageRecord, amount_checks, is_usage, usage_checks, usage_columns, usage_field_checks, usage_name, usage_row_checks, usage_said, used_checks}
+use Rattle.ac_tables.specs.Tables.InventoryTable.{InventoryRecord, class_checks, is_inventory_of, owner_checks}
+use Rattle.ac_tables.specs.Tables.Names.{columns_needed, name_of}
+use Rattle.ac_tables.specs.Tables.UsageTable.{UsageRecord, amount_checks, is_usage, usage_checks, usage_columns, usage_field_checks, usage_row_checks, usage_said, used_checks}
 use Rattle.ac_tables.specs.Tables.Columns.{header_checks}
 use Rattle.ac_tables.specs.declared.fault.Table.TheVariants as table
 use Rattle.ac_session.specs.UsageRows.{Entry, fits_table, is_used, rows_of_provider, usage_row}
@@ -38,7 +39,7 @@ module _ (ids : List ℕ) (records : List InventoryRecord) where
   row_passes : (before : List UsageRecord) (id : ℕ) (e : Entry) → id < 2 ^ 128 → is_one_of ids id ≡ true → is_name e.0 ≡ true → fits_table e ≡ true
       → list_any (is_inventory_of id e.0) records ≡ true → list_any (is_usage id e.0) before ≡ false
       → first_failing (usage_row_checks ids records usage_columns before (usage_row id e)) ≡ None
-  unfolding usage_row_checks usage_field_checks owner_checks class_checks amount_checks used_checks usage_columns provider_name class_name usage_name
+  unfolding usage_row_checks usage_field_checks owner_checks class_checks amount_checks used_checks columns_needed name_of
   row_passes before id e small there named fit stocked new =
       let low : e.1.used ≤ greatest = grind (arith, nat_tests) in
       rw (id_reads id small, name_is e.0 named, count_reads e.1.used low, new, there, stocked) refl
@@ -150,7 +151,7 @@ module _ (ids : List ℕ) (records : List InventoryRecord) where
   -- the whole table, with its header
   pub table_passes : (all : List Provider) → AllByRecursion (IsKnown ids records) all → AreApart all
       → first_failing (usage_checks ids records (usage_columns ∷ flat_map rows_of_provider all)) ≡ None
-  unfolding header_checks usage_columns provider_name class_name usage_name
+  unfolding header_checks columns_needed name_of
   table_passes all known apart = told_none table.Usages 1 (header_checks usage_columns usage_columns)
       (record_checks table.Usages (usage_said usage_columns) (usage_row_checks ids records usage_columns) [] (flat_map rows_of_provider all)) header ∙ providers_pass all [] known apart (none_said all)
     where

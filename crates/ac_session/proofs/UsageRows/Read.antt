@@ -28,9 +28,9 @@ use Rattle.ac_cloud.specs.World.{Provider, UsedInventory, id_at, provider_at}
 use Rattle.ac_query.proofs.WrittenIds.{id_reads}
 use Rattle.ac_tables.specs.Tables.{amounts_of}
 use Rattle.ac_tables.specs.Tables.Checks.{Row}
-use Rattle.ac_tables.specs.Tables.InventoryTable.{class_name, provider_name}
+use Rattle.ac_tables.specs.Tables.Names.{columns_needed, name_of}
 use Rattle.ac_tables.specs.Tables.Rows.{records_of}
-use Rattle.ac_tables.specs.Tables.UsageTable.{UsageRecord, usage_columns, usage_name, usage_said}
+use Rattle.ac_tables.specs.Tables.UsageTable.{UsageRecord, usage_columns, usage_said}
 use Rattle.ac_session.specs.UsageRows.{Entry, entries_fit, fits_table, is_used, rows_of_provider, usage_row, usages_fit, usages_text}
 use Rattle.ac_tables.proofs.Sorted.OrderFacts.{order_holds}
 use Rattle.ac_session.specs.Laws.{UsagesReadBack}
@@ -160,7 +160,7 @@ rows_read : (rows : List Row) → records_from default_config (length (flat_map 
 rows_read rows = rw (text_of_rows rows) (read_all rows (length (rows_text rows) + 1) (omega (arith, few_rows rows)))
 
 no_mark : (rows : List Row) → strip_bom (flat_map (row_text default_writer) (usage_columns ∷ rows)) ≡ flat_map (row_text default_writer) (usage_columns ∷ rows)
-unfolding strip_bom usage_columns provider_name class_name usage_name is_blank fields_text
+unfolding strip_bom columns_needed name_of is_blank fields_text
 no_mark rows = refl
 
 -- rows of providers have fields
@@ -171,7 +171,7 @@ kept_whole (p ∷ all) =
     ∙ ap₂ (λ (a b : List Row). a ++ b) (map-map read_back (usage_row p.id) (filter is_used p.entries)) (kept_whole all)
 
 pub records_are : (all : List Provider) → records_of (usages_text all) ≡ usage_columns ∷ flat_map rows_of_provider all
-unfolding usages_text usage_columns
+unfolding usages_text columns_needed
 records_are all =
     rw (no_mark (flat_map rows_of_provider all)) (rows_read (usage_columns ∷ flat_map rows_of_provider all))
     ∙ ap (λ (l : List Row). usage_columns ∷ l) (kept_whole all)
@@ -186,7 +186,7 @@ abbrev pub said_of : Provider → List UsageRecord
 said_of p = map (said p.id) (filter is_used p.entries)
 
 pub row_says : (id : ℕ) (e : Entry) → id < 2 ^ 128 → fits_table e ≡ true → usage_said usage_columns (usage_row id e) ≡ said id e
-unfolding usage_said usage_columns provider_name class_name usage_name
+unfolding usage_said columns_needed name_of
 row_says id e small fit =
     let low : e.1.used ≤ greatest = grind (arith, nat_tests) in
     rw (id_reads id small, count_reads e.1.used low) refl

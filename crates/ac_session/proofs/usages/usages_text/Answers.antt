@@ -5,15 +5,15 @@ use Rattle.std.proofs.lemmas.List.Sums.{AllPass-from_list_all}
 use Rattle.csv.specs.Writing.{default_writer, row_text}
 use Rattle.ac_cloud.specs.World.{Provider, no_provider}
 use Rattle.ac_cloud.specs.Cloud.CloudWorld.{providers_of}
-use Rattle.ac_tables.specs.Tables.InventoryTable.{class_name, provider_name}
-use Rattle.ac_tables.specs.Tables.UsageTable.{usage_columns, usage_name}
+use Rattle.ac_tables.specs.Tables.Names.{columns_needed, name_of}
+use Rattle.ac_tables.specs.Tables.UsageTable.{usage_columns}
 use Rattle.ac_report.specs.Rows.{HasRows}
 use Rattle.ac_session.specs.UsageRows.{entries_fit, rows_of_provider, usages_fit, usages_text}
 use Rattle.ac_session.proofs.UsageRows.Written.{provider_more}
 use Rattle.ac_session.proofs.usages.usages_text.Goals as goal
 
 pub loop-ix-init : goal.loop-ix-init
-unfolding usage_columns provider_name class_name usage_name
+unfolding columns_needed name_of
 loop-ix-init c = c.in_ok-rows.ensures
 
 pub write_provider-requires-clause-fit : goal.write_provider-requires-clause-fit
