@@ -8,7 +8,7 @@ ghost use Rattle.ac_cloud.specs.Cloud.CloudWorld.{providers_of};
 ghost use Rattle.ac_query.specs.Asked.{slots_of};
 ghost use Rattle.ac_query.specs.Shown.Groups.{need_entry};
 ghost use Rattle.ac_query.specs.Shown.Queries.{asked_of};
-ghost use Rattle.ac_report.specs.Rows.{HasRows};
+ghost use Rattle.ac_rows.specs.Rows.{HasRows};
 ghost use Rattle.ac_rules.specs.Shown.Assignments.{placed_of};
 ghost use Rattle.ac_search.specs.Hosts.{fits_at};
 ghost use Rattle.ac_search.specs.Lacking.{lack_at};
@@ -23,7 +23,8 @@ use ac_explain::details::{
     aggregates_detail, room_detail, root_detail, traits_detail, tree_detail, units_detail,
 };
 use ac_query::{Need, Query};
-use ac_report::{begin_rows, end_rows, shown_name, suffix_text, write_row};
+use ac_report::{shown_name, suffix_text};
+use ac_rows::{begin_rows, end_rows, write_row};
 use ac_rules::Placed;
 use ac_rules::rules::anchor::takes_root;
 use ac_rules::slots::count_slots;

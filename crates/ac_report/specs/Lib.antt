@@ -7,5 +7,4 @@ pub mod Marks
 pub mod Requests
 pub mod Outcomes
 pub mod Names
-pub mod Rows
 pub mod ListRows

@@ -11,7 +11,6 @@ pub mod list_rows;
 pub mod names;
 pub mod page;
 pub mod request;
-pub mod rows;
 mod serving;
 pub mod summary;
 
@@ -21,5 +20,4 @@ pub use list_rows::write_list;
 pub use names::shown_name;
 pub use page::{write_page, write_shown_page};
 pub use request::{request_text, suffix_text};
-pub use rows::{begin_rows, end_rows, write_row};
 pub use summary::summary_text;

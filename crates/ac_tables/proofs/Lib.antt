@@ -5,7 +5,7 @@ pub mod Sorted
 pub mod Gathered
 pub mod FirstFailing
 mod Literals
-pub mod NameFacts
+pub mod UsageRows
 pub mod StatedWorld
 pub mod ProvidersStated
 pub mod FoundRows

@@ -1,5 +1,5 @@
 -- What the records of the five tables say, and their faults.
-pub mod AllFaults
+pub mod NameFacts
 pub mod IdsFit
 pub mod InventoryLists
 pub mod KnownFacts

@@ -1,5 +1,5 @@
 //! Laws of the definitions. Each function does nothing: its contract is the law.
-ghost use Rattle.ac_tables.specs.Laws.{OrderHolds, ProvidersInOrder};
+ghost use Rattle.ac_tables.specs.Laws.{OrderHolds, ProvidersInOrder, UsagesReadBack};
 
 pub use ac_cloud::laws::{chain_is_above, cloud_in_order, cloud_is_forest, top_is_root};
 
@@ -13,4 +13,10 @@ pub fn providers_in_order()
 #[tactic(auto, using(crate::proofs::Sorted::OrderFacts::order_holds))]
 pub fn order_holds()
     ensures { OrderHolds }
+{}
+
+/// The table of usages that is written, read back, states how much is used of each class of each provider.
+#[tactic(auto, using(crate::proofs::UsageRows::Read::usages_read_back))]
+pub fn usages_read_back()
+    ensures { UsagesReadBack }
 {}

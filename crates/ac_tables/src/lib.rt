@@ -11,6 +11,7 @@ pub mod read;
 mod reader;
 pub mod reading;
 mod tables;
+pub mod written;
 
 pub use ac_cloud::{Cloud, Counts, Entry, HostFault};
 pub use columns::{Column, columns_needed};
@@ -18,3 +19,4 @@ pub use fault::{Table, TableFault, TableKind};
 pub use found::Found;
 pub use read::{FiveTables, FromTables, Sources};
 pub use reading::{ReadFault, drain};
+pub use written::{usages_fit, usages_text};

@@ -108,7 +108,7 @@ impl FromTables for Cloud {
     ///
     /// The fault is the first in the order of the tables and their checks. Where a growth is refused, a fault that stands
     /// before it is told instead. The growths that are needed to find a fault of the trees stand before that fault.
-    #[tactic(auto, unfolding(crate::specs::Tables::tables_fault, crate::specs::Tables::ProviderTable::providers_fault, crate::specs::Tables::InventoryTable::inventories_fault, crate::specs::Tables::UsageTable::usages_fault, crate::specs::Tables::TraitTable::traits_fault, crate::specs::Tables::AggregateTable::aggregates_fault), using(crate::proofs::Records::AllFaults::reading, ac_cloud::proofs::ListFacts::of_lists, crate::proofs::Sorted::RiseFacts::rising_lists))]
+    #[tactic(auto, unfolding(crate::specs::Tables::tables_fault, crate::specs::Tables::ProviderTable::providers_fault, crate::specs::Tables::InventoryTable::inventories_fault, crate::specs::Tables::UsageTable::usages_fault, crate::specs::Tables::TraitTable::traits_fault, crate::specs::Tables::AggregateTable::aggregates_fault), using(crate::proofs::Records::ProviderFaults::reading, ac_cloud::proofs::ListFacts::of_lists, crate::proofs::Sorted::RiseFacts::rising_lists))]
     fn read(alloc: Global, src: &Sources) -> Result<Cloud, TableFault>
         requires { AreFew src.now }
         ensures world { IfOk result (λ cloud. world_of cloud ≡ world_stated (tables_of src.now)) }

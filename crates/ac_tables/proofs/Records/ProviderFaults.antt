@@ -68,3 +68,6 @@ are_trees all distinct none = record {
   known = λ (i q : ℕ) (h : i < length all) (e : (record_at all i).parent ≡ Some q).
       known_parent all (record_at all i).parent q e (none_fails table.Providers kind.UnknownParent (has_unknown_parent all) 2 all no_record none i h);
 }
+
+-- what shows, table by table, what the reading of all tells
+pub ruleset reading = (tells_first, tells_next, append_none)

@@ -38,7 +38,7 @@ pub(crate) fn read_owner(
 }
 
 // The class of a record.
-#[tactic(auto, unfolding(crate::specs::Tables::InventoryTable::class_checks), using(crate::proofs::NameFacts::named))]
+#[tactic(auto, unfolding(crate::specs::Tables::InventoryTable::class_checks), using(crate::proofs::Records::NameFacts::named))]
 pub(crate) fn read_class(
     names: &mut Names,
     header: &ByteRecord,

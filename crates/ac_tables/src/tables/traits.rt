@@ -37,7 +37,7 @@ pub(crate) struct TraitColumns {
 }
 
 // The trait of a record.
-#[tactic(auto, unfolding(crate::specs::Tables::TraitTable::name_checks), using(crate::proofs::NameFacts::named))]
+#[tactic(auto, unfolding(crate::specs::Tables::TraitTable::name_checks), using(crate::proofs::Records::NameFacts::named))]
 fn read_name(
     names: &mut Names,
     header: &ByteRecord,

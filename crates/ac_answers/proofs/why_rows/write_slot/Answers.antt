@@ -5,7 +5,7 @@ use Rattle.ac_cloud.specs.Cloud.CloudWorld.{providers_of}
 use Rattle.ac_query.specs.Shown.Queries.{asked_of}
 use Rattle.ac_rules.specs.Placed.{placed_at, slot_at}
 use Rattle.ac_answers.specs.WhyRows.{has_a_class, placed_row}
-use Rattle.ac_report.specs.Rows.{HasRows}
+use Rattle.ac_rows.specs.Rows.{HasRows}
 use Rattle.ac_answers.proofs.HostsWritten.{row_more, row_same}
 use Rattle.ac_answers.proofs.RowsWritten.{behind, hosts_that}
 use Rattle.ac_answers.proofs.why_rows.write_slot.Goals as goal

@@ -4,7 +4,7 @@ use Rattle.ac_cloud.specs.Cloud.CloudWorld.{providers_of}
 use Rattle.ac_query.specs.Asked.{slots_of}
 use Rattle.ac_query.specs.Shown.Queries.{asked_of}
 use Rattle.ac_answers.specs.WhyRows.{slot_rows}
-use Rattle.ac_report.specs.Rows.{HasRows}
+use Rattle.ac_rows.specs.Rows.{HasRows}
 use Rattle.ac_answers.proofs.RowsWritten.{place_more}
 use Rattle.ac_answers.proofs.why_rows.write_slots.Goals as goal
 

@@ -2,7 +2,7 @@
 ghost use Rattle.std.specs.Prelude.{◌≡◌, ◌++◌, ◌∷◌, ℕ, List, [], IfOk, map};
 ghost use Rattle.std.specs.List.{flat_map};
 ghost use Rattle.csv.specs.Writing.{default_writer, row_text};
-ghost use Rattle.ac_report.specs.Rows.{HasRows};
+ghost use Rattle.ac_rows.specs.Rows.{HasRows};
 
 use ac_base::NoMemory;
 use csv::Writer;
@@ -18,7 +18,7 @@ pub fn write_row(rows: &mut Writer<Vec<u8>>, fields: &[&[u8]]) -> Result<(), NoM
 }
 
 /// No row yet.
-pub(crate) fn no_rows(alloc: Global) -> Writer<Vec<u8>>
+pub fn no_rows(alloc: Global) -> Writer<Vec<u8>>
     ensures { HasRows result [] }
 {
     Writer::from_writer(Vec::new(alloc))

@@ -1,5 +1,5 @@
 use Rattle.std.proofs.Common.{refl}
-use Rattle.ac_report.proofs.rows.no_rows.Goals as goal
+use Rattle.ac_rows.proofs.rows.no_rows.Goals as goal
 
 pub returns : goal.returns
 returns c =

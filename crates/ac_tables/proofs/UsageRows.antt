@@ -1,0 +1,3 @@
+-- The table of usages, written and read back.
+pub mod Written
+pub mod Read
