@@ -2,13 +2,7 @@
 pub mod Apart
 use Rattle.std.specs.Prelude.{◌≡◌, ◌<◌, ⊤, ℕ, None, List, [], ◌∷◌, ◌++◌, All, false, true, codes, length}
 use Rattle.std.specs.List.{join_with_byte}
-use Rattle.std.specs.List.Sorted.{IsStrictlySortedBy}
-use Rattle.std.specs.Map.{keys_of, lookup}
-use Rattle.std.specs.Option.{unwrap_or}
-use Rattle.std.specs.Str.{bytes_eq}
-use Rattle.ac_base.specs.Texts.{text_cmp}
-use Rattle.ac_cloud.specs.Laws.{AreProviders}
-use Rattle.ac_cloud.specs.World.{Provider, World, id_at, provider_at, used_of}
+use Rattle.ac_cloud.specs.World.{Provider, World}
 use Rattle.ac_query.specs.Asked.{Asked as Query}
 use Rattle.ac_query.specs.declared.version.Version.{Version}
 use Rattle.ac_rules.specs.Judge.{is_candidate}
@@ -16,11 +10,9 @@ use Rattle.ac_run.specs.Answer.{past_query, written}
 use Rattle.ac_session.specs.Lines.{Given, behind_line, first_line, is_newline, newline}
 use Rattle.ac_session.specs.Questions.{Asked, Text, job, fill, claim, release, usages, nothing, unknown, wrong_number, is_blank, words_of}
 use Rattle.ac_session.specs.Turns.{answers, assignment_task, claim_line, claim_turn, lines_in, release_turn, turn_asked, turn_of}
-use Rattle.ac_session.specs.UsageRows.{usages_fit, usages_text}
-use Rattle.ac_tables.specs.Tables.{Tables, amounts_of, tables_fault, world_stated}
-use Rattle.ac_tables.specs.Tables.Checks.{Row}
+use Rattle.ac_tables.specs.Tables.{Tables, tables_fault, world_stated}
 use Rattle.ac_tables.specs.Tables.Rows.{records_of}
-use Rattle.ac_tables.specs.Tables.UsageTable.{usages_said}
+use Rattle.ac_tables.specs.UsageRows.{usages_fit, usages_text}
 
 -- no byte of a text is a blank
 abbrev pub LacksBlanks : Text → Type 0
@@ -61,20 +53,6 @@ abbrev pub ReleaseTurnUndoes : Type 0
 ReleaseTurnUndoes = (version : Version) (query token : Text) (world : World)
     → past_query (claim_line world.providers) (assignment_task version query token) ≡ written (codes "claimed\n") 0
     → release_turn version query token (claim_turn version query token world).world ≡ answers world (written (codes "released\n") 0)
-
--- how much of a class of a provider a table of usages states: nothing where no row is about it
-abbrev pub amount_stated : List Row → ℕ → List ℕ → ℕ
-amount_stated rows id class = unwrap_or (lookup (bytes_eq class) (amounts_of (usages_said rows) id)) 0
-
--- the classes of each provider stand in order, each once
-abbrev pub HaveClassesInOrder : List Provider → Type 0
-HaveClassesInOrder all = (ix : ℕ) → ix < length all → IsStrictlySortedBy text_cmp (keys_of (provider_at all ix).entries)
-
--- The table of usages that is written, read back, states of each class of each provider how much is used.
-abbrev pub UsagesReadBack : Type 0
-UsagesReadBack =
-    (all : List Provider) → AreProviders all → HaveClassesInOrder all → usages_fit all ≡ true
-    → (ix : ℕ) (class : List ℕ) → ix < length all → amount_stated (records_of (usages_text all)) (id_at all ix) class ≡ used_of (provider_at all ix) class
 
 -- the providers behind some lines
 abbrev pub providers_behind : Version → World → List Given → List Provider

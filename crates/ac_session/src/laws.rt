@@ -1,15 +1,10 @@
 //! Laws of the definitions. Each function does nothing: its contract is the law.
 ghost use Rattle.ac_session.specs.Laws.Apart.{AnswersApart, SessionsApart};
-ghost use Rattle.ac_session.specs.Laws.{AskingLeavesAll, ClaimTurnsNarrow, ReadsBack, ReleaseTurnUndoes, SessionsGoOn, UsagesReadBack};
+ghost use Rattle.ac_session.specs.Laws.{AskingLeavesAll, ClaimTurnsNarrow, ReadsBack, ReleaseTurnUndoes, SessionsGoOn};
 
 /// What is written as a line of words is read as these words, and what is written behind it is left.
 pub fn reads_back()
     ensures { ReadsBack }
-{}
-
-/// The table of usages that is written, read back, states how much is used of each class of each provider.
-pub fn usages_read_back()
-    ensures { UsagesReadBack }
 {}
 
 /// What is neither a claim nor a release leaves the world as it was.

@@ -23,8 +23,8 @@ use Rattle.ac_tables.specs.Tables.Names.{columns_needed, name_of}
 use Rattle.ac_tables.specs.Tables.UsageTable.{UsageRecord, amount_checks, is_usage, usage_checks, usage_columns, usage_field_checks, usage_row_checks, usage_said, used_checks}
 use Rattle.ac_tables.specs.Tables.Columns.{header_checks}
 use Rattle.ac_tables.specs.declared.fault.Table.TheVariants as table
-use Rattle.ac_session.specs.UsageRows.{Entry, fits_table, is_used, rows_of_provider, usage_row}
-use Rattle.ac_session.proofs.UsageRows.Read.{both, count_reads, row_says, said, said_of}
+use Rattle.ac_tables.specs.UsageRows.{Entry, fits_table, is_used, rows_of_provider, usage_row}
+use Rattle.ac_tables.proofs.UsageRows.Read.{both, count_reads, row_says, said, said_of}
 
 -- ---- one row
 

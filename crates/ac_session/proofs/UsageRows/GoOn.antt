@@ -26,13 +26,14 @@ use Rattle.ac_tables.specs.Tables.ProviderTable.{provider_checks}
 use Rattle.ac_tables.specs.Tables.Rows.{records_of}
 use Rattle.ac_tables.specs.Tables.TraitTable.{trait_checks}
 use Rattle.ac_tables.specs.Tables.UsageTable.{usage_checks, usage_columns, usages_said}
-use Rattle.ac_session.specs.Laws.{GoesOn, HaveClassesInOrder, SessionsGoOn, amount_stated, providers_behind, with_usages}
+use Rattle.ac_session.specs.Laws.{GoesOn, SessionsGoOn, providers_behind, with_usages}
+use Rattle.ac_tables.specs.Laws.{HaveClassesInOrder, amount_stated}
 use Rattle.ac_session.specs.Turns.{lines_in}
-use Rattle.ac_session.specs.UsageRows.{Entry, entries_fit, rows_of_provider, usages_fit, usages_text}
+use Rattle.ac_tables.specs.UsageRows.{Entry, entries_fit, rows_of_provider, usages_fit, usages_text}
 use Rattle.ac_session.proofs.UsageRows.Accepted.{AreAccepted, inventory_pair, classes_named, each_accepted, inventories_keyed, table_named}
 use Rattle.ac_session.proofs.UsageRows.Amounts.{AreStated, IsStated, gathered_stated, inventory_in, session_stated}
 use Rattle.ac_session.proofs.UsageRows.Checks.{AreApart, IsKnown, apart_of, table_passes}
-use Rattle.ac_session.proofs.UsageRows.Read.{both, records_are, usages_read_back}
+use Rattle.ac_tables.proofs.UsageRows.Read.{both, records_are, usages_read_back}
 
 -- ---- lists and places
 
