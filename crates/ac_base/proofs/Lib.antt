@@ -8,3 +8,6 @@ pub mod OldRatiosKept
 pub mod Gathers
 pub mod Small
 pub mod Sorted
+pub mod DecimalSteps
+pub mod PiecesWritten
+pub mod Pushed

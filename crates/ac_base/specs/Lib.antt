@@ -9,3 +9,6 @@ pub mod OldRatios
 pub mod Laws
 pub mod Gathered
 pub mod Sorted
+pub mod Rows
+pub mod Pieces
+pub mod Writing

@@ -5,8 +5,8 @@ ghost use Rattle.ac_base.specs.Devices.{PullGives, PushTakes, breaks_after_pull,
 pub mod from_read;
 pub mod mem_feed;
 pub mod mem_sink;
-pub mod pushing;
 pub mod to_write;
+pub mod whole_push;
 
 /// How many interrupted calls of a device in a row are borne.
 pub const MOST_AGAIN: u32 = 1000;

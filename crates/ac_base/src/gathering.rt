@@ -4,7 +4,7 @@ ghost use Rattle.std.specs.Io.KnownBytes.{Appends, Keeps};
 ghost use Rattle.ac_base.specs.Devices.{IsGivenUp, Rises, breaks_after_push, failures_after_push};
 ghost use Rattle.ac_base.specs.Gathered.{HandsOn, IsFirstPart, gathered};
 
-use crate::device::pushing::{WriteFailed, push_all};
+use crate::device::whole_push::{WriteFailed, push_all};
 use crate::device::{Push, Sink};
 
 /// A sink that gathers what it takes in a room, and hands it on to another sink when the room is full. What it has taken

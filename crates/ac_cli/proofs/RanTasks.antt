@@ -5,7 +5,7 @@ use Rattle.ac_detail.specs.Details.{Paths}
 use Rattle.ac_query.specs.declared.version.Version.{Version}
 use Rattle.ac_run.specs.Answer.{Outcome, Task}
 use Rattle.ac_run.specs.Feeds.{Bytes}
-use Rattle.ac_query.specs.declared.job.Command.{Command}
+use Rattle.ac_run.specs.declared.job.Command.{Command}
 use Rattle.ac_tables.specs.declared.fault.Table.{Table}
 use Rattle.ac_tables.specs.declared.read.FiveTables.{FiveTables}
 use Rattle.ac_session.specs.Sessions.{detailed_session, session_answer}

@@ -17,9 +17,9 @@ use Rattle.ac_run.specs.Answer.{Outcome, Task, answer}
 use Rattle.ac_run.specs.Feeds.{Bytes, FeedRose, TellBytes}
 use Rattle.ac_run.specs.Lines.{memory_line, output_line, unreadable_line}
 use Rattle.ac_run.specs.Run.{FailsOr, IsAnswered, IsRefused, IsUnread}
-use Rattle.ac_answers.specs.Writing.{TakesLine}
-use Rattle.ac_query.specs.declared.job.Command.{Command}
-use Rattle.ac_query.specs.declared.job.Command.TheVariants.{Check, Tokens}
+use Rattle.ac_base.specs.Writing.{TakesLine}
+use Rattle.ac_run.specs.declared.job.Command.{Command}
+use Rattle.ac_run.specs.declared.job.Command.TheVariants.{Check, Tokens}
 use Rattle.ac_session.specs.Lines.{most_passed}
 use Rattle.ac_session.specs.Sessions.{AreUnread, detailed_session, session_answer}
 use Rattle.ac_tables.specs.declared.read.FiveTables.{FiveTables}

@@ -3,9 +3,9 @@ ghost use Rattle.std.specs.Prelude.{◌≡◌, ◌≤◌, [], is_some, map, opti
 ghost use Rattle.std.specs.Option.{unwrap_or};
 ghost use Rattle.std.specs.Io.KnownBytes.{Appends};
 ghost use Rattle.ac_base.specs.Devices.{Rises, TakesPart};
-ghost use Rattle.ac_query.specs.Jobs.{HasToken};
+ghost use Rattle.ac_run.specs.Jobs.{HasToken};
 ghost use Rattle.ac_run.specs.Jobs.{task_of};
-ghost use Rattle.ac_answers.specs.Writing.{TakesLine};
+ghost use Rattle.ac_base.specs.Writing.{TakesLine};
 ghost use Rattle.ac_words.specs.Words.{HasItsToken, path_of};
 ghost use Rattle.ac_cli.specs.Program.{ArePathsOf, EndsForLine, EndsForWords, EndsProgram, HeldSession, IsShown, IsToldUnopened, RanInDetail, RanJob, RanSample, RanTask, note_of, seen};
 

@@ -6,8 +6,8 @@ pub mod build;
 pub mod entry;
 mod kept_lists;
 mod lookups;
-pub mod naming;
 pub mod provider_index;
+pub mod provider_name;
 pub mod roots;
 mod roots_by_aggregate;
 

@@ -9,8 +9,8 @@ pub mod lists;
 pub mod provider;
 
 pub use cloud::entry::Entry;
-pub use cloud::naming::HostFault;
 pub use cloud::provider_index::{Expected, Ids};
+pub use cloud::provider_name::HostFault;
 pub use cloud::{Cloud, Counts};
 pub use lists::Lists;
 pub use provider::Provider;

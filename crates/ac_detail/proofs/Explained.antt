@@ -2,7 +2,7 @@
 use Rattle.std.proofs.Common.{◌≡◌, ◌∙◌, ℕ, ◌≤◌, List, ◌++◌, Option, Some, None, append-nil, refl, sym, ap, subst, arith}
 use Rattle.std.specs.Global.{Vec}
 use Rattle.std.specs.Prelude.{IfOk, Result, Ok, Err}
-use Rattle.ac_answers.specs.Writing.{TakesLine}
+use Rattle.ac_base.specs.Writing.{TakesLine}
 use Rattle.ac_cloud.specs.World.{World}
 use Rattle.ac_detail.proofs.InDetail.{as_it_is, is_refused, is_told, refused_with, same_output}
 use Rattle.ac_detail.specs.Details.{Paths, asked_text, detail_of, detailed_answer, fault_text, size_text, tables_text, with_detail}

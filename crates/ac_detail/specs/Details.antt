@@ -3,7 +3,7 @@ use denote.Ref.{Bor}
 use Rattle.std.specs.Prelude.{ℕ, nat_lt, List, [], ◌++◌, Option, Some, None, Result, Ok, Err, if◌then◌else◌}
 use Rattle.std.specs.Option.{option_map, unwrap_or}
 use Rattle.ac_cloud.specs.World.{Provider}
-use Rattle.ac_cloud.specs.declared.cloud.naming.HostFault.{HostFault}
+use Rattle.ac_cloud.specs.declared.cloud.provider_name.HostFault.{HostFault}
 use Rattle.ac_query.specs.Asked.{Asked}
 use Rattle.ac_query.specs.Faults.{query_fault}
 use Rattle.ac_query.specs.Laws.Gathered.{asked_by}

@@ -1,7 +1,7 @@
 -- What a run in detail says where it ended.
 use Rattle.std.specs.Prelude.{◌≡◌, ℕ, List, [], ◌++◌, Option, Result, Ok, Err}
 use Rattle.std.specs.Global.{Vec}
-use Rattle.ac_answers.specs.Writing.{TakesLine}
+use Rattle.ac_base.specs.Writing.{TakesLine}
 use Rattle.ac_detail.specs.Details.{Paths, asked_text, fault_text, size_text, tables_text, unread_lines, unread_text}
 use Rattle.ac_detail.specs.declared.refused.Refused.{Refused}
 use Rattle.ac_cloud.specs.World.{Provider}

@@ -7,9 +7,9 @@ ghost use Rattle.ac_detail.specs.Run.{refused_text};
 ghost use Rattle.ac_query.specs.Shown.Queries.{asked_of};
 ghost use Rattle.ac_run.specs.Jobs.{task_of};
 
-use ac_query::{Job, Query, QueryFault, Token, TokenFault};
+use ac_query::{Query, QueryFault, Token, TokenFault};
 use ac_remedies::{host_remedy, query_remedy, token_remedy};
-use ac_run::Refusal;
+use ac_run::{Job, Refusal};
 use ac_tables::Cloud;
 use std::alloc::{AllocError, Global};
 

@@ -1,6 +1,6 @@
 //! A refusal with what stands behind its line.
 ghost use Rattle.std.specs.Prelude.{◌≡◌, ◌≤◌, ◌++◌};
-ghost use Rattle.ac_answers.specs.Writing.{Pushes, TakesLine};
+ghost use Rattle.ac_base.specs.Writing.{Pushes, TakesLine};
 ghost use Rattle.ac_detail.specs.Run.{IsRefusalWith};
 ghost use Rattle.ac_run.specs.Refusals.{line_of, status_of};
 

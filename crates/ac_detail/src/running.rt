@@ -1,13 +1,13 @@
 //! A run whose refusals have what is to be done behind their lines.
 ghost use Rattle.std.specs.Prelude.{◌≡◌, ◌≢◌, ◌≤◌, ◌∷◌, [], Contains, IfErr, IfOk, Option, option_map};
 ghost use Rattle.std.specs.Io.KnownBytes.{Keeps, append_known};
-ghost use Rattle.ac_answers.specs.Writing.{TakesLine};
+ghost use Rattle.ac_base.specs.Writing.{TakesLine};
 ghost use Rattle.ac_base.specs.Devices.{Rises};
 ghost use Rattle.ac_base.specs.Gathered.{IsFirstPart};
 ghost use Rattle.ac_cloud.specs.Cloud.CloudWorld.{providers_of, world_of};
 ghost use Rattle.ac_detail.specs.Details.{detailed_answer};
 ghost use Rattle.ac_detail.specs.Run.{ExplainsInDetail, IsUnreadInDetail};
-ghost use Rattle.ac_query.specs.Jobs.{HasToken};
+ghost use Rattle.ac_run.specs.Jobs.{HasToken};
 ghost use Rattle.ac_run.specs.Answer.{answer};
 ghost use Rattle.ac_run.specs.Asking.{AsksUnits, HasHost, HasIdForEachSlot, answer_to};
 ghost use Rattle.ac_run.specs.Feeds.{Bytes, FeedRose, TellBytes};
@@ -20,9 +20,8 @@ use crate::asked::asked_detail;
 use crate::inputs::read_inputs_detailed;
 use crate::refused::{Paths, Refused, tell_detailed};
 use ac_base::{Feed, Sink};
-use ac_query::Job;
 use ac_report::PageFault;
-use ac_run::{Inputs, Refusal, Wanted, read_wanted, tell, write_gathered};
+use ac_run::{Inputs, Job, Refusal, Wanted, read_wanted, tell, write_gathered};
 use ac_tables::Cloud;
 use std::alloc::Global;
 

@@ -11,8 +11,8 @@ use Rattle.ac_cloud.specs.World.{Provider, provider_at, id_at, parent_of, used_o
 use Rattle.ac_rules.specs.Placed.{Placed, slot_at, placed_at}
 use Rattle.ac_rules.specs.Own.{inventory_of, units_fit, traits_fit, fits}
 use Rattle.ac_rules.specs.Together.{amount_of, is_empty}
-use Rattle.ac_differences.specs.declared.differing.Difference.{Difference}
-use Rattle.ac_differences.specs.declared.differing.Difference.TheVariants as difference
+use Rattle.ac_differences.specs.declared.differences.Difference.{Difference}
+use Rattle.ac_differences.specs.declared.differences.Difference.TheVariants as difference
 
 -- ---- Groups
 

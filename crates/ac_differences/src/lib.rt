@@ -3,6 +3,6 @@
 //! It stands on the rules alone, and searches nothing.
 #![tactic(auto)]
 
-pub mod differing;
+pub mod differences;
 
-pub use differing::{Difference, all_differences, applies};
+pub use differences::{Difference, all_differences, applies};

@@ -27,7 +27,7 @@ use Rattle.ac_rules.proofs.Lists.RestLemmas.{IsChosen}
 use Rattle.ac_fill.specs.Ends.{Ends, PlacesAll, Stand, placements_at}
 use Rattle.ac_fill.specs.Filled.{after}
 use Rattle.ac_fill.specs.Shown.{asked_in, count_in, taken_in, with_taken, IsSame, IsTakenOf, SumsFit}
-use Rattle.ac_fill.specs.declared.filling.Filled.{Filled}
+use Rattle.ac_fill.specs.declared.placements.Filled.{Filled}
 use Rattle.ac_fill.specs.declared.takings.Takings.{Takings}
 use Rattle.ac_fill.proofs.Taken.{taken_claims}
 

@@ -10,8 +10,8 @@ use Rattle.ac_rules.specs.Judge.{is_candidate}
 use Rattle.ac_rules.specs.Pages.{candidates}
 use Rattle.ac_fill.specs.Filled.{after, filled}
 use Rattle.ac_fill.specs.Shown.{with_taken, IsTakenOf}
-use Rattle.ac_fill.specs.declared.filling.Filled.{Filled}
-use Rattle.ac_fill.specs.declared.filling.Filling.{Filling}
+use Rattle.ac_fill.specs.declared.placements.Filled.{Filled}
+use Rattle.ac_fill.specs.declared.placements.Filling.{Filling}
 use Rattle.ac_fill.specs.declared.takings.Takings.{Takings}
 
 -- all candidates are among some lists, in their order

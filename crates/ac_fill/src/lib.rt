@@ -4,12 +4,12 @@
 #![tactic(auto)]
 
 pub mod bound;
-pub mod counting;
-pub mod filling;
+pub mod count;
 pub mod laws;
+pub mod placements;
 pub mod takings;
 
 pub use bound::most_placed;
-pub use counting::count_filled;
-pub use filling::{Filled, write_filled};
+pub use count::count_filled;
+pub use placements::{Filled, write_filled};
 pub use takings::Takings;

@@ -2,6 +2,7 @@ pub mod Search
 pub mod QuerySearch
 pub mod Left
 pub mod Marks
+pub mod Fitting
 pub mod Trees
 pub mod Ahead
 pub mod Loads

@@ -9,4 +9,3 @@ pub mod Gathering
 pub mod Drafts
 pub mod Fits
 pub mod Ordered
-pub mod Named

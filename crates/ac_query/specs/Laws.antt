@@ -1,7 +1,6 @@
 -- Laws of the definitions.
 pub mod Gathered
 pub mod InOrder
-pub mod Named
 use Rattle.std.specs.Prelude.{◌≡◌, ℕ, ◌^◌, ◌<◌, List, [], ◌∷◌, Some, None}
 use Rattle.std.specs.List.{AllByRecursion, slice_get}
 use Rattle.std.specs.Option.{option_and_then, option_map}

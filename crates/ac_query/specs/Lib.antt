@@ -8,4 +8,3 @@ pub mod Faults
 pub mod Shown
 pub mod Tokens
 pub mod Laws
-pub mod Jobs

@@ -1,6 +1,5 @@
 //! Laws of the definitions. Each function does nothing: its contract is the law.
 ghost use Rattle.ac_query.specs.Laws.InOrder.{QueryInOrder};
-ghost use Rattle.ac_query.specs.Laws.Named.{QueryAsksByName};
 ghost use Rattle.ac_query.specs.Laws.{AsksOnce, ListsMean, OrderHolds, SlotsNameGroups, TokenReads};
 
 /// Where no pair has a fault, exactly one record is what the pairs ask for, and it is the one that is gathered.
@@ -35,10 +34,4 @@ pub fn slots_name_groups()
 #[tactic(auto, using(crate::proofs::Pairs::Ordered::query_in_order))]
 pub fn query_in_order()
     ensures { QueryInOrder }
-{}
-
-/// Each class and each trait that pairs ask for is a name, and each suffix is one.
-#[tactic(auto, using(crate::proofs::Pairs::Named::query_asks_by_name))]
-pub fn query_asks_by_name()
-    ensures { QueryAsksByName }
 {}

@@ -5,7 +5,6 @@
 
 pub mod fault;
 pub mod group;
-pub mod job;
 pub mod laws;
 pub mod query;
 mod reading;
@@ -16,7 +15,6 @@ pub mod write;
 
 pub use fault::QueryFault;
 pub use group::{AggregateRule, AnyOf, Group, Need};
-pub use job::{Command, Job};
 pub use query::Query;
 pub use slot::Slot;
 pub use token::{Token, TokenFault};

@@ -1,5 +1,6 @@
 //! The words of a command line, read by themselves.
-use ac_query::{Command, Job, Version};
+use ac_query::Version;
+use ac_run::{Command, Job};
 use ac_tables::Table;
 use ac_words::{WordFault, read_words};
 use std::alloc::{AllocError, Global};

@@ -5,8 +5,8 @@ pub mod Wanted
 use Rattle.std.specs.Prelude.{ℕ, ◌-◌, List, [], ◌∷◌, ◌++◌, codes, length, Option, Some, None}
 use Rattle.std.specs.Fmt.{decimal}
 use Rattle.std.specs.List.{flat_map, slice_get}
-use Rattle.ac_cloud.specs.declared.cloud.naming.HostFault.{HostFault}
-use Rattle.ac_cloud.specs.declared.cloud.naming.HostFault.TheVariants as host
+use Rattle.ac_cloud.specs.declared.cloud.provider_name.HostFault.{HostFault}
+use Rattle.ac_cloud.specs.declared.cloud.provider_name.HostFault.TheVariants as host
 use Rattle.ac_query.specs.declared.token.TokenFault.{TokenFault}
 use Rattle.ac_query.specs.declared.token.TokenFault.TheVariants as token
 use Rattle.ac_query.specs.declared.version.Version.{Version}

@@ -5,3 +5,4 @@ pub mod SlotLemmas
 pub mod Differing
 pub mod Assigning
 pub mod NameBytes
+pub mod Findings

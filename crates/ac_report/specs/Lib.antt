@@ -8,3 +8,4 @@ pub mod Requests
 pub mod Outcomes
 pub mod Names
 pub mod ListRows
+pub mod Findings

@@ -1,9 +1,11 @@
-//! What is written of a search: the JSON body of a page of candidates, its tokens, and its rows.
+//! Every text of an answer: the JSON body of a page of candidates, its tokens and its rows, explanations, and rows of hosts.
 //!
-//! It knows nothing of where candidates come from.
+//! It knows nothing of jobs and feeds, of what ends a run, or of the lines of faults.
 #![tactic(auto)]
 
+mod amounts;
 pub mod fault;
+pub mod findings;
 mod ids;
 pub mod laws;
 pub mod lines;
@@ -11,7 +13,6 @@ pub mod list_rows;
 pub mod names;
 pub mod page;
 pub mod request;
-mod serving;
 pub mod summary;
 
 pub use fault::PageFault;

@@ -1,7 +1,7 @@
 //! The allocation request of a candidate, as JSON.
 
 mod parts;
-mod sending;
+mod serialize;
 
 ghost use Rattle.std.specs.Prelude.{◌≡◌, IfOk, string_bytes};
 ghost use Rattle.ac_query.specs.Laws.InOrder.{group_name};
@@ -14,7 +14,7 @@ ghost use Rattle.ac_report.specs.Requests.{allocations_tree, mappings_tree};
 ghost use Rattle.ac_report.specs.Trees.{allocations, mappings};
 ghost use Rattle.ac_report.specs.Texts.{request_text};
 
-use crate::serving::{all_hosts, classes_on, hosts_of};
+use crate::amounts::{all_hosts, classes_on, hosts_of};
 use ac_base::NoMemory;
 use ac_cloud::Cloud;
 use ac_query::{Group, Query};

@@ -14,7 +14,7 @@ ghost use Rattle.ac_rules.specs.Shown.Changes.{used_after, changed, asked_of_one
 ghost use Rattle.ac_rules.specs.declared.verdict.Verdict.TheVariants.{Candidate};
 
 use crate::assignment::Assignment;
-use crate::judging::verify;
+use crate::judge::verify;
 use crate::slots::needs_at;
 use crate::verdict::Verdict;
 use ac_base::Inventory;

@@ -7,7 +7,7 @@
 pub mod assignment;
 pub mod claims;
 pub mod classes;
-pub mod judging;
+pub mod judge;
 pub mod laws;
 pub mod located;
 pub mod plain;
@@ -19,7 +19,7 @@ pub mod verdict;
 pub use assignment::{Assignment, Placed};
 pub use claims::{claim, release};
 pub use classes::{all_classes, number_of};
-pub use judging::verify;
+pub use judge::verify;
 pub use located::InCloud;
 pub use plain::Plain;
 pub use source::Source;

@@ -15,7 +15,7 @@ mod after;
 mod lists;
 mod odometer;
 
-use crate::judging::is_candidate;
+use crate::judge::is_candidate;
 use crate::plain::after::is_after;
 use crate::plain::lists::AllLists;
 use crate::slots::count_slots;

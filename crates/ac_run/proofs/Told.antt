@@ -6,7 +6,7 @@ use Rattle.ac_run.specs.Answer.{Task, answer, refused}
 use Rattle.ac_run.specs.Feeds.{Bytes, FeedRose, TellBytes}
 use Rattle.ac_run.specs.Refusals.{line_of, status_of}
 use Rattle.ac_run.specs.Run.{ExplainsUnready, FailsOr, IsRefused, IsUnread}
-use Rattle.ac_answers.specs.Writing.{TakesLine}
+use Rattle.ac_base.specs.Writing.{TakesLine}
 use Rattle.ac_tables.specs.declared.read.FiveTables.{FiveTables}
 use Rattle.ac_run.specs.declared.refusal.Refusal.{Refusal}
 use Rattle.ac_run.specs.declared.refusal.Refusal.TheVariants as why

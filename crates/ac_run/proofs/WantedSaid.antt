@@ -8,7 +8,7 @@ use Rattle.ac_run.specs.Asking.{ExplainsHost}
 use Rattle.ac_run.specs.Jobs.{ExplainsAsked, ExplainsWanted}
 use Rattle.ac_run.specs.declared.refusal.Refusal.{Refusal}
 use Rattle.ac_run.specs.declared.refusal.Refusal.TheVariants as why
-use Rattle.ac_query.specs.declared.job.Command.TheVariants as command
+use Rattle.ac_run.specs.declared.job.Command.TheVariants as command
 
 module _ (task : Task) (world : World) where
   -- the command says this of what is asked

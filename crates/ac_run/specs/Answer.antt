@@ -8,7 +8,7 @@ use Rattle.ac_tables.specs.Tables.UsageTable.{usage_columns}
 use Rattle.ac_tables.specs.Tables.{Tables, records_or_header, tables_fault, world_stated}
 use Rattle.ac_cloud.specs.World.{World, Provider}
 use Rattle.ac_cloud.specs.Cloud.Hosts.{host_of}
-use Rattle.ac_cloud.specs.declared.cloud.naming.HostFault.{HostFault}
+use Rattle.ac_cloud.specs.declared.cloud.provider_name.HostFault.{HostFault}
 use Rattle.ac_tables.specs.declared.fault.TableFault.{TableFault}
 use Rattle.ac_tables.specs.declared.fault.TableFault.TheVariants as fault
 use Rattle.ac_query.specs.declared.version.Version.{Version}
@@ -22,20 +22,20 @@ use Rattle.ac_query.specs.Pairs.Values.{ids_value}
 use Rattle.ac_query.specs.declared.token.TokenFault.{TokenFault}
 use Rattle.ac_rules.specs.Judge.{judge}
 use Rattle.ac_rules.specs.Pages.{page}
-use Rattle.ac_search.specs.Hosts.{fits_at, fitting}
+use Rattle.ac_prune.specs.Fitting.{fits_at, fitting}
 use Rattle.ac_report.specs.ListRows.{list_text}
 use Rattle.ac_report.specs.Texts.{body, lines, shown_providers}
 use Rattle.ac_fill.specs.Bounds.{most_placed}
 use Rattle.ac_fill.specs.Filled.{filled}
 use Rattle.ac_run.specs.Outputs.{counted, counts, detailed_text, fill_status, sum_text, verdict_status, verdict_text}
-use Rattle.ac_answers.specs.Explanation.{explanation_status, explanation_text}
-use Rattle.ac_answers.specs.Explanation.Candidates.{has_candidate}
-use Rattle.ac_answers.specs.HostRows.{hosts_status, hosts_text}
-use Rattle.ac_answers.specs.WhyRows.{root_place, why_status, why_text}
+use Rattle.ac_report.specs.Findings.Explanation.{explanation_status, explanation_text}
+use Rattle.ac_report.specs.Findings.Explanation.Candidates.{has_candidate}
+use Rattle.ac_report.specs.Findings.HostRows.{hosts_status, hosts_text}
+use Rattle.ac_report.specs.Findings.WhyRows.{root_place, why_status, why_text}
 use Rattle.ac_run.specs.Feeds.{Bytes, too_large}
 use Rattle.ac_run.specs.Lines.{too_large_line, record_line, query_line, token_line, host_line, memory_line}
-use Rattle.ac_query.specs.declared.job.Command.{Command}
-use Rattle.ac_query.specs.declared.job.Command.TheVariants as command
+use Rattle.ac_run.specs.declared.job.Command.{Command}
+use Rattle.ac_run.specs.declared.job.Command.TheVariants as command
 
 -- what is asked: the query, the version that reads it, perhaps a token or a host, whether it is said of what a rule is broken, whether traits are
 -- written, and whether the number of placements stands in place of their tokens

@@ -2,7 +2,7 @@
 use Rattle.std.specs.Prelude.{◌≡◌, ◌<◌, ℕ, true, List, length, Option, Some, None, Result, Err, ⊤}
 use Rattle.std.specs.Option.{option_map}
 use Rattle.ac_cloud.specs.World.{Provider, World}
-use Rattle.ac_cloud.specs.declared.cloud.naming.HostFault.{HostFault}
+use Rattle.ac_cloud.specs.declared.cloud.provider_name.HostFault.{HostFault}
 use Rattle.ac_query.specs.Asked.{slots_of}
 use Rattle.ac_query.specs.Faults.{Fault}
 use Rattle.ac_query.specs.Shown.Faults.{fault_shown}

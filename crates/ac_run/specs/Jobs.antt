@@ -1,12 +1,19 @@
 -- Jobs as tasks, and why what they ask is refused.
-use Rattle.std.specs.Prelude.{◌≡◌, ⊤}
+use Rattle.std.specs.Prelude.{◌≡◌, ⊤, ℕ, List, Option, true, is_some}
 use Rattle.std.specs.Option.{option_map}
 use Rattle.ac_cloud.specs.World.{World}
 use Rattle.ac_run.specs.Answer.{Says, Task, answer_in, past_query, refused}
 use Rattle.ac_run.specs.Refusals.{line_of}
 use Rattle.ac_run.specs.declared.refusal.Refusal.{Refusal}
 use Rattle.ac_run.specs.declared.refusal.Refusal.TheVariants as why
-use Rattle.ac_query.specs.declared.job.Job.{Job}
+use Rattle.ac_run.specs.declared.job.Command.{Command}
+use Rattle.ac_run.specs.declared.job.Command.TheVariants.{Verify}
+use Rattle.ac_run.specs.declared.job.Job.{Job}
+
+-- a token is there to be judged
+abbrev pub HasToken : Command → Option (List ℕ) → Type 0
+HasToken Verify token = is_some token ≡ true
+HasToken _ token = ⊤
 
 abbrev pub task_of : Job → Task
 task_of job = record { command = job.command; query = job.query.now; version = job.version; token = option_map (λ token. token.now) job.token; host = option_map (λ host. host.now) job.host; detail = job.detail; traits = job.traits; sum = job.sum }

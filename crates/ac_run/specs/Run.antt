@@ -13,7 +13,7 @@ use Rattle.ac_run.specs.Answer.{Outcome, Task, answer, refused, tables_in}
 use Rattle.ac_run.specs.Feeds.{Bytes, TellBytes, FeedRose, too_large}
 use Rattle.ac_run.specs.Lines.{unreadable_line}
 use Rattle.ac_run.specs.Refusals.{line_of}
-use Rattle.ac_answers.specs.Writing.{TakesLine}
+use Rattle.ac_base.specs.Writing.{TakesLine}
 use Rattle.ac_tables.specs.declared.read.FiveTables.{FiveTables}
 use Rattle.ac_run.specs.declared.refusal.Refusal.{Refusal}
 use Rattle.ac_run.specs.declared.refusal.Refusal.TheVariants as why

@@ -20,16 +20,16 @@ ghost use Rattle.ac_run.specs.Run.{Delivers, IsWritten};
 use crate::asking::Wanted;
 use crate::filling::write_fill;
 use crate::outputs::{detailed_line, push_counts, push_text, push_verdict, verdict_status};
-use ac_answers::{
+use ac_base::{NoMemory, Sink};
+use ac_find::broken_detail;
+use ac_query::{Query, Token};
+use ac_report::findings::{
     Question, explanation_status, find_without, has_candidate, hosts_status, hosts_text,
     push_explanation, push_reasons, root_place, why_at,
 };
-use ac_base::{NoMemory, Sink};
-use ac_explain::broken_detail;
-use ac_query::{Query, Token};
 use ac_report::{PageFault, write_list, write_shown_page, write_tokens};
 use ac_rules::{Assignment, InCloud, Rule, Verdict, verify};
-use ac_search::{Source, Walk, all_slots, find_lacks, fitting_roots, tree_counts};
+use ac_search::{Source, Walk, fitting_roots};
 use ac_tables::Cloud;
 use std::alloc::Global;
 
@@ -204,7 +204,7 @@ fn write_verdict<W: Sink>(
 }
 
 // How far a query comes, whether it has a candidate, or would have one without one thing, and where the service may answer otherwise.
-#[tactic(auto, using(crate::proofs::Delivering::refused, ac_base::proofs::Leaving::appends_both, ac_base::proofs::Leaving::part_of_first, ac_base::proofs::Leaving::part_of_second), unfolding(ac_answers::specs::Explanation::explanation_text))]
+#[tactic(auto, using(crate::proofs::Delivering::refused, ac_base::proofs::Leaving::appends_both, ac_base::proofs::Leaving::part_of_first, ac_base::proofs::Leaving::part_of_second), unfolding(ac_report::specs::Findings::Explanation::explanation_text))]
 fn write_explanation<W: Sink>(
     alloc: Global,
     cloud: &Cloud,

@@ -4,7 +4,7 @@ ghost use Rattle.std.specs.Prelude.{true, ◌≡◌, IfOk, IfErr, IfSome, Ok, On
 ghost use Rattle.std.specs.Option.{option_map};
 ghost use Rattle.ac_query.specs.Asked.{slots_of};
 ghost use Rattle.ac_query.specs.Faults.{query_fault};
-ghost use Rattle.ac_query.specs.Jobs.{HasToken};
+ghost use Rattle.ac_run.specs.Jobs.{HasToken};
 ghost use Rattle.ac_query.specs.Laws.Gathered.{asked_by};
 ghost use Rattle.ac_query.specs.Pairs.{pairs_of};
 ghost use Rattle.ac_query.specs.Shown.Queries.{asked_of};
@@ -15,10 +15,11 @@ ghost use Rattle.ac_run.specs.Answer.{Says, answer_in, host_found, ids_given, pa
 ghost use Rattle.ac_run.specs.Asking.{AsksUnits, ExplainsHost, ExplainsQuery, ExplainsToken, HasHost, HasIdForEachSlot, IsRefusalOf, answer_to};
 ghost use Rattle.ac_run.specs.Jobs.{ExplainsAsked, ExplainsWanted, task_of};
 
+use crate::job::{Command, Job};
 use crate::refusal::Refusal;
-use ac_answers::Question;
 use ac_base::NoMemory;
-use ac_query::{Command, Job, Query, QueryFault, Token, TokenFault, Version};
+use ac_query::{Query, QueryFault, Token, TokenFault, Version};
+use ac_report::findings::Question;
 use ac_tables::Cloud;
 use std::alloc::Global;
 

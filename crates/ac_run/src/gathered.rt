@@ -3,7 +3,7 @@ ghost use Rattle.std.specs.Prelude.{◌≡◌, ◌≢◌, ◌≤◌, Option, opt
 ghost use Rattle.std.specs.Io.KnownBytes.{Keeps, append_known};
 ghost use Rattle.ac_base.specs.Devices.{Rises};
 ghost use Rattle.ac_base.specs.Gathered.{IsFirstPart};
-ghost use Rattle.ac_query.specs.Jobs.{HasToken};
+ghost use Rattle.ac_run.specs.Jobs.{HasToken};
 ghost use Rattle.ac_tables.specs.declared.fault.Table.{Table};
 ghost use Rattle.ac_run.specs.Answer.{answer};
 ghost use Rattle.ac_run.specs.Feeds.{Bytes, FeedRose, TellBytes};
@@ -13,16 +13,16 @@ ghost use Rattle.ac_cloud.specs.Cloud.CloudWorld.{providers_of, world_of};
 ghost use Rattle.ac_report.specs.declared.fault.PageFault.TheVariants as PageFault;
 ghost use Rattle.ac_run.specs.Asking.{AsksUnits, HasHost, HasIdForEachSlot, answer_to};
 ghost use Rattle.ac_run.specs.Run.{FailsOr, IsAnswered, IsRefused, IsTold, IsUnread, IsWritten};
-ghost use Rattle.ac_answers.specs.Writing.{TakesLine};
+ghost use Rattle.ac_base.specs.Writing.{TakesLine};
 
 use crate::answering::write_answer;
 use crate::asking::Wanted;
 use crate::draining::Inputs;
+use crate::job::Job;
 use crate::ready::make_ready;
 use crate::refusal::Refusal;
 use crate::telling::tell;
 use ac_base::{Feed, Gathering, Sink};
-use ac_query::Job;
 use ac_report::PageFault;
 use ac_tables::Cloud;
 use std::alloc::Global;

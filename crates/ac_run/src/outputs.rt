@@ -2,13 +2,12 @@
 ghost use Rattle.std.specs.Prelude.{◌≡◌, ◌≤◌, ◌∷◌, [], IfOk, codes, string_bytes};
 ghost use Rattle.ac_cloud.specs.Cloud.CloudWorld.{sizes_of};
 ghost use Rattle.ac_run.specs.Outputs.{broken_line, broken_name, counts, verdict_status, verdict_text};
-ghost use Rattle.ac_answers.specs.Pieces.{newline, said};
-ghost use Rattle.ac_answers.specs.Writing.{Pushes};
+ghost use Rattle.ac_base.specs.Pieces.{newline, said};
+ghost use Rattle.ac_base.specs.Writing.{Pushes};
 ghost use Rattle.ac_run.specs.Answer.{written};
 ghost use Rattle.ac_run.specs.Run.{Delivers};
 
-use ac_answers::{Digits, push_pieces};
-use ac_base::{NoMemory, Sink, WriteFailed, push_all};
+use ac_base::{Digits, NoMemory, Sink, WriteFailed, push_all, push_pieces};
 use ac_report::PageFault;
 use ac_rules::{Rule, Verdict};
 use ac_tables::Counts;

@@ -1,7 +1,7 @@
 //! What a run has before the first byte of output: the cloud that the tables state, and what is wanted of it.
 ghost use Rattle.std.specs.Prelude.{◌≡◌, IfOk, IfErr, OnOk, None};
 ghost use Rattle.std.specs.Option.{option_map};
-ghost use Rattle.ac_query.specs.Jobs.{HasToken};
+ghost use Rattle.ac_run.specs.Jobs.{HasToken};
 ghost use Rattle.ac_tables.specs.Source.{AreFew, tables_of};
 ghost use Rattle.ac_tables.specs.Tables.{tables_fault, world_stated};
 ghost use Rattle.ac_cloud.specs.Cloud.CloudWorld.{providers_of, world_of};
@@ -14,9 +14,9 @@ ghost use Rattle.ac_run.specs.Run.{ExplainsInputs, ExplainsTables, ExplainsUnrea
 
 use crate::asking::{Wanted, read_wanted};
 use crate::draining::{Inputs, Texts, read_tables};
+use crate::job::Job;
 use crate::refusal::Refusal;
 use ac_base::Feed;
-use ac_query::Job;
 use ac_tables::{Cloud, FromTables, Sources, TableFault};
 use std::alloc::Global;
 

@@ -2,22 +2,22 @@
 ghost use Rattle.std.specs.Prelude.{◌≡◌, ◌≢◌, ◌≤◌, Option, option_map, ◌∷◌, [], Contains};
 ghost use Rattle.std.specs.Io.KnownBytes.{Keeps};
 ghost use Rattle.ac_base.specs.Devices.{Rises, TakesPart};
-ghost use Rattle.ac_query.specs.Jobs.{HasToken};
+ghost use Rattle.ac_run.specs.Jobs.{HasToken};
 ghost use Rattle.ac_tables.specs.declared.fault.Table.{Table};
 ghost use Rattle.ac_run.specs.Answer.{answer};
 ghost use Rattle.ac_run.specs.Feeds.{Bytes, FeedRose, TellBytes};
 ghost use Rattle.ac_run.specs.Jobs.{task_of};
 ghost use Rattle.ac_run.specs.Lines.{memory_line, output_line};
 ghost use Rattle.ac_run.specs.Run.{FailsOr, IsAnswered, IsRefused, IsUnread};
-ghost use Rattle.ac_answers.specs.Writing.{TakesLine};
+ghost use Rattle.ac_base.specs.Writing.{TakesLine};
 
 use crate::answering::write_answer;
 use crate::draining::Inputs;
+use crate::job::Job;
 use crate::ready::make_ready;
 use crate::refusal::Refusal;
 use crate::telling::tell;
 use ac_base::{Feed, Sink};
-use ac_query::Job;
 use ac_report::PageFault;
 use std::alloc::Global;
 

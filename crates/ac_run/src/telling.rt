@@ -3,11 +3,10 @@ ghost use Rattle.std.specs.Prelude.{◌≡◌, ◌≤◌};
 ghost use Rattle.ac_query.specs.Shown.Faults.{fault_shown};
 ghost use Rattle.ac_run.specs.Lines.{pair_line, group_line, record_line};
 ghost use Rattle.ac_run.specs.Refusals.{line_of, line_of_query, status_of};
-ghost use Rattle.ac_answers.specs.Writing.{Pushes, TakesLine};
+ghost use Rattle.ac_base.specs.Writing.{Pushes, TakesLine};
 
 use crate::refusal::{Refusal, kind_name, table_name};
-use ac_answers::{Digits, push_pieces};
-use ac_base::{Sink, WriteFailed, push_all};
+use ac_base::{Digits, Sink, WriteFailed, push_all, push_pieces};
 use ac_cloud::HostFault;
 use ac_query::{QueryFault, TokenFault};
 use ac_tables::{Table, TableKind};

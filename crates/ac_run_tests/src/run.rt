@@ -1,6 +1,6 @@
 //! Runs over devices in memory.
 ghost use Rattle.std.specs.Option.{option_map};
-ghost use Rattle.ac_query.specs.Jobs.{HasToken};
+ghost use Rattle.ac_run.specs.Jobs.{HasToken};
 
 use crate::left::{Left, expanded, text_of};
 use ac_base::{MemFeed, MemSink, Turn};

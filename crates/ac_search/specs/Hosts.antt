@@ -1,24 +1,12 @@
--- At which roots candidates stand.
-use Rattle.std.specs.Prelude.{ℕ, Bool, true, false, ◌&&◌, List, map, length, slice_index_or, Option, Some, None}
-use Rattle.std.specs.List.{list_any, filter, range_with_len}
+-- Private: a search at some roots.
+use Rattle.std.specs.Prelude.{ℕ, Bool, true, false, ◌&&◌, List, length, slice_index_or, Option, Some, None}
+use Rattle.std.specs.List.{filter}
 use Rattle.ac_query.specs.Asked.{Asked, slots_of}
 use Rattle.ac_cloud.specs.World.{Provider}
-use Rattle.ac_rules.specs.Together.{takes_root}
 use Rattle.ac_rules.specs.Judge.{is_candidate, is_open}
-use Rattle.ac_rules.specs.Pages.{candidates}
-use Rattle.ac_prune.specs.Marks.{stand_at, stand_at_marked}
+use Rattle.ac_prune.specs.Marks.{stand_at_marked}
 use Rattle.ac_prune.specs.Search.{Search}
 use Rattle.ac_prune.specs.QuerySearch.{choices_of}
-
--- a root fits: the query takes it, and all providers of some candidate are available in its tree
-abbrev pub fits_at : List Provider → Asked → ℕ → Bool
-fits_at all asked r = takes_root all asked r && list_any (λ t. stand_at all t r) (candidates all asked)
-
--- for each provider by its place, whether it is such a root
-abbrev pub fitting : List Provider → Asked → List Bool
-fitting all asked = map (fits_at all asked) (range_with_len 0 (length all))
-
--- ---- Private: a search at some roots
 
 -- a root is looked at: it is marked; without marks each is
 abbrev pub is_looked_at : Option (List Bool) → ℕ → Bool

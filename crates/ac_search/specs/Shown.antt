@@ -1,5 +1,3 @@
--- What a walk and an explanation show.
-pub mod Explained
+-- What a walk shows.
 pub mod Hosts
-pub mod Lacking
 pub mod Walk

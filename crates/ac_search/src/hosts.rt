@@ -3,7 +3,7 @@ ghost use Rattle.std.specs.Prelude.{◌≡◌, ◌==◌, ◌<◌, length, map, I
 ghost use Rattle.std.specs.List.{range_with_len};
 ghost use Rattle.ac_cloud.specs.Cloud.CloudWorld.{providers_of};
 ghost use Rattle.ac_query.specs.Shown.Queries.{asked_of};
-ghost use Rattle.ac_search.specs.Hosts.{fits_at, fitting};
+ghost use Rattle.ac_prune.specs.Fitting.{fits_at, fitting};
 ghost use Rattle.ac_search.specs.Shown.Hosts.{Settles, IsSettled};
 ghost use Rattle.ac_search.specs.Shown.Walk.{cloud_in, query_in};
 

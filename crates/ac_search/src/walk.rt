@@ -17,9 +17,9 @@ ghost use Rattle.ac_search.specs.Hosts.{search_at, standing};
 ghost use Rattle.ac_search.specs.Between.{least_of};
 ghost use Rattle.ac_prune.specs.Tests.{AreTests, AreTests-prop};
 
-mod leaving;
-mod passing;
-mod trying;
+mod leave;
+mod pass;
+mod steps;
 
 use crate::least::least_of;
 use ac_base::{Id, NoMemory};
@@ -29,7 +29,7 @@ use ac_query::{Query, Token};
 use ac_rules::slots::count_slots;
 use ac_rules::source::Source;
 use std::alloc::Global;
-use trying::start_of;
+use steps::start_of;
 
 /// What one step came to.
 #[derive(Clone, Copy)]

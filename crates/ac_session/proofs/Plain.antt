@@ -7,11 +7,11 @@ use Rattle.std.specs.Prelude.{◌==◌, ◌&&◌, not, nat_le, nat_lt, codes, de
 use Rattle.std.specs.Fmt.{digit_glyph, digits, digits_onto}
 use Rattle.std.specs.List.{list_all}
 use Rattle.std.specs.Option.{option_map}
-use Rattle.ac_answers.specs.Pieces.{newline, printed}
+use Rattle.ac_base.specs.Pieces.{newline, printed}
 use Rattle.ac_base.specs.Names.{suffix_bytes}
 use Rattle.ac_base.specs.Texts.{is_suffix_char}
 use Rattle.ac_base.specs.declared.name.Suffix.{Suffix}
-use Rattle.ac_cloud.specs.declared.cloud.naming.HostFault.TheVariants as host
+use Rattle.ac_cloud.specs.declared.cloud.provider_name.HostFault.TheVariants as host
 use Rattle.ac_query.specs.declared.fault.QueryFault.{QueryFault}
 use Rattle.ac_query.specs.declared.fault.QueryFault.TheVariants as query
 use Rattle.ac_query.specs.Shown.Faults.{fault_shown}

@@ -3,7 +3,7 @@ use Rattle.std.proofs.Common.{◌≡◌, ◌∙◌, ℕ, List, [], ◌∷◌, �
 use Rattle.std.specs.Fmt.{decimal, digits}
 use Rattle.std.specs.Prelude.{IfOk, Result, Ok, Err, OnErr, OnOk, codes}
 use Rattle.std.specs.Result.{IsErrAnd}
-use Rattle.ac_answers.specs.Writing.{Pushes}
+use Rattle.ac_base.specs.Writing.{Pushes}
 use Rattle.ac_report.specs.declared.fault.PageFault.{PageFault}
 use Rattle.ac_report.specs.declared.fault.PageFault.TheVariants as page_fault
 use Rattle.std.specs.Io.KnownBytes.{Appends, Keeps, append_known}

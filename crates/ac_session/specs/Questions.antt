@@ -2,12 +2,12 @@
 use Rattle.std.specs.Prelude.{⊤, ℕ, ◌==◌, Bool, true, false, List, [], ◌∷◌, length, codes, Option, Some, None, option_map, if◌then◌else◌}
 use Rattle.std.specs.List.{slice_split}
 use Rattle.std.specs.Str.{bytes_eq, is_utf8}
-use Rattle.ac_query.specs.declared.job.Command.{Command}
-use Rattle.ac_query.specs.declared.job.Command.TheVariants.{Check, Candidates, Tokens, Verify, Explain, Hosts, Why}
-use Rattle.ac_query.specs.declared.job.Command.TheVariants as commands
+use Rattle.ac_run.specs.declared.job.Command.{Command}
+use Rattle.ac_run.specs.declared.job.Command.TheVariants.{Check, Candidates, Tokens, Verify, Explain, Hosts, Why}
+use Rattle.ac_run.specs.declared.job.Command.TheVariants as commands
 use Rattle.ac_query.specs.declared.version.Version.{Version}
 use Rattle.ac_query.specs.declared.version.Version.TheVariants.{V136}
-use Rattle.ac_query.specs.Jobs.{HasToken}
+use Rattle.ac_run.specs.Jobs.{HasToken}
 use Rattle.ac_session.specs.declared.questions.Question.{Question}
 use Rattle.ac_session.specs.declared.questions.Question.TheVariants as question
 

@@ -1,6 +1,6 @@
 -- What a session answers, and what is known where it ended.
 use Rattle.std.specs.Prelude.{ℕ, List, [], Option, codes}
-use Rattle.ac_answers.specs.Writing.{TakesLine}
+use Rattle.ac_base.specs.Writing.{TakesLine}
 use Rattle.ac_cloud.specs.World.{World}
 use Rattle.ac_detail.specs.Details.{Paths, tables_text, with_detail}
 use Rattle.ac_query.specs.declared.version.Version.{Version}

@@ -8,8 +8,8 @@ use Rattle.ac_query.specs.Laws.Gathered.{asked_by}
 use Rattle.ac_query.specs.Pairs.{pairs_of}
 use Rattle.ac_query.specs.Pairs.Values.{ids_value}
 use Rattle.ac_fill.specs.Filled.{after, filled}
-use Rattle.ac_query.specs.declared.job.Command.TheVariants.{Verify}
-use Rattle.ac_query.specs.declared.job.Command.TheVariants as commands
+use Rattle.ac_run.specs.declared.job.Command.TheVariants.{Verify}
+use Rattle.ac_run.specs.declared.job.Command.TheVariants as commands
 use Rattle.ac_query.specs.declared.version.Version.{Version}
 use Rattle.ac_rules.specs.Claims.{claimed, is_in_use, released}
 use Rattle.ac_rules.specs.Judge.{judge}

@@ -1,7 +1,7 @@
 //! How answers end, and answers of which no more is to be said than that.
 ghost use Rattle.std.specs.Prelude.{◌≡◌, ◌≤◌, ◌++◌, ℕ, List, Option, OnErr, OnOk, Some};
 ghost use Rattle.std.specs.Io.KnownBytes.{Appends, append_known};
-ghost use Rattle.ac_answers.specs.Writing.{Pushes};
+ghost use Rattle.ac_base.specs.Writing.{Pushes};
 ghost use Rattle.ac_base.specs.Devices.{Rises};
 ghost use Rattle.ac_base.specs.Gathered.{IsFirstPart};
 ghost use Rattle.ac_run.specs.Answer.{Outcome, written};
@@ -13,8 +13,7 @@ ghost use Rattle.ac_session.specs.Standing.{Gives, IsRefusal, end_told, mark_of}
 
 use crate::escaping::Escaping;
 use crate::line_faults::LineFault;
-use ac_answers::{Digits, push_pieces};
-use ac_base::{Sink, WriteFailed, push_all};
+use ac_base::{Digits, Sink, WriteFailed, push_all, push_pieces};
 use ac_report::PageFault;
 use ac_run::{Refusal, push_line, status_of};
 

@@ -1,9 +1,10 @@
 //! The question that a line asks.
 ghost use Rattle.std.specs.Prelude.{◌≡◌, ◌∷◌, None, true, false, option_map};
-ghost use Rattle.ac_query.specs.Jobs.{HasToken};
+ghost use Rattle.ac_run.specs.Jobs.{HasToken};
 ghost use Rattle.ac_session.specs.Questions.{HasItsToken, asked_by_name, asked_in, asked_of, asks_alone, asks_claim, asks_fill, asks_query, asks_release, asks_search, asks_verify, asks_why, job, one_of, one_or_two_of, two_of, words_behind, words_of};
 
-use ac_query::{Command, Job, Version};
+use ac_query::Version;
+use ac_run::{Command, Job};
 
 /// What a line asks.
 #[derive(Clone, Copy, Debug, PartialEq, Eq)]

@@ -1,7 +1,7 @@
 //! A session: questions from a feed, each answered whole before the next is read.
 ghost use Rattle.std.specs.Prelude.{◌≡◌, ◌≢◌, ◌≤◌, ◌<◌, ◌++◌, ◌⊎◌, ℕ, List, ◌∷◌, [], Contains, Err, Ok, OnErr, OnOk, Option, Some, length};
 ghost use Rattle.std.specs.Io.KnownBytes.{Appends, append_known};
-ghost use Rattle.ac_answers.specs.Writing.{TakesLine};
+ghost use Rattle.ac_base.specs.Writing.{TakesLine};
 ghost use Rattle.ac_base.specs.Devices.{Rises};
 ghost use Rattle.ac_base.specs.Gathered.{IsFirstPart};
 ghost use Rattle.ac_cloud.specs.Cloud.CloudWorld.{world_of};

@@ -5,7 +5,7 @@ ghost use Rattle.std.specs.List.{All};
 ghost use Rattle.ac_base.specs.Devices.{Rises, TakesPart};
 ghost use Rattle.ac_cloud.specs.Cloud.CloudWorld.{providers_of, world_of};
 ghost use Rattle.ac_query.specs.Asked.{slots_of};
-ghost use Rattle.ac_query.specs.Jobs.{HasToken};
+ghost use Rattle.ac_run.specs.Jobs.{HasToken};
 ghost use Rattle.ac_query.specs.Laws.Gathered.{asked_by};
 ghost use Rattle.ac_query.specs.Pairs.{pairs_of};
 ghost use Rattle.ac_query.specs.Pairs.Values.{ids_value};
@@ -31,10 +31,12 @@ use crate::questions::{Question, read_question};
 use crate::usages::write_usages;
 use ac_base::{NoMemory, Sink};
 use ac_fill::{Filled, write_filled};
-use ac_query::{Command, Job, Query, Version};
+use ac_query::{Query, Version};
 use ac_report::PageFault;
 use ac_rules::{InCloud, Verdict, claim, release};
-use ac_run::{Refusal, fill_status, push_verdict, read_asked, read_wanted, write_answer};
+use ac_run::{
+    Command, Job, Refusal, fill_status, push_verdict, read_asked, read_wanted, write_answer,
+};
 use ac_search::Walk;
 use ac_tables::Cloud;
 use std::alloc::Global;

@@ -9,7 +9,7 @@ pub mod found;
 pub mod laws;
 pub mod read;
 mod reader;
-pub mod reading;
+pub mod table_bytes;
 mod tables;
 pub mod written;
 
@@ -18,5 +18,5 @@ pub use columns::{Column, columns_needed};
 pub use fault::{Table, TableFault, TableKind};
 pub use found::Found;
 pub use read::{FiveTables, FromTables, Sources};
-pub use reading::{ReadFault, drain};
+pub use table_bytes::{ReadFault, drain};
 pub use written::{usages_fit, usages_text};

@@ -2,8 +2,8 @@
 
 pub(crate) mod aggregates;
 pub(crate) mod entries;
+pub(crate) mod id_order;
 pub(crate) mod inventories;
-pub(crate) mod listing;
 pub(crate) mod provider_record;
 pub(crate) mod providers;
 pub(crate) mod traits;

@@ -3,13 +3,13 @@ ghost use Rattle.std.specs.Prelude.{◌≡◌, ◌++◌, ◌∷◌, ◌<◌, ℕ
 ghost use Rattle.ac_cloud.specs.World.{provider_at};
 ghost use Rattle.ac_cloud.specs.Cloud.CloudWorld.{providers_of};
 ghost use Rattle.ac_cloud.specs.Cloud.Entries.{entry_pair};
-ghost use Rattle.ac_rows.specs.Rows.{HasRows};
+ghost use Rattle.ac_base.specs.Rows.{HasRows};
 ghost use Rattle.ac_tables.specs.UsageRows.{entries_fit, fits_table, rows_of_provider, usage_row, usages_fit, usages_text};
 
 use crate::columns::Column;
+use ac_base::rows::{begin_rows, end_rows, write_row};
 use ac_base::{Id, NoMemory};
 use ac_cloud::{Cloud, Entry};
-use ac_rows::{begin_rows, end_rows, write_row};
 use csv::Writer;
 use itoa::Buffer;
 use std::alloc::Global;

@@ -20,8 +20,8 @@ use Rattle.ac_words.specs.Mark.{past_mark}
 use Rattle.ac_words.specs.Words.{HasEntry, HasItsToken, IsComplete, name_of, named, program, query_of, token_of}
 use Rattle.ac_words.specs.declared.words.Call.{Call}
 use Rattle.ac_words.specs.declared.words.Call.TheVariants.{Job, Session}
-use Rattle.ac_query.specs.declared.job.Command.TheVariants.{Check, Candidates, Tokens, Verify, Explain, Hosts, Why}
-use Rattle.ac_query.specs.declared.job.Command.TheVariants as commands
+use Rattle.ac_run.specs.declared.job.Command.TheVariants.{Check, Candidates, Tokens, Verify, Explain, Hosts, Why}
+use Rattle.ac_run.specs.declared.job.Command.TheVariants as commands
 use Rattle.ac_words.proofs.FilledRows.{Filled, HasValue, asks_or_takes, first_free, then_free}
 use Rattle.ac_words.proofs.FilledWalk.{keeps-defaults, keeps-settled, keeps-walk}
 

@@ -12,9 +12,9 @@ use Rattle.ac_tables.specs.declared.fault.Table.{Table}
 use Rattle.ac_tables.specs.declared.fault.Table.TheVariants.{Providers, Inventories, Usages, Traits, Aggregates}
 use Rattle.ac_query.specs.declared.version.Version.{Version}
 use Rattle.ac_query.specs.declared.version.Version.TheVariants.{V136, V139}
-use Rattle.ac_query.specs.Jobs.{HasToken}
-use Rattle.ac_query.specs.declared.job.Command.TheVariants.{Check, Candidates, Tokens, Verify, Explain, Hosts, Why}
-use Rattle.ac_query.specs.declared.job.Command.TheVariants as commands
+use Rattle.ac_run.specs.Jobs.{HasToken}
+use Rattle.ac_run.specs.declared.job.Command.TheVariants.{Check, Candidates, Tokens, Verify, Explain, Hosts, Why}
+use Rattle.ac_run.specs.declared.job.Command.TheVariants as commands
 use Rattle.ac_words.specs.Mark.{past_mark}
 use Rattle.ac_words.specs.declared.words.Call.{Call}
 use Rattle.ac_words.specs.declared.words.Call.TheVariants.{Job, Session}

@@ -10,7 +10,8 @@ mod grammar;
 mod help;
 mod tables;
 
-use ac_query::{Command, Job, Version};
+use ac_query::Version;
+use ac_run::{Command, Job};
 use ac_tables::Table;
 use clap::error::ErrorKind;
 use std::alloc::{AllocError, Global};

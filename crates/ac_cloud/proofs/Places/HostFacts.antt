@@ -4,7 +4,7 @@ use Rattle.std.specs.Option.{ok_or, option_to_list}
 use Rattle.std.proofs.lemmas.List.Elements.{filter-append}
 use Rattle.std.proofs.lemmas.List.FromFn.{map-range_with_len_more}
 use Rattle.ac_cloud.specs.Cloud.Hosts.{only_one}
-use Rattle.ac_cloud.specs.declared.cloud.naming.HostFault.TheVariants as fault
+use Rattle.ac_cloud.specs.declared.cloud.provider_name.HostFault.TheVariants as fault
 
 range_more : (n : ℕ) → range_with_len 0 (n + 1) ≡ range_with_len 0 n ++ n ∷ []
 range_more n = sym (map-id (range_with_len 0 (n + 1))) ∙ map-range_with_len_more (λ (x : ℕ). x) 0 n n (omega arith) ∙ ap (λ (l : List ℕ). l ++ n ∷ []) (map-id (range_with_len 0 n))

@@ -4,8 +4,8 @@ use Rattle.std.specs.Option.{option_and_then}
 use Rattle.std.specs.List.{filter, range_with_len}
 use Rattle.ac_base.specs.Texts.{id_value}
 use Rattle.ac_cloud.specs.World.{Provider, provider_at, place_of, has_name}
-use Rattle.ac_cloud.specs.declared.cloud.naming.HostFault.{HostFault}
-use Rattle.ac_cloud.specs.declared.cloud.naming.HostFault.TheVariants as fault
+use Rattle.ac_cloud.specs.declared.cloud.provider_name.HostFault.{HostFault}
+use Rattle.ac_cloud.specs.declared.cloud.provider_name.HostFault.TheVariants as fault
 
 -- the places of the providers of this name
 abbrev pub places_named : List Provider → List ℕ → List ℕ

@@ -1,6 +1,7 @@
 //! Words read with each growth refused in turn: what they say, or want of memory.
 use super::{CHECK, words_of};
-use ac_query::{Command, Job, Version};
+use ac_query::Version;
+use ac_run::{Command, Job};
 use ac_tables::Table;
 use ac_words::{WordFault, read_words};
 

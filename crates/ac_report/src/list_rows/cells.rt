@@ -9,7 +9,7 @@ ghost use Rattle.ac_query.specs.Shown.Queries.{asked_of};
 ghost use Rattle.ac_rules.specs.Placed.{assigned};
 ghost use Rattle.ac_report.specs.ListRows.{amount_text, holding_text, inventory_cell, joined_by_commas, traits_cell};
 
-use crate::serving::sum_on;
+use crate::amounts::sum_on;
 use ac_base::{NoMemory, TraitName};
 use ac_cloud::Entry;
 use ac_query::Query;

@@ -10,7 +10,8 @@ use Rattle.ac_rules.specs.Pages.{candidates}
 use Rattle.ac_prune.specs.Marks.{stand_at, stand_at_marked}
 use Rattle.ac_prune.specs.Search.{choices_at}
 use Rattle.ac_search.specs.Search.{met, IsSound}
-use Rattle.ac_search.specs.Hosts.{fits_at, is_looked_at, standing, search_at}
+use Rattle.ac_prune.specs.Fitting.{fits_at}
+use Rattle.ac_search.specs.Hosts.{is_looked_at, standing, search_at}
 use Rattle.ac_search.specs.Search.Steps.{Advances, Finishes}
 use Rattle.ac_search.specs.Shown.Hosts.{Settles, Leaves, IsSettled}
 use Rattle.ac_search.specs.Shown.Walk.{cloud_in, query_in, roots_in, left_of}

@@ -3,7 +3,8 @@ use Rattle.std.specs.Prelude.{◌≡◌, ℕ, ◌<◌, ◌&&◌, true, false, no
 use Rattle.ac_rules.specs.Together.{takes_root}
 use Rattle.ac_rules.specs.Pages.{candidates}
 use Rattle.ac_prune.specs.Marks.{stand_at}
-use Rattle.ac_search.specs.Hosts.{fits_at, is_looked_at, standing}
+use Rattle.ac_prune.specs.Fitting.{fits_at}
+use Rattle.ac_search.specs.Hosts.{is_looked_at, standing}
 use Rattle.ac_search.specs.Shown.Walk.{cloud_in, query_in, roots_in, left_of}
 use Rattle.ac_search.specs.declared.walk.Walk.{Walk}
 

@@ -3,8 +3,9 @@
 use super::FIVES;
 use crate::clouds::{NONE, PAIR, Rows, Scene, scene_of};
 use ac_base::NoMemory;
+use ac_find::{SlotCounts, TreeCounts, all_slots, tree_counts};
 use ac_rules::{Plain, Source};
-use ac_search::{SlotCounts, TreeCounts, Walk, all_slots, fitting_roots, tree_counts};
+use ac_search::{Walk, fitting_roots};
 use std::alloc::{AllocError, Global};
 use std::process::Abort;
 

@@ -1,12 +1,14 @@
 -- What tables state that are accepted: classes are names.
 use Rattle.std.proofs.Common.{◌≡◌, ℕ, ◌+◌, Bool, true, false, List, [], ◌∷◌, ◌++◌, Some, None, map, length, refl}
 use Rattle.std.specs.Prelude.{◌==◌, cond, if◌then◌else◌}
-use Rattle.std.specs.List.{AllByRecursion, filter}
+use Rattle.std.specs.BTreeMap.{insert_entry}
+use Rattle.std.specs.List.{AllByRecursion, filter, fold}
 use Rattle.std.specs.Option.{is_none}
+use Rattle.std.specs.Ordering.{match_ordering}
+use Rattle.std.specs.declared.cmp.Ordering.{Ordering}
+use Rattle.std.specs.declared.cmp.Ordering.TheVariants.{Less, Equal, Greater}
 use Rattle.ac_base.specs.Quantities.{InventoryNumbers}
-use Rattle.ac_query.proofs.Pairs.Named.{all_entered}
-use Rattle.ac_query.specs.Laws.Named.{IsName}
-use Rattle.ac_base.specs.Texts.{is_name, name_value}
+use Rattle.ac_base.specs.Texts.{is_name, name_value, text_cmp}
 use Rattle.ac_tables.specs.Tables.{Tables, ids_of, inventories_of, tables_fault}
 use Rattle.ac_tables.specs.Tables.Checks.{Check, Row, first_failing, record_checks, told_at}
 use Rattle.ac_tables.specs.Tables.Columns.{header_checks, text_in}
@@ -55,6 +57,9 @@ named_value text h = by (is_name text) h
     by true h = refl
     by false h = absurd cc
 
+abbrev pub IsName : List ℕ → Type 0
+IsName text = is_name text ≡ true
+
 abbrev pub IsOfClass : InventoryRecord → Type 0
 IsOfClass h = is_name h.class ≡ true
 
@@ -77,6 +82,23 @@ table_named ids [] h = tt
 table_named ids (header ∷ rows) h = rows_named ids header [] rows (none_before (told_at table.Inventories 1 (header_checks inventory_columns header)) _ h).1
 
 -- ---- maps
+
+-- what is put into a map, where a later value may stand under an earlier name
+module _ {V : Type 0} (P : List ℕ × V → Type 0) (again : (e : List ℕ × V) (k : List ℕ) (v : V) → P e → P (k, v) → P (e.0, v)) where
+  one_entered : (order : Ordering) (k : List ℕ) (v : V) (e : List ℕ × V) (es more : List (List ℕ × V)) → P (k, v) → AllByRecursion P (e ∷ es) → AllByRecursion P more
+      → AllByRecursion P (match_ordering order ((k, v) ∷ e ∷ es) ((e.0, v) ∷ es) (e ∷ more))
+  one_entered Less k v e es more h have later = (h, have)
+  one_entered Equal k v e es more h have later = (again e k v have.0 h, have.1)
+  one_entered Greater k v e es more h have later = (have.0, later)
+
+  entered : (es : List (List ℕ × V)) (k : List ℕ) (v : V) → AllByRecursion P es → P (k, v) → AllByRecursion P (insert_entry text_cmp es k v)
+  entered [] k v have h = (h, tt)
+  entered (e ∷ es) k v have h = one_entered (text_cmp k e.0) k v e es (insert_entry text_cmp es k v) h have (entered es k v have.1 h)
+
+  pub all_entered : (es more : List (List ℕ × V)) → AllByRecursion P es → AllByRecursion P more
+      → AllByRecursion P (fold (λ m p. insert_entry text_cmp m p.0 p.1) es more)
+  all_entered es [] have h = have
+  all_entered es (e ∷ more) have h = all_entered (insert_entry text_cmp es e.0 e.1) more (entered es e.0 e.1 have h.0) h.1
 
 abbrev pub inventory_pair : InventoryRecord → List ℕ × InventoryNumbers
 inventory_pair h = (h.class, h.inventory)

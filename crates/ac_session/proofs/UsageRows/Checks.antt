@@ -15,7 +15,7 @@ use Rattle.ac_base.specs.Sorted.{is_one_of}
 use Rattle.ac_base.specs.Texts.{greatest, is_name, name_value, text_cmp}
 use Rattle.ac_cloud.specs.World.{Provider}
 use Rattle.ac_query.proofs.WrittenIds.{id_reads}
-use Rattle.ac_query.specs.Laws.Named.{IsName}
+use Rattle.ac_session.proofs.UsageRows.Accepted.{IsName}
 use Rattle.ac_tables.proofs.FirstFailing.{told_none}
 use Rattle.ac_tables.specs.Tables.Checks.{first_failing, record_checks}
 use Rattle.ac_tables.specs.Tables.InventoryTable.{InventoryRecord, class_checks, is_inventory_of, owner_checks}

@@ -14,7 +14,6 @@ use Rattle.ac_base.specs.Sorted.{is_one_of}
 use Rattle.ac_base.specs.Texts.{text_cmp}
 use Rattle.ac_cloud.specs.Laws.{AreProviders}
 use Rattle.ac_cloud.specs.World.{Provider, UsedInventory, id_at, no_provider, used_of}
-use Rattle.ac_query.specs.Laws.Named.{IsName}
 use Rattle.ac_tables.proofs.FirstFailing.{append_none}
 use Rattle.ac_tables.proofs.ProvidersStated.{providers_in_order}
 use Rattle.ac_tables.proofs.Sorted.OrderFacts.{order_holds}
@@ -30,7 +29,7 @@ use Rattle.ac_session.specs.Laws.{GoesOn, SessionsGoOn, providers_behind, with_u
 use Rattle.ac_tables.specs.Laws.{HaveClassesInOrder, amount_stated}
 use Rattle.ac_session.specs.Turns.{lines_in}
 use Rattle.ac_tables.specs.UsageRows.{Entry, entries_fit, rows_of_provider, usages_fit, usages_text}
-use Rattle.ac_session.proofs.UsageRows.Accepted.{AreAccepted, inventory_pair, classes_named, each_accepted, inventories_keyed, table_named}
+use Rattle.ac_session.proofs.UsageRows.Accepted.{AreAccepted, IsName, inventory_pair, classes_named, each_accepted, inventories_keyed, table_named}
 use Rattle.ac_session.proofs.UsageRows.Amounts.{AreStated, IsStated, gathered_stated, inventory_in, session_stated}
 use Rattle.ac_session.proofs.UsageRows.Checks.{AreApart, IsKnown, apart_of, table_passes}
 use Rattle.ac_tables.proofs.UsageRows.Read.{both, records_are, usages_read_back}

@@ -15,7 +15,7 @@ ghost use Rattle.ac_cloud.specs.Trees.{top};
 use crate::fault::{TableFault, TableKind};
 use crate::reader::gather::read_table;
 use crate::reader::row::TableRow;
-use crate::tables::listing::{
+use crate::tables::id_order::{
     check_marks, find_ids, find_names, find_parents, mark_endless, mark_other_roots, mark_unknown,
 };
 use crate::tables::provider_record::{Named, ProviderTable};

@@ -6,7 +6,8 @@ ghost use Rattle.ac_words.specs.Words.{HasNeeded, IsComplete, IsMadeOf, Says, Te
 use super::tables::{check_tables, needed_path, path};
 use super::{Call, WordFault, Words, fault_of, grammar};
 use crate::mark::past_mark;
-use ac_query::{Command, Version};
+use ac_query::Version;
+use ac_run::Command;
 use ac_tables::Table;
 use clap::ArgMatches;
 use clap::error::ErrorKind;

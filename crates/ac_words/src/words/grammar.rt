@@ -5,7 +5,7 @@ ghost use Rattle.clap.specs.declared.builder.command.Command.TheViews.{out-Comma
 ghost use Rattle.ac_words.specs.Words.{app_for, candidates_app, check_app, explain_app, fill_app, flag_rule, hosts_app, list_app, option_rule, program, query_app, search_app, session_app, shown_app, tokens_app, verify_app, why_app, with_common, with_options, with_tables, word_rule};
 
 use super::{Call, help};
-use ac_query::Command as Asked;
+use ac_run::Command as Asked;
 use clap::{Arg, ArgAction, Command};
 use std::alloc::{AllocError, Global};
 

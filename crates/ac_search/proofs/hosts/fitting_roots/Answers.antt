@@ -5,7 +5,7 @@ use Rattle.std.proofs.lemmas.List.FromFn.{length-map-range_with_len}
 use Rattle.ac_query.specs.Shown.Queries.{asked_of}
 use Rattle.ac_cloud.specs.Cloud.CloudWorld.{providers_of}
 use Rattle.ac_rules.specs.Together.{takes_root}
-use Rattle.ac_search.specs.Hosts.{fits_at}
+use Rattle.ac_prune.specs.Fitting.{fits_at}
 use Rattle.ac_search.specs.Shown.Walk.{cloud_in, query_in}
 use Rattle.ac_prune.proofs.Search.OpenLemmas.{map_range_more}
 use Rattle.ac_search.proofs.Steps.LeaveLemmas.{settles_begin}

@@ -1,9 +1,0 @@
-pub mod DecimalSteps
-pub mod PiecesWritten
-pub mod Pushed
-pub mod SlotsWritten
-pub mod ItemsWritten
-pub mod FirstFound
-pub mod HostsWritten
-pub mod DifferencesWritten
-pub mod RowsWritten

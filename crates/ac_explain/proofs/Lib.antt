@@ -1,2 +1,0 @@
-pub mod DetailsWritten
-pub mod Places

@@ -1,3 +1,0 @@
-pub mod Broken
-pub mod Details
-pub mod Missing

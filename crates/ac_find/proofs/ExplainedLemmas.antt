@@ -1,0 +1,83 @@
+-- Counts of providers and of roots: one more place, and what the marks of roots say.
+use Rattle.std.proofs.Common.{inl, inr, ◌≡◌, ◌∙◌, ◌<◌, ◌≤◌, ℕ, ◌+◌, Bool, true, false, ◌&&◌, List, [], ◌∷◌, length, map, nat_le, slice_index, slice_index_or, refl, sym, ap, ap₂, arith}
+use Rattle.std.specs.Prelude.{if◌then◌else◌, take}
+use Rattle.std.specs.List.{filter, list_all, list_any, range_with_len, AllByRecursion as Each}
+use Rattle.std.proofs.Math.Bool.{and-true}
+use Rattle.std.proofs.lemmas.Bool.{cases_Bool}
+use Rattle.std.proofs.lemmas.Bool.Decides.{nat_tests}
+use Rattle.std.proofs.lemmas.List.{length-append}
+use Rattle.std.proofs.lemmas.List.Folds.{list_all_more}
+use Rattle.std.proofs.lemmas.List.FromFn.{fill_by_all, get_or-map-range_with_len, length-map-range_with_len, length-range_with_len}
+use Rattle.ac_query.specs.Asked.{Asked, Slot, slots_of}
+use Rattle.ac_cloud.specs.World.{Provider, provider_at}
+use Rattle.ac_prune.specs.Ahead.{load_of, hosts_of}
+use Rattle.ac_find.specs.Explained.{class_room, count_below, count_of, in_slot, is_served, meets_room, meets_tree}
+use Rattle.ac_find.specs.Shown.Explained.{fitting, marked, served, served_roots}
+use Rattle.ac_prune.specs.Loads.{AreLimited}
+use Rattle.ac_rules.specs.Placed.{no_slot, slot_at}
+use Rattle.ac_rules.specs.Together.{holds, takes_root}
+use Rattle.ac_rules.proofs.EachSlot.AnchorLemmas.{each_range}
+use Rattle.ac_rules.proofs.Elements.{each_weaker, filter_agree}
+use Rattle.ac_prune.proofs.Search.OpenLemmas.{choice_more, filter_few}
+use Rattle.ac_prune.proofs.Roots.RootLemmas.{hosts_low}
+
+-- one more place
+pub count_more : (test : ℕ → Bool) (n : ℕ) → count_below (n + 1) test ≡ count_below n test + (if test n then 1 else 0)
+count_more test n = elim (cases_Bool (test n)) [
+  | inl e ↦ rw (choice_more test n, e) (length-append (filter test (range_with_len 0 n)) (n ∷ []))
+  | inr e ↦ rw (choice_more test n, e) (length-append (filter test (range_with_len 0 n)) [])
+]
+
+-- no more than places
+pub count_few : (test : ℕ → Bool) (n : ℕ) → count_below n test ≤ n
+count_few test n = let few = filter_few test (range_with_len 0 n) in let size = length-range_with_len 0 n in omega (arith, few, size)
+
+-- by marks of the providers that meet all but room
+pub class_marked : (all : List Provider) (slot : Slot) (need : List ℕ × ℕ) (marks : List Bool) → marks ≡ fitting all slot
+    → count_of all (λ p. slice_index_or marks p false && holds (provider_at all p) need.0 need.1) ≡ class_room all slot need
+class_marked all slot need marks are =
+    let n = length all in
+    let meets = λ (p : ℕ). meets_tree all (in_slot slot p) in
+    ap length (filter_agree (λ p. slice_index_or marks p false && holds (provider_at all p) need.0 need.1) (λ p. meets p && holds (provider_at all p) need.0 need.1) (range_with_len 0 n)
+    (each_weaker (λ p. p < n) _ (range_with_len 0 n)
+    (λ p low. ap (λ b. b && holds (provider_at all p) need.0 need.1) (ap (λ (bs : List Bool). slice_index_or bs p false) are ∙ get_or-map-range_with_len meets 0 n p p false low (omega arith)))
+    (each_range 0 n n (omega arith))))
+
+-- ---- Marks of roots
+
+-- some have 1, and the others 0
+pub reaches : (test : ℕ → Bool) (rooms hosts : List ℕ) (n : ℕ) → Each (λ p. p < n) hosts → ((p : ℕ) → p < n → slice_index rooms p ≡ (if test p then 1 else 0))
+    → nat_le 1 (load_of (λ p. slice_index rooms p) hosts) ≡ list_any test hosts
+reaches test rooms [] n low is = refl
+reaches test rooms (p ∷ hosts) n low is =
+    let here = is p low.0 in
+    let more = reaches test rooms hosts n low.1 is in
+    grind (arith, nat_tests)
+
+-- one more slot
+pub served_more : (all : List Provider) (asked : Asked) (s : ℕ) (rooms : List ℕ) (old new : List Bool) → s < length (slots_of asked) → rooms ≡ served all (slot_at asked s)
+    → old ≡ served_roots all asked (take s (slots_of asked)) → length new ≡ length old → AreLimited all rooms 1 old new → new ≡ served_roots all asked (take (s + 1) (slots_of asked))
+served_more all asked s rooms old new h room was size limited =
+    let n = length all in
+    let slot = slot_at asked s in
+    let meets = λ (p : ℕ). meets_room all (in_slot slot p) in
+    let before = λ (r : ℕ). takes_root all asked r && list_all (λ slot. is_served all r slot) (take s (slots_of asked)) in
+    let after = λ (r : ℕ). takes_root all asked r && list_all (λ slot. is_served all r slot) (take (s + 1) (slots_of asked)) in
+    let many : length new ≡ n = size ∙ (ap length was ∙ length-map-range_with_len before 0 n) in
+    fill_by_all after new n false many (λ r low.
+    let here : slice_index_or old r false ≡ before r = ap (λ (bs : List Bool). slice_index_or bs r false) was ∙ get_or-map-range_with_len before 0 n r r false low (omega arith) in
+    let room_at : (p : ℕ) → p < n → slice_index rooms p ≡ (if meets p then 1 else 0) =
+    λ p k. ap (λ (xs : List ℕ). slice_index xs p) room ∙ get_or-map-range_with_len (λ (p : ℕ). if meets p then 1 else 0) 0 n p p 0 k (omega arith) in
+    let served_here : nat_le 1 (load_of (λ p. slice_index rooms p) (hosts_of all r)) ≡ is_served all r slot = reaches meets rooms (hosts_of all r) n (hosts_low all r) room_at in
+    let more = list_all_more (λ slot. is_served all r slot) (slots_of asked) s no_slot h in
+    limited r low ∙ rw (here, served_here, more) (grind arith))
+
+-- where no slot is asked, the roots that the query takes
+pub served_none : (all : List Provider) (asked : Asked) (rs : List ℕ) → map (takes_root all asked) rs ≡ map (λ r. takes_root all asked r && true) rs
+served_none all asked [] = refl
+served_none all asked (r ∷ rs) = ap₂ (λ b bs. b ∷ bs) (sym (and-true (takes_root all asked r))) (served_none all asked rs)
+
+-- marks of what passes a test
+pub marked_map : {X : Type 0} (test : X → Bool) (xs : List X) → marked (map test xs) ≡ length (filter test xs)
+marked_map test [] = refl
+marked_map test (x ∷ xs) = grind (arith, marked_map test xs)

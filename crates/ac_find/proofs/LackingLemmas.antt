@@ -1,0 +1,141 @@
+-- How far the providers of a root come in a slot, and the first slot that none of them serves.
+use Rattle.std.proofs.Common.{inl, inr, ◌≡◌, ◌∙◌, ◌<◌, ◌≤◌, ℕ, zero, suc, ◌+◌, Bool, true, false, ◌&&◌, ◌||◌, List, [], ◌∷◌, ◌++◌, length, map, nat_lt, slice_index, slice_index_or, slice_set, Option, Some, None, refl, sym, subst, ap, ap₂, arith, add-one}
+use Rattle.std.specs.Prelude.{cond, take}
+use Rattle.std.specs.List.{filter, list_any, range_with_len}
+use Rattle.std.specs.Option.{option_map, option_or}
+use Rattle.std.proofs.lemmas.Bool.{cases_Bool, cases_lt}
+use Rattle.std.proofs.lemmas.List.{get_or-set_other, get_or-set_same}
+use Rattle.std.proofs.lemmas.Bool.Decides.{nat_tests}
+use Rattle.std.proofs.lemmas.List.FromFn.{fill_by_all, get_or-map-range_with_len, length-map-range_with_len}
+use Rattle.ac_query.specs.Asked.{Asked, Slot, slots_of}
+use Rattle.ac_cloud.specs.World.{Provider, is_available_at, anchors_of}
+use Rattle.ac_rules.specs.Placed.{Placed, no_slot}
+use Rattle.ac_rules.specs.Together.{takes_root}
+use Rattle.ac_prune.specs.Ahead.{hosts_of}
+use Rattle.ac_prune.specs.Trees.Keys.{is_there}
+use Rattle.ac_find.specs.Explained.{holds_required, in_slot, meets_units, meets_traits, meets_aggregates, meets_tree, meets_room}
+use Rattle.ac_prune.specs.Fitting.{fits_at}
+use Rattle.ac_find.specs.Lacking.{first_lack, first_unserved, lack_at, unreached}
+use Rattle.ac_find.specs.Shown.Lacking.{AreNoted, AreReached, lack_behind, passes, stage_behind, unserved}
+use Rattle.ac_find.specs.declared.lacks.Lack.{Lack}
+use Rattle.ac_find.specs.declared.lacks.Lack.TheVariants as lack
+use Rattle.ac_prune.proofs.Roots.TreeLemmas.{anchor_there}
+use Rattle.ac_prune.proofs.Search.OpenLemmas.{choice_more}
+
+-- ---- One more provider
+
+there_passes : (f : ℕ → Bool) (zs : List ℕ) (r : ℕ) → f r ≡ false → is_there (filter f zs) r ≡ false
+there_passes f [] r fails = refl
+there_passes f (z ∷ zs) r fails = grind (arith, nat_tests, there_passes f zs r fails)
+
+-- the anchors of a provider are the roots where it is available
+there_anchor : (all : List Provider) (p r : ℕ) → r < length all → is_there (anchors_of all p) r ≡ is_available_at all p r
+there_anchor all p r low = elim (cases_Bool (is_available_at all p r)) [
+  | inl here ↦ anchor_there all p r low here ∙ sym here
+  | inr away ↦ there_passes (is_available_at all p) (range_with_len 0 (length all)) r away ∙ sym away
+]
+
+any_append : (f : ℕ → Bool) (xs ys : List ℕ) → list_any f (xs ++ ys) ≡ list_any f xs || list_any f ys
+any_append f [] ys = refl
+any_append f (x ∷ xs) ys = grind (arith, any_append f xs ys)
+
+any_one : (f : ℕ → Bool) (b : Bool) (p : ℕ) → list_any f (cond b (p ∷ []) []) ≡ (b && f p)
+any_one f true p = grind arith
+any_one f false p = refl
+
+-- a provider is one of those that are available in the tree of a root where it is
+pub any_more : (f g : ℕ → Bool) (p : ℕ) → list_any f (filter g (range_with_len 0 (p + 1))) ≡ list_any f (filter g (range_with_len 0 p)) || (g p && f p)
+any_more f g p = ap (list_any f) (choice_more g p) ∙ (any_append f (filter g (range_with_len 0 p)) (cond (g p) (p ∷ []) []) ∙ ap (λ (b : Bool). list_any f (filter g (range_with_len 0 p)) || b) (any_one f (g p) p))
+
+-- how many tests are passed, one after another
+pub pass_each : (all : List Provider) (x : Placed) (met : ℕ) → nat_lt 0 met ≡ meets_units all x → nat_lt 1 met ≡ meets_traits all x → nat_lt 2 met ≡ meets_aggregates all x
+    → nat_lt 3 met ≡ meets_tree all x → nat_lt 4 met ≡ meets_room all x → (k : ℕ) → k < 5 → nat_lt k met ≡ passes k all x
+pass_each all x met a b c d e zero h = a
+pass_each all x met a b c d e (suc zero) h = b
+pass_each all x met a b c d e (suc (suc zero)) h = c
+pass_each all x met a b c d e (suc (suc (suc zero))) h = d
+pass_each all x met a b c d e (suc (suc (suc (suc zero)))) h = e
+pass_each all x met a b c d e (suc (suc (suc (suc (suc k))))) h = absurd (omega (arith, h))
+
+-- one more provider comes so far at the roots where it is available
+pub reached_more : (all : List Provider) (slot : Slot) (k p r met old new : ℕ) → r < length all → nat_lt k met ≡ passes k all (in_slot slot p)
+    → nat_lt k old ≡ list_any (λ p. passes k all (in_slot slot p)) (filter (λ p. is_available_at all p r) (range_with_len 0 p))
+    → nat_lt k new ≡ (nat_lt k old || (is_there (anchors_of all p) r && nat_lt k met))
+    → nat_lt k new ≡ list_any (λ p. passes k all (in_slot slot p)) (filter (λ p. is_available_at all p r) (range_with_len 0 (p + 1)))
+reached_more all slot k p r met old new low here was is =
+    is ∙ (ap₂ (λ a b. a || b) was (ap₂ (λ a b. a && b) (there_anchor all p r low) here) ∙ sym (any_more (λ p. passes k all (in_slot slot p)) (λ p. is_available_at all p r) p))
+
+-- all providers
+pub reached_all : (all : List Provider) (slot : Slot) (k n r passed : ℕ) → n ≡ length all
+    → nat_lt k passed ≡ list_any (λ p. passes k all (in_slot slot p)) (filter (λ p. is_available_at all p r) (range_with_len 0 n))
+    → nat_lt k passed ≡ list_any (λ p. passes k all (in_slot slot p)) (hosts_of all r)
+unfolding hosts_of
+reached_all all slot k n r passed end h = subst (λ (m : ℕ). nat_lt k passed ≡ list_any (λ p. passes k all (in_slot slot p)) (filter (λ p. is_available_at all p r) (range_with_len 0 m))) end h
+
+-- ---- One more slot
+
+-- how many tests are passed says which is the first that isn't
+pub behind_reached : (all : List Provider) (slot : Slot) (passed : List ℕ) (r : ℕ) → r < length all → AreReached all slot passed → stage_behind (slice_index passed r) ≡ unreached all r slot
+behind_reached all slot passed r low reached =
+    rw (reached 0 r (omega arith) low, reached 1 r (omega arith) low, reached 2 r (omega arith) low, reached 3 r (omega arith) low, reached 4 r (omega arith) low) refl
+
+or_or : (a b c : Option Lack) → option_or (option_or a b) c ≡ option_or a (option_or b c)
+or_or None b c = refl
+or_or (Some x) b c = refl
+
+or_none : (a : Option Lack) → option_or a None ≡ a
+or_none None = refl
+or_none (Some x) = refl
+
+-- the first of some slots and of one behind them
+next_first : (all : List Provider) (r number : ℕ) (ss : List Slot) (s : ℕ) → s < length ss
+    → first_unserved all r number (take (suc s) ss)
+    ≡ option_or (first_unserved all r number (take s ss)) (option_map (λ stage. lack.Slot (number + s) stage) (unreached all r (slice_index_or ss s no_slot)))
+next_first all r number [] s h = absurd (omega (arith, h))
+next_first all r number (slot ∷ ss) zero h =
+    let same : number ≡ number + 0 = omega arith in
+    or_none _ ∙ ap (λ (n : ℕ). option_map (λ stage. lack.Slot n stage) (unreached all r slot)) same
+next_first all r number (slot ∷ ss) (suc s) h =
+    let same : number + 1 + s ≡ number + suc s = omega arith in
+    let last = λ (n : ℕ). option_map (λ stage. lack.Slot n stage) (unreached all r (slice_index_or ss s no_slot)) in
+    ap (option_or (option_map (λ stage. lack.Slot number stage) (unreached all r slot)))
+    (next_first all r (number + 1) ss s (omega (arith, h)) ∙ ap (λ (n : ℕ). option_or (first_unserved all r (number + 1) (take s ss)) (last n)) same)
+    ∙ sym (or_or (option_map (λ stage. lack.Slot number stage) (unreached all r slot)) (first_unserved all r (number + 1) (take s ss)) (last (number + suc s)))
+
+-- at each root
+pub slot_noted : (all : List Provider) (ss : List Slot) (s : ℕ) (passed : List ℕ) (old new : List (Option Lack)) → s < length ss → old ≡ unserved all (take s ss) → length new ≡ length old
+    → AreReached all (slice_index_or ss s no_slot) passed → AreNoted old (s + 1) passed new → new ≡ unserved all (take (s + 1) ss)
+slot_noted all ss s passed old new h was size reached noted =
+    let n = length all in
+    let before = λ (r : ℕ). first_unserved all r 1 (take s ss) in
+    let after = λ (r : ℕ). first_unserved all r 1 (take (s + 1) ss) in
+    let many : length old ≡ n = ap length was ∙ length-map-range_with_len before 0 n in
+    let number : s + 1 ≡ 1 + s = omega arith in
+    fill_by_all after new n None (size ∙ many) (λ r low.
+    let here : slice_index_or old r None ≡ before r = ap (λ (xs : List (Option Lack)). slice_index_or xs r None) was ∙ get_or-map-range_with_len before 0 n r r None low (omega arith) in
+    let behind : lack_behind (s + 1) (slice_index passed r) ≡ option_map (λ stage. lack.Slot (1 + s) stage) (unreached all r (slice_index_or ss s no_slot)) =
+    ap₂ (λ (n : ℕ) o. option_map (λ stage. lack.Slot n stage) o) number (behind_reached all (slice_index_or ss s no_slot) passed r low reached) in
+    noted r (omega (arith, many, low)) ∙ (ap₂ option_or here behind ∙ (sym (next_first all r 1 ss s h) ∙ ap (λ (n : ℕ). first_unserved all r 1 (take n ss)) (sym (add-one s)))))
+
+-- one more root
+pub noted_more : (old now : List (Option Lack)) (number : ℕ) (passed : List ℕ) (i : ℕ) (lacks : Option Lack) → i < length now
+    → lacks ≡ option_or (slice_index_or now i None) (lack_behind number (slice_index passed i))
+    → ((r : ℕ) → r < i → slice_index_or now r None ≡ option_or (slice_index_or old r None) (lack_behind number (slice_index passed r)))
+    → ((r : ℕ) → i ≤ r → slice_index_or now r None ≡ slice_index_or old r None)
+    → (r : ℕ) → r < i + 1 → slice_index_or (slice_set now i lacks) r None ≡ option_or (slice_index_or old r None) (lack_behind number (slice_index passed r))
+noted_more old now number passed i lacks low is done same r h = elim (cases_lt r i) [
+  | inl before ↦ get_or-set_other now i r lacks None (λ e. omega (arith, before, e)) ∙ done r before
+  | inr behind ↦
+      let here : r ≡ i = omega (arith, h, behind) in
+      rw here (get_or-set_same now i lacks None low ∙ (is ∙ ap (λ (o : Option Lack). option_or o (lack_behind number (slice_index passed i))) (same i (omega arith))))
+]
+
+-- ---- What a root lacks
+
+-- what stands at a place of a list that was filled by a function
+pub at_place : {X : Type 0} (f : ℕ → X) (n : ℕ) (xs : List X) (r : ℕ) (x d : X) → r < n → xs ≡ map f (range_with_len 0 n) → x ≡ slice_index_or xs r d → x ≡ f r
+at_place f n xs r x d low is here = here ∙ (ap (λ ys. slice_index_or ys r d) is ∙ get_or-map-range_with_len f 0 n r r d low (omega arith))
+
+pub lack_found : (all : List Provider) (asked : Asked) (r : ℕ) (takes : Bool) (slot : Option Lack) (holds fits : Bool) → takes ≡ takes_root all asked r → slot ≡ first_unserved all r 1 (slots_of asked)
+    → holds ≡ holds_required all asked r → fits ≡ fits_at all asked r → first_lack takes slot holds fits ≡ lack_at all asked r
+lack_found all asked r takes slot holds fits a b c d = rw (a, b, c, d) refl

@@ -1,0 +1,7 @@
+pub mod DetailsWritten
+pub mod Places
+pub mod ExplainedLemmas
+pub mod LackingLemmas
+pub mod LackLaws
+pub mod RequiredLemmas
+pub mod NoneLemmas

@@ -1,0 +1,88 @@
+-- Which marks of roots stay by the traits that the group without a suffix requires.
+use Rattle.std.proofs.Common.{◌≡◌, ◌∙◌, ◌<◌, ℕ, ◌+◌, Bool, true, false, ◌&&◌, ◌||◌, List, [], ◌∷◌, length, map, take, get_or, slice_index, slice_index_or, Option, Some, None, refl, sym, ap, arith}
+use Rattle.std.specs.Prelude.{if◌then◌else◌}
+use Rattle.std.specs.List.{list_all, list_any, range_with_len}
+use Rattle.std.specs.Option.{is_some}
+use Rattle.std.proofs.Math.Bool.{and-true}
+use Rattle.std.proofs.lemmas.Bool.{false≢true}
+use Rattle.std.proofs.lemmas.List.Folds.{list_all_more}
+use Rattle.std.proofs.lemmas.List.FromFn.{fill_by_all, get_or-map-range_with_len, length-map-range_with_len}
+use Rattle.ac_query.specs.Asked.{Asked, Group, slots_of}
+use Rattle.ac_cloud.specs.World.{Provider, provider_at, has_trait}
+use Rattle.ac_prune.specs.Ahead.{hosts_of}
+use Rattle.ac_prune.specs.Loads.{AreLimited}
+use Rattle.ac_rules.specs.Own.{has_any}
+use Rattle.ac_find.specs.Explained.{are_held, has_each_slot, holds_required, is_held, is_one_held, serves_unsuffixed}
+use Rattle.ac_find.specs.Shown.Explained.{AreKept, holding, requires_some, served_roots}
+use Rattle.ac_prune.proofs.Roots.RootLemmas.{hosts_low}
+use Rattle.ac_find.proofs.ExplainedLemmas.{reaches}
+
+-- ---- Marks that stay
+
+all_map : {X Y : Type 0} (f : Y → Bool) (view : X → Y) (xs : List X) → list_all f (map view xs) ≡ list_all (λ x. f (view x)) xs
+all_map f view [] = refl
+all_map f view (x ∷ xs) = ap (λ b. f (view x) && b) (all_map f view xs)
+
+-- one more item passes
+all_more : {X Y : Type 0} (f : Y → Bool) (view : X → Y) (xs : List X) (i : ℕ) (d : X) → i < length xs
+    → list_all f (map view (take (i + 1) xs)) ≡ (list_all f (map view (take i xs)) && f (view (get_or xs i d)))
+all_more f view xs i d h =
+    all_map f view (take (i + 1) xs) ∙ (list_all_more (λ x. f (view x)) xs i d h ∙ ap (λ b. b && f (view (get_or xs i d))) (sym (all_map f view (take i xs))))
+
+-- without a test all stay
+pub kept_all : (all : List Provider) (marks : List Bool) → AreKept all (λ r. true) marks marks
+kept_all all marks r low = sym (and-true (slice_index_or marks r false))
+
+-- by two tests, one after the other
+pub kept_both : (all : List Provider) (f g : ℕ → Bool) (old mid new : List Bool) → AreKept all f old mid → AreKept all g mid new → AreKept all (λ r. f r && g r) old new
+kept_both all f g old mid new first second r low = let one = first r low in let two = second r low in grind (arith, one, two)
+
+-- by a test that says the same
+pub kept_same : (all : List Provider) (f g : ℕ → Bool) (old new : List Bool) → ((r : ℕ) → f r ≡ g r) → AreKept all f old new → AreKept all g old new
+kept_same all f g old new same kept r low = kept r low ∙ ap (λ b. slice_index_or old r false && b) (same r)
+
+-- by the test of one more item
+pub kept_more : {X Y : Type 0} (all : List Provider) (test : ℕ → Y → Bool) (view : X → Y) (xs : List X) (i : ℕ) (d : X) (old mid new : List Bool) → i < length xs
+    → AreKept all (λ r. list_all (test r) (map view (take i xs))) old mid → AreKept all (λ r. test r (view (get_or xs i d))) mid new
+    → AreKept all (λ r. list_all (test r) (map view (take (i + 1) xs))) old new
+kept_more all test view xs i d old mid new h before here =
+    kept_same all (λ r. list_all (test r) (map view (take i xs)) && test r (view (get_or xs i d))) (λ r. list_all (test r) (map view (take (i + 1) xs))) old new
+    (λ r. sym (all_more (test r) view xs i d h))
+    (kept_both all (λ r. list_all (test r) (map view (take i xs))) (λ r. test r (view (get_or xs i d))) old mid new before here)
+
+-- ---- What the group without a suffix requires
+
+-- the roots that have some of those that hold one of these traits
+pub kept_limited : (all : List Provider) (asked : Asked) (names : List (List ℕ)) (rooms : List ℕ) (old new : List Bool) → rooms ≡ holding all asked names
+    → AreLimited all rooms 1 old new → AreKept all (λ r. is_one_held all asked r names) old new
+kept_limited all asked names rooms old new room limited r low =
+    let n = length all in
+    let holds = λ (p : ℕ). serves_unsuffixed all asked p && has_any (provider_at all p) names in
+    let room_at : (p : ℕ) → p < n → slice_index rooms p ≡ (if holds p then 1 else 0) =
+    λ p k. ap (λ (xs : List ℕ). slice_index xs p) room ∙ get_or-map-range_with_len (λ (p : ℕ). if holds p then 1 else 0) 0 n p p 0 k (omega arith) in
+    limited r low ∙ ap (λ b. slice_index_or old r false && b) (reaches holds rooms (hosts_of all r) n (hosts_low all r) room_at)
+
+-- a list of one trait
+one_held : (s t : ℕ → Bool) (ps : List ℕ) → list_any (λ p. s p && (t p || false)) ps ≡ list_any (λ p. s p && t p) ps
+one_held s t [] = refl
+one_held s t (p ∷ ps) = grind (arith, one_held s t ps)
+
+pub held_alone : (all : List Provider) (asked : Asked) (r : ℕ) (name : List ℕ) → is_one_held all asked r (name ∷ []) ≡ is_held all asked r name
+held_alone all asked r name = one_held (serves_unsuffixed all asked) (λ p. has_trait (provider_at all p) name) (hosts_of all r)
+
+-- a group that requires something
+pub held_there : (all : List Provider) (asked : Asked) (r : ℕ) (suffix : Option (List ℕ)) (g : Group) → requires_some suffix g ≡ true → are_held all asked r g ≡ (is_some suffix || are_held all asked r g)
+held_there all asked r (Some s) g h = absurd (false≢true h)
+held_there all asked r None g h = refl
+
+-- the marks that are left
+pub kept_roots : (all : List Provider) (asked : Asked) (old new : List Bool) → old ≡ served_roots all asked (slots_of asked) → length new ≡ length old
+    → AreKept all (λ r. holds_required all asked r) old new
+    → new ≡ map (λ r. has_each_slot all asked r && holds_required all asked r) (range_with_len 0 (length all))
+kept_roots all asked old new was size kept =
+    let n = length all in
+    let before = λ (r : ℕ). has_each_slot all asked r in
+    let after = λ (r : ℕ). has_each_slot all asked r && holds_required all asked r in
+    fill_by_all after new n false (size ∙ (ap length was ∙ length-map-range_with_len before 0 n)) (λ r low.
+    let here : slice_index_or old r false ≡ before r = ap (λ (bs : List Bool). slice_index_or bs r false) was ∙ get_or-map-range_with_len before 0 n r r false low (omega arith) in
+    kept r low ∙ ap (λ b. b && holds_required all asked r) here)

@@ -1,0 +1,18 @@
+use Rattle.std.proofs.Common.{◌∙◌, length, ap, arith}
+use Rattle.std.proofs.lemmas.List.FromFn.{length-map-range_with_len}
+use Rattle.ac_query.specs.Shown.Queries.{asked_of}
+use Rattle.ac_cloud.specs.Cloud.CloudWorld.{providers_of}
+use Rattle.ac_find.proofs.ExplainedLemmas.{served_more}
+use Rattle.ac_find.proofs.counts.limit_slots.Goals as goal
+
+pub limit-requires-clause-rooms : goal.limit-requires-clause-rooms
+limit-requires-clause-rooms c = ap length (c.deref.ensures.value ∙ c.in_ok-serving.ensures) ∙ length-map-range_with_len _ 0 (length (providers_of c.args.cloud.now))
+
+pub limit-requires-clause-may : goal.limit-requires-clause-may
+limit-requires-clause-may c = ap length c.loop-s.invariant ∙ length-map-range_with_len _ 0 (length (providers_of c.args.cloud.now))
+
+pub loop-s-preserved : goal.loop-s-preserved
+loop-s-preserved c =
+    served_more (providers_of c.args.cloud.now) (asked_of c.args.query.now) c.loop-s.s c.deref.result.now c.loop-s.marks c.limit.new.may
+    (omega (arith, c.loop-s-test.true, c.count_slots-s-end.ensures.count))
+    (c.deref.ensures.value ∙ c.in_ok-serving.ensures) c.loop-s.invariant c.limit.auto.may c.in_ok-limit.ensures

@@ -1,0 +1,5 @@
+use Rattle.ac_find.proofs.LackLaws.{lack_nothing}
+use Rattle.ac_find.proofs.laws.lack_nothing.Goals as goal
+
+pub returns : goal.returns
+returns c = lack_nothing

@@ -1,0 +1,7 @@
+pub mod Broken
+pub mod Details
+pub mod Missing
+pub mod Shown
+pub mod Explained
+pub mod Lacking
+pub mod Laws

@@ -1,0 +1,3 @@
+-- What counts and lacks show.
+pub mod Explained
+pub mod Lacking

@@ -1,0 +1,47 @@
+-- How far the providers of each root come in a slot, and which slots were found that none of them serves.
+use Rattle.std.specs.Prelude.{◌≡◌, ℕ, ◌<◌, zero, suc, Bool, nat_lt, List, map, length, slice_index, slice_index_or, Option, None}
+use Rattle.std.specs.List.{list_any, range_with_len}
+use Rattle.std.specs.Option.{option_map, option_or}
+use Rattle.ac_query.specs.Asked.{Slot}
+use Rattle.ac_cloud.specs.World.{Provider}
+use Rattle.ac_rules.specs.Placed.{Placed}
+use Rattle.ac_prune.specs.Ahead.{hosts_of}
+use Rattle.ac_find.specs.Explained.{in_slot, meets_units, meets_traits, meets_aggregates, meets_tree, meets_room}
+use Rattle.ac_find.specs.Lacking.{first_unserved, if_failed}
+use Rattle.ac_find.specs.declared.lacks.Stage.{Stage}
+use Rattle.ac_find.specs.declared.lacks.Stage.TheVariants.{Units, Traits, Aggregates, Tree, Room}
+use Rattle.ac_find.specs.declared.lacks.Lack.{Lack}
+use Rattle.ac_find.specs.declared.lacks.Lack.TheVariants as lack
+
+-- the five tests of a slot's provider by their number, from 0
+abbrev pub passes : ℕ → List Provider → Placed → Bool
+passes zero all x = meets_units all x
+passes (suc zero) all x = meets_traits all x
+passes (suc (suc zero)) all x = meets_aggregates all x
+passes (suc (suc (suc zero))) all x = meets_tree all x
+passes (suc (suc (suc (suc k)))) all x = meets_room all x
+
+-- of each root as many tests as some provider available in its tree passes
+abbrev pub AreReached : List Provider → Slot → List ℕ → Type 0
+AreReached all slot passed = (k r : ℕ) → k < 5 → r < length all → nat_lt k (slice_index passed r) ≡ list_any (λ p. passes k all (in_slot slot p)) (hosts_of all r)
+
+-- the first test that isn't passed where so many are
+abbrev pub stage_behind : ℕ → Option Stage
+stage_behind n =
+    if_failed (nat_lt 0 n) Units
+    (if_failed (nat_lt 1 n) Traits
+    (if_failed (nat_lt 2 n) Aggregates
+    (if_failed (nat_lt 3 n) Tree
+    (if_failed (nat_lt 4 n) Room None))))
+
+-- what is lacking of a slot where so many tests are passed
+abbrev pub lack_behind : ℕ → ℕ → Option Lack
+lack_behind number passed = option_map (λ stage. lack.Slot number stage) (stage_behind passed)
+
+-- what is lacking at each root stays, and where nothing is, this slot is looked at
+abbrev pub AreNoted : List (Option Lack) → ℕ → List ℕ → List (Option Lack) → Type 0
+AreNoted old number passed new = (r : ℕ) → r < length old → slice_index_or new r None ≡ option_or (slice_index_or old r None) (lack_behind number (slice_index passed r))
+
+-- the first of some slots that none of the providers available at each root serves by itself
+abbrev pub unserved : List Provider → List Slot → List (Option Lack)
+unserved all slots = map (λ r. first_unserved all r 1 slots) (range_with_len 0 (length all))

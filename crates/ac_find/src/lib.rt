@@ -1,0 +1,22 @@
+//! What is found of a cloud: how many providers and roots come how far, what a root lacks, what nobody has, of what a provider has too
+//! little, and of what a list of providers breaks a rule.
+//!
+//! It searches nothing, and knows nothing of what is printed.
+#![tactic(auto)]
+
+pub mod broken;
+mod counts;
+pub mod details;
+mod lacks;
+pub mod laws;
+pub mod missing;
+
+pub use broken::broken_detail;
+pub use counts::{
+    SlotCounts, SlotTold, TreeCounts, all_slots, requires_some, slot_counts, tree_counts,
+};
+pub use lacks::{Lack, Stage, find_lack, find_lacks, first_failed};
+pub use missing::{
+    some_root_has, somebody_has_class, somebody_has_one, somebody_has_trait, somebody_is,
+    somebody_is_in,
+};

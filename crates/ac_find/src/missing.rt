@@ -1,0 +1,78 @@
+//! What nobody in a cloud has, and no root: each test goes through all providers once, and takes no memory.
+ghost use Rattle.std.specs.Prelude.{◌≡◌, ◌&&◌, map};
+ghost use Rattle.std.specs.List.Sorted.{IsStrictlySortedBy};
+ghost use Rattle.ac_base.specs.Names.{class_bytes, trait_bytes};
+ghost use Rattle.ac_base.specs.Texts.{text_cmp};
+ghost use Rattle.ac_cloud.specs.Providers.{provider_of};
+ghost use Rattle.ac_cloud.specs.World.{has_trait, is_root};
+ghost use Rattle.ac_cloud.specs.Cloud.CloudWorld.{providers_of};
+ghost use Rattle.ac_find.specs.Missing.{some_root_has, somebody_has_class, somebody_has_one, somebody_has_trait, somebody_is, somebody_is_in, somebody_is_member};
+
+use ac_base::{ClassName, Id, TraitName};
+use ac_cloud::{Cloud, Provider};
+use ac_rules::rules::traits::has_any;
+
+/// Whether some provider has an inventory of a class, however much is left of it.
+#[tactic(auto, using(ac_cloud::proofs::Ranges::range_more, ac_cloud::proofs::Ranges::range_end), unfolding(crate::specs::Missing::somebody_has_class))]
+pub fn somebody_has_class(cloud: &Cloud, class: &ClassName) -> bool
+    ensures { result ≡ somebody_has_class (providers_of cloud.now) (class_bytes class.now) }
+{
+    (0..cloud.len()).any(|ix| cloud.provider(ix).inventory(class).is_some())
+}
+
+/// Whether some provider has a trait.
+#[tactic(auto, using(ac_cloud::proofs::Ranges::range_more, ac_cloud::proofs::Ranges::range_end), unfolding(crate::specs::Missing::somebody_has_trait))]
+pub fn somebody_has_trait(cloud: &Cloud, name: &TraitName) -> bool
+    ensures { result ≡ somebody_has_trait (providers_of cloud.now) (trait_bytes name.now) }
+{
+    (0..cloud.len()).any(|ix| cloud.provider(ix).has_trait(name))
+}
+
+/// Whether some provider has one of these traits, which rise.
+#[tactic(auto, using(ac_cloud::proofs::Ranges::range_more, ac_cloud::proofs::Ranges::range_end), unfolding(crate::specs::Missing::somebody_has_one))]
+pub fn somebody_has_one(cloud: &Cloud, names: &[TraitName]) -> bool
+    requires { IsStrictlySortedBy text_cmp (map trait_bytes names.now) }
+    ensures { result ≡ somebody_has_one (providers_of cloud.now) (map trait_bytes names.now) }
+{
+    (0..cloud.len()).any(|ix| has_any(&cloud.provider(ix), names))
+}
+
+// Whether a provider is a root, and has a trait.
+fn is_root_with(provider: &Provider, name: &TraitName) -> bool
+    ensures { result ≡ (is_root (providers_of provider.now.cloud.now) (provider_of provider.now).id
+        && has_trait (provider_of provider.now) (trait_bytes name.now)) }
+{
+    provider.is_root() && provider.has_trait(name)
+}
+
+/// Whether some root has a trait.
+#[tactic(auto, using(ac_cloud::proofs::Ranges::range_more, ac_cloud::proofs::Ranges::range_end), unfolding(crate::specs::Missing::some_root_has))]
+pub fn some_root_has(cloud: &Cloud, name: &TraitName) -> bool
+    ensures { result ≡ some_root_has (providers_of cloud.now) (trait_bytes name.now) }
+{
+    (0..cloud.len()).any(|ix| is_root_with(&cloud.provider(ix), name))
+}
+
+// Whether some provider is in an aggregate.
+#[tactic(auto, using(ac_cloud::proofs::Ranges::range_more, ac_cloud::proofs::Ranges::range_end), unfolding(crate::specs::Missing::somebody_is_member))]
+fn somebody_is_member(cloud: &Cloud, aggregate: Id) -> bool
+    ensures { result ≡ somebody_is_member (providers_of cloud.now) aggregate }
+{
+    (0..cloud.len()).any(|ix| cloud.provider(ix).in_aggregate(aggregate))
+}
+
+/// Whether some provider is in one of these aggregates.
+#[tactic(auto, unfolding(crate::specs::Missing::somebody_is_in))]
+pub fn somebody_is_in(cloud: &Cloud, aggregates: &[Id]) -> bool
+    ensures { result ≡ somebody_is_in (providers_of cloud.now) aggregates.now }
+{
+    aggregates.iter().any(|id| somebody_is_member(cloud, *id))
+}
+
+/// Whether a UUID is that of some provider.
+#[tactic(auto, unfolding(crate::specs::Missing::somebody_is))]
+pub fn somebody_is(cloud: &Cloud, id: Id) -> bool
+    ensures { result ≡ somebody_is (providers_of cloud.now) id }
+{
+    cloud.index_of(id).is_some()
+}

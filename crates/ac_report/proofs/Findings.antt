@@ -1,0 +1,7 @@
+-- The texts of what is found.
+pub mod SlotsWritten
+pub mod ItemsWritten
+pub mod FirstFound
+pub mod HostsWritten
+pub mod DifferencesWritten
+pub mod RowsWritten

@@ -1,0 +1,57 @@
+-- An explanation, need by need and slot by slot.
+use Rattle.std.proofs.Common.{inl, inr, ◌≡◌, ◌∙◌, ℕ, suc, ◌+◌, ◌-◌, ◌<◌, ◌≤◌, List, ◌∷◌, get_or, length, map, Option, subst, sym, ap, arith}
+use Rattle.std.specs.Io.KnownBytes.{Appends}
+use Rattle.std.specs.List.{flat_map, range_with_len}
+use Rattle.std.proofs.lemmas.Bool.{cases_Bool}
+use Rattle.std.proofs.lemmas.List.{get_or-map, length-map}
+use Rattle.ac_query.specs.Asked.{Asked, Slot, slots_of}
+use Rattle.ac_cloud.specs.World.{Provider}
+use Rattle.ac_rules.specs.Placed.{no_slot, slot_at}
+use Rattle.ac_find.specs.Explained.{class_room, is_short, slot_told}
+use Rattle.ac_find.specs.Shown.Explained.{slot_shown}
+use Rattle.ac_find.specs.declared.counts.classes.SlotTold as rust
+use Rattle.std.specs.Prelude.{Result}
+use Rattle.std.specs.Result.{IsErrAnd}
+use Rattle.ac_base.specs.Devices.{Rises, TakesPart}
+use Rattle.ac_base.specs.Writing.{Pushes}
+use Rattle.ac_base.proofs.Pushed.{pushed_within}
+use Rattle.ac_base.proofs.Leaving.{Leaves, leaves_appends}
+
+module _ (a b c : Option (List ℕ)) (whole : List ℕ) where
+  -- ---- what is written at each place below n, in order
+
+  module _ (f : ℕ → List ℕ) (s n : ℕ) (leaves : Leaves a b whole (flat_map f (range_with_len s (n - s)))) where
+    first : s < n → Leaves a b whole (flat_map f (s ∷ range_with_len (s + 1) (n - (s + 1))))
+    first h =
+        let more : n - s ≡ suc (n - (s + 1)) = omega arith in
+        subst (λ (k : ℕ). Leaves a b whole (flat_map f (range_with_len s k))) more leaves
+
+    pub place_written : s < n → Appends b c (f s) → Leaves a c whole (flat_map f (range_with_len (s + 1) (n - (s + 1))))
+    place_written h k = leaves_appends a b c whole (f s) (flat_map f (range_with_len (s + 1) (n - (s + 1)))) (first h) k
+
+    -- an error within the text of a place
+    pub place_stopped : {T E : Type 0} (r : Result T E) (P : E → Type 0) (k l m : ℕ) → s < n → k ≤ l → l ≤ m → IsErrAnd r P → TakesPart b c (f s) → Rises l m → Pushes r a c k m whole
+    place_stopped r P k l m h = pushed_within r P a b c k l m whole (f s) (flat_map f (range_with_len (s + 1) (n - (s + 1)))) (first h)
+
+-- the thing that stands for an element stands at its place
+pub mapped_at : {X Y : Type 0} (e : X → Y) (xs : List X) (k : ℕ) (x : X) (d : Y) → x ≡ get_or xs k x → k < length xs → e x ≡ get_or (map e xs) k d
+mapped_at e xs k x d is h = ap e is ∙ sym (get_or-map e xs k x d h)
+
+-- ---- what is told of the slot at a place
+
+module _ (all : List Provider) (asked : Asked) (slots : List rust.SlotTold) (s : ℕ) (d : rust.SlotTold)
+    (are : map slot_shown slots ≡ map (slot_told all) (slots_of asked)) (h : s < length slots) where
+  pub told_low : s < length (slots_of asked)
+  told_low = omega (arith, h, ap length are, length-map slots slot_shown, length-map (slots_of asked) (slot_told all))
+
+  pub told_at : slot_shown (get_or slots s d) ≡ slot_told all (slot_at asked s)
+  told_at =
+      sym (get_or-map slot_shown slots s d (slot_shown d) h)
+      ∙ (ap (λ told. get_or told s (slot_shown d)) are ∙ get_or-map (slot_told all) (slots_of asked) s no_slot (slot_shown d) told_low)
+
+-- no more rooms than classes
+pub rooms_few : (all : List Provider) (slot : Slot) → length (slot_told all slot).rooms ≤ length slot.needs
+rooms_few all slot = elim (cases_Bool (is_short all slot)) [
+  | inl e ↦ rw e (omega (arith, length-map slot.needs (class_room all slot)))
+  | inr e ↦ rw e (omega arith)
+]

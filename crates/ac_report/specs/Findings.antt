@@ -1,0 +1,4 @@
+-- The texts of what is found.
+pub mod Explanation
+pub mod HostRows
+pub mod WhyRows

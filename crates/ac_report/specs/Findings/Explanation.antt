@@ -1,0 +1,86 @@
+-- The text of an explanation: a line for each slot, one for the trees, what nobody has, whether there is a candidate; where there is none, whether
+-- there would be one without one of the things that are asked of several slots together; and where the service may answer otherwise.
+pub mod Candidates
+pub mod Differing
+pub mod Nobody
+pub mod Shown
+use Rattle.std.specs.Prelude.{ℕ, ◌+◌, ◌==◌, Bool, true, false, if◌then◌else◌, List, [], ◌∷◌, ◌++◌, get_or, length, codes}
+use Rattle.std.specs.Fmt.{decimal}
+use Rattle.std.specs.List.{flat_map, range_with_len}
+use Rattle.ac_query.specs.Asked.{Asked, Slot, slots_of}
+use Rattle.ac_cloud.specs.World.{Provider}
+use Rattle.ac_find.specs.Explained.{SlotCounts, SlotTold, TreeCounts, slot_told, tree_counts}
+use Rattle.ac_rules.specs.Placed.{slot_at}
+use Rattle.ac_rules.specs.Together.{is_empty}
+use Rattle.ac_report.specs.Findings.Explanation.Candidates.{candidates_line, found_without, without_lines}
+use Rattle.ac_report.specs.Findings.Explanation.Nobody.{nobody_lines}
+use Rattle.ac_base.specs.Pieces.{newline, printed, said}
+use Rattle.ac_report.specs.Findings.Explanation.Differing.{differs_lines}
+
+-- ---- A slot
+
+-- a class with its amount, behind a mark
+unfoldable pub need_text : List ℕ → List ℕ × ℕ → List ℕ
+need_text mark need = said (mark ∷ need.0 ∷ codes ":" ∷ decimal need.1 ∷ [])
+
+-- classes with their amounts: the first behind a blank, each further one behind a comma
+abbrev pub needs_text : List (List ℕ × ℕ) → List ℕ
+needs_text [] = []
+needs_text (need ∷ needs) = need_text (codes " ") need ++ flat_map (λ need. need_text (codes ",") need) needs
+
+-- a slot by its number and the suffix of its group
+unfoldable pub slot_name : ℕ → Slot → List ℕ
+slot_name number slot = said (codes "slot " ∷ decimal number ∷ codes " \"" ∷ printed slot.suffix ∷ codes "\"" ∷ [])
+
+-- how many of all providers meet what it asks
+unfoldable pub slot_counted : ℕ → SlotCounts → List ℕ
+slot_counted providers c =
+    said
+    (codes ": units " ∷ decimal c.units ∷ codes " of " ∷ decimal providers ∷ codes ", traits " ∷ decimal c.traits ∷ codes ", aggregates " ∷ decimal c.aggregates
+    ∷ codes ", tree " ∷ decimal c.tree ∷ codes ", room " ∷ decimal c.room ∷ [])
+
+-- the mark before the class at a place: a bracket before the first
+abbrev pub room_mark : ℕ → List ℕ
+room_mark k = if k == 0 then codes " (" else codes ", "
+
+-- how many have room for a class, behind a mark
+unfoldable pub room_text : List ℕ → List ℕ → ℕ → List ℕ
+room_text mark class room = said (mark ∷ class ∷ codes " " ∷ decimal room ∷ [])
+
+-- each class with its room, where it is told
+abbrev pub each_room : List (List ℕ × ℕ) → List ℕ → List ℕ
+each_room needs rooms = flat_map (λ k. room_text (room_mark k) (get_or needs k ([], 0)).0 (get_or rooms k 0)) (range_with_len 0 (length rooms))
+
+-- the end of the line: a bracket, where classes are told
+abbrev pub slot_end : List ℕ → List ℕ
+slot_end rooms = if is_empty rooms then codes "\n" else codes ")\n"
+
+abbrev pub slot_line : List Provider → ℕ → Slot → SlotTold → List ℕ
+slot_line all number slot told =
+    (slot_name number slot ++ needs_text slot.needs) ++ (slot_counted (length all) told.counts ++ (each_room slot.needs told.rooms ++ slot_end told.rooms))
+
+-- a line for each slot, numbered from 1
+abbrev pub slot_lines : List Provider → Asked → List ℕ
+slot_lines all asked = flat_map (λ s. slot_line all (s + 1) (slot_at asked s) (slot_told all (slot_at asked s))) (range_with_len 0 (length (slots_of asked)))
+
+-- ---- The trees
+
+unfoldable pub trees_line : TreeCounts → List ℕ
+trees_line c =
+    said
+    (codes "trees " ∷ decimal c.roots ∷ codes ": root traits " ∷ decimal c.root_traits ∷ codes ", each slot " ∷ decimal c.each_slot
+    ∷ codes ", required traits " ∷ decimal c.required_traits ∷ newline ∷ [])
+
+-- ---- The explanation
+
+-- how far the query comes, up to whether there is a candidate
+abbrev pub told_text : List Provider → Asked → Bool → List ℕ
+told_text all asked found =
+    slot_lines all asked ++ (trees_line (tree_counts all asked) ++ (nobody_lines all asked ++ candidates_line found))
+
+unfoldable pub explanation_text : List Provider → Asked → Bool → List ℕ
+explanation_text all asked found = told_text all asked found ++ (without_lines asked (found_without all asked found) ++ differs_lines all asked)
+
+abbrev pub explanation_status : Bool → ℕ
+explanation_status true = 0
+explanation_status false = 1

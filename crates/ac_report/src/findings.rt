@@ -1,0 +1,14 @@
+//! The texts of what is found of a cloud and a query: explanations, and rows of hosts.
+
+mod explanation;
+mod host_rows;
+mod lacks;
+mod question;
+mod why_rows;
+
+pub use explanation::{
+    FoundWithout, explanation_status, find_without, has_candidate, push_explanation, push_reasons,
+};
+pub use host_rows::{hosts_status, hosts_text};
+pub use question::Question;
+pub use why_rows::{root_place, why_at};

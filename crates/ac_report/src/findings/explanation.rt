@@ -1,0 +1,358 @@
+//! How far a query comes, told without memory: a line for each slot, one for the trees, what nobody has, whether there is a candidate; where there is
+//! none, whether there would be one without one of the things that are asked of several slots together; and where the service may answer otherwise.
+
+mod differences;
+mod nobody;
+mod without;
+
+ghost use Rattle.std.specs.Prelude.{◌≡◌, ◌+◌, ◌<◌, ◌≤◌, ◌++◌, IfOk, OnErr, OnOk, length, map};
+ghost use Rattle.std.specs.Io.KnownBytes.{Appends};
+ghost use Rattle.ac_base.specs.Devices.{Rises, TakesPart};
+ghost use Rattle.ac_cloud.specs.Cloud.CloudWorld.{providers_of};
+ghost use Rattle.ac_query.specs.Asked.{slots_of};
+ghost use Rattle.ac_query.specs.Shown.Groups.{need_entry};
+ghost use Rattle.ac_query.specs.Shown.Queries.{asked_of};
+ghost use Rattle.ac_find.specs.Explained.{slot_told, tree_counts};
+ghost use Rattle.ac_find.specs.Shown.Explained.{slot_counted as counts_shown, slot_shown, trees_counted as trees_shown};
+ghost use Rattle.ac_rules.specs.Placed.{slot_at};
+ghost use Rattle.ac_report.specs.Findings.Explanation.{each_room, explanation_status, need_text, needs_text, room_mark, room_text, slot_counted, slot_end, slot_line, slot_lines, slot_name, trees_line};
+ghost use Rattle.ac_report.specs.Findings.Explanation.Candidates.{candidates_line, has_candidate, without_lines};
+ghost use Rattle.ac_report.specs.Findings.Explanation.Differing.{differs_lines};
+ghost use Rattle.ac_report.specs.Findings.Explanation.Nobody.{nobody_lines};
+ghost use Rattle.ac_report.specs.Findings.Explanation.Shown.{found_shown};
+ghost use Rattle.ac_base.specs.Writing.{Pushes};
+
+use self::differences::push_differences;
+use self::nobody::push_missing;
+use self::without::push_without;
+pub use self::without::{FoundWithout, find_without};
+use crate::request::suffix_text;
+use ac_base::pieces::digits::Digits;
+use ac_base::pieces::push_pieces;
+use ac_base::{NoMemory, Sink, WriteFailed, push_all};
+use ac_cloud::Cloud;
+use ac_find::{SlotCounts, SlotTold, TreeCounts};
+use ac_query::{Need, Query};
+use ac_rules::Source;
+use ac_rules::slots::{count_slots, group_at, needs_at};
+use ac_search::Walk;
+use std::alloc::Global;
+
+// A class with its amount, behind a mark.
+#[tactic(auto, unfolding(crate::specs::Findings::Explanation::need_text))]
+fn push_need<W: Sink>(out: &mut W, mark: &[u8], need: &Need) -> Result<(), WriteFailed>
+    ensures text { Pushes result (W.taken out.old) (W.taken out.new)
+        (W.failures out.old) (W.failures out.new)
+        (need_text mark.now (need_entry need.now)) }
+    ensures failures { W.failures out.old ≤ W.failures out.new }
+{
+    push_pieces(
+        out,
+        &[
+            mark,
+            need.class().text().as_bytes(),
+            b":",
+            Digits::of(need.amount()).as_bytes(),
+        ],
+    )
+}
+
+// All classes of a slot.
+#[tactic(auto, using(crate::proofs::Findings::ItemsWritten::item_stopped, ac_base::proofs::Pushed::pushed_first), unfolding(crate::specs::Findings::Explanation::needs_text))]
+fn push_needs<W: Sink>(out: &mut W, needs: &[Need]) -> Result<(), WriteFailed>
+    ensures text { Pushes result (W.taken out.old) (W.taken out.new)
+        (W.failures out.old) (W.failures out.new)
+        (needs_text (map need_entry needs.now)) }
+    ensures failures { W.failures out.old ≤ W.failures out.new }
+{
+    let Some((first, others)) = needs.split_first() else {
+        return Ok(());
+    };
+    push_need(out, b" ", first)?;
+    for need in others {
+        push_need(out, b",", need)?;
+    }
+    Ok(())
+}
+
+// A slot by its number and the suffix of its group.
+#[tactic(auto, unfolding(crate::specs::Findings::Explanation::slot_name))]
+fn push_name<W: Sink>(out: &mut W, query: &Query, s: usize) -> Result<(), WriteFailed>
+    requires { s < length (slots_of (asked_of query.now)) }
+    ensures text { Pushes result (W.taken out.old) (W.taken out.new)
+        (W.failures out.old) (W.failures out.new)
+        (slot_name (s + 1) (slot_at (asked_of query.now) s)) }
+    ensures failures { W.failures out.old ≤ W.failures out.new }
+{
+    push_pieces(
+        out,
+        &[
+            b"slot ",
+            Digits::of(s as u32 + 1).as_bytes(),
+            b" \"",
+            suffix_text(group_at(query, s)).as_bytes(),
+            b"\"",
+        ],
+    )
+}
+
+// How many have room for a class of a slot: the first stands behind a bracket.
+#[tactic(auto, unfolding(crate::specs::Findings::Explanation::room_text))]
+fn push_room<W: Sink>(out: &mut W, k: usize, need: &Need, room: u32) -> Result<(), WriteFailed>
+    ensures text { Pushes result (W.taken out.old) (W.taken out.new)
+        (W.failures out.old) (W.failures out.new)
+        (room_text (room_mark k) (need_entry need.now).0 room) }
+    ensures failures { W.failures out.old ≤ W.failures out.new }
+{
+    let mark = if k == 0 { b" (" } else { b", " };
+    push_pieces(
+        out,
+        &[
+            mark,
+            need.class().text().as_bytes(),
+            b" ",
+            Digits::of(room).as_bytes(),
+        ],
+    )
+}
+
+// How many have room for each class of a slot, where that is told.
+fn push_rooms<W: Sink>(out: &mut W, needs: &[Need], rooms: &[u32]) -> Result<(), WriteFailed>
+    requires { length rooms.now ≤ length needs.now }
+    ensures text { Pushes result (W.taken out.old) (W.taken out.new)
+        (W.failures out.old) (W.failures out.new)
+        (each_room (map need_entry needs.now) rooms.now) }
+    ensures failures { W.failures out.old ≤ W.failures out.new }
+{
+    for k in 0..rooms.len() {
+        push_room(out, k, &needs[k], rooms[k])?;
+    }
+    Ok(())
+}
+
+// The end of a slot's line: a bracket, where classes are told.
+fn slot_end(rooms: &[u32]) -> &'static [u8]
+    ensures { result.now ≡ slot_end rooms.now }
+{
+    if rooms.is_empty() { b"\n" } else { b")\n" }
+}
+
+// How many of all providers meet what a slot asks.
+#[tactic(auto, unfolding(crate::specs::Findings::Explanation::slot_counted))]
+fn push_counts<W: Sink>(out: &mut W, providers: u32, counts: &SlotCounts) -> Result<(), WriteFailed>
+    ensures text { Pushes result (W.taken out.old) (W.taken out.new)
+        (W.failures out.old) (W.failures out.new)
+        (slot_counted providers (counts_shown counts.now)) }
+    ensures failures { W.failures out.old ≤ W.failures out.new }
+{
+    push_pieces(
+        out,
+        &[
+            b": units ",
+            Digits::of(counts.units).as_bytes(),
+            b" of ",
+            Digits::of(providers).as_bytes(),
+            b", traits ",
+            Digits::of(counts.traits).as_bytes(),
+            b", aggregates ",
+            Digits::of(counts.aggregates).as_bytes(),
+            b", tree ",
+            Digits::of(counts.tree).as_bytes(),
+            b", room ",
+            Digits::of(counts.room).as_bytes(),
+        ],
+    )
+}
+
+// A slot and what it asks.
+#[tactic(auto, using(ac_base::proofs::Pushed::pushed_first, ac_base::proofs::Pushed::pushed_on))]
+fn push_asked<W: Sink>(out: &mut W, query: &Query, s: usize) -> Result<(), WriteFailed>
+    requires { s < length (slots_of (asked_of query.now)) }
+    ensures text { Pushes result (W.taken out.old) (W.taken out.new)
+        (W.failures out.old) (W.failures out.new)
+        (slot_name (s + 1) (slot_at (asked_of query.now) s)
+        ++ needs_text (slot_at (asked_of query.now) s).needs) }
+    ensures failures { W.failures out.old ≤ W.failures out.new }
+{
+    push_name(out, query, s)?;
+    push_needs(out, needs_at(query, s))
+}
+
+// What is told of a slot, behind what it asks.
+#[tactic(auto, using(ac_base::proofs::Pushed::pushed_first, ac_base::proofs::Pushed::pushed_on))]
+fn push_told<W: Sink>(
+    out: &mut W,
+    providers: u32,
+    needs: &[Need],
+    told: &SlotTold,
+) -> Result<(), WriteFailed>
+    requires { length told.now.rooms.items ≤ length needs.now }
+    ensures text { Pushes result (W.taken out.old) (W.taken out.new)
+        (W.failures out.old) (W.failures out.new)
+        (slot_counted providers (slot_shown told.now).counts
+        ++ (each_room (map need_entry needs.now) (slot_shown told.now).rooms
+        ++ slot_end (slot_shown told.now).rooms)) }
+    ensures failures { W.failures out.old ≤ W.failures out.new }
+{
+    push_counts(out, providers, &told.counts)?;
+    push_rooms(out, needs, &told.rooms)?;
+    push_all(out, slot_end(&told.rooms))
+}
+
+// The line of a slot.
+#[tactic(auto, using(ac_base::proofs::Pushed::pushed_first, ac_base::proofs::Pushed::pushed_on))]
+fn push_slot<W: Sink>(
+    out: &mut W,
+    cloud: &Cloud,
+    query: &Query,
+    s: usize,
+    told: &SlotTold,
+) -> Result<(), WriteFailed>
+    requires slot { s < length (slots_of (asked_of query.now)) }
+    requires rooms { length told.now.rooms.items
+        ≤ length (slot_at (asked_of query.now) s).needs }
+    ensures text { Pushes result (W.taken out.old) (W.taken out.new)
+        (W.failures out.old) (W.failures out.new)
+        (slot_line (providers_of cloud.now) (s + 1) (slot_at (asked_of query.now) s)
+        (slot_shown told.now)) }
+    ensures failures { W.failures out.old ≤ W.failures out.new }
+{
+    push_asked(out, query, s)?;
+    push_told(out, cloud.len(), needs_at(query, s), told)
+}
+
+// The lines of all slots.
+fn push_slots<W: Sink>(
+    out: &mut W,
+    cloud: &Cloud,
+    query: &Query,
+    slots: &[SlotTold],
+) -> Result<(), WriteFailed>
+    requires { map slot_shown slots.now
+        ≡ map (slot_told (providers_of cloud.now)) (slots_of (asked_of query.now)) }
+    ensures text { Pushes result (W.taken out.old) (W.taken out.new)
+        (W.failures out.old) (W.failures out.new)
+        (slot_lines (providers_of cloud.now) (asked_of query.now)) }
+    ensures failures { W.failures out.old ≤ W.failures out.new }
+{
+    for (s, told) in slots.iter().enumerate() {
+        push_slot(out, cloud, query, s, told)?;
+    }
+    Ok(())
+}
+
+// The line of the trees.
+#[tactic(auto, unfolding(crate::specs::Findings::Explanation::trees_line))]
+fn push_trees<W: Sink>(out: &mut W, counts: &TreeCounts) -> Result<(), WriteFailed>
+    ensures text { Pushes result (W.taken out.old) (W.taken out.new)
+        (W.failures out.old) (W.failures out.new)
+        (trees_line (trees_shown counts.now)) }
+    ensures failures { W.failures out.old ≤ W.failures out.new }
+{
+    push_pieces(
+        out,
+        &[
+            b"trees ",
+            Digits::of(counts.roots).as_bytes(),
+            b": root traits ",
+            Digits::of(counts.root_traits).as_bytes(),
+            b", each slot ",
+            Digits::of(counts.each_slot).as_bytes(),
+            b", required traits ",
+            Digits::of(counts.required_traits).as_bytes(),
+            b"\n",
+        ],
+    )
+}
+
+// The line that says whether there is a candidate.
+#[tactic(auto, unfolding(crate::specs::Findings::Explanation::Candidates::candidates_line))]
+fn candidates_line(found: bool) -> &'static [u8]
+    ensures { result.now ≡ candidates_line found }
+{
+    if found {
+        b"candidates: some\n"
+    } else {
+        b"candidates: none\n"
+    }
+}
+
+/// Pushes what stands behind the counts: whether there is a candidate without one thing, and where the service may answer otherwise.
+#[tactic(auto, using(ac_base::proofs::Leaving::appends_both, ac_base::proofs::Leaving::part_of_first, ac_base::proofs::Leaving::part_of_second))]
+pub fn push_reasons<W: Sink>(
+    out: &mut W,
+    cloud: &Cloud,
+    query: &Query,
+    without: &FoundWithout,
+) -> Result<(), WriteFailed>
+    requires { length (found_shown without.now).subtrees ≤ length (asked_of query.now).subtrees }
+    ensures ok { OnOk result (Appends (W.taken out.old) (W.taken out.new)
+        (without_lines (asked_of query.now) (found_shown without.now)
+        ++ differs_lines (providers_of cloud.now) (asked_of query.now))) }
+    ensures part { OnErr result (TakesPart (W.taken out.old) (W.taken out.new)
+        (without_lines (asked_of query.now) (found_shown without.now)
+        ++ differs_lines (providers_of cloud.now) (asked_of query.now))) }
+    ensures rises { OnErr result (Rises (W.failures out.old) (W.failures out.new)) }
+    ensures failures { W.failures out.old ≤ W.failures out.new }
+{
+    push_without(out, query, without)?;
+    push_differences(out, cloud, query)
+}
+
+/// Pushes an explanation: the lines of the slots, that of the trees by their counts, what nobody has, and whether a candidate was found.
+#[tactic(auto, using(ac_base::proofs::Leaving::appends_both, ac_base::proofs::Leaving::part_of_first, ac_base::proofs::Leaving::part_of_second))]
+pub fn push_explanation<W: Sink>(
+    out: &mut W,
+    cloud: &Cloud,
+    query: &Query,
+    slots: &[SlotTold],
+    trees: &TreeCounts,
+    found: bool,
+) -> Result<(), WriteFailed>
+    requires { map slot_shown slots.now
+        ≡ map (slot_told (providers_of cloud.now)) (slots_of (asked_of query.now)) }
+    ensures ok { OnOk result (Appends (W.taken out.old) (W.taken out.new)
+        (slot_lines (providers_of cloud.now) (asked_of query.now)
+        ++ (trees_line (trees_shown trees.now)
+        ++ (nobody_lines (providers_of cloud.now) (asked_of query.now)
+        ++ candidates_line found)))) }
+    ensures part { OnErr result (TakesPart (W.taken out.old) (W.taken out.new)
+        (slot_lines (providers_of cloud.now) (asked_of query.now)
+        ++ (trees_line (trees_shown trees.now)
+        ++ (nobody_lines (providers_of cloud.now) (asked_of query.now)
+        ++ candidates_line found)))) }
+    ensures rises { OnErr result (Rises (W.failures out.old) (W.failures out.new)) }
+    ensures failures { W.failures out.old ≤ W.failures out.new }
+{
+    push_slots(out, cloud, query, slots)?;
+    push_trees(out, trees)?;
+    push_missing(out, cloud, query)?;
+    push_all(out, candidates_line(found))
+}
+
+/// Whether there is a candidate. Where the counts say that no root has a provider for each slot and the traits that the group
+/// without a suffix requires, there is none, and none is searched for.
+pub fn has_candidate(
+    alloc: Global,
+    cloud: &Cloud,
+    query: &Query,
+    trees: &TreeCounts,
+) -> Result<bool, NoMemory>
+    requires { trees_shown trees.now ≡ tree_counts (providers_of cloud.now) (asked_of query.now) }
+    ensures { IfOk result (λ found.
+        found ≡ has_candidate (providers_of cloud.now) (asked_of query.now)) }
+{
+    if trees.required_traits == 0 {
+        return Ok(false);
+    }
+    let mut walk = Walk::new(alloc, cloud, query, None)?;
+    Ok(walk.next().is_some())
+}
+
+/// 0 where a candidate was found, 1 where there is none.
+pub fn explanation_status(found: bool) -> u8
+    ensures said { result ≡ explanation_status found }
+    ensures few { result ≤ 1 }
+{
+    if found { 0 } else { 1 }
+}

@@ -1,0 +1,333 @@
+//! What nobody has of what a query asks for: a line each, pushed without memory.
+ghost use Rattle.std.specs.Prelude.{◌≡◌, ◌≤◌, map};
+ghost use Rattle.std.specs.List.{flat_map};
+ghost use Rattle.ac_base.specs.Names.{trait_bytes};
+ghost use Rattle.ac_base.specs.Texts.{id_text};
+ghost use Rattle.ac_cloud.specs.Cloud.CloudWorld.{providers_of};
+ghost use Rattle.ac_query.specs.Shown.Groups.{any_of_shown, group_asked, group_entry, need_entry, rule_shown};
+ghost use Rattle.ac_query.specs.Shown.Queries.{asked_of};
+ghost use Rattle.ac_report.specs.Findings.Explanation.Nobody.{class_missed, group_missed, line_of, list_missed, member_mark, members_line, nobody_lines, one_of_line, places_missed, root_trait_missed, rule_missed, things_missed, trait_missed, tree_missed};
+ghost use Rattle.ac_base.specs.Pieces.{listed};
+ghost use Rattle.ac_base.specs.Writing.{Pushes};
+
+use ac_base::pieces::{push_marked, push_pieces};
+use ac_base::{Id, Sink, TraitName, WriteFailed, push_all};
+use ac_cloud::Cloud;
+use ac_find::{
+    some_root_has, somebody_has_class, somebody_has_one, somebody_has_trait, somebody_is,
+    somebody_is_in,
+};
+use ac_query::{AggregateRule, AnyOf, Group, Need, Query};
+
+// A line of a name.
+#[tactic(auto, unfolding(crate::specs::Findings::Explanation::Nobody::line_of))]
+fn push_line<W: Sink>(out: &mut W, front: &[u8], name: &[u8]) -> Result<(), WriteFailed>
+    ensures text { Pushes result (W.taken out.old) (W.taken out.new)
+        (W.failures out.old) (W.failures out.new)
+        (line_of front.now name.now) }
+    ensures failures { W.failures out.old ≤ W.failures out.new }
+{
+    push_pieces(out, &[front, name, b"\n"])
+}
+
+// The line of a class that nobody has.
+fn push_class<W: Sink>(out: &mut W, cloud: &Cloud, need: &Need) -> Result<(), WriteFailed>
+    ensures text { Pushes result (W.taken out.old) (W.taken out.new)
+        (W.failures out.old) (W.failures out.new)
+        (class_missed (providers_of cloud.now) (need_entry need.now).0) }
+    ensures failures { W.failures out.old ≤ W.failures out.new }
+{
+    if somebody_has_class(cloud, need.class()) {
+        return Ok(());
+    }
+    push_line(out, b"nobody has ", need.class().text().as_bytes())
+}
+
+// The classes that nobody has.
+#[tactic(auto, using(crate::proofs::Findings::ItemsWritten::item_stopped))]
+fn push_classes<W: Sink>(out: &mut W, cloud: &Cloud, needs: &[Need]) -> Result<(), WriteFailed>
+    ensures text { Pushes result (W.taken out.old) (W.taken out.new)
+        (W.failures out.old) (W.failures out.new)
+        (flat_map (λ need. class_missed (providers_of cloud.now) need.0)
+        (map need_entry needs.now)) }
+    ensures failures { W.failures out.old ≤ W.failures out.new }
+{
+    for need in needs {
+        push_class(out, cloud, need)?;
+    }
+    Ok(())
+}
+
+// The line of a trait that nobody has.
+fn push_trait<W: Sink>(out: &mut W, cloud: &Cloud, name: &TraitName) -> Result<(), WriteFailed>
+    ensures text { Pushes result (W.taken out.old) (W.taken out.new)
+        (W.failures out.old) (W.failures out.new)
+        (trait_missed (providers_of cloud.now) (trait_bytes name.now)) }
+    ensures failures { W.failures out.old ≤ W.failures out.new }
+{
+    if somebody_has_trait(cloud, name) {
+        return Ok(());
+    }
+    push_line(out, b"nobody has ", name.text().as_bytes())
+}
+
+// The traits that nobody has.
+#[tactic(auto, using(crate::proofs::Findings::ItemsWritten::item_stopped))]
+fn push_traits<W: Sink>(out: &mut W, cloud: &Cloud, names: &[TraitName]) -> Result<(), WriteFailed>
+    ensures text { Pushes result (W.taken out.old) (W.taken out.new)
+        (W.failures out.old) (W.failures out.new)
+        (flat_map (λ name. trait_missed (providers_of cloud.now) name)
+        (map trait_bytes names.now)) }
+    ensures failures { W.failures out.old ≤ W.failures out.new }
+{
+    for name in names {
+        push_trait(out, cloud, name)?;
+    }
+    Ok(())
+}
+
+// Traits: the first behind a mark, each further one behind a comma.
+#[tactic(auto, using(crate::proofs::Findings::ItemsWritten::item_turn, crate::proofs::Findings::ItemsWritten::listed_stopped, crate::proofs::Findings::ItemsWritten::listed_written))]
+fn push_names<W: Sink>(out: &mut W, mark: &[u8], names: &[TraitName]) -> Result<(), WriteFailed>
+    ensures text { Pushes result (W.taken out.old) (W.taken out.new)
+        (W.failures out.old) (W.failures out.new)
+        (listed mark.now (map trait_bytes names.now)) }
+    ensures failures { W.failures out.old ≤ W.failures out.new }
+{
+    let mut mark = mark;
+    for name in names {
+        push_marked(out, mark, name.text().as_bytes())?;
+        mark = b",";
+    }
+    Ok(())
+}
+
+// The line of traits of which nobody has one.
+#[tactic(auto, using(ac_base::proofs::Pushed::pushed_first, ac_base::proofs::Pushed::pushed_on), unfolding(crate::specs::Findings::Explanation::Nobody::one_of_line))]
+fn push_one_of<W: Sink>(out: &mut W, names: &[TraitName]) -> Result<(), WriteFailed>
+    ensures text { Pushes result (W.taken out.old) (W.taken out.new)
+        (W.failures out.old) (W.failures out.new)
+        (one_of_line (map trait_bytes names.now)) }
+    ensures failures { W.failures out.old ≤ W.failures out.new }
+{
+    push_names(out, b"nobody has one of ", names)?;
+    push_all(out, b"\n")
+}
+
+// The line of a list of traits, if nobody has one of them.
+fn push_list<W: Sink>(out: &mut W, cloud: &Cloud, list: &AnyOf) -> Result<(), WriteFailed>
+    ensures text { Pushes result (W.taken out.old) (W.taken out.new)
+        (W.failures out.old) (W.failures out.new)
+        (list_missed (providers_of cloud.now) (any_of_shown list.now)) }
+    ensures failures { W.failures out.old ≤ W.failures out.new }
+{
+    let names = list.names();
+    if somebody_has_one(cloud, names) {
+        return Ok(());
+    }
+    push_one_of(out, names)
+}
+
+// The lists of traits of which nobody has one.
+#[tactic(auto, using(crate::proofs::Findings::ItemsWritten::item_stopped))]
+fn push_lists<W: Sink>(out: &mut W, cloud: &Cloud, lists: &[AnyOf]) -> Result<(), WriteFailed>
+    ensures text { Pushes result (W.taken out.old) (W.taken out.new)
+        (W.failures out.old) (W.failures out.new)
+        (flat_map (λ names. list_missed (providers_of cloud.now) names)
+        (map any_of_shown lists.now)) }
+    ensures failures { W.failures out.old ≤ W.failures out.new }
+{
+    for list in lists {
+        push_list(out, cloud, list)?;
+    }
+    Ok(())
+}
+
+// UUIDs: the first behind a mark, each further one behind a comma.
+#[tactic(auto, using(crate::proofs::Findings::ItemsWritten::item_turn, crate::proofs::Findings::ItemsWritten::listed_stopped, crate::proofs::Findings::ItemsWritten::listed_written))]
+fn push_ids<W: Sink>(out: &mut W, mark: &[u8], ids: &[Id]) -> Result<(), WriteFailed>
+    ensures text { Pushes result (W.taken out.old) (W.taken out.new)
+        (W.failures out.old) (W.failures out.new)
+        (listed mark.now (map id_text ids.now)) }
+    ensures failures { W.failures out.old ≤ W.failures out.new }
+{
+    let mut mark = mark;
+    for id in ids {
+        push_marked(out, mark, &id.text())?;
+        mark = b",";
+    }
+    Ok(())
+}
+
+// What stands before the UUIDs of a `member_of`.
+fn member_mark(ids: &[Id]) -> &'static [u8]
+    ensures { result.now ≡ member_mark ids.now }
+{
+    if ids.len() > 1 {
+        b"nobody is in member_of=in:"
+    } else {
+        b"nobody is in member_of="
+    }
+}
+
+// The line of aggregates in which nobody is.
+#[tactic(auto, using(ac_base::proofs::Pushed::pushed_first, ac_base::proofs::Pushed::pushed_on), unfolding(crate::specs::Findings::Explanation::Nobody::members_line))]
+fn push_members<W: Sink>(out: &mut W, ids: &[Id]) -> Result<(), WriteFailed>
+    ensures text { Pushes result (W.taken out.old) (W.taken out.new)
+        (W.failures out.old) (W.failures out.new)
+        (members_line ids.now) }
+    ensures failures { W.failures out.old ≤ W.failures out.new }
+{
+    push_ids(out, member_mark(ids), ids)?;
+    push_all(out, b"\n")
+}
+
+// The line of an aggregate rule, if it asks for aggregates and nobody is in one of them.
+fn push_rule<W: Sink>(out: &mut W, cloud: &Cloud, rule: &AggregateRule) -> Result<(), WriteFailed>
+    ensures text { Pushes result (W.taken out.old) (W.taken out.new)
+        (W.failures out.old) (W.failures out.new)
+        (rule_missed (providers_of cloud.now) (rule_shown rule.now)) }
+    ensures failures { W.failures out.old ≤ W.failures out.new }
+{
+    if rule.forbids() || somebody_is_in(cloud, rule.ids()) {
+        return Ok(());
+    }
+    push_members(out, rule.ids())
+}
+
+// The aggregate rules that nobody meets.
+#[tactic(auto, using(crate::proofs::Findings::ItemsWritten::item_stopped))]
+fn push_rules<W: Sink>(
+    out: &mut W,
+    cloud: &Cloud,
+    rules: &[AggregateRule],
+) -> Result<(), WriteFailed>
+    ensures text { Pushes result (W.taken out.old) (W.taken out.new)
+        (W.failures out.old) (W.failures out.new)
+        (flat_map (λ rule. rule_missed (providers_of cloud.now) rule)
+        (map rule_shown rules.now)) }
+    ensures failures { W.failures out.old ≤ W.failures out.new }
+{
+    for rule in rules {
+        push_rule(out, cloud, rule)?;
+    }
+    Ok(())
+}
+
+// The line of the tree that a group names, if it names one by a UUID that nobody has.
+fn push_tree<W: Sink>(out: &mut W, cloud: &Cloud, in_tree: Option<Id>) -> Result<(), WriteFailed>
+    ensures text { Pushes result (W.taken out.old) (W.taken out.new)
+        (W.failures out.old) (W.failures out.new)
+        (tree_missed (providers_of cloud.now) in_tree) }
+    ensures failures { W.failures out.old ≤ W.failures out.new }
+{
+    match in_tree {
+        None => Ok(()),
+        Some(id) => {
+            if somebody_is(cloud, id) {
+                return Ok(());
+            }
+            push_line(out, b"nobody has in_tree=", &id.text())
+        }
+    }
+}
+
+// What nobody has of the classes and traits of a group.
+#[tactic(auto, using(ac_base::proofs::Pushed::pushed_first, ac_base::proofs::Pushed::pushed_on))]
+fn push_things<W: Sink>(out: &mut W, cloud: &Cloud, group: &Group) -> Result<(), WriteFailed>
+    ensures text { Pushes result (W.taken out.old) (W.taken out.new)
+        (W.failures out.old) (W.failures out.new)
+        (things_missed (providers_of cloud.now) (group_asked group.now)) }
+    ensures failures { W.failures out.old ≤ W.failures out.new }
+{
+    push_classes(out, cloud, group.needs())?;
+    push_traits(out, cloud, group.required())?;
+    push_lists(out, cloud, group.any_of())
+}
+
+// Where nobody is of the aggregates and the tree of a group.
+#[tactic(auto, using(ac_base::proofs::Pushed::pushed_first, ac_base::proofs::Pushed::pushed_on))]
+fn push_places<W: Sink>(out: &mut W, cloud: &Cloud, group: &Group) -> Result<(), WriteFailed>
+    ensures text { Pushes result (W.taken out.old) (W.taken out.new)
+        (W.failures out.old) (W.failures out.new)
+        (places_missed (providers_of cloud.now) (group_asked group.now)) }
+    ensures failures { W.failures out.old ≤ W.failures out.new }
+{
+    push_rules(out, cloud, group.member_of())?;
+    push_tree(out, cloud, group.in_tree())
+}
+
+// What nobody has of a group.
+#[tactic(auto, using(ac_base::proofs::Pushed::pushed_first, ac_base::proofs::Pushed::pushed_on))]
+fn push_group<W: Sink>(out: &mut W, cloud: &Cloud, group: &Group) -> Result<(), WriteFailed>
+    ensures text { Pushes result (W.taken out.old) (W.taken out.new)
+        (W.failures out.old) (W.failures out.new)
+        (group_missed (providers_of cloud.now) (group_entry group.now).1) }
+    ensures failures { W.failures out.old ≤ W.failures out.new }
+{
+    push_things(out, cloud, group)?;
+    push_places(out, cloud, group)
+}
+
+// What nobody has of each group.
+#[tactic(auto, using(crate::proofs::Findings::ItemsWritten::item_stopped))]
+fn push_groups<W: Sink>(out: &mut W, cloud: &Cloud, groups: &[Group]) -> Result<(), WriteFailed>
+    ensures text { Pushes result (W.taken out.old) (W.taken out.new)
+        (W.failures out.old) (W.failures out.new)
+        (flat_map (λ g. group_missed (providers_of cloud.now) g.1)
+        (map group_entry groups.now)) }
+    ensures failures { W.failures out.old ≤ W.failures out.new }
+{
+    for group in groups {
+        push_group(out, cloud, group)?;
+    }
+    Ok(())
+}
+
+// The line of a trait that no root has.
+fn push_root_trait<W: Sink>(out: &mut W, cloud: &Cloud, name: &TraitName) -> Result<(), WriteFailed>
+    ensures text { Pushes result (W.taken out.old) (W.taken out.new)
+        (W.failures out.old) (W.failures out.new)
+        (root_trait_missed (providers_of cloud.now) (trait_bytes name.now)) }
+    ensures failures { W.failures out.old ≤ W.failures out.new }
+{
+    if some_root_has(cloud, name) {
+        return Ok(());
+    }
+    push_line(out, b"no root has ", name.text().as_bytes())
+}
+
+// The traits that no root has.
+#[tactic(auto, using(crate::proofs::Findings::ItemsWritten::item_stopped))]
+fn push_root_traits<W: Sink>(
+    out: &mut W,
+    cloud: &Cloud,
+    names: &[TraitName],
+) -> Result<(), WriteFailed>
+    ensures text { Pushes result (W.taken out.old) (W.taken out.new)
+        (W.failures out.old) (W.failures out.new)
+        (flat_map (λ name. root_trait_missed (providers_of cloud.now) name)
+        (map trait_bytes names.now)) }
+    ensures failures { W.failures out.old ≤ W.failures out.new }
+{
+    for name in names {
+        push_root_trait(out, cloud, name)?;
+    }
+    Ok(())
+}
+
+/// Pushes a line for each thing that the query asks for and nobody has: group by group, then of the root.
+#[tactic(auto, using(ac_base::proofs::Pushed::pushed_first, ac_base::proofs::Pushed::pushed_on), unfolding(crate::specs::Findings::Explanation::Nobody::nobody_lines))]
+pub(crate) fn push_missing<W: Sink>(
+    out: &mut W,
+    cloud: &Cloud,
+    query: &Query,
+) -> Result<(), WriteFailed>
+    ensures text { Pushes result (W.taken out.old) (W.taken out.new)
+        (W.failures out.old) (W.failures out.new)
+        (nobody_lines (providers_of cloud.now) (asked_of query.now)) }
+    ensures failures { W.failures out.old ≤ W.failures out.new }
+{
+    push_groups(out, cloud, query.groups())?;
+    push_root_traits(out, cloud, query.root_required())
+}

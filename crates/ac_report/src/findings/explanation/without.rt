@@ -1,0 +1,217 @@
+//! Whether a query that has no candidate would have one without one of the things that it asks of several slots together, and the lines that tell it.
+ghost use Rattle.std.specs.Prelude.{◌≡◌, ◌≤◌, IfOk, length, map};
+ghost use Rattle.ac_cloud.specs.Cloud.CloudWorld.{providers_of};
+ghost use Rattle.ac_query.specs.Shown.{suffixes_shown};
+ghost use Rattle.ac_query.specs.Shown.Queries.{asked_of};
+ghost use Rattle.ac_report.specs.Findings.Explanation.Candidates.{asks_required, found_without, has_candidate, outcome, policy_found, policy_line, required_found, required_line, subtree_line, subtree_lines, subtrees_found, without_lines};
+ghost use Rattle.ac_report.specs.Findings.Explanation.Shown.{found_shown};
+ghost use Rattle.ac_base.specs.Pieces.{listed};
+ghost use Rattle.ac_base.specs.Writing.{Pushes};
+
+use super::has_candidate;
+use crate::findings::question::Question;
+use ac_base::pieces::push_marked;
+use ac_base::{NoMemory, Sink, Suffix, WriteFailed, push_all};
+use ac_cloud::Cloud;
+use ac_find::{requires_some, tree_counts};
+use ac_query::Query;
+use std::alloc::Global;
+use std::collections::BTreeSet;
+
+/// Whether there is a candidate without each list of `same_subtree`, without the policy, and without what the group without a suffix requires,
+/// where that is asked.
+#[derive(Drop)]
+pub struct FoundWithout {
+    subtrees: Vec<bool>,
+    policy: Option<bool>,
+    required: Option<bool>,
+}
+
+// Whether a query has a candidate.
+fn is_found(alloc: Global, cloud: &Cloud, query: &Query) -> Result<bool, NoMemory>
+    ensures { IfOk result (λ found.
+        found ≡ has_candidate (providers_of cloud.now) (asked_of query.now)) }
+{
+    let trees = tree_counts(alloc, cloud, query)?;
+    has_candidate(alloc, cloud, query, &trees)
+}
+
+// Whether there is a candidate without each list of `same_subtree`.
+fn find_subtrees(alloc: Global, cloud: &Cloud, question: &Question) -> Result<Vec<bool>, NoMemory>
+    ensures { IfOk result (λ found. found.items
+        ≡ subtrees_found (providers_of cloud.now) (asked_of question.now.query)) }
+{
+    let mut found = Vec::new(alloc);
+    for k in 0..question.query.subtrees().len() {
+        let query = question.again(alloc)?.without_subtree(k);
+        found.push(is_found(alloc, cloud, &query)?)?;
+    }
+    Ok(found)
+}
+
+// Whether there is a candidate without the policy, if it is `isolate`.
+fn find_policy(alloc: Global, cloud: &Cloud, question: &Question) -> Result<Option<bool>, NoMemory>
+    ensures { IfOk result (λ found. found
+        ≡ policy_found (providers_of cloud.now) (asked_of question.now.query)) }
+{
+    if !question.query.isolate() {
+        return Ok(None);
+    }
+    let query = question.again(alloc)?.without_policy();
+    Ok(Some(is_found(alloc, cloud, &query)?))
+}
+
+// Whether the group without a suffix requires some trait, or one of a list.
+fn asks_required(query: &Query) -> bool
+    ensures { result ≡ asks_required (asked_of query.now) }
+{
+    query.groups().iter().any(|group| requires_some(group))
+}
+
+// Whether there is a candidate without what the group without a suffix requires, if it requires something.
+fn find_required(
+    alloc: Global,
+    cloud: &Cloud,
+    question: &Question,
+) -> Result<Option<bool>, NoMemory>
+    ensures { IfOk result (λ found. found
+        ≡ required_found (providers_of cloud.now) (asked_of question.now.query)) }
+{
+    if !asks_required(&question.query) {
+        return Ok(None);
+    }
+    let query = question.again(alloc)?.without_required(alloc)?;
+    Ok(Some(is_found(alloc, cloud, &query)?))
+}
+
+/// What is found without one thing each, unless a candidate was found with all of them.
+pub fn find_without(
+    alloc: Global,
+    cloud: &Cloud,
+    question: &Question,
+    found: bool,
+) -> Result<FoundWithout, NoMemory>
+    ensures found { IfOk result (λ without. found_shown without
+        ≡ found_without (providers_of cloud.now) (asked_of question.now.query) found) }
+    ensures few { IfOk result (λ without. length (found_shown without).subtrees
+        ≤ length (asked_of question.now.query).subtrees) }
+{
+    if found {
+        return Ok(FoundWithout {
+            subtrees: Vec::new(alloc),
+            policy: None,
+            required: None,
+        });
+    }
+    let subtrees = find_subtrees(alloc, cloud, question)?;
+    let policy = find_policy(alloc, cloud, question)?;
+    let required = find_required(alloc, cloud, question)?;
+    Ok(FoundWithout {
+        subtrees,
+        policy,
+        required,
+    })
+}
+
+// Suffixes: the first behind a mark, each further one behind a comma.
+#[tactic(auto, using(crate::proofs::Findings::ItemsWritten::listed_stopped, crate::proofs::Findings::ItemsWritten::listed_written))]
+fn push_suffixes<W: Sink>(
+    out: &mut W,
+    mark: &[u8],
+    suffixes: &BTreeSet<Suffix>,
+) -> Result<(), WriteFailed>
+    ensures text { Pushes result (W.taken out.old) (W.taken out.new)
+        (W.failures out.old) (W.failures out.new)
+        (listed mark.now (suffixes_shown suffixes.now)) }
+    ensures failures { W.failures out.old ≤ W.failures out.new }
+{
+    let mut mark = mark;
+    for suffix in suffixes {
+        push_marked(out, mark, suffix.text().as_bytes())?;
+        mark = b",";
+    }
+    Ok(())
+}
+
+// The end of a line: whether there is a candidate.
+fn outcome(found: bool) -> &'static [u8]
+    ensures { result.now ≡ outcome found }
+{
+    if found { b": some\n" } else { b": none\n" }
+}
+
+// The line of a list of `same_subtree`.
+#[tactic(auto, using(ac_base::proofs::Pushed::pushed_first), unfolding(crate::specs::Findings::Explanation::Candidates::subtree_line))]
+fn push_subtree<W: Sink>(
+    out: &mut W,
+    suffixes: &BTreeSet<Suffix>,
+    found: bool,
+) -> Result<(), WriteFailed>
+    ensures text { Pushes result (W.taken out.old) (W.taken out.new)
+        (W.failures out.old) (W.failures out.new)
+        (subtree_line (suffixes_shown suffixes.now) found) }
+    ensures failures { W.failures out.old ≤ W.failures out.new }
+{
+    push_suffixes(out, b"without same_subtree=", suffixes)?;
+    push_all(out, outcome(found))
+}
+
+// The lines of all lists of `same_subtree`, as far as something was found of them.
+fn push_subtrees<W: Sink>(
+    out: &mut W,
+    lists: &[BTreeSet<Suffix>],
+    found: &[bool],
+) -> Result<(), WriteFailed>
+    requires { length found.now ≤ length lists.now }
+    ensures text { Pushes result (W.taken out.old) (W.taken out.new)
+        (W.failures out.old) (W.failures out.new)
+        (subtree_lines (map suffixes_shown lists.now) found.now) }
+    ensures failures { W.failures out.old ≤ W.failures out.new }
+{
+    for k in 0..found.len() {
+        push_subtree(out, &lists[k], found[k])?;
+    }
+    Ok(())
+}
+
+// The line of the policy, if it was taken away.
+#[tactic(auto, unfolding(crate::specs::Findings::Explanation::Candidates::policy_line))]
+fn policy_line(found: Option<bool>) -> &'static [u8]
+    ensures { result.now ≡ policy_line found }
+{
+    match found {
+        None => b"",
+        Some(true) => b"without group_policy=isolate: some\n",
+        Some(false) => b"without group_policy=isolate: none\n",
+    }
+}
+
+// The line of what the group without a suffix requires, if that was taken away.
+#[tactic(auto, unfolding(crate::specs::Findings::Explanation::Candidates::required_line))]
+fn required_line(found: Option<bool>) -> &'static [u8]
+    ensures { result.now ≡ required_line found }
+{
+    match found {
+        None => b"",
+        Some(true) => b"without required: some\n",
+        Some(false) => b"without required: none\n",
+    }
+}
+
+/// Pushes a line for each thing that was taken away, with what was found without it.
+#[tactic(auto, using(ac_base::proofs::Pushed::pushed_first, ac_base::proofs::Pushed::pushed_on), unfolding(crate::specs::Findings::Explanation::Candidates::without_lines))]
+pub(crate) fn push_without<W: Sink>(
+    out: &mut W,
+    query: &Query,
+    without: &FoundWithout,
+) -> Result<(), WriteFailed>
+    requires { length (found_shown without.now).subtrees ≤ length (asked_of query.now).subtrees }
+    ensures text { Pushes result (W.taken out.old) (W.taken out.new)
+        (W.failures out.old) (W.failures out.new)
+        (without_lines (asked_of query.now) (found_shown without.now)) }
+    ensures failures { W.failures out.old ≤ W.failures out.new }
+{
+    push_subtrees(out, query.subtrees(), &without.subtrees)?;
+    push_all(out, policy_line(without.policy))?;
+    push_all(out, required_line(without.required))
+}

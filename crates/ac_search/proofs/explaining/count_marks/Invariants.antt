@@ -1,6 +1,0 @@
-use Rattle.std.proofs.Common.{◌≡◌, take}
-use Rattle.ac_search.specs.Shown.Explained.{marked}
-use Rattle.ac_search.proofs.explaining.count_marks.Given as goal
-
-abbrev pub invariant-loop-mark : goal.invariant-loop-mark
-invariant-loop-mark l = l.count ≡ marked (take l.mark-index l.marks)

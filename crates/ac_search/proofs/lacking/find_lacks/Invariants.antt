@@ -1,9 +1,0 @@
-use Rattle.std.proofs.Common.{◌≡◌, map}
-use Rattle.std.specs.List.{range_with_len}
-use Rattle.ac_query.specs.Shown.Queries.{asked_of}
-use Rattle.ac_cloud.specs.Cloud.CloudWorld.{providers_of}
-use Rattle.ac_search.specs.Lacking.{lack_at}
-use Rattle.ac_search.proofs.lacking.find_lacks.Given as goal
-
-abbrev pub invariant-loop-root : goal.invariant-loop-root
-invariant-loop-root l = l.lacks.items ≡ map (lack_at (providers_of l.cloud) (asked_of l.query)) (range_with_len 0 l.root)

@@ -1,5 +1,0 @@
-use Rattle.ac_search.proofs.LackLaws.{lack_nothing}
-use Rattle.ac_search.proofs.laws.lack_nothing.Goals as goal
-
-pub returns : goal.returns
-returns c = lack_nothing

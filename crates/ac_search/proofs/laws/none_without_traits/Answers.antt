@@ -1,5 +1,0 @@
-use Rattle.ac_search.proofs.NoneLemmas.{none_without_traits}
-use Rattle.ac_search.proofs.laws.none_without_traits.Goals as goal
-
-pub returns : goal.returns
-returns c = none_without_traits
