@@ -7,7 +7,7 @@ use Rattle.ac_cloud.specs.Cloud.CloudWorld.{providers_of}
 use Rattle.ac_run.specs.Answer.{verdict_on}
 use Rattle.ac_run.specs.Run.{Delivers}
 use Rattle.ac_run.proofs.Assignments.{located}
-use Rattle.ac_run.proofs.answering.write_verdict.Goals as goal
+use Rattle.ac_run.proofs.answer.write_verdict.Goals as goal
 
 pub write_judged-requires : goal.write_judged-requires
 write_judged-requires g c =

@@ -5,7 +5,7 @@ use Rattle.ac_cloud.specs.Cloud.CloudWorld.{providers_of}
 use Rattle.ac_query.specs.Shown.Queries.{asked_of}
 use Rattle.ac_report.specs.Pages.{IsAssignment}
 use Rattle.ac_run.proofs.Assignments.{assignments}
-use Rattle.ac_run.proofs.answering.walk_after.Goals as goal
+use Rattle.ac_run.proofs.answer.walk_after.Goals as goal
 
 pub returns-clause-assigned : goal.returns-clause-assigned
 returns-clause-assigned c =

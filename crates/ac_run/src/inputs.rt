@@ -6,7 +6,7 @@ ghost use Rattle.ac_tables.specs.Drain.{AllBytes, AreTooMany, most_bytes};
 ghost use Rattle.ac_run.specs.Feeds.{Bytes, TellBytes, RisesIn, too_large};
 ghost use Rattle.ac_run.specs.Draining.{AreTooManyThere, ExplainsDraining, ExplainsReading, GaveAll, texts_shown};
 
-use crate::refusal::Refusal;
+use crate::refusal::TablesRefusal;
 use ac_base::Feed;
 use ac_tables::{FiveTables, ReadFault, Table, drain};
 use std::alloc::Global;
@@ -18,7 +18,7 @@ pub type Inputs<R> = FiveTables<R>;
 pub type Texts = FiveTables<Vec<u8>>;
 
 // The bytes of a table's feed.
-fn drain_table<R: Feed>(alloc: Global, table: Table, feed: &mut R) -> Result<Vec<u8>, Refusal>
+fn drain_table<R: Feed>(alloc: Global, table: Table, feed: &mut R) -> Result<Vec<u8>, TablesRefusal>
     ensures bytes { IfOk result (λ bytes. AllBytes (R.remaining feed.old) bytes.items) }
     ensures few { IfOk result (λ bytes. length bytes.items ≤ most_bytes) }
     ensures fault { IfErr result (ExplainsDraining
@@ -27,9 +27,9 @@ fn drain_table<R: Feed>(alloc: Global, table: Table, feed: &mut R) -> Result<Vec
 {
     match drain(alloc, feed) {
         Ok(bytes) => Ok(bytes),
-        Err(ReadFault::Unreadable) => Err(Refusal::Unreadable(table)),
-        Err(ReadFault::TooLarge) => Err(Refusal::TooLarge(table)),
-        Err(ReadFault::NoMemory) => Err(Refusal::NoMemory),
+        Err(ReadFault::Unreadable) => Err(TablesRefusal::Unreadable(table)),
+        Err(ReadFault::TooLarge) => Err(TablesRefusal::TooLarge(table)),
+        Err(ReadFault::NoMemory) => Err(TablesRefusal::NoMemory),
     }
 }
 
@@ -38,7 +38,7 @@ fn drain_some<R: Feed>(
     alloc: Global,
     table: Table,
     feed: &mut Option<R>,
-) -> Result<Option<Vec<u8>>, Refusal>
+) -> Result<Option<Vec<u8>>, TablesRefusal>
     ensures bytes { IfOk result (λ bytes.
         GaveAll (option_map R.remaining feed.old) (option_map (λ v. v.items) bytes)) }
     ensures fault { IfErr result (ExplainsDraining (RisesIn R.failures feed.old feed.new)
@@ -51,7 +51,7 @@ fn drain_some<R: Feed>(
 }
 
 /// Reads all tables to their ends, in their order.
-pub fn read_tables<R: Feed>(alloc: Global, inputs: &mut Inputs<R>) -> Result<Texts, Refusal>
+pub fn read_tables<R: Feed>(alloc: Global, inputs: &mut Inputs<R>) -> Result<Texts, TablesRefusal>
     ensures bytes { IfOk result (λ texts. (b : Bytes) → TellBytes R.remaining inputs.old b
         → texts_shown texts ≡ b) }
     ensures few { IfOk result (λ texts. too_large (texts_shown texts) ≡ None) }

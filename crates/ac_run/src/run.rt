@@ -1,25 +1,49 @@
 //! A run: from feeds and a job to sinks and a status.
-ghost use Rattle.std.specs.Prelude.{◌≡◌, ◌≢◌, ◌≤◌, Option, option_map, ◌∷◌, [], Contains};
+ghost use Rattle.std.specs.Prelude.{◌≡◌, ◌≢◌, ◌≤◌, IfErr, IfOk, Option, ◌∷◌, [], Contains};
 ghost use Rattle.std.specs.Io.KnownBytes.{Keeps};
 ghost use Rattle.ac_base.specs.Devices.{Rises, TakesPart};
-ghost use Rattle.ac_run.specs.Jobs.{HasToken};
 ghost use Rattle.ac_tables.specs.declared.fault.Table.{Table};
 ghost use Rattle.ac_run.specs.Answer.{answer};
 ghost use Rattle.ac_run.specs.Feeds.{Bytes, FeedRose, TellBytes};
-ghost use Rattle.ac_run.specs.Jobs.{task_of};
+ghost use Rattle.ac_run.specs.Tasks.{task_of};
 ghost use Rattle.ac_run.specs.Lines.{memory_line, output_line};
-ghost use Rattle.ac_run.specs.Run.{FailsOr, IsAnswered, IsRefused, IsUnread};
+ghost use Rattle.ac_run.specs.Refusals.{line_told, status_told};
+ghost use Rattle.ac_run.specs.Run.{Ends, FailsOr, IsAnswered, IsRefused, IsUnread, IsWritten};
 ghost use Rattle.ac_base.specs.Writing.{TakesLine};
 
-use crate::answering::write_answer;
-use crate::draining::Inputs;
+use crate::answer::write_answer;
+use crate::inputs::Inputs;
 use crate::job::Job;
 use crate::ready::make_ready;
 use crate::refusal::Refusal;
-use crate::telling::tell;
+use crate::refusal_lines::tell;
+use crate::refused::Refused;
 use ac_base::{Feed, Sink};
 use ac_report::PageFault;
 use std::alloc::Global;
+
+// Reads the tables in their order, then the query, then the token, and writes the answer: its status, or why there is none.
+fn answer_job<R: Feed, W: Sink>(
+    alloc: Global,
+    job: &Job,
+    inputs: &mut Inputs<R>,
+    out: &mut W,
+) -> Result<u8, Refused>
+    ensures few { IfOk result (λ status. status ≤ 1) }
+    ensures ok { IfOk result (λ status. (b : Bytes) → TellBytes R.remaining inputs.old b
+        → IsWritten (answer (task_of job.now) b) (W.taken out.old) (W.taken out.new) status) }
+    ensures fault { IfErr result (λ told. Ends R.remaining R.failures (task_of job.now).detail
+        (answer (task_of job.now)) inputs.old inputs.new (line_told told) (status_told told)
+        (W.taken out.old) (W.taken out.new) (W.failures out.old) (W.failures out.new)) }
+    ensures failures { W.failures out.old ≤ W.failures out.new }
+{
+    let ready = make_ready(alloc, job, inputs)?;
+    match write_answer(alloc, &ready.cloud, &ready.wanted, out) {
+        Ok(status) => Ok(status),
+        Err(PageFault::WriteFailed) => Err(Refused::of(alloc, Refusal::Output)),
+        Err(PageFault::NoMemory) => Err(Refused::of(alloc, Refusal::NoMemory)),
+    }
+}
 
 /// Runs a job: reads the tables in their order, then the query, then the token, and writes the answer. Answers the status.
 ///
@@ -32,8 +56,6 @@ pub fn run<R: Feed, W: Sink, E: Sink>(
     out: &mut W,
     err: &mut E,
 ) -> u8
-    requires { HasToken job.now.command (option_map (λ token. token.now) job.now.token) }
-
     // Where memory suffices and no device fails: exactly the answer.
     ensures answered { result ≢ 7
         → ((t : Table) → FeedRose R.failures inputs.old inputs.new t → ⊥)
@@ -48,7 +70,7 @@ pub fn run<R: Feed, W: Sink, E: Sink>(
         → IsAnswered (answer (task_of job.now) b) (W.taken out.old) (W.taken out.new)
         (E.taken err.old) (E.taken err.new) result }
     ensures tables { result ≡ 3 → (failed : Option Table)
-        × FailsOr (λ t. IsUnread (FeedRose R.failures inputs.old inputs.new t) t
+        × FailsOr (λ t. IsUnread (FeedRose R.failures inputs.old inputs.new t) (task_of job.now).detail t
         (E.taken err.old) (E.taken err.new) (E.failures err.old) (E.failures err.new))
         ((b : Bytes) → TellBytes R.remaining inputs.old b
         → IsRefused (answer (task_of job.now) b) (E.taken err.old) (E.taken err.new)
@@ -71,14 +93,10 @@ pub fn run<R: Feed, W: Sink, E: Sink>(
     ensures status { Contains (0 ∷ 1 ∷ 3 ∷ 4 ∷ 5 ∷ 6 ∷ 7 ∷ []) result }
     ensures silent { result ≤ 1 → err.new ≡ err.old }
     ensures failures { W.failures out.old ≤ W.failures out.new }
+    ensures err_failures { E.failures err.old ≤ E.failures err.new }
 {
-    let ready = match make_ready(alloc, job, inputs) {
-        Ok(ready) => ready,
-        Err(refusal) => return tell(err, &refusal),
-    };
-    match write_answer(alloc, &ready.cloud, &ready.wanted, out) {
+    match answer_job(alloc, job, inputs, out) {
         Ok(status) => status,
-        Err(PageFault::WriteFailed) => tell(err, &Refusal::Output),
-        Err(PageFault::NoMemory) => tell(err, &Refusal::NoMemory),
+        Err(refused) => tell(err, &refused),
     }
 }

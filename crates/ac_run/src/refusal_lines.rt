@@ -1,11 +1,11 @@
 //! The lines of refusals, pushed piece by piece: they take no memory.
-ghost use Rattle.std.specs.Prelude.{◌≡◌, ◌≤◌};
+ghost use Rattle.std.specs.Prelude.{◌≡◌, ◌≤◌, ◌++◌};
 ghost use Rattle.ac_query.specs.Shown.Faults.{fault_shown};
 ghost use Rattle.ac_run.specs.Lines.{pair_line, group_line, record_line};
-ghost use Rattle.ac_run.specs.Refusals.{line_of, line_of_query, status_of};
+ghost use Rattle.ac_run.specs.Refusals.{line_of, line_of_asked, line_of_query, line_of_tables, line_told, status_of, status_of_asked, status_told};
 ghost use Rattle.ac_base.specs.Writing.{Pushes, TakesLine};
 
-use crate::refusal::{Refusal, kind_name, table_name};
+use crate::refusal::{AskRefusal, Refusal, Refused, TablesRefusal};
 use ac_base::{Digits, Sink, WriteFailed, push_all, push_pieces};
 use ac_cloud::HostFault;
 use ac_query::{QueryFault, TokenFault};
@@ -26,11 +26,11 @@ fn push_record_line<E: Sink>(
     push_pieces(
         err,
         &[
-            table_name(table),
+            table.name().as_bytes(),
             b": record ",
             Digits::of(row).as_bytes(),
             b": ",
-            kind_name(kind),
+            kind.name().as_bytes(),
             b"\n",
         ],
     )
@@ -105,47 +105,101 @@ fn push_whole<E: Sink>(err: &mut E, text: &[u8]) -> Result<(), WriteFailed>
     push_all(err, text)
 }
 
-/// Pushes the line of a refusal.
-#[tactic(auto, unfolding(crate::specs::Lines::unreadable_line, crate::specs::Lines::too_large_line, crate::specs::Lines::token_line, crate::specs::Lines::host_line, crate::specs::Lines::memory_line, crate::specs::Lines::output_line))]
-pub fn push_line<E: Sink>(err: &mut E, refusal: &Refusal) -> Result<(), WriteFailed>
+// Pushes the line of tables that are refused.
+#[tactic(auto, unfolding(crate::specs::Lines::unreadable_line, crate::specs::Lines::too_large_line, crate::specs::Lines::memory_line))]
+fn push_tables_line<E: Sink>(err: &mut E, refusal: &TablesRefusal) -> Result<(), WriteFailed>
+    ensures text { Pushes result (E.taken err.old) (E.taken err.new) (E.failures err.old)
+        (E.failures err.new) (line_of_tables refusal.now) }
+    ensures failures { E.failures err.old ≤ E.failures err.new }
+{
+    match refusal {
+        TablesRefusal::Unreadable(table) => {
+            push_pieces(err, &[table.name().as_bytes(), b": Unreadable\n"])
+        }
+        TablesRefusal::TooLarge(table) => push_pieces(
+            err,
+            &[table.name().as_bytes(), b": TooLarge\n"],
+        ),
+        TablesRefusal::Record { table, row, kind } => push_record_line(err, *table, *row, *kind),
+        TablesRefusal::NoMemory => push_whole(err, b"out of memory\n"),
+    }
+}
+
+/// Pushes the line of what is asked and refused.
+#[tactic(auto, unfolding(crate::specs::Lines::token_line, crate::specs::Lines::host_line, crate::specs::Lines::memory_line))]
+pub fn push_asked_line<E: Sink>(err: &mut E, refusal: &AskRefusal) -> Result<(), WriteFailed>
+    ensures text { Pushes result (E.taken err.old) (E.taken err.new) (E.failures err.old)
+        (E.failures err.new) (line_of_asked refusal.now) }
+    ensures failures { E.failures err.old ≤ E.failures err.new }
+{
+    match refusal {
+        AskRefusal::Query(fault) => push_query_line(err, fault),
+        AskRefusal::Token(TokenFault::BadToken) => push_whole(err, b"token: BadToken\n"),
+        AskRefusal::Token(TokenFault::WrongLength) => push_whole(err, b"token: WrongLength\n"),
+        AskRefusal::Token(TokenFault::NoMemory) => push_whole(err, b"out of memory\n"),
+        AskRefusal::Host(HostFault::Unknown) => push_whole(err, b"host: Unknown\n"),
+        AskRefusal::Host(HostFault::Ambiguous) => push_whole(err, b"host: Ambiguous\n"),
+        AskRefusal::NoMemory => push_whole(err, b"out of memory\n"),
+    }
+}
+
+// Pushes the line of a refusal.
+#[tactic(auto, unfolding(crate::specs::Lines::memory_line, crate::specs::Lines::output_line))]
+fn push_line<E: Sink>(err: &mut E, refusal: &Refusal) -> Result<(), WriteFailed>
     ensures text { Pushes result (E.taken err.old) (E.taken err.new) (E.failures err.old)
         (E.failures err.new) (line_of refusal.now) }
     ensures failures { E.failures err.old ≤ E.failures err.new }
 {
     match refusal {
-        Refusal::Unreadable(table) => push_pieces(err, &[table_name(*table), b": Unreadable\n"]),
-        Refusal::TooLarge(table) => push_pieces(err, &[table_name(*table), b": TooLarge\n"]),
-        Refusal::Record { table, row, kind } => push_record_line(err, *table, *row, *kind),
-        Refusal::Query(fault) => push_query_line(err, fault),
-        Refusal::Token(TokenFault::BadToken) => push_whole(err, b"token: BadToken\n"),
-        Refusal::Token(TokenFault::WrongLength) => push_whole(err, b"token: WrongLength\n"),
-        Refusal::Token(TokenFault::NoMemory) => push_whole(err, b"out of memory\n"),
-        Refusal::Host(HostFault::Unknown) => push_whole(err, b"host: Unknown\n"),
-        Refusal::Host(HostFault::Ambiguous) => push_whole(err, b"host: Ambiguous\n"),
+        Refusal::Tables(refusal) => push_tables_line(err, refusal),
+        Refusal::Asked(refusal) => push_asked_line(err, refusal),
         Refusal::Output => push_whole(err, b"output: WriteFailed\n"),
         Refusal::NoMemory => push_whole(err, b"out of memory\n"),
     }
 }
 
-/// The status of a refusal.
-pub fn status_of(refusal: &Refusal) -> u8
+/// The status of what is asked and refused.
+pub fn asked_status(refusal: &AskRefusal) -> u8
+    ensures { result ≡ status_of_asked refusal.now }
+{
+    match refusal {
+        AskRefusal::Query(_) => 4,
+        AskRefusal::Token(_) | AskRefusal::Host(_) => 5,
+        AskRefusal::NoMemory => 7,
+    }
+}
+
+// The status of a refusal.
+fn status_of(refusal: &Refusal) -> u8
     ensures { result ≡ status_of refusal.now }
 {
     match refusal {
-        Refusal::Unreadable(_) | Refusal::TooLarge(_) | Refusal::Record { .. } => 3,
-        Refusal::Query(_) => 4,
-        Refusal::Token(_) | Refusal::Host(_) => 5,
+        Refusal::Tables(TablesRefusal::NoMemory) => 7,
+        Refusal::Tables(_) => 3,
+        Refusal::Asked(refusal) => asked_status(refusal),
         Refusal::Output => 6,
         Refusal::NoMemory => 7,
     }
 }
 
-/// Tells a refusal, and answers its status. What the error sink doesn't take of the line is dropped.
-pub fn tell<E: Sink>(err: &mut E, refusal: &Refusal) -> u8
-    ensures line { TakesLine (E.taken err.old) (E.taken err.new) (E.failures err.old)
-        (E.failures err.new) (line_of refusal.now) }
-    ensures status { result ≡ status_of refusal.now }
+// Pushes the line of a refusal, and then what stands behind it.
+#[tactic(auto, using(ac_base::proofs::Leaving::appends_both, ac_base::proofs::Leaving::part_of_first, ac_base::proofs::Leaving::part_of_second))]
+fn push_refused<E: Sink>(err: &mut E, refused: &Refused) -> Result<(), WriteFailed>
+    ensures text { Pushes result (E.taken err.old) (E.taken err.new) (E.failures err.old)
+        (E.failures err.new) (line_of refused.now.refusal ++ refused.now.detail.items) }
+    ensures failures { E.failures err.old ≤ E.failures err.new }
 {
-    let _ = push_line(err, refusal);
-    status_of(refusal)
+    push_line(err, &refused.refusal)?;
+    push_all(err, &refused.detail)
+}
+
+/// Tells why there is no answer, and answers its status. What the error sink doesn't take of the text is dropped.
+pub fn tell<E: Sink>(err: &mut E, refused: &Refused) -> u8
+    ensures line { TakesLine (E.taken err.old) (E.taken err.new) (E.failures err.old)
+        (E.failures err.new) (line_told refused.now) }
+    ensures status { result ≡ status_told refused.now }
+    ensures failures { E.failures err.old ≤ E.failures err.new }
+{
+    let _ = push_refused(err, refused);
+    status_of(&refused.refusal)
 }

@@ -1,27 +1,25 @@
 //! The answers over a cloud, each written with its status.
 
-ghost use Rattle.std.specs.Prelude.{◌≡◌, ◌<◌, ◌≤◌, IfOk, OnErr, Err, Some, None, length};
+ghost use Rattle.std.specs.Prelude.{◌≡◌, ◌<◌, IfOk, Some, None, length};
 ghost use Rattle.std.specs.List.{All};
 ghost use Rattle.std.specs.Option.{option_map};
-ghost use Rattle.ac_base.specs.Devices.{Rises, TakesPart};
 ghost use Rattle.ac_cloud.specs.Cloud.CloudWorld.{providers_of, world_of};
 ghost use Rattle.ac_query.specs.Asked.{slots_of};
 ghost use Rattle.ac_query.specs.Shown.Queries.{asked_of};
 ghost use Rattle.ac_query.specs.Tokens.{ids_of};
 ghost use Rattle.ac_run.specs.Answer.{explanation, host_rows, page_body, page_lines, page_rows, verdict_line, verdict_on, why_not, written};
-ghost use Rattle.ac_run.specs.Asking.{AsksUnits, HasHost, HasIdForEachSlot, answer_to};
+ghost use Rattle.ac_run.specs.Wanted.{IsSound, answer_to};
 ghost use Rattle.ac_run.specs.Outputs.{counts, detailed_text, verdict_status, verdict_text};
-ghost use Rattle.ac_report.specs.declared.fault.PageFault.TheVariants as PageFault;
 ghost use Rattle.ac_rules.specs.declared.verdict.Verdict.TheVariants as Verdict;
 ghost use Rattle.ac_report.specs.Pages.{IsAssignment};
 ghost use Rattle.ac_rules.specs.Pages.{rest};
-ghost use Rattle.ac_run.specs.Run.{Delivers, IsWritten};
+ghost use Rattle.ac_run.specs.Run.{Delivers};
 
-use crate::asking::Wanted;
-use crate::filling::write_fill;
 use crate::outputs::{detailed_line, push_counts, push_text, push_verdict, verdict_status};
+use crate::placements::write_fill;
+use crate::wanted::Wanted;
 use ac_base::{NoMemory, Sink};
-use ac_find::broken_detail;
+use ac_find::{all_slots, broken_detail, find_lacks, tree_counts};
 use ac_query::{Query, Token};
 use ac_report::findings::{
     Question, explanation_status, find_without, has_candidate, hosts_status, hosts_text,
@@ -258,24 +256,16 @@ fn write_why<W: Sink>(
     push_text(out, &text, status)
 }
 
-/// Writes what is wanted of a cloud.
+/// Writes what is wanted of a cloud, and gives its status.
 pub fn write_answer<W: Sink>(
     alloc: Global,
     cloud: &Cloud,
     wanted: &Wanted,
     out: &mut W,
 ) -> Result<u8, PageFault>
-    requires slots { HasIdForEachSlot wanted.now }
-    requires host { HasHost (providers_of cloud.now) wanted.now }
-    requires units { AsksUnits wanted.now }
-    ensures few { IfOk result (λ status. status ≤ 1) }
-    ensures ok { IfOk result (IsWritten (answer_to wanted.now (world_of cloud.now))
-        (W.taken out.old) (W.taken out.new)) }
-    ensures part { OnErr result (TakesPart (W.taken out.old) (W.taken out.new)
-        (answer_to wanted.now (world_of cloud.now)).output) }
-    ensures failed { result ≡ Err PageFault.WriteFailed
-        → Rises (W.failures out.old) (W.failures out.new) }
-    ensures failures { W.failures out.old ≤ W.failures out.new }
+    requires { IsSound (providers_of cloud.now) wanted.now }
+    ensures { Delivers (answer_to wanted.now (world_of cloud.now)) result (W.taken out.old)
+        (W.taken out.new) (W.failures out.old) (W.failures out.new) }
 {
     match wanted {
         Wanted::Counts => write_counts(cloud, out),

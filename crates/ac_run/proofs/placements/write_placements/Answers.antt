@@ -1,5 +1,5 @@
 use Rattle.std.proofs.Common.{refl}
-use Rattle.ac_run.proofs.filling.write_placements.Goals as goal
+use Rattle.ac_run.proofs.placements.write_placements.Goals as goal
 
 pub returns : goal.returns
 returns g c = record {
