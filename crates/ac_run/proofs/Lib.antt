@@ -7,3 +7,4 @@ pub mod Delivering
 pub mod HostFound
 pub mod FaultsTold
 pub mod StatedRequests
+pub mod HandedOn
