@@ -21,7 +21,7 @@ use crate::asking::Wanted;
 use crate::filling::write_fill;
 use crate::outputs::{detailed_line, push_counts, push_text, push_verdict, verdict_status};
 use ac_base::{NoMemory, Sink};
-use ac_find::broken_detail;
+use ac_find::{all_slots, broken_detail, find_lacks, tree_counts};
 use ac_query::{Query, Token};
 use ac_report::findings::{
     Question, explanation_status, find_without, has_candidate, hosts_status, hosts_text,
