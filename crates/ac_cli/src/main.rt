@@ -1,8 +1,8 @@
 //! Which providers of a cloud could host a workload, asked of exported Placement tables.
 #![tactic(auto)]
 
+mod files;
 mod host;
-mod opening;
 mod program;
 mod sample;
 

@@ -1,8 +1,7 @@
 -- What was told where a run has no answer says of what is answered.
 use Rattle.std.proofs.Common.{◌≡◌, ◌≢◌, ◌∙◌, ℕ, ◌≤◌, zero, suc, List, [], ◌∷◌, Option, Some, None, ◌⊎◌, inl, inr, refl, sym, ap, subst, arith, append-nil}
-use Rattle.std.proofs.KnownBytes.{Keeps-refl}
 use Rattle.std.specs.Prelude.{Contains}
-use Rattle.std.specs.Io.KnownBytes.{Appends, Keeps}
+use Rattle.std.specs.Io.KnownBytes.{Appends}
 use Rattle.ac_base.specs.Writing.{TakesLine}
 use Rattle.ac_base.specs.Devices.{Rises, TakesPart}
 use Rattle.ac_run.specs.Answer.{Outcome, refused}
@@ -80,7 +79,8 @@ module _ {R : Type 0} (remaining : R → Option (List ℕ)) (failures : R → �
 -- ---- how a run ended that gave no answer
 
 module _ {R : Type 0} (remaining : R → Option (List ℕ)) (failures : R → ℕ) (detail : Option Paths) (said : Bytes → Outcome) (from to : FiveTables R) (line : List ℕ) (status : ℕ)
-    (old new : Option (List ℕ)) (first last : ℕ) (why : Ends remaining failures detail said from to line status old new first last)
+    (Untouched : Type 0) (old new : Option (List ℕ)) (same : Untouched → new ≡ old) (first last : ℕ)
+    (why : Ends remaining failures detail said from to line status Untouched old new first last)
     (err_old err_new : Option (List ℕ)) (before after : ℕ) (told : TakesLine err_old err_new before after line) where
   abbrev IsNotAnswered : Type 0
   IsNotAnswered = (b : Bytes) → TellBytes remaining from b → IsRefused (said b) err_old err_new before after status
@@ -104,9 +104,9 @@ module _ {R : Type 0} (remaining : R → Option (List ℕ)) (failures : R → �
     | inr late ↦ elim late.0 [ inl output ↦ absurd (omega (arith, output.1, high)) | inr memory ↦ absurd (omega (arith, memory.1, high)) ]
   ]
 
-  pub ends_untouched : status ≤ 5 → Keeps old new
+  pub ends_untouched : status ≤ 5 → Untouched
   ends_untouched high = elim why [
-    | inl early ↦ subst (Keeps old) (sym early.0) (Keeps-refl old)
+    | inl early ↦ early.0
     | inr late ↦ elim late.0 [ inl output ↦ absurd (omega (arith, output.1, high)) | inr memory ↦ absurd (omega (arith, memory.1, high)) ]
   ]
 
@@ -126,14 +126,14 @@ module _ {R : Type 0} (remaining : R → Option (List ℕ)) (failures : R → �
   ]
 
   pub ends_part : (b : Bytes) → TellBytes remaining from b → TakesPart old new (said b).output
-  ends_part b tell = elim why [ inl early ↦ subst (λ n. TakesPart old n (said b).output) (sym early.0) (part_none old (said b).output) | inr late ↦ late.1 b tell ]
+  ends_part b tell = elim why [ inl early ↦ subst (λ n. TakesPart old n (said b).output) (sym (same early.0)) (part_none old (said b).output) | inr late ↦ late.1 b tell ]
 
   -- where no device failed
   pub ends_answered : status ≢ 7 → ((t : Table) → FeedRose failures from to t → ⊥) → (Rises first last → ⊥) → (Rises before after → ⊥) → (b : Bytes) → TellBytes remaining from b
       → IsAnswered (said b) old new err_old err_new status
   ends_answered seven feeds output whole b tell = elim why [
     | inl early ↦
-        subst (λ n. IsAnswered (said b) old n err_old err_new status) (sym early.0)
+        subst (λ n. IsAnswered (said b) old n err_old err_new status) (sym (same early.0))
         (answered remaining failures detail said from to line status early.1 err_old err_new before after told seven feeds whole old b tell)
     | inr late ↦ elim late.0 [ inl failed ↦ absurd (output failed.2) | inr memory ↦ absurd (seven memory.1) ]
   ]

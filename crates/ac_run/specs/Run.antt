@@ -74,9 +74,9 @@ Explains remaining failures detail said from to line status =
 -- Why a run gave no answer, by the line that tells it and its status: nothing was answered, and nothing written; or the output failed; or memory gave out. What
 -- was written is a first part of the output.
 abbrev pub Ends : {R : Type 0} → (R → Option (List ℕ)) → (R → ℕ) → Option Paths → (Bytes → Outcome) → FiveTables R → FiveTables R → List ℕ → ℕ
-    → Option (List ℕ) → Option (List ℕ) → ℕ → ℕ → Type 0
-Ends remaining failures detail said from to line status old new before after =
-    ((new ≡ old) × Explains remaining failures detail said from to line status)
+    → Type 0 → Option (List ℕ) → Option (List ℕ) → ℕ → ℕ → Type 0
+Ends remaining failures detail said from to line status Untouched old new before after =
+    (Untouched × Explains remaining failures detail said from to line status)
     ⊎ ((((line ≡ output_line) × (status ≡ 6) × Rises before after) ⊎ ((line ≡ memory_line) × (status ≡ 7)))
     × ((b : Bytes) → TellBytes remaining from b → TakesPart old new (said b).output))
 

@@ -34,6 +34,7 @@ fn answer_job<R: Feed, W: Sink>(
         → IsWritten (answer (task_of job.now) b) (W.taken out.old) (W.taken out.new) status) }
     ensures fault { IfErr result (λ told. Ends R.remaining R.failures (task_of job.now).detail
         (answer (task_of job.now)) inputs.old inputs.new (line_told told) (status_told told)
+        (out.new ≡ out.old)
         (W.taken out.old) (W.taken out.new) (W.failures out.old) (W.failures out.new)) }
     ensures failures { W.failures out.old ≤ W.failures out.new }
 {
@@ -83,6 +84,7 @@ pub fn run<R: Feed, W: Sink, E: Sink>(
         → IsRefused (answer (task_of job.now) b) (E.taken err.old) (E.taken err.new)
         (E.failures err.old) (E.failures err.new) result }
     ensures untouched { 3 ≤ result → result ≤ 5 → Keeps (W.taken out.old) (W.taken out.new) }
+    ensures same { 3 ≤ result → result ≤ 5 → out.new ≡ out.old }
     ensures output { result ≡ 6 → Rises (W.failures out.old) (W.failures out.new)
         × TakesLine (E.taken err.old) (E.taken err.new)
         (E.failures err.old) (E.failures err.new) output_line }

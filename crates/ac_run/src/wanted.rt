@@ -162,11 +162,9 @@ pub fn read_wanted(alloc: Global, job: &Job, cloud: &Cloud) -> Result<Wanted, As
 {
     match job.command {
         Command::Check => Ok(Wanted::Counts),
-        _ => wanted_of(
-            alloc,
-            job,
-            cloud,
-            read_query(alloc, job.query, job.version)?,
-        ),
+        _ => {
+            let query = read_query(alloc, job.query, job.version)?;
+            wanted_of(alloc, job, cloud, query)
+        }
     }
 }
