@@ -7,4 +7,3 @@ pub mod Delivering
 pub mod HostFound
 pub mod FaultsTold
 pub mod StatedRequests
-pub mod HandedOn

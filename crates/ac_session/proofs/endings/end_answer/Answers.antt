@@ -1,4 +1,4 @@
-use Rattle.ac_run.proofs.HandedOn.{from_ok}
+use Rattle.ac_base.proofs.HandedOn.{from_ok}
 use Rattle.ac_session.proofs.Stood.{first_of_first}
 use Rattle.ac_session.proofs.Written.{part_pushed}
 use Rattle.ac_session.specs.Frames.{lines_written}

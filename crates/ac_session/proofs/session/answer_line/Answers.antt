@@ -1,5 +1,5 @@
 use Rattle.ac_cloud.specs.Cloud.CloudWorld.{world_of}
-use Rattle.ac_run.proofs.HandedOn.{from_ok}
+use Rattle.ac_base.proofs.HandedOn.{from_ok}
 use Rattle.ac_session.proofs.Stood.{end_given, given_there, line_part, line_stands}
 use Rattle.ac_session.proofs.session.answer_line.Goals as goal
 

@@ -1,7 +1,7 @@
 use Rattle.std.proofs.Common.{◌∙◌, refl}
 use Rattle.std.proofs.lemmas.Result.{on_ok_weaker}
 use Rattle.ac_cloud.specs.Cloud.CloudWorld.{world_of}
-use Rattle.ac_run.proofs.HandedOn.{from_err, later_rise, same_rise}
+use Rattle.ac_base.proofs.HandedOn.{from_err, later_rise, same_rise}
 use Rattle.ac_session.proofs.Written.{handed_begun, handed_part, handed_whole, ok_any}
 use Rattle.ac_session.specs.Turns.{turn_of}
 use Rattle.ac_session.proofs.session.hand_on.Goals as goal

@@ -1,6 +1,6 @@
 use Rattle.std.proofs.Common.{◌∙◌, ap, Err}
 use Rattle.ac_cloud.specs.Cloud.CloudWorld.{world_of}
-use Rattle.ac_run.proofs.HandedOn.{from_ok}
+use Rattle.ac_base.proofs.HandedOn.{from_ok}
 use Rattle.ac_session.proofs.Ended.{is_held, stop_ends, stops_by_device}
 use Rattle.ac_session.proofs.session.hold.Goals as goal
 
