@@ -19,9 +19,7 @@ fn push_record_line<E: Sink>(
     row: u32,
     kind: TableKind,
 ) -> Result<(), WriteFailed>
-    ensures text { Pushes result (E.taken err.old) (E.taken err.new) (E.failures err.old)
-        (E.failures err.new) (record_line table row kind) }
-    ensures failures { E.failures err.old ≤ E.failures err.new }
+    ensures { Pushes E.taken E.failures err.old err.new result (record_line table row kind) }
 {
     push_pieces(
         err,
@@ -39,9 +37,7 @@ fn push_record_line<E: Sink>(
 // The line of what is wrong with a pair.
 #[tactic(auto, unfolding(crate::specs::Lines::pair_line))]
 fn push_pair_line<E: Sink>(err: &mut E, number: u32, name: &[u8]) -> Result<(), WriteFailed>
-    ensures text { Pushes result (E.taken err.old) (E.taken err.new) (E.failures err.old)
-        (E.failures err.new) (pair_line number name.now) }
-    ensures failures { E.failures err.old ≤ E.failures err.new }
+    ensures { Pushes E.taken E.failures err.old err.new result (pair_line number name.now) }
 {
     push_pieces(
         err,
@@ -58,9 +54,7 @@ fn push_pair_line<E: Sink>(err: &mut E, number: u32, name: &[u8]) -> Result<(), 
 // The line of what is wrong with a group.
 #[tactic(auto, unfolding(crate::specs::Lines::group_line))]
 fn push_group_line<E: Sink>(err: &mut E, suffix: &[u8], name: &[u8]) -> Result<(), WriteFailed>
-    ensures text { Pushes result (E.taken err.old) (E.taken err.new) (E.failures err.old)
-        (E.failures err.new) (group_line suffix.now name.now) }
-    ensures failures { E.failures err.old ≤ E.failures err.new }
+    ensures { Pushes E.taken E.failures err.old err.new result (group_line suffix.now name.now) }
 {
     push_pieces(err, &[b"query: group \"", suffix, b"\": ", name, b"\n"])
 }
@@ -68,9 +62,8 @@ fn push_group_line<E: Sink>(err: &mut E, suffix: &[u8], name: &[u8]) -> Result<(
 // The line of a fault of a query.
 #[tactic(auto, unfolding(crate::specs::Lines::query_line, crate::specs::Lines::memory_line))]
 fn push_query_line<E: Sink>(err: &mut E, fault: &QueryFault) -> Result<(), WriteFailed>
-    ensures text { Pushes result (E.taken err.old) (E.taken err.new) (E.failures err.old)
-        (E.failures err.new) (line_of_query (fault_shown fault.now)) }
-    ensures failures { E.failures err.old ≤ E.failures err.new }
+    ensures { Pushes E.taken E.failures err.old err.new result
+        (line_of_query (fault_shown fault.now)) }
 {
     match fault {
         QueryFault::QueryTooLong => push_whole(err, b"query: QueryTooLong\n"),
@@ -98,9 +91,7 @@ fn push_query_line<E: Sink>(err: &mut E, fault: &QueryFault) -> Result<(), Write
 
 // A text that is at hand.
 fn push_whole<E: Sink>(err: &mut E, text: &[u8]) -> Result<(), WriteFailed>
-    ensures text { Pushes result (E.taken err.old) (E.taken err.new) (E.failures err.old)
-        (E.failures err.new) text.now }
-    ensures failures { E.failures err.old ≤ E.failures err.new }
+    ensures { Pushes E.taken E.failures err.old err.new result text.now }
 {
     push_all(err, text)
 }
@@ -108,9 +99,7 @@ fn push_whole<E: Sink>(err: &mut E, text: &[u8]) -> Result<(), WriteFailed>
 // Pushes the line of tables that are refused.
 #[tactic(auto, unfolding(crate::specs::Lines::unreadable_line, crate::specs::Lines::too_large_line, crate::specs::Lines::memory_line))]
 fn push_tables_line<E: Sink>(err: &mut E, refusal: &TablesRefusal) -> Result<(), WriteFailed>
-    ensures text { Pushes result (E.taken err.old) (E.taken err.new) (E.failures err.old)
-        (E.failures err.new) (line_of_tables refusal.now) }
-    ensures failures { E.failures err.old ≤ E.failures err.new }
+    ensures { Pushes E.taken E.failures err.old err.new result (line_of_tables refusal.now) }
 {
     match refusal {
         TablesRefusal::Unreadable(table) => {
@@ -128,9 +117,7 @@ fn push_tables_line<E: Sink>(err: &mut E, refusal: &TablesRefusal) -> Result<(),
 /// Pushes the line of what is asked and refused.
 #[tactic(auto, unfolding(crate::specs::Lines::token_line, crate::specs::Lines::host_line, crate::specs::Lines::memory_line))]
 pub fn push_asked_line<E: Sink>(err: &mut E, refusal: &AskRefusal) -> Result<(), WriteFailed>
-    ensures text { Pushes result (E.taken err.old) (E.taken err.new) (E.failures err.old)
-        (E.failures err.new) (line_of_asked refusal.now) }
-    ensures failures { E.failures err.old ≤ E.failures err.new }
+    ensures { Pushes E.taken E.failures err.old err.new result (line_of_asked refusal.now) }
 {
     match refusal {
         AskRefusal::Query(fault) => push_query_line(err, fault),
@@ -146,9 +133,7 @@ pub fn push_asked_line<E: Sink>(err: &mut E, refusal: &AskRefusal) -> Result<(),
 // Pushes the line of a refusal.
 #[tactic(auto, unfolding(crate::specs::Lines::memory_line, crate::specs::Lines::output_line))]
 fn push_line<E: Sink>(err: &mut E, refusal: &Refusal) -> Result<(), WriteFailed>
-    ensures text { Pushes result (E.taken err.old) (E.taken err.new) (E.failures err.old)
-        (E.failures err.new) (line_of refusal.now) }
-    ensures failures { E.failures err.old ≤ E.failures err.new }
+    ensures { Pushes E.taken E.failures err.old err.new result (line_of refusal.now) }
 {
     match refusal {
         Refusal::Tables(refusal) => push_tables_line(err, refusal),
@@ -185,9 +170,8 @@ fn status_of(refusal: &Refusal) -> u8
 // Pushes the line of a refusal, and then what stands behind it.
 #[tactic(auto, using(ac_base::proofs::Leaving::appends_both, ac_base::proofs::Leaving::part_of_first, ac_base::proofs::Leaving::part_of_second))]
 fn push_refused<E: Sink>(err: &mut E, refused: &Refused) -> Result<(), WriteFailed>
-    ensures text { Pushes result (E.taken err.old) (E.taken err.new) (E.failures err.old)
-        (E.failures err.new) (line_of refused.now.refusal ++ refused.now.detail.items) }
-    ensures failures { E.failures err.old ≤ E.failures err.new }
+    ensures { Pushes E.taken E.failures err.old err.new result
+        (line_of refused.now.refusal ++ refused.now.detail.items) }
 {
     push_line(err, &refused.refusal)?;
     push_all(err, &refused.detail)
