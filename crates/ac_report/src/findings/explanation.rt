@@ -58,7 +58,7 @@ fn push_need<W: Sink>(out: &mut W, mark: &[u8], need: &Need) -> Result<(), Write
 }
 
 // All classes of a slot.
-#[tactic(auto, using(crate::proofs::Findings::ItemsWritten::item_stopped, ac_base::proofs::Pushed::pushed_first), unfolding(crate::specs::Findings::Explanation::needs_text))]
+#[tactic(auto, using(crate::proofs::FoundTexts::ItemsWritten::item_stopped, ac_base::proofs::Pushed::pushed_first), unfolding(crate::specs::Findings::Explanation::needs_text))]
 fn push_needs<W: Sink>(out: &mut W, needs: &[Need]) -> Result<(), WriteFailed>
     ensures text { Pushes result (W.taken out.old) (W.taken out.new)
         (W.failures out.old) (W.failures out.new)

@@ -3,7 +3,7 @@ use Rattle.std.specs.Io.KnownBytes.{Appends}
 use Rattle.ac_base.specs.Devices.{TakesPart}
 use Rattle.ac_query.specs.Shown.Groups.{need_entry}
 use Rattle.ac_report.specs.Findings.Explanation.{room_mark, room_text}
-use Rattle.ac_report.proofs.Findings.SlotsWritten.{mapped_at, place_stopped, place_written}
+use Rattle.ac_report.proofs.FoundTexts.SlotsWritten.{mapped_at, place_stopped, place_written}
 use Rattle.ac_report.proofs.findings.explanation.push_rooms.Goals as goal
 
 pub returns-in_err-push_room-clause-text : goal.returns-in_err-push_room-clause-text

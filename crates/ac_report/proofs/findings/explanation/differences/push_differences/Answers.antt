@@ -7,7 +7,7 @@ use Rattle.ac_cloud.specs.Cloud.CloudWorld.{providers_of}
 use Rattle.ac_differences.specs.Differing.{all_differences, applies}
 use Rattle.ac_differences.specs.declared.differences.Difference.{Difference}
 use Rattle.ac_report.specs.Findings.Explanation.Differing.{differs_line, differs_lines}
-use Rattle.ac_report.proofs.Findings.DifferencesWritten.{each_passing}
+use Rattle.ac_report.proofs.FoundTexts.DifferencesWritten.{each_passing}
 use Rattle.ac_base.proofs.PiecesWritten.{next_piece}
 use Rattle.ac_base.proofs.Pushed.{pushed_within}
 use Rattle.ac_report.proofs.findings.explanation.differences.push_differences.Goals as goal

@@ -1,6 +1,6 @@
 use Rattle.std.proofs.Common.{arith}
 use Rattle.ac_base.specs.Texts.{id_text}
-use Rattle.ac_report.proofs.Findings.ItemsWritten.{item_turn, listed_stopped}
+use Rattle.ac_report.proofs.FoundTexts.ItemsWritten.{item_turn, listed_stopped}
 use Rattle.ac_report.proofs.findings.explanation.nobody.push_ids.Goals as goal
 
 pub returns-in_err-push_marked-clause-text : goal.returns-in_err-push_marked-clause-text

@@ -3,7 +3,7 @@ use Rattle.std.specs.Io.KnownBytes.{Appends}
 use Rattle.ac_base.specs.Devices.{TakesPart}
 use Rattle.ac_query.specs.Shown.{suffixes_shown}
 use Rattle.ac_report.specs.Findings.Explanation.Candidates.{subtree_line}
-use Rattle.ac_report.proofs.Findings.SlotsWritten.{mapped_at, place_stopped, place_written}
+use Rattle.ac_report.proofs.FoundTexts.SlotsWritten.{mapped_at, place_stopped, place_written}
 use Rattle.ac_report.proofs.findings.explanation.without.push_subtrees.Goals as goal
 
 pub returns-in_err-push_subtree-clause-text : goal.returns-in_err-push_subtree-clause-text
