@@ -13,7 +13,7 @@ mod placements;
 mod ready;
 pub mod refusal;
 pub mod refusal_lines;
-pub mod run;
+pub mod run_job;
 mod wanted;
 
 pub use answer::write_answer;
@@ -24,5 +24,5 @@ pub use placements::fill_status;
 pub use ready::read_inputs;
 pub use refusal::{AskRefusal, Refusal, Refused, TablesRefusal};
 pub use refusal_lines::{asked_status, push_asked_line, tell};
-pub use run::run;
+pub use run_job::run;
 pub use wanted::{Wanted, read_query, read_token, read_wanted};
