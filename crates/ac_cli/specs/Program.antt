@@ -20,7 +20,7 @@ use Rattle.ac_session.specs.Lines.{most_passed}
 use Rattle.ac_session.specs.Sessions.{AreUnread, session_answer}
 use Rattle.ac_tables.specs.declared.read.FiveTables.{FiveTables}
 use Rattle.ac_cli.specs.Files.{AreOpened}
-use Rattle.ac_words.specs.Words.{Line, Says, faults, named, paths_in, task_in}
+use Rattle.ac_words.specs.Words.{Line, Says, faults, named, task_in}
 use Rattle.ac_tables.specs.FiveTables.{table_in}
 
 -- ---- the streams
@@ -131,7 +131,7 @@ HeldSession {R} {Q} remaining failures asked fails detail version from to questi
 
 -- the paths of a line, where more is to be told
 abbrev pub detail_in : Line → Option Paths
-detail_in line = if line.detail then Some (paths_in line) else None
+detail_in line = if line.detail then Some line.paths else None
 
 -- what a line calls for was done over feeds of tables that were these before and after: a task was run, or a session was held
 abbrev pub RanCall : {R Q : Type 0} → (R → Option (List ℕ)) → (R → ℕ) → (Q → Option (List ℕ)) → (Q → ℕ)
@@ -151,7 +151,7 @@ pub record IsUnopened (refuses : List ℕ → List ℕ → Type 0) (line : Line)
   pub table : Table
   pub path : Text
   pub reason : Text
-  pub named : table_in (paths_in line) table ≡ Some path
+  pub named : table_in line.paths table ≡ Some path
   pub refused : refuses path reason
   pub told : IsToldUnopened (detail_in line) table path reason (IsLine s) given
   pub output : s.out_new ≡ s.out_old
@@ -161,7 +161,7 @@ pub record RanOpened {R Q : Type 0} (opens : List ℕ → R → Type 0) (remaini
     (asked : Q → Option (List ℕ)) (fails : Q → ℕ) (questions : Q) (line : Line) (s : Streams) (status : ℕ) : Type 0 where
   pub from : FiveTables R
   pub to : FiveTables R
-  pub files : AreOpened opens (paths_in line) from
+  pub files : AreOpened opens line.paths from
   pub ran : RanCall remaining failures asked fails (task_in line (detail_in line)) line from to questions s status
 
 abbrev pub EndsForLine : {R Q : Type 0} → (List ℕ → R → Type 0) → (List ℕ → List ℕ → Type 0) → (R → Option (List ℕ)) → (R → ℕ) → (Q → Option (List ℕ)) → (Q → ℕ)

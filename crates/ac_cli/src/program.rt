@@ -4,7 +4,6 @@ ghost use Rattle.std.specs.Io.KnownBytes.{Appends};
 ghost use Rattle.ac_base.specs.Devices.{Rises, TakesPart};
 ghost use Rattle.ac_base.specs.Writing.{TakesLine};
 ghost use Rattle.ac_run.specs.Tasks.{command_shown, detail_shown, paths_shown, task_of};
-ghost use Rattle.ac_words.specs.Words.{paths_in};
 ghost use Rattle.ac_cli.specs.Program.{EndsForLine, EndsForWords, EndsProgram, HeldSession, IsShown, IsToldUnopened, RanJob, RanSample, RanTask, detail_in, note_of, seen};
 
 use crate::files::{Unopened, opened_inputs};
@@ -138,7 +137,7 @@ fn tell_unopened<E: Sink>(
 
 // The paths of the words, where more is to be told.
 fn detail_of<'a>(words: &Words, paths: &'a Paths<'a>) -> Option<&'a Paths<'a>>
-    requires { paths_shown paths.now ≡ paths_in words.now }
+    requires { paths_shown paths.now ≡ words.now.paths }
     ensures { detail_shown result ≡ detail_in words.now }
 {
     if words.detail() { Some(paths) } else { None }

@@ -3,6 +3,7 @@ use Rattle.std.proofs.Common.{◌≡◌, ◌∙◌, ℕ, ◌≤◌, Bool, true, 
 use Rattle.std.proofs.lemmas.Bool.Decides.{nat_tests}
 use Rattle.std.specs.Global.{Vec}
 use Rattle.std.specs.Prelude.{nat_lt, if◌then◌else◌, IfOk, Result, Ok, Err}
+use Rattle.ac_base.specs.Devices.{TakesPart}
 use Rattle.ac_cloud.specs.World.{World}
 use Rattle.ac_query.specs.Faults.{query_fault}
 use Rattle.ac_query.specs.Laws.Gathered.{asked_by}
@@ -15,13 +16,13 @@ use Rattle.ac_run.specs.Feeds.{Bytes, TellBytes, too_large}
 use Rattle.ac_run.specs.Given.{tables_in}
 use Rattle.ac_run.specs.Lines.{memory_line}
 use Rattle.ac_run.specs.Refusals.{IsRefusalWith, line_of, line_of_asked, line_of_tables, line_told, status_of, status_of_asked, status_of_tables, status_told}
-use Rattle.ac_run.specs.Run.{Explains, ExplainsTables, IsStated}
+use Rattle.ac_run.specs.Run.{Explains, ExplainsTables, IsStated, IsWritten}
 use Rattle.ac_run.specs.Tasks.{Command, Paths, Task, check, candidates, tokens, list, fill, verify, explain, hosts, why, token_in}
 use Rattle.ac_run.specs.Wanted.{ExplainsWanted}
 use Rattle.ac_run.specs.declared.refusal.AskRefusal.{AskRefusal}
 use Rattle.ac_run.specs.declared.refusal.AskRefusal.TheVariants as ask
 use Rattle.ac_run.specs.declared.refusal.Refusal.{Refusal}
-use Rattle.ac_run.specs.declared.refusal.Refusal.TheVariants as refusal
+use Rattle.ac_run.specs.declared.refusal.Refusal.TheVariants as whole
 use Rattle.ac_run.specs.declared.refusal.Refused.{Refused}
 use Rattle.ac_run.specs.declared.refusal.TablesRefusal.{TablesRefusal}
 use Rattle.ac_run.specs.declared.refusal.TablesRefusal.TheVariants as tables
@@ -34,11 +35,11 @@ use Rattle.ac_tables.specs.declared.read.FiveTables.{FiveTables}
 -- ---- with what is to be done
 
 -- an outcome that is no refusal stays as it is
-pub plain_in_detail : (text : List ℕ) (o : Outcome) → o.status ≤ 1 → with_detail text o ≡ o
+plain_in_detail : (text : List ℕ) (o : Outcome) → o.status ≤ 1 → with_detail text o ≡ o
 plain_in_detail text o small = let low : nat_lt 2 o.status ≡ false = grind (arith, nat_tests) in rw low refl
 
 -- the output of each stays
-pub output_in_detail : (text : List ℕ) (o : Outcome) → (with_detail text o).output ≡ o.output
+output_in_detail : (text : List ℕ) (o : Outcome) → (with_detail text o).output ≡ o.output
 output_in_detail text o = by (nat_lt 2 o.status)
   where
     by : (b : Bool) → (if b then record o { line = o.line ++ text } else o).output ≡ o.output
@@ -61,16 +62,16 @@ module _ (detail : Option Paths) (b : Bytes) (say : World → Outcome) where
   faulty : (f : TableFault) → too_large b ≡ None → tables_fault (tables_in b) ≡ Some f → past_tables detail b say ≡ table_refused detail (tables_in b) f
   faulty f few h = rw (few, h) refl
 
-  pub in_world : (world : World) → IsStated b world → past_tables detail b say ≡ say world
+  in_world : (world : World) → IsStated b world → past_tables detail b say ≡ say world
   in_world world stated = rw (stated.few, stated.fine) (ap say (sym stated.states))
 
 -- ---- what a refusal tells
 
 -- its line with the text behind it, and its status; or, where there was no memory for the text, want of memory
-abbrev pub Tells : List ℕ → ℕ → List ℕ → ℕ → Type 0
+abbrev Tells : List ℕ → ℕ → List ℕ → ℕ → Type 0
 Tells line status told given = ((told ≡ line) × (given ≡ status)) ⊎ ((told ≡ memory_line) × (given ≡ 7))
 
-pub tells : {F : Type 0} (refusal : Refusal) (text : Result (Vec ℕ) F) (told : Refused) (said : List ℕ) → IsRefusalWith refusal text told → IfOk text (λ t. t.items ≡ said)
+tells : {F : Type 0} (refusal : Refusal) (text : Result (Vec ℕ) F) (told : Refused) (said : List ℕ) → IsRefusalWith refusal text told → IfOk text (λ t. t.items ≡ said)
     → Tells (line_of refusal ++ said) (status_of refusal) (line_told told) (status_told told)
 tells refusal (Ok text) told said is h = inl (is.0 ∙ ap (λ l. line_of refusal ++ l) h, is.1)
 tells r (Err e) told said is h = inr is
@@ -90,8 +91,8 @@ module _ {R : Type 0} (remaining : R → Option (List ℕ)) (failures : R → �
   reading tables.NoMemory h = inr (inr (ap (λ l. memory_line ++ l) (nothing_behind detail) ∙ append-nil memory_line, refl))
 
   pub read_told : {F : Type 0} (refusal : TablesRefusal) (text : Result (Vec ℕ) F) (told : Refused) → ExplainsReading remaining failures from to refusal
-      → IfOk text (λ t. t.items ≡ behind detail (reading_remedy refusal)) → IsRefusalWith (refusal.Tables refusal) text told → IsWhy (line_told told) (status_told told)
-  read_told r text told h said is = elim (tells (refusal.Tables r) text told (behind detail (reading_remedy r)) is said) [
+      → IfOk text (λ t. t.items ≡ behind detail (reading_remedy refusal)) → IsRefusalWith (whole.Tables refusal) text told → IsWhy (line_told told) (status_told told)
+  read_told r text told h said is = elim (tells (whole.Tables r) text told (behind detail (reading_remedy r)) is said) [
     | inl this ↦ rw (this.0, this.1) (reading r h)
     | inr last ↦ inr (inr last)
   ]
@@ -107,9 +108,9 @@ module _ {R : Type 0} (remaining : R → Option (List ℕ)) (failures : R → �
     faults tables.NoMemory h = inr (inr (ap (λ l. memory_line ++ l) (nothing_behind detail) ∙ append-nil memory_line, refl))
 
     pub fault_told : {F : Type 0} (refusal : TablesRefusal) (text : Result (Vec ℕ) F) (said : Refused) → ExplainsTables (tables_fault (tables_in texts)) refusal
-        → IfOk text (λ t. t.items ≡ behind detail (fault_remedy (tables_in texts) refusal)) → IsRefusalWith (refusal.Tables refusal) text said
+        → IfOk text (λ t. t.items ≡ behind detail (fault_remedy (tables_in texts) refusal)) → IsRefusalWith (whole.Tables refusal) text said
         → IsWhy (line_told said) (status_told said)
-    fault_told r text said h remedy is = elim (tells (refusal.Tables r) text said (behind detail (fault_remedy (tables_in texts) r)) is remedy) [
+    fault_told r text said h remedy is = elim (tells (whole.Tables r) text said (behind detail (fault_remedy (tables_in texts) r)) is remedy) [
       | inl this ↦ rw (this.0, this.1) (faults r h)
       | inr last ↦ inr (inr last)
     ]
@@ -119,10 +120,19 @@ module _ {R : Type 0} (remaining : R → Option (List ℕ)) (failures : R → �
         → (b : Bytes) → TellBytes remaining from b → IsStated b world
     is_stated world fine stated b tell = subst (λ b. IsStated b world) (told b tell) (record { few = few; fine = fine; states = stated })
 
+-- ---- what was written of an outcome that is no refusal
+
+module _ (text : List ℕ) (o said : Outcome) (old new : Option (List ℕ)) where
+  pub written_so : (given : ℕ) → said ≡ with_detail text o → given ≤ 1 → IsWritten o old new given → IsWritten said old new given
+  written_so given is small written = subst (λ o. IsWritten o old new given) (sym (is ∙ plain_in_detail text o (subst (λ n. n ≤ 1) written.status small))) written
+
+  pub part_so : said ≡ with_detail text o → TakesPart old new o.output → TakesPart old new said.output
+  part_so is part = subst (TakesPart old new) (sym (ap (λ o. o.output) is ∙ output_in_detail text o)) part
+
 -- ---- what a task asks of a world
 
 -- but for `check` a command asks for a query
-pub asks_query : (command : Command) (detail : Bool) (version : Version) (query : List ℕ) (world : World) → (command ≡ check → ⊥)
+asks_query : (command : Command) (detail : Bool) (version : Version) (query : List ℕ) (world : World) → (command ≡ check → ⊥)
     → answer_by command detail version query world ≡ past_query (said_by command detail world) (token_in command) version query
 asks_query check detail version query world other = absurd (other refl)
 asks_query (candidates after traits) detail version query world other = refl
@@ -160,7 +170,7 @@ module _ (task : Task) (world : World) where
     abbrev IsWhyAsked : List ℕ → ℕ → Type 0
     IsWhyAsked line status = Explains remaining failures task.detail (answer task) from to line status
 
-    in_answer : (b : Bytes) → TellBytes remaining from b → answer task b ≡ answer_within task world
+    pub in_answer : (b : Bytes) → TellBytes remaining from b → answer task b ≡ answer_within task world
     unfolding answer
     in_answer b tell = in_world task.detail b (answer_within task) world (stated b tell)
 
@@ -176,9 +186,16 @@ module _ (task : Task) (world : World) where
     asked (ask.Host f) h = this_very (ask.Host f) h (λ e. cc) (omega arith) (omega arith)
 
     pub asked_told : {F : Type 0} (refusal : AskRefusal) (text : Result (Vec ℕ) F) (told : Refused) → ExplainsWanted task world refusal
-        → IfOk text (λ t. t.items ≡ behind task.detail (λ _. asked_remedy task refusal)) → IsRefusalWith (refusal.Asked refusal) text told
+        → IfOk text (λ t. t.items ≡ behind task.detail (λ _. asked_remedy task refusal)) → IsRefusalWith (whole.Asked refusal) text told
         → IsWhyAsked (line_told told) (status_told told)
-    asked_told r text told h said is = elim (tells (refusal.Asked r) text told (behind task.detail (λ _. asked_remedy task r)) is said) [
+    asked_told r text told h said is = elim (tells (whole.Asked r) text told (behind task.detail (λ _. asked_remedy task r)) is said) [
       | inl this ↦ rw (this.0, this.1) (asked r h)
       | inr last ↦ inr (inr last)
     ]
+
+-- what explains what is said past the tables explains the answer
+pub as_answer : (task : Task) {R : Type 0} (remaining : R → Option (List ℕ)) (failures : R → ℕ) (from to : FiveTables R) (line : List ℕ) (status : ℕ)
+    → Explains remaining failures task.detail (λ b. past_tables task.detail b (answer_within task)) from to line status
+    → Explains remaining failures task.detail (answer task) from to line status
+unfolding answer
+as_answer task remaining failures from to line status because = because

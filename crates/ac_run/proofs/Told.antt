@@ -52,19 +52,6 @@ module _ {R : Type 0} (remaining : R → Option (List ℕ)) (failures : R → �
     | inr rest ↦ elim rest [ inl this ↦ (None, the_answer this.2) | inr last ↦ absurd (cc) ]
   ]
 
-  -- a query, a token or a host that is refused
-  asked : 4 ≤ status → status ≤ 5 → AreRefused
-  asked low high = elim why [
-    | inl unread ↦ absurd (omega (arith, unread.3, low))
-    | inr rest ↦ elim rest [ inl this ↦ the_answer this.2 | inr last ↦ absurd (omega (arith, last.1, high)) ]
-  ]
-
-  memory : status ≡ 7 → TakesLine err_old err_new before after memory_line
-  memory seven = elim why [
-    | inl unread ↦ absurd cc
-    | inr rest ↦ elim rest [ inl this ↦ absurd (omega (arith, this.1, seven)) | inr last ↦ subst (TakesLine err_old err_new before after) last.0 told ]
-  ]
-
   -- where no device failed
   answered : status ≢ 7 → ((t : Table) → FeedRose failures from to t → ⊥) → (Rises before after → ⊥) → (out : Option (List ℕ)) → (b : Bytes) → TellBytes remaining from b
       → IsAnswered (said b) out out err_old err_new status
@@ -96,33 +83,6 @@ module _ {R : Type 0} (remaining : R → Option (List ℕ)) (failures : R → �
   ends_tables three = elim why [
     | inl early ↦ tables remaining failures detail said from to line status early.1 err_old err_new before after told three
     | inr late ↦ elim late.0 [ inl output ↦ absurd (cc) | inr memory ↦ absurd (cc) ]
-  ]
-
-  pub ends_asked : 4 ≤ status → status ≤ 5 → IsNotAnswered
-  ends_asked low high = elim why [
-    | inl early ↦ asked remaining failures detail said from to line status early.1 err_old err_new before after told low high
-    | inr late ↦ elim late.0 [ inl output ↦ absurd (omega (arith, output.1, high)) | inr memory ↦ absurd (omega (arith, memory.1, high)) ]
-  ]
-
-  pub ends_untouched : status ≤ 5 → Untouched
-  ends_untouched high = elim why [
-    | inl early ↦ early.0
-    | inr late ↦ elim late.0 [ inl output ↦ absurd (omega (arith, output.1, high)) | inr memory ↦ absurd (omega (arith, memory.1, high)) ]
-  ]
-
-  pub ends_output : status ≡ 6 → Rises first last × TakesLine err_old err_new before after output_line
-  ends_output six = elim why [
-    | inl early ↦ absurd (not_six early.1)
-    | inr late ↦ elim late.0 [ inl output ↦ (output.2, subst (TakesLine err_old err_new before after) output.0 told) | inr memory ↦ absurd (cc) ]
-  ]
-    where
-      not_six : Explains remaining failures detail said from to line status → ⊥
-      not_six early = elim early [ inl unread ↦ cc | inr rest ↦ elim rest [ inl this ↦ omega (arith, this.1, six) | inr last ↦ cc ] ]
-
-  pub ends_memory : status ≡ 7 → TakesLine err_old err_new before after memory_line
-  ends_memory seven = elim why [
-    | inl early ↦ memory remaining failures detail said from to line status early.1 err_old err_new before after told seven
-    | inr late ↦ elim late.0 [ inl output ↦ absurd (cc) | inr memory ↦ subst (TakesLine err_old err_new before after) memory.0 told ]
   ]
 
   pub ends_part : (b : Bytes) → TellBytes remaining from b → TakesPart old new (said b).output

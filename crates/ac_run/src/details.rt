@@ -86,7 +86,7 @@ fn token_detail(alloc: Global, job: &Job, fault: TokenFault) -> Result<Vec<u8>, 
 
 // The host that a command asks about.
 fn host_of<'a>(command: Command<'a>) -> &'a str
-    ensures { result.now ≡ host_in (command_shown command) }
+    ensures { result.now ≡ host_in (command_shown command.entry) }
 {
     match command {
         Command::Why { host } => host,
