@@ -1,8 +1,8 @@
 -- What is said of bytes, and why nothing was answered.
-use Rattle.std.proofs.Common.{◌≡◌, ◌∙◌, ℕ, ◌≤◌, Bool, true, false, List, [], ◌++◌, Option, Some, None, ◌⊎◌, inl, inr, refl, sym, ap, subst, arith, append-nil}
+use Rattle.std.proofs.Common.{◌≡◌, ◌∙◌, ℕ, ◌≤◌, Bool, true, false, List, [], ◌∷◌, ◌++◌, Option, Some, None, ◌⊎◌, inl, inr, refl, sym, ap, subst, arith, append-nil}
 use Rattle.std.proofs.lemmas.Bool.Decides.{nat_tests}
 use Rattle.std.specs.Global.{Vec}
-use Rattle.std.specs.Prelude.{nat_lt, if◌then◌else◌, IfOk, Result, Ok, Err}
+use Rattle.std.specs.Prelude.{Contains, nat_lt, if◌then◌else◌, IfOk, Result, Ok, Err}
 use Rattle.ac_base.specs.Devices.{TakesPart}
 use Rattle.ac_cloud.specs.World.{World}
 use Rattle.ac_query.specs.Faults.{query_fault}
@@ -75,6 +75,18 @@ tells : {F : Type 0} (refusal : Refusal) (text : Result (Vec ℕ) F) (told : Ref
     → Tells (line_of refusal ++ said) (status_of refusal) (line_told told) (status_told told)
 tells refusal (Ok text) told said is h = inl (is.0 ∙ ap (λ l. line_of refusal ++ l) h, is.1)
 tells r (Err e) told said is h = inr is
+
+-- the status of tables that are refused
+pub refused_status : {F : Type 0} (refusal : TablesRefusal) (text : Result (Vec ℕ) F) (told : Refused) → IsRefusalWith (whole.Tables refusal) text told
+    → Contains (3 ∷ 7 ∷ []) (status_told told)
+refused_status r (Ok text) told is = rw is.1 (by r)
+  where
+    by : (r : TablesRefusal) → Contains (3 ∷ 7 ∷ []) (status_of_tables r)
+    by (tables.Unreadable t) = (0, omega arith, refl)
+    by (tables.TooLarge t) = (0, omega arith, refl)
+    by (tables.Record t row k) = (0, omega arith, refl)
+    by tables.NoMemory = (1, omega arith, refl)
+refused_status r (Err e) told is = rw is.1 (1, omega arith, refl)
 
 -- ---- why there is no world
 

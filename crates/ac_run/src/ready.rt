@@ -1,5 +1,5 @@
 //! What a run has before the first byte of output: the cloud that the tables state, and what is wanted of it.
-ghost use Rattle.std.specs.Prelude.{◌≡◌, IfOk, IfErr, OnOk, None};
+ghost use Rattle.std.specs.Prelude.{◌≡◌, ◌∷◌, [], Contains, IfOk, IfErr, OnOk, None};
 ghost use Rattle.std.specs.Option.{option_map};
 ghost use Rattle.ac_tables.specs.Source.{AreFew, tables_of};
 ghost use Rattle.ac_tables.specs.Tables.{tables_fault, world_stated};
@@ -83,6 +83,7 @@ pub fn read_inputs<R: Feed>(
         → Explains R.remaining R.failures (detail_shown detail.entry)
         (λ b. past_tables (detail_shown detail.entry) b say)
         inputs.old inputs.new (line_told told) (status_told told)) }
+    ensures status { IfErr result (λ told. Contains (3 ∷ 7 ∷ []) (status_told told)) }
 {
     let texts = match read_tables(alloc, inputs) {
         Ok(texts) => texts,
