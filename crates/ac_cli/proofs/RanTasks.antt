@@ -1,12 +1,15 @@
--- How a run ends for which memory gave out at first, and one whose output is gathered.
-use Rattle.std.proofs.Common.{◌≡◌, ℕ, ◌≤◌, List, Option, arith, refl}
+-- What was done for a line, by what it calls for; and how a run or a session ends for which memory gave out at first.
+use Rattle.std.proofs.Common.{◌≡◌, ℕ, ◌≤◌, List, Option, Some, None, arith, refl, subst}
 use Rattle.ac_run.specs.Answer.{Outcome}
 use Rattle.ac_run.specs.Feeds.{Bytes}
 use Rattle.ac_run.specs.Lines.{memory_line}
+use Rattle.ac_run.specs.Tasks.{Paths, Task}
+use Rattle.ac_query.specs.declared.version.Version.{Version}
 use Rattle.ac_tables.specs.declared.fault.Table.{Table}
 use Rattle.ac_tables.specs.declared.read.FiveTables.{FiveTables}
 use Rattle.ac_session.proofs.Stood.{first_none}
-use Rattle.ac_cli.specs.Program.{IsLine, Ran, RanSession, Streams}
+use Rattle.ac_words.specs.Words.{Line, task_in}
+use Rattle.ac_cli.specs.Program.{HeldSession, IsLine, Ran, RanCall, RanJob, RanSession, Streams, detail_in}
 
 -- where memory gave out at first, nothing was taken
 module _ {R : Type 0} (remaining : R → Option (List ℕ)) (from : FiveTables R) (s : Streams) (given : ℕ)
@@ -36,3 +39,18 @@ module _ {R : Type 0} (remaining : R → Option (List ℕ)) (from : FiveTables R
     status = rw seven (3, omega arith, refl);
     failures = few;
   }
+
+module _ {R Q : Type 0} (remaining : R → Option (List ℕ)) (failures : R → ℕ) (asked : Q → Option (List ℕ)) (fails : Q → ℕ) (line : Line)
+    (from to : FiveTables R) (questions : Q) (s : Streams) (given : ℕ) where
+  abbrev Called : Option Task → Type 0
+  Called task = RanCall remaining failures asked fails task line from to questions s given
+
+  pub ran_call : (task : Task) → Some task ≡ task_in line (detail_in line) → RanJob remaining failures task from to s given → Called (task_in line (detail_in line))
+  ran_call task is ran = subst Called is ran
+
+  pub held_call : (detail : Option Paths) (version : Version) → None ≡ task_in line (detail_in line) → detail ≡ detail_in line → version ≡ line.version
+      → HeldSession remaining failures asked fails detail version from to questions s given → Called (task_in line (detail_in line))
+  held_call detail version is same read held =
+      subst Called is
+      (subst (λ (d : Option Paths). HeldSession remaining failures asked fails d line.version from to questions s given) same
+      (subst (λ (v : Version). HeldSession remaining failures asked fails detail v from to questions s given) read held))

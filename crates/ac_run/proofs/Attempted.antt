@@ -62,7 +62,7 @@ module _ (detail : Option Paths) (b : Bytes) (say : World → Outcome) where
   faulty : (f : TableFault) → too_large b ≡ None → tables_fault (tables_in b) ≡ Some f → past_tables detail b say ≡ table_refused detail (tables_in b) f
   faulty f few h = rw (few, h) refl
 
-  in_world : (world : World) → IsStated b world → past_tables detail b say ≡ say world
+  pub in_world : (world : World) → IsStated b world → past_tables detail b say ≡ say world
   in_world world stated = rw (stated.few, stated.fine) (ap say (sym stated.states))
 
 -- ---- what a refusal tells
@@ -144,7 +144,7 @@ module _ (text : List ℕ) (o said : Outcome) (old new : Option (List ℕ)) wher
 -- ---- what a task asks of a world
 
 -- but for `check` a command asks for a query
-asks_query : (command : Command) (detail : Bool) (version : Version) (query : List ℕ) (world : World) → (command ≡ check → ⊥)
+pub asks_query : (command : Command) (detail : Bool) (version : Version) (query : List ℕ) (world : World) → (command ≡ check → ⊥)
     → answer_by command detail version query world ≡ past_query (said_by command detail world) (token_in command) version query
 asks_query check detail version query world other = absurd (other refl)
 asks_query (candidates after traits) detail version query world other = refl
