@@ -54,9 +54,9 @@ pub record Gives (answer : Option Outcome) (result : Result Ending PageFault) (o
   pub failures : before ≤ after
 
 -- A turn is taken: its answer is given, and then the world is as the turn says.
-pub record TakesTurn (turn : Turn) (result : Result Ending PageFault) (world : World) (old new : Option (List ℕ)) (before after : ℕ) : Type 0 where
+pub record TakesTurn (turn : Turn) (result : Result Ending PageFault) (now : World) (old new : Option (List ℕ)) (before after : ℕ) : Type 0 where
   pub answer : Gives turn.answer result old new before after
-  pub world : OnOk result (world ≡ turn.world)
+  pub world : OnOk result (now ≡ turn.world)
 
 -- an outcome is this refusal; of want of memory nothing is said
 abbrev pub IsRefusal : AskRefusal → Outcome → Type 0

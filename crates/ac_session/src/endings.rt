@@ -35,9 +35,7 @@ pub(crate) enum Ending {
 // What stands before the line of a refusal.
 #[tactic(auto, unfolding(crate::specs::Standing::mark_of))]
 fn push_mark<W: Sink>(out: &mut W, status: u8) -> Result<(), WriteFailed>
-    ensures text { Pushes result (W.taken out.old) (W.taken out.new) (W.failures out.old)
-        (W.failures out.new) (mark_of status) }
-    ensures failures { W.failures out.old ≤ W.failures out.new }
+    ensures { Pushes W.taken W.failures out.old out.new result (mark_of status) }
 {
     push_pieces(
         out,
@@ -48,9 +46,8 @@ fn push_mark<W: Sink>(out: &mut W, status: u8) -> Result<(), WriteFailed>
 // The status of a refusal, and then its line.
 #[tactic(auto, using(ac_base::proofs::Leaving::appends_both, ac_base::proofs::Leaving::part_of_first, ac_base::proofs::Leaving::part_of_second))]
 fn push_refused<W: Sink>(out: &mut W, refusal: &AskRefusal) -> Result<(), WriteFailed>
-    ensures text { Pushes result (W.taken out.old) (W.taken out.new) (W.failures out.old)
-        (W.failures out.new) (mark_of (status_of_asked refusal.now) ++ line_of_asked refusal.now) }
-    ensures failures { W.failures out.old ≤ W.failures out.new }
+    ensures { Pushes W.taken W.failures out.old out.new result
+        (mark_of (status_of_asked refusal.now) ++ line_of_asked refusal.now) }
 {
     push_mark(out, asked_status(refusal))?;
     push_asked_line(out, refusal)
@@ -58,9 +55,7 @@ fn push_refused<W: Sink>(out: &mut W, refusal: &AskRefusal) -> Result<(), WriteF
 
 // The line that ends an answer.
 fn push_ending<W: Sink>(out: &mut W, ending: &Ending) -> Result<(), WriteFailed>
-    ensures text { Pushes result (W.taken out.old) (W.taken out.new) (W.failures out.old)
-        (W.failures out.new) (end_told ending.now) }
-    ensures failures { W.failures out.old ≤ W.failures out.new }
+    ensures { Pushes W.taken W.failures out.old out.new result (end_told ending.now) }
 {
     match ending {
         Ending::Given(status) => {
