@@ -5,4 +5,4 @@ pub mod SlotLemmas
 pub mod Differing
 pub mod Assigning
 pub mod NameBytes
-pub mod Findings
+pub mod FoundTexts

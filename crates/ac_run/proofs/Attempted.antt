@@ -72,8 +72,8 @@ Tells line status told given = ((told ≡ line) × (given ≡ status)) ⊎ ((tol
 
 pub tells : {F : Type 0} (refusal : Refusal) (text : Result (Vec ℕ) F) (told : Refused) (said : List ℕ) → IsRefusalWith refusal text told → IfOk text (λ t. t.items ≡ said)
     → Tells (line_of refusal ++ said) (status_of refusal) (line_told told) (status_told told)
-tells refusal (Ok text) told said is h = inl (rw (is.0, is.1, h) refl, ap status_of is.0)
-tells r (Err e) told said is h = inr (rw (is.0, is.1) (append-nil memory_line), ap status_of is.0)
+tells refusal (Ok text) told said is h = inl (is.0 ∙ ap (λ l. line_of refusal ++ l) h, is.1)
+tells r (Err e) told said is h = inr is
 
 -- ---- why there is no world
 

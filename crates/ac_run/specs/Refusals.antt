@@ -1,5 +1,5 @@
 -- The line and the status of each refusal, and the fault that it tells.
-use Rattle.std.specs.Prelude.{◌≡◌, ℕ, List, [], ◌++◌, Option, Some, None, Result, Ok, Err}
+use Rattle.std.specs.Prelude.{◌≡◌, ℕ, List, ◌++◌, Option, Some, None, Result, Ok, Err}
 use Rattle.std.specs.Global.{Vec}
 use Rattle.ac_cloud.specs.declared.cloud.provider_name.HostFault.{HostFault}
 use Rattle.ac_query.specs.Faults.{Fault}
@@ -68,5 +68,5 @@ status_told told = status_of told.refusal
 
 -- a refusal has this text behind its line; or, where there was no memory for the text, it is want of memory, with nothing behind it
 abbrev pub IsRefusalWith : {F : Type 0} → Refusal → Result (Vec ℕ) F → Refused → Type 0
-IsRefusalWith refusal (Ok text) told = (told.refusal ≡ refusal) × (told.detail ≡ text)
-IsRefusalWith refusal (Err e) told = (told.refusal ≡ why.NoMemory) × (told.detail.items ≡ [])
+IsRefusalWith refusal (Ok text) told = (line_told told ≡ line_of refusal ++ text.items) × (status_told told ≡ status_of refusal)
+IsRefusalWith refusal (Err e) told = (line_told told ≡ memory_line) × (status_told told ≡ 7)

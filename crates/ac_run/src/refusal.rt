@@ -1,6 +1,5 @@
 //! Why a run has no answer.
-ghost use Rattle.std.specs.Prelude.{◌≡◌, []};
-ghost use Rattle.ac_run.specs.Refusals.{IsRefusalWith};
+ghost use Rattle.std.specs.Prelude.{◌≡◌};
 
 use ac_cloud::HostFault;
 use ac_query::{QueryFault, TokenFault};
@@ -56,10 +55,12 @@ pub struct Refused {
 }
 
 impl Refused {
+    ghost use Rattle.ac_run.specs.Refusals.{IsRefusalWith, line_of, line_told, status_of, status_told};
+
     /// A refusal with nothing behind its line.
     pub fn of(alloc: Global, refusal: Refusal) -> Refused
-        ensures refusal { result.refusal ≡ refusal }
-        ensures detail { result.detail.items ≡ [] }
+        ensures line { line_told result ≡ line_of refusal }
+        ensures status { status_told result ≡ status_of refusal }
     {
         Refused {
             refusal,

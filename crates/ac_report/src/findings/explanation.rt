@@ -54,7 +54,7 @@ fn push_need<W: Sink>(out: &mut W, mark: &[u8], need: &Need) -> Result<(), Write
 }
 
 // All classes of a slot.
-#[tactic(auto, using(crate::proofs::Findings::ItemsWritten::item_stopped, ac_base::proofs::Pushed::pushed_first), unfolding(crate::specs::Findings::Explanation::needs_text))]
+#[tactic(auto, using(crate::proofs::FoundTexts::ItemsWritten::item_stopped, ac_base::proofs::Pushed::pushed_first), unfolding(crate::specs::Findings::Explanation::needs_text))]
 fn push_needs<W: Sink>(out: &mut W, needs: &[Need]) -> Result<(), WriteFailed>
     ensures { Pushes W.taken W.failures out.old out.new result
         (needs_text (map need_entry needs.now)) }

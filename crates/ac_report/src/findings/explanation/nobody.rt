@@ -39,7 +39,7 @@ fn push_class<W: Sink>(out: &mut W, cloud: &Cloud, need: &Need) -> Result<(), Wr
 }
 
 // The classes that nobody has.
-#[tactic(auto, using(crate::proofs::Findings::ItemsWritten::item_stopped))]
+#[tactic(auto, using(crate::proofs::FoundTexts::ItemsWritten::item_stopped))]
 fn push_classes<W: Sink>(out: &mut W, cloud: &Cloud, needs: &[Need]) -> Result<(), WriteFailed>
     ensures { Pushes W.taken W.failures out.old out.new result
         (flat_map (λ need. class_missed (providers_of cloud.now) need.0)
@@ -63,7 +63,7 @@ fn push_trait<W: Sink>(out: &mut W, cloud: &Cloud, name: &TraitName) -> Result<(
 }
 
 // The traits that nobody has.
-#[tactic(auto, using(crate::proofs::Findings::ItemsWritten::item_stopped))]
+#[tactic(auto, using(crate::proofs::FoundTexts::ItemsWritten::item_stopped))]
 fn push_traits<W: Sink>(out: &mut W, cloud: &Cloud, names: &[TraitName]) -> Result<(), WriteFailed>
     ensures { Pushes W.taken W.failures out.old out.new result
         (flat_map (λ name. trait_missed (providers_of cloud.now) name)
@@ -76,7 +76,7 @@ fn push_traits<W: Sink>(out: &mut W, cloud: &Cloud, names: &[TraitName]) -> Resu
 }
 
 // Traits: the first behind a mark, each further one behind a comma.
-#[tactic(auto, using(crate::proofs::Findings::ItemsWritten::item_turn, crate::proofs::Findings::ItemsWritten::listed_stopped, crate::proofs::Findings::ItemsWritten::listed_written))]
+#[tactic(auto, using(crate::proofs::FoundTexts::ItemsWritten::item_turn, crate::proofs::FoundTexts::ItemsWritten::listed_stopped, crate::proofs::FoundTexts::ItemsWritten::listed_written))]
 fn push_names<W: Sink>(out: &mut W, mark: &[u8], names: &[TraitName]) -> Result<(), WriteFailed>
     ensures { Pushes W.taken W.failures out.old out.new result
         (listed mark.now (map trait_bytes names.now)) }
@@ -112,7 +112,7 @@ fn push_list<W: Sink>(out: &mut W, cloud: &Cloud, list: &AnyOf) -> Result<(), Wr
 }
 
 // The lists of traits of which nobody has one.
-#[tactic(auto, using(crate::proofs::Findings::ItemsWritten::item_stopped))]
+#[tactic(auto, using(crate::proofs::FoundTexts::ItemsWritten::item_stopped))]
 fn push_lists<W: Sink>(out: &mut W, cloud: &Cloud, lists: &[AnyOf]) -> Result<(), WriteFailed>
     ensures { Pushes W.taken W.failures out.old out.new result
         (flat_map (λ names. list_missed (providers_of cloud.now) names)
@@ -125,7 +125,7 @@ fn push_lists<W: Sink>(out: &mut W, cloud: &Cloud, lists: &[AnyOf]) -> Result<()
 }
 
 // UUIDs: the first behind a mark, each further one behind a comma.
-#[tactic(auto, using(crate::proofs::Findings::ItemsWritten::item_turn, crate::proofs::Findings::ItemsWritten::listed_stopped, crate::proofs::Findings::ItemsWritten::listed_written))]
+#[tactic(auto, using(crate::proofs::FoundTexts::ItemsWritten::item_turn, crate::proofs::FoundTexts::ItemsWritten::listed_stopped, crate::proofs::FoundTexts::ItemsWritten::listed_written))]
 fn push_ids<W: Sink>(out: &mut W, mark: &[u8], ids: &[Id]) -> Result<(), WriteFailed>
     ensures { Pushes W.taken W.failures out.old out.new result
         (listed mark.now (map id_text ids.now)) }
@@ -170,7 +170,7 @@ fn push_rule<W: Sink>(out: &mut W, cloud: &Cloud, rule: &AggregateRule) -> Resul
 }
 
 // The aggregate rules that nobody meets.
-#[tactic(auto, using(crate::proofs::Findings::ItemsWritten::item_stopped))]
+#[tactic(auto, using(crate::proofs::FoundTexts::ItemsWritten::item_stopped))]
 fn push_rules<W: Sink>(
     out: &mut W,
     cloud: &Cloud,
@@ -234,7 +234,7 @@ fn push_group<W: Sink>(out: &mut W, cloud: &Cloud, group: &Group) -> Result<(), 
 }
 
 // What nobody has of each group.
-#[tactic(auto, using(crate::proofs::Findings::ItemsWritten::item_stopped))]
+#[tactic(auto, using(crate::proofs::FoundTexts::ItemsWritten::item_stopped))]
 fn push_groups<W: Sink>(out: &mut W, cloud: &Cloud, groups: &[Group]) -> Result<(), WriteFailed>
     ensures { Pushes W.taken W.failures out.old out.new result
         (flat_map (λ g. group_missed (providers_of cloud.now) g.1)
@@ -258,7 +258,7 @@ fn push_root_trait<W: Sink>(out: &mut W, cloud: &Cloud, name: &TraitName) -> Res
 }
 
 // The traits that no root has.
-#[tactic(auto, using(crate::proofs::Findings::ItemsWritten::item_stopped))]
+#[tactic(auto, using(crate::proofs::FoundTexts::ItemsWritten::item_stopped))]
 fn push_root_traits<W: Sink>(
     out: &mut W,
     cloud: &Cloud,

@@ -114,7 +114,7 @@ pub fn find_without(
 }
 
 // Suffixes: the first behind a mark, each further one behind a comma.
-#[tactic(auto, using(crate::proofs::Findings::ItemsWritten::listed_stopped, crate::proofs::Findings::ItemsWritten::listed_written))]
+#[tactic(auto, using(crate::proofs::FoundTexts::ItemsWritten::listed_stopped, crate::proofs::FoundTexts::ItemsWritten::listed_written))]
 fn push_suffixes<W: Sink>(
     out: &mut W,
     mark: &[u8],

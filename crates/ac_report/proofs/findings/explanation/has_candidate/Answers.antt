@@ -6,7 +6,7 @@ use Rattle.ac_rules.specs.Together.{is_empty}
 use Rattle.ac_find.specs.Explained.{TreeCounts}
 use Rattle.ac_find.proofs.NoneLemmas.{none_without_traits}
 use Rattle.ac_cloud.specs.Cloud.CloudWorld.{providers_of}
-use Rattle.ac_report.proofs.Findings.FirstFound.{first_found}
+use Rattle.ac_report.proofs.FoundTexts.FirstFound.{first_found}
 use Rattle.ac_report.proofs.findings.explanation.has_candidate.Goals as goal
 
 pub returns-then-trees-eq0 : goal.returns-then-trees-eq0

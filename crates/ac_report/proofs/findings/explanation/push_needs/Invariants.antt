@@ -2,7 +2,7 @@ use Rattle.std.proofs.Common.{codes, drop, map}
 use Rattle.std.specs.List.{flat_map}
 use Rattle.ac_query.specs.Shown.Groups.{need_entry}
 use Rattle.ac_report.specs.Findings.Explanation.{need_text, needs_text}
-use Rattle.ac_report.proofs.Findings.Begun.{IsBegun}
+use Rattle.ac_report.proofs.FoundTexts.Begun.{IsBegun}
 use Rattle.ac_report.proofs.findings.explanation.push_needs.Given as goal
 
 abbrev pub invariant-loop-need : goal.invariant-loop-need

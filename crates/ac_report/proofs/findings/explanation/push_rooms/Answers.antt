@@ -1,7 +1,7 @@
 use Rattle.std.proofs.Common.{[], List, ℕ, ap, arith, get_or, length, map}
 use Rattle.ac_query.specs.Shown.Groups.{need_entry}
 use Rattle.ac_report.specs.Findings.Explanation.{room_mark, room_text}
-use Rattle.ac_report.proofs.Findings.SlotsWritten.{mapped_at, place_stopped, place_written}
+use Rattle.ac_report.proofs.FoundTexts.SlotsWritten.{mapped_at, place_stopped, place_written}
 use Rattle.ac_report.proofs.findings.explanation.push_rooms.Goals as goal
 
 pub returns-in_err-push_room : goal.returns-in_err-push_room

@@ -2,7 +2,7 @@ use Rattle.std.proofs.Common.{◌-◌, [], get_or, length, map}
 use Rattle.std.specs.List.{flat_map, range_with_len}
 use Rattle.ac_query.specs.Shown.Groups.{need_entry}
 use Rattle.ac_report.specs.Findings.Explanation.{each_room, room_mark, room_text}
-use Rattle.ac_report.proofs.Findings.Begun.{IsBegun}
+use Rattle.ac_report.proofs.FoundTexts.Begun.{IsBegun}
 use Rattle.ac_report.proofs.findings.explanation.push_rooms.Given as goal
 
 abbrev pub invariant-loop-k : goal.invariant-loop-k

@@ -6,7 +6,7 @@ use Rattle.ac_cloud.specs.Cloud.CloudWorld.{providers_of}
 use Rattle.ac_find.specs.Explained.{SlotTold, slot_told}
 use Rattle.ac_find.specs.Shown.Explained.{slot_shown}
 use Rattle.ac_report.specs.Findings.Explanation.{slot_line}
-use Rattle.ac_report.proofs.Findings.SlotsWritten.{place_stopped, place_written, rooms_few, told_at, told_low}
+use Rattle.ac_report.proofs.FoundTexts.SlotsWritten.{place_stopped, place_written, rooms_few, told_at, told_low}
 use Rattle.ac_report.proofs.findings.explanation.push_slots.Goals as goal
 
 pub push_slot-requires-clause-rooms : goal.push_slot-requires-clause-rooms

@@ -6,7 +6,7 @@ use Rattle.ac_rules.specs.Placed.{slot_at}
 use Rattle.ac_cloud.specs.Cloud.CloudWorld.{providers_of}
 use Rattle.ac_find.specs.Explained.{slot_told}
 use Rattle.ac_report.specs.Findings.Explanation.{slot_line, slot_lines}
-use Rattle.ac_report.proofs.Findings.Begun.{IsBegun}
+use Rattle.ac_report.proofs.FoundTexts.Begun.{IsBegun}
 use Rattle.ac_report.proofs.findings.explanation.push_slots.Given as goal
 
 abbrev pub invariant-loop-s : goal.invariant-loop-s

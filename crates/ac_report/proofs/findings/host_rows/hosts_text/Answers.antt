@@ -12,7 +12,7 @@ use Rattle.ac_find.specs.Lacking.{lack_at}
 use Rattle.ac_find.proofs.LackingLemmas.{at_place}
 use Rattle.ac_report.specs.Findings.HostRows.{host_columns, host_fields, host_row, hosts_text}
 use Rattle.ac_report.specs.Names.{shown_name}
-use Rattle.ac_report.proofs.Findings.HostsWritten.{row_more, row_same}
+use Rattle.ac_report.proofs.FoundTexts.HostsWritten.{row_more, row_same}
 use Rattle.ac_report.proofs.findings.host_rows.hosts_text.Goals as goal
 use Rattle.ac_report.proofs.findings.host_rows.hosts_text.Goals.{then-available+in_ok-write_root, else-available}
 

@@ -5,7 +5,7 @@ use Rattle.ac_query.specs.Asked.{slots_of}
 use Rattle.ac_query.specs.Shown.Queries.{asked_of}
 use Rattle.ac_report.specs.Findings.WhyRows.{slot_rows}
 use Rattle.ac_base.specs.Rows.{HasRows}
-use Rattle.ac_report.proofs.Findings.RowsWritten.{place_more}
+use Rattle.ac_report.proofs.FoundTexts.RowsWritten.{place_more}
 use Rattle.ac_report.proofs.findings.why_rows.write_slots.Goals as goal
 
 pub loop-s-init : goal.loop-s-init

@@ -6,7 +6,7 @@ use Rattle.ac_cloud.specs.Cloud.CloudWorld.{providers_of}
 use Rattle.ac_differences.specs.Differing.{applies}
 use Rattle.ac_differences.specs.declared.differences.Difference.{Difference}
 use Rattle.ac_report.specs.Findings.Explanation.Differing.{differs_line, differs_lines}
-use Rattle.ac_report.proofs.Findings.Begun.{IsBegun}
+use Rattle.ac_report.proofs.FoundTexts.Begun.{IsBegun}
 use Rattle.ac_report.proofs.findings.explanation.differences.push_differences.Given as goal
 
 abbrev pub invariant-loop-difference : goal.invariant-loop-difference

@@ -3,7 +3,7 @@ use Rattle.std.specs.List.{flat_map}
 use Rattle.ac_cloud.specs.Cloud.CloudWorld.{providers_of}
 use Rattle.ac_query.specs.Shown.Groups.{need_entry}
 use Rattle.ac_report.specs.Findings.Explanation.Nobody.{class_missed}
-use Rattle.ac_report.proofs.Findings.Begun.{IsBegun}
+use Rattle.ac_report.proofs.FoundTexts.Begun.{IsBegun}
 use Rattle.ac_report.proofs.findings.explanation.nobody.push_classes.Given as goal
 
 abbrev pub invariant-loop-need : goal.invariant-loop-need

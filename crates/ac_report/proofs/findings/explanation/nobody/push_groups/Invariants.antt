@@ -5,7 +5,7 @@ use Rattle.ac_query.specs.Shown.Groups.{group_entry}
 use Rattle.std.specs.Prelude.{Option}
 use Rattle.ac_query.specs.Asked.{Group}
 use Rattle.ac_report.specs.Findings.Explanation.Nobody.{group_missed}
-use Rattle.ac_report.proofs.Findings.Begun.{IsBegun}
+use Rattle.ac_report.proofs.FoundTexts.Begun.{IsBegun}
 use Rattle.ac_report.proofs.findings.explanation.nobody.push_groups.Given as goal
 
 abbrev pub invariant-loop-group : goal.invariant-loop-group

@@ -1,7 +1,7 @@
 use Rattle.std.proofs.Common.{drop, map}
 use Rattle.ac_base.specs.Texts.{id_text}
 use Rattle.ac_base.specs.Pieces.{listed}
-use Rattle.ac_report.proofs.Findings.Begun.{IsBegun}
+use Rattle.ac_report.proofs.FoundTexts.Begun.{IsBegun}
 use Rattle.ac_report.proofs.findings.explanation.nobody.push_ids.Given as goal
 
 abbrev pub invariant-loop-id : goal.invariant-loop-id

@@ -3,7 +3,7 @@ use Rattle.std.specs.List.{flat_map}
 use Rattle.ac_cloud.specs.Cloud.CloudWorld.{providers_of}
 use Rattle.ac_query.specs.Shown.Groups.{any_of_shown}
 use Rattle.ac_report.specs.Findings.Explanation.Nobody.{list_missed}
-use Rattle.ac_report.proofs.Findings.Begun.{IsBegun}
+use Rattle.ac_report.proofs.FoundTexts.Begun.{IsBegun}
 use Rattle.ac_report.proofs.findings.explanation.nobody.push_lists.Given as goal
 
 abbrev pub invariant-loop-list : goal.invariant-loop-list

@@ -1,7 +1,7 @@
 use Rattle.std.proofs.Common.{drop, map}
 use Rattle.ac_base.specs.Names.{trait_bytes}
 use Rattle.ac_base.specs.Pieces.{listed}
-use Rattle.ac_report.proofs.Findings.Begun.{IsBegun}
+use Rattle.ac_report.proofs.FoundTexts.Begun.{IsBegun}
 use Rattle.ac_report.proofs.findings.explanation.nobody.push_names.Given as goal
 
 abbrev pub invariant-loop-name : goal.invariant-loop-name

@@ -4,7 +4,7 @@ use Rattle.ac_cloud.specs.Cloud.CloudWorld.{providers_of}
 use Rattle.ac_query.specs.Shown.Groups.{rule_shown}
 use Rattle.ac_query.specs.Pairs.Values.{AggregateRule}
 use Rattle.ac_report.specs.Findings.Explanation.Nobody.{rule_missed}
-use Rattle.ac_report.proofs.Findings.Begun.{IsBegun}
+use Rattle.ac_report.proofs.FoundTexts.Begun.{IsBegun}
 use Rattle.ac_report.proofs.findings.explanation.nobody.push_rules.Given as goal
 
 abbrev pub invariant-loop-rule : goal.invariant-loop-rule

@@ -3,7 +3,7 @@ use Rattle.std.specs.List.{flat_map}
 use Rattle.ac_cloud.specs.Cloud.CloudWorld.{providers_of}
 use Rattle.ac_base.specs.Names.{trait_bytes}
 use Rattle.ac_report.specs.Findings.Explanation.Nobody.{trait_missed}
-use Rattle.ac_report.proofs.Findings.Begun.{IsBegun}
+use Rattle.ac_report.proofs.FoundTexts.Begun.{IsBegun}
 use Rattle.ac_report.proofs.findings.explanation.nobody.push_traits.Given as goal
 
 abbrev pub invariant-loop-name : goal.invariant-loop-name

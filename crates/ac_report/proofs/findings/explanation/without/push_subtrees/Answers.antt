@@ -1,7 +1,7 @@
 use Rattle.std.proofs.Common.{[], List, ℕ, ap, arith, false, get_or, length, map}
 use Rattle.ac_query.specs.Shown.{suffixes_shown}
 use Rattle.ac_report.specs.Findings.Explanation.Candidates.{subtree_line}
-use Rattle.ac_report.proofs.Findings.SlotsWritten.{mapped_at, place_stopped, place_written}
+use Rattle.ac_report.proofs.FoundTexts.SlotsWritten.{mapped_at, place_stopped, place_written}
 use Rattle.ac_report.proofs.findings.explanation.without.push_subtrees.Goals as goal
 
 pub returns-in_err-push_subtree : goal.returns-in_err-push_subtree

@@ -2,7 +2,7 @@ use Rattle.std.proofs.Common.{◌-◌, [], false, get_or, length, map}
 use Rattle.std.specs.List.{flat_map, range_with_len}
 use Rattle.ac_query.specs.Shown.{suffixes_shown}
 use Rattle.ac_report.specs.Findings.Explanation.Candidates.{subtree_line, subtree_lines}
-use Rattle.ac_report.proofs.Findings.Begun.{IsBegun}
+use Rattle.ac_report.proofs.FoundTexts.Begun.{IsBegun}
 use Rattle.ac_report.proofs.findings.explanation.without.push_subtrees.Given as goal
 
 abbrev pub invariant-loop-k : goal.invariant-loop-k

@@ -2,7 +2,7 @@ use Rattle.std.proofs.Common.{◌∙◌}
 use Rattle.std.specs.Map.Iter.{deref}
 use Rattle.std.proofs.lemmas.Map.Iter.{rest_more}
 use Rattle.ac_base.specs.Names.{suffix_bytes}
-use Rattle.ac_report.proofs.Findings.ItemsWritten.{listed_stopped, listed_written}
+use Rattle.ac_report.proofs.FoundTexts.ItemsWritten.{listed_stopped, listed_written}
 use Rattle.ac_report.proofs.findings.explanation.without.push_suffixes.Goals as goal
 
 pub returns-in_err-push_marked : goal.returns-in_err-push_marked

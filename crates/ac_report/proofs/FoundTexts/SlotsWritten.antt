@@ -12,7 +12,7 @@ use Rattle.ac_find.specs.declared.counts.classes.SlotTold as rust
 use Rattle.std.specs.Prelude.{Result, Ok, Err}
 use Rattle.std.specs.Result.{IsErrAnd}
 use Rattle.ac_base.specs.Writing.{Pushes}
-use Rattle.ac_report.proofs.Findings.Begun.{IsBegun, begun_more, begun_stops}
+use Rattle.ac_report.proofs.FoundTexts.Begun.{IsBegun, begun_more, begun_stops}
 
 -- ---- what is pushed at each place below n, in order
 

@@ -6,7 +6,7 @@ use Rattle.std.specs.List.{flat_map}
 use Rattle.std.specs.Result.{IsErrAnd}
 use Rattle.ac_base.specs.Pieces.{listed, marked}
 use Rattle.ac_base.specs.Writing.{Pushes}
-use Rattle.ac_report.proofs.Findings.Begun.{IsBegun, begun_more, begun_stops}
+use Rattle.ac_report.proofs.FoundTexts.Begun.{IsBegun, begun_more, begun_stops}
 
 -- the item at a place is the first from there on
 pub item_turn : {X : Type 0} (xs : List X) (i : ℕ) (x : X) → i < length xs → x ≡ get_or xs i x → drop i xs ≡ x ∷ drop (i + 1) xs
