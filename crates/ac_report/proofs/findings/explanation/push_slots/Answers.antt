@@ -27,7 +27,7 @@ returns-in_err-push_slot g c =
     let low = told_low all asked c.args.slots.now s c.index-slots-s.result c.requires c.loop-s-test.true in
     let is = ap slot_shown c.index-slots-s.is ∙ told_at all asked c.args.slots.now s c.index-slots-s.result c.requires c.loop-s-test.true in
     place_stopped (λ (s : ℕ). slot_line all (s + 1) (slot_at asked s) (slot_told all (slot_at asked s))) s (length (slots_of asked)) low
-    (ap (slot_line all (s + 1) (slot_at asked s)) is) c.loop-s.invariant c.in_err-push_slot.ensures c.from_residual.ensures.1
+    (ap (slot_line all (s + 1) (slot_at asked s)) is) c.loop-s.invariant _ c.in_err-push_slot.ensures c.from_residual.ensures.1
 
 pub loop-s-preserved : goal.loop-s-preserved
 loop-s-preserved g c =
