@@ -11,8 +11,8 @@ use Rattle.ac_report.specs.Pages.{LosesSome, TakesWhole, behind}
 
 -- A text is written by the pieces of some things: the whole text; after an error a first part of it; where memory was wanting, whole pieces alone. A failed
 -- write raised the sink's count of failures, which never falls.
-pub record Writes {S X : Type 0} (taken : S → Option (List ℕ)) (fails : S → ℕ) (old new : S) (result : Result X PageFault) (text : List ℕ) (piece : List ℕ → List ℕ)
-    (xs : List (List ℕ)) : Type 0 where
+pub record Writes {S X : Type 0} (taken : S → Option (List ℕ)) (fails : S → ℕ) (old new : S) (result : Result X PageFault) (text : List ℕ)
+    (piece : List ℕ → List ℕ) (xs : List (List ℕ)) : Type 0 where
   pub ok : OnOk result (Appends (taken old) (taken new) text)
   pub part : OnErr result (TakesPart (taken old) (taken new) text)
   pub failed : result ≡ Err fault.WriteFailed → Rises (fails old) (fails new)

@@ -12,33 +12,37 @@ use Rattle.ac_report.proofs.FoundTexts.Begun.{IsBegun, begun_more, begun_stops}
 pub item_turn : {X : Type 0} (xs : List X) (i : ℕ) (x : X) → i < length xs → x ≡ get_or xs i x → drop i xs ≡ x ∷ drop (i + 1) xs
 item_turn {X} xs i x low is = drop_more xs i x low ∙ ap (λ (y : X). y ∷ drop (i + 1) xs) (sym is)
 
-module _ {S : Type 0} {taken : S → Option (List ℕ)} {fails : S → ℕ} {a b c : S} {whole : List ℕ} where
-  -- an error within the text of an item
-  pub item_stopped : {X Y Z T E F : Type 0} {f : F} {r : Result T E} (P : E → Type 0) (e : X → Y) (text : Y → List ℕ) (xs : List X) (i : ℕ) (x : X) → i < length xs → x ≡ get_or xs i x
-      → IsBegun taken fails a b whole (flat_map text (map e (drop i xs))) → Pushes {X = Z} taken fails b c (Err f) (text (e x)) → IsErrAnd r P → Pushes taken fails a c r whole
-  item_stopped {X} P e text xs i x low is begun =
-      begun_stops (text (e x)) (flat_map text (map e (drop (i + 1) xs)))
-      (subst (λ (left : List X). IsBegun taken fails a b whole (flat_map text (map e left))) (item_turn xs i x low is) begun) P
+module _ {S : Type 0} {taken : S → Option (List ℕ)} {fails : S → ℕ} {a b : S} {whole : List ℕ} where
+  module _ {X T E F Z : Type 0} {c : S} {f : F} {r : Result T E} (P : E → Type 0) where
+    -- an error within the text of an item
+    pub item_stopped : {Y : Type 0} (e : X → Y) (text : Y → List ℕ) (xs : List X) (i : ℕ) (x : X) → i < length xs → x ≡ get_or xs i x
+        → IsBegun taken fails a b whole (flat_map text (map e (drop i xs))) → Pushes {X = Z} taken fails b c (Err f) (text (e x)) → IsErrAnd r P
+        → Pushes taken fails a c r whole
+    item_stopped e text xs i x low is begun =
+        begun_stops (text (e x)) (flat_map text (map e (drop (i + 1) xs)))
+        (subst (λ (left : List X). IsBegun taken fails a b whole (flat_map text (map e left))) (item_turn xs i x low is) begun) P
 
-  -- the same of an item that is told by its place
-  pub piece_stopped : {X Z T E F : Type 0} {f : F} {r : Result T E} (P : E → Type 0) (text : X → List ℕ) (xs : List X) (i : ℕ) (d : X) → i < length xs
-      → IsBegun taken fails a b whole (flat_map text (drop i xs)) → Pushes {X = Z} taken fails b c (Err f) (text (get_or xs i d)) → IsErrAnd r P → Pushes taken fails a c r whole
-  piece_stopped P text xs i d low begun =
-      begun_stops (text (get_or xs i d)) (flat_map text (drop (suc i) xs)) (subst (IsBegun taken fails a b whole) (ap (flat_map text) (drop-cons xs i d low)) begun) P
+    -- the same of an item that is told by its place
+    pub piece_stopped : (text : X → List ℕ) (xs : List X) (i : ℕ) (d : X) → i < length xs → IsBegun taken fails a b whole (flat_map text (drop i xs))
+        → Pushes {X = Z} taken fails b c (Err f) (text (get_or xs i d)) → IsErrAnd r P → Pushes taken fails a c r whole
+    piece_stopped text xs i d low begun =
+        begun_stops (text (get_or xs i d)) (flat_map text (drop (suc i) xs))
+        (subst (IsBegun taken fails a b whole) (ap (flat_map text) (drop-cons xs i d low)) begun) P
 
--- ---- the text of an item behind a mark
+  -- ---- the text of an item behind a mark
 
-module _ {S X : Type 0} {taken : S → Option (List ℕ)} {fails : S → ℕ} {a b : S} {whole : List ℕ} (e : X → List ℕ) (mark text : List ℕ) (left rest : List X) (x : X) (turn : left ≡ x ∷ rest)
-    (said : text ≡ e x) (begun : IsBegun taken fails a b whole (listed mark (map e left))) where
-  first : IsBegun taken fails a b whole (marked mark text ++ listed (codes ",") (map e rest))
-  first =
-      subst (λ (t : List ℕ). IsBegun taken fails a b whole (marked mark t ++ listed (codes ",") (map e rest))) (sym said)
-      (subst (λ (xs : List X). IsBegun taken fails a b whole (listed mark (map e xs))) turn begun)
+  module _ {X : Type 0} (e : X → List ℕ) (mark text : List ℕ) (left rest : List X) (x : X) (turn : left ≡ x ∷ rest) (said : text ≡ e x)
+      (begun : IsBegun taken fails a b whole (listed mark (map e left))) where
+    first : IsBegun taken fails a b whole (marked mark text ++ listed (codes ",") (map e rest))
+    first =
+        subst (λ (t : List ℕ). IsBegun taken fails a b whole (marked mark t ++ listed (codes ",") (map e rest))) (sym said)
+        (subst (λ (xs : List X). IsBegun taken fails a b whole (listed mark (map e xs))) turn begun)
 
-  -- an error within that text
-  pub listed_stopped : {Z T E F : Type 0} {c : S} {f : F} {r : Result T E} (P : E → Type 0) → Pushes {X = Z} taken fails b c (Err f) (marked mark text) → IsErrAnd r P
-      → Pushes taken fails a c r whole
-  listed_stopped = begun_stops (marked mark text) (listed (codes ",") (map e rest)) first
+    -- an error within that text
+    pub listed_stopped : {Z T E F : Type 0} {c : S} {f : F} {r : Result T E} (P : E → Type 0) → Pushes {X = Z} taken fails b c (Err f) (marked mark text)
+        → IsErrAnd r P → Pushes taken fails a c r whole
+    listed_stopped = begun_stops (marked mark text) (listed (codes ",") (map e rest)) first
 
-  pub listed_written : {Z T : Type 0} {c : S} {z : Z} → Pushes {Y = T} taken fails b c (Ok z) (marked mark text) → IsBegun taken fails a c whole (listed (codes ",") (map e rest))
-  listed_written = begun_more (marked mark text) (listed (codes ",") (map e rest)) first
+    pub listed_written : {Z T : Type 0} {c : S} {z : Z} → Pushes {Y = T} taken fails b c (Ok z) (marked mark text)
+        → IsBegun taken fails a c whole (listed (codes ",") (map e rest))
+    listed_written = begun_more (marked mark text) (listed (codes ",") (map e rest)) first

@@ -16,19 +16,21 @@ use Rattle.ac_report.proofs.FoundTexts.Begun.{IsBegun, begun_more, begun_stops}
 
 -- ---- what is pushed at each place below n, in order
 
-module _ {S : Type 0} {taken : S → Option (List ℕ)} {fails : S → ℕ} {a b : S} {whole text : List ℕ} (f : ℕ → List ℕ) (s n : ℕ) (low : s < n) (said : text ≡ f s)
-    (begun : IsBegun taken fails a b whole (flat_map f (range_with_len s (n - s)))) where
+module _ {S : Type 0} {taken : S → Option (List ℕ)} {fails : S → ℕ} {a b : S} {whole text : List ℕ} (f : ℕ → List ℕ) (s n : ℕ) (low : s < n)
+    (said : text ≡ f s) (begun : IsBegun taken fails a b whole (flat_map f (range_with_len s (n - s)))) where
   first : IsBegun taken fails a b whole (text ++ flat_map f (range_with_len (s + 1) (n - (s + 1))))
   first =
       let more : n - s ≡ suc (n - (s + 1)) = omega arith in
       subst (λ (t : List ℕ). IsBegun taken fails a b whole (t ++ flat_map f (range_with_len (s + 1) (n - (s + 1))))) (sym said)
       (subst (λ (k : ℕ). IsBegun taken fails a b whole (flat_map f (range_with_len s k))) more begun)
 
-  pub place_written : {Z T : Type 0} {c : S} {z : Z} → Pushes {Y = T} taken fails b c (Ok z) text → IsBegun taken fails a c whole (flat_map f (range_with_len (s + 1) (n - (s + 1))))
+  pub place_written : {Z T : Type 0} {c : S} {z : Z} → Pushes {Y = T} taken fails b c (Ok z) text
+      → IsBegun taken fails a c whole (flat_map f (range_with_len (s + 1) (n - (s + 1))))
   place_written = begun_more text (flat_map f (range_with_len (s + 1) (n - (s + 1)))) first
 
   -- an error within the text of a place
-  pub place_stopped : {Z T E F : Type 0} {c : S} {e : F} {r : Result T E} (P : E → Type 0) → Pushes {X = Z} taken fails b c (Err e) text → IsErrAnd r P → Pushes taken fails a c r whole
+  pub place_stopped : {Z T E F : Type 0} {c : S} {e : F} {r : Result T E} (P : E → Type 0) → Pushes {X = Z} taken fails b c (Err e) text → IsErrAnd r P
+      → Pushes taken fails a c r whole
   place_stopped = begun_stops text (flat_map f (range_with_len (s + 1) (n - (s + 1)))) first
 
 -- the thing that stands for an element stands at its place

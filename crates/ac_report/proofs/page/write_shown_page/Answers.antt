@@ -12,4 +12,5 @@ pub returns-clause-writes : goal.returns-clause-writes
 returns-clause-writes g c =
     let asked = asked_of c.args.query.now in
     let lists = cut asked.limit (g.S.Source.left c.args.source.now) in
-    wrote_told (is_shown_body c.args.cloud.now asked c.args.traits lists) (pieces_shown (providers_of c.args.cloud.now) asked c.args.traits lists) c.write_parts.ensures.writes
+    wrote_told (is_shown_body c.args.cloud.now asked c.args.traits lists) (pieces_shown (providers_of c.args.cloud.now) asked c.args.traits lists)
+    c.write_parts.ensures.writes

@@ -9,4 +9,5 @@ abbrev pub invariant-loop-k : goal.invariant-loop-k
 invariant-loop-k g l =
     let needs = map need_entry l.needs in
     IsBegun g.W.Sink.taken g.W.Sink.failures l.fn.out l.out
-    (each_room needs l.rooms) (flat_map (λ k. room_text (room_mark k) (get_or needs k ([], 0)).0 (get_or l.rooms k 0)) (range_with_len l.k (length l.rooms - l.k)))
+    (each_room needs l.rooms) (flat_map (λ k. room_text (room_mark k) (get_or needs k ([], 0)).0 (get_or l.rooms k 0))
+    (range_with_len l.k (length l.rooms - l.k)))

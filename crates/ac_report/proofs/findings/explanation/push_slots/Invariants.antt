@@ -14,4 +14,5 @@ invariant-loop-s g l =
     let all = providers_of l.cloud in
     let asked = asked_of l.query in
     IsBegun g.W.Sink.taken g.W.Sink.failures l.fn.out l.out
-    (slot_lines all asked) (flat_map (λ s. slot_line all (s + 1) (slot_at asked s) (slot_told all (slot_at asked s))) (range_with_len l.s (length (slots_of asked) - l.s)))
+    (slot_lines all asked)
+    (flat_map (λ s. slot_line all (s + 1) (slot_at asked s) (slot_told all (slot_at asked s))) (range_with_len l.s (length (slots_of asked) - l.s)))

@@ -16,12 +16,13 @@ loop-difference-init g c =
     let all = providers_of c.args.cloud.now in
     let asked = asked_of c.args.query.now in
     let told = λ (d : Difference). if applies all asked d then differs_line d else [] in
-    begun_start c.args.out.now (each_passing differs_line (applies all asked) all_differences ∙ ap (flat_map told) (sym c.all_differences-difference-items.ensures))
+    begun_start c.args.out.now
+    (each_passing differs_line (applies all asked) all_differences ∙ ap (flat_map told) (sym c.all_differences-difference-items.ensures))
 
 pub returns-in_err-push_if_applies : goal.returns-in_err-push_if_applies
 returns-in_err-push_if_applies g c =
     let all = providers_of c.args.cloud.now in
     let asked = asked_of c.args.query.now in
     let told = λ (d : Difference). if applies all asked d then differs_line d else [] in
-    piece_stopped _ told c.all_differences-difference-items.result.now c.loop-difference.difference-index _ (omega arith) c.loop-difference.invariant c.in_err-push_if_applies.ensures
-    c.from_residual.ensures.1
+    piece_stopped _ told c.all_differences-difference-items.result.now c.loop-difference.difference-index _ (omega arith) c.loop-difference.invariant
+    c.in_err-push_if_applies.ensures c.from_residual.ensures.1

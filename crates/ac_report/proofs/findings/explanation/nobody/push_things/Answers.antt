@@ -9,12 +9,13 @@ pub returns-in_err-push_traits : goal.returns-in_err-push_traits
 returns-in_err-push_traits g c =
     let all = providers_of c.args.cloud.now in
     pushed_behind (ap (flat_map (λ (need : List ℕ × ℕ). class_missed all need.0)) c.needs.ensures.needs) refl c.in_ok-push_classes.ensures
-    (begun_stops _ _ (begun_start c.push_classes.new.out refl) _ (pushed_told (ap (flat_map (λ (name : List ℕ). trait_missed all name)) c.required.ensures.names) c.in_err-push_traits.ensures)
+    (begun_stops _ _ (begun_start c.push_classes.new.out refl) _
+    (pushed_told (ap (flat_map (λ (name : List ℕ). trait_missed all name)) c.required.ensures.names) c.in_err-push_traits.ensures)
     c.from_residual-in_err-push_traits.ensures.1)
 
 pub returns : goal.returns
 returns g c =
     let all = providers_of c.args.cloud.now in
     pushed_behind (ap (flat_map (λ (need : List ℕ × ℕ). class_missed all need.0)) c.needs.ensures.needs) refl c.in_ok-push_classes.ensures
-    (pushed_behind (ap (flat_map (λ (name : List ℕ). trait_missed all name)) c.required.ensures.names) (ap (flat_map (λ (names : List (List ℕ)). list_missed all names)) c.any_of.ensures)
-    c.in_ok-push_traits.ensures c.push_lists.ensures)
+    (pushed_behind (ap (flat_map (λ (name : List ℕ). trait_missed all name)) c.required.ensures.names)
+    (ap (flat_map (λ (names : List (List ℕ)). list_missed all names)) c.any_of.ensures) c.in_ok-push_traits.ensures c.push_lists.ensures)
