@@ -131,4 +131,4 @@ module _ {W : Type 0} {taken : W → Option (List ℕ)} {fails : W → ℕ} (all
   -- an error within the placements of a list
   pub places_err : {s : Stand} (then : Stand) (rest : List (List ℕ)) {r : Result ⊤ PageFault} {e : PageFault} {a b : W} → IsErrAnd r (λ d. d ≡ e) → Ends taken fails all asked s a b (Err e)
       → PlacesAll taken fails all asked s then rest a b r
-  places_err then rest {r} h ends = let is = err_from_is_err_and r h in rw (is.1, is.2) record { ahead = tt; goes = tt; stops = ends }
+  places_err then rest {r = r} h ends = let is = err_from_is_err_and r h in rw (is.1, is.2) record { ahead = tt; goes = tt; stops = ends }

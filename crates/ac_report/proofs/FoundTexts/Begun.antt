@@ -13,7 +13,7 @@ pub record IsBegun {S : Type 0} (taken : S → Option (List ℕ)) (fails : S →
 
 module _ {S : Type 0} {taken : S → Option (List ℕ)} {fails : S → ℕ} where
   pub begun_start : (a : S) {whole rest : List ℕ} → whole ≡ rest → IsBegun taken fails a a whole rest
-  begun_start a {whole} is = subst (IsBegun taken fails a a whole) is record { leaves = leaves_start (taken a) whole; failures = omega arith }
+  begun_start a {whole = whole} is = subst (IsBegun taken fails a a whole) is record { leaves = leaves_start (taken a) whole; failures = omega arith }
 
   module _ {a b c : S} {whole : List ℕ} (next rest : List ℕ) (begun : IsBegun taken fails a b whole (next ++ rest)) where
     -- the next part
@@ -33,11 +33,11 @@ module _ {S : Type 0} {taken : S → Option (List ℕ)} {fails : S → ℕ} wher
 
   module _ {X Y : Type 0} {r : Result X Y} where
     pub pushed_told : {a b : S} {s t : List ℕ} → s ≡ t → Pushes taken fails a b r s → Pushes taken fails a b r t
-    pushed_told {a} {b} is pushed = subst (Pushes taken fails a b r) is pushed
+    pushed_told {a = a} {b = b} is pushed = subst (Pushes taken fails a b r) is pushed
 
     -- one text behind another
     pub pushed_behind : {Z T : Type 0} {z : Z} {a b c : S} {s t x y : List ℕ} → s ≡ x → t ≡ y → Pushes {Y = T} taken fails a b (Ok z) s
         → Pushes taken fails b c r t → Pushes taken fails a c r (x ++ y)
-    pushed_behind {z = z} {a} {b} {c} {x = x} {y} first second before then =
+    pushed_behind {z = z} {a = a} {b = b} {c = c} {x = x} {y = y} first second before then =
         let done = subst (Pushes taken fails a b (Ok z)) first before in
         pushed_on taken fails a b c r x y done.ok done.failures (pushed_told second then)

@@ -18,16 +18,16 @@ module _ {S : Type 0} {taken : S → Option (List ℕ)} {fails : S → ℕ} {a b
     pub item_stopped : {Y : Type 0} (e : X → Y) (text : Y → List ℕ) (xs : List X) (i : ℕ) (x : X) → i < length xs → x ≡ get_or xs i x
         → IsBegun taken fails a b whole (flat_map text (map e (drop i xs))) → Pushes {X = Z} taken fails b c (Err f) (text (e x)) → IsErrAnd r P
         → Pushes taken fails a c r whole
-    item_stopped e text xs i x low is begun =
+    item_stopped e text xs i x low is begun pushed err =
         begun_stops (text (e x)) (flat_map text (map e (drop (i + 1) xs)))
-        (subst (λ (left : List X). IsBegun taken fails a b whole (flat_map text (map e left))) (item_turn xs i x low is) begun) P
+        (subst (λ (left : List X). IsBegun taken fails a b whole (flat_map text (map e left))) (item_turn xs i x low is) begun) P pushed err
 
     -- the same of an item that is told by its place
     pub piece_stopped : (text : X → List ℕ) (xs : List X) (i : ℕ) (d : X) → i < length xs → IsBegun taken fails a b whole (flat_map text (drop i xs))
         → Pushes {X = Z} taken fails b c (Err f) (text (get_or xs i d)) → IsErrAnd r P → Pushes taken fails a c r whole
-    piece_stopped text xs i d low begun =
+    piece_stopped text xs i d low begun pushed err =
         begun_stops (text (get_or xs i d)) (flat_map text (drop (suc i) xs))
-        (subst (IsBegun taken fails a b whole) (ap (flat_map text) (drop-cons xs i d low)) begun) P
+        (subst (IsBegun taken fails a b whole) (ap (flat_map text) (drop-cons xs i d low)) begun) P pushed err
 
   -- ---- the text of an item behind a mark
 
@@ -41,8 +41,8 @@ module _ {S : Type 0} {taken : S → Option (List ℕ)} {fails : S → ℕ} {a b
     -- an error within that text
     pub listed_stopped : {Z T E F : Type 0} {c : S} {f : F} {r : Result T E} (P : E → Type 0) → Pushes {X = Z} taken fails b c (Err f) (marked mark text)
         → IsErrAnd r P → Pushes taken fails a c r whole
-    listed_stopped = begun_stops (marked mark text) (listed (codes ",") (map e rest)) first
+    listed_stopped P pushed err = begun_stops (marked mark text) (listed (codes ",") (map e rest)) first P pushed err
 
     pub listed_written : {Z T : Type 0} {c : S} {z : Z} → Pushes {Y = T} taken fails b c (Ok z) (marked mark text)
         → IsBegun taken fails a c whole (listed (codes ",") (map e rest))
-    listed_written = begun_more (marked mark text) (listed (codes ",") (map e rest)) first
+    listed_written pushed = begun_more (marked mark text) (listed (codes ",") (map e rest)) first pushed

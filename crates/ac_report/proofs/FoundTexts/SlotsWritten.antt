@@ -26,12 +26,12 @@ module _ {S : Type 0} {taken : S → Option (List ℕ)} {fails : S → ℕ} {a b
 
   pub place_written : {Z T : Type 0} {c : S} {z : Z} → Pushes {Y = T} taken fails b c (Ok z) text
       → IsBegun taken fails a c whole (flat_map f (range_with_len (s + 1) (n - (s + 1))))
-  place_written = begun_more text (flat_map f (range_with_len (s + 1) (n - (s + 1)))) first
+  place_written pushed = begun_more text (flat_map f (range_with_len (s + 1) (n - (s + 1)))) first pushed
 
   -- an error within the text of a place
   pub place_stopped : {Z T E F : Type 0} {c : S} {e : F} {r : Result T E} (P : E → Type 0) → Pushes {X = Z} taken fails b c (Err e) text → IsErrAnd r P
       → Pushes taken fails a c r whole
-  place_stopped = begun_stops text (flat_map f (range_with_len (s + 1) (n - (s + 1)))) first
+  place_stopped P pushed err = begun_stops text (flat_map f (range_with_len (s + 1) (n - (s + 1)))) first P pushed err
 
 -- the thing that stands for an element stands at its place
 pub mapped_at : {X Y : Type 0} (e : X → Y) (xs : List X) (k : ℕ) (x : X) (d : Y) → x ≡ get_or xs k x → k < length xs → e x ≡ get_or (map e xs) k d

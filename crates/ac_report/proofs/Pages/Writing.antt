@@ -22,14 +22,14 @@ module _ {S X : Type 0} {taken : S → Option (List ℕ)} {fails : S → ℕ} wh
   -- what is told otherwise
   pub wrote_told : {a b : S} {r : Result X PageFault} {s t : List ℕ} {piece : List ℕ → List ℕ} {xs ys : List (List ℕ)} → s ≡ t → xs ≡ ys
       → Writes taken fails a b r s piece xs → Writes taken fails a b r t piece ys
-  wrote_told {a} {b} {r} {t = t} {piece} {xs} said pieces wrote =
+  wrote_told {a = a} {b = b} {r = r} {t = t} {piece = piece} {xs = xs} said pieces wrote =
       subst (Writes taken fails a b r t piece) pieces (subst (λ (u : List ℕ). Writes taken fails a b r u piece xs) said wrote)
 
   module _ (piece : List ℕ → List ℕ) (xs : List (List ℕ)) {Z : Type 0} {a b : S} where
     -- what is written of the first pieces and then of the others is written of all
     pub wrote_on : {z : Z} {r : Result X PageFault} {c : S} {ys : List (List ℕ)} → WritesEach taken fails a b (Ok z) piece xs
         → WritesEach taken fails b c r piece ys → WritesEach taken fails a c r piece (xs ++ ys)
-    wrote_on {r = r} {c} first then = record {
+    wrote_on {r = r} {c = c} first then = record {
       ok = on_ok_weaker r (λ t. rw flat_map-append (appends_both (taken a) (taken b) (taken c) _ _ first.ok t)) then.ok;
       part = on_err_weaker r (λ t. rw flat_map-append (part_of_second (taken a) (taken b) (taken c) _ _ first.ok t)) then.part;
       failed = λ e low. grind (arith, then.failed e, first.failures, then.failures);
@@ -46,4 +46,4 @@ module _ {S X : Type 0} {taken : S → Option (List ℕ)} {fails : S → ℕ} wh
     -- an error within the first pieces is one within all
     pub stopped : (ys : List (List ℕ)) {e : PageFault} {r : Result X PageFault} → WritesEach {X = Z} taken fails a b (Err e) piece xs → IsErrAnd r (λ d. d ≡ e)
         → WritesEach taken fails a b r piece (xs ++ ys)
-    stopped ys {e} {r} first h = grind (arith, common_steps, err_from_is_err_and, flat_map-append, part_of_first, append_assoc)
+    stopped ys {e = e} {r = r} first h = grind (arith, common_steps, err_from_is_err_and, flat_map-append, part_of_first, append_assoc)

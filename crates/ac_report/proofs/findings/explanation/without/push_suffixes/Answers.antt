@@ -7,12 +7,12 @@ use Rattle.ac_report.proofs.findings.explanation.without.push_suffixes.Goals as 
 
 pub returns-in_err-push_marked : goal.returns-in_err-push_marked
 returns-in_err-push_marked g c =
-    listed_stopped suffix_bytes _ _ _ _ _
+    listed_stopped suffix_bytes _ _ _ _ c.in-Some.suffix.now
     (rest_more deref c.loop-suffix.suffix-iterator c.next.new.self c.next.result c.in-Some.suffix c.in-Some.is c.next.ensures.steps)
     (c.as_bytes.ensures.value ∙ c.text.ensures) c.loop-suffix.invariant _ c.in_err-push_marked.ensures c.from_residual.ensures.1
 
 pub loop-suffix-preserved : goal.loop-suffix-preserved
 loop-suffix-preserved g c =
-    listed_written suffix_bytes _ _ _ _ _
+    listed_written suffix_bytes _ _ _ _ c.in-Some.suffix.now
     (rest_more deref c.loop-suffix.suffix-iterator c.next.new.self c.next.result c.in-Some.suffix c.in-Some.is c.next.ensures.steps)
     (c.as_bytes.ensures.value ∙ c.text.ensures) c.loop-suffix.invariant c.in_ok-push_marked.ensures
