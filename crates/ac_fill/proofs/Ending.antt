@@ -98,8 +98,8 @@ is_step cloud asked old new list of below h kept fit same more = record {
 -- ---- ends
 
 module _ {W : Type 0} {taken : W → Option (List ℕ)} {fails : W → ℕ} (all : List Provider) (asked : Asked) where
-  pub ends_none : (s : Stand) (f : Filled) (a : W) → placements_at asked s ≡ [] → f.count ≡ s.count → s.count ≤ 4294967295 → with_taken f.takings all ≡ s.world → IsTakenOf all f.takings
-      → Ends taken fails all asked s a a (Ok f)
+  pub ends_none : (s : Stand) (f : Filled) (a : W) → placements_at asked s ≡ [] → f.count ≡ s.count → s.count ≤ 4294967295
+      → with_taken f.takings all ≡ s.world → IsTakenOf all f.takings → Ends taken fails all asked s a a (Ok f)
   ends_none s f a none count small world fits = record {
     writes = wrote_none (line all) (placements_at asked s) a f none;
     count = rw none (omega (arith, count, small));
@@ -115,8 +115,8 @@ module _ {W : Type 0} {taken : W → Option (List ℕ)} {fails : W → ℕ} (all
     ends_stopped wrote = record { writes = rw first (stopped (line all) (t ∷ []) (placements_at asked next) wrote refl); count = tt; world = tt; fits = tt }
 
     -- a placement is made, and then the others are
-    pub ends_on : {Z : Type 0} {z : Z} → next.count ≡ min (s.count + 1) 4294967295 → next.world ≡ claimed s.world (assigned asked t) → WritesEach taken fails a b (Ok z) (line all) (t ∷ [])
-        → (r : Result Filled PageFault) (c : W) → Ends taken fails all asked next b c r → Ends taken fails all asked s a c r
+    pub ends_on : {Z : Type 0} {z : Z} → next.count ≡ min (s.count + 1) 4294967295 → next.world ≡ claimed s.world (assigned asked t)
+        → WritesEach taken fails a b (Ok z) (line all) (t ∷ []) → (r : Result Filled PageFault) (c : W) → Ends taken fails all asked next b c r → Ends taken fails all asked s a c r
     ends_on count world wrote r c then = record {
       writes = rw first (wrote_on (line all) (t ∷ []) wrote then.writes);
       count = rw first (IfOk-weaker r _ _ (λ x e. omega (arith, e, count)) then.count);
@@ -125,10 +125,11 @@ module _ {W : Type 0} {taken : W → Option (List ℕ)} {fails : W → ℕ} (all
     }
 
   -- an error that is handed on
-  pub ends_err : {s : Stand} {r : Result Filled PageFault} {e : PageFault} {a b : W} → IsErrAnd r (λ d. d ≡ e) → Ends taken fails all asked s a b (Err e) → Ends taken fails all asked s a b r
+  pub ends_err : {s : Stand} {r : Result Filled PageFault} {e : PageFault} {a b : W} → IsErrAnd r (λ d. d ≡ e) → Ends taken fails all asked s a b (Err e)
+      → Ends taken fails all asked s a b r
   ends_err {r = r} h ends = let is = err_from_is_err_and r h in rw (is.1, is.2) ends
 
   -- an error within the placements of a list
-  pub places_err : {s : Stand} (then : Stand) (rest : List (List ℕ)) {r : Result ⊤ PageFault} {e : PageFault} {a b : W} → IsErrAnd r (λ d. d ≡ e) → Ends taken fails all asked s a b (Err e)
-      → PlacesAll taken fails all asked s then rest a b r
+  pub places_err : {s : Stand} (then : Stand) (rest : List (List ℕ)) {r : Result ⊤ PageFault} {e : PageFault} {a b : W} → IsErrAnd r (λ d. d ≡ e)
+      → Ends taken fails all asked s a b (Err e) → PlacesAll taken fails all asked s then rest a b r
   places_err then rest {r = r} h ends = let is = err_from_is_err_and r h in rw (is.1, is.2) record { ahead = tt; goes = tt; stops = ends }

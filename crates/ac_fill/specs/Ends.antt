@@ -47,15 +47,16 @@ abbrev pub stand_of : List Provider → Filling → Stand
 stand_of all f = record { wanted = f.wanted; world = world_at all f; count = count_at f }
 
 -- The placements that are to come are written, counted and taken.
-pub record Ends {W : Type 0} (taken : W → Option (List ℕ)) (fails : W → ℕ) (all : List Provider) (asked : Asked) (s : Stand) (old new : W) (result : Result Filled PageFault) : Type 0 where
+pub record Ends {W : Type 0} (taken : W → Option (List ℕ)) (fails : W → ℕ) (all : List Provider) (asked : Asked) (s : Stand) (old new : W)
+    (result : Result Filled PageFault) : Type 0 where
   pub writes : WritesEach taken fails old new result (line all) (placements_at asked s)
   pub count : IfOk result (λ f. f.count ≡ min (length (placements_at asked s) + s.count) 4294967295)
   pub world : IfOk result (λ f. with_taken f.takings all ≡ after s.world asked (placements_at asked s))
   pub fits : IfOk result (λ f. IsTakenOf all f.takings)
 
 -- All placements of a list are made that are wanted: what ends well behind them ends well.
-pub record PlacesAll {W : Type 0} (taken : W → Option (List ℕ)) (fails : W → ℕ) (all : List Provider) (asked : Asked) (s then : Stand) (rest : List (List ℕ)) (old new : W)
-    (result : Result ⊤ PageFault) : Type 0 where
+pub record PlacesAll {W : Type 0} (taken : W → Option (List ℕ)) (fails : W → ℕ) (all : List Provider) (asked : Asked) (s then : Stand)
+    (rest : List (List ℕ)) (old new : W) (result : Result ⊤ PageFault) : Type 0 where
   pub ahead : OnOk result ((then.wanted ≡ Some 0 → ⊥) → AreAhead then.world asked rest)
   pub goes : OnOk result ((r : Result Filled PageFault) (end : W) → Ends taken fails all asked then new end r → Ends taken fails all asked s old end r)
   pub stops : IfErr result (λ e. Ends taken fails all asked s old new (Err e))

@@ -20,7 +20,8 @@ invariant-lists g l =
       assigned : All (IsAssignment (providers_of l.cloud) (asked_of l.query)) (left l.source);
       small : l.count ≤ 4294967295;
       reads : (r : Result ℕ PageFault) (new : List (List ℕ)) → Reads l.wanted l.count r (left l.source) new → Reads limit 0 r (left l.fn.source) new;
-      writes : (r : Result ℕ PageFault) (new : g.row.W.Denot) → WritesEach taken failures l.out new r (line (providers_of l.cloud)) (cut l.wanted (left l.source))
+      writes : (r : Result ℕ PageFault) (new : g.row.W.Denot)
+          → WritesEach taken failures l.out new r (line (providers_of l.cloud)) (cut l.wanted (left l.source))
           → WritesEach taken failures l.fn.out new r (line (providers_of l.cloud)) (cut limit (left l.fn.source));
     }
 

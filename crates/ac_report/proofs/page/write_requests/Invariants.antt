@@ -26,7 +26,8 @@ invariant-lists g l =
           → list_any (meets_root all (id_at all r)) (cut asked.limit (left l.fn.source)) ≡ (get_or l.marks r false || list_any (meets_root all (id_at all r)) (cut l.wanted (left l.source)));
       small : l.count ≤ 4294967295;
       reads : (r : Result ℕ PageFault) (new : List (List ℕ)) → Reads l.wanted l.count r (left l.source) new → Reads asked.limit 0 r (left l.fn.source) new;
-      writes : (r : Result ℕ PageFault) (new : g.row.W.Denot) → WritesEach taken failures l.out new r (λ text. text) (requests all asked l.later (cut l.wanted (left l.source)))
+      writes : (r : Result ℕ PageFault) (new : g.row.W.Denot)
+          → WritesEach taken failures l.out new r (λ text. text) (requests all asked l.later (cut l.wanted (left l.source)))
           → WritesEach taken failures l.fn.out new r (λ text. text) (requests all asked false (cut asked.limit (left l.fn.source)));
     }
 

@@ -20,7 +20,8 @@ pub returns-in_err-put_line-clause-places : goal.returns-in_err-put_line-clause-
 returns-in_err-put_line-clause-places g c = λ rest e.
     let all = providers_of c.args.assignment.now.cloud.now in
     let asked = asked_in (takings_of c.args.self.now) in
-    places_err all asked (stand_of all c.room.self) rest c.from_residual.ensures.1 (c.room.invariant.goes rest e (Err fault.NoMemory) _ (ends_refused all asked (stand_of all c.room.self) _))
+    places_err all asked (stand_of all c.room.self) rest c.from_residual.ensures.1
+    (c.room.invariant.goes rest e (Err fault.NoMemory) _ (ends_refused all asked (stand_of all c.room.self) _))
 
 pub returns-in_err-push_piece-clause-places : goal.returns-in_err-push_piece-clause-places
 returns-in_err-push_piece-clause-places g c = λ rest e.
