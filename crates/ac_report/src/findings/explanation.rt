@@ -5,9 +5,7 @@ mod differences;
 mod nobody;
 mod without;
 
-ghost use Rattle.std.specs.Prelude.{◌≡◌, ◌+◌, ◌<◌, ◌≤◌, ◌++◌, IfOk, OnErr, OnOk, length, map};
-ghost use Rattle.std.specs.Io.KnownBytes.{Appends};
-ghost use Rattle.ac_base.specs.Devices.{Rises, TakesPart};
+ghost use Rattle.std.specs.Prelude.{◌≡◌, ◌+◌, ◌<◌, ◌≤◌, ◌++◌, IfOk, length, map};
 ghost use Rattle.ac_cloud.specs.Cloud.CloudWorld.{providers_of};
 ghost use Rattle.ac_query.specs.Asked.{slots_of};
 ghost use Rattle.ac_query.specs.Shown.Groups.{need_entry};
@@ -157,7 +155,8 @@ fn push_counts<W: Sink>(out: &mut W, providers: u32, counts: &SlotCounts) -> Res
 fn push_asked<W: Sink>(out: &mut W, query: &Query, s: usize) -> Result<(), WriteFailed>
     requires { s < length (slots_of (asked_of query.now)) }
     ensures { Pushes W.taken W.failures out.old out.new result
-        (slot_name (s + 1) (slot_at (asked_of query.now) s) ++ needs_text (slot_at (asked_of query.now) s).needs) }
+        (slot_name (s + 1) (slot_at (asked_of query.now) s)
+        ++ needs_text (slot_at (asked_of query.now) s).needs) }
 {
     push_name(out, query, s)?;
     push_needs(out, needs_at(query, s))
@@ -173,7 +172,9 @@ fn push_told<W: Sink>(
 ) -> Result<(), WriteFailed>
     requires { length told.now.rooms.items ≤ length needs.now }
     ensures { Pushes W.taken W.failures out.old out.new result
-        (slot_counted providers (slot_shown told.now).counts ++ (each_room (map need_entry needs.now) (slot_shown told.now).rooms ++ slot_end (slot_shown told.now).rooms)) }
+        (slot_counted providers (slot_shown told.now).counts
+        ++ (each_room (map need_entry needs.now) (slot_shown told.now).rooms
+        ++ slot_end (slot_shown told.now).rooms)) }
 {
     push_counts(out, providers, &told.counts)?;
     push_rooms(out, needs, &told.rooms)?;
@@ -193,7 +194,8 @@ fn push_slot<W: Sink>(
     requires rooms { length told.now.rooms.items
         ≤ length (slot_at (asked_of query.now) s).needs }
     ensures { Pushes W.taken W.failures out.old out.new result
-        (slot_line (providers_of cloud.now) (s + 1) (slot_at (asked_of query.now) s) (slot_shown told.now)) }
+        (slot_line (providers_of cloud.now) (s + 1) (slot_at (asked_of query.now) s)
+        (slot_shown told.now)) }
 {
     push_asked(out, query, s)?;
     push_told(out, cloud.len(), needs_at(query, s), told)
@@ -252,7 +254,7 @@ fn candidates_line(found: bool) -> &'static [u8]
 }
 
 /// Pushes what stands behind the counts: whether there is a candidate without one thing, and where the service may answer otherwise.
-#[tactic(auto, using(ac_base::proofs::Leaving::appends_both, ac_base::proofs::Leaving::part_of_first, ac_base::proofs::Leaving::part_of_second))]
+#[tactic(auto, using(ac_base::proofs::Pushed::pushed_first, ac_base::proofs::Pushed::pushed_on))]
 pub fn push_reasons<W: Sink>(
     out: &mut W,
     cloud: &Cloud,
@@ -260,21 +262,16 @@ pub fn push_reasons<W: Sink>(
     without: &FoundWithout,
 ) -> Result<(), WriteFailed>
     requires { length (found_shown without.now).subtrees ≤ length (asked_of query.now).subtrees }
-    ensures ok { OnOk result (Appends (W.taken out.old) (W.taken out.new)
+    ensures { Pushes W.taken W.failures out.old out.new result
         (without_lines (asked_of query.now) (found_shown without.now)
-        ++ differs_lines (providers_of cloud.now) (asked_of query.now))) }
-    ensures part { OnErr result (TakesPart (W.taken out.old) (W.taken out.new)
-        (without_lines (asked_of query.now) (found_shown without.now)
-        ++ differs_lines (providers_of cloud.now) (asked_of query.now))) }
-    ensures rises { OnErr result (Rises (W.failures out.old) (W.failures out.new)) }
-    ensures failures { W.failures out.old ≤ W.failures out.new }
+        ++ differs_lines (providers_of cloud.now) (asked_of query.now)) }
 {
     push_without(out, query, without)?;
     push_differences(out, cloud, query)
 }
 
 /// Pushes an explanation: the lines of the slots, that of the trees by their counts, what nobody has, and whether a candidate was found.
-#[tactic(auto, using(ac_base::proofs::Leaving::appends_both, ac_base::proofs::Leaving::part_of_first, ac_base::proofs::Leaving::part_of_second))]
+#[tactic(auto, using(ac_base::proofs::Pushed::pushed_first, ac_base::proofs::Pushed::pushed_on))]
 pub fn push_explanation<W: Sink>(
     out: &mut W,
     cloud: &Cloud,
@@ -285,18 +282,11 @@ pub fn push_explanation<W: Sink>(
 ) -> Result<(), WriteFailed>
     requires { map slot_shown slots.now
         ≡ map (slot_told (providers_of cloud.now)) (slots_of (asked_of query.now)) }
-    ensures ok { OnOk result (Appends (W.taken out.old) (W.taken out.new)
+    ensures { Pushes W.taken W.failures out.old out.new result
         (slot_lines (providers_of cloud.now) (asked_of query.now)
         ++ (trees_line (trees_shown trees.now)
         ++ (nobody_lines (providers_of cloud.now) (asked_of query.now)
-        ++ candidates_line found)))) }
-    ensures part { OnErr result (TakesPart (W.taken out.old) (W.taken out.new)
-        (slot_lines (providers_of cloud.now) (asked_of query.now)
-        ++ (trees_line (trees_shown trees.now)
-        ++ (nobody_lines (providers_of cloud.now) (asked_of query.now)
-        ++ candidates_line found)))) }
-    ensures rises { OnErr result (Rises (W.failures out.old) (W.failures out.new)) }
-    ensures failures { W.failures out.old ≤ W.failures out.new }
+        ++ candidates_line found))) }
 {
     push_slots(out, cloud, query, slots)?;
     push_trees(out, trees)?;

@@ -1,5 +1,5 @@
 //! Where the running service may answer otherwise, told without memory: a line for each difference that may concern a query.
-ghost use Rattle.std.specs.Prelude.{◌≡◌, ◌≤◌, if◌then◌else◌, []};
+ghost use Rattle.std.specs.Prelude.{◌≡◌, if◌then◌else◌, []};
 ghost use Rattle.ac_cloud.specs.Cloud.CloudWorld.{providers_of};
 ghost use Rattle.ac_query.specs.Shown.Queries.{asked_of};
 ghost use Rattle.ac_differences.specs.Differing.{applies};
@@ -57,7 +57,8 @@ fn push_if_applies<W: Sink>(
     difference: Difference,
 ) -> Result<(), WriteFailed>
     ensures { Pushes W.taken W.failures out.old out.new result
-        (if applies (providers_of cloud.now) (asked_of query.now) difference then differs_line difference else []) }
+        (if applies (providers_of cloud.now) (asked_of query.now) difference
+        then differs_line difference else []) }
 {
     if applies(cloud, query, difference) {
         push_line(out, difference)?;

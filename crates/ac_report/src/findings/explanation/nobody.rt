@@ -1,5 +1,5 @@
 //! What nobody has of what a query asks for: a line each, pushed without memory.
-ghost use Rattle.std.specs.Prelude.{◌≡◌, ◌≤◌, map};
+ghost use Rattle.std.specs.Prelude.{◌≡◌, map};
 ghost use Rattle.std.specs.List.{flat_map};
 ghost use Rattle.ac_base.specs.Names.{trait_bytes};
 ghost use Rattle.ac_base.specs.Texts.{id_text};
@@ -42,7 +42,8 @@ fn push_class<W: Sink>(out: &mut W, cloud: &Cloud, need: &Need) -> Result<(), Wr
 #[tactic(auto, using(crate::proofs::FoundTexts::ItemsWritten::item_stopped))]
 fn push_classes<W: Sink>(out: &mut W, cloud: &Cloud, needs: &[Need]) -> Result<(), WriteFailed>
     ensures { Pushes W.taken W.failures out.old out.new result
-        (flat_map (λ need. class_missed (providers_of cloud.now) need.0) (map need_entry needs.now)) }
+        (flat_map (λ need. class_missed (providers_of cloud.now) need.0)
+        (map need_entry needs.now)) }
 {
     for need in needs {
         push_class(out, cloud, need)?;
@@ -65,7 +66,8 @@ fn push_trait<W: Sink>(out: &mut W, cloud: &Cloud, name: &TraitName) -> Result<(
 #[tactic(auto, using(crate::proofs::FoundTexts::ItemsWritten::item_stopped))]
 fn push_traits<W: Sink>(out: &mut W, cloud: &Cloud, names: &[TraitName]) -> Result<(), WriteFailed>
     ensures { Pushes W.taken W.failures out.old out.new result
-        (flat_map (λ name. trait_missed (providers_of cloud.now) name) (map trait_bytes names.now)) }
+        (flat_map (λ name. trait_missed (providers_of cloud.now) name)
+        (map trait_bytes names.now)) }
 {
     for name in names {
         push_trait(out, cloud, name)?;
@@ -113,7 +115,8 @@ fn push_list<W: Sink>(out: &mut W, cloud: &Cloud, list: &AnyOf) -> Result<(), Wr
 #[tactic(auto, using(crate::proofs::FoundTexts::ItemsWritten::item_stopped))]
 fn push_lists<W: Sink>(out: &mut W, cloud: &Cloud, lists: &[AnyOf]) -> Result<(), WriteFailed>
     ensures { Pushes W.taken W.failures out.old out.new result
-        (flat_map (λ names. list_missed (providers_of cloud.now) names) (map any_of_shown lists.now)) }
+        (flat_map (λ names. list_missed (providers_of cloud.now) names)
+        (map any_of_shown lists.now)) }
 {
     for list in lists {
         push_list(out, cloud, list)?;
@@ -174,7 +177,8 @@ fn push_rules<W: Sink>(
     rules: &[AggregateRule],
 ) -> Result<(), WriteFailed>
     ensures { Pushes W.taken W.failures out.old out.new result
-        (flat_map (λ rule. rule_missed (providers_of cloud.now) rule) (map rule_shown rules.now)) }
+        (flat_map (λ rule. rule_missed (providers_of cloud.now) rule)
+        (map rule_shown rules.now)) }
 {
     for rule in rules {
         push_rule(out, cloud, rule)?;
@@ -233,7 +237,8 @@ fn push_group<W: Sink>(out: &mut W, cloud: &Cloud, group: &Group) -> Result<(), 
 #[tactic(auto, using(crate::proofs::FoundTexts::ItemsWritten::item_stopped))]
 fn push_groups<W: Sink>(out: &mut W, cloud: &Cloud, groups: &[Group]) -> Result<(), WriteFailed>
     ensures { Pushes W.taken W.failures out.old out.new result
-        (flat_map (λ g. group_missed (providers_of cloud.now) g.1) (map group_entry groups.now)) }
+        (flat_map (λ g. group_missed (providers_of cloud.now) g.1)
+        (map group_entry groups.now)) }
 {
     for group in groups {
         push_group(out, cloud, group)?;
@@ -260,7 +265,8 @@ fn push_root_traits<W: Sink>(
     names: &[TraitName],
 ) -> Result<(), WriteFailed>
     ensures { Pushes W.taken W.failures out.old out.new result
-        (flat_map (λ name. root_trait_missed (providers_of cloud.now) name) (map trait_bytes names.now)) }
+        (flat_map (λ name. root_trait_missed (providers_of cloud.now) name)
+        (map trait_bytes names.now)) }
 {
     for name in names {
         push_root_trait(out, cloud, name)?;
