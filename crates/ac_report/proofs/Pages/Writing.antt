@@ -33,13 +33,12 @@ module _ {S X : Type 0} {taken : S → Option (List ℕ)} {fails : S → ℕ} wh
       ok = on_ok_weaker r (λ t. rw flat_map-append (appends_both (taken a) (taken b) (taken c) _ _ first.ok t)) then.ok;
       part = on_err_weaker r (λ t. rw flat_map-append (part_of_second (taken a) (taken b) (taken c) _ _ first.ok t)) then.part;
       failed = λ e low. grind (arith, then.failed e, first.failures, then.failures);
-      whole = λ e. let w = then.whole e in
-          (
-            xs ++ w.0,
-            w.1,
-            ap (λ l. xs ++ l) w.2 ∙ sym (append_assoc xs w.0 w.1),
-            rw flat_map-append (appends_both (taken a) (taken b) (taken c) _ _ first.ok w.3),
-          );
+      whole = λ e. let w = then.whole e in (
+        xs ++ w.0,
+        w.1,
+        ap (λ l. xs ++ l) w.2 ∙ sym (append_assoc xs w.0 w.1),
+        rw flat_map-append (appends_both (taken a) (taken b) (taken c) _ _ first.ok w.3),
+      );
       failures = omega (arith, first.failures, then.failures);
     }
 

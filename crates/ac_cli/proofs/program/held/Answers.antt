@@ -5,8 +5,7 @@ use Rattle.ac_cli.proofs.program.held.Goals as goal
 
 pub returns-in-Ok : goal.returns-in-Ok
 returns-in-Ok g c =
-    let said = c.run_session.ensures in
-    (
+    let said = c.run_session.ensures in (
       feed_in c.run_session.new.lines,
       record {
         written = λ zero b tell q known few. said.written zero b tell q (c.in-Ok.ensures.left ∙ known) few;
@@ -20,9 +19,8 @@ returns-in-Ok g c =
     )
 
 pub returns : goal.returns
-returns g c =
-    (
-      c.args.questions,
-      none_held g.F.Feed.remaining c.args.inputs.now _ _ (c.tell.ensures.status ∙ c.of.ensures.status) (rw (← c.of.ensures.line) c.tell.ensures.line) refl c.tell.ensures.failures
+returns g c = (
+  c.args.questions,
+  none_held g.F.Feed.remaining c.args.inputs.now _ _ (c.tell.ensures.status ∙ c.of.ensures.status) (rw (← c.of.ensures.line) c.tell.ensures.line) refl c.tell.ensures.failures
       g.Q.Feed.remaining g.Q.Feed.failures c.args.questions _ _,
-    )
+)

@@ -58,7 +58,7 @@ returns g c =
       untouched = λ low high. absurd (omega (arith, six, high));
       output = λ _. (
         same_rise _ _ _ _ c.new-gathering.ensures.failures refl
-        (later_rise _ _ _ said.failures c.finish.ensures.failures (from_err c.finish.result.0 _ _ c.in-Err-default.is-0 c.finish.ensures.rises)),
+            (later_rise _ _ _ said.failures c.finish.ensures.failures (from_err c.finish.result.0 _ _ c.in-Err-default.is-0 c.finish.ensures.rises)),
         rw (← c.of-in-Err-default.ensures.line, ← said.silent (omega arith)) c.tell-in-Err-default.ensures.line,
       );
       memory = λ seven. absurd (cc);
