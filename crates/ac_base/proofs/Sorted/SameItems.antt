@@ -1,5 +1,5 @@
 -- Sets and maps in the order of their keys: what they have of the items that they are gathered of, and that those with the same items are equal.
-use Rattle.std.proofs.Common.{◌≡◌, ◌∙◌, ◌||◌, ◌<◌, ◌≤◌, ◌+◌, arith, length, get_or, ap₂, ◌==◌, ◌++◌, ℕ, Bool, true, false, List, [], ◌∷◌, map, reverse, Option, Some, None, Contains, fold, Ordering, Less, Equal, Greater, refl, sym, ap, inl, if◌then◌else◌, is_eq, nat_cmp, is_some, IsSome, bytes_eq}
+use Rattle.std.proofs.Common.{◌≡◌, ◌∙◌, ◌||◌, arith, ◌==◌, ◌++◌, ℕ, Bool, true, List, [], ◌∷◌, map, reverse, Option, Some, None, Contains, fold, Ordering, Less, Equal, Greater, refl, sym, ap, inl, if◌then◌else◌, is_eq, nat_cmp, is_some, bytes_eq}
 use Rattle.std.specs.Ordering.{eq_by_cmp, match_ordering}
 use Rattle.std.specs.Cmp.{IsTotalOrder, both_ways}
 use Rattle.std.specs.List.{list_any}
@@ -24,7 +24,10 @@ use Rattle.std.proofs.lemmas.Map.Lookups.{CmpEqualImpliesEq, btree_map_from_get,
 use Rattle.std.proofs.lemmas.Map.Views.{Contains-from_any, list_any-from_Contains, Contains-from_lookup, lookup-from_Contains, IsSome-lookup_from_Contains, tells_apart}
 use Rattle.ac_base.proofs.Sorted.SearchFacts.{any_same, is_eq_nat}
 use Rattle.ac_base.proofs.Sorted.SortedSets.{rising_sorted}
-use Rattle.ac_base.proofs.Small.{or_again, or_grouped, or_swapped}
+use Rattle.ac_base.proofs.Small.{or_grouped, or_swapped}
+use Rattle.ac_base.proofs.ShownKeys.{map_match}
+use Rattle.std.proofs.lemmas.Grind.{common_steps}
+use Rattle.std.proofs.lemmas.Bool.{cases_Bool}
 
 -- what is made of an item stands among what is made of all
 pub map_has : {X Y : Type 0} (f : X → Y) (xs : List X) (x : X) → Contains xs x → Contains (map f xs) (f x)
@@ -41,9 +44,7 @@ module _ {K : Type 0} {R : K → K → Ordering} (o : IsTotalOrder R) where
     where
       by_order : (r : Ordering) → R k y ≡ r → has q (insert_key R ks k) ≡ (is_at (R q) k || has q ks)
           → has q (match_ordering r (k ∷ y ∷ ks) (y ∷ ks) (y ∷ insert_key R ks k)) ≡ (is_at (R q) k || has q (y ∷ ks))
-      by_order Less is later = refl
-      by_order Equal is later = or_again (is_at (R q) y) (has q ks) ∙ ap (λ r. is_eq r || has q (y ∷ ks)) (sym (alike_right o k y q is))
-      by_order Greater is later = ap (λ b. is_at (R q) y || b) later ∙ or_swapped (is_at (R q) y) (is_at (R q) k) (has q ks)
+      by_order r is later = grind (arith, common_steps)
 
   has_gathered : (q : K) (ks xs : List K) → has q (fold (insert_key R) ks xs) ≡ (has q xs || has q ks)
   has_gathered q ks [] = refl
@@ -85,11 +86,6 @@ name_rising q names =
     ∙ any_same (is_at (text_cmp q)) (bytes_eq q) (is_eq-slice_cmp q) names
 
 -- ---- maps
-map_match : {A B : Type 0} (f : A → B) (r : Ordering) (x y z : List A) → map f (match_ordering r x y z) ≡ match_ordering r (map f x) (map f y) (map f z)
-map_match f Less x y z = refl
-map_match f Equal x y z = refl
-map_match f Greater x y z = refl
-
 -- the keys of a map are a set in the same order
 insert_keys : {K X : Type 0} (R : K → K → Ordering) (es : List (K × X)) (k : K) (v : X) → keys_of (insert_entry R es k v) ≡ insert_key R (keys_of es) k
 insert_keys R [] k v = refl
@@ -107,19 +103,13 @@ module _ {K X : Type 0} {R : K → K → Ordering} (o : IsTotalOrder R) where
   value_after q (e ∷ es) k v = by_order (R k e.0) refl (value_after q es k v)
     where
       hidden : (b : Bool) (x y : X) (w : Option X) → (if b then Some x else w) ≡ (if b then Some x else if b then Some y else w)
-      hidden true x y w = refl
-      hidden false x y w = refl
+      hidden b x y w = grind (arith, common_steps, cases_Bool)
 
       turned : (b c : Bool) (x y : X) (w : Option X) → (b ≡ true → c ≡ true → ⊥) → (if b then Some x else if c then Some y else w) ≡ (if c then Some y else if b then Some x else w)
-      turned true true x y w apart = absurd (apart refl refl)
-      turned true false x y w apart = refl
-      turned false true x y w apart = refl
-      turned false false x y w apart = refl
+      turned b c x y w apart = grind (arith, common_steps, cases_Bool)
 
       tied : (r : Ordering) → is_eq r ≡ true → r ≡ Equal
-      tied Less e = absurd (cc)
-      tied Equal e = refl
-      tied Greater e = absurd (cc)
+      tied r e = grind (arith, common_steps)
 
       by_order : (r : Ordering) → R k e.0 ≡ r → value_at q (insert_entry R es k v) ≡ (if is_at (R q) k then Some v else value_at q es)
           → value_at q (match_ordering r ((k, v) ∷ e ∷ es) ((e.0, v) ∷ es) (e ∷ insert_entry R es k v)) ≡ (if is_at (R q) k then Some v else value_at q (e ∷ es))
@@ -128,29 +118,25 @@ module _ {K X : Type 0} {R : K → K → Ordering} (o : IsTotalOrder R) where
       by_order Greater is later =
           ap (λ w. if is_at (R q) e.0 then Some e.1 else w) later
           ∙ turned (is_at (R q) e.0) (is_at (R q) k) e.1 v (value_at q es) (λ a b.
-          let same : R k e.0 ≡ Equal = sym (alike_right o q e.0 k (tied (R q e.0) a)) ∙ tied_back o q k (tied (R q k) b) in
-          cc)
+          cc (sym (alike_right o q e.0 k (tied (R q e.0) a)) ∙ tied_back o q k (tied (R q k) b)))
 
   -- a key is there after an insertion where it is the new one, or was there
   pub there_after : (q : K) (m : List (K × X)) (k : K) (v : X) → is_some (lookup (is_at (R q)) (insert_entry R m k v)) ≡ (is_at (R q) k || is_some (lookup (is_at (R q)) m))
   there_after q m k v = ap is_some (value_after q m k v) ∙ at (is_at (R q) k)
     where
       at : (b : Bool) → is_some (if b then Some v else value_at q m) ≡ (b || is_some (value_at q m))
-      at true = refl
-      at false = refl
+      at b = grind (arith, common_steps, cases_Bool)
 
   value_behind : (q : K) (xs : List (K × X)) (p : K × X) (w : Option X) → option_or (value_at q (xs ++ p ∷ [])) w ≡ option_or (value_at q xs) (if is_at (R q) p.0 then Some p.1 else w)
   value_behind q [] p w = at (is_at (R q) p.0)
     where
       at : (b : Bool) → option_or (if b then Some p.1 else None) w ≡ (if b then Some p.1 else w)
-      at true = refl
-      at false = refl
+      at b = grind (arith, common_steps, cases_Bool)
   value_behind q (x ∷ xs) p w = at (is_at (R q) x.0) (value_behind q xs p w)
     where
       at : (b : Bool) → option_or (value_at q (xs ++ p ∷ [])) w ≡ option_or (value_at q xs) (if is_at (R q) p.0 then Some p.1 else w)
           → option_or (if b then Some x.1 else value_at q (xs ++ p ∷ [])) w ≡ option_or (if b then Some x.1 else value_at q xs) (if is_at (R q) p.0 then Some p.1 else w)
-      at true later = refl
-      at false later = later
+      at b later = grind (arith, common_steps, cases_Bool)
 
   value_gathered : (q : K) (m pairs : List (K × X)) → value_at q (fold (λ m p. insert_entry R m p.0 p.1) m pairs) ≡ option_or (value_at q (reverse pairs)) (value_at q m)
   value_gathered q m [] = refl
@@ -165,8 +151,7 @@ module _ {K X : Type 0} {R : K → K → Ordering} (o : IsTotalOrder R) where
   last_given q pairs = value_gathered q [] pairs ∙ no_other (value_at q (reverse pairs))
     where
       no_other : (w : Option X) → option_or w None ≡ w
-      no_other None = refl
-      no_other (Some v) = refl
+      no_other w = grind (arith, common_steps)
 
   pub keys_gathered : (m pairs : List (K × X)) → keys_of (fold (λ m p. insert_entry R m p.0 p.1) m pairs) ≡ fold (insert_key R) (keys_of m) (keys_of pairs)
   keys_gathered m [] = refl
@@ -184,8 +169,7 @@ module _ {K X : Type 0} {R : K → K → Ordering} (o : IsTotalOrder R) where
         missing None e f = refl
         missing (Some v) e f =
             let c = known (q, v) (Contains-from_lookup {eq = eq_by_cmp R} (tells_apart exact) q v es e) in
-            let some : IsSome (value_at q fs) = IsSome-lookup_from_Contains (eq_by_cmp_equiv o) q fs (map_has (λ e. e.0) fs (q, v) c) in
-            absurd (cc)
+            absurd (cc (IsSome-lookup_from_Contains (eq_by_cmp_equiv o) q fs (map_has (λ e. e.0) fs (q, v) c)))
 
         by_value : (w : Option X) → value_at q fs ≡ w → value_at q es ≡ value_at q fs
         by_value (Some w) f =
