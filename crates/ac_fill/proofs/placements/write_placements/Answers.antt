@@ -67,11 +67,10 @@ lists-preserved g c =
     let x = c.in-Some.list.now in
     let wants : c.lists.filling.wanted ≡ Some 0 → ⊥ = λ e. let over = c.is_over.ensures.1 e in cc in
     let next = is_next c.lists.filling.wanted (left c.lists.source) x wants c.in-Some.ensures.head in
-    let tail : left c.next.follows.lender-at-none ≡ tail_of (left c.lists.source) = c.next.follows.holds-at-none.0 in
     let ahead : AreAhead (world_at all c.lists.filling) asked (x ∷ tail_of (left c.lists.source)) = subst (AreAhead (world_at all c.lists.filling) asked) next.first (c.lists.invariant.ahead wants) in
     let placed = rw c.lists.invariant.query at c.in_ok-place-in-Some.ensures.places (tail_of (left c.lists.source)) in
     let places = placed ahead in
-    rw tail (record {
+    rw c.next.follows.holds-at-none.0 (record {
       query = c.in_ok-place-in-Some.ensures.query ∙ c.lists.invariant.query;
       fits = c.in_ok-place-in-Some.ensures.fits;
       chosen = all_tail (IsChosen all asked) (left c.lists.source) c.lists.invariant.chosen;
@@ -95,7 +94,6 @@ returns-in_err-place-in-Some g c =
     let x = c.in-Some.list.now in
     let wants : c.lists.filling.wanted ≡ Some 0 → ⊥ = λ e. let over = c.is_over.ensures.1 e in cc in
     let next = is_next c.lists.filling.wanted (left c.lists.source) x wants c.in-Some.ensures.head in
-    let ahead : AreAhead (world_at all c.lists.filling) asked (x ∷ tail_of (left c.lists.source)) = subst (AreAhead (world_at all c.lists.filling) asked) next.first (c.lists.invariant.ahead wants) in
     let placed = rw c.lists.invariant.query at c.in_err-place-in-Some.ensures.places (tail_of (left c.lists.source)) in
-    let places = placed ahead in
+    let places = placed (subst (AreAhead (world_at all c.lists.filling) asked) next.first (c.lists.invariant.ahead wants)) in
     record { ends = ends_err all asked (start_of all asked) _ _ _ _ _ _ c.from_residual-in_err-place-in-Some.ensures.1 (c.lists.invariant.goes (Err _) _ _ places.stops) }
