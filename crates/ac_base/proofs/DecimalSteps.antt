@@ -5,9 +5,9 @@ use Rattle.std.proofs.lemmas.Bool.{cases_Bool}
 use Rattle.std.proofs.lemmas.List.{drop-set}
 use Rattle.std.proofs.Math.Nat.{pow-suc}
 use Rattle.std.proofs.lemmas.Bool.Decides.{nat_tests}
-use Rattle.std.proofs.Common.{inl, inr}
 use Rattle.std.proofs.lemmas.Fmt.{decimal_digit, decimal_step}
 use Rattle.std.specs.Fmt.{decimal}
+use Rattle.std.proofs.lemmas.Grind.{common_steps}
 
 -- the digits of a front, of which there are none where it is 0
 abbrev pub front : ℕ → List ℕ
@@ -15,16 +15,7 @@ front n = if n == 0 then [] else decimal n
 
 -- a number's last digit stands behind its front
 pub last_digit : (n : ℕ) → n < 2 ^ 64 → decimal n ≡ front (n / 10) ++ (48 + n % 10) ∷ []
-last_digit n fits = elim (cases_Bool (n / 10 == 0)) [
-  | inl e ↦
-      let none : n / 10 ≡ 0 = grind (arith, nat_tests) in
-      let low : n < 10 = omega arith in
-      let same : n % 10 ≡ n = omega arith in
-      rw (e, same) (decimal_digit n low)
-  | inr e ↦
-      let high : 10 ≤ n = grind (arith, nat_tests) in
-      rw e (decimal_step n high fits)
-]
+last_digit n fits = grind (arith, common_steps, cases_Bool, decimal_digit, decimal_step)
 
 whole_front : (n : ℕ) → 0 < n → front n ≡ decimal n
 whole_front n h = let f : (n == 0) ≡ false = grind (arith, nat_tests) in rw f refl
@@ -47,5 +38,4 @@ room_less rest (suc start) fits at =
     rw back (omega (arith, fits, pow-suc 10 start))
 
 pub started : (rest start : ℕ) → rest < 10 ^ start → 0 < rest → 0 < start
-started rest zero fits some = absurd (omega arith)
-started rest (suc start) fits some = omega arith
+started rest start fits some = grind (arith, common_steps)

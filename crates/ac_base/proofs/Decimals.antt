@@ -13,6 +13,8 @@ use Rattle.std.specs.Option.{option_map}
 use Rattle.ac_base.specs.Texts.{is_digit, is_zero, with_digit, decimal, in_millionths}
 use Rattle.ac_base.specs.Laws.{SixDecimals}
 use Rattle.ac_base.proofs.Small.{both}
+use Rattle.std.proofs.lemmas.Grind.{common_steps}
+use Rattle.std.proofs.lemmas.Bool.{cases_Bool}
 
 regroup : (n d p r : ℕ) → (n * 10 + d) * p + r ≡ n * (p * 10) + ((0 * 10 + d) * p + r)
 regroup n d p r = omega arith
@@ -28,8 +30,7 @@ digits_after n (c ∷ cs) =
 
 first_digit : (c : ℕ) (cs : List ℕ) → decimal (c ∷ cs) ≡ (c - 48) * 10 ^ length cs + decimal cs
 first_digit c cs =
-    let alone : decimal (c ∷ cs) ≡ (0 * 10 + (c - 48)) * 10 ^ length cs + decimal cs = digits_after (with_digit 0 c) cs in
-    omega arith
+    omega (arith, digits_after (with_digit 0 c) cs)
 
 decimal-append : (xs ys : List ℕ) → decimal (xs ++ ys) ≡ decimal xs * 10 ^ length ys + decimal ys
 decimal-append xs ys = fold-append with_digit 0 xs ys ∙ digits_after (decimal xs) ys
@@ -46,8 +47,7 @@ decimal-lt (c ∷ cs) h =
     let parts = both (is_digit c) (list_all is_digit cs) h in
     let power : 10 ^ length (c ∷ cs) ≡ 10 ^ length cs * 10 = pow-suc 10 (length cs) in
     let digit : c - 48 ≤ 9 = omega (arith, digit_below c parts.0) in
-    let most : (c - 48) * 10 ^ length cs ≤ 9 * 10 ^ length cs = mul-le (c - 48) (10 ^ length cs) 9 (10 ^ length cs) digit (omega arith) in
-    omega (arith, first_digit c cs, decimal-lt cs parts.1)
+    omega (arith, first_digit c cs, decimal-lt cs parts.1, mul-le (c - 48) (10 ^ length cs) 9 (10 ^ length cs) digit (omega arith))
 
 zero_is_digit : (c : ℕ) → is_zero c ≡ true → is_digit c ≡ true
 zero_is_digit c h = grind (arith, nat_tests)
@@ -70,15 +70,13 @@ zeros_decimal (c ∷ cs) h =
 digits_decimal : (ds : List ℕ) → list_all is_digit ds ≡ true → list_all is_zero ds ≡ false → 0 < decimal ds
 digits_decimal [] h k = absurd (cc)
 digits_decimal (c ∷ cs) h k =
-    let parts = both (is_digit c) (list_all is_digit cs) h in
     elim (is_zero c) as (λ z. is_zero c ≡ z → 0 < decimal (c ∷ cs)) [
       | true ↦ λ first.
           let rest : list_all is_zero cs ≡ false = cc in
-          omega (arith, first_digit c cs, digits_decimal cs parts.1 rest)
+          omega (arith, first_digit c cs, digits_decimal cs (both (is_digit c) (list_all is_digit cs) h).1 rest)
       | false ↦ λ first.
           let digit : 1 ≤ c - 48 = grind (arith, nat_tests) in
-          let least : 1 * 10 ^ length cs ≤ (c - 48) * 10 ^ length cs = mul-le 1 (10 ^ length cs) (c - 48) (10 ^ length cs) digit (omega arith) in
-          omega (arith, first_digit c cs, power_above_zero (length cs))
+          omega (arith, first_digit c cs, power_above_zero (length cs), mul-le 1 (10 ^ length cs) (c - 48) (10 ^ length cs) digit (omega arith))
     ] refl
 
 -- ---- the digits in d places, and those behind them
@@ -101,9 +99,8 @@ pub in_places : (d : ℕ) (ds : List ℕ)
 in_places d ds =
     let kept : ℕ = decimal (take d ds) in
     let rest : ℕ = decimal (drop d ds) in
-    let parts : decimal ds ≡ decimal (take d ds ++ drop d ds) = ap decimal (sym (take-append-drop d ds)) in
     let power : 10 ^ length (drop d ds) ≡ 10 ^ (length ds - d) = ap (λ e. 10 ^ e) (length-drop d ds) in
-    ap (λ n. n * 10 ^ d) (parts ∙ decimal-append (take d ds) (drop d ds) ∙ ap (λ p. kept * p + rest) power)
+    ap (λ n. n * 10 ^ d) ((ap decimal (sym (take-append-drop d ds))) ∙ decimal-append (take d ds) (drop d ds) ∙ ap (λ p. kept * p + rest) power)
     ∙ spread kept (10 ^ (length ds - d)) (10 ^ d) rest
     ∙ ap (λ p. kept * p + rest * 10 ^ d) (same_power d (length ds))
     ∙ gather kept (10 ^ (d - length ds)) (10 ^ length ds) (rest * 10 ^ d)
@@ -123,11 +120,9 @@ behind-lt d ds h =
           let no_place : 10 ^ (d - length ds) ≡ 1 = ap (λ e. 10 ^ e) room in
           let next : rest + 1 ≤ 10 ^ (length ds - d) = omega arith in
           let most : (rest + 1) * 10 ^ d ≤ 10 ^ (length ds - d) * 10 ^ d = mul-le (rest + 1) (10 ^ d) (10 ^ (length ds - d)) (10 ^ d) next (omega arith) in
-          let whole : 10 ^ (length ds - d) * 10 ^ d ≡ 1 * 10 ^ length ds = same_power d (length ds) ∙ ap (λ p. p * 10 ^ length ds) no_place in
-          omega (arith, power_above_zero d)
+          omega (arith, power_above_zero d, same_power d (length ds) ∙ ap (λ p. p * 10 ^ length ds) no_place)
       | inr short ↦
-          let nothing : rest * 10 ^ d ≡ 0 * 10 ^ d = ap (λ ds. decimal ds * 10 ^ d) (drop_of_length-le ds short) in
-          omega (arith, power_above_zero (length ds))
+          omega (arith, power_above_zero (length ds), ap (λ ds. decimal ds * 10 ^ d) (drop_of_length-le ds short))
     ]
 
 -- ---- millionths
@@ -158,16 +153,14 @@ fraction_millionths ds h =
     let rest : ℕ = decimal (drop 6 ds) in
     elim (list_all is_zero (drop 6 ds)) as (λ z. list_all is_zero (drop 6 ds) ≡ z → in_millionths ds (length ds) ≡ (if z then Some kept else None)) [
       | true ↦ λ zeros.
-          let nothing : rest * 1000000 ≡ 0 * 1000000 = ap (λ n. n * 1000000) (zeros_decimal (drop 6 ds) zeros) in
-          millionths-whole ds (length ds) kept (omega (arith, in_places 6 ds))
+          millionths-whole ds (length ds) kept (omega (arith, in_places 6 ds, ap (λ n. n * 1000000) (zeros_decimal (drop 6 ds) zeros)))
       | false ↦ λ some.
           let left : 0 < rest * 1000000 = omega (arith, digits_decimal (drop 6 ds) parts.1 some) in
           millionths-part ds (length ds) kept (rest * 1000000) (in_places 6 ds) left (behind-lt 6 ds parts.1)
     ] refl
 
 map_test : (t : Bool) (f : ℕ → ℕ) (x : ℕ) → option_map f (if t then Some x else None) ≡ (if t then Some (f x) else None)
-map_test true f x = refl
-map_test false f x = refl
+map_test t f x = grind (arith, common_steps, cases_Bool)
 
 widen : (w p f : ℕ) → (w * p + f) * 1000000 ≡ f * 1000000 + w * 1000000 * p
 widen w p f = omega arith
@@ -190,8 +183,7 @@ whole_and_fraction whole fraction =
     ∙ sym (map_test (f % p == 0) (λ x. w + x) (f / p))
 
 is_some_map : (t : Bool) (f : ℕ → ℕ) (x : ℕ) → is_some (option_map f (if t then Some x else None)) ≡ t
-is_some_map true f x = refl
-is_some_map false f x = refl
+is_some_map t f x = grind (arith, common_steps, cases_Bool)
 
 pub six_decimals : SixDecimals
 six_decimals whole fraction digits =

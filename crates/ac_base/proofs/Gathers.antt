@@ -4,6 +4,7 @@ use Rattle.std.proofs.lemmas.List.{take-append-drop, take-append-le, take_all}
 use Rattle.std.specs.List.{copy_within}
 use Rattle.std.specs.Io.KnownBytes.{Appends, Keeps}
 use Rattle.ac_base.specs.Gathered.{gathered}
+use Rattle.std.proofs.lemmas.Grind.{common_steps}
 
 -- the rest of a full room stands at its front
 moved : (n size : ℕ) (room : List ℕ) → size ≡ length room → n ≤ size → take (size - n) (copy_within room n size 0) ≡ drop n room
@@ -24,5 +25,4 @@ handed (Some u) (Some v) n used size room next full all some e h =
 -- a first part of a piece was put behind what is in the room
 pub filled : (a : Option (List ℕ)) (n used later : ℕ) (room next piece : List ℕ) → take later next ≡ take used room ++ take n piece
     → Appends (gathered a used room) (gathered a later next) (take n piece)
-filled None n used later room next piece put = tt
-filled (Some u) n used later room next piece put = ap (λ l. u ++ l) put ∙ sym (append_assoc u (take used room) (take n piece))
+filled a n used later room next piece put = grind (arith, common_steps)

@@ -1,9 +1,11 @@
 -- A sink that has taken all but a rest of some bytes.
-use Rattle.std.proofs.Common.{◌≡◌, ℕ, ◌∙◌, sym, ap, refl, List, [], ◌++◌, take, drop, subst, Option, Some, None, append_assoc, append-nil}
+use Rattle.std.proofs.Common.{◌≡◌, ℕ, ◌∙◌, sym, ap, List, [], ◌++◌, take, drop, subst, Option, Some, None, append_assoc}
 use Rattle.std.specs.Prelude.{⊤}
 use Rattle.std.proofs.lemmas.List.{take-append-drop}
 use Rattle.std.specs.Io.KnownBytes.{Appends, Keeps}
 use Rattle.ac_base.specs.Devices.{TakesPart}
+use Rattle.std.proofs.Common.{arith}
+use Rattle.std.proofs.lemmas.Grind.{common_steps}
 
 -- of these bytes it has taken all but the rest
 abbrev pub Leaves : Option (List ℕ) → Option (List ℕ) → List ℕ → List ℕ → Type 0
@@ -12,14 +14,10 @@ Leaves (Some xs) None bytes rest = ⊥
 Leaves (Some xs) (Some ys) bytes rest = (part : List ℕ) × (bytes ≡ part ++ rest) × (ys ≡ xs ++ part)
 
 pub leaves_start : (a : Option (List ℕ)) (bytes : List ℕ) → Leaves a a bytes bytes
-leaves_start None bytes = tt
-leaves_start (Some xs) bytes = ([], refl, sym (append-nil xs))
+leaves_start a bytes = grind (arith, common_steps)
 
 pub leaves_keeps : (a b c : Option (List ℕ)) (bytes rest : List ℕ) → Leaves a b bytes rest → Keeps b c → Leaves a c bytes rest
-leaves_keeps None b c bytes rest h k = tt
-leaves_keeps (Some u) None c bytes rest h k = absurd h
-leaves_keeps (Some u) (Some v) None bytes rest h k = absurd k
-leaves_keeps (Some u) (Some v) (Some w) bytes rest h k = (h.0, h.1, k ∙ h.2)
+leaves_keeps a b c bytes rest h k = grind (arith, common_steps)
 
 pub leaves_appends : (a b c : Option (List ℕ)) (bytes piece rest : List ℕ) → Leaves a b bytes (piece ++ rest) → Appends b c piece → Leaves a c bytes rest
 leaves_appends None b c bytes piece rest h k = tt
@@ -35,14 +33,10 @@ leaves_takes a b c bytes rest n h k =
     leaves_appends a b c bytes (take n rest) (drop n rest) (subst P (sym (take-append-drop n rest)) h) k
 
 pub leaves_none : (a b : Option (List ℕ)) (bytes : List ℕ) → Leaves a b bytes [] → Appends a b bytes
-leaves_none None b bytes h = tt
-leaves_none (Some u) None bytes h = absurd h
-leaves_none (Some u) (Some v) bytes h = h.2 ∙ ap (λ l. u ++ l) (sym (h.1 ∙ append-nil h.0))
+leaves_none a b bytes h = grind (arith, common_steps)
 
 pub leaves_part : (a b : Option (List ℕ)) (bytes rest : List ℕ) → Leaves a b bytes rest → TakesPart a b bytes
-leaves_part None b bytes rest h = tt
-leaves_part (Some u) None bytes rest h = absurd h
-leaves_part (Some u) (Some v) bytes rest h = (h.0, rest, h.1, h.2)
+leaves_part a b bytes rest h = grind (arith, common_steps)
 
 -- a part of the next piece
 pub leaves_takes_part : (a b c : Option (List ℕ)) (bytes piece rest : List ℕ) → Leaves a b bytes (piece ++ rest) → TakesPart b c piece → TakesPart a c bytes
@@ -59,15 +53,10 @@ leaves_takes_part (Some u) (Some v) (Some w) bytes piece rest h k = (
 -- ---- two pieces, one after the other
 
 pub appends_both : (a b c : Option (List ℕ)) (x y : List ℕ) → Appends a b x → Appends b c y → Appends a c (x ++ y)
-appends_both None b c x y h k = tt
-appends_both (Some u) None c x y h k = absurd h
-appends_both (Some u) (Some v) None x y h k = absurd k
-appends_both (Some u) (Some v) (Some w) x y h k = k ∙ ap (λ l. l ++ y) h ∙ append_assoc u x y
+appends_both a b c x y h k = grind (arith, common_steps)
 
 pub part_of_first : (a b : Option (List ℕ)) (x y : List ℕ) → TakesPart a b x → TakesPart a b (x ++ y)
-part_of_first None b x y h = tt
-part_of_first (Some u) None x y h = absurd h
-part_of_first (Some u) (Some v) x y h = (h.0, h.1 ++ y, ap (λ l. l ++ y) h.2 ∙ append_assoc h.0 h.1 y, h.3)
+part_of_first a b x y h = grind (arith, common_steps)
 
 pub part_of_second : (a b c : Option (List ℕ)) (x y : List ℕ) → Appends a b x → TakesPart b c y → TakesPart a c (x ++ y)
 part_of_second None b c x y h k = tt
@@ -78,5 +67,4 @@ part_of_second (Some u) (Some v) (Some w) x y h k =
 
 -- nothing was taken
 pub part_none : (a : Option (List ℕ)) (bytes : List ℕ) → TakesPart a a bytes
-part_none None bytes = tt
-part_none (Some u) bytes = ([], bytes, refl, sym (append-nil u))
+part_none a bytes = grind (arith, common_steps)

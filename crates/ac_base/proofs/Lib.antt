@@ -11,3 +11,4 @@ pub mod Sorted
 pub mod DecimalSteps
 pub mod PiecesWritten
 pub mod Pushed
+pub mod HandedOn

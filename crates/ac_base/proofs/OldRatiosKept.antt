@@ -65,8 +65,7 @@ old_fraction_kept (c ∷ cs) n h =
     let p : ℕ = 10 ^ length ds in
     let known = old_digits ds n h in
     let kept = both (nat_lt 0 (length (take 3 ds)) && nat_le (length (take 3 ds)) 3) (list_all is_digit (take 3 ds)) (cc (known.1)) in
-    let parts : (list_all is_digit (take 3 ds) && list_all is_digit (drop 3 ds)) ≡ true = ap₂ (λ x y. x && y) kept.1 (zeros_digits (drop 3 ds) known.0) in
-    let digits : are_digits (length ds) ds ≡ true = any_digits c cs ∙ digits_parts 3 ds ∙ parts in
+    let digits : are_digits (length ds) ds ≡ true = any_digits c cs ∙ digits_parts 3 ds ∙ (ap₂ (λ x y. x && y) kept.1 (zeros_digits (drop 3 ds) known.0)) in
     let value : decimal ds * 1000 ≡ n * p + 0 * 1000 = in_places 3 ds ∙ ap₂ (λ k r. k * p + r * 1000) (sym known.2) (zeros_decimal (drop 3 ds) known.0) in
     ap (λ t. if t then in_millionths ds (length ds) else None) digits ∙ millionths-whole ds (length ds) (n * 1000) (times (decimal ds) n p value)
 

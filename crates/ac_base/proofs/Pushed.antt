@@ -1,6 +1,6 @@
 -- What is pushed of texts, one after the other.
-use Rattle.std.proofs.Common.{◌≡◌, ℕ, ◌≤◌, List, ◌++◌, Option, arith, subst}
-use Rattle.std.specs.Prelude.{Result, Ok, Err, OnErr, OnOk}
+use Rattle.std.proofs.Common.{ℕ, ◌≤◌, List, ◌++◌, Option, arith}
+use Rattle.std.specs.Prelude.{Result, Ok, Err}
 use Rattle.std.specs.Result.{IsErrAnd}
 use Rattle.std.specs.Io.KnownBytes.{Appends}
 use Rattle.ac_base.specs.Devices.{Rises, TakesPart}
@@ -11,31 +11,39 @@ use Rattle.ac_base.specs.Writing.{Pushes}
 rises_later : (f g h : ℕ) → f ≤ g → g ≤ h → Rises g h → Rises f h
 rises_later f g h before after rises few = grind (arith, before, after, few, rises)
 
--- an error after a first part
-pushed_part : {X Y : Type 0} (r : Result X Y) (P : Y → Type 0) (a b : Option (List ℕ)) (f g : ℕ) (text : List ℕ) → IsErrAnd r P → TakesPart a b text → Rises f g → Pushes r a b f g text
-pushed_part (Ok x) P a b f g text is part rises = absurd is
-pushed_part (Err e) P a b f g text is part rises = (part, rises)
+later : (f g h : ℕ) → f ≤ g → g ≤ h → f ≤ h
+later f g h before after = omega arith
 
--- a text that is told by its parts
-pub pushed_told : {X Y : Type 0} (r : Result X Y) (a b : Option (List ℕ)) (f g : ℕ) (s t : List ℕ) → s ≡ t → OnOk r (Appends a b s) → OnErr r (TakesPart a b s) → OnErr r (Rises f g) → Pushes r a b f g t
-pushed_told (Ok x) a b f g s t is ok part rises = subst (Appends a b) is ok
-pushed_told (Err e) a b f g s t is ok part rises = (subst (TakesPart a b) is part, rises)
+module _ {S X Y : Type 0} (taken : S → Option (List ℕ)) (failures : S → ℕ) where
+  -- an error after a first part
+  pushed_part : (a b : S) (r : Result X Y) (P : Y → Type 0) (text : List ℕ) → IsErrAnd r P → TakesPart (taken a) (taken b) text → Rises (failures a) (failures b) → failures a ≤ failures b
+      → Pushes taken failures a b r text
+  pushed_part a b (Ok x) P text is part rises few = absurd is
+  pushed_part a b (Err e) P text is part rises few = record { ok = tt; part = part; rises = rises; failures = few }
 
--- an error within the first text is one within both
-pub pushed_first : {X Y : Type 0} (r : Result X Y) (P : Y → Type 0) (a b : Option (List ℕ)) (f g : ℕ) (x y : List ℕ) → IsErrAnd r P → TakesPart a b x → Rises f g → Pushes r a b f g (x ++ y)
-pushed_first r P a b f g x y is part rises = pushed_part r P a b f g (x ++ y) is (part_of_first a b x y part) rises
+  -- an error within the first text is one within both
+  pub pushed_first : (a b : S) (r : Result X Y) (x y : List ℕ) (P : Y → Type 0) → IsErrAnd r P → TakesPart (taken a) (taken b) x → Rises (failures a) (failures b) → failures a ≤ failures b
+      → Pushes taken failures a b r (x ++ y)
+  pushed_first a b r x y P is part rises few = pushed_part a b r P (x ++ y) is (part_of_first (taken a) (taken b) x y part) rises few
 
--- what is pushed of the second text behind the first is pushed of both
-pub pushed_on : {X Y : Type 0} (r : Result X Y) (a b c : Option (List ℕ)) (f g h : ℕ) (x y : List ℕ) → Appends a b x → f ≤ g → g ≤ h → Pushes r b c g h y → Pushes r a c f h (x ++ y)
-pushed_on (Ok v) a b c f g h x y first before after then = appends_both a b c x y first then
-pushed_on (Err e) a b c f g h x y first before after then = (part_of_second a b c x y first then.0, rises_later f g h before after then.1)
+  -- what is pushed of the second text behind the first is pushed of both
+  pub pushed_on : (a b c : S) (r : Result X Y) (x y : List ℕ) → Appends (taken a) (taken b) x → failures a ≤ failures b → Pushes taken failures b c r y → Pushes taken failures a c r (x ++ y)
+  pushed_on a b c (Ok v) x y first before then = record {
+    ok = appends_both (taken a) (taken b) (taken c) x y first then.ok;
+    part = tt;
+    rises = tt;
+    failures = later (failures a) (failures b) (failures c) before then.failures;
+  }
+  pushed_on a b c (Err e) x y first before then = record {
+    ok = tt;
+    part = part_of_second (taken a) (taken b) (taken c) x y first then.part;
+    rises = rises_later (failures a) (failures b) (failures c) before then.failures then.rises;
+    failures = later (failures a) (failures b) (failures c) before then.failures;
+  }
 
--- the same of texts that are told otherwise
-pub pushed_behind : {X Y : Type 0} (r : Result X Y) (a b c : Option (List ℕ)) (f g h : ℕ) (x y : List ℕ) {s t : List ℕ} → s ≡ x → t ≡ y → Appends a b s → f ≤ g → g ≤ h → Pushes r b c g h t → Pushes r a c f h (x ++ y)
-pushed_behind r a b c f g h x y ex ey first before after then = pushed_on r a b c f g h x y (subst (Appends a b) ex first) before after (subst (Pushes r b c g h) ey then)
-
--- an error within the next of several texts is one within all
-pub pushed_within : {X Y : Type 0} (r : Result X Y) (P : Y → Type 0) (a b c : Option (List ℕ)) (f g h : ℕ) (whole next rest : List ℕ) → Leaves a b whole (next ++ rest)
-    → f ≤ g → g ≤ h → IsErrAnd r P → TakesPart b c next → Rises g h → Pushes r a c f h whole
-pushed_within r P a b c f g h whole next rest leaves before after is part rises =
-    pushed_part r P a c f h whole is (leaves_takes_part a b c whole next rest leaves part) (rises_later f g h before after rises)
+  -- an error within the next of several texts is one within all
+  pub pushed_within : (a b c : S) (r : Result X Y) (whole next rest : List ℕ) (P : Y → Type 0) → Leaves (taken a) (taken b) whole (next ++ rest)
+      → failures a ≤ failures b → failures b ≤ failures c → IsErrAnd r P → TakesPart (taken b) (taken c) next → Rises (failures b) (failures c) → Pushes taken failures a c r whole
+  pushed_within a b c r whole next rest P leaves before after is part rises =
+      pushed_part a c r P whole is (leaves_takes_part (taken a) (taken b) (taken c) whole next rest leaves part)
+      (rises_later (failures a) (failures b) (failures c) before after rises) (later (failures a) (failures b) (failures c) before after)

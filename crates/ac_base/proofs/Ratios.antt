@@ -9,6 +9,8 @@ use Rattle.std.proofs.Math.ListN.{drop_of_length-le}
 use Rattle.ac_base.specs.Texts.{is_digit, is_zero, is_point, are_digits, number, decimal, at_most, greatest_ratio, in_millionths, ratio_value}
 use Rattle.ac_base.specs.RatioShown.{fraction_value}
 use Rattle.ac_base.proofs.Decimals.{millionths-whole, fraction_millionths, whole_and_fraction, zeros_digits, digits_parts}
+use Rattle.std.proofs.lemmas.Grind.{common_steps}
+use Rattle.std.proofs.lemmas.Bool.{cases_Bool}
 
 -- digits behind a point, read from the first six and the zeros behind them
 abbrev pub fraction_read : List ℕ → Option ℕ
@@ -17,12 +19,7 @@ fraction_read ds = if list_all is_zero (drop 6 ds) then option_map (λ v. v * 10
 join_digits : (z kept rest : Bool) (m : Option ℕ) (f : ℕ → ℕ) (k : ℕ)
     → ((kept && rest) ≡ true → m ≡ (if z then Some (f k) else None)) → (z ≡ true → rest ≡ true)
     → (if z then option_map f (if kept then Some k else None) else None) ≡ (if kept && rest then m else None)
-join_digits true true true m f k whole zeros = sym (whole refl)
-join_digits true true false m f k whole zeros = absurd (cc (zeros refl))
-join_digits false true true m f k whole zeros = sym (whole refl)
-join_digits false true false m f k whole zeros = refl
-join_digits true false rest m f k whole zeros = refl
-join_digits false false rest m f k whole zeros = refl
+join_digits z kept rest m f k whole zeros = grind (arith, common_steps, cases_Bool)
 
 -- any number of digits, and the first six
 pub any_digits : (c : ℕ) (cs : List ℕ) → are_digits (length (c ∷ cs)) (c ∷ cs) ≡ list_all is_digit (c ∷ cs)
@@ -71,10 +68,7 @@ nothing_behind b i end =
 join_parts : (d l a : Bool) (f : Option ℕ) (w : ℕ) (g : ℕ → Option ℕ) → (l ≡ false → f ≡ Some 0)
     → option_and_then g (option_and_then (λ y. option_map (λ x. y * 1000000 + x) (if l then if a then f else None else Some 0)) (if d then Some w else None))
     ≡ (if d && (not l || a) then option_and_then g (option_map (λ x. w * 1000000 + x) f) else None)
-join_parts false l a f w g h = refl
-join_parts true true true f w g h = refl
-join_parts true true false f w g h = refl
-join_parts true false a f w g h = ap (λ o. option_and_then g (option_map (λ x. w * 1000000 + x) o)) (sym (h refl))
+join_parts d l a f w g h = grind (arith, common_steps, cases_Bool)
 
 -- what is read of a text with its point at this place
 abbrev ratio_read : List ℕ → ℕ → Option ℕ
@@ -91,10 +85,9 @@ unfolding ratio_value number fraction_value
 ratio_at b i place =
     let w : List ℕ = take i b in
     let f : List ℕ = drop (i + 1) b in
-    let inside : i ≤ length b = omega (arith, prefix_len-le-length (λ c. not (is_point c)) b) in
     let all : ℕ → Option ℕ = λ k. in_millionths (take k b ++ drop (k + 1) b) (length (drop (k + 1) b)) in
     join_parts (are_digits 7 w) (nat_lt i (length b)) (are_digits (length f) f) (in_millionths f (length f)) (decimal w) (at_most greatest_ratio) (nothing_behind b i)
-    ∙ ap₂ (ratio_of w f) (sym (ends_there b i inside)) (sym (whole_and_fraction w f))
+    ∙ ap₂ (ratio_of w f) (sym (ends_there b i (omega (arith, prefix_len-le-length (λ c. not (is_point c)) b)))) (sym (whole_and_fraction w f))
     ∙ ap (λ k. ratio_of (take k b) (drop (k + 1) b) (length (take k b) == length b) (all k)) place
 
 -- the ratio of what was read before the point and behind it

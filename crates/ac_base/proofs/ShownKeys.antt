@@ -1,17 +1,17 @@
 -- Maps and sets whose keys are shown as something else, in the same order: what a look-up or a change does to what is shown.
-use Rattle.std.proofs.Common.{◌≡◌, Bool, true, false, List, [], ◌∷◌, map, Option, Some, None, refl, sym, ap, ◌∙◌, if◌then◌else◌, is_some}
+use Rattle.std.proofs.Common.{◌≡◌, Bool, List, [], ◌∷◌, map, Option, Some, refl, sym, ap, ◌∙◌, if◌then◌else◌, is_some}
 use Rattle.std.specs.declared.cmp.Ordering.{Ordering}
-use Rattle.std.specs.declared.cmp.Ordering.TheVariants.{Less, Equal, Greater}
 use Rattle.std.specs.Ordering.{match_ordering, is_eq}
 use Rattle.std.specs.Map.{lookup}
 use Rattle.std.specs.Option.{option_map}
 use Rattle.std.specs.BTreeMap.{insert_entry, is_at}
 use Rattle.std.specs.BTreeSet.{insert_key}
+use Rattle.std.proofs.Common.{arith}
+use Rattle.std.proofs.lemmas.Grind.{common_steps}
+use Rattle.std.proofs.lemmas.Bool.{cases_Bool}
 
-map_match : {A B : Type 0} (f : A → B) (o : Ordering) (x y z : List A) → map f (match_ordering o x y z) ≡ match_ordering o (map f x) (map f y) (map f z)
-map_match f Less x y z = refl
-map_match f Equal x y z = refl
-map_match f Greater x y z = refl
+pub map_match : {A B : Type 0} (f : A → B) (o : Ordering) (x y z : List A) → map f (match_ordering o x y z) ≡ match_ordering o (map f x) (map f y) (map f z)
+map_match f o x y z = grind (arith, common_steps)
 
 -- entries whose keys are shown by f and ordered as shown
 module _ {K L X Y : Type 0} (f : K → L) (g : X → Y) (cmp : K → K → Ordering) (shown_cmp : L → L → Ordering) (same : (a b : K) → cmp a b ≡ shown_cmp (f a) (f b)) where
@@ -33,15 +33,13 @@ module _ {K L X Y : Type 0} (f : K → L) (g : X → Y) (cmp : K → K → Order
       ∙ map_if (is_at (cmp k) e.0) e.1 (lookup (is_at (cmp k)) es)
     where
       map_if : (b : Bool) (x : X) (o : Option X) → (if b then Some (g x) else option_map g o) ≡ option_map g (if b then Some x else o)
-      map_if true x o = refl
-      map_if false x o = refl
+      map_if b x o = grind (arith, common_steps, cases_Bool)
 
   pub is_some_shown : (es : List (K × X)) (k : K) → is_some (lookup (is_at (shown_cmp (f k))) (map show es)) ≡ is_some (lookup (is_at (cmp k)) es)
   is_some_shown es k = ap is_some (lookup_shown es k) ∙ is_some_map (lookup (is_at (cmp k)) es)
     where
       is_some_map : (o : Option X) → is_some (option_map g o) ≡ is_some o
-      is_some_map None = refl
-      is_some_map (Some x) = refl
+      is_some_map o = grind (arith, common_steps)
 
 -- a set of keys
 module _ {K L : Type 0} (f : K → L) (cmp : K → K → Ordering) (shown_cmp : L → L → Ordering) (same : (a b : K) → cmp a b ≡ shown_cmp (f a) (f b)) where

@@ -1,30 +1,27 @@
 -- Small facts of numbers, of truth values, of options, of results and of texts.
-use Rattle.std.proofs.Common.{◌≡◌, ◌≢◌, ◌&&◌, List, sym, option_map, ◌+◌, ◌<◌, ◌≤◌, ℕ, Bool, true, false, Option, Some, None, Result, Ok, Err, refl, arith, rules, inl, inr, ◌⊎◌, ◌==◌, ◌||◌, min, not, is_some, subst}
+use Rattle.std.proofs.Common.{◌≡◌, ◌≢◌, ◌&&◌, List, sym, option_map, ◌+◌, ◌<◌, ◌≤◌, ℕ, Bool, true, false, Option, Some, None, Result, refl, arith, rules, inl, inr, ◌⊎◌, ◌==◌, ◌||◌, min, not, is_some, subst}
 use Rattle.std.proofs.lemmas.Bool.{cases_lt}
 use Rattle.std.specs.Cmp.{both_ways}
 use Rattle.std.specs.Result.{IfErr, IsErrAnd}
 use Rattle.std.specs.Str.{bytes_eq}
 use Rattle.std.proofs.lemmas.Slice.Eq.{bytes_eq-Decides}
+use Rattle.std.proofs.lemmas.Grind.{common_steps}
+use Rattle.std.proofs.lemmas.Bool.{cases_Bool}
 
 pub clash : (b : Bool) → b ≡ false → b ≡ true → ⊥
 clash b e f = cc
 
 pub not_false : (b : Bool) → not b ≡ false → b ≡ true
-not_false true e = refl
-not_false false e = absurd (cc)
+not_false b e = grind (arith, common_steps, cases_Bool)
 
 pub or_again : (b c : Bool) → (b || c) ≡ (b || (b || c))
-or_again true c = refl
-or_again false c = refl
+or_again b c = grind (arith, common_steps, cases_Bool)
 
 pub or_swapped : (a b c : Bool) → (a || (b || c)) ≡ (b || (a || c))
-or_swapped true true c = refl
-or_swapped true false c = refl
-or_swapped false b c = refl
+or_swapped a b c = grind (arith, common_steps, cases_Bool)
 
 pub or_grouped : (a b c : Bool) → (a || (b || c)) ≡ ((a || b) || c)
-or_grouped true b c = refl
-or_grouped false b c = refl
+or_grouped a b c = grind (arith, common_steps, cases_Bool)
 
 pub equal : (a b : ℕ) → a ≡ b → (a == b) ≡ true
 equal a b e = search (arith, rules)
@@ -56,8 +53,7 @@ pub one_more : (P : ℕ → Type 0) (n : ℕ) → ((b : ℕ) → b < n → P b) 
 one_more P n first last b h = elim (cases_lt b n) [ inl less ↦ first b less | inr e ↦ (let same : n ≡ b = omega (arith, e, h) in subst P same last) ]
 
 pub none_is : (o : Option ℕ) → is_some o ≡ false → o ≡ None
-none_is None e = refl
-none_is (Some x) e = absurd (cc)
+none_is o e = grind (arith, common_steps)
 
 -- texts are equal both ways
 pub eq_turned : (a b : List ℕ) → bytes_eq a b ≡ bytes_eq b a
@@ -65,15 +61,12 @@ eq_turned a b = both_ways (bytes_eq a b) (bytes_eq b a) (λ e. (bytes_eq-Decides
 
 -- two tests that both pass
 pub both : (a b : Bool) → (a && b) ≡ true → (a ≡ true) × (b ≡ true)
-both true b h = (refl, h)
-both false b h = absurd (cc)
+both a b h = grind (arith, common_steps, cases_Bool)
 
 -- what is no `Some` maps to `None`
 pub none_unless : {X Y : Type 0} (f : X → Y) (o : Option X) → ((x : X) × (o ≡ Some x) → ⊥) → None ≡ option_map f o
-none_unless f None never = refl
-none_unless f (Some x) never = absurd (never (x, refl))
+none_unless f o never = grind (arith, common_steps)
 
 -- what a `?` hands on, where both errors are of one type
 pub handed_on : {T E : Type 0} (r : Result T E) (e : E) (P : E → Type 0) → IsErrAnd r (λ y. y ≡ e) → P e → IfErr r P
-handed_on (Ok x) e P h p = tt
-handed_on (Err y) e P h p = subst P (sym h) p
+handed_on r e a2 h p = grind (arith, common_steps)

@@ -8,6 +8,7 @@ pub mod RatioShown
 pub mod OldRatios
 pub mod Laws
 pub mod Gathered
+pub mod Below
 pub mod Sorted
 pub mod Rows
 pub mod Pieces

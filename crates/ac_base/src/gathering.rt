@@ -19,12 +19,15 @@ pub struct Gathering<W> {
 }
 
 impl<W: Sink> Gathering<W> {
+    ghost use Rattle.ac_base.specs.Below.{sink_below};
+
     /// A sink above another, with a room that isn't empty; its bytes are written over.
     pub fn new(sink: W, room: Vec<u8>) -> Self
         requires { 0 < vec_len room }
         ensures taken { Keeps (W.taken sink) (⟦<Gathering<W> as Sink>⟧.taken result) }
         ensures failures { ⟦<Gathering<W> as Sink>⟧.failures result ≡ W.failures sink }
         ensures breaks { ⟦<Gathering<W> as Sink>⟧.breaks result ≡ W.breaks sink }
+        ensures below { sink_below result ≡ sink }
     {
         Gathering {
             sink,
@@ -60,6 +63,7 @@ impl<W: Sink> Gathering<W> {
         ensures part { IsFirstPart (⟦<Gathering<W> as Sink>⟧.taken self) (W.taken result) }
         ensures failures { W.failures result ≡ ⟦<Gathering<W> as Sink>⟧.failures self }
         ensures breaks { W.breaks result ≡ ⟦<Gathering<W> as Sink>⟧.breaks self }
+        ensures below { result ≡ sink_below self }
     {
         self.sink
     }

@@ -1,2 +1,2 @@
-pub mod Opening
+pub mod Files
 pub mod Program

@@ -1,6 +1,5 @@
 -- How the program ends, and what it leaves on its streams.
-use Rattle.std.specs.Prelude.{◌≡◌, ◌≢◌, ◌<◌, ◌≤◌, ◌⊎◌, ℕ, zero, Bool, false, true, List, [], ◌∷◌, ◌++◌, codes, length, Option, Some, None, Contains}
-use Rattle.std.specs.Option.{option_map}
+use Rattle.std.specs.Prelude.{◌≡◌, ◌≢◌, ◌<◌, ◌≤◌, ◌⊎◌, ℕ, zero, List, [], ◌∷◌, ◌++◌, codes, length, Option, Some, None, Contains, if◌then◌else◌}
 use Rattle.std.specs.Io.KnownBytes.{Appends, Keeps, append_known}
 use Rattle.clap.specs.Words.{IsAmong, Kinds, Row, Text}
 use Rattle.clap.specs.declared.error.kind.ErrorKind.{ErrorKind}
@@ -10,23 +9,19 @@ use Rattle.ac_base.specs.Gathered.{IsFirstPart}
 use Rattle.ac_tables.specs.declared.fault.Table.{Table}
 use Rattle.ac_query.specs.declared.version.Version.{Version}
 use Rattle.ac_query.specs.declared.version.Version.TheVariants.{V136}
-use Rattle.ac_detail.specs.Details.{Paths, detailed_answer}
-use Rattle.ac_detail.specs.Run.{IsUnreadInDetail}
 use Rattle.ac_remedies.specs.Tables.{unread_remedy}
-use Rattle.ac_run.specs.Answer.{Outcome, Task, answer}
+use Rattle.ac_run.specs.Answer.{Outcome, answer}
 use Rattle.ac_run.specs.Feeds.{Bytes, FeedRose, TellBytes}
 use Rattle.ac_run.specs.Lines.{memory_line, output_line, unreadable_line}
 use Rattle.ac_run.specs.Run.{FailsOr, IsAnswered, IsRefused, IsUnread}
 use Rattle.ac_base.specs.Writing.{TakesLine}
-use Rattle.ac_run.specs.declared.job.Command.{Command}
-use Rattle.ac_run.specs.declared.job.Command.TheVariants.{Check, Tokens}
+use Rattle.ac_run.specs.Tasks.{Command, Paths, Task, check, tokens}
 use Rattle.ac_session.specs.Lines.{most_passed}
-use Rattle.ac_session.specs.Sessions.{AreUnread, detailed_session, session_answer}
+use Rattle.ac_session.specs.Sessions.{AreUnread, session_answer}
 use Rattle.ac_tables.specs.declared.read.FiveTables.{FiveTables}
-use Rattle.ac_cli.specs.Opening.{AreOpened}
-use Rattle.ac_words.specs.Words.{Line, Says, faults, named, path_of}
-use Rattle.ac_words.specs.declared.words.Call.{Call}
-use Rattle.ac_words.specs.declared.words.Call.TheVariants.{Job, Session}
+use Rattle.ac_cli.specs.Files.{AreOpened}
+use Rattle.ac_words.specs.Words.{Line, Says, faults, named, task_in}
+use Rattle.ac_tables.specs.FiveTables.{table_in}
 
 -- ---- the streams
 
@@ -78,35 +73,36 @@ pub record Ran {R : Type 0} (remaining : R → Option (List ℕ)) (said : Bytes 
   pub memory : given ≡ 7 → IsLine s memory_line
   pub part : 6 ≤ given → (b : Bytes) → TellBytes remaining from b → IsFirstPart (append_known s.out_old (said b).output) s.out_new
   pub status : Contains (0 ∷ 1 ∷ 3 ∷ 4 ∷ 5 ∷ 6 ∷ 7 ∷ []) given
+  pub failures : s.err_before ≤ s.err_after
 
--- the feed of a table failed, which the line says; in detail, with what stands behind it
-abbrev pub Unread : {R : Type 0} → (R → ℕ) → FiveTables R → FiveTables R → Streams → Table → Type 0
-Unread failures from to s t = IsUnread (FeedRose failures from to t) t s.err_old s.err_new s.err_before s.err_after
-
-abbrev pub UnreadInDetail : {R : Type 0} → (R → ℕ) → Paths → FiveTables R → FiveTables R → Streams → Table → Type 0
-UnreadInDetail failures paths from to s t = IsUnreadInDetail (FeedRose failures from to t) paths t s.err_old s.err_new s.err_before s.err_after
+-- the feed of a table failed, which the line says, with what stands behind it where more is told
+abbrev pub Unread : {R : Type 0} → (R → ℕ) → Option Paths → FiveTables R → FiveTables R → Streams → Table → Type 0
+Unread failures detail from to s t = IsUnread (FeedRose failures from to t) detail t s.err_old s.err_new s.err_before s.err_after
 
 -- a task was run over feeds that were these before and after
 abbrev pub RanTask : {R : Type 0} → (R → Option (List ℕ)) → (R → ℕ) → Task → FiveTables R → FiveTables R → Streams → ℕ → Type 0
-RanTask remaining failures task from to s given = Ran remaining (answer task) (Unread failures from to s) from s given
+RanTask remaining failures task from to s given = Ran remaining (answer task) (Unread failures task.detail from to s) from s given
 
--- what is told behind the answer to a check in detail that is accepted, where no table of usages is given
 unfoldable pub usages_note : List ℕ
 usages_note = codes "usages: no table is given, so nothing counts as used\n"
 
-abbrev pub note_of : Command → Option (List ℕ) → ℕ → List ℕ
-note_of Check None zero = usages_note
+-- what is told behind the answer to a check that is accepted, where more is told and no table of usages is given
+abbrev pub note_for : Option (List ℕ) → List ℕ
+note_for None = usages_note
+note_for (Some path) = []
+
+abbrev pub note_of : Command → Option Paths → ℕ → List ℕ
+note_of check (Some paths) zero = note_for paths.usages
 note_of _ _ _ = []
 
--- A task was run in detail over feeds that were these before and after, and then a note was told. In between the error stream had failed no more often than
--- in the end, so a line that is missing there failed to be written.
-pub record RanInDetail {R : Type 0} (remaining : R → Option (List ℕ)) (failures : R → ℕ) (paths : Paths) (task : Task) (from to : FiveTables R) (s : Streams) (given : ℕ) : Type 0 where
+-- A task was run over feeds that were these before and after, and then a note was told. In between the error stream had failed no more often than in the end,
+-- and no less often than at first, so a line that is missing failed to be written.
+pub record RanJob {R : Type 0} (remaining : R → Option (List ℕ)) (failures : R → ℕ) (task : Task) (from to : FiveTables R) (s : Streams) (given : ℕ) : Type 0 where
   pub err : Option (List ℕ)
   pub count : ℕ
   pub later : count ≤ s.err_after
-  pub ran : Ran remaining (detailed_answer paths task) (UnreadInDetail failures paths from to (record s { err_new = err; err_after = count })) from
-      (record s { err_new = err; err_after = count }) given
-  pub note : TakesLine err s.err_new count s.err_after (note_of task.command (option_map (λ path. path.now) paths.usages) given)
+  pub ran : RanTask remaining failures task from to (record s { err_new = err; err_after = count }) given
+  pub note : TakesLine err s.err_new count s.err_after (note_of task.command task.detail given)
 
 -- ---- a session
 
@@ -123,55 +119,41 @@ pub record RanSession {R Q : Type 0} (remaining : R → Option (List ℕ)) (said
   pub part : (b : Bytes) → TellBytes remaining from b → (q : List ℕ) → asked first ≡ Some q → length q < most_passed
       → IsFirstPart (append_known s.out_old (said b q).output) s.out_new
   pub status : Contains (0 ∷ 3 ∷ 6 ∷ 7 ∷ []) given
+  pub failures : s.err_before ≤ s.err_after
 
--- a session was held over feeds of tables that were these before and after, with these questions; in detail, or not
+-- a session was held over feeds of tables that were these before and after, with these questions
 abbrev pub HeldSession : {R Q : Type 0} → (R → Option (List ℕ)) → (R → ℕ) → (Q → Option (List ℕ)) → (Q → ℕ)
-    → Bool → Paths → Version → FiveTables R → FiveTables R → Q → Streams → ℕ → Type 0
-HeldSession {R} {Q} remaining failures asked fails false paths version from to questions s given =
-    (last : Q) × RanSession remaining (session_answer version) (Unread failures from to s) asked fails from questions last s given
-HeldSession {R} {Q} remaining failures asked fails true paths version from to questions s given =
-    (last : Q) × RanSession remaining (detailed_session version paths) (UnreadInDetail failures paths from to s) asked fails from questions last s given
+    → Option Paths → Version → FiveTables R → FiveTables R → Q → Streams → ℕ → Type 0
+HeldSession {R} {Q} remaining failures asked fails detail version from to questions s given =
+    (last : Q) × RanSession remaining (session_answer detail version) (Unread failures detail from to s) asked fails from questions last s given
 
 -- ---- words that were accepted
 
--- the task that a line asks for, with its command
-abbrev pub task_asked : Line → Command → Task
-task_asked line command = record { command = command; query = line.query; version = line.version; token = line.token; host = line.host; detail = line.detail; traits = line.with_traits; sum = line.sum }
+-- the paths of a line, where more is to be told
+abbrev pub detail_in : Line → Option Paths
+detail_in line = if line.detail then Some line.paths else None
 
--- a job was run over feeds of tables that were these before and after; in detail, or not
-abbrev pub RanJob : {R : Type 0} → (R → Option (List ℕ)) → (R → ℕ) → Bool → Paths → Task → FiveTables R → FiveTables R → Streams → ℕ → Type 0
-RanJob remaining failures false paths task from to s given = RanTask remaining failures task from to s given
-RanJob remaining failures true paths task from to s given = RanInDetail remaining failures paths task from to s given
-
--- The paths are those of the line.
-pub record ArePathsOf (line : Line) (paths : Paths) : Type 0 where
-  pub providers : paths.providers.now ≡ line.providers
-  pub inventories : paths.inventories.now ≡ line.inventories
-  pub usages : option_map (λ path. path.now) paths.usages ≡ line.usages
-  pub traits : option_map (λ path. path.now) paths.traits ≡ line.traits
-  pub aggregates : option_map (λ path. path.now) paths.aggregates ≡ line.aggregates
-
--- what a line calls for was done over feeds of tables that were these before and after: a job was run, or a session was held
+-- what a line calls for was done over feeds of tables that were these before and after: a task was run, or a session was held
 abbrev pub RanCall : {R Q : Type 0} → (R → Option (List ℕ)) → (R → ℕ) → (Q → Option (List ℕ)) → (Q → ℕ)
-    → Call → Line → Paths → FiveTables R → FiveTables R → Q → Streams → ℕ → Type 0
-RanCall remaining failures asked fails (Job command) line paths from to questions s given =
-    RanJob remaining failures line.detail paths (task_asked line command) from to s given
-RanCall remaining failures asked fails Session line paths from to questions s given =
-    HeldSession remaining failures asked fails line.detail paths line.version from to questions s given
+    → Option Task → Line → FiveTables R → FiveTables R → Q → Streams → ℕ → Type 0
+RanCall remaining failures asked fails (Some task) line from to questions s given = RanJob remaining failures task from to s given
+RanCall remaining failures asked fails None line from to questions s given =
+    HeldSession remaining failures asked fails (detail_in line) line.version from to questions s given
 
--- a refused path is told; in detail, with the reason that was given for it, or else want of memory for that
-abbrev pub IsToldUnopened : Bool → Table → Text → Text → (List ℕ → Type 0) → ℕ → Type 0
-IsToldUnopened false table path reason Told given = Told (unreadable_line table) × (given ≡ 3)
-IsToldUnopened true table path reason Told given = (Told (unreadable_line table ++ unread_remedy path (Some reason)) × (given ≡ 3)) ⊎ (Told memory_line × (given ≡ 7))
+-- a refused path is told; where more is told, with the reason that was given for it, or else want of memory for that
+abbrev pub IsToldUnopened : Option Paths → Table → Text → Text → (List ℕ → Type 0) → ℕ → Type 0
+IsToldUnopened None table path reason Told given = Told (unreadable_line table) × (given ≡ 3)
+IsToldUnopened (Some paths) table path reason Told given =
+    (Told (unreadable_line table ++ unread_remedy path (Some reason)) × (given ≡ 3)) ⊎ (Told memory_line × (given ≡ 7))
 
 -- The path that is given for a table was refused, which is told.
 pub record IsUnopened (refuses : List ℕ → List ℕ → Type 0) (line : Line) (s : Streams) (given : ℕ) : Type 0 where
   pub table : Table
   pub path : Text
   pub reason : Text
-  pub named : path_of line table ≡ Some path
+  pub named : table_in line.paths table ≡ Some path
   pub refused : refuses path reason
-  pub told : IsToldUnopened line.detail table path reason (IsLine s) given
+  pub told : IsToldUnopened (detail_in line) table path reason (IsLine s) given
   pub output : s.out_new ≡ s.out_old
 
 -- What a line calls for was done over what was opened at its paths.
@@ -179,10 +161,8 @@ pub record RanOpened {R Q : Type 0} (opens : List ℕ → R → Type 0) (remaini
     (asked : Q → Option (List ℕ)) (fails : Q → ℕ) (questions : Q) (line : Line) (s : Streams) (status : ℕ) : Type 0 where
   pub from : FiveTables R
   pub to : FiveTables R
-  pub files : AreOpened opens line from
-  pub paths : Paths
-  pub given : ArePathsOf line paths
-  pub ran : RanCall remaining failures asked fails line.call line paths from to questions s status
+  pub files : AreOpened opens line.paths from
+  pub ran : RanCall remaining failures asked fails (task_in line (detail_in line)) line from to questions s status
 
 abbrev pub EndsForLine : {R Q : Type 0} → (List ℕ → R → Type 0) → (List ℕ → List ℕ → Type 0) → (R → Option (List ℕ)) → (R → ℕ) → (Q → Option (List ℕ)) → (Q → ℕ)
     → Q → Line → Streams → ℕ → Type 0
@@ -227,7 +207,7 @@ EndsForWords Ends words s given =
 
 -- the task and the tables of a call without words
 abbrev pub sample_task : Task
-sample_task = record { command = Tokens; query = codes "resources=VCPU:2"; version = V136; token = None; host = None; detail = false; traits = true; sum = false }
+sample_task = record { command = tokens None; query = codes "resources=VCPU:2"; version = V136; detail = None }
 
 unfoldable pub sample_bytes : Bytes
 sample_bytes = record {

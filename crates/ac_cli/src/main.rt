@@ -1,15 +1,15 @@
 //! Which providers of a cloud could host a workload, asked of exported Placement tables.
 #![tactic(auto)]
 
+mod files;
 mod host;
-mod opening;
 mod program;
 mod sample;
 
 use ac_base::{FromRead, ToWrite};
 pub use ac_run::{Command, Inputs, Job, run};
 pub use ac_session::{Lines, run_session};
-pub use ac_words::{Call, WordFault, Words, read_words};
+pub use ac_words::{WordFault, Words, read_words};
 use std::process::ExitCode;
 
 fn main(rt: HostRuntime) -> ExitCode {

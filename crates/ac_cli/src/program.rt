@@ -1,25 +1,24 @@
 //! The program around a run: its words, its files and its streams.
-ghost use Rattle.std.specs.Prelude.{◌≡◌, ◌≤◌, [], is_some, map, option_map, string_bytes, true};
-ghost use Rattle.std.specs.Option.{unwrap_or};
+ghost use Rattle.std.specs.Prelude.{◌≡◌, ◌≤◌, map, string_bytes};
 ghost use Rattle.std.specs.Io.KnownBytes.{Appends};
 ghost use Rattle.ac_base.specs.Devices.{Rises, TakesPart};
-ghost use Rattle.ac_run.specs.Jobs.{HasToken};
-ghost use Rattle.ac_run.specs.Jobs.{task_of};
 ghost use Rattle.ac_base.specs.Writing.{TakesLine};
-ghost use Rattle.ac_words.specs.Words.{HasItsToken, path_of};
-ghost use Rattle.ac_cli.specs.Program.{ArePathsOf, EndsForLine, EndsForWords, EndsProgram, HeldSession, IsShown, IsToldUnopened, RanInDetail, RanJob, RanSample, RanTask, note_of, seen};
+ghost use Rattle.ac_run.specs.Tasks.{command_shown, detail_shown, paths_shown, task_of};
+ghost use Rattle.ac_cli.specs.Program.{EndsForLine, EndsForWords, EndsProgram, HeldSession, IsShown, IsToldUnopened, RanJob, RanSample, RanTask, detail_in, note_of, seen};
 
+use crate::files::{Unopened, opened_inputs};
 use crate::host::{Host, Unworded};
-use crate::opening::{Unopened, opened_inputs};
 use crate::sample;
-use ac_base::{Feed, FromRead, Sink, push_all};
-use ac_detail::{Paths, Refused, run_detailed, tell_detailed};
+use ac_base::{Feed, FromRead, Gathering, Sink, push_all};
+use ac_query::Version;
 use ac_remedies::unread_remedy;
-use ac_run::{Command, Inputs, Job, Refusal, run_gathered, tell};
-use ac_session::{Lines, run_session, run_session_detailed};
-use ac_tables::Table;
+use ac_run::{Command, Inputs, Job, Paths, Refusal, Refused, TablesRefusal, run, tell};
+use ac_session::{Lines, run_session};
 use ac_words::{WordFault, Words, read_words};
 use std::alloc::Global;
+
+// How many bytes of output are gathered before they are handed on.
+const ROOM: usize = 65536;
 
 // Tells a text. What the sink doesn't take of it is dropped.
 fn tell_text<E: Sink>(err: &mut E, text: &[u8])
@@ -31,7 +30,8 @@ fn tell_text<E: Sink>(err: &mut E, text: &[u8])
     let _ = push_all(err, text);
 }
 
-// Runs a job: its status, and the output sink.
+// Runs a job, and gathers its output: it is handed on in pieces of 65536 bytes, and at the end. Gives the status, and the output sink. Of an answer that
+// ends with 6 or 7 the last piece isn't handed on.
 fn ran<F: Feed, W: Sink + Drop, E: Sink>(
     alloc: Global,
     job: &Job<'_>,
@@ -39,127 +39,108 @@ fn ran<F: Feed, W: Sink + Drop, E: Sink>(
     out: W,
     err: &mut E,
 ) -> (u8, W)
-    requires { HasToken job.now.command (option_map (λ token. token.now) job.now.token) }
     ensures { RanTask F.remaining F.failures (task_of job.now) inputs.old inputs.new
         (seen W.taken W.failures E.taken E.failures out result.1 err.old err.new) result.0 }
 {
-    run_gathered(alloc, job, inputs, out, err)
+    let Ok(room) = vec![in alloc; 0u8; ROOM] else {
+        return (tell(err, &Refused::of(alloc, Refusal::NoMemory)), out);
+    };
+    let mut gathering = Gathering::new(out, room);
+    let status = run(alloc, job, inputs, &mut gathering, err);
+    if status > 1 {
+        return (status, gathering.into_inner());
+    }
+    match gathering.finish() {
+        (Ok(()), out) => (status, out),
+        (Err(_), out) => (tell(err, &Refused::of(alloc, Refusal::Output)), out),
+    }
 }
 
-// What is told behind the answer of a command in detail.
+// What is told behind the answer to a job.
 #[tactic(auto, unfolding(crate::specs::Program::usages_note))]
-fn note_of(command: Command, usages: Option<&str>, status: u8) -> &'static [u8]
-    ensures { result.now ≡ note_of command (option_map (λ path. path.now) usages.entry) status }
+fn note_of(job: &Job<'_>, status: u8) -> &'static [u8]
+    ensures { result.now ≡ note_of (task_of job.now).command (task_of job.now).detail status }
 {
-    match (command, usages, status) {
-        (Command::Check, None, 0) => b"usages: no table is given, so nothing counts as used\n",
+    match (job.command, job.detail, status) {
+        (Command::Check, Some(Paths { usages: None, .. }), 0) => {
+            b"usages: no table is given, so nothing counts as used\n"
+        }
         _ => b"",
     }
 }
 
-// Runs a job in detail, and then tells a note: its status, and the output sink.
-fn ran_in_detail<F: Feed, W: Sink + Drop, E: Sink>(
-    alloc: Global,
-    job: &Job<'_>,
-    paths: &Paths<'_>,
-    inputs: &mut Inputs<F>,
-    out: W,
-    err: &mut E,
-) -> (u8, W)
-    requires { HasToken job.now.command (option_map (λ token. token.now) job.now.token) }
-    ensures { RanInDetail F.remaining F.failures paths.now (task_of job.now) inputs.old inputs.new
-        (seen W.taken W.failures E.taken E.failures out result.1 err.old err.new) result.0 }
-{
-    let (status, out) = run_detailed(alloc, job, paths, inputs, out, err);
-    tell_text(err, note_of(job.command, paths.usages, status));
-    (status, out)
-}
-
-// Runs a job, in detail where that is asked: its status, and the output sink.
+// Runs a job, and then tells a note: its status, and the output sink.
 fn ran_job<F: Feed, W: Sink + Drop, E: Sink>(
     alloc: Global,
     job: &Job<'_>,
-    paths: &Paths<'_>,
     inputs: &mut Inputs<F>,
     out: W,
     err: &mut E,
 ) -> (u8, W)
-    requires { HasToken job.now.command (option_map (λ token. token.now) job.now.token) }
-    ensures { RanJob F.remaining F.failures job.now.detail paths.now (task_of job.now) inputs.old
-        inputs.new
+    ensures { RanJob F.remaining F.failures (task_of job.now) inputs.old inputs.new
         (seen W.taken W.failures E.taken E.failures out result.1 err.old err.new) result.0 }
 {
-    if job.detail {
-        ran_in_detail(alloc, job, paths, inputs, out, err)
-    } else {
-        ran(alloc, job, inputs, out, err)
-    }
+    let (status, out) = ran(alloc, job, inputs, out, err);
+    tell_text(err, note_of(job, status));
+    (status, out)
 }
 
-// The paths of the tables' files.
-fn paths_of(words: &Words) -> Paths<'_>
-    ensures { ArePathsOf words.now result }
-{
-    Paths {
-        providers: words.path(Table::Providers).unwrap_or(""),
-        inventories: words.path(Table::Inventories).unwrap_or(""),
-        usages: words.path(Table::Usages),
-        traits: words.path(Table::Traits),
-        aggregates: words.path(Table::Aggregates),
-    }
-}
-
-// Holds a session, in detail where that is asked: its status, and the output sink.
+// Holds a session: its status, and the output sink.
 fn held<F: Feed, Q: Feed + Drop, W: Sink + Drop, E: Sink>(
     alloc: Global,
-    words: &Words,
-    paths: &Paths<'_>,
+    version: Version,
+    detail: Option<&Paths<'_>>,
     inputs: &mut Inputs<F>,
     questions: Q,
     out: W,
     err: &mut E,
 ) -> (u8, W)
-    ensures { HeldSession F.remaining F.failures Q.remaining Q.failures words.now.detail paths.now
-        words.now.version inputs.old inputs.new questions
+    ensures { HeldSession F.remaining F.failures Q.remaining Q.failures (detail_shown detail)
+        version inputs.old inputs.new questions
         (seen W.taken W.failures E.taken E.failures out result.1 err.old err.new) result.0 }
 {
-    let Ok(mut lines) = Lines::new(alloc, questions) else {
-        return (tell(err, &Refusal::NoMemory), out);
-    };
-    let version = words.version();
-    if words.detail() {
-        run_session_detailed(alloc, version, paths, inputs, &mut lines, out, err)
-    } else {
-        run_session(alloc, version, inputs, &mut lines, out, err)
+    match Lines::new(alloc, questions) {
+        Ok(mut lines) => run_session(alloc, version, detail, inputs, &mut lines, out, err),
+        Err(_) => (tell(err, &Refused::of(alloc, Refusal::NoMemory)), out),
     }
 }
 
 // Writes a text that was asked for.
-fn show<W: Sink + Drop, E: Sink>(text: &str, mut out: W, err: &mut E) -> (u8, W)
+fn show<W: Sink + Drop, E: Sink>(alloc: Global, text: &str, mut out: W, err: &mut E) -> (u8, W)
     ensures { IsShown text.now (seen W.taken W.failures E.taken E.failures out result.1 err.old
         err.new) result.0 }
 {
     match push_all(&mut out, text.as_bytes()) {
         Ok(()) => (0, out),
-        Err(_) => (tell(err, &Refusal::Output), out),
+        Err(_) => (tell(err, &Refused::of(alloc, Refusal::Output)), out),
     }
 }
 
-// Tells that the file of a table can't be opened, in detail where that is asked: its status.
-fn tell_unopened<E: Sink>(alloc: Global, words: &Words, unopened: &Unopened, err: &mut E) -> u8
-    requires { is_some (path_of words.now unopened.now.table) ≡ true }
-    ensures { IsToldUnopened words.now.detail unopened.now.table
-        (unwrap_or (path_of words.now unopened.now.table) []) unopened.now.reason.now
-        (λ line. TakesLine (E.taken err.old) (E.taken err.new) (E.failures err.old)
-        (E.failures err.new) line) result }
+// Tells that the file of a table can't be opened: its status.
+fn tell_unopened<E: Sink>(
+    alloc: Global,
+    detail: Option<&Paths<'_>>,
+    unopened: &Unopened<'_>,
+    err: &mut E,
+) -> u8
+    ensures { IsToldUnopened (detail_shown detail) unopened.now.table unopened.now.path.now
+        unopened.now.reason.now (λ line. TakesLine (E.taken err.old) (E.taken err.new)
+        (E.failures err.old) (E.failures err.new) line) result }
 {
-    let refusal = Refusal::Unreadable(unopened.table);
-    if !words.detail() {
-        return tell(err, &refusal);
+    let refusal = Refusal::Tables(TablesRefusal::Unreadable(unopened.table));
+    if detail.is_none() {
+        return tell(err, &Refused::of(alloc, refusal));
     }
-    let path = words.path(unopened.table).unwrap_or("");
-    let detail = unread_remedy(alloc, path, Some(unopened.reason));
-    tell_detailed(err, &Refused::new(alloc, refusal, detail))
+    let remedy = unread_remedy(alloc, unopened.path, Some(unopened.reason));
+    tell(err, &Refused::new(alloc, refusal, remedy))
+}
+
+// The paths of the words, where more is to be told.
+fn detail_of<'a>(words: &Words, paths: &'a Paths<'a>) -> Option<&'a Paths<'a>>
+    requires { paths_shown paths.now ≡ words.now.paths }
+    ensures { detail_shown result ≡ detail_in words.now }
+{
+    if words.detail() { Some(paths) } else { None }
 }
 
 // Does what accepted words ask for.
@@ -170,21 +151,29 @@ fn answer_line<H: Host + AllocGlobal, Q: Feed + Drop, W: Sink + Drop, E: Sink>(
     out: W,
     err: &mut E,
 ) -> (u8, W)
-    requires { HasItsToken words.now.call words.now.token }
     ensures { EndsForLine (H.opens host.now)
         (H.refuses host.now) H.File.remaining H.File.failures Q.remaining Q.failures questions
         words.now (seen W.taken W.failures E.taken E.failures out result.1 err.old err.new)
         result.0 }
 {
     let alloc = host.alloc();
-    let mut inputs = match opened_inputs(host, words) {
+    let paths = words.paths();
+    let detail = detail_of(words, &paths);
+    let mut inputs = match opened_inputs(host, &paths) {
         Ok(inputs) => inputs,
-        Err(unopened) => return (tell_unopened(alloc, words, &unopened, err), out),
+        Err(unopened) => return (tell_unopened(alloc, detail, &unopened, err), out),
     };
-    let paths = paths_of(words);
-    match words.job() {
-        Some(job) => ran_job(alloc, &job, &paths, &mut inputs, out, err),
-        None => held(alloc, words, &paths, &mut inputs, questions, out, err),
+    match words.job(detail) {
+        Some(job) => ran_job(alloc, &job, &mut inputs, out, err),
+        None => held(
+            alloc,
+            words.version(),
+            detail,
+            &mut inputs,
+            questions,
+            out,
+            err,
+        ),
     }
 }
 
@@ -203,15 +192,16 @@ fn answer_words<H: Host + AllocGlobal, Q: Feed + Drop, W: Sink + Drop, E: Sink>(
         (map string_bytes given.now) (seen W.taken W.failures E.taken E.failures out result.1
         err.old err.new) result.0 }
 {
-    match read_words(host.alloc(), given) {
+    let alloc = host.alloc();
+    match read_words(alloc, given) {
         Ok(words) => answer_line(host, &words, questions, out, err),
-        Err(WordFault::Help(text)) => show(text.as_str(), out, err),
-        Err(WordFault::Version(text)) => show(text.as_str(), out, err),
+        Err(WordFault::Help(text)) => show(alloc, text.as_str(), out, err),
+        Err(WordFault::Version(text)) => show(alloc, text.as_str(), out, err),
         Err(WordFault::Refused(text)) => {
             tell_text(err, text.as_bytes());
             (2, out)
         }
-        Err(WordFault::NoMemory) => (tell(err, &Refusal::NoMemory), out),
+        Err(WordFault::NoMemory) => (tell(err, &Refused::of(alloc, Refusal::NoMemory)), out),
     }
 }
 
@@ -253,6 +243,11 @@ pub fn answer<H: Host + AllocGlobal, Q: Feed + Drop, W: Sink + Drop, E: Sink>(
             tell_text(err, b"error: the arguments are not UTF-8\n");
             (2, out)
         }
-        Err(Unworded::NoMemory) => (tell(err, &Refusal::NoMemory), out),
+        Err(Unworded::NoMemory) => {
+            (
+                tell(err, &Refused::of(host.alloc(), Refusal::NoMemory)),
+                out,
+            )
+        }
     }
 }

@@ -1,7 +1,7 @@
 //! What the program does without words: a job on built-in tables.
 ghost use Rattle.std.specs.Prelude.{◌≡◌};
 ghost use Rattle.ac_run.specs.Feeds.{TellBytes};
-ghost use Rattle.ac_run.specs.Jobs.{task_of};
+ghost use Rattle.ac_run.specs.Tasks.{task_of};
 ghost use Rattle.ac_cli.specs.Program.{sample_bytes, sample_task};
 
 use ac_base::{Feed, FromRead};
@@ -23,14 +23,10 @@ pub fn job() -> Job<'static>
     ensures { task_of result ≡ sample_task }
 {
     Job {
-        command: Command::Tokens,
+        command: Command::Tokens { after: None },
         query: "resources=VCPU:2",
         version: Version::V136,
-        token: None,
-        host: None,
-        detail: false,
-        traits: true,
-        sum: false,
+        detail: None,
     }
 }
 

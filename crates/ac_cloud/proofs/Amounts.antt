@@ -14,6 +14,7 @@ use Rattle.ac_cloud.specs.Laws.{AmountsAlone}
 use Rattle.ac_cloud.specs.Trees.{is_in_chain}
 use Rattle.ac_cloud.specs.World.{entry_in, is_above, is_associated, is_available, is_provider, have_common_aggregate, shares}
 use Rattle.ac_cloud.proofs.ListFacts.{map_same, range_same}
+use Rattle.std.proofs.lemmas.Grind.{common_steps}
 
 -- tests along a list, by what they answer
 position_answers : (test : Provider → Bool) (k : ℕ) (all : List Provider) → position_from test k all ≡ position_from (λ b. b) k (map test all)
@@ -28,10 +29,7 @@ any_answers test (p ∷ all) = ap (λ b. test p || b) (any_answers test all)
 pub entry_using_in : (amount : List ℕ → UsedInventory → ℕ) (class : List ℕ) (es : List (List ℕ × UsedInventory))
     → lookup (bytes_eq class) (map (entry_using amount) es) ≡ option_map (λ had. record { inventory = had.inventory; used = amount class had }) (lookup (bytes_eq class) es)
 entry_using_in amount class [] = refl
-entry_using_in amount class (e ∷ es) = elim (cases_Bool (bytes_eq class e.0)) [
-  | inl h ↦ let same = (bytes_eq-Decides class e.0).0 h in rw (h, same) refl
-  | inr h ↦ rw h (entry_using_in amount class es)
-]
+entry_using_in amount class (e ∷ es) = grind (arith, common_steps, cases_Bool, entry_using_in amount class es, bytes_eq, bytes_eq-Decides)
 
 -- amounts that give the same of whatever there is
 pub same_entries : (f g : List ℕ → UsedInventory → ℕ) → ((class : List ℕ) (had : UsedInventory) → f class had ≡ g class had) → (es : List (List ℕ × UsedInventory)) → map (entry_using f) es ≡ map (entry_using g) es
@@ -41,8 +39,7 @@ same_entries f g same es = map_same (entry_using f) (entry_using g) (λ e. ap (�
 below_all : (class : List ℕ) (es : List (List ℕ × UsedInventory)) → AllByRecursion (λ k. text_cmp class k ≡ Less) (keys_of es) → lookup (bytes_eq class) es ≡ None
 below_all class [] h = refl
 below_all class (e ∷ es) h =
-    let other : bytes_eq class e.0 ≡ false = sym (is_eq-slice_cmp class e.0) ∙ ap is_eq h.0 in
-    rw other (below_all class es h.1)
+    rw (sym (is_eq-slice_cmp class e.0) ∙ ap is_eq h.0) (below_all class es h.1)
 
 some_none : (had : UsedInventory) → Some had ≡ None → ⊥
 some_none had e = cc
@@ -56,8 +53,7 @@ same_found f g (e ∷ es) h same =
     ap₂ (λ used l. (e.0, record { inventory = e.1.inventory; used = used }) ∷ l) (same e.0 e.1 (lookup_head (bytes_eq e.0) e es here))
     (same_found f g es (sorted_tail text_cmp e.0 (keys_of es) h) (λ class had found. same class had (elim (cases_Bool (bytes_eq class e.0)) [
       | inl met ↦
-          let none : lookup (bytes_eq class) es ≡ None = rw ((bytes_eq-Decides class e.0).0 met) (below_all e.0 es (sorted_head text_cmp e.0 (keys_of es) h)) in
-          absurd (some_none had (sym found ∙ none))
+          absurd (some_none had (sym found ∙ (rw ((bytes_eq-Decides class e.0).0 met) (below_all e.0 es (sorted_head text_cmp e.0 (keys_of es) h)))))
       | inr other ↦ rw other found
     ])))
 
@@ -175,5 +171,4 @@ amounts_alone amount all =
     inventories : (ix : ℕ) (class : List ℕ) (o : Option UsedInventory)
         → entry_in (provider_at (with_amounts amount all) ix) class ≡ option_map (λ had. record { inventory = had.inventory; used = amount ix class had }) o
         → option_map (λ had. had.inventory) (entry_in (provider_at (with_amounts amount all) ix) class) ≡ option_map (λ had. had.inventory) o
-    inventories ix class None e = ap (option_map (λ had. had.inventory)) e
-    inventories ix class (Some had) e = ap (option_map (λ had. had.inventory)) e
+    inventories ix class o e = grind (arith, common_steps)

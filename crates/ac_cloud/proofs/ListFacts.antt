@@ -86,10 +86,9 @@ module _ {X : Type 0} (items : List X) (starts : List ℕ) (b : AreBounds (lengt
   same_list p h =
       let from = get_or starts p 0 in
       let to = get_or starts (p + 1) 0 in
-      let fit = b.inside (p + 1) h in
       ap₂ (λ (s e : ℕ). take (e - s) (drop s (items ++ list))) (before p (omega arith)) (before (p + 1) h)
       ∙ ap (take (to - from)) (drop-append-le from items list (b.inside p (omega arith)))
-      ∙ take-append-le (to - from) (drop from items) list (omega (arith, length-drop from items, fit))
+      ∙ take-append-le (to - from) (drop from items) list (omega (arith, length-drop from items, b.inside (p + 1) h))
 
   last_list : list_at (items ++ list) (starts ++ length (items ++ list) ∷ []) (length starts - 1) ≡ list
   last_list =
@@ -115,8 +114,7 @@ module _ {X : Type 0} (items : List X) (starts : List ℕ) (b : AreBounds (lengt
   starts_rise : (p n q : ℕ) → p + n ≡ q → q < length starts → get_or starts p 0 ≤ get_or starts q 0
   starts_rise p zero q e h = let same : p ≡ q = omega (arith, e) in omega (arith, ap (λ (j : ℕ). get_or starts j 0) same)
   starts_rise p (suc n) q e h =
-      let up = starts_rise (p + 1) n q (omega arith) h in
-      omega (arith, up, b.order p (omega arith))
+      omega (arith, starts_rise (p + 1) n q (omega arith) h, b.order p (omega arith))
 
   abbrev from : ℕ → ℕ
   from p = get_or starts p 0
@@ -132,8 +130,7 @@ module _ {X : Type 0} (items : List X) (starts : List ℕ) (b : AreBounds (lengt
   same_behind : (p k q : ℕ) (x : X) → p < q → q < length starts → k < get_or starts (p + 1) 0 - get_or starts p 0
       → list_at (set items (get_or starts p 0 + k) x) starts q ≡ list_at items starts q
   same_behind p k q x less h inside =
-      let above : get_or starts (p + 1) 0 ≤ get_or starts q 0 = starts_rise (p + 1) (q - (p + 1)) q (omega arith) h in
-      ap (take (from (q + 1) - from q)) (drop-set-lt (from q) items (from p + k) x (omega (arith, above)))
+      ap (take (from (q + 1) - from q)) (drop-set-lt (from q) items (from p + k) x (omega (arith, starts_rise (p + 1) (q - (p + 1)) q (omega arith) h)))
 
   set_here : (p k : ℕ) (x : X) → k < get_or starts (p + 1) 0 - get_or starts p 0
       → list_at (set items (get_or starts p 0 + k) x) starts p ≡ set (list_at items starts p) k x
@@ -145,8 +142,7 @@ module _ {X : Type 0} (items : List X) (starts : List ℕ) (b : AreBounds (lengt
   pub place_inside : (p k : ℕ) → p < length (lists_in items starts) → k < length (get_or (lists_in items starts) p [])
       → (k < get_or starts (p + 1) 0 - get_or starts p 0) × (get_or starts p 0 + k < length items)
   place_inside p k h inside =
-      let some : p + 1 < length starts = omega (arith, lists_size items starts) in
-      let fits = b.inside (p + 1) some in
+      let fits = b.inside (p + 1) (omega (arith, lists_size items starts)) in
       let size = length-take-le (from (p + 1) - from p) (drop (from p) items) (omega (arith, length-drop (from p) items, fits)) in
       let small : k < get_or starts (p + 1) 0 - get_or starts p 0 = omega (arith, inside, size, ap length (list_here items starts p h)) in
       (small, omega (arith, small, fits))

@@ -18,8 +18,7 @@ rising_apart xs h i j hi hj ne e = grind (arith)
 nowhere : (xs : List ℕ) (x : ℕ) → ((k : ℕ) → k < length xs → get_or xs k 0 ≢ x) → is_one_of xs x ≡ false
 nowhere [] x h = refl
 nowhere (y ∷ xs) x h =
-    let first : (y == x) ≡ false = differ y x (h zero (omega arith)) in
-    rw first (nowhere xs x (λ (k : ℕ) (inside : k < length xs). h (suc k) (omega arith)))
+    rw (differ y x (h zero (omega arith))) (nowhere xs x (λ (k : ℕ) (inside : k < length xs). h (suc k) (omega arith)))
 
 -- the place of a number in a rising list
 pub found_place : (xs : List ℕ) (x : ℕ) (r : Result ℕ ℕ) → IsRising xs → IsBinarySearchResult (λ y. nat_cmp y x) xs r
@@ -46,8 +45,7 @@ one_of_place (y ∷ xs) x (suc i) h e = elim (cases_Bool (y == x)) [ inl k ↦ r
 position_shift : (x k : ℕ) (xs : List ℕ) → ((i : ℕ) → i < length xs → get_or xs i 0 ≢ x) → position_from (λ p. p == x) k xs ≡ None
 position_shift x k [] h = refl
 position_shift x k (y ∷ xs) h =
-    let first : (y == x) ≡ false = differ y x (h zero (omega arith)) in
-    rw first (position_shift x (k + 1) xs (λ (i : ℕ) (inside : i < length xs). h (suc i) (omega arith)))
+    rw (differ y x (h zero (omega arith))) (position_shift x (k + 1) xs (λ (i : ℕ) (inside : i < length xs). h (suc i) (omega arith)))
 
 position_here : (x k : ℕ) (xs : List ℕ) (i : ℕ) → i < length xs → get_or xs i 0 ≡ x → ((j : ℕ) → j < i → get_or xs j 0 ≢ x) → position_from (λ p. p == x) k xs ≡ Some (k + i)
 position_here x k [] i h e before = absurd (omega (arith, h))

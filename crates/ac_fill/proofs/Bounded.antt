@@ -1,10 +1,10 @@
 -- No list of placements is longer than the bound.
-use Rattle.std.proofs.Common.{◌≡◌, ◌∙◌, ◌<◌, ◌≤◌, ◌+◌, ◌-◌, ◌/◌, ◌*◌, ℕ, suc, Bool, true, List, [], ◌∷◌, length, Option, None, Some, refl, sym, ap, subst, arith, inl, inr, nat_lt, option_map, unwrap_or, min}
+use Rattle.std.proofs.Common.{◌≡◌, ◌∙◌, ◌<◌, ◌≤◌, ◌+◌, ◌-◌, ◌/◌, ℕ, suc, Bool, true, List, [], ◌∷◌, length, Option, Some, refl, sym, ap, subst, arith, inl, inr, nat_lt, option_map, unwrap_or, min}
 use Rattle.std.specs.List.{list_all, list_any, sum_by, filter, flat_map, fold, range_with_len, AllByRecursion as Each}
 use Rattle.std.proofs.lemmas.Bool.{and_parts, cases_Bool, eq-eqb, false≢true}
 use Rattle.std.proofs.lemmas.Bool.Decides.{nat_tests}
 use Rattle.std.proofs.lemmas.List.Elements.{All-head, All-tail}
-use Rattle.std.proofs.lemmas.List.Sums.{sum_by-cons}
+use Rattle.std.proofs.lemmas.List.Sums.{sum_by-cons, sum_by-le-sum_by}
 use Rattle.std.proofs.lemmas.Nat.{le-div}
 use Rattle.std.proofs.lemmas.Slice.Eq.{bytes_eq-Decides}
 use Rattle.std.proofs.Math.Nat.{div-mul-le_self, suc-mul}
@@ -24,54 +24,40 @@ use Rattle.ac_rules.proofs.Lists.ListLemmas.{among_range}
 use Rattle.ac_fill.specs.Bounds.{units_of, times_at, times, slot_times, lesser, least, most_placed}
 use Rattle.ac_fill.specs.Filled.{asks_units}
 use Rattle.ac_fill.specs.Laws.{ArePlaced, NoneIsLonger}
+use Rattle.std.proofs.lemmas.Grind.{common_steps}
 
 abbrev Need : Type 0
 Need = List ℕ × ℕ
 
 -- ---- sums
 
-sum_less : (f g : ℕ → ℕ) → ((i : ℕ) → f i ≤ g i) → (xs : List ℕ) → sum_by f xs ≤ sum_by g xs
-sum_less f g less [] = omega arith
-sum_less f g less (x ∷ xs) =
-    let here = less x in
-    let more = sum_less f g less xs in
-    omega (arith, sum_by-cons f x xs, sum_by-cons g x xs, here, more)
-
 sum_falls : (f g : ℕ → ℕ) → ((i : ℕ) → f i ≤ g i) → (xs : List ℕ) (p : ℕ) → Among xs p → f p < g p → sum_by f xs < sum_by g xs
 sum_falls f g less [] p here falls = absurd here
 sum_falls f g less (x ∷ xs) p (inl is) falls =
-    let first : f x < g x = subst (λ (i : ℕ). f i < g i) (sym is) falls in
-    let more = sum_less f g less xs in
-    omega (arith, sum_by-cons f x xs, sum_by-cons g x xs, first, more)
+    omega (arith, sum_by-cons f x xs, sum_by-cons g x xs, subst (λ (i : ℕ). f i < g i) (sym is) falls, sum_by-le-sum_by f g xs less)
 sum_falls f g less (x ∷ xs) p (inr later) falls =
-    let here = less x in
-    let more = sum_falls f g less xs p later falls in
-    omega (arith, sum_by-cons f x xs, sum_by-cons g x xs, here, more)
+    omega (arith, sum_by-cons f x xs, sum_by-cons g x xs, less x, sum_falls f g less xs p later falls)
 
 -- ---- parts of an amount
 
 parts_less : (u s a : ℕ) → 0 < a → (u - s) / a ≤ u / a
 parts_less u s a some =
-    let whole = div-mul-le_self (u - s) a in
-    le-div ((u - s) / a) u a some (omega (arith, whole))
+    le-div ((u - s) / a) u a some (omega (arith, div-mul-le_self (u - s) a))
 
 parts_fall : (u s a : ℕ) → 0 < a → a ≤ s → s ≤ u → (u - s) / a < u / a
 parts_fall u s a some much room =
     let q = (u - s) / a in
-    let whole : q * a ≤ u - s = div-mul-le_self (u - s) a in
-    le-div (suc q) u a some (rw (suc-mul q a) (omega (arith, whole, much, room)))
+    le-div (suc q) u a some (rw (suc-mul q a) (omega (arith, div-mul-le_self (u - s) a, much, room)))
 
 -- what is left of an inventory beside what is used of it
 pub left_units : (o : Option UsedInventory) → left_of (option_map (λ had. had.inventory) o) (unwrap_or (option_map (λ had. had.used) o) 0) ≡ units_of o
-left_units None = refl
-left_units (Some had) = refl
+left_units o = grind (arith, common_steps)
 
 -- ---- a claim
 
 -- what is left of an inventory after a claim
 left_after : (o : Option UsedInventory) (sum : ℕ) → units_of (option_map (λ (had : UsedInventory). record { inventory = had.inventory; used = had.used + sum }) o) ≡ units_of o - sum
-left_after None sum = omega arith
-left_after (Some had) sum = omega arith
+left_after o sum = grind (arith, common_steps)
 
 module _ (all : List Provider) (xs : List Placed) where
   left_claimed : (ix : ℕ) (class : List ℕ) → units_of (entry_in (provider_at (claimed all xs) ix) class) ≡ units_of (entry_in (provider_at all ix) class) - sum_on xs ix class
@@ -87,9 +73,8 @@ module _ (all : List Provider) (xs : List Placed) where
 
   times_less : (slot : Slot) (need : Need) → 0 < need.1 → (ix : ℕ) → times_at (claimed all xs) slot need ix ≤ times_at all slot need ix
   times_less slot need some ix =
-      let less = parts_less (units_of (entry_in (provider_at all ix) need.0)) (sum_on xs ix need.0) need.1 some in
       rw (fits_claimed (record { slot = slot; provider = ix }), left_claimed ix need.0) (elim (cases_Bool (fits all (record { slot = slot; provider = ix }))) [
-        | inl h ↦ rw h less
+        | inl h ↦ rw h (parts_less (units_of (entry_in (provider_at all ix) need.0)) (sum_on xs ix need.0) need.1 some)
         | inr h ↦ rw h (omega arith)
       ])
 
@@ -141,8 +126,7 @@ slot_sum (y ∷ xs) x class (inr later) = let more = slot_sum xs x class later i
 
 -- an inventory with room for a sum has it left
 room_left : (o : Option UsedInventory) (sum : ℕ) → has_room (option_map (λ h. h.inventory) o) (unwrap_or (option_map (λ h. h.used) o) 0) sum ≡ true → sum ≤ units_of o
-room_left None sum h = absurd (false≢true h)
-room_left (Some had) sum h = grind (arith, nat_tests)
+room_left o sum h = grind (arith, common_steps)
 
 fits_all : (all : List Provider) (x : Placed) → units_fit all x ≡ true → traits_fit all x ≡ true → aggregates_fit all x ≡ true → tree_fits all x ≡ true → fits all x ≡ true
 unfolding fits
@@ -173,9 +157,8 @@ none_longer : (asked : Asked) (slot : Slot) (need : Need) → Among (slots_of as
     → (ts : List (List ℕ)) (all : List Provider) → ArePlaced all asked ts → length ts ≤ times all slot need
 none_longer asked slot need here asks some [] all made = omega arith
 none_longer asked slot need here asks some (t ∷ ts) all (list, candidate, more) =
-    let falls = claim_falls all asked t list candidate slot need here asks some in
     let later = none_longer asked slot need here asks some ts (claimed all (assigned asked t)) more in
-    omega (arith, falls, later)
+    omega (arith, claim_falls all asked t list candidate slot need here asks some, later)
 
 each_need : {X : Type 0} (P : X → Type 0) (xs : List X) → ((x : X) → Among xs x → P x) → Each P xs
 each_need P [] h = tt
@@ -196,18 +179,12 @@ below_least k (m ∷ ns) n here each = below_fold k m ns each.0 each.1
 
 some_need : (needs : List Need) → list_any (λ need. nat_lt 0 need.1) needs ≡ true → (need : Need) × Among needs need × (nat_lt 0 need.1 ≡ true)
 some_need [] h = absurd (false≢true h)
-some_need (need ∷ needs) h = elim (cases_Bool (nat_lt 0 need.1)) [
-  | inl here ↦ (need, inl refl, here)
-  | inr later ↦ let more = some_need needs (rw later at h) in (more.0, inr more.1, more.2)
-]
+some_need (need ∷ needs) h = grind (arith, common_steps, cases_Bool, some_need needs)
 
 some_slot : (slots : List Slot) → list_any (λ slot. list_any (λ need. nat_lt 0 need.1) slot.needs) slots ≡ true
     → (slot : Slot) × (need : Need) × Among slots slot × Among slot.needs need × (nat_lt 0 need.1 ≡ true)
 some_slot [] h = absurd (false≢true h)
-some_slot (s ∷ slots) h = elim (cases_Bool (list_any (λ need. nat_lt 0 need.1) s.needs)) [
-  | inl here ↦ let some = some_need s.needs here in (s, some.0, inl refl, some.1, some.2)
-  | inr later ↦ let more = some_slot slots (rw later at h) in (more.0, more.1, inr more.2, more.3, more.4)
-]
+some_slot (s ∷ slots) h = grind (arith, common_steps, cases_Bool, some_slot slots, some_need)
 
 among_asking : (needs : List Need) (need : Need) → Among (filter (λ need. nat_lt 0 need.1) needs) need → Among needs need × (0 < need.1)
 among_asking [] need here = absurd here

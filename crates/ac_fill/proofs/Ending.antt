@@ -11,7 +11,7 @@ use Rattle.ac_cloud.proofs.Amounts.{amounts_size}
 use Rattle.ac_cloud.proofs.InOrder.{entries_rise}
 use Rattle.ac_query.specs.Asked.{Asked, slots_of}
 use Rattle.ac_query.specs.Shown.Queries.{asked_of}
-use Rattle.ac_report.specs.Outcomes.{Writes}
+use Rattle.ac_report.specs.Outcomes.{WritesEach}
 use Rattle.ac_report.specs.Texts.{line}
 use Rattle.ac_report.specs.declared.fault.PageFault.{PageFault}
 use Rattle.ac_report.specs.declared.fault.PageFault.TheVariants as fault
@@ -97,38 +97,39 @@ is_step cloud asked old new list of below h kept fit same more = record {
 
 -- ---- ends
 
-module _ (all : List Provider) (asked : Asked) where
-  pub ends_none : (s : Stand) (f : Filled) (a : Option (List ℕ)) (n : ℕ) → placements_at asked s ≡ [] → f.count ≡ s.count → s.count ≤ 4294967295 → with_taken f.takings all ≡ s.world → IsTakenOf all f.takings
-      → Ends all asked s (Ok f) a a n n
-  ends_none s f a n none count small world fits = record {
-    writes = wrote_none (line all) f (placements_at asked s) a n none;
+module _ {W : Type 0} {taken : W → Option (List ℕ)} {fails : W → ℕ} (all : List Provider) (asked : Asked) where
+  pub ends_none : (s : Stand) (f : Filled) (a : W) → placements_at asked s ≡ [] → f.count ≡ s.count → s.count ≤ 4294967295
+      → with_taken f.takings all ≡ s.world → IsTakenOf all f.takings → Ends taken fails all asked s a a (Ok f)
+  ends_none s f a none count small world fits = record {
+    writes = wrote_none (line all) (placements_at asked s) a f none;
     count = rw none (omega (arith, count, small));
     world = rw none world;
     fits = fits;
   }
 
-  pub ends_refused : (s : Stand) (a : Option (List ℕ)) (n : ℕ) → Ends all asked s (Err fault.NoMemory) a a n n
-  ends_refused s a n = record { writes = refused (line all) (Err fault.NoMemory) (placements_at asked s) a n refl; count = tt; world = tt; fits = tt }
+  pub ends_refused : (s : Stand) (a : W) → Ends taken fails all asked s a a (Err fault.NoMemory)
+  ends_refused s a = record { writes = refused _ (line all) (placements_at asked s) a (Err fault.NoMemory) refl; count = tt; world = tt; fits = tt }
 
-  module _ (s next : Stand) (t : List ℕ) (first : placements_at asked s ≡ t ∷ placements_at asked next) (a b : Option (List ℕ)) (f g : ℕ) where
-    pub ends_stopped : {Z : Type 0} (e : PageFault) → Writes {X = Z} (line all) (t ∷ []) (Err e) a b f g → Ends all asked s (Err e) a b f g
-    ends_stopped e wrote = record { writes = rw first (stopped (line all) (t ∷ []) (placements_at asked next) a b f g e (Err e) wrote refl); count = tt; world = tt; fits = tt }
+  module _ (s next : Stand) (t : List ℕ) (first : placements_at asked s ≡ t ∷ placements_at asked next) {a b : W} where
+    pub ends_stopped : {Z : Type 0} {e : PageFault} → WritesEach {X = Z} taken fails a b (Err e) (line all) (t ∷ []) → Ends taken fails all asked s a b (Err e)
+    ends_stopped wrote = record { writes = rw first (stopped (line all) (t ∷ []) (placements_at asked next) wrote refl); count = tt; world = tt; fits = tt }
 
     -- a placement is made, and then the others are
-    pub ends_on : {Z : Type 0} (z : Z) → next.count ≡ min (s.count + 1) 4294967295 → next.world ≡ claimed s.world (assigned asked t) → Writes {X = Z} (line all) (t ∷ []) (Ok z) a b f g
-        → (r : Result Filled PageFault) (c : Option (List ℕ)) (h : ℕ) → Ends all asked next r b c g h → Ends all asked s r a c f h
-    ends_on z count world wrote r c h then = record {
-      writes = rw first (wrote_on (line all) (t ∷ []) (placements_at asked next) a b f g z r c h wrote then.writes);
+    pub ends_on : {Z : Type 0} {z : Z} → next.count ≡ min (s.count + 1) 4294967295 → next.world ≡ claimed s.world (assigned asked t)
+        → WritesEach taken fails a b (Ok z) (line all) (t ∷ []) → (r : Result Filled PageFault) (c : W) → Ends taken fails all asked next b c r → Ends taken fails all asked s a c r
+    ends_on count world wrote r c then = record {
+      writes = rw first (wrote_on (line all) (t ∷ []) wrote then.writes);
       count = rw first (IfOk-weaker r _ _ (λ x e. omega (arith, e, count)) then.count);
       world = IfOk-weaker r _ _ (λ x w. w ∙ (ap (λ (v : List Provider). after v asked (placements_at asked next)) world ∙ sym (ap (λ (l : List (List ℕ)). after s.world asked l) first))) then.world;
       fits = then.fits;
     }
 
   -- an error that is handed on
-  pub ends_err : (s : Stand) (r : Result Filled PageFault) (e : PageFault) (a b : Option (List ℕ)) (f g : ℕ) → IsErrAnd r (λ d. d ≡ e) → Ends all asked s (Err e) a b f g → Ends all asked s r a b f g
-  ends_err s r e a b f g h ends = let is = err_from_is_err_and r h in rw (is.1, is.2) ends
+  pub ends_err : {s : Stand} {r : Result Filled PageFault} {e : PageFault} {a b : W} → IsErrAnd r (λ d. d ≡ e) → Ends taken fails all asked s a b (Err e)
+      → Ends taken fails all asked s a b r
+  ends_err {r = r} h ends = let is = err_from_is_err_and r h in rw (is.1, is.2) ends
 
   -- an error within the placements of a list
-  pub places_err : (s then : Stand) (rest : List (List ℕ)) (r : Result ⊤ PageFault) (e : PageFault) (a b : Option (List ℕ)) (f g : ℕ) → IsErrAnd r (λ d. d ≡ e) → Ends all asked s (Err e) a b f g
-      → PlacesAll all asked s then rest r a b f g
-  places_err s then rest r e a b f g h ends = let is = err_from_is_err_and r h in rw (is.1, is.2) record { ahead = tt; goes = tt; stops = ends }
+  pub places_err : {s : Stand} (then : Stand) (rest : List (List ℕ)) {r : Result ⊤ PageFault} {e : PageFault} {a b : W} → IsErrAnd r (λ d. d ≡ e)
+      → Ends taken fails all asked s a b (Err e) → PlacesAll taken fails all asked s then rest a b r
+  places_err then rest {r = r} h ends = let is = err_from_is_err_and r h in rw (is.1, is.2) record { ahead = tt; goes = tt; stops = ends }

@@ -61,8 +61,7 @@ ids_kept all xs ts =
 order_kept : (all : List Provider) (xs : List Placed) → AreInOrder all → AreInOrder (claimed all xs)
 order_kept all xs order = λ p q less inside.
     let kept = (claims_alone all xs).0 in
-    let rise = order p q less (omega (arith, inside, kept.count)) in
-    omega (arith, rise, kept.ids p, kept.ids q)
+    omega (arith, order p q less (omega (arith, inside, kept.count)), kept.ids p, kept.ids q)
 
 never_falls : (n : ℕ) (all : List Provider) (asked : Asked) (ls : List (List ℕ)) → AreInOrder all → candidates all asked ≡ ls → NeverFalls (map (λ t. ids_of all t) (placements n all asked))
 never_falls n all asked [] order e = rw (placed_none n all asked e) tt

@@ -18,6 +18,7 @@ use Rattle.ac_rules.proofs.Lists.RestLemmas.{IsChosen, each_candidate}
 use Rattle.ac_fill.specs.Ends.{AreAhead}
 use Rattle.ac_fill.specs.Filled.{asks_units, units_left, placements, filled}
 use Rattle.ac_fill.proofs.Units.{claim_takes}
+use Rattle.std.proofs.lemmas.Grind.{common_steps}
 
 abbrev Lists : Type 0
 Lists = List (List ℕ)
@@ -26,8 +27,7 @@ Lists = List (List ℕ)
 
 pub placed_none : (n : ℕ) (all : List Provider) (asked : Asked) → candidates all asked ≡ [] → placements n all asked ≡ []
 unfolding placements
-placed_none zero all asked e = refl
-placed_none (suc n) all asked e = rw e refl
+placed_none n all asked e = grind (arith, common_steps)
 
 pub placed_over : (all : List Provider) (asked : Asked) → placements 0 all asked ≡ []
 unfolding placements
@@ -112,8 +112,7 @@ ahead_past all asked t ls not_one e = let later : filter (λ (u : List ℕ). is_
 -- where no list is left, there is no candidate
 pub ahead_none : (all : List Provider) (asked : Asked) (ls : Lists) → None ≡ head_of ls → AreAhead all asked ls → candidates all asked ≡ []
 unfolding AreAhead
-ahead_none all asked [] end e = e
-ahead_none all asked (t ∷ ls) end e = absurd (cc)
+ahead_none all asked ls end e = grind (arith, common_steps)
 
 -- the candidates themselves are ahead, and each is one
 pub ahead_whole : (all : List Provider) (asked : Asked) (ls : Lists) → ls ≡ candidates all asked → AreAhead all asked ls

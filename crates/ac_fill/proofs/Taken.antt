@@ -29,14 +29,12 @@ use Rattle.ac_rules.specs.Together.{amount_of, sum_on, has_room, holds}
 use Rattle.ac_rules.proofs.PlacedLemmas.{placed_more}
 use Rattle.ac_fill.specs.Shown.{texts_in}
 use Rattle.ac_fill.specs.declared.takings.Takings.{Takings}
+use Rattle.std.proofs.lemmas.Grind.{common_steps}
 
 -- ---- places
 
 pub nothing : (n i : ℕ) → slice_index (replicate n 0) i ≡ 0
-nothing n i = elim (cases_lt i n) [
-  | inl inside ↦ get_or-replicate n i 0 0 inside
-  | inr past ↦ get_or_past (replicate n 0) i 0 (omega (arith, past, length-replicate {A = ℕ} n 0))
-]
+nothing n i = grind (arith, common_steps, cases_lt, get_or-replicate, get_or_past, length-replicate)
 
 -- a place is that of one class and one provider alone
 same_class : (n k p l q : ℕ) → p < n → q < n → k * n + p ≡ l * n + q → k ≡ l
@@ -77,8 +75,7 @@ taken_one items texts n p q place sum need class h j known is inside e =
           (same_text texts need.0 class known (same_class n (class_number texts need.0) p (class_number texts class) q h j met)) in
           get_or-set_at items place there sum 0 same inside ∙ omega (arith, e, ap (slice_index items) same, one)
       | inr other ↦
-          let none = asks_other n p q texts need class (λ met. other (sym met ∙ sym is)) in
-          get_or-set_other items place there sum 0 other ∙ omega (arith, none)
+          get_or-set_other items place there sum 0 other ∙ omega (arith, asks_other n p q texts need class (λ met. other (sym met ∙ sym is)))
     ]
 
 -- ---- needs, and slots
@@ -99,8 +96,7 @@ pub fits_slot : (now start q rest left all : ℕ) (class : List ℕ) (needs : Li
     → (0 < all → start + all < 2 ^ 64) → 0 < amount_of needs class → now + amount_of needs class < 2 ^ 64
 fits_slot now start q rest left all class needs same split grown fits some =
     let first : left ≡ amount_of needs class + rest = split ∙ ap (λ (b : Bool). (if b then amount_of needs class else 0) + rest) (eq-eqb q q refl) in
-    let whole = fits (omega (arith, same, first, grown, some)) in
-    omega (arith, same, first, whole)
+    omega (arith, same, first, fits (omega (arith, same, first, grown, some)))
 
 pub fits_one : (now start p : ℕ) (need : List ℕ × ℕ) (rest all : List (List ℕ × ℕ)) → now + asked_of_one p (need ∷ rest) p need.0 ≡ start + asked_of_one p all p need.0 → start ≤ now
     → (0 < amount_of all need.0 → start + amount_of all need.0 < 2 ^ 64) → 0 < need.1 → now + need.1 < 2 ^ 64
@@ -108,16 +104,12 @@ fits_one now start p need rest all same grown fits some =
     let one : asked_of_one p (need ∷ []) p need.0 ≡ need.1 = asks_here p p need need.0 refl refl in
     let whole : asked_of_one p all p need.0 ≡ amount_of all need.0 = ap (λ (b : Bool). if b then amount_of all need.0 else 0) (eq-eqb p p refl) in
     let split = needs_more p need rest p need.0 in
-    let whole_fits = fits (omega (arith, same, split, one, whole, grown, some)) in
-    omega (arith, same, split, one, whole, whole_fits)
+    omega (arith, same, split, one, whole, fits (omega (arith, same, split, one, whole, grown, some)))
 
 -- what holds of each class that slots name, at their providers, holds wherever they ask anything
 each_class : (P : List ℕ → Type 0) (needs : List (List ℕ × ℕ)) (class : List ℕ) → Each (λ need. P need.0) needs → 0 < amount_of needs class → P class
 each_class P [] class h some = absurd (omega (arith, some))
-each_class P (need ∷ needs) class h some = elim (cases_Bool (bytes_eq need.0 class)) [
-  | inl met ↦ subst P ((bytes_eq-Decides need.0 class).0 met) h.0
-  | inr other ↦ each_class P needs class h.1 (let rest = rw other at some in omega (arith, rest))
-]
+each_class P (need ∷ needs) class h some = grind (arith, common_steps, cases_Bool, each_class P needs class h.1, bytes_eq, bytes_eq-Decides)
 
 pub each_sum : (P : ℕ → List ℕ → Type 0) (xs : List Placed) → Each (λ x. Each (λ need. P x.provider need.0) x.slot.needs) xs → (p : ℕ) (class : List ℕ) → 0 < sum_on xs p class → P p class
 each_sum P [] h p class some = absurd (omega (arith, some))
@@ -153,8 +145,7 @@ room_beside : (o : Option UsedInventory) (inventory : InventoryNumbers) (used ta
     → has_room (option_map (λ (h : UsedInventory). h.inventory) (option_map (λ (h : UsedInventory). record { inventory = h.inventory; used = h.used + taken }) o))
     (unwrap_or (option_map (λ (h : UsedInventory). h.used) (option_map (λ (h : UsedInventory). record { inventory = h.inventory; used = h.used + taken }) o)) 0) sum
     ≡ (nat_le sum inventory.max_unit && nat_le (used + taken + sum) (capacity inventory))
-room_beside None inventory used taken sum there uses = absurd (cc)
-room_beside (Some had) inventory used taken sum there uses = let same : inventory ≡ had.inventory = cc in rw (same, uses) refl
+room_beside o inventory used taken sum there uses = grind (arith, common_steps)
 
 pub room_taken : (all : List Provider) (taken : ℕ → List ℕ → ℕ) (ix sum : ℕ) (class : List ℕ) (inventory : InventoryNumbers) (used : ℕ)
     → Some inventory ≡ option_map (λ h. h.inventory) (entry_in (provider_at all ix) class) → used ≡ used_of (provider_at all ix) class
@@ -166,8 +157,7 @@ no_room : (o : Option UsedInventory) (taken sum : ℕ) → None ≡ option_map (
     → has_room (option_map (λ (h : UsedInventory). h.inventory) (option_map (λ (h : UsedInventory). record { inventory = h.inventory; used = h.used + taken }) o))
     (unwrap_or (option_map (λ (h : UsedInventory). h.used) (option_map (λ (h : UsedInventory). record { inventory = h.inventory; used = h.used + taken }) o)) 0) sum
     ≡ false
-no_room None taken sum e = refl
-no_room (Some had) taken sum e = absurd (cc)
+no_room o taken sum e = grind (arith, common_steps)
 
 pub room_nowhere : (all : List Provider) (taken : ℕ → List ℕ → ℕ) (ix sum : ℕ) (class : List ℕ) → None ≡ option_map (λ h. h.inventory) (entry_in (provider_at all ix) class)
     → holds (provider_at (with_amounts (λ ix class had. had.used + taken ix class) all) ix) class sum ≡ false
@@ -188,8 +178,7 @@ set_one items texts n p q place v known class h j k is inside =
           let text = (bytes_eq-Decides known class).1 (same_text texts known class k (same_class n (class_number texts known) p (class_number texts class) q h j met)) in
           rw (eq-eqb q p (sym provider), text) (get_or-set_at items place there v 0 same inside)
       | inr other ↦
-          let none : ((q == p) && bytes_eq known class) ≡ false = not_both texts n p q known class (λ met. other (sym met ∙ sym is)) in
-          rw none (get_or-set_other items place there v 0 other)
+          rw (not_both texts n p q known class (λ met. other (sym met ∙ sym is))) (get_or-set_other items place there v 0 other)
     ]
   where
     not_both : (texts : List (List ℕ)) (n p q : ℕ) (known class : List ℕ) → (class_number texts known * n + p ≡ class_number texts class * n + q → ⊥) → ((q == p) && bytes_eq known class) ≡ false
@@ -215,10 +204,8 @@ settled_one all old new ix v class rise is less =
           let both = and_parts (p == ix) (bytes_eq class c) met in
           let here : p ≡ ix = are_equal p ix both.0 in
           let same : class ≡ c = (bytes_eq-Decides class c).0 both.1 in
-          let gone = rw met at (less p c inside) in
           let uses : used_of (provider_at all ix) class ≡ had.used = ap₂ (λ (q : ℕ) (k : List ℕ). used_of (provider_at all q) k) (sym here) same ∙ ap (λ o. unwrap_or (option_map (λ h. h.used) o) 0) there in
-          let taken : old ix class ≡ old p c = ap₂ old (sym here) same in
-          rw met (omega (arith, is, gone, uses, taken))
+          rw met (omega (arith, is, rw met at (less p c inside), uses, ap₂ old (sym here) same))
     ])
 
 -- where it isn't that class of that provider, as much is used as before
@@ -226,8 +213,7 @@ pub used_other : (all : List Provider) (ix v q : ℕ) (class c : List ℕ) → (
 used_other all ix v q class c other = rw (entries (amount_at ix class v) all q c) (by_entry (entry_in (provider_at all q) c))
   where
     by_entry : (o : Option UsedInventory) → unwrap_or (option_map (λ (h : UsedInventory). h.used) (option_map (λ (h : UsedInventory). record { inventory = h.inventory; used = amount_at ix class v q c h }) o)) 0 ≡ unwrap_or (option_map (λ (h : UsedInventory). h.used) o) 0
-    by_entry None = refl
-    by_entry (Some had) = rw other refl
+    by_entry o = grind (arith, common_steps)
 
 -- where nothing is taken, all is as it is
 pub all_settled : (all : List Provider) (taken : ℕ → List ℕ → ℕ) → ((p : ℕ) → p < length all → IsStrictlySortedBy text_cmp (keys_of (provider_at all p).entries))
@@ -241,8 +227,7 @@ pub none_taken : (items : List ℕ) (texts : List (List ℕ)) (n : ℕ) → leng
 none_taken items texts n size none p c inside = elim (cases_lt (class_number texts c) (length texts)) [
   | inl known ↦ ap (λ (d : List ℕ). slice_index items (class_number texts d * n + p)) (sym (known_at texts c known)) ∙ none (class_number texts c) p known inside
   | inr past ↦
-      let far : n * length texts ≤ class_number texts c * n = mul_le n (length texts) (class_number texts c) past in
-      get_or_past items (class_number texts c * n + p) 0 (omega (arith, size, far))
+      get_or_past items (class_number texts c * n + p) 0 (omega (arith, size, mul_le n (length texts) (class_number texts c) past))
 ]
   where
     mul_le : (n k m : ℕ) → k ≤ m → n * k ≤ m * n
@@ -252,10 +237,7 @@ none_taken items texts n size none p c inside = elim (cases_lt (class_number tex
 pub known_in : (texts : List (List ℕ)) (k : ℕ) → k < length texts → IsKnown texts (slice_index_or texts k [])
 known_in [] k h = absurd (omega (arith, h))
 known_in (t ∷ texts) zero h = let same = (bytes_eq-Decides t t).1 refl in rw same (omega arith)
-known_in (t ∷ texts) (suc k) h = elim (cases_Bool (bytes_eq t (slice_index_or texts k []))) [
-  | inl met ↦ rw met (omega arith)
-  | inr other ↦ rw other (let there = known_in texts k (omega (arith, h)) in omega (arith, there))
-]
+known_in (t ∷ texts) (suc k) h = grind (arith, common_steps, cases_Bool, known_in texts k, bytes_eq)
 
 pub text_at : (t : Takings) (k : ℕ) (class : Bor ClassName) → k < length t.classes.items → class ≡ get_or t.classes.items k class → class_bytes class.now ≡ slice_index_or (texts_in t) k []
 text_at t k class inside is = ap (λ v. class_bytes v.now) is ∙ sym (get_or-map (λ v. class_bytes v.now) t.classes.items k class [] inside)

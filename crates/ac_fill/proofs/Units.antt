@@ -21,6 +21,7 @@ use Rattle.ac_rules.proofs.EachSlot.FrontLemmas.{candidate_opens}
 use Rattle.ac_rules.proofs.EachSlot.FullLemmas.{full_from}
 use Rattle.ac_rules.proofs.Lists.RestLemmas.{IsChosen}
 use Rattle.ac_fill.specs.Filled.{asks_units, units_in, units_at, units_left}
+use Rattle.std.proofs.lemmas.Grind.{common_steps}
 
 -- ---- sums of what providers have left
 
@@ -29,21 +30,16 @@ sums_less f [] [] e h = omega arith
 sums_less f [] (q ∷ qs) e h = absurd (omega (arith, e))
 sums_less f (p ∷ ps) [] e h = absurd (omega (arith, e))
 sums_less f (p ∷ ps) (q ∷ qs) e h =
-    let here = h 0 in
-    let more = sums_less f ps qs (omega (arith, e)) (λ i. h (suc i)) in
-    omega (arith, sum_by-cons f p ps, sum_by-cons f q qs, here, more)
+    omega (arith, sum_by-cons f p ps, sum_by-cons f q qs, h 0, sums_less f ps qs (omega (arith, e)) (λ i. h (suc i)))
 
 sums_fall : (f : Provider → ℕ) (ps qs : List Provider) (j : ℕ) → length ps ≡ length qs → ((i : ℕ) → f (provider_at ps i) ≤ f (provider_at qs i))
     → j < length qs → f (provider_at ps j) < f (provider_at qs j) → sum_by f ps < sum_by f qs
 sums_fall f ps [] j e h k less = absurd (omega (arith, k))
 sums_fall f [] (q ∷ qs) j e h k less = absurd (omega (arith, e))
 sums_fall f (p ∷ ps) (q ∷ qs) zero e h k less =
-    let more = sums_less f ps qs (omega (arith, e)) (λ i. h (suc i)) in
-    omega (arith, sum_by-cons f p ps, sum_by-cons f q qs, less, more)
+    omega (arith, sum_by-cons f p ps, sum_by-cons f q qs, less, sums_less f ps qs (omega (arith, e)) (λ i. h (suc i)))
 sums_fall f (p ∷ ps) (q ∷ qs) (suc j) e h k less =
-    let here = h 0 in
-    let more = sums_fall f ps qs j (omega (arith, e)) (λ i. h (suc i)) (omega (arith, k)) less in
-    omega (arith, sum_by-cons f p ps, sum_by-cons f q qs, here, more)
+    omega (arith, sum_by-cons f p ps, sum_by-cons f q qs, h 0, sums_fall f ps qs j (omega (arith, e)) (λ i. h (suc i)) (omega (arith, k)) less)
 
 -- ---- what one provider has left, when more is used
 
@@ -64,10 +60,9 @@ module _ (amount : List ℕ → UsedInventory → ℕ) (more : (class : List ℕ
   entries_fall (e ∷ es) class had found less room = elim (cases_Bool (bytes_eq class e.0)) [
     | inl met ↦
         let same : class ≡ e.0 = (bytes_eq-Decides class e.0).0 met in
-        let is : e.1 ≡ had = some_same (rw met at found) in
         let rest = entries_less es in
         let here : had.used < amount e.0 had = subst (λ (c : List ℕ). had.used < amount c had) same less in
-        let taken : units_in (entry_using amount e).1 < units_in e.1 = rw is (omega (arith, here, room)) in
+        let taken : units_in (entry_using amount e).1 < units_in e.1 = rw (some_same (rw met at found)) (omega (arith, here, room)) in
         omega (arith, sum_by-cons (λ (e : List ℕ × UsedInventory). units_in e.1) e es, sum_by-cons (λ (e : List ℕ × UsedInventory). units_in e.1) (entry_using amount e) (map (entry_using amount) es), taken, rest)
     | inr other ↦
         let here = more e.0 e.1 in
@@ -83,8 +78,7 @@ module _ (amount : List ℕ → UsedInventory → ℕ) (more : (class : List ℕ
 -- an inventory with room for a sum is there
 found : (o : Option UsedInventory) (sum : ℕ) → has_room (option_map (λ h. h.inventory) o) (unwrap_or (option_map (λ h. h.used) o) 0) sum ≡ true
     → (had : UsedInventory) × (o ≡ Some had) × (had.used + sum ≤ capacity had.inventory)
-found None sum h = absurd (false≢true h)
-found (Some had) sum h = (had, refl, grind (arith, nat_tests))
+found o sum h = grind (arith, common_steps)
 
 inside : (all : List Provider) (p : ℕ) (class : List ℕ) (had : UsedInventory) → entry_in (provider_at all p) class ≡ Some had → p < length all
 inside all p class had e = elim (cases_lt p (length all)) [

@@ -3,7 +3,7 @@ use Rattle.std.specs.Prelude.{◌≡◌, ◌+◌, ℕ, List, Option, Some, Resul
 use Rattle.std.specs.List.{filter}
 use Rattle.ac_cloud.specs.World.{Provider}
 use Rattle.ac_query.specs.Asked.{Asked}
-use Rattle.ac_report.specs.Outcomes.{Writes}
+use Rattle.ac_report.specs.Outcomes.{WritesEach}
 use Rattle.ac_report.specs.Texts.{line}
 use Rattle.ac_report.specs.declared.fault.PageFault.{PageFault}
 use Rattle.ac_rules.specs.Judge.{is_candidate}
@@ -47,14 +47,16 @@ abbrev pub stand_of : List Provider → Filling → Stand
 stand_of all f = record { wanted = f.wanted; world = world_at all f; count = count_at f }
 
 -- The placements that are to come are written, counted and taken.
-pub record Ends (all : List Provider) (asked : Asked) (s : Stand) (result : Result Filled PageFault) (old new : Option (List ℕ)) (before later : ℕ) : Type 0 where
-  pub writes : Writes (line all) (placements_at asked s) result old new before later
+pub record Ends {W : Type 0} (taken : W → Option (List ℕ)) (fails : W → ℕ) (all : List Provider) (asked : Asked) (s : Stand) (old new : W)
+    (result : Result Filled PageFault) : Type 0 where
+  pub writes : WritesEach taken fails old new result (line all) (placements_at asked s)
   pub count : IfOk result (λ f. f.count ≡ min (length (placements_at asked s) + s.count) 4294967295)
   pub world : IfOk result (λ f. with_taken f.takings all ≡ after s.world asked (placements_at asked s))
   pub fits : IfOk result (λ f. IsTakenOf all f.takings)
 
 -- All placements of a list are made that are wanted: what ends well behind them ends well.
-pub record PlacesAll (all : List Provider) (asked : Asked) (s then : Stand) (rest : List (List ℕ)) (result : Result ⊤ PageFault) (old new : Option (List ℕ)) (before later : ℕ) : Type 0 where
+pub record PlacesAll {W : Type 0} (taken : W → Option (List ℕ)) (fails : W → ℕ) (all : List Provider) (asked : Asked) (s then : Stand)
+    (rest : List (List ℕ)) (old new : W) (result : Result ⊤ PageFault) : Type 0 where
   pub ahead : OnOk result ((then.wanted ≡ Some 0 → ⊥) → AreAhead then.world asked rest)
-  pub goes : OnOk result ((r : Result Filled PageFault) (end : Option (List ℕ)) (last : ℕ) → Ends all asked then r new end later last → Ends all asked s r old end before last)
-  pub stops : IfErr result (λ e. Ends all asked s (Err e) old new before later)
+  pub goes : OnOk result ((r : Result Filled PageFault) (end : W) → Ends taken fails all asked then new end r → Ends taken fails all asked s old end r)
+  pub stops : IfErr result (λ e. Ends taken fails all asked s old new (Err e))

@@ -1,12 +1,11 @@
 //! Placements as lines: the token of each.
 
-ghost use Rattle.std.specs.Prelude.{◌≡◌, ◌≢◌, ◌≤◌, ◌⊎◌, ◌∷◌, ℕ, List, Option, OnOk, OnErr, IfOk, IfErr, Err, Some, true, false, length, min};
-ghost use Rattle.std.specs.Io.KnownBytes.{Appends};
-ghost use Rattle.ac_base.specs.Devices.{Rises, TakesPart};
+ghost use Rattle.std.specs.Prelude.{◌≡◌, ◌≢◌, ◌≤◌, ◌⊎◌, ◌∷◌, ℕ, List, IfOk, Some, true, false, length, min};
 ghost use Rattle.ac_cloud.specs.Cloud.CloudWorld.{providers_of};
 ghost use Rattle.ac_query.specs.Shown.Queries.{asked_of};
-ghost use Rattle.ac_report.specs.Pages.{IsAssignment, TakesWhole};
-ghost use Rattle.ac_report.specs.Texts.{line, lines};
+ghost use Rattle.ac_report.specs.Outcomes.{WritesEach};
+ghost use Rattle.ac_report.specs.Pages.{IsAssignment};
+ghost use Rattle.ac_report.specs.Texts.{line};
 ghost use Rattle.ac_rules.specs.Judge.{is_candidate};
 ghost use Rattle.ac_rules.specs.Pages.{candidates};
 ghost use Rattle.ac_rules.specs.Shown.Assignments.{assigned_of};
@@ -84,10 +83,11 @@ impl<'a> Filling<'a> {
         ensures places { (rest : List (List ℕ))
             → AreAhead (world_at (providers_of assignment.now.cloud.now) self.old)
             (asked_in (takings_of self.old)) (assignment.now.list.now ∷ rest)
-            → PlacesAll (providers_of assignment.now.cloud.now) (asked_in (takings_of self.old))
+            → PlacesAll W.taken W.failures (providers_of assignment.now.cloud.now)
+            (asked_in (takings_of self.old))
             (stand_of (providers_of assignment.now.cloud.now) self.old)
-            (stand_of (providers_of assignment.now.cloud.now) self.new) rest result
-            (W.taken out.old) (W.taken out.new) (W.failures out.old) (W.failures out.new) }
+            (stand_of (providers_of assignment.now.cloud.now) self.new) rest out.old out.new
+            result }
     {
         'room: while self.wants(assignment) {
             put_line(text, assignment.cloud, assignment.list)?;
@@ -111,9 +111,8 @@ fn write_placements<'a, S: Source, W: Sink>(
     requires whole { S.left source.old
         ≡ candidates (providers_of cloud.now) (asked_of query.now) }
     requires asks { asks_units (asked_of query.now) ≡ true }
-    ensures ends { Ends (providers_of cloud.now) (asked_of query.now)
-        (start_of (providers_of cloud.now) (asked_of query.now)) result (W.taken out.old)
-        (W.taken out.new) (W.failures out.old) (W.failures out.new) }
+    ensures ends { Ends W.taken W.failures (providers_of cloud.now) (asked_of query.now)
+        (start_of (providers_of cloud.now) (asked_of query.now)) out.old out.new result }
 {
     let takings = Takings::new(alloc, cloud, query)?;
     let mut filling = Filling {
@@ -146,9 +145,9 @@ pub fn write_filled<'a, S: Source, W: Sink>(
     requires whole { S.left source.old
         ≡ candidates (providers_of cloud.now) (asked_of query.now) }
     requires asks { asks_units (asked_of query.now) ≡ true }
-    ensures text { OnOk result (Appends (W.taken out.old) (W.taken out.new)
-        (lines (providers_of cloud.now)
-        (filled (asked_of query.now).limit (providers_of cloud.now) (asked_of query.now)))) }
+    ensures writes { WritesEach W.taken W.failures out.old out.new result
+        (line (providers_of cloud.now))
+        (filled (asked_of query.now).limit (providers_of cloud.now) (asked_of query.now)) }
     ensures count { IfOk result (λ f. f.count ≡ min (length
         (filled (asked_of query.now).limit (providers_of cloud.now) (asked_of query.now)))
         4294967295) }
@@ -156,16 +155,6 @@ pub fn write_filled<'a, S: Source, W: Sink>(
         ≡ after (providers_of cloud.now) (asked_of query.now)
         (filled (asked_of query.now).limit (providers_of cloud.now) (asked_of query.now))) }
     ensures fits { IfOk result (λ f. IsTakenOf (providers_of cloud.now) f.takings) }
-    ensures part { OnErr result (TakesPart (W.taken out.old) (W.taken out.new)
-        (lines (providers_of cloud.now)
-        (filled (asked_of query.now).limit (providers_of cloud.now) (asked_of query.now)))) }
-    ensures failed { result ≡ Err PageFault.WriteFailed
-        → Rises (W.failures out.old) (W.failures out.new) }
-    ensures whole { result ≡ Err PageFault.NoMemory
-        → TakesWhole (line (providers_of cloud.now))
-        (filled (asked_of query.now).limit (providers_of cloud.now) (asked_of query.now))
-        (W.taken out.old) (W.taken out.new) }
-    ensures failures { W.failures out.old ≤ W.failures out.new }
 {
     write_placements(alloc, cloud, query, source, out)
 }

@@ -1,8 +1,8 @@
 //! The words of a command line, read by themselves.
 use ac_query::Version;
-use ac_run::{Command, Job};
+use ac_run::Command;
 use ac_tables::Table;
-use ac_words::{WordFault, read_words};
+use ac_words::{WordFault, Words, read_words};
 use std::alloc::{AllocError, Global};
 use std::test::Fail;
 
@@ -17,26 +17,23 @@ fn words_of(alloc: Global, line: &str) -> Result<Vec<String>, AllocError> {
     Ok(words)
 }
 
-const CHECK: Job<'static> = Job {
-    command: Command::Check,
-    query: "",
-    version: Version::V136,
-    token: None,
-    host: None,
-    detail: false,
-    traits: true,
-    sum: false,
-};
+// Whether words ask for this job.
+fn asks(words: &Words<'_>, command: Command<'_>, query: &str, version: Version) -> bool {
+    match words.job(None) {
+        Some(job) => job.command == command && job.query == query && job.version == version,
+        None => false,
+    }
+}
 
 #[test]
 fn check(rt: HostRuntime) -> Result<(), Fail> {
     let words = words_of(rt.alloc(), "ac_cli check --providers a --inventories b")?;
     match read_words(rt.alloc(), words.as_slice()) {
         Ok(words) => {
-            assert!(rt; words.job() == Some(CHECK));
+            assert!(rt; asks(&words, Command::Check, "", Version::V136));
             assert_eq!(rt; words.path(Table::Providers), Some("a"));
             assert_eq!(rt; words.path(Table::Inventories), Some("b"));
-            assert_eq!(rt; words.path(Table::Usages), None);
+            assert_eq!(rt; words.paths().usages, None);
         }
         Err(_fault) => assert!(rt; false, "the words are accepted"),
     }

@@ -1,4 +1,5 @@
 -- The texts of what is found.
+pub mod Begun
 pub mod SlotsWritten
 pub mod ItemsWritten
 pub mod FirstFound

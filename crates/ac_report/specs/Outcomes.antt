@@ -1,4 +1,4 @@
--- What is written and what is read, by the answer of a writer: private clauses speak of it so.
+-- What is written and what is read, by the answer of a writer.
 use Rattle.std.specs.Prelude.{◌≡◌, ◌+◌, ◌-◌, ◌≤◌, ℕ, List, Option, Result, Err, OnOk, OnErr, IfOk, length, min}
 use Rattle.std.specs.List.{flat_map}
 use Rattle.std.specs.Option.{option_map}
@@ -9,16 +9,21 @@ use Rattle.ac_report.specs.declared.fault.PageFault.{PageFault}
 use Rattle.ac_report.specs.declared.fault.PageFault.TheVariants as fault
 use Rattle.ac_report.specs.Pages.{LosesSome, TakesWhole, behind}
 
--- The pieces of some things are written: all of them; after an error a first part of them; where memory was wanting, whole pieces alone. A failed
--- write raised the count of failures.
-pub record Writes {X : Type 0} (piece : List ℕ → List ℕ) (xs : List (List ℕ)) (result : Result X PageFault) (old new : Option (List ℕ)) (before after : ℕ) : Type 0 where
-  pub text : OnOk result (Appends old new (flat_map piece xs))
-  pub part : OnErr result (TakesPart old new (flat_map piece xs))
-  pub failed : result ≡ Err fault.WriteFailed → Rises before after
-  pub whole : result ≡ Err fault.NoMemory → TakesWhole piece xs old new
-  pub failures : before ≤ after
+-- A text is written by the pieces of some things: the whole text; after an error a first part of it; where memory was wanting, whole pieces alone. A failed
+-- write raised the sink's count of failures, which never falls.
+pub record Writes {S X : Type 0} (taken : S → Option (List ℕ)) (fails : S → ℕ) (old new : S) (result : Result X PageFault) (text : List ℕ)
+    (piece : List ℕ → List ℕ) (xs : List (List ℕ)) : Type 0 where
+  pub ok : OnOk result (Appends (taken old) (taken new) text)
+  pub part : OnErr result (TakesPart (taken old) (taken new) text)
+  pub failed : result ≡ Err fault.WriteFailed → Rises (fails old) (fails new)
+  pub whole : result ≡ Err fault.NoMemory → TakesWhole piece xs (taken old) (taken new)
+  pub failures : fails old ≤ fails new
 
--- Lists are read: as many as the limit says, counted on from a number; before an error no more than those.
+-- the text is just these pieces, joined
+abbrev pub WritesEach : {S X : Type 0} → (S → Option (List ℕ)) → (S → ℕ) → S → S → Result X PageFault → (List ℕ → List ℕ) → List (List ℕ) → Type 0
+WritesEach taken fails old new result piece xs = Writes taken fails old new result (flat_map piece xs) piece xs
+
+-- Lists are read from a source: as many as the limit says, whose number is told, counted on from another; before an error no more than those.
 pub record Reads (limit : Option ℕ) (from : ℕ) (result : Result ℕ PageFault) (old new : List (List ℕ)) : Type 0 where
   pub left : OnOk result (new ≡ behind limit old)
   pub count : IfOk result (λ n. n ≡ min (length (cut limit old) + from) 4294967295)

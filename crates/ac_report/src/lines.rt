@@ -1,15 +1,13 @@
 //! A page as lines: the token of each candidate.
-ghost use Rattle.std.specs.Prelude.{◌≡◌, ◌≤◌, ◌<◌, ◌++◌, ◌∷◌, ◌↔◌, ℕ, List, [], OnOk, OnErr, IfOk, Err, IsTrue, Some, length, min};
+ghost use Rattle.std.specs.Prelude.{◌≡◌, ◌<◌, ◌++◌, ◌∷◌, ◌↔◌, ℕ, List, [], OnOk, IsTrue, Some, length};
 ghost use Rattle.std.specs.List.{All};
-ghost use Rattle.std.specs.Io.KnownBytes.{Appends};
-ghost use Rattle.ac_base.specs.Devices.{Rises, TakesPart};
 ghost use Rattle.ac_query.specs.Shown.Queries.{asked_of};
 ghost use Rattle.ac_query.specs.Tokens.{ids_text, part_text};
 ghost use Rattle.ac_rules.specs.Pages.{cut, ids_of};
 ghost use Rattle.ac_cloud.specs.Cloud.CloudWorld.{providers_of};
-ghost use Rattle.ac_report.specs.Texts.{line, lines};
-ghost use Rattle.ac_report.specs.Outcomes.{Reads, Writes, one_less};
-ghost use Rattle.ac_report.specs.Pages.{IsAssignment, LosesSome, TakesWhole, behind};
+ghost use Rattle.ac_report.specs.Texts.{line};
+ghost use Rattle.ac_report.specs.Outcomes.{Reads, WritesEach, one_less};
+ghost use Rattle.ac_report.specs.Pages.{IsAssignment};
 
 use crate::fault::PageFault;
 use ac_base::{Id, NoMemory, Sink, push_all};
@@ -35,8 +33,7 @@ pub fn one_less(wanted: Option<u32>) -> Option<u32>
 /// Pushes a piece.
 pub fn push_piece<W: Sink>(out: &mut W, text: &[u8]) -> Result<(), PageFault>
     ensures { (piece : List ℕ → List ℕ) (x : List ℕ) → piece x ≡ text.now
-        → Writes piece (x ∷ []) result (W.taken out.old) (W.taken out.new)
-        (W.failures out.old) (W.failures out.new) }
+        → WritesEach W.taken W.failures out.old out.new result piece (x ∷ []) }
 {
     push_all(out, text)?;
     Ok(())
@@ -76,8 +73,10 @@ pub fn put_line(text: &mut Vec<u8>, cloud: &Cloud, list: &[u32]) -> Result<(), N
     Ok(())
 }
 
-// Writes a line for each list that is wanted of those that are left, and answers how many.
-fn write_lines<S: Source, W: Sink>(
+/// Writes a line for each list that is left, at most as many as the query's limit, and answers how many, at most 4294967295.
+///
+/// The next list is taken only once the line of the one before is pushed whole.
+pub fn write_tokens<S: Source, W: Sink>(
     alloc: Global,
     cloud: &Cloud,
     query: &Query,
@@ -88,9 +87,9 @@ fn write_lines<S: Source, W: Sink>(
         (S.left source.old) }
     ensures reads { Reads (asked_of query.now).limit 0 result (S.left source.old)
         (S.left source.new) }
-    ensures writes { Writes (line (providers_of cloud.now))
-        (cut (asked_of query.now).limit (S.left source.old)) result (W.taken out.old)
-        (W.taken out.new) (W.failures out.old) (W.failures out.new) }
+    ensures writes { WritesEach W.taken W.failures out.old out.new result
+        (line (providers_of cloud.now))
+        (cut (asked_of query.now).limit (S.left source.old)) }
 {
     let mut wanted = query.limit();
     let mut text = Vec::new(alloc);
@@ -105,36 +104,4 @@ fn write_lines<S: Source, W: Sink>(
         count = count.saturating_add(1);
     }
     Ok(count)
-}
-
-/// Writes a line for each list that is left, at most as many as the query's limit, and answers how many, at most 4294967295.
-///
-/// The next list is taken only once the line of the one before is pushed whole.
-pub fn write_tokens<S: Source, W: Sink>(
-    alloc: Global,
-    cloud: &Cloud,
-    query: &Query,
-    source: &mut S,
-    out: &mut W,
-) -> Result<u32, PageFault>
-    requires { All (IsAssignment (providers_of cloud.now) (asked_of query.now))
-        (S.left source.old) }
-    ensures text { OnOk result (Appends (W.taken out.old) (W.taken out.new)
-        (lines (providers_of cloud.now) (cut (asked_of query.now).limit (S.left source.old)))) }
-    ensures left { OnOk result (S.left source.new
-        ≡ behind (asked_of query.now).limit (S.left source.old)) }
-    ensures count { IfOk result (λ n.
-        n ≡ min (length (cut (asked_of query.now).limit (S.left source.old))) 4294967295) }
-    ensures part { OnErr result (TakesPart (W.taken out.old) (W.taken out.new)
-        (lines (providers_of cloud.now) (cut (asked_of query.now).limit (S.left source.old)))) }
-    ensures gone { OnErr result (LosesSome (asked_of query.now).limit (S.left source.old)
-        (S.left source.new)) }
-    ensures failed { result ≡ Err PageFault.WriteFailed
-        → Rises (W.failures out.old) (W.failures out.new) }
-    ensures whole { result ≡ Err PageFault.NoMemory
-        → TakesWhole (line (providers_of cloud.now))
-        (cut (asked_of query.now).limit (S.left source.old)) (W.taken out.old) (W.taken out.new) }
-    ensures failures { W.failures out.old ≤ W.failures out.new }
-{
-    write_lines(alloc, cloud, query, source, out)
 }

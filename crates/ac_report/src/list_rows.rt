@@ -2,11 +2,9 @@
 
 mod cells;
 
-ghost use Rattle.std.specs.Prelude.{◌≡◌, ◌≤◌, ◌<◌, ◌++◌, ◌∷◌, ℕ, List, [], IfOk, OnOk, OnErr, Err, length, map, min};
+ghost use Rattle.std.specs.Prelude.{◌≡◌, ◌<◌, ◌++◌, ◌∷◌, ℕ, List, [], IfOk, length, map};
 ghost use Rattle.std.specs.List.{All};
 ghost use Rattle.std.specs.Map.{keys_of};
-ghost use Rattle.std.specs.Io.KnownBytes.{Appends};
-ghost use Rattle.ac_base.specs.Devices.{Rises, TakesPart};
 ghost use Rattle.ac_base.specs.Sorted.{rising};
 ghost use Rattle.ac_base.specs.Texts.{text_cmp};
 ghost use Rattle.ac_cloud.specs.Cloud.CloudWorld.{providers_of};
@@ -14,8 +12,8 @@ ghost use Rattle.ac_query.specs.Shown.Queries.{asked_of};
 ghost use Rattle.ac_rules.specs.Pages.{cut};
 ghost use Rattle.ac_rules.specs.Placed.{assigned};
 ghost use Rattle.ac_report.specs.ListRows.{block_text, blocks, list_pieces, list_text, provider_row};
-ghost use Rattle.ac_report.specs.Outcomes.{Reads, Writes};
-ghost use Rattle.ac_report.specs.Pages.{IsAssignment, LosesSome, TakesWhole, behind};
+ghost use Rattle.ac_report.specs.Outcomes.{Reads, Writes, WritesEach};
+ghost use Rattle.ac_report.specs.Pages.{IsAssignment};
 ghost use Rattle.ac_base.specs.Rows.{HasRows};
 ghost use Rattle.ac_report.specs.Texts.{shown_providers};
 ghost use Rattle.ac_report.specs.Trees.{needs_on};
@@ -114,9 +112,9 @@ fn write_blocks<S: Source, W: Sink>(
         (S.left source.old) }
     ensures reads { Reads (asked_of query.now).limit 0 result (S.left source.old)
         (S.left source.new) }
-    ensures writes { Writes (λ text. text) (blocks (shown_providers traits (providers_of cloud.now))
-        (asked_of query.now) 1 (cut (asked_of query.now).limit (S.left source.old))) result
-        (W.taken out.old) (W.taken out.new) (W.failures out.old) (W.failures out.new) }
+    ensures writes { WritesEach W.taken W.failures out.old out.new result (λ text. text)
+        (blocks (shown_providers traits (providers_of cloud.now)) (asked_of query.now) 1
+        (cut (asked_of query.now).limit (S.left source.old))) }
 {
     let mut wanted = query.limit();
     let mut count: u32 = 0;
@@ -142,8 +140,11 @@ fn write_blocks<S: Source, W: Sink>(
     Ok(count)
 }
 
-// Writes the header, and the rows.
-fn write_pieces<S: Source, W: Sink>(
+/// Writes the lists that are left as rows, at most as many lists as the query's limit, and answers how many these are, at most
+/// 4294967295. The traits of providers are told, or their column is left empty.
+///
+/// The next list is taken only once the rows of the one before are pushed whole.
+pub fn write_list<S: Source, W: Sink>(
     alloc: Global,
     cloud: &Cloud,
     query: &Query,
@@ -155,52 +156,15 @@ fn write_pieces<S: Source, W: Sink>(
         (S.left source.old) }
     ensures reads { Reads (asked_of query.now).limit 0 result (S.left source.old)
         (S.left source.new) }
-    ensures writes { Writes (λ text. text)
+    ensures writes { Writes W.taken W.failures out.old out.new result
+        (list_text (shown_providers traits (providers_of cloud.now)) (asked_of query.now)
+        (cut (asked_of query.now).limit (S.left source.old))) (λ text. text)
         (list_pieces (shown_providers traits (providers_of cloud.now)) (asked_of query.now)
-        (cut (asked_of query.now).limit (S.left source.old))) result (W.taken out.old)
-        (W.taken out.new) (W.failures out.old) (W.failures out.new) }
+        (cut (asked_of query.now).limit (S.left source.old))) }
 {
     push_piece(
         out,
         b"#,allocation,resource provider,name,inventory used/capacity,traits\n",
     )?;
     write_blocks(alloc, cloud, query, traits, source, out)
-}
-
-/// Writes the lists that are left as rows, at most as many lists as the query's limit, and answers how many these are, at most
-/// 4294967295. The traits of providers are told, or their column is left empty.
-///
-/// The next list is taken only once the rows of the one before are pushed whole.
-#[tactic(auto, using(crate::proofs::Pages::Listing::is_list_text))]
-pub fn write_list<S: Source, W: Sink>(
-    alloc: Global,
-    cloud: &Cloud,
-    query: &Query,
-    traits: bool,
-    source: &mut S,
-    out: &mut W,
-) -> Result<u32, PageFault>
-    requires { All (IsAssignment (providers_of cloud.now) (asked_of query.now))
-        (S.left source.old) }
-    ensures text { OnOk result (Appends (W.taken out.old) (W.taken out.new)
-        (list_text (shown_providers traits (providers_of cloud.now)) (asked_of query.now)
-        (cut (asked_of query.now).limit (S.left source.old)))) }
-    ensures left { OnOk result (S.left source.new
-        ≡ behind (asked_of query.now).limit (S.left source.old)) }
-    ensures count { IfOk result (λ n.
-        n ≡ min (length (cut (asked_of query.now).limit (S.left source.old))) 4294967295) }
-    ensures part { OnErr result (TakesPart (W.taken out.old) (W.taken out.new)
-        (list_text (shown_providers traits (providers_of cloud.now)) (asked_of query.now)
-        (cut (asked_of query.now).limit (S.left source.old)))) }
-    ensures gone { OnErr result (LosesSome (asked_of query.now).limit (S.left source.old)
-        (S.left source.new)) }
-    ensures failed { result ≡ Err PageFault.WriteFailed
-        → Rises (W.failures out.old) (W.failures out.new) }
-    ensures whole { result ≡ Err PageFault.NoMemory
-        → TakesWhole (λ text. text)
-        (list_pieces (shown_providers traits (providers_of cloud.now)) (asked_of query.now)
-        (cut (asked_of query.now).limit (S.left source.old))) (W.taken out.old) (W.taken out.new) }
-    ensures failures { W.failures out.old ≤ W.failures out.new }
-{
-    write_pieces(alloc, cloud, query, traits, source, out)
 }

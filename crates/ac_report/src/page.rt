@@ -1,16 +1,14 @@
 //! A page as a body of JSON: allocation requests, and the summaries of their trees.
-ghost use Rattle.std.specs.Prelude.{◌≡◌, ◌≤◌, ◌<◌, ◌++◌, ◌∷◌, ◌||◌, ℕ, List, [], false, IfOk, OnOk, OnErr, Err, length, min, slice_index_or};
+ghost use Rattle.std.specs.Prelude.{◌≡◌, ◌<◌, ◌++◌, ◌∷◌, ◌||◌, ℕ, List, [], false, IfOk, OnOk, length, slice_index_or};
 ghost use Rattle.std.specs.List.{All};
-ghost use Rattle.std.specs.Io.KnownBytes.{Appends};
 ghost use Rattle.serde_json.specs.Written.{comma_if};
-ghost use Rattle.ac_base.specs.Devices.{Rises, TakesPart};
 ghost use Rattle.ac_cloud.specs.Cloud.CloudWorld.{providers_of};
 ghost use Rattle.ac_cloud.specs.World.{id_at};
 ghost use Rattle.ac_query.specs.Shown.Queries.{asked_of};
 ghost use Rattle.ac_rules.specs.Pages.{cut};
 ghost use Rattle.ac_report.specs.Marks.{IsMarked, body_pieces, has_root, is_summarized, requests, summaries};
-ghost use Rattle.ac_report.specs.Outcomes.{Reads, Writes};
-ghost use Rattle.ac_report.specs.Pages.{IsAssignment, LosesSome, TakesWhole, behind};
+ghost use Rattle.ac_report.specs.Outcomes.{Reads, Writes, WritesEach};
+ghost use Rattle.ac_report.specs.Pages.{IsAssignment};
 ghost use Rattle.ac_report.specs.Texts.{body, meets_root, pieces, shown_providers, summarized, summary_piece};
 
 use crate::fault::PageFault;
@@ -26,8 +24,8 @@ use std::alloc::{AllocError, Global};
 // Pushes a text, after a comma where something stands before.
 #[tactic(auto, using(ac_base::proofs::Leaving::appends_both, ac_base::proofs::Leaving::part_of_first, ac_base::proofs::Leaving::part_of_second))]
 fn push_listed<W: Sink>(out: &mut W, later: bool, text: &[u8]) -> Result<(), PageFault>
-    ensures { Writes (λ text. text) ((comma_if later ++ text.now) ∷ []) result (W.taken out.old)
-        (W.taken out.new) (W.failures out.old) (W.failures out.new) }
+    ensures { WritesEach W.taken W.failures out.old out.new result (λ text. text)
+        ((comma_if later ++ text.now) ∷ []) }
 {
     if !later {
         push_all(out, text)?;
@@ -85,9 +83,9 @@ fn write_requests<S: Source, W: Sink>(
     requires marks { IsMarked (providers_of cloud.now) [] marks.old }
     ensures reads { Reads (asked_of query.now).limit 0 result (S.left source.old)
         (S.left source.new) }
-    ensures writes { Writes (λ text. text) (requests (providers_of cloud.now) (asked_of query.now)
-        false (cut (asked_of query.now).limit (S.left source.old))) result (W.taken out.old)
-        (W.taken out.new) (W.failures out.old) (W.failures out.new) }
+    ensures writes { WritesEach W.taken W.failures out.old out.new result (λ text. text)
+        (requests (providers_of cloud.now) (asked_of query.now) false
+        (cut (asked_of query.now).limit (S.left source.old))) }
     ensures marks { OnOk result (IsMarked (providers_of cloud.now)
         (cut (asked_of query.now).limit (S.left source.old)) marks.new) }
 {
@@ -120,9 +118,9 @@ fn write_summary<W: Sink>(
     out: &mut W,
 ) -> Result<(), PageFault>
     requires { ix < length (providers_of cloud.now) }
-    ensures { Writes (λ text. text) ((comma_if later
-        ++ summary_piece (shown_providers traits (providers_of cloud.now)) ix) ∷ []) result
-        (W.taken out.old) (W.taken out.new) (W.failures out.old) (W.failures out.new) }
+    ensures { WritesEach W.taken W.failures out.old out.new result (λ text. text)
+        ((comma_if later ++ summary_piece (shown_providers traits (providers_of cloud.now)) ix)
+        ∷ []) }
 {
     let member = summary_member(alloc, cloud, ix, traits)?;
     push_listed(out, later, without_braces(&member))
@@ -148,9 +146,9 @@ fn write_summaries<W: Sink>(
 ) -> Result<(), PageFault>
     requires { length marks.now ≡ length (providers_of cloud.now) }
     ensures { (lists : List (List ℕ)) → IsMarked (providers_of cloud.now) lists marks.now
-        → Writes (λ text. text) (summaries (shown_providers traits (providers_of cloud.now)) false
-        (summarized (providers_of cloud.now) lists)) result (W.taken out.old) (W.taken out.new)
-        (W.failures out.old) (W.failures out.new) }
+        → WritesEach W.taken W.failures out.old out.new result (λ text. text)
+        (summaries (shown_providers traits (providers_of cloud.now)) false
+        (summarized (providers_of cloud.now) lists)) }
 {
     let mut later = false;
     for ix in 0..cloud.len() {
@@ -178,9 +176,9 @@ fn write_parts<S: Source, W: Sink>(
     requires marks { IsMarked (providers_of cloud.now) [] marks.old }
     ensures reads { Reads (asked_of query.now).limit 0 result (S.left source.old)
         (S.left source.new) }
-    ensures writes { Writes (λ text. text) (body_pieces traits (providers_of cloud.now)
-        (asked_of query.now) (cut (asked_of query.now).limit (S.left source.old))) result
-        (W.taken out.old) (W.taken out.new) (W.failures out.old) (W.failures out.new) }
+    ensures writes { WritesEach W.taken W.failures out.old out.new result (λ text. text)
+        (body_pieces traits (providers_of cloud.now) (asked_of query.now)
+        (cut (asked_of query.now).limit (S.left source.old))) }
 {
     push_piece(out, b"{\"allocation_requests\":[")?;
     let count = write_requests(alloc, cloud, query, source, out, marks)?;
@@ -194,7 +192,6 @@ fn write_parts<S: Source, W: Sink>(
 /// in which traits are told or not, and answers how many lists these are, at most 4294967295.
 ///
 /// The next list is taken only once the request of the one before is pushed whole.
-#[tactic(auto, using(ac_base::proofs::Leaving::part_none, crate::proofs::Pages::Showing::is_shown_body, crate::proofs::Pages::Showing::pieces_shown))]
 pub fn write_shown_page<S: Source, W: Sink>(
     alloc: Global,
     cloud: &Cloud,
@@ -205,25 +202,13 @@ pub fn write_shown_page<S: Source, W: Sink>(
 ) -> Result<u32, PageFault>
     requires { All (IsAssignment (providers_of cloud.now) (asked_of query.now))
         (S.left source.old) }
-    ensures text { OnOk result (Appends (W.taken out.old) (W.taken out.new)
+    ensures reads { Reads (asked_of query.now).limit 0 result (S.left source.old)
+        (S.left source.new) }
+    ensures writes { Writes W.taken W.failures out.old out.new result
         (body (shown_providers traits (providers_of cloud.now)) (asked_of query.now)
-        (cut (asked_of query.now).limit (S.left source.old)))) }
-    ensures left { OnOk result (S.left source.new
-        ≡ behind (asked_of query.now).limit (S.left source.old)) }
-    ensures count { IfOk result (λ n.
-        n ≡ min (length (cut (asked_of query.now).limit (S.left source.old))) 4294967295) }
-    ensures part { OnErr result (TakesPart (W.taken out.old) (W.taken out.new)
-        (body (shown_providers traits (providers_of cloud.now)) (asked_of query.now)
-        (cut (asked_of query.now).limit (S.left source.old)))) }
-    ensures gone { OnErr result (LosesSome (asked_of query.now).limit (S.left source.old)
-        (S.left source.new)) }
-    ensures failed { result ≡ Err PageFault.WriteFailed
-        → Rises (W.failures out.old) (W.failures out.new) }
-    ensures whole { result ≡ Err PageFault.NoMemory
-        → TakesWhole (λ text. text) (pieces (shown_providers traits (providers_of cloud.now))
-        (asked_of query.now) (cut (asked_of query.now).limit (S.left source.old)))
-        (W.taken out.old) (W.taken out.new) }
-    ensures failures { W.failures out.old ≤ W.failures out.new }
+        (cut (asked_of query.now).limit (S.left source.old))) (λ text. text)
+        (pieces (shown_providers traits (providers_of cloud.now)) (asked_of query.now)
+        (cut (asked_of query.now).limit (S.left source.old))) }
 {
     let mut marks = new_marks(alloc, cloud)?;
     write_parts(alloc, cloud, query, traits, source, out, &mut marks)
@@ -242,24 +227,13 @@ pub fn write_page<S: Source, W: Sink>(
 ) -> Result<u32, PageFault>
     requires { All (IsAssignment (providers_of cloud.now) (asked_of query.now))
         (S.left source.old) }
-    ensures text { OnOk result (Appends (W.taken out.old) (W.taken out.new)
+    ensures reads { Reads (asked_of query.now).limit 0 result (S.left source.old)
+        (S.left source.new) }
+    ensures writes { Writes W.taken W.failures out.old out.new result
         (body (providers_of cloud.now) (asked_of query.now)
-        (cut (asked_of query.now).limit (S.left source.old)))) }
-    ensures left { OnOk result (S.left source.new
-        ≡ behind (asked_of query.now).limit (S.left source.old)) }
-    ensures count { IfOk result (λ n.
-        n ≡ min (length (cut (asked_of query.now).limit (S.left source.old))) 4294967295) }
-    ensures part { OnErr result (TakesPart (W.taken out.old) (W.taken out.new)
-        (body (providers_of cloud.now) (asked_of query.now)
-        (cut (asked_of query.now).limit (S.left source.old)))) }
-    ensures gone { OnErr result (LosesSome (asked_of query.now).limit (S.left source.old)
-        (S.left source.new)) }
-    ensures failed { result ≡ Err PageFault.WriteFailed
-        → Rises (W.failures out.old) (W.failures out.new) }
-    ensures whole { result ≡ Err PageFault.NoMemory
-        → TakesWhole (λ text. text) (pieces (providers_of cloud.now) (asked_of query.now)
-        (cut (asked_of query.now).limit (S.left source.old))) (W.taken out.old) (W.taken out.new) }
-    ensures failures { W.failures out.old ≤ W.failures out.new }
+        (cut (asked_of query.now).limit (S.left source.old))) (λ text. text)
+        (pieces (providers_of cloud.now) (asked_of query.now)
+        (cut (asked_of query.now).limit (S.left source.old))) }
 {
     write_shown_page(alloc, cloud, query, true, source, out)
 }

@@ -1,91 +1,213 @@
--- What is known of the answer once the tables were read.
-use Rattle.std.proofs.Common.{◌≡◌, ◌∙◌, ℕ, List, Option, Some, None, refl, sym, ap, subst}
-use Rattle.ac_tables.specs.Tables.{tables_fault, world_stated}
+-- What is said of bytes, and why nothing was answered.
+use Rattle.std.proofs.Common.{◌≡◌, ◌∙◌, ℕ, ◌≤◌, Bool, true, false, List, [], ◌∷◌, ◌++◌, Option, Some, None, ◌⊎◌, inl, inr, refl, sym, ap, subst, arith, append-nil}
+use Rattle.std.proofs.lemmas.Bool.Decides.{nat_tests}
+use Rattle.std.specs.Global.{Vec}
+use Rattle.std.specs.Prelude.{Contains, nat_lt, if◌then◌else◌, IfOk, Result, Ok, Err}
+use Rattle.ac_base.specs.Devices.{TakesPart}
 use Rattle.ac_cloud.specs.World.{World}
+use Rattle.ac_query.specs.Faults.{query_fault}
+use Rattle.ac_query.specs.Laws.Gathered.{asked_by}
+use Rattle.ac_query.specs.Pairs.{pairs_of}
+use Rattle.ac_query.specs.declared.version.Version.{Version}
+use Rattle.ac_run.specs.Answer.{Outcome, answer, answer_by, answer_in, answer_within, past_query, past_tables, refused, said_by, size_refused, table_refused, with_detail}
+use Rattle.ac_run.specs.Details.{asked_remedy, asked_text, behind, fault_remedy, reading_remedy}
+use Rattle.ac_run.specs.Draining.{ExplainsReading}
+use Rattle.ac_run.specs.Feeds.{Bytes, TellBytes, too_large}
+use Rattle.ac_run.specs.Given.{tables_in}
+use Rattle.ac_run.specs.Lines.{memory_line}
+use Rattle.ac_run.specs.Refusals.{IsRefusalWith, line_of, line_of_asked, line_of_tables, line_told, status_of, status_of_asked, status_of_tables, status_told}
+use Rattle.ac_run.specs.Run.{Explains, ExplainsTables, IsStated, IsWritten}
+use Rattle.ac_run.specs.Tasks.{Command, Paths, Task, check, candidates, tokens, list, fill, verify, explain, hosts, why, token_in}
+use Rattle.ac_run.specs.Wanted.{ExplainsWanted}
+use Rattle.ac_run.specs.declared.refusal.AskRefusal.{AskRefusal}
+use Rattle.ac_run.specs.declared.refusal.AskRefusal.TheVariants as ask
+use Rattle.ac_run.specs.declared.refusal.Refusal.{Refusal}
+use Rattle.ac_run.specs.declared.refusal.Refusal.TheVariants as whole
+use Rattle.ac_run.specs.declared.refusal.Refused.{Refused}
+use Rattle.ac_run.specs.declared.refusal.TablesRefusal.{TablesRefusal}
+use Rattle.ac_run.specs.declared.refusal.TablesRefusal.TheVariants as tables
+use Rattle.ac_tables.specs.Tables.{tables_fault, world_stated}
 use Rattle.ac_tables.specs.declared.fault.Table.{Table}
 use Rattle.ac_tables.specs.declared.fault.TableFault.{TableFault}
 use Rattle.ac_tables.specs.declared.fault.TableFault.TheVariants as fault
-use Rattle.ac_run.specs.Answer.{Task, answer, answer_in, answer_over, refused, table_refused, tables_in}
-use Rattle.ac_run.specs.Draining.{ExplainsReading}
-use Rattle.ac_run.specs.Feeds.{Bytes, TellBytes, too_large}
-use Rattle.ac_run.specs.Jobs.{ExplainsWanted}
-use Rattle.ac_run.specs.Lines.{too_large_line}
-use Rattle.ac_run.specs.Run.{ExplainsInputs, ExplainsTables, ExplainsUnready, IsStated}
 use Rattle.ac_tables.specs.declared.read.FiveTables.{FiveTables}
-use Rattle.ac_run.specs.declared.refusal.Refusal.{Refusal}
-use Rattle.ac_run.specs.declared.refusal.Refusal.TheVariants as why
 
--- ---- the answer, by cases
+-- ---- with what is to be done
 
-module _ (task : Task) (b : Bytes) where
-  too_long : (t : Table) → too_large b ≡ Some t → answer task b ≡ refused (too_large_line t) 3
-  unfolding answer
+-- an outcome that is no refusal stays as it is
+plain_in_detail : (text : List ℕ) (o : Outcome) → o.status ≤ 1 → with_detail text o ≡ o
+plain_in_detail text o small = let low : nat_lt 2 o.status ≡ false = grind (arith, nat_tests) in rw low refl
+
+-- the output of each stays
+output_in_detail : (text : List ℕ) (o : Outcome) → (with_detail text o).output ≡ o.output
+output_in_detail text o = by (nat_lt 2 o.status)
+  where
+    by : (b : Bool) → (if b then record o { line = o.line ++ text } else o).output ≡ o.output
+    by true = refl
+    by false = refl
+
+refused_in_detail : (text line : List ℕ) (status : ℕ) → 3 ≤ status → with_detail text (refused line status) ≡ refused (line ++ text) status
+refused_in_detail text line status high = let h : nat_lt 2 status ≡ true = grind (arith, nat_tests) in rw h refl
+
+nothing_behind : (detail : Option Paths) → behind detail (λ paths. []) ≡ []
+nothing_behind None = refl
+nothing_behind (Some paths) = refl
+
+-- ---- what is said past the tables
+
+module _ (detail : Option Paths) (b : Bytes) (say : World → Outcome) where
+  too_long : (t : Table) → too_large b ≡ Some t → past_tables detail b say ≡ size_refused detail t
   too_long t h = rw h refl
 
-  faulty : (f : TableFault) → too_large b ≡ None → tables_fault (tables_in b) ≡ Some f → answer task b ≡ table_refused f
-  unfolding answer answer_over
+  faulty : (f : TableFault) → too_large b ≡ None → tables_fault (tables_in b) ≡ Some f → past_tables detail b say ≡ table_refused detail (tables_in b) f
   faulty f few h = rw (few, h) refl
 
-  in_world : (world : World) → too_large b ≡ None → tables_fault (tables_in b) ≡ None → world ≡ world_stated (tables_in b)
-      → answer task b ≡ answer_in task.command task world
-  unfolding answer answer_over
-  in_world world few fine e = rw (few, fine) (ap (answer_in task.command task) (sym e))
+  pub in_world : (world : World) → IsStated b world → past_tables detail b say ≡ say world
+  in_world world stated = rw (stated.few, stated.fine) (ap say (sym stated.states))
+
+-- ---- what a refusal tells
+
+-- its line with the text behind it, and its status; or, where there was no memory for the text, want of memory
+abbrev Tells : List ℕ → ℕ → List ℕ → ℕ → Type 0
+Tells line status told given = ((told ≡ line) × (given ≡ status)) ⊎ ((told ≡ memory_line) × (given ≡ 7))
+
+tells : {F : Type 0} (refusal : Refusal) (text : Result (Vec ℕ) F) (told : Refused) (said : List ℕ) → IsRefusalWith refusal text told → IfOk text (λ t. t.items ≡ said)
+    → Tells (line_of refusal ++ said) (status_of refusal) (line_told told) (status_told told)
+tells refusal (Ok text) told said is h = inl (is.0 ∙ ap (λ l. line_of refusal ++ l) h, is.1)
+tells r (Err e) told said is h = inr is
+
+-- the status of tables that are refused
+pub refused_status : {F : Type 0} (refusal : TablesRefusal) (text : Result (Vec ℕ) F) (told : Refused) → IsRefusalWith (whole.Tables refusal) text told
+    → Contains (3 ∷ 7 ∷ []) (status_told told)
+refused_status r (Ok text) told is = rw is.1 (by r)
+  where
+    by : (r : TablesRefusal) → Contains (3 ∷ 7 ∷ []) (status_of_tables r)
+    by (tables.Unreadable t) = (0, omega arith, refl)
+    by (tables.TooLarge t) = (0, omega arith, refl)
+    by (tables.Record t row k) = (0, omega arith, refl)
+    by tables.NoMemory = (1, omega arith, refl)
+refused_status r (Err e) told is = rw is.1 (1, omega arith, refl)
 
 -- ---- why there is no world
 
-module _ {R : Type 0} (remaining : R → Option (List ℕ)) (failures : R → ℕ) (from to : FiveTables R) where
-  pub explains_reading : (refusal : Refusal) → ExplainsReading remaining failures from to refusal → ExplainsInputs remaining failures from to refusal
-  explains_reading (why.Unreadable t) h = h
-  explains_reading (why.TooLarge t) h = h
-  explains_reading (why.Record t row k) h = absurd h
-  explains_reading (why.Query f) h = absurd h
-  explains_reading (why.Token f) h = absurd h
-  explains_reading (why.Host f) h = absurd h
-  explains_reading why.Output h = absurd h
-  explains_reading why.NoMemory h = tt
+module _ {R : Type 0} (remaining : R → Option (List ℕ)) (failures : R → ℕ) (detail : Option Paths) (from to : FiveTables R) (say : World → Outcome) where
+  abbrev IsWhy : List ℕ → ℕ → Type 0
+  IsWhy line status = Explains remaining failures detail (λ b. past_tables detail b say) from to line status
+
+  -- the bytes of a table can't be had
+  reading : (refusal : TablesRefusal) → ExplainsReading remaining failures from to refusal
+      → IsWhy (line_of_tables refusal ++ behind detail (reading_remedy refusal)) (status_of_tables refusal)
+  reading (tables.Unreadable t) h = inl (t, h, refl, refl)
+  reading (tables.TooLarge t) h = inr (inl (omega arith, omega arith, λ b tell. too_long detail b say t (h b tell)))
+  reading (tables.Record t row k) h = absurd h
+  reading tables.NoMemory h = inr (inr (ap (λ l. memory_line ++ l) (nothing_behind detail) ∙ append-nil memory_line, refl))
+
+  pub read_told : {F : Type 0} (refusal : TablesRefusal) (text : Result (Vec ℕ) F) (told : Refused) → ExplainsReading remaining failures from to refusal
+      → IfOk text (λ t. t.items ≡ behind detail (reading_remedy refusal)) → IsRefusalWith (whole.Tables refusal) text told → IsWhy (line_told told) (status_told told)
+  read_told r text told h said is = elim (tells (whole.Tables r) text told (behind detail (reading_remedy r)) is said) [
+    | inl this ↦ rw (this.0, this.1) (reading r h)
+    | inr last ↦ inr (inr last)
+  ]
 
   -- the texts were read
   module _ (texts : Bytes) (told : (b : Bytes) → TellBytes remaining from b → texts ≡ b) (few : too_large texts ≡ None) where
-    pub explains_tables : (refusal : Refusal) → ExplainsTables (tables_fault (tables_in texts)) refusal → ExplainsInputs remaining failures from to refusal
-    explains_tables (why.Record t row k) h =
-        λ b tell. subst (λ b. (too_large b ≡ None) × (tables_fault (tables_in b) ≡ Some (fault.At t row k))) (told b tell) (few, h)
-    explains_tables (why.Unreadable t) h = absurd h
-    explains_tables (why.TooLarge t) h = absurd h
-    explains_tables (why.Query f) h = absurd h
-    explains_tables (why.Token f) h = absurd h
-    explains_tables (why.Host f) h = absurd h
-    explains_tables why.Output h = absurd h
-    explains_tables why.NoMemory h = tt
+    faults : (refusal : TablesRefusal) → ExplainsTables (tables_fault (tables_in texts)) refusal
+        → IsWhy (line_of_tables refusal ++ behind detail (fault_remedy (tables_in texts) refusal)) (status_of_tables refusal)
+    faults (tables.Record t row k) h =
+        inr (inl (omega arith, omega arith, λ b tell. ap (λ b. past_tables detail b say) (sym (told b tell)) ∙ faulty detail texts say (fault.At t row k) few h))
+    faults (tables.Unreadable t) h = absurd h
+    faults (tables.TooLarge t) h = absurd h
+    faults tables.NoMemory h = inr (inr (ap (λ l. memory_line ++ l) (nothing_behind detail) ∙ append-nil memory_line, refl))
+
+    pub fault_told : {F : Type 0} (refusal : TablesRefusal) (text : Result (Vec ℕ) F) (said : Refused) → ExplainsTables (tables_fault (tables_in texts)) refusal
+        → IfOk text (λ t. t.items ≡ behind detail (fault_remedy (tables_in texts) refusal)) → IsRefusalWith (whole.Tables refusal) text said
+        → IsWhy (line_told said) (status_told said)
+    fault_told r text said h remedy is = elim (tells (whole.Tables r) text said (behind detail (fault_remedy (tables_in texts) r)) is remedy) [
+      | inl this ↦ rw (this.0, this.1) (faults r h)
+      | inr last ↦ inr (inr last)
+    ]
 
     -- and state this world
     pub is_stated : (world : World) → tables_fault (tables_in texts) ≡ None → world ≡ world_stated (tables_in texts)
         → (b : Bytes) → TellBytes remaining from b → IsStated b world
     is_stated world fine stated b tell = subst (λ b. IsStated b world) (told b tell) (record { few = few; fine = fine; states = stated })
 
--- ---- why there is no answer
+-- ---- what was written of an outcome that is no refusal
 
-module _ {R : Type 0} (remaining : R → Option (List ℕ)) (failures : R → ℕ) (task : Task) (from to : FiveTables R) where
-  pub explains_inputs : (refusal : Refusal) → ExplainsInputs remaining failures from to refusal → ExplainsUnready remaining failures task from to refusal
-  explains_inputs (why.Unreadable t) h = h
-  explains_inputs (why.TooLarge t) h = λ b tell. too_long task b t (h b tell)
-  explains_inputs (why.Record t row k) h = λ b tell. let fault_told = h b tell in faulty task b (fault.At t row k) fault_told.0 fault_told.1
-  explains_inputs (why.Query f) h = absurd h
-  explains_inputs (why.Token f) h = absurd h
-  explains_inputs (why.Host f) h = absurd h
-  explains_inputs why.Output h = absurd h
-  explains_inputs why.NoMemory h = tt
+module _ (text : List ℕ) (o said : Outcome) (old new : Option (List ℕ)) where
+  pub written_so : (given : ℕ) → said ≡ with_detail text o → given ≤ 1 → IsWritten o old new given → IsWritten said old new given
+  written_so given is small written = subst (λ o. IsWritten o old new given) (sym (is ∙ plain_in_detail text o (subst (λ n. n ≤ 1) written.status small))) written
 
-  -- the tables state this world
-  module _ (world : World) (stated : (b : Bytes) → TellBytes remaining from b → IsStated b world) where
-    pub answers : (b : Bytes) → TellBytes remaining from b → answer task b ≡ answer_in task.command task world
-    answers b tell = let s = stated b tell in in_world task b world s.few s.fine s.states
+  pub part_so : said ≡ with_detail text o → TakesPart old new o.output → TakesPart old new said.output
+  part_so is part = subst (TakesPart old new) (sym (ap (λ o. o.output) is ∙ output_in_detail text o)) part
 
-    pub explains_wanted : (refusal : Refusal) → ExplainsWanted task world refusal → ExplainsUnready remaining failures task from to refusal
-    explains_wanted (why.Query f) h = λ b tell. answers b tell ∙ h
-    explains_wanted (why.Token f) h = λ b tell. answers b tell ∙ h
-    explains_wanted (why.Host f) h = λ b tell. answers b tell ∙ h
-    explains_wanted why.NoMemory h = tt
-    explains_wanted (why.Unreadable t) h = absurd h
-    explains_wanted (why.TooLarge t) h = absurd h
-    explains_wanted (why.Record t row k) h = absurd h
-    explains_wanted why.Output h = absurd h
+-- ---- what a task asks of a world
+
+-- but for `check` a command asks for a query
+pub asks_query : (command : Command) (detail : Bool) (version : Version) (query : List ℕ) (world : World) → (command ≡ check → ⊥)
+    → answer_by command detail version query world ≡ past_query (said_by command detail world) (token_in command) version query
+asks_query check detail version query world other = absurd (other refl)
+asks_query (candidates after traits) detail version query world other = refl
+asks_query (tokens after) detail version query world other = refl
+asks_query (list after traits) detail version query world other = refl
+asks_query (fill sum) detail version query world other = refl
+asks_query (verify token) detail version query world other = refl
+asks_query explain detail version query world other = refl
+asks_query hosts detail version query world other = refl
+asks_query (why host) detail version query world other = refl
+
+module _ (task : Task) (world : World) where
+  refused_in : (line text : List ℕ) (status : ℕ) → 3 ≤ status → answer_in task world ≡ refused line status → asked_text world.providers task ≡ text
+      → answer_within task world ≡ refused (line ++ behind task.detail (λ _. text)) status
+  refused_in line text status high said remedy =
+      ap (with_detail (behind task.detail (λ _. asked_text world.providers task))) said
+      ∙ refused_in_detail (behind task.detail (λ _. asked_text world.providers task)) line status high
+      ∙ ap (λ t. refused (line ++ behind task.detail (λ _. t)) status) remedy
+
+  -- what is said of a task that is refused
+  asked_said : (refusal : AskRefusal) → ExplainsWanted task world refusal → (refusal ≡ ask.NoMemory → ⊥)
+      → answer_within task world ≡ refused (line_of_asked refusal ++ behind task.detail (λ _. asked_remedy task refusal)) (status_of_asked refusal)
+  asked_said ask.NoMemory h some = absurd (some refl)
+  asked_said (ask.Query f) h some =
+      refused_in (line_of_asked (ask.Query f)) (asked_remedy task (ask.Query f)) 4 (omega arith)
+      (asks_query task.command _ task.version task.query world h.0 ∙ rw (h.1.2, h.1.1) refl) (rw (h.1.2, h.1.1) refl)
+  asked_said (ask.Token f) h some =
+      refused_in (line_of_asked (ask.Token f)) (asked_remedy task (ask.Token f)) 5 (omega arith)
+      (asks_query task.command _ task.version task.query world h.0 ∙ rw (h.1, h.2) refl) (rw (h.1, h.2) refl)
+  asked_said (ask.Host f) h some =
+      refused_in (line_of_asked (ask.Host f)) (asked_remedy task (ask.Host f)) 5 (omega arith)
+      (asks_query task.command _ task.version task.query world h.0 ∙ rw (h.1, h.2.1, h.2.2) refl) (rw (h.1, h.2.1, h.2.2) refl)
+
+  module _ {R : Type 0} (remaining : R → Option (List ℕ)) (failures : R → ℕ) (from to : FiveTables R) (stated : (b : Bytes) → TellBytes remaining from b → IsStated b world) where
+    abbrev IsWhyAsked : List ℕ → ℕ → Type 0
+    IsWhyAsked line status = Explains remaining failures task.detail (answer task) from to line status
+
+    pub in_answer : (b : Bytes) → TellBytes remaining from b → answer task b ≡ answer_within task world
+    unfolding answer
+    in_answer b tell = in_world task.detail b (answer_within task) world (stated b tell)
+
+    this_very : (refusal : AskRefusal) → ExplainsWanted task world refusal → (refusal ≡ ask.NoMemory → ⊥) → 3 ≤ status_of_asked refusal → status_of_asked refusal ≤ 5
+        → IsWhyAsked (line_of_asked refusal ++ behind task.detail (λ _. asked_remedy task refusal)) (status_of_asked refusal)
+    this_very r h some low high = inr (inl (low, high, λ b tell. in_answer b tell ∙ asked_said r h some))
+
+    asked : (refusal : AskRefusal) → ExplainsWanted task world refusal
+        → IsWhyAsked (line_of_asked refusal ++ behind task.detail (λ _. asked_remedy task refusal)) (status_of_asked refusal)
+    asked ask.NoMemory h = inr (inr (ap (λ l. memory_line ++ l) (nothing_behind task.detail) ∙ append-nil memory_line, refl))
+    asked (ask.Query f) h = this_very (ask.Query f) h (λ e. cc) (omega arith) (omega arith)
+    asked (ask.Token f) h = this_very (ask.Token f) h (λ e. cc) (omega arith) (omega arith)
+    asked (ask.Host f) h = this_very (ask.Host f) h (λ e. cc) (omega arith) (omega arith)
+
+    pub asked_told : {F : Type 0} (refusal : AskRefusal) (text : Result (Vec ℕ) F) (told : Refused) → ExplainsWanted task world refusal
+        → IfOk text (λ t. t.items ≡ behind task.detail (λ _. asked_remedy task refusal)) → IsRefusalWith (whole.Asked refusal) text told
+        → IsWhyAsked (line_told told) (status_told told)
+    asked_told r text told h said is = elim (tells (whole.Asked r) text told (behind task.detail (λ _. asked_remedy task r)) is said) [
+      | inl this ↦ rw (this.0, this.1) (asked r h)
+      | inr last ↦ inr (inr last)
+    ]
+
+-- what explains what is said past the tables explains the answer
+pub as_answer : (task : Task) {R : Type 0} (remaining : R → Option (List ℕ)) (failures : R → ℕ) (from to : FiveTables R) (line : List ℕ) (status : ℕ)
+    → Explains remaining failures task.detail (λ b. past_tables task.detail b (answer_within task)) from to line status
+    → Explains remaining failures task.detail (answer task) from to line status
+unfolding answer
+as_answer task remaining failures from to line status because = because

@@ -8,8 +8,8 @@ use Rattle.ac_tables.specs.declared.fault.Table.TheVariants as table
 use Rattle.ac_run.specs.Draining.{AreTooManyThere, ExplainsDraining, ExplainsReading, GaveAll}
 use Rattle.ac_run.specs.Feeds.{Bytes, FeedRose, TellBytes, is_long, is_long_there, too_large}
 use Rattle.ac_tables.specs.declared.read.FiveTables.{FiveTables}
-use Rattle.ac_run.specs.declared.refusal.Refusal.{Refusal}
-use Rattle.ac_run.specs.declared.refusal.Refusal.TheVariants as why
+use Rattle.ac_run.specs.declared.refusal.TablesRefusal.{TablesRefusal}
+use Rattle.ac_run.specs.declared.refusal.TablesRefusal.TheVariants as tables
 
 -- ---- which bytes are too many
 
@@ -77,14 +77,10 @@ module _ (b : Bytes) where
 
 -- ---- why they could not be read
 
-pub explains : {R : Type 0} (remaining : R → Option (List ℕ)) (failures : R → ℕ) (old new : FiveTables R) (t : Table) (rose many : Type 0) (refusal : Refusal)
+pub explains : {R : Type 0} (remaining : R → Option (List ℕ)) (failures : R → ℕ) (old new : FiveTables R) (t : Table) (rose many : Type 0) (refusal : TablesRefusal)
     → ExplainsDraining rose many t refusal → (rose → FeedRose failures old new t) → (many → (b : Bytes) → TellBytes remaining old b → too_large b ≡ Some t)
     → ExplainsReading remaining failures old new refusal
-explains remaining failures old new t rose many (why.Unreadable s) h rises large = subst (FeedRose failures old new) (sym h.0) (rises h.1)
-explains remaining failures old new t rose many (why.TooLarge s) h rises large = λ b tell. large h.1 b tell ∙ ap (λ x. Some x) (sym h.0)
-explains remaining failures old new t rose many (why.Record s row k) h rises large = absurd h
-explains remaining failures old new t rose many (why.Query f) h rises large = absurd h
-explains remaining failures old new t rose many (why.Token f) h rises large = absurd h
-explains remaining failures old new t rose many (why.Host f) h rises large = absurd h
-explains remaining failures old new t rose many why.Output h rises large = absurd h
-explains remaining failures old new t rose many why.NoMemory h rises large = tt
+explains remaining failures old new t rose many (tables.Unreadable s) h rises large = subst (FeedRose failures old new) (sym h.0) (rises h.1)
+explains remaining failures old new t rose many (tables.TooLarge s) h rises large = λ b tell. large h.1 b tell ∙ ap (λ x. Some x) (sym h.0)
+explains remaining failures old new t rose many (tables.Record s row k) h rises large = absurd h
+explains remaining failures old new t rose many tables.NoMemory h rises large = tt

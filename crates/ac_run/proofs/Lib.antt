@@ -1,10 +1,8 @@
 pub mod Drained
 pub mod FewBytes
 pub mod Assignments
-pub mod WantedSaid
 pub mod Attempted
 pub mod Told
-pub mod HandedOn
 pub mod Delivering
 pub mod HostFound
 pub mod FaultsTold

@@ -1,54 +1,99 @@
--- What a refusal that was told says of the answer.
-use Rattle.std.proofs.Common.{◌≡◌, ℕ, ◌≤◌, zero, suc, List, [], ◌∷◌, Option, Some, None, refl, sym, ap, subst, arith}
+-- What was told where a run has no answer says of what is answered.
+use Rattle.std.proofs.Common.{◌≡◌, ◌≢◌, ◌∙◌, ℕ, ◌≤◌, zero, suc, List, [], ◌∷◌, Option, Some, None, ◌⊎◌, inl, inr, refl, sym, ap, subst, arith, append-nil}
 use Rattle.std.specs.Prelude.{Contains}
-use Rattle.ac_tables.specs.declared.fault.Table.{Table}
-use Rattle.ac_run.specs.Answer.{Task, answer, refused}
-use Rattle.ac_run.specs.Feeds.{Bytes, FeedRose, TellBytes}
-use Rattle.ac_run.specs.Refusals.{line_of, status_of}
-use Rattle.ac_run.specs.Run.{ExplainsUnready, FailsOr, IsRefused, IsUnread}
+use Rattle.std.specs.Io.KnownBytes.{Appends}
 use Rattle.ac_base.specs.Writing.{TakesLine}
+use Rattle.ac_base.specs.Devices.{Rises, TakesPart}
+use Rattle.ac_run.specs.Answer.{Outcome, refused}
+use Rattle.ac_run.specs.Feeds.{Bytes, FeedRose, TellBytes}
+use Rattle.ac_run.specs.Lines.{memory_line, output_line}
+use Rattle.ac_run.specs.Run.{Ends, Explains, FailsOr, IsAnswered, IsRefused, IsUnread}
+use Rattle.ac_base.proofs.Leaving.{part_none}
+use Rattle.ac_run.specs.Tasks.{Paths}
+use Rattle.ac_tables.specs.declared.fault.Table.{Table}
 use Rattle.ac_tables.specs.declared.read.FiveTables.{FiveTables}
-use Rattle.ac_run.specs.declared.refusal.Refusal.{Refusal}
-use Rattle.ac_run.specs.declared.refusal.Refusal.TheVariants as why
-
-pub is_status : (refusal : Refusal) → Contains (0 ∷ 1 ∷ 3 ∷ 4 ∷ 5 ∷ 6 ∷ 7 ∷ []) (status_of refusal)
-is_status (why.Unreadable t) = (2, omega arith, refl)
-is_status (why.TooLarge t) = (2, omega arith, refl)
-is_status (why.Record t row kind) = (2, omega arith, refl)
-is_status (why.Query f) = (3, omega arith, refl)
-is_status (why.Token f) = (4, omega arith, refl)
-is_status (why.Host f) = (4, omega arith, refl)
-is_status why.Output = (5, omega arith, refl)
-is_status why.NoMemory = (6, omega arith, refl)
 
 pub is_answered : (n : ℕ) → n ≤ 1 → Contains (0 ∷ 1 ∷ 3 ∷ 4 ∷ 5 ∷ 6 ∷ 7 ∷ []) n
 is_answered zero h = (0, omega arith, refl)
 is_answered (suc zero) h = (1, omega arith, refl)
 is_answered (suc (suc n)) h = absurd (omega arith)
 
-module _ {R : Type 0} (remaining : R → Option (List ℕ)) (failures : R → ℕ) (task : Task) (from to : FiveTables R)
-    (err_old err_new : Option (List ℕ)) (before after : ℕ) where
-  abbrev IsTold : Refusal → Type 0
-  IsTold refusal = TakesLine err_old err_new before after (line_of refusal)
+from_three : (n : ℕ) → 3 ≤ n → n ≤ 5 → Contains (0 ∷ 1 ∷ 3 ∷ 4 ∷ 5 ∷ 6 ∷ 7 ∷ []) n
+from_three (suc (suc (suc zero))) low high = (2, omega arith, refl)
+from_three (suc (suc (suc (suc zero)))) low high = (3, omega arith, refl)
+from_three (suc (suc (suc (suc (suc zero))))) low high = (4, omega arith, refl)
+from_three zero low high = absurd (omega arith)
+from_three (suc zero) low high = absurd (omega arith)
+from_three (suc (suc zero)) low high = absurd (omega arith)
+from_three (suc (suc (suc (suc (suc (suc n)))))) low high = absurd (omega arith)
 
-  abbrev Refused : Refusal → Type 0
-  Refused refusal = (b : Bytes) → TellBytes remaining from b → IsRefused (answer task b) err_old err_new before after (status_of refusal)
+-- nothing is added
+nothing_added : (a : Option (List ℕ)) → Appends a a []
+nothing_added None = tt
+nothing_added (Some u) = sym (append-nil u)
 
-  -- the answer is this very refusal
-  the_answer : (refusal : Refusal) → ((b : Bytes) → TellBytes remaining from b → answer task b ≡ refused (line_of refusal) (status_of refusal)) → IsTold refusal → Refused refusal
-  the_answer refusal e l b tell = record {
-    output = ap (λ o. o.output) (e b tell);
-    line = subst (λ o. TakesLine err_old err_new before after o.line) (sym (e b tell)) l;
-    status = sym (ap (λ o. o.status) (e b tell));
-  }
+module _ {R : Type 0} (remaining : R → Option (List ℕ)) (failures : R → ℕ) (detail : Option Paths) (said : Bytes → Outcome) (from to : FiveTables R) (line : List ℕ) (status : ℕ)
+    (why : Explains remaining failures detail said from to line status) (err_old err_new : Option (List ℕ)) (before after : ℕ) (told : TakesLine err_old err_new before after line) where
+  abbrev AreRefused : Type 0
+  AreRefused = (b : Bytes) → TellBytes remaining from b → IsRefused (said b) err_old err_new before after status
 
-  pub tables : (refusal : Refusal) → ExplainsUnready remaining failures task from to refusal → IsTold refusal → status_of refusal ≡ 3
-      → (failed : Option Table) × FailsOr (λ t. IsUnread (FeedRose failures from to t) t err_old err_new before after) (Refused refusal) failed
-  tables (why.Unreadable t) h l e = (Some t, record { rises = h; line = l })
-  tables (why.TooLarge t) h l e = (None, the_answer (why.TooLarge t) h l)
-  tables (why.Record t row kind) h l e = (None, the_answer (why.Record t row kind) h l)
-  tables (why.Query f) h l e = absurd (cc)
-  tables (why.Token f) h l e = absurd (cc)
-  tables (why.Host f) h l e = absurd (cc)
-  tables why.Output h l e = absurd (cc)
-  tables why.NoMemory h l e = absurd (cc)
+  the_answer : ((b : Bytes) → TellBytes remaining from b → said b ≡ refused line status) → AreRefused
+  the_answer e b tell = rw (e b tell) (record { output = refl; line = told; status = refl })
+
+  is_status : Contains (0 ∷ 1 ∷ 3 ∷ 4 ∷ 5 ∷ 6 ∷ 7 ∷ []) status
+  is_status = elim why [
+    | inl unread ↦ rw unread.3 (2, omega arith, refl)
+    | inr rest ↦ elim rest [ inl this ↦ from_three status this.0 this.1 | inr last ↦ rw last.1 (6, omega arith, refl) ]
+  ]
+
+  tables : status ≡ 3 → (failed : Option Table) × FailsOr (λ t. IsUnread (FeedRose failures from to t) detail t err_old err_new before after) AreRefused failed
+  tables three = elim why [
+    | inl unread ↦ (Some unread.0, record { rises = unread.1; line = subst (TakesLine err_old err_new before after) unread.2 told })
+    | inr rest ↦ elim rest [ inl this ↦ (None, the_answer this.2) | inr last ↦ absurd (cc) ]
+  ]
+
+  -- where no device failed
+  answered : status ≢ 7 → ((t : Table) → FeedRose failures from to t → ⊥) → (Rises before after → ⊥) → (out : Option (List ℕ)) → (b : Bytes) → TellBytes remaining from b
+      → IsAnswered (said b) out out err_old err_new status
+  answered seven feeds whole out b tell = elim why [
+    | inl unread ↦ absurd (feeds unread.0 unread.1)
+    | inr rest ↦ elim rest [
+      | inl this ↦ rw (this.2 b tell) (record { output = nothing_added out; line = told.whole whole; status = refl })
+      | inr last ↦ absurd (seven last.1)
+    ]
+  ]
+
+-- ---- how a run ended that gave no answer
+
+module _ {R : Type 0} (remaining : R → Option (List ℕ)) (failures : R → ℕ) (detail : Option Paths) (said : Bytes → Outcome) (from to : FiveTables R) (line : List ℕ) (status : ℕ)
+    (Untouched : Type 0) (old new : Option (List ℕ)) (same : Untouched → new ≡ old) (first last : ℕ)
+    (why : Ends remaining failures detail said from to line status Untouched old new first last)
+    (err_old err_new : Option (List ℕ)) (before after : ℕ) (told : TakesLine err_old err_new before after line) where
+  abbrev IsNotAnswered : Type 0
+  IsNotAnswered = (b : Bytes) → TellBytes remaining from b → IsRefused (said b) err_old err_new before after status
+
+  pub ends_with : Contains (0 ∷ 1 ∷ 3 ∷ 4 ∷ 5 ∷ 6 ∷ 7 ∷ []) status
+  ends_with = elim why [
+    | inl early ↦ is_status remaining failures detail said from to line status early.1 err_old err_new before after told
+    | inr late ↦ elim late.0 [ inl output ↦ rw output.1 (5, omega arith, refl) | inr memory ↦ rw memory.1 (6, omega arith, refl) ]
+  ]
+
+  pub ends_tables : status ≡ 3
+      → (failed : Option Table) × FailsOr (λ t. IsUnread (FeedRose failures from to t) detail t err_old err_new before after) IsNotAnswered failed
+  ends_tables three = elim why [
+    | inl early ↦ tables remaining failures detail said from to line status early.1 err_old err_new before after told three
+    | inr late ↦ elim late.0 [ inl output ↦ absurd (cc) | inr memory ↦ absurd (cc) ]
+  ]
+
+  pub ends_part : (b : Bytes) → TellBytes remaining from b → TakesPart old new (said b).output
+  ends_part b tell = elim why [ inl early ↦ subst (λ n. TakesPart old n (said b).output) (sym (same early.0)) (part_none old (said b).output) | inr late ↦ late.1 b tell ]
+
+  -- where no device failed
+  pub ends_answered : status ≢ 7 → ((t : Table) → FeedRose failures from to t → ⊥) → (Rises first last → ⊥) → (Rises before after → ⊥) → (b : Bytes) → TellBytes remaining from b
+      → IsAnswered (said b) old new err_old err_new status
+  ends_answered seven feeds output whole b tell = elim why [
+    | inl early ↦
+        subst (λ n. IsAnswered (said b) old n err_old err_new status) (sym (same early.0))
+        (answered remaining failures detail said from to line status early.1 err_old err_new before after told seven feeds whole old b tell)
+    | inr late ↦ elim late.0 [ inl failed ↦ absurd (output failed.2) | inr memory ↦ absurd (seven memory.1) ]
+  ]

@@ -1,14 +1,11 @@
 -- What a run answers: its output, its line on the error sink, and its status.
-use Rattle.std.specs.Prelude.{ℕ, Bool, true, false, List, [], codes, Option, Some, None, Result, Ok, Err}
+use Rattle.std.specs.Prelude.{ℕ, Bool, true, false, List, [], ◌++◌, codes, is_some, nat_lt, Option, Some, None, Result, Ok, Err, if◌then◌else◌}
 use Rattle.std.specs.Option.{option_and_then, unwrap_or}
-use Rattle.ac_tables.specs.Tables.Rows.{records_of}
-use Rattle.ac_tables.specs.Tables.AggregateTable.{aggregate_columns}
-use Rattle.ac_tables.specs.Tables.TraitTable.{trait_columns}
-use Rattle.ac_tables.specs.Tables.UsageTable.{usage_columns}
-use Rattle.ac_tables.specs.Tables.{Tables, records_or_header, tables_fault, world_stated}
+use Rattle.ac_tables.specs.Tables.{Tables, tables_fault, world_stated}
 use Rattle.ac_cloud.specs.World.{World, Provider}
 use Rattle.ac_cloud.specs.Cloud.Hosts.{host_of}
 use Rattle.ac_cloud.specs.declared.cloud.provider_name.HostFault.{HostFault}
+use Rattle.ac_tables.specs.declared.fault.Table.{Table}
 use Rattle.ac_tables.specs.declared.fault.TableFault.{TableFault}
 use Rattle.ac_tables.specs.declared.fault.TableFault.TheVariants as fault
 use Rattle.ac_query.specs.declared.version.Version.{Version}
@@ -34,20 +31,10 @@ use Rattle.ac_report.specs.Findings.HostRows.{hosts_status, hosts_text}
 use Rattle.ac_report.specs.Findings.WhyRows.{root_place, why_status, why_text}
 use Rattle.ac_run.specs.Feeds.{Bytes, too_large}
 use Rattle.ac_run.specs.Lines.{too_large_line, record_line, query_line, token_line, host_line, memory_line}
-use Rattle.ac_run.specs.declared.job.Command.{Command}
-use Rattle.ac_run.specs.declared.job.Command.TheVariants as command
-
--- what is asked: the query, the version that reads it, perhaps a token or a host, whether it is said of what a rule is broken, whether traits are
--- written, and whether the number of placements stands in place of their tokens
-pub record Task : Type 0 where
-  pub command : Command
-  pub query : List ℕ
-  pub version : Version
-  pub token : Option (List ℕ)
-  pub host : Option (List ℕ)
-  pub detail : Bool
-  pub traits : Bool
-  pub sum : Bool
+use Rattle.ac_run.specs.Details.{asked_text, behind, fault_text, size_text}
+use Rattle.ac_run.specs.Given.{tables_in, token_refusal}
+use Rattle.ac_run.specs.Tasks.{Command, Paths, Task, token_in}
+use Rattle.ac_run.specs.Tasks as command
 
 -- what is answered
 pub record Outcome : Type 0 where
@@ -81,11 +68,6 @@ verdict_on all true asked (Some list) = written (detailed_text all asked list (j
 -- the ids of a token, where there is one that is accepted
 abbrev pub ids_given : Option (List ℕ) → Option (List ℕ)
 ids_given token = option_and_then ids_value token
-
--- what is wrong with a token, where there is one
-abbrev pub token_refusal : Asked → Option (List ℕ) → Option TokenFault
-token_refusal asked None = None
-token_refusal asked (Some text) = token_fault asked text
 
 -- ---- the answer
 
@@ -128,52 +110,67 @@ abbrev pub on_host : Result ℕ HostFault → (ℕ → Outcome) → Outcome
 on_host (Ok host) say = say host
 on_host (Err f) say = refused (host_line f) 5
 
--- the provider that a host names; without a host none is named
-abbrev pub host_found : List Provider → Option (List ℕ) → Result ℕ HostFault
-host_found all host = host_of all (unwrap_or host [])
-
-abbrev pub why_rows : List Provider → Option (List ℕ) → Says
-why_rows all host asked ids = on_host (host_found all host) (λ host. why_not all asked host)
+abbrev pub why_rows : List Provider → List ℕ → Says
+why_rows all host asked ids = on_host (host_of all host) (λ host. why_not all asked host)
 
 -- what is said, unless the token is refused
 abbrev pub past_token : Says → Option (List ℕ) → Asked → Outcome
 past_token say token asked = told (token_refusal asked token) (λ f. refused (token_line f) 5) (say asked (ids_given token))
 
--- what is said, unless the query or the token is refused
-abbrev pub past_query : Says → Task → Outcome
-past_query say task =
-    told (query_fault task.version task.query) (λ f. refused (query_line f) 4) (past_token say task.token (asked_by task.version (pairs_of task.query)))
+-- what is said of a query, as a version reads it, and of a token, unless one of them is refused
+abbrev pub past_query : Says → Option (List ℕ) → Version → List ℕ → Outcome
+past_query say token version query =
+    told (query_fault version query) (λ f. refused (query_line f) 4) (past_token say token (asked_by version (pairs_of query)))
 
--- the answer of a command in a world
-abbrev pub answer_in : Command → Task → World → Outcome
-answer_in command.Check task world = written (counts world.sizes) 0
-answer_in command.Candidates task world = past_query (page_body world.providers task.traits) task
-answer_in command.Tokens task world = past_query (page_lines world.providers) task
-answer_in command.Fill task world = past_query (fills world.providers task.sum) task
-answer_in command.List task world = past_query (page_rows world.providers task.traits) task
-answer_in command.Verify task world = past_query (verdict_line world.providers task.detail) task
-answer_in command.Explain task world = past_query (explanation world.providers) task
-answer_in command.Hosts task world = past_query (host_rows world.providers) task
-answer_in command.Why task world = past_query (why_rows world.providers task.host) task
+-- what a command says of an accepted query, in a world; of what a rule is broken, where more is told
+abbrev pub said_by : Command → Bool → World → Says
+said_by command.check detail world = λ asked ids. written (counts world.sizes) 0
+said_by (command.candidates after traits) detail world = page_body world.providers traits
+said_by (command.tokens after) detail world = page_lines world.providers
+said_by (command.list after traits) detail world = page_rows world.providers traits
+said_by (command.fill sum) detail world = fills world.providers sum
+said_by (command.verify token) detail world = verdict_line world.providers detail
+said_by command.explain detail world = explanation world.providers
+said_by command.hosts detail world = host_rows world.providers
+said_by (command.why host) detail world = why_rows world.providers host
 
-abbrev pub table_refused : TableFault → Outcome
-table_refused (fault.At t row kind) = refused (record_line t row kind) 3
-table_refused fault.NoMemory = refused memory_line 7
+-- the answer of a command; `check` asks for no query
+abbrev pub answer_by : Command → Bool → Version → List ℕ → World → Outcome
+answer_by command.check detail version query world = written (counts world.sizes) 0
+answer_by asks detail version query world = past_query (said_by asks detail world) (token_in asks) version query
 
--- the answer over the records of five tables
-unfoldable pub answer_over : Task → Tables → Outcome
-answer_over task tables = told (tables_fault tables) table_refused (answer_in task.command task (world_stated tables))
+-- the answer to a task in a world
+abbrev pub answer_in : Task → World → Outcome
+answer_in task world = answer_by task.command (is_some task.detail) task.version task.query world
 
--- the records of five tables; one that isn't there is its header alone
-abbrev pub tables_in : Bytes → Tables
-tables_in b = record {
-  providers = records_of b.providers;
-  inventories = records_of b.inventories;
-  usages = records_or_header usage_columns b.usages;
-  traits = records_or_header trait_columns b.traits;
-  aggregates = records_or_header aggregate_columns b.aggregates;
-}
+-- ---- with what is to be done about a refusal
+
+-- a refusal, which has a status above 2, with this text behind its line; any other outcome as it is
+abbrev pub with_detail : List ℕ → Outcome → Outcome
+with_detail text o = if nat_lt 2 o.status then record o { line = o.line ++ text } else o
+
+-- what is to be done about a task that is refused in a world, where more is told
+abbrev pub remedy_in : Task → World → List ℕ
+remedy_in task world = behind task.detail (λ paths. asked_text world.providers task)
+
+-- the answer to a task in a world, and behind a refusal what is to be done
+abbrev pub answer_within : Task → World → Outcome
+answer_within task world = with_detail (remedy_in task world) (answer_in task world)
+
+-- a table that has too many bytes
+abbrev pub size_refused : Option Paths → Table → Outcome
+size_refused detail t = refused (too_large_line t ++ behind detail (λ paths. size_text paths t)) 3
+
+-- the first fault of the tables
+abbrev pub table_refused : Option Paths → Tables → TableFault → Outcome
+table_refused detail stated (fault.At t row k) = refused (record_line t row k ++ behind detail (λ paths. fault_text paths stated t row k)) 3
+table_refused detail stated fault.NoMemory = refused memory_line 7
+
+-- what is said of the world that the bytes of five tables state, unless they are refused
+abbrev pub past_tables : Option Paths → Bytes → (World → Outcome) → Outcome
+past_tables detail b say =
+    told (too_large b) (size_refused detail) (told (tables_fault (tables_in b)) (table_refused detail (tables_in b)) (say (world_stated (tables_in b))))
 
 -- the answer to a task over the bytes of five tables
 unfoldable pub answer : Task → Bytes → Outcome
-answer task b = told (too_large b) (λ t. refused (too_large_line t) 3) (answer_over task (tables_in b))
+answer task b = past_tables task.detail b (answer_within task)

@@ -6,8 +6,8 @@ use Rattle.ac_tables.specs.Drain.{AllBytes, AreTooMany, most_bytes}
 use Rattle.ac_tables.specs.declared.fault.Table.{Table}
 use Rattle.ac_run.specs.Feeds.{Bytes, TellBytes, FeedRose, too_large}
 use Rattle.ac_tables.specs.declared.read.FiveTables.{FiveTables}
-use Rattle.ac_run.specs.declared.refusal.Refusal.{Refusal}
-use Rattle.ac_run.specs.declared.refusal.Refusal.TheVariants as why
+use Rattle.ac_run.specs.declared.refusal.TablesRefusal.{TablesRefusal}
+use Rattle.ac_run.specs.declared.refusal.TablesRefusal.TheVariants as tables
 
 -- a feed that may not be there gave all its bytes, and they are few enough
 abbrev pub GaveAll : Option (Option (List ℕ)) → Option (List ℕ) → Type 0
@@ -22,15 +22,11 @@ AreTooManyThere None = ⊥
 AreTooManyThere (Some known) = AreTooMany known
 
 -- why a table's feed was not drained: it failed, or it gave too many bytes
-abbrev pub ExplainsDraining : Type 0 → Type 0 → Table → Refusal → Type 0
-ExplainsDraining rose many table (why.Unreadable t) = (t ≡ table) × rose
-ExplainsDraining rose many table (why.TooLarge t) = (t ≡ table) × many
-ExplainsDraining rose many table (why.Record t row k) = ⊥
-ExplainsDraining rose many table (why.Query f) = ⊥
-ExplainsDraining rose many table (why.Token f) = ⊥
-ExplainsDraining rose many table (why.Host f) = ⊥
-ExplainsDraining rose many table why.Output = ⊥
-ExplainsDraining rose many table why.NoMemory = ⊤
+abbrev pub ExplainsDraining : Type 0 → Type 0 → Table → TablesRefusal → Type 0
+ExplainsDraining rose many table (tables.Unreadable t) = (t ≡ table) × rose
+ExplainsDraining rose many table (tables.TooLarge t) = (t ≡ table) × many
+ExplainsDraining rose many table (tables.Record t row k) = ⊥
+ExplainsDraining rose many table tables.NoMemory = ⊤
 
 -- the bytes that were read
 abbrev pub texts_shown : FiveTables (Vec ℕ) → Bytes
@@ -43,12 +39,8 @@ texts_shown t = record {
 }
 
 -- why the tables could not be read: a feed's count of failures rose, or a table has too many bytes
-abbrev pub ExplainsReading : {R : Type 0} → (R → Option (List ℕ)) → (R → ℕ) → FiveTables R → FiveTables R → Refusal → Type 0
-ExplainsReading remaining failures old new (why.Unreadable t) = FeedRose failures old new t
-ExplainsReading remaining failures old new (why.TooLarge t) = (b : Bytes) → TellBytes remaining old b → too_large b ≡ Some t
-ExplainsReading remaining failures old new (why.Record t row k) = ⊥
-ExplainsReading remaining failures old new (why.Query f) = ⊥
-ExplainsReading remaining failures old new (why.Token f) = ⊥
-ExplainsReading remaining failures old new (why.Host f) = ⊥
-ExplainsReading remaining failures old new why.Output = ⊥
-ExplainsReading remaining failures old new why.NoMemory = ⊤
+abbrev pub ExplainsReading : {R : Type 0} → (R → Option (List ℕ)) → (R → ℕ) → FiveTables R → FiveTables R → TablesRefusal → Type 0
+ExplainsReading remaining failures old new (tables.Unreadable t) = FeedRose failures old new t
+ExplainsReading remaining failures old new (tables.TooLarge t) = (b : Bytes) → TellBytes remaining old b → too_large b ≡ Some t
+ExplainsReading remaining failures old new (tables.Record t row k) = ⊥
+ExplainsReading remaining failures old new tables.NoMemory = ⊤

@@ -2,9 +2,11 @@ pub mod Lines
 pub mod Refusals
 pub mod Feeds
 pub mod Draining
-pub mod Asking
+pub mod Tasks
+pub mod Given
+pub mod Details
+pub mod Wanted
 pub mod Outputs
 pub mod Answer
 pub mod Run
-pub mod Jobs
 pub mod Laws

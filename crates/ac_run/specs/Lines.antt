@@ -7,37 +7,9 @@ use Rattle.ac_cloud.specs.declared.cloud.provider_name.HostFault.TheVariants as 
 use Rattle.ac_query.specs.Faults.{Fault, too_long, unknown_parameter, repeated, bad_value, conflict, no_resources, group_without_resources, unknown_suffix, policy_missing, too_many_slots}
 use Rattle.ac_query.specs.declared.token.TokenFault.{TokenFault}
 use Rattle.ac_query.specs.declared.token.TokenFault.TheVariants as token
+use Rattle.ac_tables.specs.Tables.Names.{kind_name, table_name}
 use Rattle.ac_tables.specs.declared.fault.Table.{Table}
-use Rattle.ac_tables.specs.declared.fault.Table.TheVariants as table
 use Rattle.ac_tables.specs.declared.fault.TableKind.{TableKind}
-use Rattle.ac_tables.specs.declared.fault.TableKind.TheVariants as kind
-
-unfoldable pub table_name : Table → List ℕ
-table_name table.Providers = codes "providers"
-table_name table.Inventories = codes "inventories"
-table_name table.Usages = codes "usages"
-table_name table.Traits = codes "traits"
-table_name table.Aggregates = codes "aggregates"
-
-unfoldable pub kind_name : TableKind → List ℕ
-kind_name kind.NoHeader = codes "NoHeader"
-kind_name kind.MissingColumn = codes "MissingColumn"
-kind_name kind.DoubleColumn = codes "DoubleColumn"
-kind_name kind.Width = codes "Width"
-kind_name kind.BadUuid = codes "BadUuid"
-kind_name kind.BadClass = codes "BadClass"
-kind_name kind.BadTrait = codes "BadTrait"
-kind_name kind.BadNumber = codes "BadNumber"
-kind_name kind.BadRatio = codes "BadRatio"
-kind_name kind.ZeroStep = codes "ZeroStep"
-kind_name kind.ReservedOverTotal = codes "ReservedOverTotal"
-kind_name kind.Duplicate = codes "Duplicate"
-kind_name kind.UnknownProvider = codes "UnknownProvider"
-kind_name kind.NoInventory = codes "NoInventory"
-kind_name kind.TooManyProviders = codes "TooManyProviders"
-kind_name kind.UnknownParent = codes "UnknownParent"
-kind_name kind.ParentCycle = codes "ParentCycle"
-kind_name kind.WrongRoot = codes "WrongRoot"
 
 -- why a table's bytes can't be had
 unfoldable pub unreadable_line : Table → List ℕ

@@ -1,32 +1,72 @@
--- The line and the status of each refusal.
-use Rattle.std.specs.Prelude.{ℕ, List, Option, Some, None}
+-- The line and the status of each refusal, and the fault that it tells.
+use Rattle.std.specs.Prelude.{◌≡◌, ℕ, List, ◌++◌, Option, Some, None, Result, Ok, Err}
+use Rattle.std.specs.Global.{Vec}
+use Rattle.ac_cloud.specs.declared.cloud.provider_name.HostFault.{HostFault}
 use Rattle.ac_query.specs.Faults.{Fault}
 use Rattle.ac_query.specs.Shown.Faults.{fault_shown}
+use Rattle.ac_query.specs.declared.token.TokenFault.{TokenFault}
 use Rattle.ac_run.specs.Lines.{unreadable_line, too_large_line, record_line, query_line, token_line, host_line, memory_line, output_line}
+use Rattle.ac_run.specs.declared.refusal.AskRefusal.{AskRefusal}
+use Rattle.ac_run.specs.declared.refusal.AskRefusal.TheVariants as ask
 use Rattle.ac_run.specs.declared.refusal.Refusal.{Refusal}
 use Rattle.ac_run.specs.declared.refusal.Refusal.TheVariants as why
+use Rattle.ac_run.specs.declared.refusal.Refused.{Refused}
+use Rattle.ac_run.specs.declared.refusal.TablesRefusal.{TablesRefusal}
+use Rattle.ac_run.specs.declared.refusal.TablesRefusal.TheVariants as tables
 
 -- the line of a query's fault; want of memory is told as everywhere
 abbrev pub line_of_query : Option Fault → List ℕ
 line_of_query (Some fault) = query_line fault
 line_of_query None = memory_line
 
+-- ---- of the tables
+
+abbrev pub line_of_tables : TablesRefusal → List ℕ
+line_of_tables (tables.Unreadable t) = unreadable_line t
+line_of_tables (tables.TooLarge t) = too_large_line t
+line_of_tables (tables.Record t row k) = record_line t row k
+line_of_tables tables.NoMemory = memory_line
+
+abbrev pub status_of_tables : TablesRefusal → ℕ
+status_of_tables tables.NoMemory = 7
+status_of_tables _ = 3
+
+-- ---- of what is asked
+
+abbrev pub line_of_asked : AskRefusal → List ℕ
+line_of_asked (ask.Query fault) = line_of_query (fault_shown fault)
+line_of_asked (ask.Token fault) = token_line fault
+line_of_asked (ask.Host fault) = host_line fault
+line_of_asked ask.NoMemory = memory_line
+
+abbrev pub status_of_asked : AskRefusal → ℕ
+status_of_asked (ask.Query fault) = 4
+status_of_asked (ask.Token fault) = 5
+status_of_asked (ask.Host fault) = 5
+status_of_asked ask.NoMemory = 7
+
+-- ---- of all
+
 abbrev pub line_of : Refusal → List ℕ
-line_of (why.Unreadable t) = unreadable_line t
-line_of (why.TooLarge t) = too_large_line t
-line_of (why.Record t row k) = record_line t row k
-line_of (why.Query fault) = line_of_query (fault_shown fault)
-line_of (why.Token fault) = token_line fault
-line_of (why.Host fault) = host_line fault
+line_of (why.Tables refusal) = line_of_tables refusal
+line_of (why.Asked refusal) = line_of_asked refusal
 line_of why.Output = output_line
 line_of why.NoMemory = memory_line
 
 abbrev pub status_of : Refusal → ℕ
-status_of (why.Unreadable t) = 3
-status_of (why.TooLarge t) = 3
-status_of (why.Record t row k) = 3
-status_of (why.Query fault) = 4
-status_of (why.Token fault) = 5
-status_of (why.Host fault) = 5
+status_of (why.Tables refusal) = status_of_tables refusal
+status_of (why.Asked refusal) = status_of_asked refusal
 status_of why.Output = 6
 status_of why.NoMemory = 7
+
+-- the line of a refusal, with what stands behind it
+abbrev pub line_told : Refused → List ℕ
+line_told told = line_of told.refusal ++ told.detail.items
+
+abbrev pub status_told : Refused → ℕ
+status_told told = status_of told.refusal
+
+-- a refusal has this text behind its line; or, where there was no memory for the text, it is want of memory, with nothing behind it
+abbrev pub IsRefusalWith : {F : Type 0} → Refusal → Result (Vec ℕ) F → Refused → Type 0
+IsRefusalWith refusal (Ok text) told = (line_told told ≡ line_of refusal ++ text.items) × (status_told told ≡ status_of refusal)
+IsRefusalWith refusal (Err e) told = (line_told told ≡ memory_line) × (status_told told ≡ 7)

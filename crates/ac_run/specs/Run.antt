@@ -1,5 +1,5 @@
 -- What is known after each part of a run.
-use Rattle.std.specs.Prelude.{◌≡◌, ◌≤◌, ℕ, List, [], Option, Some, None, Result, Err, IfOk, OnErr, ⊤}
+use Rattle.std.specs.Prelude.{◌≡◌, ◌⊎◌, ◌≤◌, ℕ, List, [], ◌++◌, Option, Some, None, Result, Err, IfOk, OnErr, ⊤}
 use Rattle.std.specs.Io.KnownBytes.{Appends}
 use Rattle.ac_base.specs.Devices.{Rises, TakesPart}
 use Rattle.ac_report.specs.declared.fault.PageFault.{PageFault}
@@ -9,14 +9,20 @@ use Rattle.ac_tables.specs.declared.fault.TableFault.{TableFault}
 use Rattle.ac_tables.specs.declared.fault.TableFault.TheVariants as fault
 use Rattle.ac_tables.specs.Tables.{tables_fault, world_stated}
 use Rattle.ac_cloud.specs.World.{World}
-use Rattle.ac_run.specs.Answer.{Outcome, Task, answer, refused, tables_in}
+use Rattle.ac_run.specs.Answer.{Outcome, refused}
+use Rattle.ac_run.specs.Details.{behind, unread_text}
+use Rattle.ac_run.specs.Given.{tables_in}
+use Rattle.ac_run.specs.Tasks.{Paths, Task}
 use Rattle.ac_run.specs.Feeds.{Bytes, TellBytes, FeedRose, too_large}
-use Rattle.ac_run.specs.Lines.{unreadable_line}
-use Rattle.ac_run.specs.Refusals.{line_of}
+use Rattle.ac_run.specs.Lines.{memory_line, output_line, unreadable_line}
+use Rattle.ac_run.specs.Refusals.{line_of, status_of}
 use Rattle.ac_base.specs.Writing.{TakesLine}
 use Rattle.ac_tables.specs.declared.read.FiveTables.{FiveTables}
+use Rattle.ac_run.specs.declared.refusal.AskRefusal.TheVariants as ask
 use Rattle.ac_run.specs.declared.refusal.Refusal.{Refusal}
 use Rattle.ac_run.specs.declared.refusal.Refusal.TheVariants as why
+use Rattle.ac_run.specs.declared.refusal.TablesRefusal.{TablesRefusal}
+use Rattle.ac_run.specs.declared.refusal.TablesRefusal.TheVariants as tables
 
 -- an outcome without a line was written whole, with its status
 pub record IsWritten (outcome : Outcome) (old new : Option (List ℕ)) (given : ℕ) : Type 0 where
@@ -34,15 +40,14 @@ pub record Delivers (outcome : Outcome) (result : Result ℕ PageFault) (old new
   pub failures : before ≤ after
 
 -- why there is no cloud: the first fault of the tables
-abbrev pub ExplainsTables : Option TableFault → Refusal → Type 0
-ExplainsTables first (why.Record t row k) = first ≡ Some (fault.At t row k)
-ExplainsTables first (why.Unreadable t) = ⊥
-ExplainsTables first (why.TooLarge t) = ⊥
-ExplainsTables first (why.Query f) = ⊥
-ExplainsTables first (why.Token f) = ⊥
-ExplainsTables first (why.Host f) = ⊥
-ExplainsTables first why.Output = ⊥
-ExplainsTables first why.NoMemory = ⊤
+abbrev pub ExplainsTables : Option TableFault → TablesRefusal → Type 0
+ExplainsTables first (tables.Record t row k) = first ≡ Some (fault.At t row k)
+ExplainsTables first tables.NoMemory = ⊤
+ExplainsTables first _ = ⊥
+
+-- the line of a table that can't be read, with what stands behind it where more is told
+abbrev pub unread_line : Option Paths → Table → List ℕ
+unread_line detail t = unreadable_line t ++ behind detail (λ paths. unread_text paths t)
 
 -- the tables of these bytes are few enough and have no fault, and they state this world
 pub record IsStated (b : Bytes) (world : World) : Type 0 where
@@ -51,36 +56,33 @@ pub record IsStated (b : Bytes) (world : World) : Type 0 where
   pub states : world ≡ world_stated (tables_in b)
 
 -- why the tables of feeds state no world: a feed failed, a table has too many bytes, or the tables have a fault; or memory gave out
-abbrev pub ExplainsInputs : {R : Type 0} → (R → Option (List ℕ)) → (R → ℕ) → FiveTables R → FiveTables R → Refusal → Type 0
-ExplainsInputs remaining failures from to (why.Unreadable t) = FeedRose failures from to t
-ExplainsInputs remaining failures from to (why.TooLarge t) = (b : Bytes) → TellBytes remaining from b → too_large b ≡ Some t
-ExplainsInputs remaining failures from to (why.Record t row k) =
+abbrev pub ExplainsInputs : {R : Type 0} → (R → Option (List ℕ)) → (R → ℕ) → FiveTables R → FiveTables R → TablesRefusal → Type 0
+ExplainsInputs remaining failures from to (tables.Unreadable t) = FeedRose failures from to t
+ExplainsInputs remaining failures from to (tables.TooLarge t) = (b : Bytes) → TellBytes remaining from b → too_large b ≡ Some t
+ExplainsInputs remaining failures from to (tables.Record t row k) =
     (b : Bytes) → TellBytes remaining from b → (too_large b ≡ None) × (tables_fault (tables_in b) ≡ Some (fault.At t row k))
-ExplainsInputs remaining failures from to (why.Query f) = ⊥
-ExplainsInputs remaining failures from to (why.Token f) = ⊥
-ExplainsInputs remaining failures from to (why.Host f) = ⊥
-ExplainsInputs remaining failures from to why.Output = ⊥
-ExplainsInputs remaining failures from to why.NoMemory = ⊤
+ExplainsInputs remaining failures from to tables.NoMemory = ⊤
 
--- why a run ended before its output: a feed failed, or the answer is this very refusal; or memory gave out
-abbrev pub ExplainsUnready : {R : Type 0} → (R → Option (List ℕ)) → (R → ℕ) → Task → FiveTables R → FiveTables R → Refusal → Type 0
-ExplainsUnready remaining failures task from to (why.Unreadable t) = FeedRose failures from to t
-ExplainsUnready remaining failures task from to (why.TooLarge t) = (b : Bytes) → TellBytes remaining from b → answer task b ≡ refused (line_of (why.TooLarge t)) 3
-ExplainsUnready remaining failures task from to (why.Record t row k) = (b : Bytes) → TellBytes remaining from b → answer task b ≡ refused (line_of (why.Record t row k)) 3
-ExplainsUnready remaining failures task from to (why.Query f) = (b : Bytes) → TellBytes remaining from b → answer task b ≡ refused (line_of (why.Query f)) 4
-ExplainsUnready remaining failures task from to (why.Token f) = (b : Bytes) → TellBytes remaining from b → answer task b ≡ refused (line_of (why.Token f)) 5
-ExplainsUnready remaining failures task from to (why.Host f) = (b : Bytes) → TellBytes remaining from b → answer task b ≡ refused (line_of (why.Host f)) 5
-ExplainsUnready remaining failures task from to why.NoMemory = ⊤
-ExplainsUnready remaining failures task from to why.Output = ⊥
+-- Why nothing was answered, by the line that tells it and its status, where this is said of bytes: a feed failed, what is said is this very refusal, or memory
+-- gave out.
+abbrev pub Explains : {R : Type 0} → (R → Option (List ℕ)) → (R → ℕ) → Option Paths → (Bytes → Outcome) → FiveTables R → FiveTables R → List ℕ → ℕ → Type 0
+Explains remaining failures detail said from to line status =
+    ((t : Table) × FeedRose failures from to t × (line ≡ unread_line detail t) × (status ≡ 3))
+    ⊎ (((3 ≤ status) × (status ≤ 5) × ((b : Bytes) → TellBytes remaining from b → said b ≡ refused line status))
+    ⊎ ((line ≡ memory_line) × (status ≡ 7)))
+
+-- Why a run gave no answer, by the line that tells it and its status: nothing was answered, and nothing written; or the output failed; or memory gave out. What
+-- was written is a first part of the output.
+abbrev pub Ends : {R : Type 0} → (R → Option (List ℕ)) → (R → ℕ) → Option Paths → (Bytes → Outcome) → FiveTables R → FiveTables R → List ℕ → ℕ
+    → Type 0 → Option (List ℕ) → Option (List ℕ) → ℕ → ℕ → Type 0
+Ends remaining failures detail said from to line status Untouched old new before after =
+    (Untouched × Explains remaining failures detail said from to line status)
+    ⊎ ((((line ≡ output_line) × (status ≡ 6) × Rises before after) ⊎ ((line ≡ memory_line) × (status ≡ 7)))
+    × ((b : Bytes) → TellBytes remaining from b → TakesPart old new (said b).output))
 
 -- The answer was given whole: its output, its line and its status.
 pub record IsAnswered (outcome : Outcome) (out_old out_new err_old err_new : Option (List ℕ)) (given : ℕ) : Type 0 where
   pub output : Appends out_old out_new outcome.output
-  pub line : Appends err_old err_new outcome.line
-  pub status : given ≡ outcome.status
-
--- The line of an answer was given whole, and its status.
-pub record IsTold (outcome : Outcome) (err_old err_new : Option (List ℕ)) (given : ℕ) : Type 0 where
   pub line : Appends err_old err_new outcome.line
   pub status : given ≡ outcome.status
 
@@ -90,10 +92,10 @@ pub record IsRefused (outcome : Outcome) (err_old err_new : Option (List ℕ)) (
   pub line : TakesLine err_old err_new before after outcome.line
   pub status : given ≡ outcome.status
 
--- The feed of a table failed, which the line says.
-pub record IsUnread (rose : Type 0) (table : Table) (err_old err_new : Option (List ℕ)) (before after : ℕ) : Type 0 where
+-- The feed of a table failed, which the line says, with what stands behind it.
+pub record IsUnread (rose : Type 0) (detail : Option Paths) (table : Table) (err_old err_new : Option (List ℕ)) (before after : ℕ) : Type 0 where
   pub rises : rose
-  pub line : TakesLine err_old err_new before after (unreadable_line table)
+  pub line : TakesLine err_old err_new before after (unread_line detail table)
 
 -- the feed of a table failed, or, where none is named, the tables have a fault
 abbrev pub FailsOr : (Table → Type 0) → Type 0 → Option Table → Type 0

@@ -1,46 +1,73 @@
-//! What is to be done with a query, and for which one.
+//! What is to be done, and how refusals are told.
 use ac_query::Version;
+use ac_tables::FiveTables;
 
-/// What is to be done.
+/// The paths of the tables' files, as they were given.
+pub type Paths<'a> = FiveTables<&'a str>;
+
+/// What is to be done with the tables, or asked of them.
 #[derive(Clone, Copy, Debug, PartialEq, Eq)]
-pub enum Command {
+pub enum Command<'a> {
     /// Checks the tables, and writes the size of each.
     Check,
-    /// Writes the candidates as JSON, with summaries of their providers.
-    Candidates,
-    /// Writes each candidate as a token, one a line.
-    Tokens,
-    /// Writes a row for each provider of each candidate, as a table.
-    List,
+    /// Writes the candidates after a token, or all, as JSON with summaries of their providers; with or without traits.
+    Candidates {
+        after: Option<&'a str>,
+        traits: bool,
+    },
+    /// Writes each candidate after a token, or all, as a token, one a line.
+    Tokens {
+        after: Option<&'a str>,
+    },
+    /// Writes a row for each provider of each candidate after a token, or of all, as a table; with or without traits.
+    List {
+        after: Option<&'a str>,
+        traits: bool,
+    },
     /// Places again and again, each time at the first candidate that is left, and writes each placement as a token, or how many there are.
-    Fill,
+    Fill {
+        sum: bool,
+    },
     /// Writes whether a token is a candidate.
-    Verify,
+    Verify {
+        token: &'a str,
+    },
     /// Writes how many providers and roots come how far, and whether there is a candidate.
     Explain,
     /// Writes at which roots candidates stand, and what the others lack.
     Hosts,
-    /// Writes how far each provider of a host comes, and what it lacks.
-    Why,
+    /// Writes how far each provider of a host comes, and what it lacks. A host is a provider's UUID, or a name that no other provider has.
+    Why {
+        host: &'a str,
+    },
 }
 
-/// What is to be done, for which query, version, token and host, in how much detail, and with or without traits.
-#[derive(Clone, Copy, Debug, PartialEq, Eq)]
+/// What is to be done, for which query.
+#[derive(Clone, Copy)]
 pub struct Job<'a> {
-    pub command: Command,
+    pub command: Command<'a>,
     /// What is asked for; empty for `Check`.
     pub query: &'a str,
-    /// The microversion of the API by which the query is read; `V136` for `Check`, where it says nothing.
+    /// The microversion of the API by which the query is read; for `Check` it says nothing.
     pub version: Version,
-    /// For `Verify` the token to judge, which is there; for `Candidates`, `Tokens` and `List` the one to begin after; none for the others.
-    pub token: Option<&'a str>,
-    /// For `Why` a provider of the host that is asked about, by its UUID, or by a name that no other provider has; without one no provider is
-    /// named. None for the others.
-    pub host: Option<&'a str>,
-    /// For `Verify` whether it is said of what a rule is broken; it says nothing for the others.
-    pub detail: bool,
-    /// For `Candidates` and `List` whether the traits of providers are written; `true` for the others.
-    pub traits: bool,
-    /// For `Fill` whether it is written how many placements there are, in place of their tokens; `false` for the others.
-    pub sum: bool,
+    /// The paths of the tables' files, where more is told: behind the line of a refusal what to do about it, and of a verdict of what a rule is broken.
+    pub detail: Option<&'a Paths<'a>>,
+}
+
+impl<'a> Command<'a> {
+    ghost use Rattle.std.specs.Prelude.{◌≡◌, option_map};
+    ghost use Rattle.ac_run.specs.Tasks.{command_shown, token_in};
+
+    /// The token to judge, or to begin after.
+    pub fn token(self) -> Option<&'a str>
+        ensures { option_map (λ t. t.now) result ≡ token_in (command_shown self.entry) }
+    {
+        match self {
+            Command::Candidates { after, .. }
+            | Command::Tokens { after }
+            | Command::List { after, .. } => { after }
+            Command::Verify { token } => Some(token),
+            _ => None,
+        }
+    }
 }

@@ -3,27 +3,26 @@
 //! It knows feeds and sinks, and nothing of command lines or files.
 #![tactic(auto)]
 
-mod answering;
-mod asking;
-mod draining;
-mod filling;
-pub mod gathered;
+mod answer;
+mod details;
+mod inputs;
 pub mod job;
 pub mod laws;
 mod outputs;
+mod placements;
 mod ready;
 pub mod refusal;
-pub mod running;
-pub mod telling;
+pub mod refusal_lines;
+pub mod run_job;
+mod wanted;
 
-pub use answering::write_answer;
-pub use asking::{Wanted, read_asked, read_wanted};
-pub use draining::{Inputs, Texts, read_tables};
-pub use filling::fill_status;
-pub use gathered::{run_gathered, write_gathered};
-pub use job::{Command, Job};
+pub use answer::write_answer;
+pub use inputs::Inputs;
+pub use job::{Command, Job, Paths};
 pub use outputs::push_verdict;
-pub use ready::{read_cloud, read_inputs, sources_of};
-pub use refusal::Refusal;
-pub use running::run;
-pub use telling::{push_line, status_of, tell};
+pub use placements::fill_status;
+pub use ready::read_inputs;
+pub use refusal::{AskRefusal, Refusal, Refused, TablesRefusal};
+pub use refusal_lines::{asked_status, push_asked_line, tell};
+pub use run_job::run;
+pub use wanted::{Wanted, read_query, read_token, read_wanted};

@@ -34,9 +34,7 @@ fn broken_name(rule: Rule) -> &'static str
 // Pushes the line of a rule that is broken.
 #[tactic(auto, unfolding(crate::specs::Outputs::broken_line))]
 fn push_broken<W: Sink>(out: &mut W, rule: Rule) -> Result<(), WriteFailed>
-    ensures text { Pushes result (W.taken out.old) (W.taken out.new) (W.failures out.old)
-        (W.failures out.new) (broken_line rule) }
-    ensures failures { W.failures out.old ≤ W.failures out.new }
+    ensures { Pushes W.taken W.failures out.old out.new result (broken_line rule) }
 {
     push_pieces(out, &[broken_name(rule).as_bytes(), b"\n"])
 }
@@ -44,9 +42,7 @@ fn push_broken<W: Sink>(out: &mut W, rule: Rule) -> Result<(), WriteFailed>
 /// Pushes the line that tells a verdict.
 #[tactic(auto, unfolding(crate::specs::Outputs::verdict_text))]
 pub fn push_verdict<W: Sink>(out: &mut W, verdict: Verdict) -> Result<(), WriteFailed>
-    ensures text { Pushes result (W.taken out.old) (W.taken out.new) (W.failures out.old)
-        (W.failures out.new) (verdict_text verdict) }
-    ensures failures { W.failures out.old ≤ W.failures out.new }
+    ensures { Pushes W.taken W.failures out.old out.new result (verdict_text verdict) }
 {
     match verdict {
         Verdict::Candidate => push_all(out, b"candidate\n"),
@@ -77,9 +73,7 @@ pub(crate) fn verdict_status(verdict: Verdict) -> u8
 /// Pushes how much the tables told, a line for each.
 #[tactic(auto, unfolding(crate::specs::Outputs::counts))]
 pub(crate) fn push_counts<W: Sink>(out: &mut W, counted: &Counts) -> Result<(), WriteFailed>
-    ensures text { Pushes result (W.taken out.old) (W.taken out.new) (W.failures out.old)
-        (W.failures out.new) (counts (sizes_of counted.now)) }
-    ensures failures { W.failures out.old ≤ W.failures out.new }
+    ensures { Pushes W.taken W.failures out.old out.new result (counts (sizes_of counted.now)) }
 {
     push_pieces(
         out,

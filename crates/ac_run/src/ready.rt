@@ -1,21 +1,24 @@
 //! What a run has before the first byte of output: the cloud that the tables state, and what is wanted of it.
-ghost use Rattle.std.specs.Prelude.{◌≡◌, IfOk, IfErr, OnOk, None};
+ghost use Rattle.std.specs.Prelude.{◌≡◌, ◌∷◌, [], Contains, IfOk, IfErr, OnOk, None};
 ghost use Rattle.std.specs.Option.{option_map};
-ghost use Rattle.ac_run.specs.Jobs.{HasToken};
 ghost use Rattle.ac_tables.specs.Source.{AreFew, tables_of};
 ghost use Rattle.ac_tables.specs.Tables.{tables_fault, world_stated};
+ghost use Rattle.ac_cloud.specs.World.{World};
 ghost use Rattle.ac_cloud.specs.Cloud.CloudWorld.{providers_of, world_of};
-ghost use Rattle.ac_run.specs.Answer.{answer, tables_in};
-ghost use Rattle.ac_run.specs.Asking.{AsksUnits, HasHost, HasIdForEachSlot, answer_to};
+ghost use Rattle.ac_run.specs.Answer.{Outcome, answer, past_tables, remedy_in, with_detail};
+ghost use Rattle.ac_run.specs.Given.{tables_in};
+ghost use Rattle.ac_run.specs.Wanted.{IsSound, answer_to};
 ghost use Rattle.ac_run.specs.Draining.{texts_shown};
 ghost use Rattle.ac_run.specs.Feeds.{Bytes, TellBytes, too_large};
-ghost use Rattle.ac_run.specs.Jobs.{task_of};
-ghost use Rattle.ac_run.specs.Run.{ExplainsInputs, ExplainsTables, ExplainsUnready, IsStated};
+ghost use Rattle.ac_run.specs.Tasks.{detail_shown, task_of};
+ghost use Rattle.ac_run.specs.Refusals.{line_told, status_told};
+ghost use Rattle.ac_run.specs.Run.{Explains, ExplainsTables, IsStated};
 
-use crate::asking::{Wanted, read_wanted};
-use crate::draining::{Inputs, Texts, read_tables};
-use crate::job::Job;
-use crate::refusal::Refusal;
+use crate::details::{asked_detail, fault_detail, reading_detail};
+use crate::inputs::{Inputs, Texts, read_tables};
+use crate::job::{Job, Paths};
+use crate::refusal::{Refusal, Refused, TablesRefusal};
+use crate::wanted::{Wanted, read_wanted};
 use ac_base::Feed;
 use ac_tables::{Cloud, FromTables, Sources, TableFault};
 use std::alloc::Global;
@@ -52,8 +55,8 @@ pub fn sources_of(texts: &Texts) -> Sources<'_>
     }
 }
 
-/// The cloud of the tables' texts.
-pub fn read_cloud(alloc: Global, texts: &Texts) -> Result<Cloud, Refusal>
+// The cloud of the tables' texts.
+fn read_cloud(alloc: Global, texts: &Texts) -> Result<Cloud, TablesRefusal>
     requires { too_large (texts_shown texts.now) ≡ None }
     ensures fine { OnOk result (tables_fault (tables_in (texts_shown texts.now)) ≡ None) }
     ensures world { IfOk result (λ cloud. world_of cloud
@@ -63,37 +66,61 @@ pub fn read_cloud(alloc: Global, texts: &Texts) -> Result<Cloud, Refusal>
 {
     match Cloud::read(alloc, &sources_of(texts)) {
         Ok(cloud) => Ok(cloud),
-        Err(TableFault::At { table, row, kind }) => Err(Refusal::Record { table, row, kind }),
-        Err(TableFault::NoMemory) => Err(Refusal::NoMemory),
+        Err(TableFault::At { table, row, kind }) => Err(TablesRefusal::Record { table, row, kind }),
+        Err(TableFault::NoMemory) => Err(TablesRefusal::NoMemory),
     }
 }
 
-/// Reads the tables in their order: the cloud that they state.
-pub fn read_inputs<R: Feed>(alloc: Global, inputs: &mut Inputs<R>) -> Result<Cloud, Refusal>
+/// Reads the tables in their order: the cloud that they state; or why not, with what stands behind that line.
+pub fn read_inputs<R: Feed>(
+    alloc: Global,
+    detail: Option<&Paths>,
+    inputs: &mut Inputs<R>,
+) -> Result<Cloud, Refused>
     ensures stated { IfOk result (λ cloud. (b : Bytes) → TellBytes R.remaining inputs.old b
         → IsStated b (world_of cloud)) }
-    ensures fault { IfErr result (ExplainsInputs R.remaining R.failures inputs.old inputs.new) }
+    ensures fault { IfErr result (λ told. (say : World → Outcome)
+        → Explains R.remaining R.failures (detail_shown detail.entry)
+        (λ b. past_tables (detail_shown detail.entry) b say)
+        inputs.old inputs.new (line_told told) (status_told told)) }
+    ensures status { IfErr result (λ told. Contains (3 ∷ 7 ∷ []) (status_told told)) }
 {
-    let texts = read_tables(alloc, inputs)?;
-    read_cloud(alloc, &texts)
+    let texts = match read_tables(alloc, inputs) {
+        Ok(texts) => texts,
+        Err(refusal) => {
+            let text = reading_detail(alloc, detail, &refusal);
+            return Err(Refused::new(alloc, Refusal::Tables(refusal), text));
+        }
+    };
+    match read_cloud(alloc, &texts) {
+        Ok(cloud) => Ok(cloud),
+        Err(refusal) => {
+            let text = fault_detail(alloc, detail, &texts, &refusal);
+            Err(Refused::new(alloc, Refusal::Tables(refusal), text))
+        }
+    }
 }
 
 /// Reads the tables in their order, then the query, then the token, and looks for the host.
-pub fn make_ready<R: Feed>(
+pub(crate) fn make_ready<R: Feed>(
     alloc: Global,
     job: &Job,
     inputs: &mut Inputs<R>,
-) -> Result<Ready, Refusal>
-    requires { HasToken job.now.command (option_map (λ token. token.now) job.now.token) }
+) -> Result<Ready, Refused>
     ensures answer { IfOk result (λ ready. (b : Bytes) → TellBytes R.remaining inputs.old b
-        → answer (task_of job.now) b ≡ answer_to ready.wanted (world_of ready.cloud)) }
-    ensures slots { IfOk result (λ ready. HasIdForEachSlot ready.wanted) }
-    ensures host { IfOk result (λ ready. HasHost (providers_of ready.cloud) ready.wanted) }
-    ensures units { IfOk result (λ ready. AsksUnits ready.wanted) }
-    ensures fault { IfErr result (ExplainsUnready R.remaining R.failures
-        (task_of job.now) inputs.old inputs.new) }
+        → answer (task_of job.now) b ≡ with_detail
+        (remedy_in (task_of job.now) (world_of ready.cloud))
+        (answer_to ready.wanted (world_of ready.cloud))) }
+    ensures sound { IfOk result (λ ready. IsSound (providers_of ready.cloud) ready.wanted) }
+    ensures fault { IfErr result (λ told. Explains R.remaining R.failures (task_of job.now).detail
+        (answer (task_of job.now)) inputs.old inputs.new (line_told told) (status_told told)) }
 {
-    let cloud = read_inputs(alloc, inputs)?;
-    let wanted = read_wanted(alloc, job, &cloud)?;
-    Ok(Ready { cloud, wanted })
+    let cloud = read_inputs(alloc, job.detail, inputs)?;
+    match read_wanted(alloc, job, &cloud) {
+        Ok(wanted) => Ok(Ready { cloud, wanted }),
+        Err(refusal) => {
+            let text = asked_detail(alloc, job, &refusal);
+            Err(Refused::new(alloc, Refusal::Asked(refusal), text))
+        }
+    }
 }

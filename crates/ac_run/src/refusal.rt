@@ -1,14 +1,14 @@
-//! Why a run has no answer, and the names of tables and faults.
+//! Why a run has no answer.
 ghost use Rattle.std.specs.Prelude.{◌≡◌};
-ghost use Rattle.ac_run.specs.Lines.{table_name, kind_name};
 
 use ac_cloud::HostFault;
 use ac_query::{QueryFault, TokenFault};
 use ac_tables::{Table, TableKind};
+use std::alloc::{AllocError, Global};
 
-/// Why there is no answer.
+/// Why the tables are no cloud.
 #[derive(Debug, Drop)]
-pub enum Refusal {
+pub enum TablesRefusal {
     /// The bytes of a table can't be had.
     Unreadable(Table),
     /// A table has more bytes than it may.
@@ -19,55 +19,62 @@ pub enum Refusal {
         row: u32,
         kind: TableKind,
     },
+    /// A growth was refused.
+    NoMemory,
+}
+
+/// Why what is asked of a cloud has no answer.
+#[derive(Debug, Drop)]
+pub enum AskRefusal {
     /// What is wrong with the query.
     Query(QueryFault),
     /// What is wrong with the token.
     Token(TokenFault),
     /// Why no provider is named.
     Host(HostFault),
+    /// A growth was refused.
+    NoMemory,
+}
+
+/// Why there is no answer.
+#[derive(Debug, Drop)]
+pub enum Refusal {
+    Tables(TablesRefusal),
+    Asked(AskRefusal),
     /// The output can't be written.
     Output,
     /// A growth was refused.
     NoMemory,
 }
 
-/// The name of a table.
-#[tactic(auto, unfolding(crate::specs::Lines::table_name))]
-pub(crate) fn table_name(table: Table) -> &'static [u8]
-    ensures { result.now ≡ table_name table }
-{
-    match table {
-        Table::Providers => b"providers",
-        Table::Inventories => b"inventories",
-        Table::Usages => b"usages",
-        Table::Traits => b"traits",
-        Table::Aggregates => b"aggregates",
-    }
+/// Why there is no answer, and what stands behind that line; nothing where no more is told.
+#[derive(Debug, Drop)]
+pub struct Refused {
+    pub refusal: Refusal,
+    pub detail: Vec<u8>,
 }
 
-/// The name of a fault of a table.
-#[tactic(auto, unfolding(crate::specs::Lines::kind_name))]
-pub(crate) fn kind_name(kind: TableKind) -> &'static [u8]
-    ensures { result.now ≡ kind_name kind }
-{
-    match kind {
-        TableKind::NoHeader => b"NoHeader",
-        TableKind::MissingColumn => b"MissingColumn",
-        TableKind::DoubleColumn => b"DoubleColumn",
-        TableKind::Width => b"Width",
-        TableKind::BadUuid => b"BadUuid",
-        TableKind::BadClass => b"BadClass",
-        TableKind::BadTrait => b"BadTrait",
-        TableKind::BadNumber => b"BadNumber",
-        TableKind::BadRatio => b"BadRatio",
-        TableKind::ZeroStep => b"ZeroStep",
-        TableKind::ReservedOverTotal => b"ReservedOverTotal",
-        TableKind::Duplicate => b"Duplicate",
-        TableKind::UnknownProvider => b"UnknownProvider",
-        TableKind::NoInventory => b"NoInventory",
-        TableKind::TooManyProviders => b"TooManyProviders",
-        TableKind::UnknownParent => b"UnknownParent",
-        TableKind::ParentCycle => b"ParentCycle",
-        TableKind::WrongRoot => b"WrongRoot",
+impl Refused {
+    ghost use Rattle.ac_run.specs.Refusals.{IsRefusalWith, line_of, line_told, status_of, status_told};
+
+    /// A refusal with nothing behind its line.
+    pub fn of(alloc: Global, refusal: Refusal) -> Refused
+        ensures line { line_told result ≡ line_of refusal }
+        ensures status { status_told result ≡ status_of refusal }
+    {
+        Refused {
+            refusal,
+            detail: Vec::new(alloc),
+        }
+    }
+
+    /// A refusal with this text behind its line. Where there was no memory for the text, want of memory is what is told.
+    pub fn new(alloc: Global, refusal: Refusal, detail: Result<Vec<u8>, AllocError>) -> Refused
+        ensures { IsRefusalWith refusal detail result }
+    {
+        match detail {
+            Ok(detail) => Refused { refusal, detail },
+            Err(AllocError) => Refused::of(alloc, Refusal::NoMemory),
+        }
     }
 }

@@ -1,12 +1,9 @@
 //! Runs over devices in memory.
-ghost use Rattle.std.specs.Option.{option_map};
-ghost use Rattle.ac_run.specs.Jobs.{HasToken};
 
 use crate::left::{Left, expanded, text_of};
-use ac_base::{MemFeed, MemSink, Turn};
-use ac_detail::{Paths, run_detailed};
+use ac_base::{Gathering, MemFeed, MemSink, Turn};
 use ac_query::Version;
-use ac_run::{Command, Inputs, Job, run, run_gathered};
+use ac_run::{Command, Inputs, Job, Paths, run};
 use std::alloc::{AllocError, Global};
 use std::process::Abort;
 
@@ -74,14 +71,6 @@ fn texts_of(alloc: Global, rows: &Rows) -> Result<Texts, AllocError> {
     })
 }
 
-// Which of the calls makes a run.
-#[derive(Clone, Copy, PartialEq, Eq)]
-enum Way {
-    Plain,
-    Gathered,
-    Detailed,
-}
-
 // How a run is made, and how its devices go.
 #[derive(Clone, Copy)]
 struct Turns<'a> {
@@ -92,7 +81,8 @@ struct Turns<'a> {
     aggregates: &'a [Turn],
     out: &'a [Turn],
     err: &'a [Turn],
-    way: Way,
+    gathers: bool,
+    detail: bool,
 }
 
 const SOUND: Turns<'static> = Turns {
@@ -103,7 +93,8 @@ const SOUND: Turns<'static> = Turns {
     aggregates: &[],
     out: &[],
     err: &[],
-    way: Way::Plain,
+    gathers: false,
+    detail: false,
 };
 
 // Every device goes by these turns.
@@ -137,9 +128,7 @@ const PATHS: Paths<'static> = Paths {
 };
 
 // A run over the tables of these rows.
-fn run_over(alloc: Global, rows: &Rows, job: &Job<'_>, turns: Turns) -> Result<Left, AllocError>
-    requires { HasToken job.now.command (option_map (λ token. token.now) job.now.token) }
-{
+fn run_over(alloc: Global, rows: &Rows, job: &Job<'_>, turns: Turns) -> Result<Left, AllocError> {
     let texts = texts_of(alloc, rows)?;
     let mut inputs = Inputs {
         providers: MemFeed::new(texts.providers.as_bytes(), turns.providers),
@@ -150,18 +139,13 @@ fn run_over(alloc: Global, rows: &Rows, job: &Job<'_>, turns: Turns) -> Result<L
     };
     let mut out = MemSink::new(vec![in alloc; 0u8; 2000]?, turns.out);
     let mut err = MemSink::new(vec![in alloc; 0u8; 1000]?, turns.err);
-    let status = match turns.way {
-        Way::Plain => run(alloc, job, &mut inputs, &mut out, &mut err),
-        Way::Gathered => {
-            let (status, taken) = run_gathered(alloc, job, &mut inputs, out, &mut err);
-            out = taken;
-            status
-        }
-        Way::Detailed => {
-            let (status, taken) = run_detailed(alloc, job, &PATHS, &mut inputs, out, &mut err);
-            out = taken;
-            status
-        }
+    let status = if turns.gathers {
+        let mut gathering = Gathering::new(out, vec![in alloc; 0u8; 2000]?);
+        let status = run(alloc, job, &mut inputs, &mut gathering, &mut err);
+        out = gathering.finish().1;
+        status
+    } else {
+        run(alloc, job, &mut inputs, &mut out, &mut err)
     };
     Ok(Left {
         output: text_of(alloc, out.taken())?,
@@ -174,14 +158,9 @@ fn run_over(alloc: Global, rows: &Rows, job: &Job<'_>, turns: Turns) -> Result<L
 #[derive(Clone, Copy)]
 struct Case {
     rows: Rows,
-    command: Command,
+    command: Command<'static>,
     query: &'static str,
     version: Version,
-    token: Option<&'static str>,
-    host: Option<&'static str>,
-    detail: bool,
-    traits: bool,
-    sum: bool,
     output: &'static str,
     line: &'static str,
     status: u8,
@@ -190,14 +169,9 @@ struct Case {
 // The tokens of no candidate.
 const TOKENS: Case = Case {
     rows: ONE,
-    command: Command::Tokens,
+    command: Command::Tokens { after: None },
     query: "resources=VCPU:2",
     version: Version::V136,
-    token: None,
-    host: None,
-    detail: false,
-    traits: true,
-    sum: false,
     output: "",
     line: "",
     status: 0,
@@ -210,7 +184,10 @@ static ANSWERS: [Case; 9] = [
         ..TOKENS
     },
     Case {
-        command: Command::Candidates,
+        command: Command::Candidates {
+            after: None,
+            traits: true,
+        },
         output: ONE_BODY,
         ..TOKENS
     },
@@ -220,8 +197,7 @@ static ANSWERS: [Case; 9] = [
         ..TOKENS
     },
     Case {
-        command: Command::Verify,
-        token: Some("@1"),
+        command: Command::Verify { token: "@1" },
         output: "candidate\n",
         ..TOKENS
     },
@@ -238,32 +214,60 @@ static ANSWERS: [Case; 9] = [
         ..TOKENS
     },
     Case {
-        command: Command::Why,
-        host: Some("@1"),
+        command: Command::Why { host: "@1" },
         output: "slot,suffix,provider,name,lacks,detail\n1,,@1,,,\n,,@1,,,\n,,@1,,,fits\n",
         ..TOKENS
     },
     Case {
-        command: Command::List,
+        command: Command::List {
+            after: None,
+            traits: true,
+        },
         output: "#,allocation,resource provider,name,inventory used/capacity,traits\n1,VCPU=2,@1,,VCPU=0/8,\n",
         ..TOKENS
     },
     Case {
-        command: Command::Fill,
+        command: Command::Fill { sum: false },
         query: "resources=VCPU:3",
         output: "@1\n@1\n",
         ..TOKENS
     },
 ];
 
-// What a case asks, written out.
-#[derive(Drop)]
-struct Words {
-    query: String,
-    token: Option<String>,
-    host: Option<String>,
+// The token or the host of a command.
+fn text_in(command: Command<'static>) -> Option<&'static str> {
+    match command {
+        Command::Why { host } => Some(host),
+        _ => command.token(),
+    }
 }
 
+// A command with this token or host.
+fn with_text<'a>(command: Command<'static>, text: Option<&'a str>) -> Command<'a> {
+    match command {
+        Command::Check => Command::Check,
+        Command::Candidates { traits, .. } => Command::Candidates {
+            after: text,
+            traits,
+        },
+        Command::Tokens { .. } => Command::Tokens { after: text },
+        Command::List { traits, .. } => Command::List {
+            after: text,
+            traits,
+        },
+        Command::Fill { sum } => Command::Fill { sum },
+        Command::Verify { .. } => Command::Verify {
+            token: text.unwrap_or(""),
+        },
+        Command::Explain => Command::Explain,
+        Command::Hosts => Command::Hosts,
+        Command::Why { .. } => Command::Why {
+            host: text.unwrap_or(""),
+        },
+    }
+}
+
+// A text where there is one, written out.
 fn written_out(alloc: Global, text: Option<&str>) -> Result<Option<String>, AllocError> {
     match text {
         Some(text) => Ok(Some(expanded(alloc, text)?)),
@@ -271,33 +275,18 @@ fn written_out(alloc: Global, text: Option<&str>) -> Result<Option<String>, Allo
     }
 }
 
-fn words_of(alloc: Global, case: &Case) -> Result<Words, AllocError> {
-    Ok(Words {
-        query: expanded(alloc, case.query)?,
-        token: written_out(alloc, case.token)?,
-        host: written_out(alloc, case.host)?,
-    })
-}
-
-fn job_of<'a>(case: &Case, words: &'a Words) -> Job<'a> {
-    Job {
-        command: case.command,
-        query: words.query.as_str(),
-        version: case.version,
-        token: words.token.as_deref(),
-        host: words.host.as_deref(),
-        detail: case.detail,
-        traits: case.traits,
-        sum: case.sum,
-    }
-}
-
 // What a run of a case leaves.
 fn left_by(rt: &(impl Abort + AllocGlobal), case: &Case, turns: Turns) -> Result<Left, AllocError> {
-    let words = words_of(rt.alloc(), case)?;
-    let job = job_of(case, &words);
-    assert!(rt; job.command != Command::Verify || job.token.is_some());
-    run_over(rt.alloc(), &case.rows, &job, turns)
+    let alloc = rt.alloc();
+    let query = expanded(alloc, case.query)?;
+    let text = written_out(alloc, text_in(case.command))?;
+    let job = Job {
+        command: with_text(case.command, text.as_deref()),
+        query: query.as_str(),
+        version: case.version,
+        detail: if turns.detail { Some(&PATHS) } else { None },
+    };
+    run_over(alloc, &case.rows, &job, turns)
 }
 
 // A run of a case answers so; the number says which one it is.

@@ -1,10 +1,9 @@
 //! Sessions over devices in memory.
 use crate::left::{Left, expanded, text_of};
 use ac_base::{MemFeed, MemSink, Turn};
-use ac_detail::Paths;
 use ac_query::Version;
-use ac_run::Inputs;
-use ac_session::{Lines, run_session, run_session_detailed};
+use ac_run::{Inputs, Paths};
+use ac_session::{Lines, run_session};
 use std::alloc::{AllocError, Global};
 use std::process::Abort;
 
@@ -73,20 +72,16 @@ fn run_texts(alloc: Global, texts: &Texts, turns: Turns) -> Result<Left, AllocEr
     };
     let out = MemSink::new(vec![in alloc; 0u8; 4000]?, turns.out);
     let mut err = MemSink::new(vec![in alloc; 0u8; 300]?, turns.err);
-    let version = Version::V139;
-    let (status, out) = if turns.detail {
-        run_session_detailed(
-            alloc,
-            version,
-            &PATHS,
-            &mut inputs,
-            &mut lines,
-            out,
-            &mut err,
-        )
-    } else {
-        run_session(alloc, version, &mut inputs, &mut lines, out, &mut err)
-    };
+    let detail = if turns.detail { Some(&PATHS) } else { None };
+    let (status, out) = run_session(
+        alloc,
+        Version::V139,
+        detail,
+        &mut inputs,
+        &mut lines,
+        out,
+        &mut err,
+    );
     Ok(Left {
         output: text_of(alloc, out.taken())?,
         line: text_of(alloc, err.taken())?,

@@ -13,6 +13,7 @@ use Rattle.ac_session.specs.Frames.{begins_line, behind_status, end_line, escape
 use Rattle.ac_session.specs.Laws.Apart.{AnswersApart, SessionsApart, answers_of, answers_read, ended, first_answer, is_end_line, up_to_end}
 use Rattle.ac_session.specs.Lines.{is_newline}
 use Rattle.ac_session.specs.Turns.{answer_text, session_text, text_of, turn_of}
+use Rattle.ac_session.proofs.Escaped.{marked_inner}
 use Rattle.ac_session.proofs.Firsts.{before_plain}
 use Rattle.ac_session.proofs.Plain.{IsPlain, is_inner, plain, plain_byte, plain_joined, plain_number}
 
@@ -52,9 +53,6 @@ is_started (byte ∷ front) = true
 -- the lines of a text, at the beginning of a line or within one
 abbrev lines_from : Bool → List ℕ → List ℕ
 lines_from begins text = escaped begins text ++ last_newline (begins_line begins text)
-
-marked_inner : (byte : ℕ) → is_marked byte ≡ true → is_newline byte ≡ false
-marked_inner byte h = grind (arith, nat_tests)
 
 plain_clear : (byte : ℕ) → is_marked byte ≡ false → (byte == 61) ≡ false
 plain_clear byte h = grind (arith, nat_tests)

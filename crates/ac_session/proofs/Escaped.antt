@@ -11,6 +11,7 @@ use Rattle.memchr.specs.Find.{IsFirstByte, is_byte}
 use Rattle.ac_base.specs.Gathered.{IsFirstPart}
 use Rattle.ac_session.specs.Escapes.{begins_since, begun, escaped_since, marked_off, needs_blank, owed_bytes, plain, plain_length, taken_since, text_since}
 use Rattle.ac_session.specs.Frames.{begins_line, escaped, is_marked, last_newline, lines_written}
+use Rattle.ac_session.specs.Laws.Apart.{BlanksComeOff}
 use Rattle.ac_session.specs.Lines.{is_newline}
 
 -- ---- texts
@@ -25,14 +26,14 @@ first_marked byte text h = rw h refl
 first_other : (byte : ℕ) (text : List ℕ) → is_marked byte ≡ false → escaped true (byte ∷ text) ≡ byte ∷ escaped (is_newline byte) text
 first_other byte text h = rw h refl
 
-marked_inner : (byte : ℕ) → is_marked byte ≡ true → is_newline byte ≡ false
+pub marked_inner : (byte : ℕ) → is_marked byte ≡ true → is_newline byte ≡ false
 marked_inner byte h = grind (arith, nat_tests)
 
 plain_other : (byte : ℕ) (text : List ℕ) → is_marked byte ≡ false → plain true (byte ∷ text) ≡ byte ∷ plain (is_newline byte) text
 plain_other byte text h = rw (byte_marked byte h) refl
 
 -- what was escaped is read back
-pub plain_escaped : (b : Bool) (text : List ℕ) → plain b (escaped b text) ≡ text
+plain_escaped : (b : Bool) (text : List ℕ) → plain b (escaped b text) ≡ text
 plain_escaped true [] = refl
 plain_escaped false [] = refl
 plain_escaped false (byte ∷ text) = ap (λ l. byte ∷ l) (plain_escaped (is_newline byte) text)
@@ -44,7 +45,7 @@ plain_escaped true (byte ∷ text) = elim (cases_Bool (is_marked byte)) [
 ]
 
 -- texts one behind the other
-pub escaped_both : (b : Bool) (x y : List ℕ) → escaped b (x ++ y) ≡ escaped b x ++ escaped (begins_line b x) y
+escaped_both : (b : Bool) (x y : List ℕ) → escaped b (x ++ y) ≡ escaped b x ++ escaped (begins_line b x) y
 escaped_both true [] y = refl
 escaped_both false [] y = refl
 escaped_both false (byte ∷ x) y = ap (λ l. byte ∷ l) (escaped_both (is_newline byte) x y)
@@ -59,7 +60,16 @@ escaped_both true (byte ∷ x) y = elim (cases_Bool (is_marked byte)) [
       ∙ ap (λ l. l ++ escaped (begins_line (is_newline byte) x) y) (sym (first_other byte x other))
 ]
 
-pub begins_both : (b : Bool) (x y : List ℕ) → begins_line b (x ++ y) ≡ begins_line (begins_line b x) y
+last_escaped : (b : Bool) → last_newline b ≡ escaped b (last_newline b)
+last_escaped true = refl
+last_escaped false = refl
+
+pub blanks_come_off : BlanksComeOff
+blanks_come_off text =
+    let last = last_newline (begins_line true text) in
+    ap (plain true) (ap (λ l. escaped true text ++ l) (last_escaped (begins_line true text)) ∙ sym (escaped_both true text last)) ∙ plain_escaped true (text ++ last)
+
+begins_both : (b : Bool) (x y : List ℕ) → begins_line b (x ++ y) ≡ begins_line (begins_line b x) y
 begins_both b [] y = refl
 begins_both b (byte ∷ x) y = begins_both (is_newline byte) x y
 

@@ -4,7 +4,7 @@ use Rattle.std.specs.Io.KnownBytes.{IsAtEnd, Keeps, prepend_known}
 use Rattle.std.proofs.lemmas.Bool.Decides.{nat_tests}
 use Rattle.std.proofs.lemmas.List.{append-nil, drop_all, take-take, take_all}
 use Rattle.std.specs.List.{position_or_len}
-use Rattle.ac_base.specs.Devices.{IsGivenUp, Rises, one_more}
+use Rattle.ac_base.specs.Devices.{IsGivenUp, one_more}
 use Rattle.ac_session.specs.Lines.{line, too_long, end, behind_line, first_line, given_first, is_newline, most_bytes, newline, without_return}
 use Rattle.ac_session.specs.Finds.{given_of}
 use Rattle.ac_session.specs.declared.lines.Found.{Found}
@@ -109,9 +109,6 @@ error_gives (Err e) bytes err = refl
 pub at_end : {P : Type 0} (n : ℕ) → (131073 ≤ n) ⊎ P → n < 131073 → P
 at_end n (inl full) few = absurd (omega arith)
 at_end n (inr ended) few = ended
-
-pub rises_later : (a b c : ℕ) → a ≤ b → Rises b c → b ≤ c → Rises a c
-rises_later a b c le rises on = grind arith
 
 pub given_up_later : (breaks later new failures more most : ℕ) → later ≡ breaks → failures ≤ more → IsGivenUp later new more most → IsGivenUp breaks new failures most
 given_up_later breaks later new failures more most same le (inl once) = inl (once ∙ ap one_more same)

@@ -16,17 +16,13 @@ use Rattle.ac_query.specs.declared.fault.QueryFault.{QueryFault}
 use Rattle.ac_query.specs.declared.fault.QueryFault.TheVariants as query
 use Rattle.ac_query.specs.Shown.Faults.{fault_shown}
 use Rattle.ac_query.specs.declared.token.TokenFault.TheVariants as token
-use Rattle.ac_run.specs.Lines.{group_line, host_line, kind_name, memory_line, output_line, pair_line, query_line, record_line, table_name, token_line, too_large_line, unreadable_line}
-use Rattle.ac_run.specs.Refusals.{line_of, line_of_query}
-use Rattle.ac_run.specs.declared.refusal.Refusal.{Refusal}
-use Rattle.ac_run.specs.declared.refusal.Refusal.TheVariants as why
+use Rattle.ac_run.specs.Lines.{group_line, host_line, memory_line, pair_line, query_line, token_line}
+use Rattle.ac_run.specs.Refusals.{line_of_asked, line_of_query}
+use Rattle.ac_run.specs.declared.refusal.AskRefusal.{AskRefusal}
+use Rattle.ac_run.specs.declared.refusal.AskRefusal.TheVariants as ask
 use Rattle.ac_session.proofs.Firsts.{before_next}
 use Rattle.ac_session.specs.Frames.{behind_status}
 use Rattle.ac_session.specs.Lines.{first_line, is_newline}
-use Rattle.ac_tables.specs.declared.fault.Table.{Table}
-use Rattle.ac_tables.specs.declared.fault.Table.TheVariants as table
-use Rattle.ac_tables.specs.declared.fault.TableKind.{TableKind}
-use Rattle.ac_tables.specs.declared.fault.TableKind.TheVariants as kind
 
 -- ---- texts within a line
 
@@ -123,35 +119,6 @@ unfolding group_line
 group_one suffix name s p =
     line_behind {a = codes "query: group \""} (plain refl) (line_behind s (line_behind {a = codes "\": "} (plain refl) (line_behind p (line_end {a = []} (plain refl)))))
 
-named_table : (t : Table) → IsPlain (table_name t)
-unfolding table_name
-named_table table.Providers = plain refl
-named_table table.Inventories = plain refl
-named_table table.Usages = plain refl
-named_table table.Traits = plain refl
-named_table table.Aggregates = plain refl
-
-named_kind : (k : TableKind) → IsPlain (kind_name k)
-unfolding kind_name
-named_kind kind.NoHeader = plain refl
-named_kind kind.MissingColumn = plain refl
-named_kind kind.DoubleColumn = plain refl
-named_kind kind.Width = plain refl
-named_kind kind.BadUuid = plain refl
-named_kind kind.BadClass = plain refl
-named_kind kind.BadTrait = plain refl
-named_kind kind.BadNumber = plain refl
-named_kind kind.BadRatio = plain refl
-named_kind kind.ZeroStep = plain refl
-named_kind kind.ReservedOverTotal = plain refl
-named_kind kind.Duplicate = plain refl
-named_kind kind.UnknownProvider = plain refl
-named_kind kind.NoInventory = plain refl
-named_kind kind.TooManyProviders = plain refl
-named_kind kind.UnknownParent = plain refl
-named_kind kind.ParentCycle = plain refl
-named_kind kind.WrongRoot = plain refl
-
 query_one : (f : QueryFault) → IsLine (line_of_query (fault_shown f))
 unfolding query_line memory_line
 query_one query.QueryTooLong = line_end {a = codes "query: QueryTooLong"} (plain refl)
@@ -166,23 +133,13 @@ query_one query.PolicyMissing = line_end {a = codes "query: PolicyMissing"} (pla
 query_one query.TooManySlots = line_end {a = codes "query: TooManySlots"} (plain refl)
 query_one query.NoMemory = line_end {a = codes "out of memory"} (plain refl)
 
-record_one : (t : Table) (row : ℕ) (k : TableKind) → IsLine (record_line t row k)
-unfolding record_line
-record_one t row k =
-    line_behind (named_table t)
-    (line_behind {a = codes ": record "} (plain refl) (line_behind (plain_number row) (line_behind {a = codes ": "} (plain refl) (line_behind (named_kind k) (line_end {a = []} (plain refl))))))
-
--- a refusal is told in one line
-pub refusal_one : (refusal : Refusal) → IsLine (line_of refusal)
-unfolding unreadable_line too_large_line token_line host_line memory_line output_line
-refusal_one (why.Unreadable t) = line_behind (named_table t) (line_end {a = codes ": Unreadable"} (plain refl))
-refusal_one (why.TooLarge t) = line_behind (named_table t) (line_end {a = codes ": TooLarge"} (plain refl))
-refusal_one (why.Record t row k) = record_one t row k
-refusal_one (why.Query f) = query_one f
-refusal_one (why.Token token.BadToken) = line_end {a = codes "token: BadToken"} (plain refl)
-refusal_one (why.Token token.WrongLength) = line_end {a = codes "token: WrongLength"} (plain refl)
-refusal_one (why.Token token.NoMemory) = line_end {a = codes "out of memory"} (plain refl)
-refusal_one (why.Host host.Unknown) = line_end {a = codes "host: Unknown"} (plain refl)
-refusal_one (why.Host host.Ambiguous) = line_end {a = codes "host: Ambiguous"} (plain refl)
-refusal_one why.Output = line_end {a = codes "output: WriteFailed"} (plain refl)
-refusal_one why.NoMemory = line_end {a = codes "out of memory"} (plain refl)
+-- what is asked and refused is told in one line
+pub refusal_one : (refusal : AskRefusal) → IsLine (line_of_asked refusal)
+unfolding token_line host_line memory_line
+refusal_one (ask.Query f) = query_one f
+refusal_one (ask.Token token.BadToken) = line_end {a = codes "token: BadToken"} (plain refl)
+refusal_one (ask.Token token.WrongLength) = line_end {a = codes "token: WrongLength"} (plain refl)
+refusal_one (ask.Token token.NoMemory) = line_end {a = codes "out of memory"} (plain refl)
+refusal_one (ask.Host host.Unknown) = line_end {a = codes "host: Unknown"} (plain refl)
+refusal_one (ask.Host host.Ambiguous) = line_end {a = codes "host: Ambiguous"} (plain refl)
+refusal_one ask.NoMemory = line_end {a = codes "out of memory"} (plain refl)

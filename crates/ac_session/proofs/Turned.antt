@@ -1,97 +1,107 @@
 -- What claims and releases do, by what is said of them.
-use Rattle.std.proofs.Common.{◌≡◌, ◌∙◌, ℕ, ◌<◌, ◌==◌, length, if◌then◌else◌, Bool, true, false, List, [], ◌∷◌, Option, Some, None, refl, sym, ap, ap₂}
+use Rattle.std.proofs.Common.{◌≡◌, ◌∙◌, ℕ, ◌<◌, ◌==◌, length, if◌then◌else◌, Bool, true, false, List, [], ◌∷◌, Option, Some, None, refl, sym, ap, ap₂, subst}
 use Rattle.std.specs.List.{All}
 use Rattle.std.specs.Option.{IfSome, option_map, unwrap_or}
+use Rattle.std.specs.Prelude.{Result}
 use Rattle.std.proofs.lemmas.List.Elements.{All-from_recursion}
 use Rattle.ac_cloud.specs.World.{Provider, World}
+use Rattle.ac_fill.specs.Filled.{after}
 use Rattle.ac_query.specs.Asked.{Asked}
+use Rattle.ac_query.specs.Faults.{query_fault}
 use Rattle.ac_query.specs.Laws.Gathered.{asked_by}
 use Rattle.ac_query.specs.Pairs.{pairs_of}
-use Rattle.ac_query.specs.declared.version.Version.{Version}
 use Rattle.ac_query.specs.Pairs.Values.{ids_value}
+use Rattle.ac_query.specs.Tokens.{token_fault}
+use Rattle.ac_query.specs.declared.version.Version.{Version}
+use Rattle.ac_report.specs.declared.fault.PageFault.{PageFault}
 use Rattle.ac_rules.proofs.EachSlot.ClaimLaws.{claims_narrow}
-use Rattle.ac_rules.specs.Claims.{claimed, is_in_use}
+use Rattle.ac_rules.specs.Claims.{claimed, is_in_use, released}
 use Rattle.ac_rules.specs.Judge.{is_candidate, judge}
 use Rattle.ac_rules.specs.Located.{places_of}
 use Rattle.ac_rules.specs.Placed.{Placed, assigned}
-use Rattle.ac_run.proofs.Assignments.{located}
 use Rattle.ac_rules.specs.declared.verdict.Verdict.{Verdict}
 use Rattle.ac_rules.specs.declared.verdict.Verdict.TheVariants as verdict
-use Rattle.ac_run.specs.Answer.{Outcome, Says, Task, answer_in, past_query}
-use Rattle.ac_run.specs.Jobs.{ExplainsAsked, ExplainsWanted}
-use Rattle.ac_fill.specs.Filled.{after}
+use Rattle.ac_run.proofs.Assignments.{located}
+use Rattle.ac_run.proofs.Attempted.{asks_query}
+use Rattle.ac_run.specs.Answer.{Outcome, Says, answer_in, past_query, refused}
 use Rattle.ac_run.specs.Outputs.{fill_status}
-use Rattle.ac_run.specs.Refusals.{status_of}
-use Rattle.ac_run.specs.declared.refusal.Refusal.{Refusal}
-use Rattle.ac_run.specs.declared.refusal.Refusal.TheVariants as why
+use Rattle.ac_run.specs.Refusals.{line_of_asked, status_of_asked}
+use Rattle.ac_run.specs.Tasks.{Task}
+use Rattle.ac_run.specs.Wanted.{ExplainsQuery, ExplainsToken, ExplainsWanted}
+use Rattle.ac_run.specs.declared.refusal.AskRefusal.{AskRefusal}
+use Rattle.ac_run.specs.declared.refusal.AskRefusal.TheVariants as ask
+use Rattle.ac_session.proofs.Written.{ok_any}
 use Rattle.ac_session.specs.Laws.{AskingLeavesAll, ClaimTurnsNarrow}
 use Rattle.ac_session.specs.Questions.{claim, fill, job, nothing, release, unknown, usages, wrong_number}
-use Rattle.ac_session.specs.Standing.{IsRefusal}
-use Rattle.ac_session.specs.Turns.{assignment_task, claim_line, claim_of, claim_said, claim_turn, places_named, placed_by, release_line, release_of, release_said, unknown_provider, world_after}
+use Rattle.ac_session.specs.Standing.{Gives, IsRefusal, TakesTurn}
+use Rattle.ac_session.specs.Turns.{claim_line, claim_of, claim_said, claim_turn, places_named, placed_by, release_line, release_of, release_said, release_turn, settles, world_after}
+use Rattle.ac_session.specs.declared.endings.Ending.{Ending}
 
 -- ---- refusals
 
-pub asked_refused : (task : Task) (refusal : Refusal) → ExplainsAsked task refusal → (say : Says) → IsRefusal refusal (past_query say task)
-asked_refused task (why.Query f) h say = λ told. h say
-asked_refused task (why.Token f) h say = λ told. h say
-asked_refused task why.NoMemory h say = λ told. absurd (told refl)
-asked_refused task (why.Unreadable t) h say = absurd h
-asked_refused task (why.TooLarge t) h say = absurd h
-asked_refused task (why.Record t row k) h say = absurd h
-asked_refused task (why.Host f) h say = absurd h
-asked_refused task why.Output h say = absurd h
+-- neither a query nor a token is refused
+pub past_read : (say : Says) (version : Version) (query token : List ℕ) (asked : Asked) → query_fault version query ≡ None → asked ≡ asked_by version (pairs_of query)
+    → token_fault asked token ≡ None → past_query say (Some token) version query ≡ say asked (ids_value token)
+past_read say version query token asked q e t = rw (q, ← e, t) refl
 
-pub wanted_refused : (task : Task) (world : World) (refusal : Refusal) → ExplainsWanted task world refusal → IsRefusal refusal (answer_in task.command task world)
-wanted_refused task world (why.Query f) h = λ told. h
-wanted_refused task world (why.Token f) h = λ told. h
-wanted_refused task world (why.Host f) h = λ told. h
-wanted_refused task world why.NoMemory h = λ told. absurd (told refl)
-wanted_refused task world (why.Unreadable t) h = absurd h
-wanted_refused task world (why.TooLarge t) h = absurd h
-wanted_refused task world (why.Record t row k) h = absurd h
-wanted_refused task world why.Output h = absurd h
+pub query_refused : (version : Version) (query : List ℕ) (refusal : AskRefusal) → ExplainsQuery (query_fault version query) refusal
+    → (say : Says) (token : Option (List ℕ)) → IsRefusal refusal (past_query say token version query)
+query_refused version query (ask.Query f) h say token told = rw (h.2, h.1) refl
+query_refused version query (ask.Token f) h say token told = absurd h
+query_refused version query (ask.Host f) h say token told = absurd h
+query_refused version query ask.NoMemory h say token told = absurd (told refl)
 
-refused_status : (refusal : Refusal) → (status_of refusal == 0) ≡ false
-refused_status (why.Unreadable t) = refl
-refused_status (why.TooLarge t) = refl
-refused_status (why.Record t row k) = refl
-refused_status (why.Query f) = refl
-refused_status (why.Token f) = refl
-refused_status (why.Host f) = refl
-refused_status why.Output = refl
-refused_status why.NoMemory = refl
+pub token_refused : (version : Version) (query token : List ℕ) (asked : Asked) (refusal : AskRefusal) → query_fault version query ≡ None → asked ≡ asked_by version (pairs_of query)
+    → ExplainsToken (token_fault asked token) refusal → (say : Says) → IsRefusal refusal (past_query say (Some token) version query)
+token_refused version query token asked (ask.Token f) q e h say told = rw (q, ← e, h) refl
+token_refused version query token asked (ask.Query f) q e h say told = absurd h
+token_refused version query token asked (ask.Host f) q e h say told = absurd h
+token_refused version query token asked ask.NoMemory q e h say told = absurd (told refl)
+
+pub wanted_refused : (task : Task) (world : World) (refusal : AskRefusal) → ExplainsWanted task world refusal → IsRefusal refusal (answer_in task world)
+wanted_refused task world (ask.Query f) h told = asks_query task.command _ task.version task.query world h.0 ∙ rw (h.1.2, h.1.1) refl
+wanted_refused task world (ask.Token f) h told = asks_query task.command _ task.version task.query world h.0 ∙ rw (h.1, h.2) refl
+wanted_refused task world (ask.Host f) h told = asks_query task.command _ task.version task.query world h.0 ∙ rw (h.1, h.2.1, h.2.2) refl
+wanted_refused task world ask.NoMemory h told = absurd (told refl)
+
+refused_status : (refusal : AskRefusal) → (status_of_asked refusal == 0) ≡ false
+refused_status (ask.Query f) = refl
+refused_status (ask.Token f) = refl
+refused_status (ask.Host f) = refl
+refused_status ask.NoMemory = refl
 
 -- nothing changes where the status isn't 0
 module _ (world : World) (all : List Provider) where
   unchanged : (status : ℕ) → (status == 0) ≡ false → world_after world status all ≡ world
   unchanged status e = ap (λ b. if b then record world { providers = all } else world) e
 
-  pub refused_world : (refusal : Refusal) (o : Outcome) → IsRefusal refusal o → (refusal ≡ why.NoMemory → ⊥) → world ≡ world_after world o.status all
-  refused_world refusal o is told = sym (ap (λ o. world_after world o.status all) (is told) ∙ unchanged (status_of refusal) (refused_status refusal))
-
-  pub unknown_world : (o : Outcome) → o ≡ unknown_provider → world ≡ world_after world o.status all
-  unknown_world o is = sym (ap (λ o. world_after world o.status all) is)
+  pub refused_world : (refusal : AskRefusal) (o : Outcome) → o ≡ refused (line_of_asked refusal) (status_of_asked refusal) → world ≡ world_after world o.status all
+  refused_world refusal o is = sym (ap (λ o. world_after world o.status all) is ∙ unchanged (status_of_asked refusal) (refused_status refusal))
 
 -- two worlds with the same providers and sizes
 same_world : (a b : World) → a.providers ≡ b.providers → a.sizes ≡ b.sizes → a ≡ b
 same_world a b p s = ap₂ (λ providers sizes. record { providers = providers; sizes = sizes }) p s
 
--- the world behind a claim that was judged, and behind a release
-module _ (old new : World) (all : List Provider) (sizes : new.sizes ≡ old.sizes) where
-  pub claimed_world : (o : Outcome) (v : Verdict) → o ≡ claim_said v → (v ≡ verdict.Candidate → new.providers ≡ all) → ((v ≡ verdict.Candidate → ⊥) → new ≡ old)
-      → new ≡ world_after old o.status all
-  claimed_world o v is made otherwise = by v made otherwise ∙ sym (ap (λ o. world_after old o.status all) is)
+-- what became of a list that was judged, or given back
+module _ (old new : World) (sizes : new.sizes ≡ old.sizes) (asked : Asked) (list : List ℕ) (r : Result Ending PageFault) (a b : Option (List ℕ)) (f g : ℕ) where
+  pub claimed_so : (v : Verdict) → v ≡ judge old.providers asked list → Gives (Some (claim_said v)) r a b f g → (v ≡ verdict.Candidate → new.providers ≡ claimed old.providers (assigned asked list))
+      → ((v ≡ verdict.Candidate → ⊥) → new ≡ old) → TakesTurn (settles old (claim_of old.providers asked (Some list)) (claimed old.providers (assigned asked list))) r new a b f g
+  claimed_so v is answer made otherwise =
+      subst (λ v. TakesTurn (settles old (claim_said v) (claimed old.providers (assigned asked list))) r new a b f g) is (record { answer = answer; world = ok_any r _ (by v made otherwise) })
     where
-      by : (v : Verdict) → (v ≡ verdict.Candidate → new.providers ≡ all) → ((v ≡ verdict.Candidate → ⊥) → new ≡ old) → new ≡ world_after old (claim_said v).status all
-      by verdict.Candidate made otherwise = same_world new (record old { providers = all }) (made refl) sizes
+      by : (v : Verdict) → (v ≡ verdict.Candidate → new.providers ≡ claimed old.providers (assigned asked list)) → ((v ≡ verdict.Candidate → ⊥) → new ≡ old)
+          → new ≡ world_after old (claim_said v).status (claimed old.providers (assigned asked list))
+      by verdict.Candidate made otherwise = same_world new (record old { providers = claimed old.providers (assigned asked list) }) (made refl) sizes
       by (verdict.Broken rule) made otherwise = otherwise (λ e. cc)
 
-  pub released_world : (o : Outcome) (in_use : Bool) → o ≡ release_said in_use → (in_use ≡ true → new.providers ≡ all) → (in_use ≡ false → new ≡ old)
-      → new ≡ world_after old o.status all
-  released_world o in_use is made otherwise = by in_use made otherwise ∙ sym (ap (λ o. world_after old o.status all) is)
+  pub released_so : (used : Bool) → used ≡ is_in_use old.providers (assigned asked list) → Gives (Some (release_said used)) r a b f g → (used ≡ true → new.providers ≡ released old.providers (assigned asked list))
+      → (used ≡ false → new ≡ old) → TakesTurn (settles old (release_of old.providers asked (Some list)) (released old.providers (assigned asked list))) r new a b f g
+  released_so used is answer made otherwise =
+      subst (λ used. TakesTurn (settles old (release_said used) (released old.providers (assigned asked list))) r new a b f g) is (record { answer = answer; world = ok_any r _ (by used made otherwise) })
     where
-      by : (b : Bool) → (b ≡ true → new.providers ≡ all) → (b ≡ false → new ≡ old) → new ≡ world_after old (release_said b).status all
-      by true made otherwise = same_world new (record old { providers = all }) (made refl) sizes
+      by : (used : Bool) → (used ≡ true → new.providers ≡ released old.providers (assigned asked list)) → (used ≡ false → new ≡ old)
+          → new ≡ world_after old (release_said used).status (released old.providers (assigned asked list))
+      by true made otherwise = same_world new (record old { providers = released old.providers (assigned asked list) }) (made refl) sizes
       by false made otherwise = otherwise refl
 
 -- the world behind placements
@@ -100,26 +110,24 @@ pub filled_world : (old new : World) (asked : Asked) (ts : List (List ℕ)) → 
 filled_world old new asked [] made sizes = same_world new old made sizes
 filled_world old new asked (t ∷ ts) made sizes = same_world new (record old { providers = after old.providers asked (t ∷ ts) }) made sizes
 
--- the slots and their providers, as they were read
-pub placed_read : (version : Version) (all : List Provider) (query token : List ℕ) (asked : Asked) (list : List ℕ) → asked ≡ asked_by version (pairs_of query)
-    → Some list ≡ places_named all token → assigned asked list ≡ placed_by version all query token
-placed_read version all query token asked list e f = ap₂ assigned e (ap (λ found. unwrap_or found []) f)
+-- ---- the turns of an assignment that was read
 
--- ---- what is said of a list that was read
+module _ (version : Version) (query token : List ℕ) (world : World) (asked : Asked) (found : Option (List ℕ)) (is : asked ≡ asked_by version (pairs_of query))
+    (named : found ≡ places_named world.providers token) (said : (say : Says) → past_query say (Some token) version query ≡ say asked (ids_value token)) where
+  read_so : assigned asked (unwrap_or found []) ≡ placed_by version world.providers query token
+  read_so = ap₂ (λ asked found. assigned asked (unwrap_or found [])) is named
 
-module _ (all : List Provider) (asked : Asked) (token : List ℕ) (o : Outcome) where
-  pub claim_outcome : (list : List ℕ) (v : Verdict) → o ≡ claim_line all asked (ids_value token) → Some list ≡ places_named all token → v ≡ judge all asked list → o ≡ claim_said v
-  claim_outcome list v h l e = h ∙ ap (claim_of all asked) (sym l) ∙ ap claim_said (sym e)
+  pub claim_read : claim_turn version query token world
+      ≡ settles world (claim_of world.providers asked found) (claimed world.providers (assigned asked (unwrap_or found [])))
+  unfolding claim_turn
+  claim_read =
+      ap₂ (λ o xs. settles world o (claimed world.providers xs)) (said (claim_line world.providers) ∙ ap (claim_of world.providers asked) (sym named)) (sym read_so)
 
-  pub claim_unknown : o ≡ claim_line all asked (ids_value token) → None ≡ places_named all token → o ≡ unknown_provider
-  claim_unknown h l = h ∙ ap (claim_of all asked) (sym l)
-
-  pub release_outcome : (list : List ℕ) (in_use : Bool) → o ≡ release_line all asked (ids_value token) → Some list ≡ places_named all token → in_use ≡ is_in_use all (assigned asked list)
-      → o ≡ release_said in_use
-  release_outcome list in_use h l e = h ∙ ap (release_of all asked) (sym l) ∙ ap release_said (sym e)
-
-  pub release_unknown : o ≡ release_line all asked (ids_value token) → None ≡ places_named all token → o ≡ unknown_provider
-  release_unknown h l = h ∙ ap (release_of all asked) (sym l)
+  pub release_read : release_turn version query token world
+      ≡ settles world (release_of world.providers asked found) (released world.providers (assigned asked (unwrap_or found [])))
+  unfolding release_turn
+  release_read =
+      ap₂ (λ o xs. settles world o (released world.providers xs)) (said (release_line world.providers) ∙ ap (release_of world.providers asked) (sym named)) (sym read_so)
 
 -- the places that were found are providers, one for each id
 module _ {V : Type 0} (items : V → List ℕ) (all : List Provider) (ids : List ℕ) where
@@ -134,7 +142,7 @@ module _ {V : Type 0} (items : V → List ℕ) (all : List Provider) (ids : List
 -- ---- laws
 
 pub asking_leaves_all : AskingLeavesAll
-asking_leaves_all version world (job command query by token host detail traits sum) h = refl
+asking_leaves_all version world (job task) h = refl
 asking_leaves_all version world (fill query) h = absurd h
 asking_leaves_all version world (claim query token) h = absurd h
 asking_leaves_all version world (release query token) h = absurd h
@@ -154,4 +162,4 @@ narrowed world status xs asked list = by (status == 0)
 pub claim_turns_narrow : ClaimTurnsNarrow
 unfolding claim_turn
 claim_turns_narrow version query token world asked list h =
-    narrowed world (past_query (claim_line world.providers) (assignment_task version query token)).status (placed_by version world.providers query token) asked list h
+    narrowed world (past_query (claim_line world.providers) (Some token) version query).status (placed_by version world.providers query token) asked list h

@@ -1,6 +1,6 @@
 -- What the laws say.
 pub mod Apart
-use Rattle.std.specs.Prelude.{◌≡◌, ◌<◌, ⊤, ℕ, None, List, [], ◌∷◌, ◌++◌, All, false, true, codes, length}
+use Rattle.std.specs.Prelude.{◌≡◌, ◌<◌, ⊤, ℕ, None, Some, List, [], ◌∷◌, ◌++◌, All, false, true, codes, length}
 use Rattle.std.specs.List.{join_with_byte}
 use Rattle.ac_cloud.specs.World.{Provider, World}
 use Rattle.ac_query.specs.Asked.{Asked as Query}
@@ -9,7 +9,7 @@ use Rattle.ac_rules.specs.Judge.{is_candidate}
 use Rattle.ac_run.specs.Answer.{past_query, written}
 use Rattle.ac_session.specs.Lines.{Given, behind_line, first_line, is_newline, newline}
 use Rattle.ac_session.specs.Questions.{Asked, Text, job, fill, claim, release, usages, nothing, unknown, wrong_number, is_blank, words_of}
-use Rattle.ac_session.specs.Turns.{answers, assignment_task, claim_line, claim_turn, lines_in, release_turn, turn_asked, turn_of}
+use Rattle.ac_session.specs.Turns.{answers, claim_line, claim_turn, lines_in, release_turn, turn_asked, turn_of}
 use Rattle.ac_tables.specs.Tables.{Tables, tables_fault, world_stated}
 use Rattle.ac_tables.specs.Tables.Rows.{records_of}
 use Rattle.ac_tables.specs.UsageRows.{usages_fit, usages_text}
@@ -30,7 +30,7 @@ pub record ReadsBack : Type 0 where
 
 -- what is asked is neither placements, nor a claim, nor a release
 abbrev pub OnlyAsks : Asked → Type 0
-OnlyAsks (job command query version token host detail traits sum) = ⊤
+OnlyAsks (job task) = ⊤
 OnlyAsks (fill query) = ⊥
 OnlyAsks (claim query token) = ⊥
 OnlyAsks (release query token) = ⊥
@@ -51,7 +51,7 @@ ClaimTurnsNarrow = (version : Version) (query token : Text) (world : World) (ask
 -- What was claimed, the same words release: the world is as it was before the claim.
 abbrev pub ReleaseTurnUndoes : Type 0
 ReleaseTurnUndoes = (version : Version) (query token : Text) (world : World)
-    → past_query (claim_line world.providers) (assignment_task version query token) ≡ written (codes "claimed\n") 0
+    → past_query (claim_line world.providers) (Some token) version query ≡ written (codes "claimed\n") 0
     → release_turn version query token (claim_turn version query token world).world ≡ answers world (written (codes "released\n") 0)
 
 -- the providers behind some lines

@@ -1,13 +1,10 @@
 -- Questions: what the words of a line ask.
-use Rattle.std.specs.Prelude.{⊤, ℕ, ◌==◌, Bool, true, false, List, [], ◌∷◌, length, codes, Option, Some, None, option_map, if◌then◌else◌}
+use Rattle.std.specs.Prelude.{ℕ, ◌==◌, Bool, true, List, [], ◌∷◌, length, codes, Option, Some, None, if◌then◌else◌}
 use Rattle.std.specs.List.{slice_split}
 use Rattle.std.specs.Str.{bytes_eq, is_utf8}
-use Rattle.ac_run.specs.declared.job.Command.{Command}
-use Rattle.ac_run.specs.declared.job.Command.TheVariants.{Check, Candidates, Tokens, Verify, Explain, Hosts, Why}
-use Rattle.ac_run.specs.declared.job.Command.TheVariants as commands
 use Rattle.ac_query.specs.declared.version.Version.{Version}
 use Rattle.ac_query.specs.declared.version.Version.TheVariants.{V136}
-use Rattle.ac_run.specs.Jobs.{HasToken}
+use Rattle.ac_run.specs.Tasks.{Command, Task, check, candidates, tokens, list, verify, explain, hosts, why, task_of}
 use Rattle.ac_session.specs.declared.questions.Question.{Question}
 use Rattle.ac_session.specs.declared.questions.Question.TheVariants as question
 
@@ -41,9 +38,9 @@ one_or_two_of words = None
 
 -- ---- what they ask
 
--- what is asked: a job (its command, query, version, token and host, and whether details, traits and a sum are asked), or something of the session itself
+-- what is asked: a task, or something of the session itself
 pub data Asked : Type 0 where
-  job : Command → Text → Version → Option Text → Option Text → Bool → Bool → Bool → Asked
+  job : Task → Asked
   fill : Text → Asked
   claim : Text → Text → Asked
   release : Text → Text → Asked
@@ -51,6 +48,10 @@ pub data Asked : Type 0 where
   nothing : Asked
   unknown : Asked
   wrong_number : Asked
+
+-- a command over a query, of which no more is told
+abbrev pub asks_job : Command → Text → Version → Asked
+asks_job command query version = job (record { command = command; query = query; version = version; detail = None })
 
 -- what words ask, unless their number is wrong
 abbrev pub asks : {A : Type 0} → Option A → (A → Asked) → Asked
@@ -63,24 +64,20 @@ asks_alone [] asked = asked
 asks_alone (word ∷ words) asked = wrong_number
 
 -- a query, perhaps with the token to begin after
-abbrev pub asks_search : Command → Version → List Text → Asked
-asks_search command version words = asks (one_or_two_of words) (λ p. job command p.0 version p.1 None false true false)
+abbrev pub asks_search : (Option Text → Command) → Version → List Text → Asked
+asks_search command version words = asks (one_or_two_of words) (λ p. asks_job (command p.1) p.0 version)
 
 -- a query alone
 abbrev pub asks_query : Command → Version → List Text → Asked
-asks_query command version words = asks (one_of words) (λ query. job command query version None None false true false)
+asks_query command version words = asks (one_of words) (λ query. asks_job command query version)
 
--- a query, and a token to judge
-abbrev pub asks_verify : Version → List Text → Asked
-asks_verify version words = asks (two_of words) (λ p. job Verify p.0 version (Some p.1) None false true false)
-
--- a query, and a host
-abbrev pub asks_why : Version → List Text → Asked
-asks_why version words = asks (two_of words) (λ p. job Why p.0 version None (Some p.1) false true false)
+-- a query, and a token to judge or a host
+abbrev pub asks_about : (Text → Command) → Version → List Text → Asked
+asks_about command version words = asks (two_of words) (λ p. asks_job (command p.1) p.0 version)
 
 -- a query, which is placed again and again
 abbrev pub asks_fill : List Text → Asked
-asks_fill words = asks (one_of words) (λ query. fill query)
+asks_fill words = asks (one_of words) fill
 
 -- a query, and a token of what is taken
 abbrev pub asks_claim : List Text → Asked
@@ -93,15 +90,15 @@ asks_release words = asks (two_of words) (λ p. release p.0 p.1)
 -- what the words behind a name ask
 abbrev pub asked_by_name : Version → Text → List Text → Asked
 asked_by_name version name words =
-    if bytes_eq name (codes "check") then asks_alone words (job Check [] V136 None None false true false)
-    else if bytes_eq name (codes "candidates") then asks_search Candidates version words
-    else if bytes_eq name (codes "tokens") then asks_search Tokens version words
-    else if bytes_eq name (codes "list") then asks_search commands.List version words
+    if bytes_eq name (codes "check") then asks_alone words (asks_job check [] V136)
+    else if bytes_eq name (codes "candidates") then asks_search (λ after. candidates after true) version words
+    else if bytes_eq name (codes "tokens") then asks_search tokens version words
+    else if bytes_eq name (codes "list") then asks_search (λ after. list after true) version words
     else if bytes_eq name (codes "fill") then asks_fill words
-    else if bytes_eq name (codes "verify") then asks_verify version words
-    else if bytes_eq name (codes "explain") then asks_query Explain version words
-    else if bytes_eq name (codes "hosts") then asks_query Hosts version words
-    else if bytes_eq name (codes "why") then asks_why version words
+    else if bytes_eq name (codes "verify") then asks_about verify version words
+    else if bytes_eq name (codes "explain") then asks_query explain version words
+    else if bytes_eq name (codes "hosts") then asks_query hosts version words
+    else if bytes_eq name (codes "why") then asks_about why version words
     else if bytes_eq name (codes "claim") then asks_claim words
     else if bytes_eq name (codes "release") then asks_release words
     else if bytes_eq name (codes "usages") then asks_alone words usages
@@ -120,7 +117,7 @@ asked_of version line =
 
 -- what a question asks
 abbrev pub asked_in : Question → Asked
-asked_in (question.Job j) = job j.command j.query.now j.version (option_map (λ token. token.now) j.token) (option_map (λ host. host.now) j.host) j.detail j.traits j.sum
+asked_in (question.Job j) = job (task_of j)
 asked_in (question.Fill query) = fill query.now
 asked_in (question.Claim query token) = claim query.now token.now
 asked_in (question.Release query token) = release query.now token.now
@@ -128,17 +125,6 @@ asked_in question.Usages = usages
 asked_in question.Nothing = nothing
 asked_in question.Unknown = unknown
 asked_in question.WrongNumber = wrong_number
-
--- a job of `verify` has the token that it judges
-abbrev pub HasItsToken : Question → Type 0
-HasItsToken (question.Job j) = HasToken j.command (option_map (λ token. token.now) j.token)
-HasItsToken (question.Fill query) = ⊤
-HasItsToken (question.Claim query token) = ⊤
-HasItsToken (question.Release query token) = ⊤
-HasItsToken question.Usages = ⊤
-HasItsToken question.Nothing = ⊤
-HasItsToken question.Unknown = ⊤
-HasItsToken question.WrongNumber = ⊤
 
 -- the words of what stands behind a word and a blank
 abbrev pub words_behind : Option Text → List Text

@@ -1,5 +1,5 @@
 -- Where a session stands between its questions.
-use Rattle.std.specs.Prelude.{◌≡◌, ℕ, ◌+◌, ◌≤◌, List, [], ◌∷◌, ◌++◌, codes, decimal, length, Option, Some, Result, Err, IfOk, OnErr}
+use Rattle.std.specs.Prelude.{◌≡◌, ℕ, ◌+◌, ◌≤◌, List, [], ◌∷◌, ◌++◌, codes, decimal, length, Option, Some, Result, Err, IfOk, OnErr, OnOk}
 use Rattle.std.specs.Io.KnownBytes.{Appends}
 use Rattle.ac_base.specs.Devices.{Rises, TakesPart}
 use Rattle.ac_cloud.specs.World.{World}
@@ -8,13 +8,13 @@ use Rattle.ac_report.specs.declared.fault.PageFault.{PageFault}
 use Rattle.ac_report.specs.declared.fault.PageFault.TheVariants as fault
 use Rattle.ac_run.specs.Answer.{Outcome, refused}
 use Rattle.ac_run.specs.Lines.{memory_line, output_line}
-use Rattle.ac_run.specs.Refusals.{line_of, status_of}
-use Rattle.ac_run.specs.declared.refusal.Refusal.{Refusal}
-use Rattle.ac_run.specs.declared.refusal.Refusal.TheVariants as why
+use Rattle.ac_run.specs.Refusals.{line_of_asked, status_of_asked}
+use Rattle.ac_run.specs.declared.refusal.AskRefusal.{AskRefusal}
+use Rattle.ac_run.specs.declared.refusal.AskRefusal.TheVariants as ask
 use Rattle.ac_session.specs.Frames.{end_line}
 use Rattle.ac_session.specs.LineFaults.{fault_line, fault_status}
 use Rattle.ac_session.specs.Sessions.{questions_line}
-use Rattle.ac_session.specs.Turns.{end_of, lines_in, output_of, session_text}
+use Rattle.ac_session.specs.Turns.{Turn, end_of, lines_in, output_of, session_text}
 use Rattle.ac_session.specs.declared.endings.Ending.{Ending}
 use Rattle.ac_session.specs.declared.endings.Ending.TheVariants as ending
 use Rattle.ac_session.specs.declared.session.Stop.{Stop}
@@ -37,7 +37,7 @@ mark_of status = codes "= " ++ (decimal status ++ 32 ∷ [])
 -- the line that an ending writes
 abbrev pub end_told : Ending → List ℕ
 end_told (ending.Given status) = end_line status []
-end_told (ending.Refused refusal) = end_line (status_of refusal) (line_of refusal)
+end_told (ending.Refused refusal) = end_line (status_of_asked refusal) (line_of_asked refusal)
 end_told (ending.Faulted f) = end_line fault_status (fault_line f)
 end_told ending.Unasked = []
 
@@ -53,9 +53,14 @@ pub record Gives (answer : Option Outcome) (result : Result Ending PageFault) (o
   pub failed : result ≡ Err fault.WriteFailed → Rises before after
   pub failures : before ≤ after
 
+-- A turn is taken: its answer is given, and then the world is as the turn says.
+pub record TakesTurn (turn : Turn) (result : Result Ending PageFault) (now : World) (old new : Option (List ℕ)) (before after : ℕ) : Type 0 where
+  pub answer : Gives turn.answer result old new before after
+  pub world : OnOk result (now ≡ turn.world)
+
 -- an outcome is this refusal; of want of memory nothing is said
-abbrev pub IsRefusal : Refusal → Outcome → Type 0
-IsRefusal refusal o = (refusal ≡ why.NoMemory → ⊥) → o ≡ refused (line_of refusal) (status_of refusal)
+abbrev pub IsRefusal : AskRefusal → Outcome → Type 0
+IsRefusal refusal o = (refusal ≡ ask.NoMemory → ⊥) → o ≡ refused (line_of_asked refusal) (status_of_asked refusal)
 
 -- the line that tells why a session stopped, and its status
 abbrev pub stop_line : Stop → List ℕ

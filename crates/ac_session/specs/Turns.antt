@@ -8,8 +8,6 @@ use Rattle.ac_query.specs.Laws.Gathered.{asked_by}
 use Rattle.ac_query.specs.Pairs.{pairs_of}
 use Rattle.ac_query.specs.Pairs.Values.{ids_value}
 use Rattle.ac_fill.specs.Filled.{after, filled}
-use Rattle.ac_run.specs.declared.job.Command.TheVariants.{Verify}
-use Rattle.ac_run.specs.declared.job.Command.TheVariants as commands
 use Rattle.ac_query.specs.declared.version.Version.{Version}
 use Rattle.ac_rules.specs.Claims.{claimed, is_in_use, released}
 use Rattle.ac_rules.specs.Judge.{judge}
@@ -17,7 +15,7 @@ use Rattle.ac_rules.specs.Located.{places_of}
 use Rattle.ac_rules.specs.Placed.{Placed, assigned}
 use Rattle.ac_rules.specs.declared.verdict.Verdict.{Verdict}
 use Rattle.ac_rules.specs.declared.verdict.Verdict.TheVariants as verdict
-use Rattle.ac_run.specs.Answer.{Outcome, Says, Task, answer_in, fills, past_query, refused, written}
+use Rattle.ac_run.specs.Answer.{Outcome, Says, answer_in, fills, past_query, refused, written}
 use Rattle.ac_run.specs.Outputs.{verdict_text}
 use Rattle.ac_session.specs.Frames.{end_line, lines_written}
 use Rattle.ac_session.specs.LineFaults.{fault_line, fault_status}
@@ -74,10 +72,6 @@ world_after world status all = if status == 0 then record world { providers = al
 abbrev pub settles : World → Outcome → List Provider → Turn
 settles world o all = record { answer = Some o; world = world_after world o.status all }
 
--- the task of a claim or of a release: that of `verify`
-abbrev pub assignment_task : Version → List ℕ → List ℕ → Task
-assignment_task version query token = record { command = Verify; query = query; version = version; token = Some token; host = None; detail = false; traits = true; sum = false }
-
 -- the places of the providers that a token names, where each is there
 abbrev pub places_named : List Provider → List ℕ → Option (List ℕ)
 places_named all token = option_and_then (places_of all) (ids_value token)
@@ -118,19 +112,14 @@ release_line all asked ids = release_of all asked (option_and_then (places_of al
 -- A candidate is claimed: each of its amounts is used as well afterwards.
 unfoldable pub claim_turn : Version → List ℕ → List ℕ → World → Turn
 claim_turn version query token world =
-    settles world (past_query (claim_line world.providers) (assignment_task version query token)) (claimed world.providers (placed_by version world.providers query token))
+    settles world (past_query (claim_line world.providers) (Some token) version query) (claimed world.providers (placed_by version world.providers query token))
 
 -- What is in use is released: it isn't used afterwards.
 unfoldable pub release_turn : Version → List ℕ → List ℕ → World → Turn
 release_turn version query token world =
-    settles world (past_query (release_line world.providers) (assignment_task version query token)) (released world.providers (placed_by version world.providers query token))
+    settles world (past_query (release_line world.providers) (Some token) version query) (released world.providers (placed_by version world.providers query token))
 
 -- ---- placements
-
--- the task of placements
-abbrev pub fill_task : Version → List ℕ → Task
-fill_task version query =
-    record { command = commands.Fill; query = query; version = version; token = None; host = None; detail = false; traits = true; sum = false }
 
 -- the providers after the placements of a query
 abbrev pub after_fill : List Provider → Query → List Provider
@@ -139,14 +128,13 @@ after_fill all asked = after all asked (filled asked.limit all asked)
 -- A query is placed again and again, and each placement is claimed.
 unfoldable pub fill_turn : Version → List ℕ → World → Turn
 fill_turn version query world =
-    settles world (past_query (fills world.providers false) (fill_task version query)) (after_fill world.providers (asked_by version (pairs_of query)))
+    settles world (past_query (fills world.providers false) None version query) (after_fill world.providers (asked_by version (pairs_of query)))
 
 -- ---- turns
 
 -- the turn of what is asked
 abbrev pub turn_asked : Version → World → Asked → Turn
-turn_asked version world (job command query by token host detail traits sum) =
-    answers world (answer_in command (record { command = command; query = query; version = by; token = token; host = host; detail = detail; traits = traits; sum = sum }) world)
+turn_asked version world (job task) = answers world (answer_in task world)
 turn_asked version world (fill query) = fill_turn version query world
 turn_asked version world (claim query token) = claim_turn version query token world
 turn_asked version world (release query token) = release_turn version query token world

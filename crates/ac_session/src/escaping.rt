@@ -4,6 +4,7 @@ ghost use Rattle.std.specs.Io.KnownBytes.{Appends, Keeps, append_known};
 ghost use Rattle.ac_base.specs.Devices.{PushTakes, Rises, TakesPart, breaks_after_push, failures_after_push};
 ghost use Rattle.ac_base.specs.declared.device.Push.TheVariants as Push;
 ghost use Rattle.ac_base.specs.Gathered.{IsFirstPart};
+ghost use Rattle.ac_base.specs.Writing.{Pushes};
 ghost use Rattle.ac_session.specs.Escapes.{OneAtMost, begins_since, begun, escaped_since, needs_blank, owed_bytes, plain_length, taken_since};
 ghost use Rattle.ac_session.specs.Frames.{begins_line, is_marked, last_newline, lines_written};
 
@@ -69,14 +70,10 @@ fn begins_behind(begins: bool, text: &[u8]) -> bool
 }
 
 // Hands on what is owed, and ends the last line.
-#[tactic(auto, using(ac_base::proofs::Leaving::part_of_first, ac_base::proofs::Leaving::part_of_second))]
+#[tactic(auto, using(ac_base::proofs::Leaving::appends_both, ac_base::proofs::Leaving::part_of_first, ac_base::proofs::Leaving::part_of_second))]
 fn end_lines<W: Sink>(sink: &mut W, owed: Option<u8>, begins: bool) -> Result<(), WriteFailed>
-    ensures ok { OnOk result (Appends (W.taken sink.old) (W.taken sink.new)
-        (owed_bytes owed ++ last_newline begins)) }
-    ensures part { OnErr result (TakesPart (W.taken sink.old) (W.taken sink.new)
-        (owed_bytes owed ++ last_newline begins)) }
-    ensures rises { OnErr result (Rises (W.failures sink.old) (W.failures sink.new)) }
-    ensures failures { W.failures sink.old ≤ W.failures sink.new }
+    ensures { Pushes W.taken W.failures sink.old sink.new result
+        (owed_bytes owed ++ last_newline begins) }
 {
     if let Some(byte) = owed {
         push_all(sink, &[byte])?;

@@ -1,5 +1,5 @@
 //! Laws of the definitions. Each function does nothing: its contract is the law.
-ghost use Rattle.ac_session.specs.Laws.Apart.{AnswersApart, SessionsApart};
+ghost use Rattle.ac_session.specs.Laws.Apart.{AnswersApart, BlanksComeOff, SessionsApart};
 ghost use Rattle.ac_session.specs.Laws.{AskingLeavesAll, ClaimTurnsNarrow, ReadsBack, ReleaseTurnUndoes, SessionsGoOn};
 
 /// What is written as a line of words is read as these words, and what is written behind it is left.
@@ -26,6 +26,12 @@ pub fn release_turn_undoes()
 #[tactic(auto, using(crate::proofs::Apart::answers_apart))]
 pub fn answers_apart()
     ensures { AnswersApart }
+{}
+
+/// Who takes the blank off each line that begins with one has the lines of the answer again.
+#[tactic(auto, using(crate::proofs::Escaped::blanks_come_off))]
+pub fn blanks_come_off()
+    ensures { BlanksComeOff }
 {}
 
 /// Who reads a session answer by answer reads what is written for one line after another.

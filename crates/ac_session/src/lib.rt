@@ -3,7 +3,6 @@
 //! It knows feeds and sinks, and nothing of command lines or files.
 #![tactic(auto)]
 
-mod detailed;
 mod endings;
 mod escaping;
 pub mod laws;
@@ -14,7 +13,6 @@ mod session;
 mod turns;
 pub mod usages;
 
-pub use detailed::run_session_detailed;
 pub use line_faults::LineFault;
 pub use lines::{Lines, Next};
 pub use questions::{Question, read_question};

@@ -1,13 +1,13 @@
 //! The question that a line asks.
-ghost use Rattle.std.specs.Prelude.{◌≡◌, ◌∷◌, None, true, false, option_map};
-ghost use Rattle.ac_run.specs.Jobs.{HasToken};
-ghost use Rattle.ac_session.specs.Questions.{HasItsToken, asked_by_name, asked_in, asked_of, asks_alone, asks_claim, asks_fill, asks_query, asks_release, asks_search, asks_verify, asks_why, job, one_of, one_or_two_of, two_of, words_behind, words_of};
+ghost use Rattle.std.specs.Prelude.{◌≡◌, ◌∷◌, true, option_map};
+ghost use Rattle.ac_run.specs.Tasks.{candidates, command_shown, list, tokens, verify, why};
+ghost use Rattle.ac_session.specs.Questions.{asked_by_name, asked_in, asked_of, asks_about, asks_alone, asks_claim, asks_fill, asks_job, asks_query, asks_release, asks_search, one_of, one_or_two_of, two_of, words_behind, words_of};
 
 use ac_query::Version;
 use ac_run::{Command, Job};
 
 /// What a line asks.
-#[derive(Clone, Copy, Debug, PartialEq, Eq)]
+#[derive(Clone, Copy)]
 pub enum Question<'a> {
     /// What the command of that name does.
     Job(Job<'a>),
@@ -78,10 +78,8 @@ fn one_or_two_words(rest: Option<&str>) -> Option<(&str, Option<&str>)>
 // What the words behind a name ask, where there is to be none.
 #[tactic(auto, using(crate::proofs::Cuts::not_alone))]
 fn alone<'a>(question: Question<'a>, rest: Option<&str>) -> Question<'a>
-    requires { HasItsToken question }
-    ensures asked { asked_in result ≡ asks_alone
+    ensures { asked_in result ≡ asks_alone
         (words_behind (option_map (λ t. t.now) rest.entry)) (asked_in question.entry) }
-    ensures token { HasItsToken result }
 {
     match rest {
         None => question,
@@ -89,87 +87,101 @@ fn alone<'a>(question: Question<'a>, rest: Option<&str>) -> Question<'a>
     }
 }
 
-// A job of a command over a query, without details and with traits.
-fn job<'a>(
-    command: Command,
-    query: &'a str,
-    version: Version,
-    token: Option<&'a str>,
-    host: Option<&'a str>,
-) -> Question<'a>
-    requires { HasToken command (option_map (λ t. t.now) token) }
-    ensures asked { asked_in result ≡ job command query.now version
-        (option_map (λ t. t.now) token.entry) (option_map (λ t. t.now) host.entry)
-        false true false }
-    ensures token { HasItsToken result }
+// A command over a query, of which no more is told.
+fn job<'a>(command: Command<'a>, query: &'a str, version: Version) -> Question<'a>
+    ensures { asked_in result ≡ asks_job (command_shown command.entry) query.now version }
 {
     Question::Job(Job {
         command,
         query,
         version,
-        token,
-        host,
-        detail: false,
-        traits: true,
-        sum: false,
+        detail: None,
     })
 }
 
-// A search over a query, perhaps from a token on.
-fn search<'a>(command: Command, version: Version, rest: Option<&'a str>) -> Question<'a>
-    requires { HasToken command None }
-    ensures asked { asked_in result ≡ asks_search command version
+// The candidates for a query, perhaps from a token on.
+fn candidates(version: Version, rest: Option<&str>) -> Question<'_>
+    ensures { asked_in result ≡ asks_search (λ after. candidates after true) version
         (words_behind (option_map (λ t. t.now) rest.entry)) }
-    ensures token { HasItsToken result }
 {
     match one_or_two_words(rest) {
-        Some((query, token)) => job(command, query, version, token, None),
+        Some((query, after)) => job(
+            Command::Candidates {
+                after,
+                traits: true,
+            },
+            query,
+            version,
+        ),
         None => Question::WrongNumber,
     }
 }
 
-// A job over a query alone.
-fn over_query<'a>(command: Command, version: Version, rest: Option<&'a str>) -> Question<'a>
-    requires { HasToken command None }
-    ensures asked { asked_in result ≡ asks_query command version
+// Their tokens.
+fn tokens(version: Version, rest: Option<&str>) -> Question<'_>
+    ensures { asked_in result ≡ asks_search tokens version
         (words_behind (option_map (λ t. t.now) rest.entry)) }
-    ensures token { HasItsToken result }
+{
+    match one_or_two_words(rest) {
+        Some((query, after)) => job(Command::Tokens { after }, query, version),
+        None => Question::WrongNumber,
+    }
+}
+
+// Their rows.
+fn list(version: Version, rest: Option<&str>) -> Question<'_>
+    ensures { asked_in result ≡ asks_search (λ after. list after true) version
+        (words_behind (option_map (λ t. t.now) rest.entry)) }
+{
+    match one_or_two_words(rest) {
+        Some((query, after)) => job(
+            Command::List {
+                after,
+                traits: true,
+            },
+            query,
+            version,
+        ),
+        None => Question::WrongNumber,
+    }
+}
+
+// A command over a query alone.
+fn over_query<'a>(command: Command<'a>, version: Version, rest: Option<&'a str>) -> Question<'a>
+    ensures { asked_in result ≡ asks_query (command_shown command.entry) version
+        (words_behind (option_map (λ t. t.now) rest.entry)) }
 {
     match one_word(rest) {
-        Some(query) => job(command, query, version, None, None),
+        Some(query) => job(command, query, version),
         None => Question::WrongNumber,
     }
 }
 
 // Whether a token fits a query.
 fn verify(version: Version, rest: Option<&str>) -> Question<'_>
-    ensures asked { asked_in result ≡ asks_verify version
+    ensures { asked_in result ≡ asks_about verify version
         (words_behind (option_map (λ t. t.now) rest.entry)) }
-    ensures token { HasItsToken result }
 {
     match two_words(rest) {
-        Some((query, token)) => job(Command::Verify, query, version, Some(token), None),
+        Some((query, token)) => job(Command::Verify { token }, query, version),
         None => Question::WrongNumber,
     }
 }
 
 // What the providers of a host lack for a query.
 fn why(version: Version, rest: Option<&str>) -> Question<'_>
-    ensures asked { asked_in result ≡ asks_why version
+    ensures { asked_in result ≡ asks_about why version
         (words_behind (option_map (λ t. t.now) rest.entry)) }
-    ensures token { HasItsToken result }
 {
     match two_words(rest) {
-        Some((query, host)) => job(Command::Why, query, version, None, Some(host)),
+        Some((query, host)) => job(Command::Why { host }, query, version),
         None => Question::WrongNumber,
     }
 }
 
 // Placements of a query.
 fn fill(rest: Option<&str>) -> Question<'_>
-    ensures asked { asked_in result ≡ asks_fill
-        (words_behind (option_map (λ t. t.now) rest.entry)) }
-    ensures token { HasItsToken result }
+    ensures { asked_in result ≡ asks_fill (words_behind (option_map (λ t. t.now) rest.entry)) }
 {
     match one_word(rest) {
         Some(query) => Question::Fill { query },
@@ -179,9 +191,7 @@ fn fill(rest: Option<&str>) -> Question<'_>
 
 // A claim of what a token names.
 fn claim(rest: Option<&str>) -> Question<'_>
-    ensures asked { asked_in result ≡ asks_claim
-        (words_behind (option_map (λ t. t.now) rest.entry)) }
-    ensures token { HasItsToken result }
+    ensures { asked_in result ≡ asks_claim (words_behind (option_map (λ t. t.now) rest.entry)) }
 {
     match two_words(rest) {
         Some((query, token)) => Question::Claim { query, token },
@@ -191,9 +201,7 @@ fn claim(rest: Option<&str>) -> Question<'_>
 
 // A release of what a token names.
 fn release(rest: Option<&str>) -> Question<'_>
-    ensures asked { asked_in result ≡ asks_release
-        (words_behind (option_map (λ t. t.now) rest.entry)) }
-    ensures token { HasItsToken result }
+    ensures { asked_in result ≡ asks_release (words_behind (option_map (λ t. t.now) rest.entry)) }
 {
     match two_words(rest) {
         Some((query, token)) => Question::Release { query, token },
@@ -203,15 +211,14 @@ fn release(rest: Option<&str>) -> Question<'_>
 
 // What the words behind a name ask.
 fn question_by_name<'a>(version: Version, name: &str, rest: Option<&'a str>) -> Question<'a>
-    ensures asked { asked_in result ≡ asked_by_name version name.now
+    ensures { asked_in result ≡ asked_by_name version name.now
         (words_behind (option_map (λ t. t.now) rest.entry)) }
-    ensures token { HasItsToken result }
 {
     match name {
-        "check" => alone(job(Command::Check, "", Version::V136, None, None), rest),
-        "candidates" => search(Command::Candidates, version, rest),
-        "tokens" => search(Command::Tokens, version, rest),
-        "list" => search(Command::List, version, rest),
+        "check" => alone(job(Command::Check, "", Version::V136), rest),
+        "candidates" => candidates(version, rest),
+        "tokens" => tokens(version, rest),
+        "list" => list(version, rest),
         "fill" => fill(rest),
         "verify" => verify(version, rest),
         "explain" => over_query(Command::Explain, version, rest),
@@ -226,8 +233,7 @@ fn question_by_name<'a>(version: Version, name: &str, rest: Option<&'a str>) -> 
 
 /// What a line asks, its query read by a version.
 pub fn read_question(line: &[u8], version: Version) -> Question<'_>
-    ensures asked { asked_in result ≡ asked_of version line.now }
-    ensures token { HasItsToken result }
+    ensures { asked_in result ≡ asked_of version line.now }
 {
     if line.is_empty() {
         return Question::Nothing;

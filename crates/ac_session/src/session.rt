@@ -9,6 +9,7 @@ ghost use Rattle.ac_report.specs.declared.fault.PageFault.TheVariants as PageFau
 ghost use Rattle.ac_run.specs.Feeds.{Bytes, FeedRose, TellBytes};
 ghost use Rattle.ac_run.specs.Lines.{memory_line, output_line};
 ghost use Rattle.ac_run.specs.Run.{FailsOr, IsAnswered, IsRefused, IsUnread};
+ghost use Rattle.ac_run.specs.Tasks.{detail_shown};
 ghost use Rattle.ac_session.specs.Escapes.{begun};
 ghost use Rattle.ac_session.specs.Frames.{lines_written};
 ghost use Rattle.ac_session.specs.Lines.{Given, most_passed};
@@ -27,7 +28,7 @@ use crate::turns::answer_next;
 use ac_base::{Feed, Gathering, Sink, push_all};
 use ac_query::Version;
 use ac_report::PageFault;
-use ac_run::{Inputs, Refusal, read_inputs, tell};
+use ac_run::{Inputs, Paths, Refusal, Refused, read_inputs, tell};
 use ac_tables::Cloud;
 use std::alloc::Global;
 
@@ -183,24 +184,25 @@ fn answer_lines<Q: Feed, W: Sink + Drop>(
 
 // Tells why a session stopped, and answers its status.
 #[tactic(auto, unfolding(crate::specs::Sessions::questions_line))]
-fn tell_stop<E: Sink>(err: &mut E, stop: Stop) -> u8
+fn tell_stop<E: Sink>(alloc: Global, err: &mut E, stop: Stop) -> u8
     ensures line { TakesLine (E.taken err.old) (E.taken err.new) (E.failures err.old)
         (E.failures err.new) (stop_line stop) }
     ensures status { result ≡ stop_status stop }
+    ensures failures { E.failures err.old ≤ E.failures err.new }
 {
     match stop {
         Stop::Questions => {
             let _ = push_all(err, b"questions: Unreadable\n");
             3
         }
-        Stop::Output => tell(err, &Refusal::Output),
-        Stop::NoMemory => tell(err, &Refusal::NoMemory),
+        Stop::Output => tell(err, &Refused::of(alloc, Refusal::Output)),
+        Stop::NoMemory => tell(err, &Refused::of(alloc, Refusal::NoMemory)),
     }
 }
 
-/// Holds a session over a cloud: reads one line of questions after another, and hands on each answer whole before the next line is read. Answers the
-/// status and the output sink.
-pub(crate) fn hold<Q: Feed, W: Sink + Drop, E: Sink>(
+// Holds a session over a cloud: reads one line of questions after another, and hands on each answer whole before the next line is read. Answers the
+// status and the output sink.
+fn hold<Q: Feed, W: Sink + Drop, E: Sink>(
     alloc: Global,
     version: Version,
     cloud: Cloud,
@@ -230,22 +232,24 @@ pub(crate) fn hold<Q: Feed, W: Sink + Drop, E: Sink>(
         → IsFirstPart (append_known (W.taken out) (held version (world_of cloud) q).output)
         (W.taken result.1) }
     ensures status { Contains (0 ∷ 3 ∷ 6 ∷ 7 ∷ []) result.0 }
+    ensures err_failures { E.failures err.old ≤ E.failures err.new }
 {
     let mut cloud = cloud;
     match answer_lines(alloc, &mut cloud, version, lines, out) {
         (Ok(()), out) => (0, out),
-        (Err(stop), out) => (tell_stop(err, stop), out),
+        (Err(stop), out) => (tell_stop(alloc, err, stop), out),
     }
 }
 
 /// Runs a session: reads the tables in their order, then one line of questions after another, and hands on each answer whole before the next line is read.
-/// Answers the status and the output sink.
+/// Where the tables' paths are given, what is to be done is told behind the line of tables that are refused. Answers the status and the output sink.
 ///
 /// 0: the questions are at their end; 3: a table or its reading refused, or the questions can't be read; 6: the output failed; 7: want of memory.
 /// With 3 to 7 a line on the error sink says so. Its memory doesn't grow with the number of questions.
 pub fn run_session<R: Feed, Q: Feed, W: Sink + Drop, E: Sink>(
     alloc: Global,
     version: Version,
+    detail: Option<&Paths>,
     inputs: &mut Inputs<R>,
     lines: &mut Lines<Q>,
     out: W,
@@ -259,23 +263,24 @@ pub fn run_session<R: Feed, Q: Feed, W: Sink + Drop, E: Sink>(
         → (Rises (E.failures err.old) (E.failures err.new) → ⊥)
         → (b : Bytes) → TellBytes R.remaining inputs.old b
         → (q : List ℕ) → left Q.remaining lines.old ≡ Some q → length q < most_passed
-        → IsAnswered (session_answer version b q) (W.taken out) (W.taken result.1)
-        (E.taken err.old) (E.taken err.new) result.0 }
+        → IsAnswered (session_answer (detail_shown detail.entry) version b q) (W.taken out)
+        (W.taken result.1) (E.taken err.old) (E.taken err.new) result.0 }
 
     // Whatever the devices do: what each status says.
     ensures written { result.0 ≡ 0 → (b : Bytes) → TellBytes R.remaining inputs.old b
         → (q : List ℕ) → left Q.remaining lines.old ≡ Some q → length q < most_passed
-        → IsAnswered (session_answer version b q) (W.taken out) (W.taken result.1)
-        (E.taken err.old) (E.taken err.new) result.0 }
+        → IsAnswered (session_answer (detail_shown detail.entry) version b q) (W.taken out)
+        (W.taken result.1) (E.taken err.old) (E.taken err.new) result.0 }
     ensures unread { result.0 ≡ 3
         → AreUnread (Rises (Q.failures (feed_in lines.old)) (Q.failures (feed_in lines.new)))
         (E.taken err.old) (E.taken err.new) (E.failures err.old) (E.failures err.new)
         ⊎ ((failed : Option Table)
-        × FailsOr (λ t. IsUnread (FeedRose R.failures inputs.old inputs.new t) t
-        (E.taken err.old) (E.taken err.new) (E.failures err.old) (E.failures err.new))
+        × FailsOr (λ t. IsUnread (FeedRose R.failures inputs.old inputs.new t)
+        (detail_shown detail.entry) t (E.taken err.old) (E.taken err.new) (E.failures err.old)
+        (E.failures err.new))
         ((b : Bytes) → TellBytes R.remaining inputs.old b → (q : List ℕ)
-        → IsRefused (session_answer version b q) (E.taken err.old) (E.taken err.new)
-        (E.failures err.old) (E.failures err.new) result.0)
+        → IsRefused (session_answer (detail_shown detail.entry) version b q) (E.taken err.old)
+        (E.taken err.new) (E.failures err.old) (E.failures err.new) result.0)
         failed) }
     ensures output { result.0 ≡ 6 → Rises (W.failures out) (W.failures result.1)
         × TakesLine (E.taken err.old) (E.taken err.new)
@@ -284,12 +289,13 @@ pub fn run_session<R: Feed, Q: Feed, W: Sink + Drop, E: Sink>(
         (E.failures err.old) (E.failures err.new) memory_line }
     ensures part { (b : Bytes) → TellBytes R.remaining inputs.old b
         → (q : List ℕ) → left Q.remaining lines.old ≡ Some q → length q < most_passed
-        → IsFirstPart (append_known (W.taken out) (session_answer version b q).output)
-        (W.taken result.1) }
+        → IsFirstPart (append_known (W.taken out)
+        (session_answer (detail_shown detail.entry) version b q).output) (W.taken result.1) }
     ensures status { Contains (0 ∷ 3 ∷ 6 ∷ 7 ∷ []) result.0 }
+    ensures err_failures { E.failures err.old ≤ E.failures err.new }
 {
-    match read_inputs(alloc, inputs) {
+    match read_inputs(alloc, detail, inputs) {
         Ok(cloud) => hold(alloc, version, cloud, lines, out, err),
-        Err(refusal) => (tell(err, &refusal), out),
+        Err(refused) => (tell(err, &refused), out),
     }
 }

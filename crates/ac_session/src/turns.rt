@@ -5,7 +5,6 @@ ghost use Rattle.std.specs.List.{All};
 ghost use Rattle.ac_base.specs.Devices.{Rises, TakesPart};
 ghost use Rattle.ac_cloud.specs.Cloud.CloudWorld.{providers_of, world_of};
 ghost use Rattle.ac_query.specs.Asked.{slots_of};
-ghost use Rattle.ac_run.specs.Jobs.{HasToken};
 ghost use Rattle.ac_query.specs.Laws.Gathered.{asked_by};
 ghost use Rattle.ac_query.specs.Pairs.{pairs_of};
 ghost use Rattle.ac_query.specs.Pairs.Values.{ids_value};
@@ -15,16 +14,15 @@ ghost use Rattle.ac_run.specs.Answer.{Says, answer_in, fills, past_query, writte
 ghost use Rattle.ac_fill.specs.Filled.{asks_units, filled};
 ghost use Rattle.ac_fill.specs.Shown.{IsTakenOf, with_taken};
 ghost use Rattle.ac_run.specs.Outputs.{counted, verdict_text};
-ghost use Rattle.ac_run.specs.Run.{IsWritten};
-ghost use Rattle.ac_run.specs.Jobs.{ExplainsAsked, task_of};
-ghost use Rattle.ac_session.specs.Questions.{HasItsToken, asked_in};
-ghost use Rattle.ac_session.specs.Standing.{Gives, IsGiven};
+ghost use Rattle.ac_run.specs.Tasks.{task_of};
+ghost use Rattle.ac_session.specs.Questions.{asked_in};
+ghost use Rattle.ac_session.specs.Standing.{Gives, IsRefusal, TakesTurn};
 ghost use Rattle.ac_session.specs.Lines.{Given};
 ghost use Rattle.ac_session.specs.Reading.{given_by};
-ghost use Rattle.ac_session.specs.Turns.{after_fill, assignment_task, claim_said, claim_turn, fill_turn, output_of, places_named, release_said, release_turn, turn_asked, turn_of, world_after};
+ghost use Rattle.ac_session.specs.Turns.{after_fill, claim_said, claim_turn, fill_turn, places_named, release_said, release_turn, settles, turn_asked, turn_of};
 ghost use Rattle.ac_session.specs.UsageRows.{usage_rows};
 
-use crate::endings::{Ending, refused, write_said};
+use crate::endings::{Ending, given, refused, write_said};
 use crate::line_faults::LineFault;
 use crate::lines::Next;
 use crate::questions::{Question, read_question};
@@ -35,7 +33,7 @@ use ac_query::{Query, Version};
 use ac_report::PageFault;
 use ac_rules::{InCloud, Verdict, claim, release};
 use ac_run::{
-    Command, Job, Refusal, fill_status, push_verdict, read_asked, read_wanted, write_answer,
+    AskRefusal, Job, fill_status, push_verdict, read_query, read_token, read_wanted, write_answer,
 };
 use ac_search::Walk;
 use ac_tables::Cloud;
@@ -48,54 +46,42 @@ fn answer_job<W: Sink>(
     job: &Job,
     out: &mut W,
 ) -> Result<Ending, PageFault>
-    requires { HasToken job.now.command (option_map (λ token. token.now) job.now.token) }
-    ensures { Gives (Some (answer_in job.now.command (task_of job.now) (world_of cloud.now))) result
+    ensures { Gives (Some (answer_in (task_of job.now) (world_of cloud.now))) result
         (W.taken out.old) (W.taken out.new) (W.failures out.old) (W.failures out.new) }
 {
     match read_wanted(alloc, job, cloud) {
-        Ok(wanted) => Ok(Ending::Given(write_answer(alloc, cloud, &wanted, out)?)),
+        Ok(wanted) => given(write_answer(alloc, cloud, &wanted, out)),
         Err(refusal) => refused(refusal),
     }
 }
 
 // The query of a claim or a release, and the places of the providers that its token names, where each is there.
-fn read_assignment<'a>(
+#[tactic(auto, using(crate::proofs::Turned::query_refused, crate::proofs::Turned::token_refused))]
+fn read_assignment(
     alloc: Global,
     cloud: &Cloud,
     version: Version,
-    query: &'a str,
-    token: &'a str,
-) -> Result<(Query, Option<Vec<u32>>), Refusal>
+    query: &str,
+    token: &str,
+) -> Result<(Query, Option<Vec<u32>>), AskRefusal>
     ensures asked { IfOk result (λ read. shown read.0 ≡ asked_by version (pairs_of query.now)) }
     ensures list { IfOk result (λ read. option_map (λ list. list.items) read.1
         ≡ places_named (providers_of cloud.now) token.now) }
     ensures said { IfOk result (λ read. (say : Says)
-        → past_query say (assignment_task version query.now token.now)
+        → past_query say (Some token.now) version query.now
         ≡ say (shown read.0) (ids_value token.now)) }
     ensures slots { IfOk result (λ read. IfSome read.1 (λ list.
         length list.items ≡ length (slots_of (shown read.0)))) }
     ensures providers { IfOk result (λ read. IfSome read.1 (λ list.
         All (λ p. p < length (providers_of cloud.now)) list.items)) }
-    ensures fault { IfErr result
-        (ExplainsAsked (assignment_task version query.now token.now)) }
+    ensures fault { IfErr result (λ refusal. (say : Says)
+        → IsRefusal refusal (past_query say (Some token.now) version query.now)) }
 {
-    let job = Job {
-        command: Command::Verify,
-        query,
-        version,
-        token: Some(token),
-        host: None,
-        detail: false,
-        traits: true,
-        sum: false,
-    };
-    let (query, token) = read_asked(alloc, &job)?;
-    let Some(token) = token else {
-        unreachable!();
-    };
+    let query = read_query(alloc, query, version)?;
+    let token = read_token(alloc, token, &query)?;
     match token.locate(alloc, cloud) {
         Ok(list) => Ok((query, list)),
-        Err(NoMemory) => Err(Refusal::NoMemory),
+        Err(NoMemory) => Err(AskRefusal::NoMemory),
     }
 }
 
@@ -140,11 +126,9 @@ fn answer_claim<W: Sink>(
     token: &str,
     out: &mut W,
 ) -> Result<Ending, PageFault>
-    ensures answer { Gives
-        (claim_turn version query.now token.now (world_of cloud.old)).answer result
-        (W.taken out.old) (W.taken out.new) (W.failures out.old) (W.failures out.new) }
-    ensures world { OnOk result (world_of cloud.new
-        ≡ (claim_turn version query.now token.now (world_of cloud.old)).world) }
+    ensures { TakesTurn (claim_turn version query.now token.now (world_of cloud.old)) result
+        (world_of cloud.new) (W.taken out.old) (W.taken out.new) (W.failures out.old)
+        (W.failures out.new) }
 {
     let (query, list) = match read_assignment(alloc, cloud, version, query, token) {
         Ok(read) => read,
@@ -168,11 +152,9 @@ fn answer_release<W: Sink>(
     token: &str,
     out: &mut W,
 ) -> Result<Ending, PageFault>
-    ensures answer { Gives
-        (release_turn version query.now token.now (world_of cloud.old)).answer result
-        (W.taken out.old) (W.taken out.new) (W.failures out.old) (W.failures out.new) }
-    ensures world { OnOk result (world_of cloud.new
-        ≡ (release_turn version query.now token.now (world_of cloud.old)).world) }
+    ensures { TakesTurn (release_turn version query.now token.now (world_of cloud.old)) result
+        (world_of cloud.new) (W.taken out.old) (W.taken out.new) (W.failures out.old)
+        (W.failures out.new) }
 {
     let (query, list) = match read_assignment(alloc, cloud, version, query, token) {
         Ok(read) => read,
@@ -221,23 +203,16 @@ fn place_all<W: Sink>(
     cloud: &mut Cloud,
     query: &Query,
     out: &mut W,
-) -> Result<u8, PageFault>
+) -> Result<Ending, PageFault>
     requires { asks_units (shown query.now) ≡ true }
-    ensures ok { IfOk result (IsWritten
+    ensures { TakesTurn (settles (world_of cloud.old)
         (fills (providers_of cloud.old) false (shown query.now) None)
-        (W.taken out.old) (W.taken out.new)) }
-    ensures world { IfOk result (λ status. world_of cloud.new
-        ≡ world_after (world_of cloud.old) status
-        (after_fill (providers_of cloud.old) (shown query.now))) }
-    ensures part { OnErr result (TakesPart (W.taken out.old) (W.taken out.new)
-        (fills (providers_of cloud.old) false (shown query.now) None).output) }
-    ensures failed { result ≡ Err PageFault.WriteFailed
-        → Rises (W.failures out.old) (W.failures out.new) }
-    ensures failures { W.failures out.old ≤ W.failures out.new }
+        (after_fill (providers_of cloud.old) (shown query.now))) result (world_of cloud.new)
+        (W.taken out.old) (W.taken out.new) (W.failures out.old) (W.failures out.new) }
 {
     let mut filled = write_placements(alloc, cloud, query, out)?;
     filled.takings.settle(cloud);
-    Ok(fill_status(filled.count))
+    Ok(Ending::Given(fill_status(filled.count)))
 }
 
 // The answer to placements.
@@ -248,23 +223,12 @@ fn answer_fill<W: Sink>(
     query: &str,
     out: &mut W,
 ) -> Result<Ending, PageFault>
-    ensures answer { Gives (fill_turn version query.now (world_of cloud.old)).answer result
-        (W.taken out.old) (W.taken out.new) (W.failures out.old) (W.failures out.new) }
-    ensures world { OnOk result (world_of cloud.new
-        ≡ (fill_turn version query.now (world_of cloud.old)).world) }
+    ensures { TakesTurn (fill_turn version query.now (world_of cloud.old)) result
+        (world_of cloud.new) (W.taken out.old) (W.taken out.new) (W.failures out.old)
+        (W.failures out.new) }
 {
-    let job = Job {
-        command: Command::Fill,
-        query,
-        version,
-        token: None,
-        host: None,
-        detail: false,
-        traits: true,
-        sum: false,
-    };
-    match read_asked(alloc, &job) {
-        Ok((query, _token)) => Ok(Ending::Given(place_all(alloc, cloud, &query, out)?)),
+    match read_query(alloc, query, version) {
+        Ok(query) => place_all(alloc, cloud, &query, out),
         Err(refusal) => refused(refusal),
     }
 }
@@ -274,7 +238,7 @@ fn answer_usages<W: Sink>(alloc: Global, cloud: &Cloud, out: &mut W) -> Result<E
     ensures { Gives (Some (usage_rows (providers_of cloud.now))) result
         (W.taken out.old) (W.taken out.new) (W.failures out.old) (W.failures out.new) }
 {
-    Ok(Ending::Given(write_usages(alloc, cloud, out)?))
+    given(write_usages(alloc, cloud, out))
 }
 
 // Answers a question, and changes the cloud where it is a claim, a release or placements.
@@ -285,12 +249,9 @@ fn answer_question<W: Sink>(
     question: Question<'_>,
     out: &mut W,
 ) -> Result<Ending, PageFault>
-    requires { HasItsToken question }
-    ensures answer { Gives
-        (turn_asked version (world_of cloud.old) (asked_in question.entry)).answer result
-        (W.taken out.old) (W.taken out.new) (W.failures out.old) (W.failures out.new) }
-    ensures world { OnOk result (world_of cloud.new
-        ≡ (turn_asked version (world_of cloud.old) (asked_in question.entry)).world) }
+    ensures { TakesTurn (turn_asked version (world_of cloud.old) (asked_in question.entry))
+        result (world_of cloud.new) (W.taken out.old) (W.taken out.new) (W.failures out.old)
+        (W.failures out.new) }
 {
     match question {
         Question::Job(job) => answer_job(alloc, cloud, &job, out),
@@ -315,15 +276,9 @@ pub(crate) fn answer_next<W: Sink>(
     next: Next<'_>,
     out: &mut W,
 ) -> Result<Ending, PageFault>
-    ensures ok { (given : Given) → given_by next.entry ≡ Some given → IfOk result
-        (IsGiven (turn_of version (world_of cloud.old) given).answer
-        (W.taken out.old) (W.taken out.new)) }
-    ensures world { (given : Given) → given_by next.entry ≡ Some given
-        → OnOk result (world_of cloud.new
-        ≡ (turn_of version (world_of cloud.old) given).world) }
-    ensures part { (given : Given) → given_by next.entry ≡ Some given → OnErr result (TakesPart
-        (W.taken out.old) (W.taken out.new)
-        (output_of (turn_of version (world_of cloud.old) given).answer)) }
+    ensures turn { (given : Given) → given_by next.entry ≡ Some given
+        → TakesTurn (turn_of version (world_of cloud.old) given) result (world_of cloud.new)
+        (W.taken out.old) (W.taken out.new) (W.failures out.old) (W.failures out.new) }
     ensures failed { result ≡ Err PageFault.WriteFailed
         → Rises (W.failures out.old) (W.failures out.new) }
     ensures failures { W.failures out.old ≤ W.failures out.new }

@@ -1,112 +1,28 @@
 -- Where `clap` finds no fault in the words of the program, they name a command that is not `help`, with each entry that it needs.
-use Rattle.std.proofs.Common.{◌≡◌, ◌<◌, ◌∷◌, [], ℕ, Bool, true, false, List, Option, Some, None, codes, length, refl, sym, arith, inl, inr}
+use Rattle.std.proofs.Common.{◌≡◌, ◌<◌, ◌∷◌, [], Bool, true, false, List, Option, Some, None, codes, length, refl, sym, arith, inl, inr}
 use Rattle.std.specs.Prelude.{◌&&◌, ◌||◌, ⊤, find, if◌then◌else◌, is_some, not, option_and_then, slice_get}
-use Rattle.std.specs.List.{fold, list_all, list_any}
+use Rattle.std.specs.List.{list_all, list_any}
 use Rattle.std.specs.Option.{option_map, option_map_or}
 use Rattle.std.specs.Str.{bytes_eq}
 use Rattle.std.proofs.lemmas.Bool.{and_parts, cases_Bool}
 use Rattle.std.proofs.lemmas.Slice.Eq.{bytes_eq-Decides}
 use Rattle.clap.specs.Facts.{explicit_source}
-use Rattle.clap.specs.Faults.{check_fault, defaults_fault, entered_fault, fault_of, level_fault, other_fault, settle_fault, step_fault, turn_fault, walk_fault, word_fault}
+use Rattle.clap.specs.Faults.{check_fault, defaults_fault, entered_fault, fault_of, level_fault, settle_fault, walk_fault}
 use Rattle.clap.specs.Kinds.{or_else}
-use Rattle.clap.specs.Lexer.{long_of, short_of}
 use Rattle.clap.specs.Simple.{App, Shape, argument_words, built, entered, label_of, names_of, rows_at}
 use Rattle.clap.specs.Takes.{is_given}
 use Rattle.clap.specs.Words.{first_of}
-use Rattle.clap.specs.Walk.{Held, Names, Outcome, Row, Rule, Step, Text, Waiting, Walk, after_flag, after_step, answers_to, arg_by_index, arg_by_long, bundle, done, finished, idle, is_empty, long_met, long_or_other, next, nothing_held, option, plain, plain_word, positional, refused, rows_after, settled, short_or_plain, subcommand, subcommand_met, subcommand_or_other, to_positional, trailing, value, waits, walk, walk_from, walked, walked_from, word_met}
+use Rattle.clap.specs.Walk.{Row, Rule, Text, answers_to, finished, is_empty, nothing_held, rows_after, settled, walk, walk_from}
 use Rattle.clap.proofs.SimpleLemmas.{is_nil}
 use Rattle.clap.proofs.OnLiterals.{clap_on_literals}
+use Rattle.ac_run.specs.Tasks.{Command, verify, why}
 use Rattle.ac_words.specs.Mark.{past_mark}
-use Rattle.ac_words.specs.Words.{HasEntry, HasItsToken, IsComplete, name_of, named, program, query_of, token_of}
-use Rattle.ac_words.specs.declared.words.Call.{Call}
-use Rattle.ac_words.specs.declared.words.Call.TheVariants.{Job, Session}
-use Rattle.ac_run.specs.declared.job.Command.TheVariants.{Check, Candidates, Tokens, Verify, Explain, Hosts, Why}
-use Rattle.ac_run.specs.declared.job.Command.TheVariants as commands
+use Rattle.ac_words.specs.Names.{name_read}
+use Rattle.ac_words.specs.Words.{asking, call_of, command_found, is_complete, job, named, program}
+use Rattle.ac_words.specs.declared.name.Name.{Name}
+use Rattle.ac_words.specs.declared.name.Name.TheVariants as name
 use Rattle.ac_words.proofs.FilledRows.{Filled, HasValue, asks_or_takes, first_free, then_free}
-use Rattle.ac_words.proofs.FilledWalk.{keeps-defaults, keeps-settled, keeps-walk}
-
--- ---- the walk stops at no call for help
-
-abbrev NotHelp : Option (Text × List Text) → Type 0
-NotHelp None = ⊤
-NotHelp (Some p) = bytes_eq p.0 (codes "help") ≡ false
-
-abbrev NoHelpStep : Step → Type 0
-NoHelpStep (subcommand name) = bytes_eq name (codes "help") ≡ false
-NoHelpStep _ = ⊤
-
-plain-step : (all : List Rule) (waiting : Waiting) (word : Text) (h : Held) → NoHelpStep (plain_word all waiting word h).1
-plain-step all idle word h = tt
-plain-step all (option id) word h = tt
-plain-step all positional word h = tt
-
-flag-step : (all : List Rule) (waiting : Waiting) (word : Text) (h : Held) (outcome : Outcome) → NoHelpStep (after_flag all waiting word h outcome).1
-flag-step all waiting word h done = tt
-flag-step all waiting word h (waits id) = tt
-flag-step all waiting word h plain = plain-step all waiting word h
-flag-step all waiting word h refused = plain-step all waiting word h
-
-short-step : (all : List Rule) (waiting : Waiting) (word : Text) (o : Option Text) (h : Held) → NoHelpStep (short_or_plain all waiting word o h).1
-short-step all waiting word None h = plain-step all waiting word h
-short-step all waiting word (Some flags) h = flag-step all waiting word (bundle all flags h).0 (bundle all flags h).1
-
-long-step : (all : List Rule) (waiting : Waiting) (word : Text) (o : Option (Text × Option Text)) (h : Held)
-    → NoHelpStep (long_or_other all waiting word o h).1
-long-step all waiting word None h = short-step all waiting word (short_of word) h
-long-step all waiting word (Some p) h =
-    let m = long_met all (arg_by_long all p.0) p.1 h in
-    flag-step all waiting word m.0 m.1
-
--- a command that has the subcommand `help`
-module _ (s : Shape) (helps : s.disable_help_subcommand ≡ false) where
-  other-step : (o : Option Text) (waiting : Waiting) (position : ℕ) (word : Text) (h : Held) → other_fault s o word h ≡ []
-      → NoHelpStep (subcommand_or_other s.rules o waiting position word h).1
-  other-step (Some name) waiting position word h e = elim (cases_Bool (bytes_eq name (codes "help"))) [
-    | inl t ↦ absurd (cc (rw (t, helps) at e))
-    | inr t ↦ t
-  ]
-  other-step None waiting position word h e = elim (cases_Bool (bytes_eq word (45 ∷ 45 ∷ []))) [
-    | inl t ↦ rw t tt
-    | inr t ↦ rw t (long-step s.rules waiting word (long_of word) h)
-  ]
-
-  word-step : (names : Names) (is_trailing : Bool) (waiting : Waiting) (position : ℕ) (word : Text) (h : Held)
-      → word_fault s names is_trailing waiting word h ≡ []
-      → NoHelpStep (word_met s.rules names is_trailing waiting position word h).1
-  word-step names true waiting position word h e = tt
-  word-step names false waiting position word h e = other-step (subcommand_met names waiting word) waiting position word h e
-
-  positional-stop : (o : Option Rule) (word : Text) (w : Walk) (h : Held) → NotHelp w.stopped → NotHelp (to_positional s.rules o word w h).stopped
-  positional-stop None word w h n = n
-  positional-stop (Some a) word w h n = tt
-
-  step-stop : (word : Text) (w : Walk) (h : Held) (step : Step) → NoHelpStep step → NotHelp w.stopped
-      → NotHelp (after_step s.rules word w h step).stopped
-  step-stop word w h (next waiting) k n = n
-  step-stop word w h (trailing position) k n = n
-  step-stop word w h (subcommand name) k n = k
-  step-stop word w h value k n = positional-stop (arg_by_index s.rules w.position) word w h n
-
-  turn-stop : (names : Names) (w : Walk) (word : Text) (o : Option (Text × List Text)) → NotHelp o → NotHelp w.stopped
-      → (if is_some o then [] else or_else (word_fault s names w.is_trailing w.waiting word w.held)
-      (step_fault s w.position (word_met s.rules names w.is_trailing w.waiting w.position word w.held).0
-      (word_met s.rules names w.is_trailing w.waiting w.position word w.held).1)) ≡ []
-      → NotHelp (walked_from s.rules names o w word).stopped
-  turn-stop names w word (Some p) m n e = m
-  turn-stop names w word None m n e =
-      let met = word_met s.rules names w.is_trailing w.waiting w.position word w.held in
-      let words = word_fault s names w.is_trailing w.waiting word w.held in
-      let steps = step_fault s w.position met.0 met.1 in
-      step-stop word w met.0 met.1 (word-step names w.is_trailing w.waiting w.position word w.held (first_free words steps e)) n
-
-  walk-stop : (names : Names) (w : Walk) (words : List Text) → NotHelp w.stopped → walk_fault s names w words ≡ []
-      → NotHelp (fold (walked s.rules names) w words).stopped
-  unfolding walk_fault walked
-  walk-stop names w [] n e = n
-  walk-stop names w (word ∷ words) n e =
-      let turns = turn_fault s names w word in
-      let later = walk_fault s names (walked s.rules names w word) words in
-      walk-stop names (walked s.rules names w word) words (turn-stop names w word w.stopped n n (first_free turns later e)) (then_free turns later e)
+use Rattle.ac_words.proofs.FilledWalk.{NotHelp, keeps-defaults, keeps-settled, keeps-walk}
 
 -- ---- the last checks
 
@@ -140,6 +56,9 @@ abbrev FilledOption : Option Row → Type 0
 FilledOption None = ⊤
 FilledOption (Some row) = HasValue row
 
+abbrev HasEntry : Text → List Row → Type 0
+HasEntry name rows = is_some (first_of name rows) ≡ true
+
 -- an entry that was given has a first value
 given-first : (name : Text) (rows : List Row) → Filled rows → is_given name rows ≡ true → HasEntry name rows
 given-first name rows f e = go (find (λ row. bytes_eq row.id name) rows) (here rows f) e
@@ -169,7 +88,7 @@ level-entry s words name kept n e =
     let checks = check_fault s rows false in
     let last = or_else settles (or_else defaults checks) in
     let later : last ≡ [] = then_free goes last e in
-    let walked_rows = keeps-walk s kept [] (walk_from nothing_held) words tt (first_free goes last e) in
+    let walked_rows = (keeps-walk s kept [] (walk_from nothing_held) words (tt, tt) (first_free goes last e)).0 in
     let settled_rows = keeps-settled s kept end walked_rows (first_free settles (or_else defaults checks) later) in
     let f = keeps-defaults (settled s.rules end).rows s.rules settled_rows in
     let checked : checks ≡ [] = then_free defaults checks (then_free settles (or_else defaults checks) later) in
@@ -182,91 +101,71 @@ abbrev is_help : Shape → Bool
 is_help s = bytes_eq s.name (codes "help") && is_empty s.aliases
 
 -- it needs the words of a command
-abbrev needs_words : Call → Shape → Bool
-needs_words Session s = true
-needs_words (Job Check) s = true
-needs_words (Job Verify) s = needs (codes "query") s && needs (codes "token") s
-needs_words (Job _) s = needs (codes "query") s
+abbrev needs_words : Name → Shape → Bool
+needs_words name.Check s = true
+needs_words name.Verify s = needs (codes "query") s && needs (codes "token") s
+needs_words name.Why s = needs (codes "query") s && needs (codes "host") s
+needs_words name.Session s = true
+needs_words _ s = needs (codes "query") s
+
+abbrev serves : Option Name → Shape → Bool
+serves None s = false
+serves (Some name) s = needs_words name s && list_all asks_or_takes s.rules
 
 -- it is a command of the program, which needs each entry that the command has to have
-abbrev serves : Call → Shape → Bool
-serves call s = bytes_eq s.name (name_of call) && (needs_words call s && list_all asks_or_takes s.rules)
-
 abbrev is_served : Shape → Bool
-is_served s =
-    serves (Job Check) s || (serves (Job Candidates) s || (serves (Job Tokens) s || (serves (Job commands.List) s || (serves (Job commands.Fill) s || (serves (Job Verify) s
-    || (serves (Job Explain) s || (serves (Job Hosts) s || (serves (Job Why) s || serves Session s))))))))
+is_served s = serves (name_read s.name) s
 
 abbrev ServedOption : Option Shape → Type 0
 ServedOption None = ⊤
 ServedOption (Some s) = is_served s ≡ true
 
--- a query is there where its word is
-query-entry : (s : Shape) (words : List Text) → list_all asks_or_takes s.rules ≡ true → needs (codes "query") s ≡ true
-    → level_fault s [] nothing_held words false [] ≡ [] → is_some (option_map past_mark (first_of (codes "query") (rows_after s.rules [] words))) ≡ true
-query-entry s words kept n e = by_word (first_of (codes "query") (rows_after s.rules [] words)) (level-entry s words (codes "query") kept n e)
-  where
-    by_word : (word : Option Text) → is_some word ≡ true → is_some (option_map past_mark word) ≡ true
-    by_word (Some text) h = refl
-    by_word None h = h
+-- no fault in the words of a command that needs its words: all are there
+module _ (s : Shape) (words : List Text) (kept : list_all asks_or_takes s.rules ≡ true) (e : level_fault s [] nothing_held words false [] ≡ []) where
+  abbrev rows : List Row
+  rows = rows_after s.rules [] words
 
-words-given : (call : Call) (s : Shape) (words : List Text) → list_all asks_or_takes s.rules ≡ true → needs_words call s ≡ true
-    → level_fault s [] nothing_held words false [] ≡ []
-    → (is_some (query_of call (rows_after s.rules [] words)) ≡ true) × HasItsToken call (token_of call (rows_after s.rules [] words))
-words-given Session s words kept n e = (refl, tt)
-words-given (Job Check) s words kept n e = (refl, tt)
-words-given (Job Candidates) s words kept n e = (query-entry s words kept n e, tt)
-words-given (Job Tokens) s words kept n e = (query-entry s words kept n e, tt)
-words-given (Job commands.List) s words kept n e = (query-entry s words kept n e, tt)
-words-given (Job commands.Fill) s words kept n e = (query-entry s words kept n e, tt)
-words-given (Job Explain) s words kept n e = (query-entry s words kept n e, tt)
-words-given (Job Hosts) s words kept n e = (query-entry s words kept n e, tt)
-words-given (Job Why) s words kept n e = (query-entry s words kept n e, tt)
-words-given (Job Verify) s words kept n e =
-    let query : needs (codes "query") s ≡ true = grind arith in
-    let token : needs (codes "token") s ≡ true = grind arith in
-    (query-entry s words kept query e, level-entry s words (codes "token") kept token e)
+  query-given : (command : Command) → needs (codes "query") s ≡ true → is_some (asking rows command) ≡ true
+  query-given command n = by_word (first_of (codes "query") rows) (level-entry s words (codes "query") kept n e)
+    where
+      by_word : (word : Option Text) → is_some word ≡ true → is_some (option_map (λ query. job command (past_mark query)) word) ≡ true
+      by_word (Some text) h = refl
+      by_word None h = h
 
-call-complete : (call : Call) (s : Shape) (words : List Text) → serves call s ≡ true
-    → level_fault s [] nothing_held words false [] ≡ [] → IsComplete (Some (rows_at s words))
-call-complete call s words k e =
-    let name : bytes_eq s.name (name_of call) ≡ true = grind arith in
-    let kept : list_all asks_or_takes s.rules ≡ true = grind arith in
-    let given : needs_words call s ≡ true = grind arith in
-    (call, (bytes_eq-Decides s.name (name_of call)).0 name, words-given call s words kept given e)
+  both-given : (entry : Text) (command : Text → Command) → (needs (codes "query") s && needs entry s) ≡ true
+      → is_some (option_and_then (λ word. asking rows (command word)) (first_of entry rows)) ≡ true
+  both-given entry command n =
+      let parts = and_parts (needs (codes "query") s) (needs entry s) n in
+      by_word (first_of entry rows) (level-entry s words entry kept parts.1 e) (λ word. query-given (command word) parts.0)
+    where
+      by_word : (o : Option Text) → is_some o ≡ true → ((word : Text) → is_some (asking rows (command word)) ≡ true)
+          → is_some (option_and_then (λ word. asking rows (command word)) o) ≡ true
+      by_word (Some word) h asked = asked word
+      by_word None h asked = h
+
+  words-given : (name : Name) → needs_words name s ≡ true → is_some (call_of name rows) ≡ true
+  unfolding call_of
+  words-given name.Check n = refl
+  words-given name.Candidates n = query-given _ n
+  words-given name.Tokens n = query-given _ n
+  words-given name.List n = query-given _ n
+  words-given name.Fill n = query-given _ n
+  words-given name.Verify n = both-given (codes "token") verify n
+  words-given name.Explain n = query-given _ n
+  words-given name.Hosts n = query-given _ n
+  words-given name.Why n = both-given (codes "host") why n
+  words-given name.Session n = refl
 
 level-complete : (s : Shape) (words : List Text) → is_served s ≡ true → level_fault s [] nothing_held words false [] ≡ []
-    → IsComplete (Some (rows_at s words))
-level-complete s words k e = elim (cases_Bool (serves (Job Check) s)) [
-  | inl t ↦ call-complete (Job Check) s words t e
-  | inr no_check ↦ elim (cases_Bool (serves (Job Candidates) s)) [
-    | inl t ↦ call-complete (Job Candidates) s words t e
-    | inr no_candidates ↦ elim (cases_Bool (serves (Job Tokens) s)) [
-      | inl t ↦ call-complete (Job Tokens) s words t e
-      | inr no_tokens ↦ elim (cases_Bool (serves (Job commands.List) s)) [
-        | inl t ↦ call-complete (Job commands.List) s words t e
-        | inr no_list ↦ elim (cases_Bool (serves (Job commands.Fill) s)) [
-          | inl t ↦ call-complete (Job commands.Fill) s words t e
-          | inr no_fill ↦ elim (cases_Bool (serves (Job Verify) s)) [
-            | inl t ↦ call-complete (Job Verify) s words t e
-            | inr no_verify ↦ elim (cases_Bool (serves (Job Explain) s)) [
-              | inl t ↦ call-complete (Job Explain) s words t e
-              | inr no_explain ↦ elim (cases_Bool (serves (Job Hosts) s)) [
-                | inl t ↦ call-complete (Job Hosts) s words t e
-                | inr no_hosts ↦ elim (cases_Bool (serves (Job Why) s)) [
-                  | inl t ↦ call-complete (Job Why) s words t e
-                  | inr no_why ↦
-                      call-complete Session s words
-                      (rw (no_check, no_candidates, no_tokens, no_list, no_fill, no_verify, no_explain, no_hosts, no_why) at k) e
-                ]
-              ]
-            ]
-          ]
-        ]
-      ]
-    ]
-  ]
-]
+    → is_complete (command_found (Some (rows_at s words))) ≡ true
+level-complete s words k e = by_name (name_read s.name) k
+  where
+    by_name : (o : Option Name) → serves o s ≡ true
+        → is_complete (option_map (λ name. (name, rows_after s.rules [] words)) o) ≡ true
+    by_name None k = k
+    by_name (Some name) k =
+        let parts = and_parts (needs_words name s) (list_all asks_or_takes s.rules) k in
+        words-given s words parts.1 e name parts.0
 
 no-answer : (s : Shape) (word : Text) → is_help s ≡ true → bytes_eq word (codes "help") ≡ false → answers_to word (label_of s) ≡ true → ⊥
 no-answer s word k n e =
@@ -293,22 +192,26 @@ served-find word (s ∷ subs) n k =
     ]
 
 shape-complete : (words : List Text) (o : Option Shape) → ServedOption o → is_some (option_map (λ s. rows_at s words) o) ≡ true
-    → option_map_or (λ s. level_fault s [] nothing_held words false []) o [] ≡ [] → IsComplete (option_map (λ s. rows_at s words) o)
+    → option_map_or (λ s. level_fault s [] nothing_held words false []) o [] ≡ [] → is_complete (command_found (option_map (λ s. rows_at s words) o)) ≡ true
 shape-complete words None k some e = cc
 shape-complete words (Some s) k some e = level-complete s words k e
 
-entered-complete : (a : App) (stop : Option (Text × List Text)) → list_all (λ s. is_help s || is_served s) a.subs ≡ true → NotHelp stop
-    → is_some (entered a stop) ≡ true
-    → entered_fault a stop ≡ [] → IsComplete (entered a stop)
-entered-complete a None k n some e = cc
-entered-complete a (Some p) k n some e = shape-complete p.1 (find (λ s. answers_to p.0 (label_of s)) a.subs) (served-find p.0 a.subs n k) some e
+entered-complete : (a : App) (stop : Option (Text × List Text)) → list_all (λ s. is_help s || is_served s) a.subs ≡ true
+    → NotHelp a.top stop → a.top.disable_help_subcommand ≡ false → is_some (entered a stop) ≡ true
+    → entered_fault a stop ≡ [] → is_complete (command_found (entered a stop)) ≡ true
+entered-complete a None k n helps some e = cc
+entered-complete a (Some p) k n helps some e = shape-complete p.1 (find (λ s. answers_to p.0 (label_of s)) a.subs) (served-find p.0 a.subs (n helps) k) some e
 
 program-served : list_all (λ s. is_help s || is_served s) (built program).subs ≡ true
-unfolding clap_on_literals
+unfolding clap_on_literals name_read
 program-served = refl
 
+program-kept : list_all asks_or_takes (built program).top.rules ≡ true
+unfolding clap_on_literals
+program-kept = refl
+
 -- where no fault is found, a command was found with all that it needs
-pub named-complete : (words : List Text) → fault_of program words ≡ [] → IsComplete (named words)
+pub named-complete : (words : List Text) → fault_of program words ≡ [] → is_complete (named words) ≡ true
 unfolding named
 named-complete words e =
     let a = built program in
@@ -323,5 +226,5 @@ named-complete words e =
     let later : or_else below last ≡ [] = then_free goes (or_else below last) e in
     let checked : checks ≡ [] = then_free defaults checks (then_free settles (or_else defaults checks) (then_free below last later)) in
     let found = command_given a.top (finished a.top.rules walked_to.held) (is_some (entered a walked_to.stopped)) refl checked in
-    let stops = walk-stop a.top refl (names_of a) (walk_from nothing_held) rest tt (first_free goes (or_else below last) e) in
-    entered-complete a walked_to.stopped program-served stops found (first_free below last later)
+    let stops = (keeps-walk a.top program-kept (names_of a) (walk_from nothing_held) rest (tt, tt) (first_free goes (or_else below last) e)).1 in
+    entered-complete a walked_to.stopped program-served stops refl found (first_free below last later)

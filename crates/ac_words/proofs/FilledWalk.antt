@@ -1,6 +1,6 @@
--- The walk of `clap` over the words of a command keeps its rows filled, as long as it finds no fault.
-use Rattle.std.proofs.Common.{◌≡◌, ◌∷◌, [], ℕ, zero, suc, Bool, true, false, List, Option, Some, None, drop, length, arith, inl, inr}
-use Rattle.std.specs.Prelude.{◌&&◌, encode_utf8, if◌then◌else◌, is_some, not, slice_get}
+-- The walk of `clap` over the words of a command keeps its rows filled, and stops at no call for help, as long as it finds no fault.
+use Rattle.std.proofs.Common.{◌≡◌, ◌∷◌, [], ℕ, zero, suc, Bool, true, false, List, Option, Some, None, codes, drop, length, arith, inl, inr}
+use Rattle.std.specs.Prelude.{⊤, ◌&&◌, encode_utf8, if◌then◌else◌, is_some, not, slice_get}
 use Rattle.std.specs.List.{fold, list_all}
 use Rattle.std.specs.Option.{option_map_or}
 use Rattle.std.specs.Str.{bytes_eq, chars}
@@ -17,6 +17,26 @@ use Rattle.ac_words.proofs.FilledRows.{Filled, KeptOption, asks_or_takes, filled
 -- where none of these faults comes, the rows are filled
 abbrev pub Keeps : Kinds → Held → Type 0
 Keeps kinds h = kinds ≡ [] → Filled h.rows
+
+-- a name is no call for help, where `help` is a subcommand
+abbrev NoHelp : Shape → Text → Type 0
+NoHelp s name = s.disable_help_subcommand ≡ false → bytes_eq name (codes "help") ≡ false
+
+abbrev NoHelpStep : Shape → Step → Type 0
+NoHelpStep s (subcommand name) = NoHelp s name
+NoHelpStep s _ = ⊤
+
+-- a word is met without a fault: the rows are filled, and it is no call for help
+abbrev IsMet : Shape → Held × Step → Type 0
+IsMet s m = Filled m.0.rows × NoHelpStep s m.1
+
+-- a walk stops at no call for help
+abbrev pub NotHelp : Shape → Option (Text × List Text) → Type 0
+NotHelp s None = ⊤
+NotHelp s (Some p) = NoHelp s p.0
+
+abbrev pub IsFine : Shape → Walk → Type 0
+IsFine s w = Filled w.held.rows × NotHelp s w.stopped
 
 module _ (s : Shape) (kept : list_all asks_or_takes s.rules ≡ true) where
   -- ---- uses
@@ -102,27 +122,26 @@ module _ (s : Shape) (kept : list_all asks_or_takes s.rules ≡ true) where
   keeps-option_word None id word h f = f
   keeps-option_word (Some a) id word h f = f
 
-  keeps-plain : (waiting : Waiting) (word : Text) (h : Held) → Filled h.rows → Filled (plain_word s.rules waiting word h).0.rows
-  keeps-plain idle word h f = f
-  keeps-plain (option id) word h f = keeps-option_word (arg_by_id s.rules id) id word h f
-  keeps-plain positional word h f = f
+  keeps-plain : (waiting : Waiting) (word : Text) (h : Held) → Filled h.rows → IsMet s (plain_word s.rules waiting word h)
+  keeps-plain idle word h f = (f, tt)
+  keeps-plain (option id) word h f = (keeps-option_word (arg_by_id s.rules id) id word h f, tt)
+  keeps-plain positional word h f = (f, tt)
 
-  keeps-after_flag : (waiting : Waiting) (word : Text) (h : Held) (outcome : Outcome) → Filled h.rows
-      → Filled (after_flag s.rules waiting word h outcome).0.rows
-  keeps-after_flag waiting word h done f = f
-  keeps-after_flag waiting word h (waits id) f = f
+  keeps-after_flag : (waiting : Waiting) (word : Text) (h : Held) (outcome : Outcome) → Filled h.rows → IsMet s (after_flag s.rules waiting word h outcome)
+  keeps-after_flag waiting word h done f = (f, tt)
+  keeps-after_flag waiting word h (waits id) f = (f, tt)
   keeps-after_flag waiting word h plain f = keeps-plain waiting word h f
   keeps-after_flag waiting word h refused f = keeps-plain waiting word h f
 
   keeps-bundle : (waiting : Waiting) (word : Text) (o : Option Text) (h : Held) → Filled h.rows
-      → Keeps (option_map_or (λ flags. bundle_fault s.rules s.args_override_self flags h) o []) (short_or_plain s.rules waiting word o h).0
+      → option_map_or (λ flags. bundle_fault s.rules s.args_override_self flags h) o [] ≡ [] → IsMet s (short_or_plain s.rules waiting word o h)
   keeps-bundle waiting word None h f e = keeps-plain waiting word h f
   keeps-bundle waiting word (Some flags) h f e =
       let b = bundle s.rules flags h in
       keeps-after_flag waiting word b.0 b.1 (keeps-flags (length flags) flags h.skip plain (record h { skip = 0 }) f e)
 
   keeps-flag_word : (waiting : Waiting) (word : Text) (o : Option (Text × Option Text)) (h : Held) → Filled h.rows
-      → Keeps (flag_word_fault s.rules s.args_override_self o word h) (long_or_other s.rules waiting word o h).0
+      → flag_word_fault s.rules s.args_override_self o word h ≡ [] → IsMet s (long_or_other s.rules waiting word o h)
   keeps-flag_word waiting word None h f e = keeps-bundle waiting word (short_of word) h f e
   keeps-flag_word waiting word (Some p) h f e =
       let m = long_met s.rules (arg_by_long s.rules p.0) p.1 h in
@@ -130,16 +149,22 @@ module _ (s : Shape) (kept : list_all asks_or_takes s.rules ≡ true) where
       (kept-find (λ a. not (is_some a.index) && has_long a p.0) s.rules kept) f e)
 
   keeps-other : (o : Option Text) (waiting : Waiting) (position : ℕ) (word : Text) (h : Held) → Filled h.rows
-      → Keeps (other_fault s o word h) (subcommand_or_other s.rules o waiting position word h).0
-  keeps-other (Some name) waiting position word h f e = f
+      → other_fault s o word h ≡ [] → IsMet s (subcommand_or_other s.rules o waiting position word h)
+  keeps-other (Some name) waiting position word h f e = (f, no_help)
+    where
+      no_help : NoHelp s name
+      no_help helps = elim (cases_Bool (bytes_eq name (codes "help"))) [
+        | inl t ↦ absurd (cc (rw (t, helps) at e))
+        | inr t ↦ t
+      ]
   keeps-other None waiting position word h f e = elim (cases_Bool (bytes_eq word (45 ∷ 45 ∷ []))) [
-    | inl t ↦ rw t f
+    | inl t ↦ rw t (f, tt)
     | inr t ↦ rw t (keeps-flag_word waiting word (long_of word) h f (rw t at e))
   ]
 
   keeps-word : (names : Names) (is_trailing : Bool) (waiting : Waiting) (position : ℕ) (word : Text) (h : Held) → Filled h.rows
-      → Keeps (word_fault s names is_trailing waiting word h) (word_met s.rules names is_trailing waiting position word h).0
-  keeps-word names true waiting position word h f e = f
+      → word_fault s names is_trailing waiting word h ≡ [] → IsMet s (word_met s.rules names is_trailing waiting position word h)
+  keeps-word names true waiting position word h f e = (f, tt)
   keeps-word names false waiting position word h f e = keeps-other (subcommand_met names waiting word) waiting position word h f e
 
   -- ---- steps
@@ -149,39 +174,39 @@ module _ (s : Shape) (kept : list_all asks_or_takes s.rules ≡ true) where
   keeps-unless true h f e = f
   keeps-unless false h f e = keeps-settled h f e
 
-  keeps-positional : (o : Option Rule) (word : Text) (w : Walk) (h : Held) → Filled h.rows
-      → Keeps (option_map_or (λ a. positional_fault s.rules s.args_override_self a h) o (stray_fault s)) (to_positional s.rules o word w h).held
-  keeps-positional None word w h f e = f
-  keeps-positional (Some a) word w h f e = keeps-unless (is_pending a h.pending && takes_several a) h f e
+  keeps-positional : (o : Option Rule) (word : Text) (w : Walk) (h : Held) → Filled h.rows → NotHelp s w.stopped
+      → option_map_or (λ a. positional_fault s.rules s.args_override_self a h) o (stray_fault s) ≡ [] → IsFine s (to_positional s.rules o word w h)
+  keeps-positional None word w h f n e = (f, n)
+  keeps-positional (Some a) word w h f n e = (keeps-unless (is_pending a h.pending && takes_several a) h f e, tt)
 
-  keeps-step : (word : Text) (w : Walk) (h : Held) (step : Step) → Filled h.rows
-      → Keeps (step_fault s w.position h step) (after_step s.rules word w h step).held
-  keeps-step word w h (next waiting) f e = f
-  keeps-step word w h (trailing position) f e = f
-  keeps-step word w h (subcommand name) f e = f
-  keeps-step word w h value f e = keeps-positional (arg_by_index s.rules w.position) word w h f e
+  keeps-step : (word : Text) (w : Walk) (h : Held) (step : Step) → IsMet s (h, step) → NotHelp s w.stopped
+      → step_fault s w.position h step ≡ [] → IsFine s (after_step s.rules word w h step)
+  keeps-step word w h (next waiting) m n e = (m.0, n)
+  keeps-step word w h (trailing position) m n e = (m.0, n)
+  keeps-step word w h (subcommand name) m n e = m
+  keeps-step word w h value m n e = keeps-positional (arg_by_index s.rules w.position) word w h m.0 n e
 
-  keeps-turn : (names : Names) (w : Walk) (word : Text) (o : Option (Text × List Text)) → Filled w.held.rows
-      → Keeps (if is_some o then [] else or_else (word_fault s names w.is_trailing w.waiting word w.held)
+  keeps-turn : (names : Names) (w : Walk) (word : Text) (o : Option (Text × List Text)) → IsFine s w → NotHelp s o
+      → (if is_some o then [] else or_else (word_fault s names w.is_trailing w.waiting word w.held)
       (step_fault s w.position (word_met s.rules names w.is_trailing w.waiting w.position word w.held).0
-      (word_met s.rules names w.is_trailing w.waiting w.position word w.held).1))
-      (walked_from s.rules names o w word).held
-  keeps-turn names w word (Some p) f e = f
-  keeps-turn names w word None f e =
+      (word_met s.rules names w.is_trailing w.waiting w.position word w.held).1)) ≡ []
+      → IsFine s (walked_from s.rules names o w word)
+  keeps-turn names w word (Some p) f n e = (f.0, n)
+  keeps-turn names w word None f n e =
       let met = word_met s.rules names w.is_trailing w.waiting w.position word w.held in
       let words = word_fault s names w.is_trailing w.waiting word w.held in
       let steps = step_fault s w.position met.0 met.1 in
-      keeps-step word w met.0 met.1 (keeps-word names w.is_trailing w.waiting w.position word w.held f (first_free words steps e))
+      keeps-step word w met.0 met.1 (keeps-word names w.is_trailing w.waiting w.position word w.held f.0 (first_free words steps e)) f.1
       (then_free words steps e)
 
-  pub keeps-walk : (names : Names) (w : Walk) (words : List Text) → Filled w.held.rows
-      → Keeps (walk_fault s names w words) (fold (walked s.rules names) w words).held
+  pub keeps-walk : (names : Names) (w : Walk) (words : List Text) → IsFine s w → walk_fault s names w words ≡ []
+      → IsFine s (fold (walked s.rules names) w words)
   unfolding walk_fault walked
   keeps-walk names w [] f e = f
   keeps-walk names w (word ∷ words) f e =
       let turns = turn_fault s names w word in
       let later = walk_fault s names (walked s.rules names w word) words in
-      keeps-walk names (walked s.rules names w word) words (keeps-turn names w word w.stopped f (first_free turns later e)) (then_free turns later e)
+      keeps-walk names (walked s.rules names w word) words (keeps-turn names w word w.stopped f f.1 (first_free turns later e)) (then_free turns later e)
 
 -- ---- defaults
 

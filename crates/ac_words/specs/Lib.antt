@@ -1,3 +1,4 @@
 pub mod Mark
+pub mod Names
 pub mod Words
 pub mod Laws

@@ -1,6 +1,9 @@
 -- The command line: what `clap` is told of it, and what it states of the words.
-use Rattle.std.specs.Prelude.{◌≡◌, ◌≢◌, ◌&&◌, ⊤, List, [], ◌∷◌, ◌++◌, Bool, Option, Some, None, true, false, not, codes, is_some, option_map, if◌then◌else◌}
+use Rattle.std.specs.Prelude.{◌≡◌, ◌≢◌, ◌&&◌, ⊤, List, [], ◌∷◌, ◌++◌, Bool, Option, Some, None, true, false, not, codes, is_some, option_map, string_bytes, if◌then◌else◌}
+use Rattle.std.specs.declared.alloc.Global.{Global}
+use Rattle.std.specs.declared.string.String.{String}
 use Rattle.std.specs.List.{list_any}
+use Rattle.std.specs.Option.{option_and_then}
 use Rattle.std.specs.Str.{bytes_eq}
 use Rattle.clap.specs.Kinds.{or_else}
 use Rattle.clap.specs.Walk.{is_empty}
@@ -8,16 +11,19 @@ use Rattle.clap.specs.Words.{App, IsAmong, Kinds, Row, Rule, Text, fault_of, fir
 use Rattle.clap.specs.declared.builder.action.ArgAction.TheVariants.{SetTrue}
 use Rattle.clap.specs.declared.error.kind.ErrorKind.{ErrorKind}
 use Rattle.clap.specs.declared.error.kind.ErrorKind.TheVariants.{ArgumentConflict, DisplayHelp, DisplayVersion, InvalidValue, MissingRequiredArgument}
-use Rattle.ac_tables.specs.declared.fault.Table.{Table}
-use Rattle.ac_tables.specs.declared.fault.Table.TheVariants.{Providers, Inventories, Usages, Traits, Aggregates}
 use Rattle.ac_query.specs.declared.version.Version.{Version}
 use Rattle.ac_query.specs.declared.version.Version.TheVariants.{V136, V139}
-use Rattle.ac_run.specs.Jobs.{HasToken}
-use Rattle.ac_run.specs.declared.job.Command.TheVariants.{Check, Candidates, Tokens, Verify, Explain, Hosts, Why}
-use Rattle.ac_run.specs.declared.job.Command.TheVariants as commands
+use Rattle.ac_run.specs.Tasks.{Command, Paths, Task, check, candidates, tokens, list, fill, verify, explain, hosts, why, command_shown}
+use Rattle.ac_tables.specs.Tables.Names.{table_name}
+use Rattle.ac_tables.specs.declared.fault.Table.{Table}
+use Rattle.ac_tables.specs.declared.fault.Table.TheVariants.{Providers, Inventories, Usages, Traits, Aggregates}
+use Rattle.ac_tables.specs.declared.read.FiveTables.{FiveTables}
 use Rattle.ac_words.specs.Mark.{past_mark}
-use Rattle.ac_words.specs.declared.words.Call.{Call}
-use Rattle.ac_words.specs.declared.words.Call.TheVariants.{Job, Session}
+use Rattle.ac_words.specs.Names.{name_read}
+use Rattle.ac_words.specs.declared.name.Name.{Name}
+use Rattle.ac_words.specs.declared.name.Name.TheVariants as name
+use Rattle.ac_words.specs.declared.words.Call as rust
+use Rattle.ac_words.specs.declared.words.Call.TheVariants as variant
 use Rattle.ac_words.specs.declared.words.WordFault.{WordFault}
 use Rattle.ac_words.specs.declared.words.WordFault.TheVariants.{Refused, Help, NoMemory}
 use Rattle.ac_words.specs.declared.words.WordFault.TheVariants as fault
@@ -94,17 +100,17 @@ abbrev pub session_app : App
 session_app = with_options (new_app (codes "session"))
 
 -- what is told of a command
-abbrev pub app_for : Call → App
-app_for (Job Check) = check_app
-app_for (Job Candidates) = candidates_app
-app_for (Job Tokens) = tokens_app
-app_for (Job commands.List) = list_app
-app_for (Job commands.Fill) = fill_app
-app_for (Job Verify) = verify_app
-app_for (Job Explain) = explain_app
-app_for (Job Hosts) = hosts_app
-app_for (Job Why) = why_app
-app_for Session = session_app
+abbrev pub app_for : Name → App
+app_for name.Check = check_app
+app_for name.Candidates = candidates_app
+app_for name.Tokens = tokens_app
+app_for name.List = list_app
+app_for name.Fill = fill_app
+app_for name.Verify = verify_app
+app_for name.Explain = explain_app
+app_for name.Hosts = hosts_app
+app_for name.Why = why_app
+app_for name.Session = session_app
 
 -- what has a version, and needs one of its own commands
 abbrev pub as_program : App → App
@@ -118,11 +124,24 @@ program =
 
 -- ---- what it states of the words
 
--- the command that they name, and its entries
-unfoldable pub named : List Text → Option (Text × List Row)
-named words = subcommand_of program words
+-- the command of a text, with its entries
+abbrev pub command_read : Text × List Row → Option (Name × List Row)
+command_read p = option_map (λ name. (name, p.1)) (name_read p.0)
 
--- ---- what is looked at behind it
+-- the command that is found, with its entries
+abbrev pub command_found : Option (Text × List Row) → Option (Name × List Row)
+command_found found = option_and_then command_read found
+
+-- the command that they name, and its entries
+unfoldable pub named : List Text → Option (Name × List Row)
+named words = command_found (subcommand_of program words)
+
+-- an option without a value is given where its entry is this text
+abbrev pub is_set : Option Text → Bool
+is_set None = false
+is_set (Some text) = bytes_eq text (codes "true")
+
+-- ---- the faults that aren't `clap`'s
 
 -- the version of a text; 1.36 where there is none
 abbrev pub version_named : Option Text → Option Version
@@ -139,24 +158,16 @@ abbrev pub version_kinds : Option Version → Kinds
 version_kinds None = InvalidValue ∷ []
 version_kinds (Some version) = []
 
--- the fault of the version that is named with a command
-abbrev pub version_faults : Option (Text × List Row) → Kinds
-version_faults None = []
-version_faults (Some p) = version_kinds (version_of p.1)
-
-abbrev pub table_name : Table → Text
-table_name Providers = codes "providers"
-table_name Inventories = codes "inventories"
-table_name Usages = codes "usages"
-table_name Traits = codes "traits"
-table_name Aggregates = codes "aggregates"
-
-abbrev pub all_tables : List Table
-all_tables = Providers ∷ Inventories ∷ Usages ∷ Traits ∷ Aggregates ∷ []
+-- what the option of a table says
+abbrev pub option_of : List Row → Table → Option Text
+option_of rows table = first_of (table_name table) rows
 
 -- the option of a table is given
 abbrev pub has_option : List Row → Table → Bool
-has_option rows table = is_some (first_of (table_name table) rows)
+has_option rows table = is_some (option_of rows table)
+
+abbrev pub all_tables : List Table
+all_tables = Providers ∷ Inventories ∷ Usages ∷ Traits ∷ Aggregates ∷ []
 
 -- the folder of the five tables
 abbrev pub folder_of : List Row → Option Text
@@ -168,14 +179,10 @@ table_kinds rows =
     if is_some (folder_of rows) then (if list_any (has_option rows) all_tables then ArgumentConflict ∷ [] else [])
     else (if has_option rows Providers && has_option rows Inventories then [] else MissingRequiredArgument ∷ [])
 
--- the fault of the tables that are named with a command
-abbrev pub table_faults : Option (Text × List Row) → Kinds
-table_faults None = []
-table_faults (Some p) = table_kinds p.1
-
--- the faults that aren't `clap`'s
-abbrev pub own_faults : Option (Text × List Row) → Kinds
-own_faults found = or_else (version_faults found) (table_faults found)
+-- the fault of the version and the tables that are named with a command
+abbrev pub own_faults : Option (Name × List Row) → Kinds
+own_faults None = []
+own_faults (Some p) = or_else (version_kinds (version_of p.1)) (table_kinds p.1)
 
 -- `clap` refuses them for want of memory alone, and their version and tables have no fault
 unfoldable pub is_taken : List Text → Bool
@@ -187,128 +194,104 @@ faults words = or_else (fault_of program words) (own_faults (named words))
 
 -- ---- what is made of it
 
--- what the words of a command line ask for
+-- what the words of a command line call for: a command with its query, which is empty for a check, or a session, whose questions are read later
+pub data Call : Type 0 where
+  job : Command → Text → Call
+  session : Call
+
+-- what the words of a command line say
 pub record Line : Type 0 where
   pub call : Call
-  pub query : Text
   pub version : Version
-  pub token : Option Text
-  pub host : Option Text
   pub detail : Bool
-  pub with_traits : Bool
-  pub sum : Bool
-  pub providers : Text
-  pub inventories : Text
-  pub usages : Option Text
-  pub traits : Option Text
-  pub aggregates : Option Text
+  pub paths : Paths
 
-abbrev pub name_of : Call → Text
-name_of (Job Check) = codes "check"
-name_of (Job Candidates) = codes "candidates"
-name_of (Job Tokens) = codes "tokens"
-name_of (Job commands.List) = codes "list"
-name_of (Job commands.Fill) = codes "fill"
-name_of (Job Verify) = codes "verify"
-name_of (Job Explain) = codes "explain"
-name_of (Job Hosts) = codes "hosts"
-name_of (Job Why) = codes "why"
-name_of Session = codes "session"
+-- the task that they ask for, with these paths where more is told; none where they ask for a session
+abbrev pub task_in : Line → Option Paths → Option Task
+task_in line detail = task_called line.call
+  where
+    task_called : Call → Option Task
+    task_called (job command query) = Some (record { command = command; query = query; version = line.version; detail = detail })
+    task_called session = None
 
--- the query of a command, without the path of a URL before it; a check and a session have the empty one
-abbrev pub query_of : Call → List Row → Option Text
-query_of Session rows = Some []
-query_of (Job Check) rows = Some []
-query_of (Job _) rows = option_map past_mark (first_of (codes "query") rows)
+-- a command with its query, without the path of a URL before it
+abbrev pub asking : List Row → Command → Option Call
+asking rows command = option_map (λ query. job command (past_mark query)) (first_of (codes "query") rows)
 
--- the token of a command: to be judged, or to begin after; a check, placements, an explanation, the rows of roots, or of one, and a session have none
-abbrev pub token_of : Call → List Row → Option Text
-token_of Session rows = None
-token_of (Job Check) rows = None
-token_of (Job commands.Fill) rows = None
-token_of (Job Explain) rows = None
-token_of (Job Hosts) rows = None
-token_of (Job Why) rows = None
-token_of (Job Verify) rows = first_of (codes "token") rows
-token_of (Job _) rows = first_of (codes "after") rows
+-- the token to begin after
+abbrev pub after_of : List Row → Option Text
+after_of rows = first_of (codes "after") rows
 
--- a token is there to be judged
-abbrev pub HasItsToken : Call → Option Text → Type 0
-HasItsToken (Job command) token = HasToken command token
-HasItsToken Session token = ⊤
+-- whether traits are written: where they aren't left out
+abbrev pub traits_of : List Row → Bool
+traits_of rows = not (is_set (first_of (codes "no-traits") rows))
 
--- the host that is asked about; only `why` has one
-abbrev pub host_of : Call → List Row → Option Text
-host_of (Job Why) rows = first_of (codes "host") rows
-host_of _ rows = None
-
--- an option without a value is given where its entry is this text
-abbrev pub is_set : Option Text → Bool
-is_set None = false
-is_set (Some text) = bytes_eq text (codes "true")
+-- what the entries of a command call for; none where one that it needs isn't there
+unfoldable pub call_of : Name → List Row → Option Call
+call_of name.Check rows = Some (job check [])
+call_of name.Candidates rows = asking rows (candidates (after_of rows) (traits_of rows))
+call_of name.Tokens rows = asking rows (tokens (after_of rows))
+call_of name.List rows = asking rows (list (after_of rows) (traits_of rows))
+call_of name.Fill rows = asking rows (fill (is_set (first_of (codes "sum") rows)))
+call_of name.Verify rows = option_and_then (λ token. asking rows (verify token)) (first_of (codes "token") rows)
+call_of name.Explain rows = asking rows explain
+call_of name.Hosts rows = asking rows hosts
+call_of name.Why rows = option_and_then (λ host. asking rows (why host)) (first_of (codes "host") rows)
+call_of name.Session rows = Some session
 
 -- whether more is said: what to do about a fault, and of what a rule is broken; every command may be asked
 abbrev pub detail_of : List Row → Bool
 detail_of rows = is_set (first_of (codes "detail") rows)
 
--- whether traits are written; `candidates` and `list` may be told not to
-abbrev pub with_traits_of : Call → List Row → Bool
-with_traits_of (Job Candidates) rows = not (is_set (first_of (codes "no-traits") rows))
-with_traits_of (Job commands.List) rows = not (is_set (first_of (codes "no-traits") rows))
-with_traits_of _ rows = true
+-- the path of a table's file in the folder
+abbrev pub path_in : Text → Table → Text
+path_in folder table = folder ++ codes "/" ++ table_name table ++ codes ".csv"
 
--- whether the number of placements is asked in place of their tokens; only of `fill`
-abbrev pub sum_of : Call → List Row → Bool
-sum_of (Job commands.Fill) rows = is_set (first_of (codes "sum") rows)
-sum_of _ rows = false
+-- the paths of all five
+abbrev pub paths_in : Text → Paths
+paths_in folder = record {
+  providers = path_in folder Providers;
+  inventories = path_in folder Inventories;
+  usages = Some (path_in folder Usages);
+  traits = Some (path_in folder Traits);
+  aggregates = Some (path_in folder Aggregates);
+}
 
--- the path of a table: that of its file in the folder, or what its option says
-abbrev pub path_in : Option Text → List Row → Table → Option Text
-path_in (Some folder) rows table = Some (folder ++ codes "/" ++ table_name table ++ codes ".csv")
-path_in None rows table = first_of (table_name table) rows
+-- the paths that the options say, with these two
+abbrev pub paths_said : List Row → Text → Text → Paths
+paths_said rows providers inventories = record {
+  providers = providers;
+  inventories = inventories;
+  usages = option_of rows Usages;
+  traits = option_of rows Traits;
+  aggregates = option_of rows Aggregates;
+}
 
-abbrev pub path_given : List Row → Table → Option Text
-path_given rows table = path_in (folder_of rows) rows table
+-- the paths of the tables: of their files in the folder, or what their options say; none where one of the first two isn't there
+abbrev pub paths_by : Option Text → List Row → Option Paths
+paths_by (Some folder) rows = Some (paths_in folder)
+paths_by None rows =
+    option_and_then (λ providers. option_map (paths_said rows providers) (option_of rows Inventories)) (option_of rows Providers)
 
--- the line has these entries
-pub record IsMadeOf (rows : List Row) (line : Line) : Type 0 where
-  pub query : query_of line.call rows ≡ Some line.query
+abbrev pub paths_of : List Row → Option Paths
+paths_of rows = paths_by (folder_of rows) rows
+
+-- the line has what these entries of a command say
+pub record IsMadeOf (name : Name) (rows : List Row) (line : Line) : Type 0 where
+  pub call : call_of name rows ≡ Some line.call
   pub version : version_of rows ≡ Some line.version
-  pub token : token_of line.call rows ≡ line.token
-  pub judged : HasItsToken line.call line.token
-  pub host : host_of line.call rows ≡ line.host
   pub detail : detail_of rows ≡ line.detail
-  pub with_traits : with_traits_of line.call rows ≡ line.with_traits
-  pub sum : sum_of line.call rows ≡ line.sum
-  pub providers : path_given rows Providers ≡ Some line.providers
-  pub inventories : path_given rows Inventories ≡ Some line.inventories
-  pub usages : path_given rows Usages ≡ line.usages
-  pub traits : path_given rows Traits ≡ line.traits
-  pub aggregates : path_given rows Aggregates ≡ line.aggregates
+  pub paths : paths_of rows ≡ Some line.paths
 
 -- the line is the command that `clap` found, with its entries
-abbrev pub Says : Option (Text × List Row) → Line → Type 0
+abbrev pub Says : Option (Name × List Row) → Line → Type 0
 Says None line = ⊥
-Says (Some p) line = (p.0 ≡ name_of line.call) × IsMadeOf p.1 line
-
-abbrev pub HasEntry : Text → List Row → Type 0
-HasEntry name rows = is_some (first_of name rows) ≡ true
-
--- the entries that a command needs
-abbrev pub HasNeeded : Call → List Row → Type 0
-HasNeeded call rows = (is_some (query_of call rows) ≡ true) × HasItsToken call (token_of call rows)
+Says (Some p) line = IsMadeOf p.0 p.1 line
 
 -- `clap` found a command of the program with all the entries that it needs
-abbrev pub IsComplete : Option (Text × List Row) → Type 0
-IsComplete None = ⊥
-IsComplete (Some p) = (call : Call) × (p.0 ≡ name_of call) × HasNeeded call p.1
-
-abbrev pub path_of : Line → Table → Option Text
-path_of line Providers = Some line.providers
-path_of line Inventories = Some line.inventories
-path_of line Usages = line.usages
-path_of line Traits = line.traits
-path_of line Aggregates = line.aggregates
+abbrev pub is_complete : Option (Name × List Row) → Bool
+is_complete None = false
+is_complete (Some p) = is_some (call_of p.0 p.1)
 
 -- the answer for words with these kinds of fault: help, or the version, where it is among them
 abbrev pub Tells : Kinds → WordFault → Type 0
@@ -316,3 +299,18 @@ Tells kinds (Help text) = IsAmong DisplayHelp kinds
 Tells kinds (fault.Version text) = IsAmong DisplayVersion kinds
 Tells kinds (Refused text) = (kind : ErrorKind) × (kind ≢ DisplayHelp) × (kind ≢ DisplayVersion) × IsAmong kind kinds
 Tells kinds NoMemory = ⊤
+
+-- ---- what is kept of it
+
+abbrev pub call_shown : rust.Call → Call
+call_shown (variant.Job command query) = job (command_shown command) query.now
+call_shown variant.Session = session
+
+abbrev pub paths_kept : FiveTables (String Global) → Paths
+paths_kept paths = record {
+  providers = string_bytes paths.providers;
+  inventories = string_bytes paths.inventories;
+  usages = option_map string_bytes paths.usages;
+  traits = option_map string_bytes paths.traits;
+  aggregates = option_map string_bytes paths.aggregates;
+}

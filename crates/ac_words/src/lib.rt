@@ -3,7 +3,8 @@
 
 pub mod laws;
 pub mod mark;
+pub mod name;
 pub mod words;
 
 pub use mark::past_mark;
-pub use words::{Call, WordFault, Words, read_words};
+pub use words::{WordFault, Words, read_words};

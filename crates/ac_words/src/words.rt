@@ -1,8 +1,9 @@
 //! The words of a command line, read by `clap`.
-ghost use Rattle.std.specs.Prelude.{◌≡◌, IfErr, IfNone, IfOk, IfSome, IsTrue, OnOk, Some, [], map, option_map, string_bytes};
-ghost use Rattle.ac_words.specs.Words.{Line, Says, Tells, faults, is_taken, named, path_of};
+ghost use Rattle.std.specs.Prelude.{◌≡◌, IfErr, IfOk, IsTrue, OnOk, [], map, option_map, string_bytes};
+ghost use Rattle.ac_run.specs.Tasks.{detail_shown, paths_shown, task_of};
+ghost use Rattle.ac_tables.specs.FiveTables.{table_in};
+ghost use Rattle.ac_words.specs.Words.{Line, Says, Tells, call_shown, faults, is_taken, named, paths_kept, task_in};
 ghost use Rattle.clap.specs.Words.{HasKind, Kinds};
-ghost use Rattle.ac_words.specs.declared.words.Call.TheVariants.{Job as job, Session as session};
 ghost use Rattle.ac_words.specs.declared.words.WordFault.TheVariants.{NoMemory};
 
 mod entries;
@@ -11,84 +12,52 @@ mod help;
 mod tables;
 
 use ac_query::Version;
-use ac_run::{Command, Job};
-use ac_tables::Table;
+use ac_run::{Command, Job, Paths};
+use ac_tables::{FiveTables, Table};
 use clap::error::ErrorKind;
 use std::alloc::{AllocError, Global};
 use std::marker::Model;
 
-/// What a command line calls for.
-#[derive(Clone, Copy, Debug, PartialEq, Eq)]
-pub enum Call {
-    /// A job, by its command.
-    Job(Command),
-    /// A session, whose questions are read later.
+// What a command line calls for.
+#[derive(Clone, Copy)]
+enum Call<'a> {
+    // A command, with its query.
+    Job(Command<'a>, &'a str),
+    // A session, whose questions are read later.
     Session,
 }
 
 /// The words of a command line that was accepted.
-#[derive(Debug, Drop)]
-pub struct Words {
-    call: Call,
-    query: String,
+#[derive(Drop)]
+pub struct Words<'a> {
+    call: Call<'a>,
     version: Version,
-    token: Option<String>,
-    host: Option<String>,
     detail: bool,
-    with_traits: bool,
-    sum: bool,
-    providers: String,
-    inventories: String,
-    usages: Option<String>,
-    traits: Option<String>,
-    aggregates: Option<String>,
+    paths: FiveTables<String>,
 }
 
-impl Model for Words {
+impl<'a> Model for Words<'a> {
     ghost Value = { Line };
 
     ghost view = { λ w. record {
-      call = w.call;
-      query = string_bytes w.query;
+      call = call_shown w.call;
       version = w.version;
-      token = option_map string_bytes w.token;
-      host = option_map string_bytes w.host;
       detail = w.detail;
-      with_traits = w.with_traits;
-      sum = w.sum;
-      providers = string_bytes w.providers;
-      inventories = string_bytes w.inventories;
-      usages = option_map string_bytes w.usages;
-      traits = option_map string_bytes w.traits;
-      aggregates = option_map string_bytes w.aggregates;
+      paths = paths_kept w.paths;
     } };
 }
 
-impl Words {
-    /// The job that the words ask for; none where they ask for a session.
-    pub fn job(&self) -> Option<Job<'_>>
-        ensures command { IfSome result (λ asked. self.now.call ≡ job asked.command) }
-        ensures query { IfSome result (λ asked. asked.query.now ≡ self.now.query) }
-        ensures version { IfSome result (λ asked. asked.version ≡ self.now.version) }
-        ensures token { IfSome result (λ asked.
-            option_map (λ token. token.now) asked.token ≡ self.now.token) }
-        ensures host { IfSome result (λ asked.
-            option_map (λ host. host.now) asked.host ≡ self.now.host) }
-        ensures detail { IfSome result (λ asked. asked.detail ≡ self.now.detail) }
-        ensures traits { IfSome result (λ asked. asked.traits ≡ self.now.with_traits) }
-        ensures sum { IfSome result (λ asked. asked.sum ≡ self.now.sum) }
-        ensures none { IfNone result (self.now.call ≡ session) }
+impl<'a> Words<'a> {
+    /// The job that the words ask for, with these paths where more is told; none where they ask for a session.
+    pub fn job<'b>(&'b self, detail: Option<&'b Paths<'b>>) -> Option<Job<'b>>
+        ensures { option_map task_of result ≡ task_in self.now (detail_shown detail.entry) }
     {
         match self.call {
-            Call::Job(command) => Some(Job {
+            Call::Job(command, query) => Some(Job {
                 command,
-                query: self.query.as_str(),
+                query,
                 version: self.version,
-                token: self.token.as_deref(),
-                host: self.host.as_deref(),
-                detail: self.detail,
-                traits: self.with_traits,
-                sum: self.sum,
+                detail,
             }),
             Call::Session => None,
         }
@@ -110,14 +79,27 @@ impl Words {
 
     /// The path of a table's file, where one was given.
     pub fn path(&self, table: Table) -> Option<&str>
-        ensures { option_map (λ path. path.now) result ≡ path_of self.now table }
+        ensures { option_map (λ path. path.now) result ≡ table_in self.now.paths table }
     {
         match table {
-            Table::Providers => Some(self.providers.as_str()),
-            Table::Inventories => Some(self.inventories.as_str()),
-            Table::Usages => self.usages.as_deref(),
-            Table::Traits => self.traits.as_deref(),
-            Table::Aggregates => self.aggregates.as_deref(),
+            Table::Providers => Some(self.paths.providers.as_str()),
+            Table::Inventories => Some(self.paths.inventories.as_str()),
+            Table::Usages => self.paths.usages.as_deref(),
+            Table::Traits => self.paths.traits.as_deref(),
+            Table::Aggregates => self.paths.aggregates.as_deref(),
+        }
+    }
+
+    /// The paths of the tables' files.
+    pub fn paths(&self) -> Paths<'_>
+        ensures { paths_shown result ≡ self.now.paths }
+    {
+        FiveTables {
+            providers: self.paths.providers.as_str(),
+            inventories: self.paths.inventories.as_str(),
+            usages: self.paths.usages.as_deref(),
+            traits: self.paths.traits.as_deref(),
+            aggregates: self.paths.aggregates.as_deref(),
         }
     }
 }
@@ -156,7 +138,7 @@ fn fault_of(alloc: Global, error: &clap::Error) -> Result<WordFault, AllocError>
 }
 
 /// Reads the words of a command line, of which the first is the program's own name.
-pub fn read_words(alloc: Global, words: &[String]) -> Result<Words, WordFault>
+pub fn read_words(alloc: Global, words: &[String]) -> Result<Words<'_>, WordFault>
     ensures entries { IfOk result (Says (named (map string_bytes words.now))) }
     ensures ok { OnOk result (faults (map string_bytes words.now) ≡ []) }
     ensures fault { IfErr result (Tells (faults (map string_bytes words.now))) }

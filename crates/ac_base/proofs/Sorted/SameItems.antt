@@ -1,5 +1,5 @@
 -- Sets and maps in the order of their keys: what they have of the items that they are gathered of, and that those with the same items are equal.
-use Rattle.std.proofs.Common.{◌≡◌, ◌∙◌, ◌||◌, ◌<◌, ◌≤◌, ◌+◌, arith, length, get_or, ap₂, ◌==◌, ◌++◌, ℕ, Bool, true, false, List, [], ◌∷◌, map, reverse, Option, Some, None, Contains, fold, Ordering, Less, Equal, Greater, refl, sym, ap, inl, if◌then◌else◌, is_eq, nat_cmp, is_some, IsSome, bytes_eq}
+use Rattle.std.proofs.Common.{◌≡◌, ◌∙◌, ◌||◌, arith, ◌==◌, ◌++◌, ℕ, Bool, true, false, List, [], ◌∷◌, map, reverse, Option, Some, None, Contains, fold, Ordering, Less, Equal, Greater, refl, sym, ap, inl, if◌then◌else◌, is_eq, nat_cmp, is_some, IsSome, bytes_eq}
 use Rattle.std.specs.Ordering.{eq_by_cmp, match_ordering}
 use Rattle.std.specs.Cmp.{IsTotalOrder, both_ways}
 use Rattle.std.specs.List.{list_any}

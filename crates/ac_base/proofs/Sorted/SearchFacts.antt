@@ -1,5 +1,5 @@
 -- Binary search in a list whose keys rise.
-use Rattle.std.proofs.Common.{◌≡◌, ◌∙◌, ◌<◌, ◌+◌, ℕ, zero, suc, Bool, true, false, List, [], ◌∷◌, map, length, get_or, Some, None, refl, sym, ap, ap₂, arith, Ordering, inl, inr, Result, Ok, Err, ◌==◌, ◌||◌, if◌then◌else◌, Less, Equal, Greater, is_lt, is_eq, nat_cmp, IsSortedBy, is_ok, MatchResult}
+use Rattle.std.proofs.Common.{◌≡◌, ◌∙◌, ◌<◌, ◌+◌, ℕ, zero, suc, Bool, true, false, List, [], ◌∷◌, map, length, get_or, Some, None, refl, sym, ap, ap₂, arith, Ordering, inl, inr, Result, Ok, Err, ◌==◌, ◌||◌, if◌then◌else◌, Less, Equal, is_lt, is_eq, nat_cmp, IsSortedBy, is_ok, MatchResult}
 use Rattle.std.specs.Ordering.{ordering_reverse}
 use Rattle.std.specs.Cmp.{IsTotalOrder}
 use Rattle.std.specs.List.{list_any}
@@ -11,6 +11,7 @@ use Rattle.std.proofs.lemmas.Cmp.{alike_right}
 use Rattle.std.proofs.lemmas.Bool.{cases_lt}
 use Rattle.std.proofs.lemmas.List.Sorted.{searchable_from_sorted}
 use Rattle.std.proofs.lemmas.Map.Keys.{Less-from_sorted}
+use Rattle.std.proofs.lemmas.Grind.{common_steps}
 
 -- looking up by equal tests
 pub lookup_same : {K X : Type 0} (p q : K → Bool) (same : (k : K) → p k ≡ q k) (es : List (K × X)) → lookup p es ≡ lookup q es
@@ -18,16 +19,10 @@ lookup_same p q same [] = refl
 lookup_same p q same (e ∷ es) = ap₂ (λ b o. if b then Some e.1 else o) (same e.0) (lookup_same p q same es)
 
 less_back : (p q : Ordering) → q ≡ ordering_reverse p → p ≡ Less → is_lt q ≡ false
-less_back Less Greater e h = refl
-less_back Less Less e h = absurd (cc)
-less_back Less Equal e h = absurd (cc)
-less_back Equal q e h = absurd (cc)
-less_back Greater q e h = absurd (cc)
+less_back p q e h = grind (arith, common_steps)
 
 eq_back : (p : Ordering) → is_eq (ordering_reverse p) ≡ is_eq p
-eq_back Less = refl
-eq_back Equal = refl
-eq_back Greater = refl
+eq_back p = grind (arith, common_steps)
 
 pub no_any : {X : Type 0} (test : X → Bool) (xs : List X) → ((k : ℕ) (d : X) → k < length xs → test (get_or xs k d) ≡ false) → list_any test xs ≡ false
 no_any test xs h = list_any_none test xs h

@@ -6,6 +6,8 @@ use Rattle.std.specs.List.{AllByRecursion}
 use Rattle.std.specs.BTreeSet.{insert_key}
 use Rattle.ac_base.specs.Sorted.{rising}
 use Rattle.std.specs.List.Sorted.{IsStrictlySortedBy}
+use Rattle.std.proofs.Common.{arith}
+use Rattle.std.proofs.lemmas.Grind.{common_steps}
 
 all_weaker : {X : Type 0} (P Q : X → Type 0) → ((x : X) → P x → Q x) → (xs : List X) → AllByRecursion P xs → AllByRecursion Q xs
 all_weaker P Q h [] all = tt
@@ -17,9 +19,7 @@ module _ {K : Type 0} {R : K → K → Ordering} (total : IsTotalOrder R) where
   below_insert x k (y ∷ ks) less all = by_order (R k y) refl (below_insert x k ks less all.1)
     where
       by_order : (o : Ordering) → R k y ≡ o → AllByRecursion (λ z. R x z ≡ Less) (insert_key R ks k) → AllByRecursion (λ z. R x z ≡ Less) (insert_key R (y ∷ ks) k)
-      by_order Less is later = rw is (less, all)
-      by_order Equal is later = rw is all
-      by_order Greater is later = rw is (all.0, later)
+      by_order o is later = grind (arith, common_steps)
 
   pub insert_sorted : (ks : List K) (k : K) → IsStrictlySortedBy R ks → IsStrictlySortedBy R (insert_key R ks k)
   unfolding IsStrictlySortedBy
@@ -30,8 +30,7 @@ module _ {K : Type 0} {R : K → K → Ordering} (total : IsTotalOrder R) where
       by_order Less is later = rw is ((is, all_weaker _ _ (λ y h. total.trans k x y is h) ks s.0), s)
       by_order Equal is later = rw is s
       by_order Greater is later =
-          let below : R x k ≡ Less = total.antisymm x k ∙ ap ordering_reverse is in
-          rw is (below_insert x k ks below s.0, later)
+          rw is (below_insert x k ks (total.antisymm x k ∙ ap ordering_reverse is) s.0, later)
 
   all_sorted : (ks more : List K) → IsStrictlySortedBy R ks → IsStrictlySortedBy R (fold (insert_key R) ks more)
   all_sorted ks [] s = s

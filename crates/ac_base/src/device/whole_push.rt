@@ -1,7 +1,7 @@
 //! Whole pieces pushed into a sink.
-ghost use Rattle.std.specs.Prelude.{◌≡◌, ◌≤◌, OnOk, OnErr};
-ghost use Rattle.std.specs.Io.KnownBytes.{Appends};
-ghost use Rattle.ac_base.specs.Devices.{IsGivenUp, Rises, TakesPart};
+ghost use Rattle.std.specs.Prelude.{◌≡◌, OnOk, OnErr};
+ghost use Rattle.ac_base.specs.Devices.{IsGivenUp};
+ghost use Rattle.ac_base.specs.Writing.{Pushes};
 
 use crate::device::{MOST_AGAIN, Push, Sink};
 
@@ -12,10 +12,7 @@ pub struct WriteFailed;
 /// Pushes a whole piece. After a fault the sink has taken a first part of it.
 #[tactic(auto, using(crate::proofs::Leaving::leaves_start, crate::proofs::Leaving::leaves_keeps, crate::proofs::Leaving::leaves_takes, crate::proofs::Leaving::leaves_none, crate::proofs::Leaving::leaves_part))]
 pub fn push_all<W: Sink>(out: &mut W, piece: &[u8]) -> Result<(), WriteFailed>
-    ensures ok { OnOk result (Appends (W.taken out.old) (W.taken out.new) piece.now) }
-    ensures part { OnErr result (TakesPart (W.taken out.old) (W.taken out.new) piece.now) }
-    ensures rises { OnErr result (Rises (W.failures out.old) (W.failures out.new)) }
-    ensures failures { W.failures out.old ≤ W.failures out.new }
+    ensures pushes { Pushes W.taken W.failures out.old out.new result piece.now }
     ensures unbroken { OnOk result (W.breaks out.new ≡ W.breaks out.old) }
     ensures given_up { OnErr result (IsGivenUp (W.breaks out.old) (W.breaks out.new)
         (W.failures out.old) (W.failures out.new)) }

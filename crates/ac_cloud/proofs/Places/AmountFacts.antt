@@ -1,5 +1,5 @@
 -- A class stands at one place among the entries of a provider, whose amount may be set.
-use Rattle.ac_cloud.proofs.Common.{◌≡◌, ◌∙◌, ◌<◌, ◌&&◌, ◌==◌, ℕ, zero, suc, Bool, true, false, List, [], ◌∷◌, map, length, get_or, get_or-map, Option, None, Some, refl, sym, ap, ap₂, arith, if◌then◌else◌, inl, inr, cases_lt, cases_eq, length-map, range_with_len, bytes_eq, is_eq, text_cmp, is_eq-slice_cmp, lookup, entry_class, entry_pair, Entry, TextMap, UsedInventory, Provider, numbered_at, provider_at, IsStrictlySortedBy, Result, Ok, Err, result_ok, eq_by_cmp, false≢true}
+use Rattle.ac_cloud.proofs.Common.{◌≡◌, ◌∙◌, ◌<◌, ◌&&◌, ◌==◌, ℕ, zero, suc, Bool, false, List, [], ◌∷◌, map, length, get_or, get_or-map, Option, None, Some, refl, sym, ap, ap₂, arith, if◌then◌else◌, inl, inr, cases_lt, cases_eq, length-map, range_with_len, bytes_eq, is_eq, text_cmp, is_eq-slice_cmp, lookup, entry_class, entry_pair, Entry, TextMap, UsedInventory, Provider, numbered_at, provider_at, IsStrictlySortedBy, Result, Ok, Err, result_ok, eq_by_cmp, false≢true}
 use Rattle.std.proofs.Common.{set, length-set, ext_get_or, MatchResult, Equal}
 use Rattle.std.proofs.lemmas.Bool.{false_from_ne_true}
 use Rattle.std.proofs.lemmas.List.{get_or-set_same, get_or-set_other, set-get_or, map-set}
@@ -11,6 +11,8 @@ use Rattle.ac_cloud.specs.Cloud.Entries.{StandsAlone, entry_set, entry_value, is
 use Rattle.ac_cloud.specs.Cloud.Numbered.{numbered}
 use Rattle.ac_cloud.proofs.ListFacts.{range_same}
 use Rattle.ac_cloud.proofs.Places.WorldFacts.{numbered_size, numbered_here}
+use Rattle.std.proofs.lemmas.Grind.{common_steps}
+use Rattle.std.proofs.lemmas.Bool.{cases_Bool}
 
 -- of amounts that stay, entries stay
 pub kept : (amount : List ℕ → UsedInventory → ℕ) → ((class : List ℕ) (had : UsedInventory) → amount class had ≡ had.used) → (es : TextMap UsedInventory) → map (entry_using amount) es ≡ es
@@ -24,14 +26,12 @@ set_of class used c had = if bytes_eq class c then used else had.used
 -- one entry, of the class or of another
 one_set : (class : List ℕ) (used : ℕ) (e : Entry) (b : Bool) → bytes_eq class (entry_class e) ≡ b
     → entry_using (set_of class used) (entry_pair e) ≡ entry_pair (if b then entry_set used e else e)
-one_set class used e true h = rw h refl
-one_set class used e false h = rw h refl
+one_set class used e b h = grind (arith, common_steps, cases_Bool)
 
 set_at : (class : List ℕ) (used : ℕ) (es : List Entry) (place : Option ℕ) (j : ℕ) (d : Entry) → StandsAlone class es place → j < length es
     → get_or (map (entry_using (set_of class used)) (map entry_pair es)) j (entry_pair d) ≡ entry_pair (if is_there place j then entry_set used (get_or es j d) else get_or es j d)
 set_at class used es place j d s h =
-    let there : j < length (map entry_pair es) = omega (arith, h, length-map es entry_pair) in
-    get_or-map (entry_using (set_of class used)) (map entry_pair es) j (entry_pair d) (entry_pair d) there
+    get_or-map (entry_using (set_of class used)) (map entry_pair es) j (entry_pair d) (entry_pair d) (omega (arith, h, length-map es entry_pair))
     ∙ ap (entry_using (set_of class used)) (get_or-map entry_pair es j d (entry_pair d) h)
     ∙ one_set class used (get_or es j d) (is_there place j) (s.alone j d h)
 

@@ -1,14 +1,14 @@
 -- The roots of the trees in which a provider is available.
-use Rattle.ac_cloud.proofs.Common.{◌≡◌, ◌∙◌, ◌<◌, ◌+◌, ℕ, zero, suc, Bool, true, false, List, [], ◌∷◌, length, get_or, None, Some, inl, inr, refl, sym, ap, ap₂, arith, ◌==◌, ◌&&◌, ◌||◌, codes, if◌then◌else◌, is_some, cases_Bool, list_of, bytes_eq, nat_cmp, list_any, filter, range_with_len, false≢true, list_any_at, get_or-range_with_len, length-range_with_len, parent_in, trait_bytes, lists_of, is_among, meets_at, meets, is_joined, joined, is_joining, is_marked, Provider, no_provider, provider_at, id_at, root_of, is_root, is_available_at, anchors_of, providers_of, Cloud, or-false}
+use Rattle.ac_cloud.proofs.Common.{◌≡◌, ◌∙◌, ◌<◌, ◌+◌, ℕ, zero, suc, Bool, true, false, List, [], ◌∷◌, length, get_or, None, Some, inl, inr, refl, sym, ap, ap₂, arith, ◌==◌, ◌&&◌, ◌||◌, codes, if◌then◌else◌, is_some, cases_Bool, list_of, bytes_eq, nat_cmp, list_any, filter, range_with_len, list_any_at, get_or-range_with_len, length-range_with_len, parent_in, trait_bytes, lists_of, is_among, meets_at, meets, is_joined, joined, is_joining, is_marked, Provider, no_provider, provider_at, id_at, root_of, is_root, is_available_at, anchors_of, providers_of, Cloud, or-false}
 use Rattle.std.specs.List.Sorted.{IsStrictlySortedBy}
 use Rattle.ac_cloud.specs.World.{shares, is_associated, have_common_aggregate}
-use Rattle.std.proofs.lemmas.Bool.{and_left, and_right, or_right}
 use Rattle.std.proofs.lemmas.List.Folds.{list_any_none}
 use Rattle.std.proofs.lemmas.List.FromFn.{fill_by_all}
 use Rattle.ac_base.proofs.Sorted.SearchFacts.{any_map}
 use Rattle.ac_cloud.proofs.Places.CloudFacts.{traits_here, aggregates_here, size, parent_is, root_inside, root_here, parts}
 use Rattle.ac_cloud.proofs.Places.AvailableFacts.{root_test, root_here as root_is_here}
 use Rattle.ac_cloud.proofs.Places.AnchorLists.{joined_where, rising_filter}
+use Rattle.std.proofs.lemmas.Grind.{common_steps}
 
 -- a test of the items of a list is a test of its places
 any_places : {A : Type 0} (f : A → Bool) (xs : List A) (d : A) → list_any f xs ≡ list_any (λ (q : ℕ). f (get_or xs q d)) (range_with_len 0 (length xs))
@@ -33,10 +33,7 @@ any_or u v [] = refl
 any_or u v (x ∷ xs) = ap (λ b. (u x || v x) || b) (any_or u v xs) ∙ four (u x) (v x) (list_any u xs) (list_any v xs)
   where
     four : (a b c d : Bool) → ((a || b) || (c || d)) ≡ ((a || c) || (b || d))
-    four true b c d = refl
-    four false true true d = refl
-    four false true false d = refl
-    four false false c d = refl
+    four a b c d = grind (arith, common_steps, cases_Bool)
 
 and_any : {A : Type 0} (b : Bool) (g : A → Bool) (xs : List A) → (b && list_any g xs) ≡ list_any (λ x. b && g x) xs
 and_any true g xs = refl
@@ -58,15 +55,10 @@ one_item x n h = rising_filter n (λ (r : ℕ). x == r) (x ∷ []) (alone x) (λ
 
 -- what the three tests of availability come to
 by_root : (r e s j : Bool) → (s && j) ≡ false → (e ≡ true → r ≡ true) → (r && (e || (s && j))) ≡ e
-by_root r true s j none up = rw (up refl) refl
-by_root true false s j none up = none
-by_root false false s j none up = refl
+by_root r e s j none up = grind (arith, common_steps, cases_Bool)
 
 by_join : (r e s j : Bool) → s ≡ true → (e ≡ true → j ≡ true) → (j ≡ true → r ≡ true) → (r && (e || (s && j))) ≡ j
-by_join r e s true sharing own up = rw (sharing, up refl) (or_right e true refl)
-by_join r true s false sharing own up = absurd (false≢true (own refl))
-by_join true false s false sharing own up = rw sharing refl
-by_join false false s false sharing own up = refl
+by_join r e s j sharing own up = grind (arith, common_steps, cases_Bool)
 
 module _ (c : Cloud) where
   abbrev all : List Provider
@@ -142,8 +134,7 @@ module _ (c : Cloud) where
       ∙ ap (λ (n : ℕ). filter (is_available_at (providers_of c) ix) (range_with_len 0 n)) (sym (size c))
     where
       no_join : (s : Bool) (ids : List ℕ) (r : ℕ) → is_joining s ids ≡ false → (s && is_joined roots groups ids r) ≡ false
-      no_join s [] r e = and_right s false refl
-      no_join s (a ∷ ids) r e = and_left s _ e
+      no_join s ids r e = grind (arith, common_steps)
 
   -- who does is available where its aggregates join
   pub anchors_joined : (ix : ℕ) → ix < length c.ids.ids.items → is_marked c.sharing.items groups ix ≡ true → joined roots groups (get_or groups ix []) ≡ anchors_of (providers_of c) ix
@@ -160,8 +151,7 @@ module _ (c : Cloud) where
       ∙ ap (λ (n : ℕ). filter (is_available_at (providers_of c) ix) (range_with_len 0 n)) ((parts c).forest.with_roots ∙ sym (size c))
     where
       some_aggregate : (s : Bool) (ids : List ℕ) → is_joining s ids ≡ true → (s ≡ true) × ((a : ℕ) × ((rest : List ℕ) × (ids ≡ a ∷ rest)))
-      some_aggregate s [] e = absurd (false≢true e)
-      some_aggregate s (a ∷ rest) e = (e, (a, (rest, refl)))
+      some_aggregate s ids e = grind (arith, common_steps)
 
   -- the list of one that has its roots in a list
   pub anchors_listed : (ix k : ℕ) → ix < length c.ids.ids.items → get_or c.anchors.places.items ix None ≡ Some k

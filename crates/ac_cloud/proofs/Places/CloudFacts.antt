@@ -54,13 +54,11 @@ module _ (c : Cloud) where
 
   pub inventory_records_here : (ix : ℕ) → ix < length c.ids.ids.items → map entry_pair (get_or (lists_of c.entries) ix []) ≡ (provider_at (providers_of c) ix).entries
   inventory_records_here ix h =
-      let k : ix < length (lists_of c.entries) = omega (arith, h, parts.with_entries) in
-      sym (get_or-map (map entry_pair) (lists_of c.entries) ix [] [] k) ∙ sym (ap (λ p. p.entries) (at_place ix h))
+      sym (get_or-map (map entry_pair) (lists_of c.entries) ix [] [] (omega (arith, h, parts.with_entries))) ∙ sym (ap (λ p. p.entries) (at_place ix h))
 
   pub traits_here : (ix : ℕ) → ix < length c.ids.ids.items → map trait_bytes (get_or (lists_of c.traits) ix []) ≡ (provider_at (providers_of c) ix).traits
   traits_here ix h =
-      let k : ix < length (lists_of c.traits) = omega (arith, h, parts.with_traits) in
-      sym (get_or-map (map trait_bytes) (lists_of c.traits) ix [] [] k) ∙ sym (ap (λ p. p.traits) (at_place ix h))
+      sym (get_or-map (map trait_bytes) (lists_of c.traits) ix [] [] (omega (arith, h, parts.with_traits))) ∙ sym (ap (λ p. p.traits) (at_place ix h))
 
   pub aggregates_here : (ix : ℕ) → ix < length c.ids.ids.items → get_or (lists_of c.aggregates) ix [] ≡ (provider_at (providers_of c) ix).aggregates
   aggregates_here ix h = sym (ap (λ p. p.aggregates) (at_place ix h))

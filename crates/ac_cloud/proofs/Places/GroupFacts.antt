@@ -1,8 +1,10 @@
 -- Gathering roots one by one.
-use Rattle.ac_cloud.proofs.Common.{◌≡◌, ◌∙◌, ◌<◌, ◌+◌, ℕ, Bool, true, false, List, [], ◌∷◌, map, take, length, get_or, refl, sym, ap, ap₂, arith, ◌==◌, ◌||◌, ◌&&◌, if◌then◌else◌, list_any, range_with_len, nat_cmp, is_at, is_among, meets, or-false}
+use Rattle.ac_cloud.proofs.Common.{◌≡◌, ◌∙◌, ◌<◌, ◌+◌, ℕ, Bool, true, List, [], ◌∷◌, map, take, length, get_or, refl, sym, ap, ap₂, arith, ◌==◌, ◌||◌, ◌&&◌, if◌then◌else◌, list_any, range_with_len, nat_cmp, is_at, is_among, meets, or-false}
 use Rattle.std.proofs.lemmas.List.Folds.{list_any-append, list_any_more}
 use Rattle.std.proofs.lemmas.List.FromFn.{map-range_with_len_more}
 use Rattle.ac_base.proofs.Sorted.SearchFacts.{any_map}
+use Rattle.std.proofs.lemmas.Grind.{common_steps}
+use Rattle.std.proofs.lemmas.Bool.{cases_Bool}
 
 -- one more number of a range
 any_range_more : (f : ℕ → Bool) (n : ℕ) → list_any f (range_with_len 0 (n + 1)) ≡ (list_any f (range_with_len 0 n) || f n)
@@ -20,12 +22,7 @@ at_root : (root r : ℕ) → is_at (nat_cmp root) r ≡ (root == r)
 at_root root r = grind arith
 
 or_last : (start here old : Bool) (b : Bool) → (if b then true else (start || old)) ≡ (start || (old || b))
-or_last true here old true = refl
-or_last true here old false = refl
-or_last false here true true = refl
-or_last false here true false = refl
-or_last false here false true = refl
-or_last false here false false = refl
+or_last start here old b = grind (arith, common_steps, cases_Bool)
 
 -- a set after one more root
 pub set_more : (roots : List ℕ) (i root r : ℕ) (start old new : Bool) → i < length roots → root ≡ get_or roots i 0

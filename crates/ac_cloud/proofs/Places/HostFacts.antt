@@ -1,10 +1,11 @@
 -- The only place among those that pass a test, found by going through all.
-use Rattle.ac_cloud.proofs.Common.{◌≡◌, ◌∙◌, ◌<◌, ◌+◌, ◌-◌, ◌++◌, ℕ, zero, suc, Bool, true, false, List, [], ◌∷◌, Option, Some, None, Err, refl, sym, ap, arith, is_some, filter, range_with_len, map-id, append-nil, append_assoc}
+use Rattle.ac_cloud.proofs.Common.{◌≡◌, ◌∙◌, ◌<◌, ◌+◌, ◌-◌, ◌++◌, ℕ, zero, suc, Bool, true, false, List, [], ◌∷◌, Option, Some, None, Err, sym, ap, arith, is_some, filter, range_with_len, map-id, append-nil, append_assoc}
 use Rattle.std.specs.Option.{ok_or, option_to_list}
 use Rattle.std.proofs.lemmas.List.Elements.{filter-append}
 use Rattle.std.proofs.lemmas.List.FromFn.{map-range_with_len_more}
 use Rattle.ac_cloud.specs.Cloud.Hosts.{only_one}
 use Rattle.ac_cloud.specs.declared.cloud.provider_name.HostFault.TheVariants as fault
+use Rattle.std.proofs.lemmas.Grind.{common_steps}
 
 range_more : (n : ℕ) → range_with_len 0 (n + 1) ≡ range_with_len 0 n ++ n ∷ []
 range_more n = sym (map-id (range_with_len 0 (n + 1))) ∙ map-range_with_len_more (λ (x : ℕ). x) 0 n n (omega arith) ∙ ap (λ (l : List ℕ). l ++ n ∷ []) (map-id (range_with_len 0 n))
@@ -44,5 +45,4 @@ module _ (test : ℕ → Bool) where
   all_tested n count found all is = found_is found ∙ ap only_one (sym is) ∙ ap (λ (k : ℕ). only_one (filter test (range_with_len 0 k))) all
     where
       found_is : (o : Option ℕ) → ok_or o fault.Unknown ≡ only_one (option_to_list o)
-      found_is None = refl
-      found_is (Some ix) = refl
+      found_is o = grind (arith, common_steps)

@@ -7,6 +7,7 @@ use Rattle.std.proofs.lemmas.List.Sums.{count_by-le-length, length-filter}
 use Rattle.ac_cloud.specs.Cloud.Anchors.{roots_in, is_lone}
 use Rattle.ac_cloud.proofs.Places.AnchorFacts.{filter_range, one_item}
 use Rattle.ac_base.proofs.Small.{are_equal, equal, not_false}
+use Rattle.std.proofs.lemmas.Grind.{common_steps}
 
 one_root : (rs : List ℕ) (x y : ℕ) → (length rs == 1) ≡ true → list_any (λ (r : ℕ). r == x) rs ≡ true → list_any (λ (r : ℕ). r == y) rs ≡ true → x ≡ y
 one_root [] x y e f g = absurd (cc)
@@ -80,8 +81,7 @@ module _ (roots : List ℕ) (aggregates : List (List ℕ)) (groups : BTreeMap �
       ]
 
 some_of : (b : Bool) (l : List ℕ) → is_joining b l ≡ true → (b ≡ true) × (0 < length l)
-some_of b [] e = absurd (cc)
-some_of b (a ∷ rest) e = (e, omega arith)
+some_of b l e = grind (arith, common_steps)
 
 -- what was asked of a provider
 module _ (roots : List ℕ) (aggregates : List (List ℕ)) (groups : BTreeMap ℕ (Vec ℕ)) (gathered : (a r : ℕ) → is_met groups a r ≡ meets roots aggregates (length roots) a r)

@@ -3,16 +3,16 @@ use Rattle.ac_cloud.proofs.Common.{◌≡◌, ◌<◌, ◌∙◌, ℕ, zero, suc
 use Rattle.ac_cloud.proofs.Rising.{rising_apart}
 use Rattle.ac_cloud.proofs.Places.CloudFacts.{parent_is, id_here, parent_here, parts}
 use Rattle.ac_base.proofs.Small.{equal, differ}
+use Rattle.std.proofs.Common.{arith}
+use Rattle.std.proofs.lemmas.Grind.{common_steps}
 
 -- a provider is in its own chain
 pub chain_here : (parent : ℕ → Option ℕ) (k a b : ℕ) → (b == a) ≡ true → is_in_chain parent k a b ≡ true
-chain_here parent zero a b e = rw e refl
-chain_here parent (suc k) a b e = rw e refl
+chain_here parent k a b e = grind (arith, common_steps)
 
 -- where the chain ends
 pub chain_ends : (parent : ℕ → Option ℕ) (k a b : ℕ) → (b == a) ≡ false → parent b ≡ None → is_in_chain parent k a b ≡ false
-chain_ends parent zero a b e none = rw e refl
-chain_ends parent (suc k) a b e none = rw (e, none) refl
+chain_ends parent k a b e none = grind (arith, common_steps)
 
 -- where it goes on
 pub chain_goes : (parent : ℕ → Option ℕ) (k a b p : ℕ) → (b == a) ≡ false → parent b ≡ Some p → is_in_chain parent (suc k) a b ≡ is_in_chain parent k a p

@@ -1,11 +1,14 @@
 -- Chains of parents, and lists that lead up.
-use Rattle.ac_cloud.proofs.Common.{◌≡◌, ◌<◌, ◌∙◌, ℕ, zero, suc, true, false, List, [], ◌∷◌, Option, Some, None, refl, sym, ap, inl, inr, get_or, length, ◌==◌, is_some, option_map, unwrap_or, cases_Bool, false≢true, Above, up, climb, top, is_endless, is_in_chain, id_at, parent_of, root_of, providers_of}
+use Rattle.ac_cloud.proofs.Common.{◌≡◌, ◌<◌, ◌∙◌, ℕ, zero, suc, true, false, List, [], ◌∷◌, Option, Some, None, sym, ap, inl, inr, get_or, length, ◌==◌, is_some, option_map, unwrap_or, cases_Bool, false≢true, Above, up, climb, top, is_endless, is_in_chain, id_at, parent_of, root_of, providers_of}
 use Rattle.ac_cloud.specs.Trees.{LeadsUp}
 use Rattle.ac_cloud.specs.Laws.{ChainIsAbove, CloudIsForest, TopIsRoot}
 use Rattle.ac_cloud.proofs.Trees.PlaceTrees.{above_climb}
 use Rattle.ac_cloud.proofs.Trees.AncestorFacts.{chain_here, chain_ends, chain_goes, chain_last}
 use Rattle.ac_cloud.proofs.Places.CloudFacts.{inside, parent_here, root_here, root_inside, parts}
 use Rattle.ac_base.proofs.Small.{are_equal, equal, none_is, some_or_none}
+use Rattle.ac_cloud.proofs.Roots.{stays}
+use Rattle.std.proofs.Common.{arith}
+use Rattle.std.proofs.lemmas.Grind.{common_steps}
 
 goes_up : (parent : ℕ → Option ℕ) (p q : ℕ) → parent p ≡ Some q → up parent p ≡ q
 goes_up parent p q e = ap (λ (o : Option ℕ). unwrap_or o p) e
@@ -25,27 +28,17 @@ chain_above parent (suc k) a b h = elim (cases_Bool (b == a)) [
 above_chain : (parent : ℕ → Option ℕ) (k a b : ℕ) (path : List ℕ) → is_some (parent (climb (up parent) k b)) ≡ false → LeadsUp parent b path a → is_in_chain parent k a b ≡ true
 above_chain parent k a b [] ends leads = chain_here parent k a b (equal b a leads)
 above_chain parent zero a b (p ∷ path) ends leads = absurd (false≢true (sym ends ∙ ap is_some leads.0))
-above_chain parent (suc k) a b (p ∷ path) ends leads = elim (cases_Bool (b == a)) [
-  | inl e ↦ chain_here parent (suc k) a b e
-  | inr ne ↦
-      let there : is_some (parent (climb (up parent) k p)) ≡ false = ap (λ (x : ℕ). is_some (parent (climb (up parent) k x))) (sym (goes_up parent b p leads.0)) ∙ ends in
-      chain_goes parent k a b p ne leads.0 ∙ above_chain parent k a p path there leads.1
-]
+above_chain parent (suc k) a b (p ∷ path) ends leads = grind (arith, common_steps, cases_Bool, above_chain parent k a p path, chain_here, goes_up)
 
 pub chain_is_above : ChainIsAbove
 chain_is_above parent count a b ends = (chain_above parent count a b, λ above. above_chain parent count a b above.0 ends above.1)
-
-stays : (parent : ℕ → Option ℕ) (k p : ℕ) → parent p ≡ None → climb (up parent) k p ≡ p
-stays parent zero p e = refl
-stays parent (suc k) p e = ap (climb (up parent) k) (ap (λ (o : Option ℕ). unwrap_or o p) e) ∙ stays parent k p e
 
 only_top : (parent : ℕ → Option ℕ) (k p r : ℕ) (path : List ℕ) → is_some (parent (climb (up parent) k p)) ≡ false → LeadsUp parent p path r → parent r ≡ None → r ≡ climb (up parent) k p
 only_top parent k p r [] ends leads none = sym leads ∙ sym (stays parent k p (ap parent leads ∙ none))
 only_top parent zero p r (q ∷ path) ends leads none = absurd (false≢true (sym ends ∙ ap is_some leads.0))
 only_top parent (suc k) p r (q ∷ path) ends leads none =
     let one : up parent p ≡ q = goes_up parent p q leads.0 in
-    let there : is_some (parent (climb (up parent) k q)) ≡ false = ap (λ (x : ℕ). is_some (parent (climb (up parent) k x))) (sym one) ∙ ends in
-    only_top parent k q r path there leads.1 none ∙ ap (climb (up parent) k) (sym one)
+    only_top parent k q r path (ap (λ (x : ℕ). is_some (parent (climb (up parent) k x))) (sym one) ∙ ends) leads.1 none ∙ ap (climb (up parent) k) (sym one)
 
 pub top_is_root : TopIsRoot
 top_is_root parent count p ends =

@@ -1,6 +1,7 @@
 -- Steps that are taken two at a time.
-use Rattle.ac_cloud.proofs.Common.{◌≡◌, ◌<◌, ◌+◌, ◌%◌, ◌∙◌, ℕ, zero, suc, List, get_or, length, Option, Some, None, refl, ap, sym, subst, arith, IfSome, unwrap_or, climb, up, along, AreParents, ArePlaces, parent_in}
+use Rattle.ac_cloud.proofs.Common.{◌≡◌, ◌<◌, ◌+◌, ◌%◌, ◌∙◌, ℕ, zero, suc, List, get_or, length, Option, None, refl, ap, sym, subst, arith, IfSome, unwrap_or, climb, up, along, AreParents, ArePlaces, parent_in}
 use Rattle.std.proofs.Common.{◌/◌}
+use Rattle.std.proofs.lemmas.Grind.{common_steps}
 
 -- half as many double steps lead to the same place
 climb_twice : (n : ℕ) (f g : ℕ → ℕ) (inside : (i : ℕ) → i < n → g i < n) (same : (i : ℕ) → i < n → f i ≡ g (g i)) (k i : ℕ) → i < n → climb f k i ≡ climb g (k + k) i
@@ -28,8 +29,7 @@ climb_same n f g inside same (suc k) i h = ap (climb f k) (same i h) ∙ climb_s
 
 -- who has a parent among n, or stays, is among n
 up_one_inside : (n i : ℕ) (o : Option ℕ) → i < n → IfSome o (λ j. j < n) → unwrap_or o i < n
-up_one_inside n i None h known = h
-up_one_inside n i (Some j) h known = known
+up_one_inside n i o h known = grind (arith, common_steps)
 
 up_inside : (parents : List (Option ℕ)) → AreParents parents → (i : ℕ) → i < length parents → up (parent_in parents) i < length parents
 up_inside parents known i h = up_one_inside (length parents) i (get_or parents i None) h (known i h)

@@ -33,9 +33,7 @@ module _ (parents : List (Option ℕ)) (entered left order : List ℕ) (before :
         let leaves : along entered s < along left s = (placed s hs).leaves in
         elim (cases_order (along entered a) (along entered s)) [
           | inl e ↦
-              let one : a ≡ s = same_place a s ha hs e in
-              let same : along left a ≡ along left s = ap (along left) one in
-              absurd (omega (arith, same, ends, later))
+              absurd (omega (arith, ap (along left) (same_place a s ha hs e), ends, later))
           | inr (inl lt) ↦
               let g = climbs a s ha hs (omega (arith, leaves, ends, hm)) lt (omega (arith, leaves, ends, later)) in
               (g.0, (sym sib.1 ∙ g.1.0, g.1.1))

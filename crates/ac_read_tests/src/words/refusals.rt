@@ -1,7 +1,7 @@
 //! Words read with each growth refused in turn: what they say, or want of memory.
-use super::{CHECK, words_of};
+use super::{asks, words_of};
 use ac_query::Version;
-use ac_run::{Command, Job};
+use ac_run::Command;
 use ac_tables::Table;
 use ac_words::{WordFault, read_words};
 
@@ -11,16 +11,10 @@ fn accepted(rt: HostRuntime) {
     let Ok(given) = words_of(rt.alloc(), line) else {
         return;
     };
-    let job = Job {
-        command: Command::Tokens,
-        query: "q",
-        version: Version::V139,
-        token: Some("t"),
-        ..CHECK
-    };
+    let command = Command::Tokens { after: Some("t") };
     match read_words(rt.alloc(), given.as_slice()) {
         Ok(words) => {
-            assert!(rt; words.job() == Some(job));
+            assert!(rt; asks(&words, command, "q", Version::V139));
             assert_eq!(rt; words.path(Table::Providers), Some("a"));
             assert_eq!(rt; words.path(Table::Inventories), Some("b"));
         }
@@ -36,7 +30,7 @@ fn session(rt: HostRuntime) {
     };
     match read_words(rt.alloc(), given.as_slice()) {
         Ok(words) => {
-            assert!(rt; words.job().is_none());
+            assert!(rt; words.job(None).is_none());
             assert!(rt; words.version() == Version::V139);
             assert_eq!(rt; words.path(Table::Usages), Some("a/usages.csv"));
         }

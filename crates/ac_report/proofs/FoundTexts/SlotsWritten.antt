@@ -1,6 +1,5 @@
 -- An explanation, need by need and slot by slot.
-use Rattle.std.proofs.Common.{inl, inr, ◌≡◌, ◌∙◌, ℕ, suc, ◌+◌, ◌-◌, ◌<◌, ◌≤◌, List, ◌∷◌, get_or, length, map, Option, subst, sym, ap, arith}
-use Rattle.std.specs.Io.KnownBytes.{Appends}
+use Rattle.std.proofs.Common.{inl, inr, ◌≡◌, ◌∙◌, ℕ, suc, ◌+◌, ◌-◌, ◌<◌, ◌≤◌, List, ◌++◌, get_or, length, map, Option, subst, sym, ap, arith}
 use Rattle.std.specs.List.{flat_map, range_with_len}
 use Rattle.std.proofs.lemmas.Bool.{cases_Bool}
 use Rattle.std.proofs.lemmas.List.{get_or-map, length-map}
@@ -10,28 +9,29 @@ use Rattle.ac_rules.specs.Placed.{no_slot, slot_at}
 use Rattle.ac_find.specs.Explained.{class_room, is_short, slot_told}
 use Rattle.ac_find.specs.Shown.Explained.{slot_shown}
 use Rattle.ac_find.specs.declared.counts.classes.SlotTold as rust
-use Rattle.std.specs.Prelude.{Result}
+use Rattle.std.specs.Prelude.{Result, Ok, Err}
 use Rattle.std.specs.Result.{IsErrAnd}
-use Rattle.ac_base.specs.Devices.{Rises, TakesPart}
 use Rattle.ac_base.specs.Writing.{Pushes}
-use Rattle.ac_base.proofs.Pushed.{pushed_within}
-use Rattle.ac_base.proofs.Leaving.{Leaves, leaves_appends}
+use Rattle.ac_report.proofs.FoundTexts.Begun.{IsBegun, begun_more, begun_stops}
 
-module _ (a b c : Option (List ℕ)) (whole : List ℕ) where
-  -- ---- what is written at each place below n, in order
+-- ---- what is pushed at each place below n, in order
 
-  module _ (f : ℕ → List ℕ) (s n : ℕ) (leaves : Leaves a b whole (flat_map f (range_with_len s (n - s)))) where
-    first : s < n → Leaves a b whole (flat_map f (s ∷ range_with_len (s + 1) (n - (s + 1))))
-    first h =
-        let more : n - s ≡ suc (n - (s + 1)) = omega arith in
-        subst (λ (k : ℕ). Leaves a b whole (flat_map f (range_with_len s k))) more leaves
+module _ {S : Type 0} {taken : S → Option (List ℕ)} {fails : S → ℕ} {a b : S} {whole text : List ℕ} (f : ℕ → List ℕ) (s n : ℕ) (low : s < n)
+    (said : text ≡ f s) (begun : IsBegun taken fails a b whole (flat_map f (range_with_len s (n - s)))) where
+  first : IsBegun taken fails a b whole (text ++ flat_map f (range_with_len (s + 1) (n - (s + 1))))
+  first =
+      let more : n - s ≡ suc (n - (s + 1)) = omega arith in
+      subst (λ (t : List ℕ). IsBegun taken fails a b whole (t ++ flat_map f (range_with_len (s + 1) (n - (s + 1))))) (sym said)
+      (subst (λ (k : ℕ). IsBegun taken fails a b whole (flat_map f (range_with_len s k))) more begun)
 
-    pub place_written : s < n → Appends b c (f s) → Leaves a c whole (flat_map f (range_with_len (s + 1) (n - (s + 1))))
-    place_written h k = leaves_appends a b c whole (f s) (flat_map f (range_with_len (s + 1) (n - (s + 1)))) (first h) k
+  pub place_written : {Z T : Type 0} {c : S} {z : Z} → Pushes {Y = T} taken fails b c (Ok z) text
+      → IsBegun taken fails a c whole (flat_map f (range_with_len (s + 1) (n - (s + 1))))
+  place_written pushed = begun_more text (flat_map f (range_with_len (s + 1) (n - (s + 1)))) first pushed
 
-    -- an error within the text of a place
-    pub place_stopped : {T E : Type 0} (r : Result T E) (P : E → Type 0) (k l m : ℕ) → s < n → k ≤ l → l ≤ m → IsErrAnd r P → TakesPart b c (f s) → Rises l m → Pushes r a c k m whole
-    place_stopped r P k l m h = pushed_within r P a b c k l m whole (f s) (flat_map f (range_with_len (s + 1) (n - (s + 1)))) (first h)
+  -- an error within the text of a place
+  pub place_stopped : {Z T E F : Type 0} {c : S} {e : F} {r : Result T E} (P : E → Type 0) → Pushes {X = Z} taken fails b c (Err e) text → IsErrAnd r P
+      → Pushes taken fails a c r whole
+  place_stopped P pushed err = begun_stops text (flat_map f (range_with_len (s + 1) (n - (s + 1)))) first P pushed err
 
 -- the thing that stands for an element stands at its place
 pub mapped_at : {X Y : Type 0} (e : X → Y) (xs : List X) (k : ℕ) (x : X) (d : Y) → x ≡ get_or xs k x → k < length xs → e x ≡ get_or (map e xs) k d

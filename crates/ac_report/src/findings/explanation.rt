@@ -5,9 +5,7 @@ mod differences;
 mod nobody;
 mod without;
 
-ghost use Rattle.std.specs.Prelude.{◌≡◌, ◌+◌, ◌<◌, ◌≤◌, ◌++◌, IfOk, OnErr, OnOk, length, map};
-ghost use Rattle.std.specs.Io.KnownBytes.{Appends};
-ghost use Rattle.ac_base.specs.Devices.{Rises, TakesPart};
+ghost use Rattle.std.specs.Prelude.{◌≡◌, ◌+◌, ◌<◌, ◌≤◌, ◌++◌, IfOk, length, map};
 ghost use Rattle.ac_cloud.specs.Cloud.CloudWorld.{providers_of};
 ghost use Rattle.ac_query.specs.Asked.{slots_of};
 ghost use Rattle.ac_query.specs.Shown.Groups.{need_entry};
@@ -41,10 +39,8 @@ use std::alloc::Global;
 // A class with its amount, behind a mark.
 #[tactic(auto, unfolding(crate::specs::Findings::Explanation::need_text))]
 fn push_need<W: Sink>(out: &mut W, mark: &[u8], need: &Need) -> Result<(), WriteFailed>
-    ensures text { Pushes result (W.taken out.old) (W.taken out.new)
-        (W.failures out.old) (W.failures out.new)
+    ensures { Pushes W.taken W.failures out.old out.new result
         (need_text mark.now (need_entry need.now)) }
-    ensures failures { W.failures out.old ≤ W.failures out.new }
 {
     push_pieces(
         out,
@@ -60,10 +56,8 @@ fn push_need<W: Sink>(out: &mut W, mark: &[u8], need: &Need) -> Result<(), Write
 // All classes of a slot.
 #[tactic(auto, using(crate::proofs::FoundTexts::ItemsWritten::item_stopped, ac_base::proofs::Pushed::pushed_first), unfolding(crate::specs::Findings::Explanation::needs_text))]
 fn push_needs<W: Sink>(out: &mut W, needs: &[Need]) -> Result<(), WriteFailed>
-    ensures text { Pushes result (W.taken out.old) (W.taken out.new)
-        (W.failures out.old) (W.failures out.new)
+    ensures { Pushes W.taken W.failures out.old out.new result
         (needs_text (map need_entry needs.now)) }
-    ensures failures { W.failures out.old ≤ W.failures out.new }
 {
     let Some((first, others)) = needs.split_first() else {
         return Ok(());
@@ -79,10 +73,8 @@ fn push_needs<W: Sink>(out: &mut W, needs: &[Need]) -> Result<(), WriteFailed>
 #[tactic(auto, unfolding(crate::specs::Findings::Explanation::slot_name))]
 fn push_name<W: Sink>(out: &mut W, query: &Query, s: usize) -> Result<(), WriteFailed>
     requires { s < length (slots_of (asked_of query.now)) }
-    ensures text { Pushes result (W.taken out.old) (W.taken out.new)
-        (W.failures out.old) (W.failures out.new)
+    ensures { Pushes W.taken W.failures out.old out.new result
         (slot_name (s + 1) (slot_at (asked_of query.now) s)) }
-    ensures failures { W.failures out.old ≤ W.failures out.new }
 {
     push_pieces(
         out,
@@ -99,10 +91,8 @@ fn push_name<W: Sink>(out: &mut W, query: &Query, s: usize) -> Result<(), WriteF
 // How many have room for a class of a slot: the first stands behind a bracket.
 #[tactic(auto, unfolding(crate::specs::Findings::Explanation::room_text))]
 fn push_room<W: Sink>(out: &mut W, k: usize, need: &Need, room: u32) -> Result<(), WriteFailed>
-    ensures text { Pushes result (W.taken out.old) (W.taken out.new)
-        (W.failures out.old) (W.failures out.new)
+    ensures { Pushes W.taken W.failures out.old out.new result
         (room_text (room_mark k) (need_entry need.now).0 room) }
-    ensures failures { W.failures out.old ≤ W.failures out.new }
 {
     let mark = if k == 0 { b" (" } else { b", " };
     push_pieces(
@@ -119,10 +109,8 @@ fn push_room<W: Sink>(out: &mut W, k: usize, need: &Need, room: u32) -> Result<(
 // How many have room for each class of a slot, where that is told.
 fn push_rooms<W: Sink>(out: &mut W, needs: &[Need], rooms: &[u32]) -> Result<(), WriteFailed>
     requires { length rooms.now ≤ length needs.now }
-    ensures text { Pushes result (W.taken out.old) (W.taken out.new)
-        (W.failures out.old) (W.failures out.new)
+    ensures { Pushes W.taken W.failures out.old out.new result
         (each_room (map need_entry needs.now) rooms.now) }
-    ensures failures { W.failures out.old ≤ W.failures out.new }
 {
     for k in 0..rooms.len() {
         push_room(out, k, &needs[k], rooms[k])?;
@@ -140,10 +128,8 @@ fn slot_end(rooms: &[u32]) -> &'static [u8]
 // How many of all providers meet what a slot asks.
 #[tactic(auto, unfolding(crate::specs::Findings::Explanation::slot_counted))]
 fn push_counts<W: Sink>(out: &mut W, providers: u32, counts: &SlotCounts) -> Result<(), WriteFailed>
-    ensures text { Pushes result (W.taken out.old) (W.taken out.new)
-        (W.failures out.old) (W.failures out.new)
+    ensures { Pushes W.taken W.failures out.old out.new result
         (slot_counted providers (counts_shown counts.now)) }
-    ensures failures { W.failures out.old ≤ W.failures out.new }
 {
     push_pieces(
         out,
@@ -168,11 +154,9 @@ fn push_counts<W: Sink>(out: &mut W, providers: u32, counts: &SlotCounts) -> Res
 #[tactic(auto, using(ac_base::proofs::Pushed::pushed_first, ac_base::proofs::Pushed::pushed_on))]
 fn push_asked<W: Sink>(out: &mut W, query: &Query, s: usize) -> Result<(), WriteFailed>
     requires { s < length (slots_of (asked_of query.now)) }
-    ensures text { Pushes result (W.taken out.old) (W.taken out.new)
-        (W.failures out.old) (W.failures out.new)
+    ensures { Pushes W.taken W.failures out.old out.new result
         (slot_name (s + 1) (slot_at (asked_of query.now) s)
         ++ needs_text (slot_at (asked_of query.now) s).needs) }
-    ensures failures { W.failures out.old ≤ W.failures out.new }
 {
     push_name(out, query, s)?;
     push_needs(out, needs_at(query, s))
@@ -187,12 +171,10 @@ fn push_told<W: Sink>(
     told: &SlotTold,
 ) -> Result<(), WriteFailed>
     requires { length told.now.rooms.items ≤ length needs.now }
-    ensures text { Pushes result (W.taken out.old) (W.taken out.new)
-        (W.failures out.old) (W.failures out.new)
+    ensures { Pushes W.taken W.failures out.old out.new result
         (slot_counted providers (slot_shown told.now).counts
         ++ (each_room (map need_entry needs.now) (slot_shown told.now).rooms
         ++ slot_end (slot_shown told.now).rooms)) }
-    ensures failures { W.failures out.old ≤ W.failures out.new }
 {
     push_counts(out, providers, &told.counts)?;
     push_rooms(out, needs, &told.rooms)?;
@@ -211,11 +193,9 @@ fn push_slot<W: Sink>(
     requires slot { s < length (slots_of (asked_of query.now)) }
     requires rooms { length told.now.rooms.items
         ≤ length (slot_at (asked_of query.now) s).needs }
-    ensures text { Pushes result (W.taken out.old) (W.taken out.new)
-        (W.failures out.old) (W.failures out.new)
+    ensures { Pushes W.taken W.failures out.old out.new result
         (slot_line (providers_of cloud.now) (s + 1) (slot_at (asked_of query.now) s)
         (slot_shown told.now)) }
-    ensures failures { W.failures out.old ≤ W.failures out.new }
 {
     push_asked(out, query, s)?;
     push_told(out, cloud.len(), needs_at(query, s), told)
@@ -230,10 +210,8 @@ fn push_slots<W: Sink>(
 ) -> Result<(), WriteFailed>
     requires { map slot_shown slots.now
         ≡ map (slot_told (providers_of cloud.now)) (slots_of (asked_of query.now)) }
-    ensures text { Pushes result (W.taken out.old) (W.taken out.new)
-        (W.failures out.old) (W.failures out.new)
+    ensures { Pushes W.taken W.failures out.old out.new result
         (slot_lines (providers_of cloud.now) (asked_of query.now)) }
-    ensures failures { W.failures out.old ≤ W.failures out.new }
 {
     for (s, told) in slots.iter().enumerate() {
         push_slot(out, cloud, query, s, told)?;
@@ -244,10 +222,8 @@ fn push_slots<W: Sink>(
 // The line of the trees.
 #[tactic(auto, unfolding(crate::specs::Findings::Explanation::trees_line))]
 fn push_trees<W: Sink>(out: &mut W, counts: &TreeCounts) -> Result<(), WriteFailed>
-    ensures text { Pushes result (W.taken out.old) (W.taken out.new)
-        (W.failures out.old) (W.failures out.new)
+    ensures { Pushes W.taken W.failures out.old out.new result
         (trees_line (trees_shown counts.now)) }
-    ensures failures { W.failures out.old ≤ W.failures out.new }
 {
     push_pieces(
         out,
@@ -278,7 +254,7 @@ fn candidates_line(found: bool) -> &'static [u8]
 }
 
 /// Pushes what stands behind the counts: whether there is a candidate without one thing, and where the service may answer otherwise.
-#[tactic(auto, using(ac_base::proofs::Leaving::appends_both, ac_base::proofs::Leaving::part_of_first, ac_base::proofs::Leaving::part_of_second))]
+#[tactic(auto, using(ac_base::proofs::Pushed::pushed_first, ac_base::proofs::Pushed::pushed_on))]
 pub fn push_reasons<W: Sink>(
     out: &mut W,
     cloud: &Cloud,
@@ -286,21 +262,16 @@ pub fn push_reasons<W: Sink>(
     without: &FoundWithout,
 ) -> Result<(), WriteFailed>
     requires { length (found_shown without.now).subtrees ≤ length (asked_of query.now).subtrees }
-    ensures ok { OnOk result (Appends (W.taken out.old) (W.taken out.new)
+    ensures { Pushes W.taken W.failures out.old out.new result
         (without_lines (asked_of query.now) (found_shown without.now)
-        ++ differs_lines (providers_of cloud.now) (asked_of query.now))) }
-    ensures part { OnErr result (TakesPart (W.taken out.old) (W.taken out.new)
-        (without_lines (asked_of query.now) (found_shown without.now)
-        ++ differs_lines (providers_of cloud.now) (asked_of query.now))) }
-    ensures rises { OnErr result (Rises (W.failures out.old) (W.failures out.new)) }
-    ensures failures { W.failures out.old ≤ W.failures out.new }
+        ++ differs_lines (providers_of cloud.now) (asked_of query.now)) }
 {
     push_without(out, query, without)?;
     push_differences(out, cloud, query)
 }
 
 /// Pushes an explanation: the lines of the slots, that of the trees by their counts, what nobody has, and whether a candidate was found.
-#[tactic(auto, using(ac_base::proofs::Leaving::appends_both, ac_base::proofs::Leaving::part_of_first, ac_base::proofs::Leaving::part_of_second))]
+#[tactic(auto, using(ac_base::proofs::Pushed::pushed_first, ac_base::proofs::Pushed::pushed_on))]
 pub fn push_explanation<W: Sink>(
     out: &mut W,
     cloud: &Cloud,
@@ -311,18 +282,11 @@ pub fn push_explanation<W: Sink>(
 ) -> Result<(), WriteFailed>
     requires { map slot_shown slots.now
         ≡ map (slot_told (providers_of cloud.now)) (slots_of (asked_of query.now)) }
-    ensures ok { OnOk result (Appends (W.taken out.old) (W.taken out.new)
+    ensures { Pushes W.taken W.failures out.old out.new result
         (slot_lines (providers_of cloud.now) (asked_of query.now)
         ++ (trees_line (trees_shown trees.now)
         ++ (nobody_lines (providers_of cloud.now) (asked_of query.now)
-        ++ candidates_line found)))) }
-    ensures part { OnErr result (TakesPart (W.taken out.old) (W.taken out.new)
-        (slot_lines (providers_of cloud.now) (asked_of query.now)
-        ++ (trees_line (trees_shown trees.now)
-        ++ (nobody_lines (providers_of cloud.now) (asked_of query.now)
-        ++ candidates_line found)))) }
-    ensures rises { OnErr result (Rises (W.failures out.old) (W.failures out.new)) }
-    ensures failures { W.failures out.old ≤ W.failures out.new }
+        ++ candidates_line found))) }
 {
     push_slots(out, cloud, query, slots)?;
     push_trees(out, trees)?;

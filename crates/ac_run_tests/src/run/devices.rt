@@ -1,7 +1,7 @@
 //! Devices that fail, each at each of its calls, and what they leave of an answer or of a line.
 use super::{
-    ANSWERS, Case, Left, ONE, ONE_BODY, Rows, SOUND, TOKENS, Turns, Way, alike, check_case,
-    expanded, expect_left, left_by,
+    ANSWERS, Case, Left, ONE, ONE_BODY, Rows, SOUND, TOKENS, Turns, alike, check_case, expanded,
+    expect_left, left_by,
 };
 use ac_base::Turn;
 use ac_run::Command;
@@ -15,7 +15,10 @@ const ONE_TOKEN: Case = Case {
 };
 
 const BODY: Case = Case {
-    command: Command::Candidates,
+    command: Command::Candidates {
+        after: None,
+        traits: true,
+    },
     output: ONE_BODY,
     ..TOKENS
 };
@@ -40,13 +43,8 @@ const AGAIN: &[Turn] = &[Turn::Again; 1000];
 
 const ONCE_MORE: &[Turn] = &[Turn::Again; 1001];
 
-const GATHERED: Turns<'static> = Turns {
-    way: Way::Gathered,
-    ..SOUND
-};
-
 pub(super) const DETAILED: Turns<'static> = Turns {
-    way: Way::Detailed,
+    detail: true,
     ..SOUND
 };
 
@@ -59,7 +57,6 @@ static FAILING_OUTPUTS: [(&[Turn], &str); 4] = [
     (ONCE_MORE, ""),
 ];
 
-// The same where the output is gathered: it is pushed at the end, and its failure is told once.
 #[test]
 fn outputs_that_fail(rt: HostRuntime) -> Result<(), Fail> {
     for (number, (out, output)) in FAILING_OUTPUTS.iter().enumerate() {
@@ -70,7 +67,6 @@ fn outputs_that_fail(rt: HostRuntime) -> Result<(), Fail> {
             ..BODY
         };
         check_case(&rt, &case, Turns { out, ..SOUND }, number)?;
-        check_case(&rt, &case, Turns { out, ..GATHERED }, number)?;
     }
     Ok(())
 }
@@ -88,7 +84,8 @@ static FAILING: [(Turns<'static>, Case); 8] = [
     (
         Turns {
             out: AGAIN,
-            ..GATHERED
+            gathers: true,
+            ..SOUND
         },
         ONE_TOKEN,
     ),
@@ -107,7 +104,7 @@ static FAILING: [(Turns<'static>, Case); 8] = [
     (
         Turns {
             inventories: &[Turn::Up(20), Turn::Failed],
-            ..GATHERED
+            ..SOUND
         },
         Case {
             line: "inventories: Unreadable\n",
@@ -334,22 +331,11 @@ fn check_pushes(rt: &(impl Abort + AllocGlobal), case: &Case) -> Result<(), Allo
     Ok(())
 }
 
-// A failed output is told as one, and never as want of memory; so is the one push of a gathered one.
+// A failed output is told as one, and never as want of memory.
 #[test]
 fn each_whole_piece_of_an_output_fails(rt: HostRuntime) -> Result<(), Fail> {
-    for (number, case) in ANSWERS.iter().enumerate() {
+    for case in &ANSWERS {
         check_pushes(&rt, case)?;
-        let failed = Case {
-            output: "",
-            line: "output: WriteFailed\n",
-            status: 6,
-            ..*case
-        };
-        let out = Turns {
-            out: FAILED,
-            ..GATHERED
-        };
-        check_case(&rt, &failed, out, number)?;
     }
     Ok(())
 }

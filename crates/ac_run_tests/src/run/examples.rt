@@ -1,7 +1,6 @@
-//! Runs over slow devices, and jobs that no command line asks for.
-use super::{ANSWERS, Case, TOKENS, alike, check_case};
+//! Runs over slow devices.
+use super::{ANSWERS, Case, alike, check_case};
 use ac_base::Turn;
-use ac_run::Command;
 use std::alloc::{AllocError, Global};
 use std::process::Abort;
 use std::test::Fail;
@@ -39,41 +38,4 @@ fn check(rt: &(impl Abort + AllocGlobal), cases: &[Case]) -> Result<(), Fail> {
 #[test]
 fn an_answer_of_each_command(rt: HostRuntime) -> Result<(), Fail> {
     check(&rt, &ANSWERS)
-}
-
-// A token that is given is read, though nothing begins after it, and before a host; and a host has to be named.
-static BESIDE: [Case; 4] = [
-    Case {
-        command: Command::Explain,
-        token: Some("@1,@1"),
-        line: "token: WrongLength\n",
-        status: 5,
-        ..TOKENS
-    },
-    Case {
-        command: Command::Hosts,
-        token: Some("@1,@1"),
-        line: "token: WrongLength\n",
-        status: 5,
-        ..TOKENS
-    },
-    Case {
-        command: Command::Why,
-        token: Some("@1,@1"),
-        host: Some("@7"),
-        line: "token: WrongLength\n",
-        status: 5,
-        ..TOKENS
-    },
-    Case {
-        command: Command::Why,
-        line: "host: Unknown\n",
-        status: 5,
-        ..TOKENS
-    },
-];
-
-#[test]
-fn jobs_that_no_command_line_asks_for(rt: HostRuntime) -> Result<(), Fail> {
-    check(&rt, &BESIDE)
 }

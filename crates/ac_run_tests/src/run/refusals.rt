@@ -11,7 +11,6 @@ const PAIR: Case = Case {
         inventories: "@1,VCPU,8,0,1,8,1,1.0\n@2,VCPU,8,0,1,8,1,1.0\n",
         ..ONE
     },
-    command: Command::Verify,
     query: "resources1=VCPU:5&resources2=VCPU:5&group_policy=none",
     ..TOKENS
 };
@@ -55,9 +54,8 @@ static SUMS_AND_NONE: [Case; 5] = [
         ..TOKENS
     },
     Case {
-        command: Command::Why,
+        command: Command::Why { host: "@1" },
         query: "resources1=VCPU:2&member_of1=!in:@a,@b&root_required=CUSTOM_R",
-        host: Some("@1"),
         rows: Rows {
             aggregates: "@1,@a\n",
             ..ONE
@@ -70,20 +68,19 @@ static SUMS_AND_NONE: [Case; 5] = [
         ..TOKENS
     },
     Case {
-        command: Command::Fill,
+        command: Command::Fill { sum: true },
         query: "resources=VCPU:3",
-        sum: true,
         output: "at least 2, at most 2\n",
         ..TOKENS
     },
     Case {
-        command: Command::Fill,
+        command: Command::Fill { sum: false },
         query: "resources=VCPU:9",
         status: 1,
         ..TOKENS
     },
     Case {
-        token: Some("@1,@7"),
+        command: Command::Verify { token: "@1,@7" },
         output: "unknown provider\n",
         status: 1,
         ..PAIR
@@ -97,8 +94,7 @@ fn sums_and_none(rt: HostRuntime) {
 
 // Lists that break a rule, and of what they do.
 const CROWDED: Case = Case {
-    token: Some("@1,@1"),
-    detail: true,
+    command: Command::Verify { token: "@1,@1" },
     output: "no: rule 6 Sums: VCPU on @1, 8 of 8 left, max_unit 8, 10 asked\n",
     status: 1,
     ..PAIR
@@ -106,20 +102,20 @@ const CROWDED: Case = Case {
 
 static VERDICTS: [Case; 7] = [
     Case {
-        token: Some("@1,@2"),
+        command: Command::Verify { token: "@1,@2" },
         output: "candidate\n",
         ..PAIR
     },
     CROWDED,
     Case {
         query: "resources1=VCPU:9&resources2=VCPU:5&group_policy=none",
-        token: Some("@2,@1"),
+        command: Command::Verify { token: "@2,@1" },
         output: "no: rule 1 Units: slot 1 on @2, VCPU:9 not within min_unit 1, max_unit 8, step_size 1\n",
         ..CROWDED
     },
     Case {
         query: "resources=VCPU:1&required=CUSTOM_X",
-        token: Some("@1"),
+        command: Command::Verify { token: "@1" },
         output: "no: rule 5 Collective: CUSTOM_X missing\n",
         ..CROWDED
     },
@@ -135,13 +131,13 @@ static VERDICTS: [Case; 7] = [
             ..ONE
         },
         query: "resources_A=VCPU:1&resources_B=VCPU:1&same_subtree=_A,_B&group_policy=none",
-        token: Some("@2,@3"),
+        command: Command::Verify { token: "@2,@3" },
         output: "no: rule 8 Subtree: same_subtree=_A,_B\n",
         ..CROWDED
     },
     Case {
         query: "resources=VCPU:1&root_required=CUSTOM_X",
-        token: Some("@1"),
+        command: Command::Verify { token: "@1" },
         output: "no: rule 9 Anchor: on @1, CUSTOM_X missing\n",
         ..CROWDED
     },
@@ -149,7 +145,7 @@ static VERDICTS: [Case; 7] = [
 
 #[test]
 fn verdicts(rt: HostRuntime) {
-    check_all(&rt, &VERDICTS, SOUND);
+    check_all(&rt, &VERDICTS, DETAILED);
 }
 
 static FAULTS: [Case; 4] = [
@@ -164,15 +160,13 @@ static FAULTS: [Case; 4] = [
         ..TOKENS
     },
     Case {
-        command: Command::Tokens,
-        token: Some("@1"),
+        command: Command::Tokens { after: Some("@1") },
         line: "token: WrongLength\n",
         status: 5,
         ..PAIR
     },
     Case {
-        command: Command::Why,
-        host: Some("h"),
+        command: Command::Why { host: "h" },
         line: "host: Unknown\n",
         status: 5,
         ..TOKENS
@@ -184,7 +178,7 @@ fn faults(rt: HostRuntime) {
     check_all(&rt, &FAULTS, SOUND);
 }
 
-// An answer has nothing behind it, a verdict of no neither.
+// An answer has nothing behind it, a verdict neither.
 static WHAT_TO_DO: [Case; 6] = [
     Case {
         output: "@1\n",
@@ -193,7 +187,7 @@ static WHAT_TO_DO: [Case; 6] = [
     Case {
         command: Command::Verify,
         query: "resources=VCPU:9",
-        token: Some("@1"),
+        command: Command::Verify { token: "@1" },
         output: "no: rule 1 Units\n",
         status: 1,
         ..TOKENS
@@ -206,14 +200,15 @@ static WHAT_TO_DO: [Case; 6] = [
         ..TOKENS
     },
     Case {
-        token: Some("@1,@1"),
+        command: Command::Tokens {
+            after: Some("@1,@1"),
+        },
         line: "token: WrongLength\n  UUIDs 2, slots 1: one for each of VCPU, in this order\n",
         status: 5,
         ..TOKENS
     },
     Case {
-        command: Command::Why,
-        host: Some("nowhere"),
+        command: Command::Why { host: "nowhere" },
         line: "host: Unknown\n  \"nowhere\": no provider has this UUID or this name: \
             give one that is in the table of providers\n",
         status: 5,

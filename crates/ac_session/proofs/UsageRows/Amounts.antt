@@ -17,7 +17,7 @@ use Rattle.ac_rules.specs.Placed.{Placed, assigned}
 use Rattle.ac_session.specs.Laws.{providers_behind}
 use Rattle.ac_session.specs.Lines.{Given, line, too_long, end}
 use Rattle.ac_session.specs.Questions.{Asked, asked_of, claim, fill, job, nothing, release, unknown, usages, wrong_number}
-use Rattle.ac_session.specs.Turns.{after_fill, claim_turn, fill_task, fill_turn, release_turn, turn_asked, turn_of, world_after}
+use Rattle.ac_session.specs.Turns.{after_fill, claim_turn, fill_turn, release_turn, turn_asked, turn_of, world_after}
 use Rattle.ac_tables.specs.Tables.{Tables, aggregates_of, amounts_of, gathered, ids_of, inventories_of, names_of, with_used, world_stated}
 use Rattle.ac_tables.specs.Tables.AggregateTable.{aggregates_said}
 use Rattle.ac_tables.specs.Tables.InventoryTable.{inventories_said}
@@ -112,10 +112,10 @@ module _ (t : Tables) (ids : List ℕ) where
 
   asked_stated : (version : Version) (world : World) (asked : Asked) → AreStated t ids world.providers → AreStated t ids (turn_asked version world asked).world.providers
   unfolding fill_turn claim_turn release_turn
-  asked_stated version world (job command query by token host detail traits sum) h = h
+  asked_stated version world (job task) h = h
   asked_stated version world (fill query) h =
       let asked = asked_by version (pairs_of query) in
-      after_stated world (past_query (fills world.providers false) (fill_task version query)).status (after_fill world.providers asked) h
+      after_stated world (past_query (fills world.providers false) None version query).status (after_fill world.providers asked) h
       (placed_stated asked world.providers (filled asked.limit world.providers asked) h)
   asked_stated version world (claim query token) h = after_stated world _ _ h (claimed_stated world.providers _ h)
   asked_stated version world (release query token) h = after_stated world _ _ h (released_stated world.providers _ h)

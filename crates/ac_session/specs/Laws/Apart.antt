@@ -1,9 +1,11 @@
 -- Answers are read apart: each up to the first line that begins with `=`.
-use Rattle.std.specs.Prelude.{◌≡◌, ◌≢◌, ℕ, zero, suc, ◌==◌, Bool, false, List, [], ◌∷◌, ◌++◌, drop, length, if◌then◌else◌}
+use Rattle.std.specs.Prelude.{◌≡◌, ◌≢◌, ℕ, zero, suc, ◌==◌, Bool, false, true, List, [], ◌∷◌, ◌++◌, drop, length, if◌then◌else◌}
 use Rattle.std.specs.List.{flat_map, slice_split}
 use Rattle.ac_cloud.specs.World.{World}
 use Rattle.ac_query.specs.declared.version.Version.{Version}
 use Rattle.ac_rules.specs.Together.{is_empty}
+use Rattle.ac_session.specs.Escapes.{plain}
+use Rattle.ac_session.specs.Frames.{begins_line, last_newline, lines_written}
 use Rattle.ac_session.specs.Lines.{Given, is_newline, newline}
 use Rattle.ac_session.specs.Questions.{Text}
 use Rattle.ac_session.specs.Turns.{session_text, text_of, turn_of}
@@ -40,6 +42,10 @@ abbrev pub AnswersApart : Type 0
 AnswersApart =
     (version : Version) (world : World) (given : Given) → text_of (turn_of version world given) ≢ []
     → (rest : Text) → first_answer (text_of (turn_of version world given) ++ rest) ≡ text_of (turn_of version world given)
+
+-- Who takes the blank off each line that begins with one has the lines of the answer again.
+abbrev pub BlanksComeOff : Type 0
+BlanksComeOff = (text : Text) → plain true (lines_written text) ≡ text ++ last_newline (begins_line true text)
 
 -- what is written for lines one after another, but for those that have no answer
 abbrev pub answers_of : Version → World → List Given → List Text

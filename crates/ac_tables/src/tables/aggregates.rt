@@ -130,10 +130,11 @@ pub(crate) fn read_aggregates(
 ) -> Result<Lists<Id>, TableFault>
     requires { IfSome text (λ t. length t.now ≤ most_bytes) }
     ensures value { IfOk result (λ all. lists_of all
-        ≡ map (aggregates_of (aggregates_said (rows_given table.Aggregates text.entry))) ids.now.ids.items) }
+        ≡ map (aggregates_of (aggregates_said (rows_given table.Aggregates text.entry)))
+        ids.now.ids.items) }
     ensures few { IfOk result (λ new. length new.items.items ≤ most_bytes) }
-    ensures ok { IfOk result (λ _. aggregates_fault ids.now.ids.items (rows_given table.Aggregates text.entry)
-        ≡ None) }
+    ensures ok { IfOk result (λ _.
+        aggregates_fault ids.now.ids.items (rows_given table.Aggregates text.entry) ≡ None) }
     ensures err { IfErr result (λ e.
         Tells (aggregates_fault ids.now.ids.items (rows_given table.Aggregates text.entry)) e) }
 {

@@ -139,7 +139,8 @@ pub(crate) fn read_traits(
     ensures value { IfOk result (λ names. map (map trait_bytes) (lists_of names)
         ≡ map (names_of (traits_said (rows_given table.Traits text.entry))) ids.now.ids.items) }
     ensures few { IfOk result (λ new. length new.items.items ≤ most_bytes) }
-    ensures ok { IfOk result (λ _. traits_fault ids.now.ids.items (rows_given table.Traits text.entry) ≡ None) }
+    ensures ok { IfOk result (λ _.
+        traits_fault ids.now.ids.items (rows_given table.Traits text.entry) ≡ None) }
     ensures err { IfErr result (λ e.
         Tells (traits_fault ids.now.ids.items (rows_given table.Traits text.entry)) e) }
 {

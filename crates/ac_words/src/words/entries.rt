@@ -1,14 +1,15 @@
 //! What the matches of `clap` hold.
-ghost use Rattle.std.specs.Prelude.{◌≡◌, ◌≢◌, ◌∷◌, IfErr, IfOk, IfSome, None, OnOk, Some, [], is_some, option_map, string_bytes, true};
+ghost use Rattle.std.specs.Prelude.{◌≡◌, ◌∷◌, IfErr, IfOk, OnOk, Some, [], option_map, true};
+ghost use Rattle.ac_run.specs.Tasks.{command_shown};
 ghost use Rattle.clap.specs.Words.{first_of, found_of, rows_of, subcommand_rows_of};
-ghost use Rattle.ac_words.specs.Words.{HasNeeded, IsComplete, IsMadeOf, Says, Tells, detail_of, host_of, name_of, own_faults, query_of, sum_of, table_kinds, token_of, version_kinds, version_named, version_of, with_traits_of};
+ghost use Rattle.ac_words.specs.Words.{IsMadeOf, Says, Tells, asking, call_of, call_shown, command_found, is_complete, is_set, own_faults, version_kinds, version_named, version_of};
 
-use super::tables::{check_tables, needed_path, path};
+use super::tables::paths;
 use super::{Call, WordFault, Words, fault_of, grammar};
 use crate::mark::past_mark;
+use crate::name::Name;
 use ac_query::Version;
 use ac_run::Command;
-use ac_tables::Table;
 use clap::ArgMatches;
 use clap::error::ErrorKind;
 use std::alloc::{AllocError, Global};
@@ -21,42 +22,49 @@ pub(super) fn entry<'a>(entries: &ArgMatches<'a>, name: &str) -> Option<&'a str>
     entries.get_str(name)
 }
 
-// A copy of the entry of a name, where it has one.
-pub(super) fn copy_entry(
-    alloc: Global,
-    entries: &ArgMatches<'_>,
-    name: &str,
-) -> Result<Option<String>, AllocError>
-    ensures { IfOk result (λ copy. first_of name.now (rows_of (found_of entries.now))
-        ≡ option_map string_bytes copy) }
+// Whether an option without a value is given.
+fn is_set(entries: &ArgMatches<'_>, name: &str) -> bool
+    ensures { result ≡ is_set (first_of name.now (rows_of (found_of entries.now))) }
 {
-    match entry(entries, name) {
-        Some(text) => Ok(Some(String::from_str(alloc, text)?)),
-        None => Ok(None),
-    }
+    entry(entries, name) == Some("true")
 }
 
-// The query of a command.
-fn query(alloc: Global, call: Call, entries: &ArgMatches<'_>) -> Result<String, AllocError>
-    requires { is_some (query_of call (rows_of (found_of entries.now))) ≡ true }
-    ensures { IfOk result (λ text. query_of call (rows_of (found_of entries.now))
-        ≡ Some (string_bytes text)) }
+// A command with its query.
+fn asking<'a>(entries: &ArgMatches<'a>, command: Command<'a>) -> Option<Call<'a>>
+    ensures { option_map call_shown result
+        ≡ asking (rows_of (found_of entries.now)) (command_shown command.entry) }
 {
-    match call {
-        Call::Session | Call::Job(Command::Check) => Ok(String::new(alloc)),
-        Call::Job(
-            Command::Candidates
-            | Command::Tokens
-            | Command::List
-            | Command::Fill
-            | Command::Verify
-            | Command::Explain
-            | Command::Hosts
-            | Command::Why,
-        ) => match entry(entries, "query") {
-            Some(text) => String::from_str(alloc, past_mark(text)),
-            None => unreachable!(),
-        },
+    let query = entry(entries, "query")?;
+    Some(Call::Job(command, past_mark(query)))
+}
+
+// What the entries of a command call for; none where one that it needs isn't there.
+#[tactic(auto, unfolding(crate::specs::Words::call_of))]
+fn call<'a>(name: Name, entries: &ArgMatches<'a>) -> Option<Call<'a>>
+    ensures { option_map call_shown result ≡ call_of name (rows_of (found_of entries.now)) }
+{
+    let after = entry(entries, "after");
+    let traits = !is_set(entries, "no-traits");
+    match name {
+        Name::Check => Some(Call::Job(Command::Check, "")),
+        Name::Candidates => asking(entries, Command::Candidates { after, traits }),
+        Name::Tokens => asking(entries, Command::Tokens { after }),
+        Name::List => asking(entries, Command::List { after, traits }),
+        Name::Fill => {
+            let sum = is_set(entries, "sum");
+            asking(entries, Command::Fill { sum })
+        }
+        Name::Verify => {
+            let token = entry(entries, "token")?;
+            asking(entries, Command::Verify { token })
+        }
+        Name::Explain => asking(entries, Command::Explain),
+        Name::Hosts => asking(entries, Command::Hosts),
+        Name::Why => {
+            let host = entry(entries, "host")?;
+            asking(entries, Command::Why { host })
+        }
+        Name::Session => Some(Call::Session),
     }
 }
 
@@ -74,18 +82,18 @@ fn version_named(text: Option<&str>) -> Option<Version>
 // What the user is told of a fault that isn't `clap`'s own, with the usage of the command.
 pub(super) fn refusal(
     alloc: Global,
-    call: Call,
+    name: Name,
     kind: ErrorKind,
     message: &str,
 ) -> Result<WordFault, AllocError>
     ensures { IfOk result (Tells (kind ∷ [])) }
 {
-    let error = grammar::command(alloc, call)?.error(kind, message)?;
+    let error = grammar::command(alloc, name)?.error(kind, message)?;
     fault_of(alloc, &error)
 }
 
 // The version that reads the query.
-fn version(alloc: Global, call: Call, entries: &ArgMatches<'_>) -> Result<Version, WordFault>
+fn version(alloc: Global, name: Name, entries: &ArgMatches<'_>) -> Result<Version, WordFault>
     ensures version { IfOk result (λ v. version_of (rows_of (found_of entries.now)) ≡ Some v) }
     ensures fault { IfErr result (Tells (version_kinds
         (version_of (rows_of (found_of entries.now))))) }
@@ -98,141 +106,57 @@ fn version(alloc: Global, call: Call, entries: &ArgMatches<'_>) -> Result<Versio
             let message = format!(in alloc;
                 "invalid value '{text}' for '--microversion <VERSION>': it is 1.36 or 1.39"
             )?;
-            Err(refusal(alloc, call, ErrorKind::InvalidValue, message.as_str())?)
+            Err(refusal(alloc, name, ErrorKind::InvalidValue, message.as_str())?)
         }
-    }
-}
-
-// The token of a command.
-fn token(alloc: Global, call: Call, entries: &ArgMatches<'_>) -> Result<Option<String>, AllocError>
-    ensures { IfOk result (λ copy. token_of call (rows_of (found_of entries.now))
-        ≡ option_map string_bytes copy) }
-{
-    match call {
-        Call::Session
-        | Call::Job(
-            Command::Check | Command::Fill | Command::Explain | Command::Hosts | Command::Why,
-        ) => Ok(None),
-        Call::Job(Command::Candidates | Command::Tokens | Command::List) => {
-            copy_entry(alloc, entries, "after")
-        }
-        Call::Job(Command::Verify) => copy_entry(alloc, entries, "token"),
-    }
-}
-
-// The host of a command.
-fn host(alloc: Global, call: Call, entries: &ArgMatches<'_>) -> Result<Option<String>, AllocError>
-    ensures { IfOk result (λ copy. host_of call (rows_of (found_of entries.now))
-        ≡ option_map string_bytes copy) }
-{
-    match call {
-        Call::Job(Command::Why) => copy_entry(alloc, entries, "host"),
-        _ => Ok(None),
-    }
-}
-
-// Whether more is said: what to do about a fault, and of what a rule is broken.
-fn detail(entries: &ArgMatches<'_>) -> bool
-    ensures { result ≡ detail_of (rows_of (found_of entries.now)) }
-{
-    entry(entries, "detail") == Some("true")
-}
-
-// Whether traits are written; only `candidates` and `list` may be told not to.
-fn with_traits(call: Call, entries: &ArgMatches<'_>) -> bool
-    ensures { result ≡ with_traits_of call (rows_of (found_of entries.now)) }
-{
-    match call {
-        Call::Job(Command::Candidates | Command::List) => {
-            entry(entries, "no-traits") != Some("true")
-        }
-        _ => true,
-    }
-}
-
-// Whether the number of placements is asked in place of their tokens; only of `fill`.
-fn sum(call: Call, entries: &ArgMatches<'_>) -> bool
-    ensures { result ≡ sum_of call (rows_of (found_of entries.now)) }
-{
-    match call {
-        Call::Job(Command::Fill) => entry(entries, "sum") == Some("true"),
-        _ => false,
-    }
-}
-
-// What a name calls.
-fn call_named(name: &str) -> Option<Call>
-    ensures some { IfSome result (λ call. name.now ≡ name_of call) }
-    ensures none { result ≡ None → (call : Call) → name.now ≢ name_of call }
-{
-    match name {
-        "check" => Some(Call::Job(Command::Check)),
-        "candidates" => Some(Call::Job(Command::Candidates)),
-        "tokens" => Some(Call::Job(Command::Tokens)),
-        "list" => Some(Call::Job(Command::List)),
-        "fill" => Some(Call::Job(Command::Fill)),
-        "verify" => Some(Call::Job(Command::Verify)),
-        "explain" => Some(Call::Job(Command::Explain)),
-        "hosts" => Some(Call::Job(Command::Hosts)),
-        "why" => Some(Call::Job(Command::Why)),
-        "session" => Some(Call::Session),
-        _ => None,
     }
 }
 
 // The command that was found, and its entries.
-fn find_command<'m, 'a>(matches: &'m ArgMatches<'a>) -> (Call, &'m ArgMatches<'a>)
-    requires { IsComplete (subcommand_rows_of matches.now) }
-    ensures { subcommand_rows_of matches.now
-        ≡ Some (name_of result.0, rows_of (found_of result.1.now)) }
+fn find_command<'m, 'a>(matches: &'m ArgMatches<'a>) -> Option<(Name, &'m ArgMatches<'a>)>
+    ensures { option_map (λ found. (found.0, rows_of (found_of found.1.now))) result
+        ≡ command_found (subcommand_rows_of matches.now) }
 {
-    if let Some((name, entries)) = matches.subcommand() {
-        if let Some(call) = call_named(name) {
-            return (call, entries);
-        }
-    }
-    unreachable!()
+    let (text, entries) = matches.subcommand()?;
+    let name = Name::read(text)?;
+    Some((name, entries))
 }
 
-// The words of a command with these entries.
-fn words_with(
+// The words of a command with these entries, of which this is called for.
+fn words_with<'a>(
     alloc: Global,
-    call: Call,
-    version: Version,
+    name: Name,
+    call: Call<'a>,
     entries: &ArgMatches<'_>,
-) -> Result<Words, AllocError>
-    requires needed { HasNeeded call (rows_of (found_of entries.now)) }
-    requires version { version_of (rows_of (found_of entries.now)) ≡ Some version }
-    requires tables { table_kinds (rows_of (found_of entries.now)) ≡ [] }
-    ensures { IfOk result (λ words. (words.call ≡ call)
-        × IsMadeOf (rows_of (found_of entries.now)) words) }
+) -> Result<Words<'a>, WordFault>
+    requires { call_of name (rows_of (found_of entries.now)) ≡ Some (call_shown call) }
+    ensures entries { IfOk result (IsMadeOf name (rows_of (found_of entries.now))) }
+    ensures ok { OnOk result (own_faults (Some (name, rows_of (found_of entries.now))) ≡ []) }
+    ensures fault { IfErr result (Tells (own_faults
+        (Some (name, rows_of (found_of entries.now))))) }
 {
+    let version = version(alloc, name, entries)?;
+    let paths = paths(alloc, name, entries)?;
+    let detail = is_set(entries, "detail");
     Ok(Words {
         call,
-        query: query(alloc, call, entries)?,
         version,
-        token: token(alloc, call, entries)?,
-        host: host(alloc, call, entries)?,
-        detail: detail(entries),
-        with_traits: with_traits(call, entries),
-        sum: sum(call, entries),
-        providers: needed_path(alloc, entries, Table::Providers)?,
-        inventories: needed_path(alloc, entries, Table::Inventories)?,
-        usages: path(alloc, entries, Table::Usages)?,
-        traits: path(alloc, entries, Table::Traits)?,
-        aggregates: path(alloc, entries, Table::Aggregates)?,
+        detail,
+        paths,
     })
 }
 
 // The words of the command that was found.
-pub(super) fn words_of(alloc: Global, matches: &ArgMatches<'_>) -> Result<Words, WordFault>
-    requires { IsComplete (subcommand_rows_of matches.now) }
-    ensures entries { IfOk result (Says (subcommand_rows_of matches.now)) }
-    ensures ok { OnOk result (own_faults (subcommand_rows_of matches.now) ≡ []) }
-    ensures fault { IfErr result (Tells (own_faults (subcommand_rows_of matches.now))) }
+pub(super) fn words_of<'a>(alloc: Global, matches: &ArgMatches<'a>) -> Result<Words<'a>, WordFault>
+    requires { is_complete (command_found (subcommand_rows_of matches.now)) ≡ true }
+    ensures entries { IfOk result (Says (command_found (subcommand_rows_of matches.now))) }
+    ensures ok { OnOk result (own_faults (command_found (subcommand_rows_of matches.now)) ≡ []) }
+    ensures fault { IfErr result (Tells (own_faults
+        (command_found (subcommand_rows_of matches.now)))) }
 {
-    let (call, entries) = find_command(matches);
-    let version = version(alloc, call, entries)?;
-    check_tables(alloc, call, entries)?;
-    Ok(words_with(alloc, call, version, entries)?)
+    if let Some((name, entries)) = find_command(matches) {
+        if let Some(call) = call(name, entries) {
+            return words_with(alloc, name, call, entries);
+        }
+    }
+    unreachable!()
 }

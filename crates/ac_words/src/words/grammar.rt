@@ -4,8 +4,8 @@ ghost use Rattle.clap.specs.Words.{app_of, rule_of};
 ghost use Rattle.clap.specs.declared.builder.command.Command.TheViews.{out-Command as fields_of};
 ghost use Rattle.ac_words.specs.Words.{app_for, candidates_app, check_app, explain_app, fill_app, flag_rule, hosts_app, list_app, option_rule, program, query_app, search_app, session_app, shown_app, tokens_app, verify_app, why_app, with_common, with_options, with_tables, word_rule};
 
-use super::{Call, help};
-use ac_run::Command as Asked;
+use super::help;
+use crate::name::Name;
 use clap::{Arg, ArgAction, Command};
 use std::alloc::{AllocError, Global};
 
@@ -351,20 +351,20 @@ fn session<'a>(alloc: Global) -> Result<Command<'a>, AllocError>
 }
 
 // A command by itself.
-pub(super) fn command<'a>(alloc: Global, call: Call) -> Result<Command<'a>, AllocError>
-    ensures { IfOk result (λ c. app_of c ≡ app_for call) }
+pub(super) fn command<'a>(alloc: Global, name: Name) -> Result<Command<'a>, AllocError>
+    ensures { IfOk result (λ c. app_of c ≡ app_for name) }
 {
-    match call {
-        Call::Job(Asked::Check) => check(alloc),
-        Call::Job(Asked::Candidates) => candidates(alloc),
-        Call::Job(Asked::Tokens) => tokens(alloc),
-        Call::Job(Asked::List) => list(alloc),
-        Call::Job(Asked::Fill) => fill(alloc),
-        Call::Job(Asked::Verify) => verify(alloc),
-        Call::Job(Asked::Explain) => explain(alloc),
-        Call::Job(Asked::Hosts) => hosts(alloc),
-        Call::Job(Asked::Why) => why(alloc),
-        Call::Session => session(alloc),
+    match name {
+        Name::Check => check(alloc),
+        Name::Candidates => candidates(alloc),
+        Name::Tokens => tokens(alloc),
+        Name::List => list(alloc),
+        Name::Fill => fill(alloc),
+        Name::Verify => verify(alloc),
+        Name::Explain => explain(alloc),
+        Name::Hosts => hosts(alloc),
+        Name::Why => why(alloc),
+        Name::Session => session(alloc),
     }
 }
 

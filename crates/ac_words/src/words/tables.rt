@@ -1,13 +1,14 @@
 //! How the tables are named: by the option of each, or by one folder.
-ghost use Rattle.std.specs.Prelude.{◌≡◌, ◌∷◌, IfErr, IfOk, OnOk, Some, [], is_some, option_map, string_bytes, true};
+ghost use Rattle.std.specs.Prelude.{◌≡◌, ◌∷◌, IfErr, IfOk, OnOk, Some, [], option_map, string_bytes};
 ghost use Rattle.std.specs.List.{list_any};
 ghost use Rattle.clap.specs.Words.{found_of, rows_of};
-ghost use Rattle.ac_words.specs.Words.{Tells, all_tables, has_option, path_given, table_kinds, table_name};
+ghost use Rattle.ac_words.specs.Words.{Tells, all_tables, has_option, option_of, path_in, paths_in, paths_kept, paths_of, paths_said, table_kinds};
 ghost use Rattle.clap.specs.declared.error.kind.ErrorKind.TheVariants.{ArgumentConflict, MissingRequiredArgument};
 
-use super::entries::{copy_entry, entry, refusal};
-use super::{Call, WordFault};
-use ac_tables::Table;
+use super::WordFault;
+use super::entries::{entry, refusal};
+use crate::name::Name;
+use ac_tables::{FiveTables, Table};
 use clap::ArgMatches;
 use clap::error::ErrorKind;
 use std::alloc::{AllocError, Global};
@@ -20,24 +21,19 @@ const ALL_TABLES: [Table; 5] = [
     Table::Aggregates,
 ];
 
-// The name of a table: that of its option, and of its file in a folder.
-fn table_name(table: Table) -> &'static str
-    ensures { result.now ≡ table_name table }
+// What the option of a table says, where it is given.
+fn option_of<'a>(entries: &ArgMatches<'a>, table: Table) -> Option<&'a str>
+    ensures { option_map (λ text. text.now) result
+        ≡ option_of (rows_of (found_of entries.now)) table }
 {
-    match table {
-        Table::Providers => "providers",
-        Table::Inventories => "inventories",
-        Table::Usages => "usages",
-        Table::Traits => "traits",
-        Table::Aggregates => "aggregates",
-    }
+    entry(entries, table.name())
 }
 
 // Whether the option of a table is given.
 fn has_option(entries: &ArgMatches<'_>, table: Table) -> bool
     ensures { result ≡ has_option (rows_of (found_of entries.now)) table }
 {
-    entry(entries, table_name(table)).is_some()
+    option_of(entries, table).is_some()
 }
 
 // Whether the option of some table is given.
@@ -57,7 +53,7 @@ fn option_lines(
     let mut lines = String::new(alloc);
     for table in tables {
         if has_option(entries, *table) == given {
-            let name = table_name(*table);
+            let name = table.name();
             write!(lines, "\n  --{name} <FILE>")?;
         }
     }
@@ -67,20 +63,20 @@ fn option_lines(
 // What the user is told of options beside the folder.
 fn options_beside_the_folder(
     alloc: Global,
-    call: Call,
+    name: Name,
     entries: &ArgMatches<'_>,
 ) -> Result<WordFault, AllocError>
     ensures { IfOk result (Tells (ArgumentConflict ∷ [])) }
 {
     let beside = option_lines(alloc, entries, &ALL_TABLES, true)?;
     let message = format!(in alloc; "the argument '--tables <DIR>' cannot be used with:{beside}")?;
-    refusal(alloc, call, ErrorKind::ArgumentConflict, message.as_str())
+    refusal(alloc, name, ErrorKind::ArgumentConflict, message.as_str())
 }
 
 // What the user is told of needed options that are missing.
 fn missing_options(
     alloc: Global,
-    call: Call,
+    name: Name,
     entries: &ArgMatches<'_>,
 ) -> Result<WordFault, AllocError>
     ensures { IfOk result (Tells (MissingRequiredArgument ∷ [])) }
@@ -92,59 +88,90 @@ fn missing_options(
     )?;
     refusal(
         alloc,
-        call,
+        name,
         ErrorKind::MissingRequiredArgument,
         message.as_str(),
     )
 }
 
-// Looks whether the tables are named as they should be: by their folder alone, or by options of which two are needed.
-pub(super) fn check_tables(
-    alloc: Global,
-    call: Call,
-    entries: &ArgMatches<'_>,
-) -> Result<(), WordFault>
-    ensures ok { OnOk result (table_kinds (rows_of (found_of entries.now)) ≡ []) }
-    ensures fault { IfErr result (Tells (table_kinds (rows_of (found_of entries.now)))) }
+// The path of a table's file in the folder.
+fn path_in(alloc: Global, folder: &str, table: Table) -> Result<String, AllocError>
+    ensures { IfOk result (λ path. string_bytes path ≡ path_in folder.now table) }
 {
-    if entry(entries, "tables").is_some() {
-        if has_some_option(entries) {
-            return Err(options_beside_the_folder(alloc, call, entries)?);
-        }
-    } else if !(has_option(entries, Table::Providers) && has_option(entries, Table::Inventories)) {
-        return Err(missing_options(alloc, call, entries)?);
-    }
-    Ok(())
+    let name = table.name();
+    Ok(format!(in alloc; "{folder}/{name}.csv")?)
 }
 
-// The path of a table, where one is given.
-pub(super) fn path(
+// The paths of all five.
+fn paths_in(alloc: Global, folder: &str) -> Result<FiveTables<String>, AllocError>
+    ensures { IfOk result (λ paths. paths_kept paths ≡ paths_in folder.now) }
+{
+    Ok(FiveTables {
+        providers: path_in(alloc, folder, Table::Providers)?,
+        inventories: path_in(alloc, folder, Table::Inventories)?,
+        usages: Some(path_in(alloc, folder, Table::Usages)?),
+        traits: Some(path_in(alloc, folder, Table::Traits)?),
+        aggregates: Some(path_in(alloc, folder, Table::Aggregates)?),
+    })
+}
+
+// A copy of what the option of a table says, where it is given.
+fn copied_option(
     alloc: Global,
     entries: &ArgMatches<'_>,
     table: Table,
 ) -> Result<Option<String>, AllocError>
-    ensures { IfOk result (λ path. path_given (rows_of (found_of entries.now)) table
-        ≡ option_map string_bytes path) }
+    ensures { IfOk result (λ copy. option_map string_bytes copy
+        ≡ option_of (rows_of (found_of entries.now)) table) }
 {
-    let name = table_name(table);
-    match entry(entries, "tables") {
-        Some(folder) => Ok(Some(format!(in alloc; "{folder}/{name}.csv")?)),
-        None => copy_entry(alloc, entries, name),
+    match option_of(entries, table) {
+        Some(text) => Ok(Some(String::from_str(alloc, text)?)),
+        None => Ok(None),
     }
 }
 
-// The path of a table that has to have one.
-pub(super) fn needed_path(
+// The paths that the options say, with these two.
+fn paths_said(
     alloc: Global,
     entries: &ArgMatches<'_>,
-    table: Table,
-) -> Result<String, AllocError>
-    requires { is_some (path_given (rows_of (found_of entries.now)) table) ≡ true }
-    ensures { IfOk result (λ path. path_given (rows_of (found_of entries.now)) table
-        ≡ Some (string_bytes path)) }
+    providers: &str,
+    inventories: &str,
+) -> Result<FiveTables<String>, AllocError>
+    ensures { IfOk result (λ paths. paths_kept paths
+        ≡ paths_said (rows_of (found_of entries.now)) providers.now inventories.now) }
 {
-    match path(alloc, entries, table)? {
-        Some(path) => Ok(path),
-        None => unreachable!(),
+    Ok(FiveTables {
+        providers: String::from_str(alloc, providers)?,
+        inventories: String::from_str(alloc, inventories)?,
+        usages: copied_option(alloc, entries, Table::Usages)?,
+        traits: copied_option(alloc, entries, Table::Traits)?,
+        aggregates: copied_option(alloc, entries, Table::Aggregates)?,
+    })
+}
+
+// The paths of the tables, where they are named as they should be: by their folder alone, or by options of which two are needed.
+pub(super) fn paths(
+    alloc: Global,
+    name: Name,
+    entries: &ArgMatches<'_>,
+) -> Result<FiveTables<String>, WordFault>
+    ensures paths { IfOk result (λ paths. paths_of (rows_of (found_of entries.now))
+        ≡ Some (paths_kept paths)) }
+    ensures ok { OnOk result (table_kinds (rows_of (found_of entries.now)) ≡ []) }
+    ensures fault { IfErr result (Tells (table_kinds (rows_of (found_of entries.now)))) }
+{
+    if let Some(folder) = entry(entries, "tables") {
+        if has_some_option(entries) {
+            return Err(options_beside_the_folder(alloc, name, entries)?);
+        }
+        return Ok(paths_in(alloc, folder)?);
+    }
+    let providers = option_of(entries, Table::Providers);
+    let inventories = option_of(entries, Table::Inventories);
+    match (providers, inventories) {
+        (Some(providers), Some(inventories)) => {
+            Ok(paths_said(alloc, entries, providers, inventories)?)
+        }
+        _ => Err(missing_options(alloc, name, entries)?),
     }
 }

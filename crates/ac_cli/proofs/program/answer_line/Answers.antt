@@ -1,20 +1,17 @@
-use Rattle.std.proofs.Common.{inr}
-use Rattle.ac_run.specs.Jobs.{task_of}
-use Rattle.ac_cli.proofs.RanTasks.{held_session, ran_job, same_task}
+use Rattle.std.proofs.Common.{◌∙◌, ap, inr}
+use Rattle.ac_run.specs.Tasks.{task_of}
+use Rattle.ac_words.specs.Words.{task_in}
+use Rattle.ac_cli.proofs.RanTasks.{held_call, ran_call}
 use Rattle.ac_cli.proofs.program.answer_line.Goals as goal
 
 pub returns-in-Some : goal.returns-in-Some
 returns-in-Some g c =
-    let asks = c.in-Some.ensures in
     inr (record {
       from = c.in-Ok.inputs;
       to = c.ran_job.new.inputs;
-      files = c.in-Ok.ensures.files;
-      paths = c.paths_of-paths.result;
-      given = c.paths_of-paths.ensures;
-      ran = ran_job _ _ _ _ c.args.words.now c.paths_of-paths.result c.in-Ok.inputs c.ran_job.new.inputs c.args.questions _ _ c.in-Some.job.command c.in-Some.job.detail
-          (task_of c.in-Some.job) asks.command asks.detail
-          (same_task asks.query asks.version asks.token asks.host asks.detail asks.traits asks.sum) c.ran_job.ensures;
+      files = rw (← c.paths-paths.ensures) c.in-Ok.ensures.files;
+      ran = ran_call _ _ _ _ c.args.words.now c.in-Ok.inputs c.ran_job.new.inputs c.args.questions _ _ (task_of c.in-Some.job)
+          (c.in-Some.ensures ∙ ap (task_in c.args.words.now) c.detail_of-detail.ensures) c.ran_job.ensures;
     })
 
 pub returns-in-None : goal.returns-in-None
@@ -22,8 +19,7 @@ returns-in-None g c =
     inr (record {
       from = c.in-Ok.inputs;
       to = c.held.new.inputs;
-      files = c.in-Ok.ensures.files;
-      paths = c.paths_of-paths.result;
-      given = c.paths_of-paths.ensures;
-      ran = held_session _ _ _ _ c.args.words.now c.paths_of-paths.result c.in-Ok.inputs c.held.new.inputs c.args.questions _ _ c.in-None.ensures.none c.held.ensures;
+      files = rw (← c.paths-paths.ensures) c.in-Ok.ensures.files;
+      ran = held_call _ _ _ _ c.args.words.now c.in-Ok.inputs c.held.new.inputs c.args.questions _ _ _ _
+          (c.in-None.ensures ∙ ap (task_in c.args.words.now) c.detail_of-detail.ensures) c.detail_of-detail.ensures c.version.ensures c.held.ensures;
     })

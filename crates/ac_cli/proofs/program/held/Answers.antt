@@ -1,32 +1,11 @@
-use Rattle.std.proofs.Common.{◌∙◌, refl, sym}
+use Rattle.std.proofs.Common.{◌∙◌, refl}
 use Rattle.ac_session.specs.Reading.{feed_in}
-use Rattle.ac_cli.proofs.RanTasks.{held_none}
+use Rattle.ac_cli.proofs.RanTasks.{none_held}
 use Rattle.ac_cli.proofs.program.held.Goals as goal
 
-pub returns-in_default : goal.returns-in_default
-returns-in_default g c =
-    held_none g.F.Feed.remaining g.F.Feed.failures g.Q.Feed.remaining g.Q.Feed.failures c.args.words.now.version c.args.paths.now c.args.inputs.now c.args.questions _
-    c.tell.result c.tell.ensures.status c.tell.ensures.line refl c.args.words.now.detail
-
-pub returns-then-detail : goal.returns-then-detail
-returns-then-detail g c =
-    let said = c.run_session_detailed.ensures in
-    rw (sym c.detail.ensures ∙ c.if-detail.true, ← c.version-version.ensures) (
-      feed_in c.run_session_detailed.new.lines,
-      record {
-        written = λ zero b tell q known few. said.written zero b tell q (c.in-Ok.ensures.left ∙ known) few;
-        unread = λ three. rw (← c.in-Ok.ensures.feed) (said.unread three);
-        output = said.output;
-        memory = said.memory;
-        part = λ b tell q known few. said.part b tell q (c.in-Ok.ensures.left ∙ known) few;
-        status = said.status;
-      },
-    )
-
-pub returns : goal.returns
-returns g c =
-    let said = c.run_session.ensures in
-    rw (sym c.detail.ensures ∙ c.if-detail.false, ← c.version-version.ensures) (
+pub returns-in-Ok : goal.returns-in-Ok
+returns-in-Ok g c =
+    let said = c.run_session.ensures in (
       feed_in c.run_session.new.lines,
       record {
         written = λ zero b tell q known few. said.written zero b tell q (c.in-Ok.ensures.left ∙ known) few;
@@ -35,5 +14,13 @@ returns g c =
         memory = said.memory;
         part = λ b tell q known few. said.part b tell q (c.in-Ok.ensures.left ∙ known) few;
         status = said.status;
+        failures = said.err_failures;
       },
     )
+
+pub returns : goal.returns
+returns g c = (
+  c.args.questions,
+  none_held g.F.Feed.remaining c.args.inputs.now _ _ (c.tell.ensures.status ∙ c.of.ensures.status) (rw (← c.of.ensures.line) c.tell.ensures.line) refl c.tell.ensures.failures
+      g.Q.Feed.remaining g.Q.Feed.failures c.args.questions _ _,
+)

@@ -25,8 +25,8 @@ lists-init g c =
       chosen = chosen_whole all asked (g.S.Source.left c.args.source.now) c.requires.whole;
       ahead = λ _. subst (λ (w : List Provider). AreAhead w asked (g.S.Source.left c.args.source.now)) (sym nothing) (ahead_whole all asked (g.S.Source.left c.args.source.now) c.requires.whole);
       small = omega arith;
-      goes = λ r end last ends.
-          subst (λ (s : Stand). Ends all asked s r (g.W.Sink.taken c.args.out.now) end (g.W.Sink.failures c.args.out.now) last)
+      goes = λ r end ends.
+          subst (λ (s : Stand). Ends g.W.Sink.taken g.W.Sink.failures all asked s c.args.out.now end r)
           (ap (λ (w : List Provider). record { wanted = c.limit.result; world = w; count = 0 }) nothing ∙ ap (λ (l : Option ℕ). record { wanted = l; world = all; count = 0 }) c.limit.ensures) ends;
     }
 
@@ -36,7 +36,7 @@ returns-in-None g c =
     let asked = asked_of c.args.query.now in
     let s = stand_of all c.lists.filling in
     let none = ahead_none s.world asked (g.S.Source.left c.lists.source) c.in-None.ensures.head (c.lists.invariant.ahead (λ e. let over = c.is_over.ensures.1 e in cc)) in
-    let done = c.lists.invariant.goes _ _ _ (ends_none all asked s c.lists.filling.filled _ _ (filled_none s.wanted s.world asked none) refl c.lists.invariant.small refl c.lists.invariant.fits) in record { ends = done }
+    let done = c.lists.invariant.goes _ _ (ends_none all asked s c.lists.filling.filled _ (filled_none s.wanted s.world asked none) refl c.lists.invariant.small refl c.lists.invariant.fits) in record { ends = done }
 
 pub invariant_of-assignment : goal.invariant_of-assignment
 invariant_of-assignment g c =
@@ -77,7 +77,7 @@ lists-preserved g c =
       chosen = all_tail (IsChosen all asked) (left c.lists.source) c.lists.invariant.chosen;
       ahead = places.ahead;
       small = c.in_ok-place-in-Some.ensures.small;
-      goes = λ r end last ends. c.lists.invariant.goes r end last (places.goes r end last ends);
+      goes = λ r end ends. c.lists.invariant.goes r end (places.goes r end ends);
     })
 
 pub returns : goal.returns
@@ -85,7 +85,7 @@ returns g c =
     let all = providers_of c.args.cloud.now in
     let asked = asked_of c.args.query.now in
     let s = stand_of all c.lists.filling in
-    let done = c.lists.invariant.goes _ _ _ (ends_none all asked s c.lists.filling.filled _ _ (filled_over s.wanted s.world asked (c.is_over.ensures.0 c.lists-test.false)) refl c.lists.invariant.small refl c.lists.invariant.fits) in record { ends = done }
+    let done = c.lists.invariant.goes _ _ (ends_none all asked s c.lists.filling.filled _ (filled_over s.wanted s.world asked (c.is_over.ensures.0 c.lists-test.false)) refl c.lists.invariant.small refl c.lists.invariant.fits) in record { ends = done }
 
 pub returns-in_err-place-in-Some : goal.returns-in_err-place-in-Some
 returns-in_err-place-in-Some g c =
@@ -98,4 +98,4 @@ returns-in_err-place-in-Some g c =
     let ahead : AreAhead (world_at all c.lists.filling) asked (x ∷ tail_of (left c.lists.source)) = subst (AreAhead (world_at all c.lists.filling) asked) next.first (c.lists.invariant.ahead wants) in
     let placed = rw c.lists.invariant.query at c.in_err-place-in-Some.ensures.places (tail_of (left c.lists.source)) in
     let places = placed ahead in
-    record { ends = ends_err all asked (start_of all asked) _ _ _ _ _ _ c.from_residual-in_err-place-in-Some.ensures.1 (c.lists.invariant.goes (Err _) _ _ places.stops) }
+    record { ends = ends_err all asked c.from_residual-in_err-place-in-Some.ensures.1 (c.lists.invariant.goes (Err _) _ places.stops) }

@@ -1,4 +1,4 @@
-use Rattle.std.proofs.Common.{◌≡◌, ◌≤◌, ℕ, List, Option, Some, Result, length}
+use Rattle.std.proofs.Common.{◌≡◌, ◌≤◌, Some, Result, length}
 use Rattle.std.specs.List.{All}
 use Rattle.ac_cloud.specs.Cloud.CloudWorld.{providers_of}
 use Rattle.ac_query.specs.Shown.Queries.{asked_of}
@@ -21,8 +21,8 @@ invariant-lists g l =
       chosen : All (IsChosen all asked) left;
       ahead : (l.filling.wanted ≡ Some 0 → ⊥) → AreAhead (world_at all l.filling) asked left;
       small : count_at l.filling ≤ 4294967295;
-      goes : (r : Result Filled PageFault) (end : Option (List ℕ)) (last : ℕ) → Ends all asked (stand_of all l.filling) r (g.W.Sink.taken l.out) end (g.W.Sink.failures l.out) last
-          → Ends all asked (start_of all asked) r (g.W.Sink.taken l.fn.out) end (g.W.Sink.failures l.fn.out) last;
+      goes : (r : Result Filled PageFault) (end : g.row.W.Denot) → Ends g.W.Sink.taken g.W.Sink.failures all asked (stand_of all l.filling) l.out end r
+          → Ends g.W.Sink.taken g.W.Sink.failures all asked (start_of all asked) l.fn.out end r;
     }
 
 abbrev pub decreases-lists : goal.decreases-lists

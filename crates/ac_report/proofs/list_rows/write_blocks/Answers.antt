@@ -20,7 +20,7 @@ returns-in-None-clause-reads g c = c.lists.invariant.reads _ _ (read_end _ _ _ _
 pub returns-in-None-clause-writes : goal.returns-in-None-clause-writes
 returns-in-None-clause-writes g c =
     let all = shown_providers c.args.traits (providers_of c.args.cloud.now) in
-    c.lists.invariant.writes _ _ _ (wrote_none _ _ _ _ _ (ap (blocks all (asked_of c.args.query.now) (next_number c.lists.count)) (cut_end _ _ c.in-None.ensures.head)))
+    c.lists.invariant.writes _ _ (wrote_none _ _ _ _ (ap (blocks all (asked_of c.args.query.now) (next_number c.lists.count)) (cut_end _ _ c.in-None.ensures.head)))
 
 pub returns-in_err-text-in-Some-clause-reads : goal.returns-in_err-text-in-Some-clause-reads
 returns-in_err-text-in-Some-clause-reads g c =
@@ -28,7 +28,7 @@ returns-in_err-text-in-Some-clause-reads g c =
     c.lists.invariant.reads _ _ (read_last _ _ _ _ _ next c.next.follows.holds-at-none.0 _ _ c.from_residual.ensures.1)
 
 pub returns-in_err-text-in-Some-clause-writes : goal.returns-in_err-text-in-Some-clause-writes
-returns-in_err-text-in-Some-clause-writes g c = c.lists.invariant.writes _ _ _ (refused _ _ _ _ _ c.from_residual.ensures.1)
+returns-in_err-text-in-Some-clause-writes g c = c.lists.invariant.writes _ _ (refused _ _ _ _ _ c.from_residual.ensures.1)
 
 pub returns-in_err-push_piece-clause-reads : goal.returns-in_err-push_piece-clause-reads
 returns-in_err-push_piece-clause-reads g c =
@@ -43,8 +43,8 @@ returns-in_err-push_piece-clause-writes g c =
     let next = is_next c.lists.wanted (g.S.Source.left c.lists.source) x (λ e. let over = c.is_over.ensures.1 e in cc) c.in-Some.ensures.head in
     let block = block_text all asked (next_number c.lists.count) x in
     let told : c.deref.result.now ≡ block = c.deref.ensures.value ∙ (c.in_ok-text-in-Some.ensures ∙ ap (λ (n : ℕ). block_text all asked n x) c.saturating_add-number.ensures) in
-    c.lists.invariant.writes _ _ _
-    (rw next.cut_next (stopped (λ t. t) (block ∷ []) _ _ _ _ _ _ _ (c.in_err-push_piece.ensures (λ t. t) block (sym told)) c.from_residual-in_err-push_piece.ensures.1))
+    c.lists.invariant.writes _ _
+    (rw next.cut_next (stopped (λ t. t) (block ∷ []) _ (c.in_err-push_piece.ensures (λ t. t) block (sym told)) c.from_residual-in_err-push_piece.ensures.1))
 
 pub lists-preserved : goal.lists-preserved
 lists-preserved g c =
@@ -61,8 +61,8 @@ lists-preserved g c =
       assigned = all_tail (IsAssignment (providers_of c.args.cloud.now) asked) _ c.lists.invariant.assigned;
       small = omega arith;
       reads = λ r new h. c.lists.invariant.reads r new (read_on _ _ _ _ x next refl r new h);
-      writes = λ r new after h. c.lists.invariant.writes r new after
-          (rw next.cut_next (wrote_on (λ t. t) (block ∷ []) _ _ _ _ _ _ r new after (c.in_ok-push_piece.ensures (λ t. t) block (sym told)) h));
+      writes = λ r new h. c.lists.invariant.writes r new
+          (rw next.cut_next (wrote_on (λ t. t) (block ∷ []) (c.in_ok-push_piece.ensures (λ t. t) block (sym told)) h));
     })
 
 pub returns-clause-reads : goal.returns-clause-reads
@@ -71,4 +71,4 @@ returns-clause-reads g c = c.lists.invariant.reads _ _ (read_over _ _ _ (c.is_ov
 pub returns-clause-writes : goal.returns-clause-writes
 returns-clause-writes g c =
     let all = shown_providers c.args.traits (providers_of c.args.cloud.now) in
-    c.lists.invariant.writes _ _ _ (wrote_none _ _ _ _ _ (ap (blocks all (asked_of c.args.query.now) (next_number c.lists.count)) (cut_over _ _ (c.is_over.ensures.0 c.lists-test.false))))
+    c.lists.invariant.writes _ _ (wrote_none _ _ _ _ (ap (blocks all (asked_of c.args.query.now) (next_number c.lists.count)) (cut_over _ _ (c.is_over.ensures.0 c.lists-test.false))))

@@ -1,10 +1,10 @@
-use Rattle.std.proofs.Common.{◌≤◌, ℕ, List, Option, Result, length}
+use Rattle.std.proofs.Common.{◌≤◌, ℕ, List, Result, length}
 use Rattle.std.specs.List.{All}
 use Rattle.ac_query.specs.Shown.Queries.{asked_of}
 use Rattle.ac_rules.specs.Pages.{cut}
 use Rattle.ac_cloud.specs.Cloud.CloudWorld.{providers_of}
 use Rattle.ac_report.specs.declared.fault.PageFault.{PageFault}
-use Rattle.ac_report.specs.Outcomes.{Reads, Writes}
+use Rattle.ac_report.specs.Outcomes.{Reads, WritesEach}
 use Rattle.ac_report.specs.Pages.{IsAssignment}
 use Rattle.ac_report.specs.ListRows.{blocks, next_number}
 use Rattle.ac_report.specs.Texts.{shown_providers}
@@ -21,9 +21,9 @@ invariant-lists g l =
       assigned : All (IsAssignment (providers_of l.cloud) (asked_of l.query)) (left l.source);
       small : l.count ≤ 4294967295;
       reads : (r : Result ℕ PageFault) (new : List (List ℕ)) → Reads l.wanted l.count r (left l.source) new → Reads limit 0 r (left l.fn.source) new;
-      writes : (r : Result ℕ PageFault) (new : Option (List ℕ)) (after : ℕ)
-          → Writes (λ text. text) (blocks (shown_providers l.traits (providers_of l.cloud)) (asked_of l.query) (next_number l.count) (cut l.wanted (left l.source))) r (taken l.out) new (failures l.out) after
-          → Writes (λ text. text) (blocks (shown_providers l.traits (providers_of l.cloud)) (asked_of l.query) 1 (cut limit (left l.fn.source))) r (taken l.fn.out) new (failures l.fn.out) after;
+      writes : (r : Result ℕ PageFault) (new : g.row.W.Denot)
+          → WritesEach taken failures l.out new r (λ text. text) (blocks (shown_providers l.traits (providers_of l.cloud)) (asked_of l.query) (next_number l.count) (cut l.wanted (left l.source)))
+          → WritesEach taken failures l.fn.out new r (λ text. text) (blocks (shown_providers l.traits (providers_of l.cloud)) (asked_of l.query) 1 (cut limit (left l.fn.source)));
     }
 
 abbrev pub decreases-lists : goal.decreases-lists

@@ -21,7 +21,7 @@ pub returns-in-None-clause-reads : goal.returns-in-None-clause-reads
 returns-in-None-clause-reads g c = c.lists.invariant.reads _ _ (read_end _ _ _ _ c.in-None.ensures.head c.next.follows.holds-at-none.0 c.lists.invariant.small)
 
 pub returns-in-None-clause-writes : goal.returns-in-None-clause-writes
-returns-in-None-clause-writes g c = c.lists.invariant.writes _ _ _ (wrote_none _ _ _ _ _ (ap (requests (providers_of c.args.cloud.now) (asked_of c.args.query.now) c.lists.later) (cut_end _ _ c.in-None.ensures.head)))
+returns-in-None-clause-writes g c = c.lists.invariant.writes _ _ (wrote_none _ _ _ _ (ap (requests (providers_of c.args.cloud.now) (asked_of c.args.query.now) c.lists.later) (cut_end _ _ c.in-None.ensures.head)))
 
 pub returns-in-None-clause-marks : goal.returns-in-None-clause-marks
 returns-in-None-clause-marks g c =
@@ -39,7 +39,7 @@ returns-in_err-text-in-Some-clause-reads g c =
     c.lists.invariant.reads _ _ (read_last _ _ _ _ _ next c.next.follows.holds-at-none.0 _ _ c.from_residual.ensures.1)
 
 pub returns-in_err-text-in-Some-clause-writes : goal.returns-in_err-text-in-Some-clause-writes
-returns-in_err-text-in-Some-clause-writes g c = c.lists.invariant.writes _ _ _ (refused _ _ _ _ _ c.from_residual.ensures.1)
+returns-in_err-text-in-Some-clause-writes g c = c.lists.invariant.writes _ _ (refused _ _ _ _ _ c.from_residual.ensures.1)
 
 pub returns-in_err-push_listed-clause-reads : goal.returns-in_err-push_listed-clause-reads
 returns-in_err-push_listed-clause-reads g c =
@@ -52,7 +52,7 @@ returns-in_err-push_listed-clause-writes g c =
     let next = is_next c.lists.wanted (g.S.Source.left c.lists.source) x (λ e. let over = c.is_over.ensures.1 e in cc) c.in-Some.ensures.head in
     let text = request_text (providers_of c.args.cloud.now) (asked_of c.args.query.now) x in
     let told : c.as_bytes.result.now ≡ text = c.as_bytes.ensures.value ∙ c.in_ok-text-in-Some.ensures in
-    c.lists.invariant.writes _ _ _ (rw next.cut_next (stopped (λ t. t) ((comma_if c.lists.later ++ text) ∷ []) _ _ _ _ _ _ _ (rw told at c.in_err-push_listed.ensures) c.from_residual-in_err-push_listed.ensures.1))
+    c.lists.invariant.writes _ _ (rw next.cut_next (stopped (λ t. t) ((comma_if c.lists.later ++ text) ∷ []) _ (rw told at c.in_err-push_listed.ensures) c.from_residual-in_err-push_listed.ensures.1))
 
 pub lists-preserved : goal.lists-preserved
 lists-preserved g c =
@@ -70,12 +70,12 @@ lists-preserved g c =
       marked = λ r low. marks_step (meets_root all (id_at all r)) _ _ x _ (get_or c.lists.marks r false) _ next.cut_next (c.lists.invariant.marked r low) (c.mark_roots.ensures.marked r (omega (arith, low, c.lists.invariant.long)));
       small = omega arith;
       reads = λ r new h. c.lists.invariant.reads r new (read_on _ _ _ _ x next refl r new h);
-      writes = λ r new after h. c.lists.invariant.writes r new after
-          (rw next.cut_next (wrote_on (λ t. t) ((comma_if c.lists.later ++ text) ∷ []) _ _ _ _ _ _ r new after (rw told at c.in_ok-push_listed.ensures) h));
+      writes = λ r new h. c.lists.invariant.writes r new
+          (rw next.cut_next (wrote_on (λ t. t) ((comma_if c.lists.later ++ text) ∷ []) (rw told at c.in_ok-push_listed.ensures) h));
     })
 
 pub returns-clause-reads : goal.returns-clause-reads
 returns-clause-reads g c = c.lists.invariant.reads _ _ (read_over _ _ _ (c.is_over.ensures.0 c.lists-test.false) c.lists.invariant.small)
 
 pub returns-clause-writes : goal.returns-clause-writes
-returns-clause-writes g c = c.lists.invariant.writes _ _ _ (wrote_none _ _ _ _ _ (ap (requests (providers_of c.args.cloud.now) (asked_of c.args.query.now) c.lists.later) (cut_over _ _ (c.is_over.ensures.0 c.lists-test.false))))
+returns-clause-writes g c = c.lists.invariant.writes _ _ (wrote_none _ _ _ _ (ap (requests (providers_of c.args.cloud.now) (asked_of c.args.query.now) c.lists.later) (cut_over _ _ (c.is_over.ensures.0 c.lists-test.false))))

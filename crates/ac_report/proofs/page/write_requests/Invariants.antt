@@ -1,4 +1,4 @@
-use Rattle.std.proofs.Common.{◌≡◌, ◌<◌, ◌≤◌, ◌||◌, ℕ, List, Option, Result, false, get_or, length}
+use Rattle.std.proofs.Common.{◌≡◌, ◌<◌, ◌≤◌, ◌||◌, ℕ, List, Result, false, get_or, length}
 use Rattle.std.specs.List.{All, list_any}
 use Rattle.ac_query.specs.Shown.Queries.{asked_of}
 use Rattle.ac_rules.specs.Pages.{cut}
@@ -6,7 +6,7 @@ use Rattle.ac_cloud.specs.Cloud.CloudWorld.{providers_of}
 use Rattle.ac_cloud.specs.World.{id_at}
 use Rattle.ac_report.specs.declared.fault.PageFault.{PageFault}
 use Rattle.ac_report.specs.Marks.{requests}
-use Rattle.ac_report.specs.Outcomes.{Reads, Writes}
+use Rattle.ac_report.specs.Outcomes.{Reads, WritesEach}
 use Rattle.ac_report.specs.Pages.{IsAssignment}
 use Rattle.ac_report.specs.Texts.{meets_root}
 use Rattle.ac_report.proofs.page.write_requests.Given as goal
@@ -26,8 +26,9 @@ invariant-lists g l =
           → list_any (meets_root all (id_at all r)) (cut asked.limit (left l.fn.source)) ≡ (get_or l.marks r false || list_any (meets_root all (id_at all r)) (cut l.wanted (left l.source)));
       small : l.count ≤ 4294967295;
       reads : (r : Result ℕ PageFault) (new : List (List ℕ)) → Reads l.wanted l.count r (left l.source) new → Reads asked.limit 0 r (left l.fn.source) new;
-      writes : (r : Result ℕ PageFault) (new : Option (List ℕ)) (after : ℕ) → Writes (λ text. text) (requests all asked l.later (cut l.wanted (left l.source))) r (taken l.out) new (failures l.out) after
-          → Writes (λ text. text) (requests all asked false (cut asked.limit (left l.fn.source))) r (taken l.fn.out) new (failures l.fn.out) after;
+      writes : (r : Result ℕ PageFault) (new : g.row.W.Denot)
+          → WritesEach taken failures l.out new r (λ text. text) (requests all asked l.later (cut l.wanted (left l.source)))
+          → WritesEach taken failures l.fn.out new r (λ text. text) (requests all asked false (cut asked.limit (left l.fn.source)));
     }
 
 abbrev pub decreases-lists : goal.decreases-lists

@@ -1,5 +1,5 @@
 //! Where the running service may answer otherwise, told without memory: a line for each difference that may concern a query.
-ghost use Rattle.std.specs.Prelude.{◌≡◌, ◌≤◌, if◌then◌else◌, []};
+ghost use Rattle.std.specs.Prelude.{◌≡◌, if◌then◌else◌, []};
 ghost use Rattle.ac_cloud.specs.Cloud.CloudWorld.{providers_of};
 ghost use Rattle.ac_query.specs.Shown.Queries.{asked_of};
 ghost use Rattle.ac_differences.specs.Differing.{applies};
@@ -37,10 +37,7 @@ fn heading(difference: Difference) -> &'static [u8]
 // The line of a difference.
 #[tactic(auto, unfolding(crate::specs::Findings::Explanation::Differing::differs_line))]
 fn push_line<W: Sink>(out: &mut W, difference: Difference) -> Result<(), WriteFailed>
-    ensures text { Pushes result (W.taken out.old) (W.taken out.new)
-        (W.failures out.old) (W.failures out.new)
-        (differs_line difference) }
-    ensures failures { W.failures out.old ≤ W.failures out.new }
+    ensures { Pushes W.taken W.failures out.old out.new result (differs_line difference) }
 {
     push_pieces(
         out,
@@ -59,11 +56,9 @@ fn push_if_applies<W: Sink>(
     query: &Query,
     difference: Difference,
 ) -> Result<(), WriteFailed>
-    ensures text { Pushes result (W.taken out.old) (W.taken out.new)
-        (W.failures out.old) (W.failures out.new)
+    ensures { Pushes W.taken W.failures out.old out.new result
         (if applies (providers_of cloud.now) (asked_of query.now) difference
         then differs_line difference else []) }
-    ensures failures { W.failures out.old ≤ W.failures out.new }
 {
     if applies(cloud, query, difference) {
         push_line(out, difference)?;
@@ -77,10 +72,8 @@ pub(crate) fn push_differences<W: Sink>(
     cloud: &Cloud,
     query: &Query,
 ) -> Result<(), WriteFailed>
-    ensures text { Pushes result (W.taken out.old) (W.taken out.new)
-        (W.failures out.old) (W.failures out.new)
+    ensures { Pushes W.taken W.failures out.old out.new result
         (differs_lines (providers_of cloud.now) (asked_of query.now)) }
-    ensures failures { W.failures out.old ≤ W.failures out.new }
 {
     for difference in all_differences() {
         push_if_applies(out, cloud, query, *difference)?;

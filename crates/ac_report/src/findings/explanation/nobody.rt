@@ -1,5 +1,5 @@
 //! What nobody has of what a query asks for: a line each, pushed without memory.
-ghost use Rattle.std.specs.Prelude.{◌≡◌, ◌≤◌, map};
+ghost use Rattle.std.specs.Prelude.{◌≡◌, map};
 ghost use Rattle.std.specs.List.{flat_map};
 ghost use Rattle.ac_base.specs.Names.{trait_bytes};
 ghost use Rattle.ac_base.specs.Texts.{id_text};
@@ -22,20 +22,15 @@ use ac_query::{AggregateRule, AnyOf, Group, Need, Query};
 // A line of a name.
 #[tactic(auto, unfolding(crate::specs::Findings::Explanation::Nobody::line_of))]
 fn push_line<W: Sink>(out: &mut W, front: &[u8], name: &[u8]) -> Result<(), WriteFailed>
-    ensures text { Pushes result (W.taken out.old) (W.taken out.new)
-        (W.failures out.old) (W.failures out.new)
-        (line_of front.now name.now) }
-    ensures failures { W.failures out.old ≤ W.failures out.new }
+    ensures { Pushes W.taken W.failures out.old out.new result (line_of front.now name.now) }
 {
     push_pieces(out, &[front, name, b"\n"])
 }
 
 // The line of a class that nobody has.
 fn push_class<W: Sink>(out: &mut W, cloud: &Cloud, need: &Need) -> Result<(), WriteFailed>
-    ensures text { Pushes result (W.taken out.old) (W.taken out.new)
-        (W.failures out.old) (W.failures out.new)
+    ensures { Pushes W.taken W.failures out.old out.new result
         (class_missed (providers_of cloud.now) (need_entry need.now).0) }
-    ensures failures { W.failures out.old ≤ W.failures out.new }
 {
     if somebody_has_class(cloud, need.class()) {
         return Ok(());
@@ -46,11 +41,9 @@ fn push_class<W: Sink>(out: &mut W, cloud: &Cloud, need: &Need) -> Result<(), Wr
 // The classes that nobody has.
 #[tactic(auto, using(crate::proofs::FoundTexts::ItemsWritten::item_stopped))]
 fn push_classes<W: Sink>(out: &mut W, cloud: &Cloud, needs: &[Need]) -> Result<(), WriteFailed>
-    ensures text { Pushes result (W.taken out.old) (W.taken out.new)
-        (W.failures out.old) (W.failures out.new)
+    ensures { Pushes W.taken W.failures out.old out.new result
         (flat_map (λ need. class_missed (providers_of cloud.now) need.0)
         (map need_entry needs.now)) }
-    ensures failures { W.failures out.old ≤ W.failures out.new }
 {
     for need in needs {
         push_class(out, cloud, need)?;
@@ -60,10 +53,8 @@ fn push_classes<W: Sink>(out: &mut W, cloud: &Cloud, needs: &[Need]) -> Result<(
 
 // The line of a trait that nobody has.
 fn push_trait<W: Sink>(out: &mut W, cloud: &Cloud, name: &TraitName) -> Result<(), WriteFailed>
-    ensures text { Pushes result (W.taken out.old) (W.taken out.new)
-        (W.failures out.old) (W.failures out.new)
+    ensures { Pushes W.taken W.failures out.old out.new result
         (trait_missed (providers_of cloud.now) (trait_bytes name.now)) }
-    ensures failures { W.failures out.old ≤ W.failures out.new }
 {
     if somebody_has_trait(cloud, name) {
         return Ok(());
@@ -74,11 +65,9 @@ fn push_trait<W: Sink>(out: &mut W, cloud: &Cloud, name: &TraitName) -> Result<(
 // The traits that nobody has.
 #[tactic(auto, using(crate::proofs::FoundTexts::ItemsWritten::item_stopped))]
 fn push_traits<W: Sink>(out: &mut W, cloud: &Cloud, names: &[TraitName]) -> Result<(), WriteFailed>
-    ensures text { Pushes result (W.taken out.old) (W.taken out.new)
-        (W.failures out.old) (W.failures out.new)
+    ensures { Pushes W.taken W.failures out.old out.new result
         (flat_map (λ name. trait_missed (providers_of cloud.now) name)
         (map trait_bytes names.now)) }
-    ensures failures { W.failures out.old ≤ W.failures out.new }
 {
     for name in names {
         push_trait(out, cloud, name)?;
@@ -89,10 +78,8 @@ fn push_traits<W: Sink>(out: &mut W, cloud: &Cloud, names: &[TraitName]) -> Resu
 // Traits: the first behind a mark, each further one behind a comma.
 #[tactic(auto, using(crate::proofs::FoundTexts::ItemsWritten::item_turn, crate::proofs::FoundTexts::ItemsWritten::listed_stopped, crate::proofs::FoundTexts::ItemsWritten::listed_written))]
 fn push_names<W: Sink>(out: &mut W, mark: &[u8], names: &[TraitName]) -> Result<(), WriteFailed>
-    ensures text { Pushes result (W.taken out.old) (W.taken out.new)
-        (W.failures out.old) (W.failures out.new)
+    ensures { Pushes W.taken W.failures out.old out.new result
         (listed mark.now (map trait_bytes names.now)) }
-    ensures failures { W.failures out.old ≤ W.failures out.new }
 {
     let mut mark = mark;
     for name in names {
@@ -105,10 +92,8 @@ fn push_names<W: Sink>(out: &mut W, mark: &[u8], names: &[TraitName]) -> Result<
 // The line of traits of which nobody has one.
 #[tactic(auto, using(ac_base::proofs::Pushed::pushed_first, ac_base::proofs::Pushed::pushed_on), unfolding(crate::specs::Findings::Explanation::Nobody::one_of_line))]
 fn push_one_of<W: Sink>(out: &mut W, names: &[TraitName]) -> Result<(), WriteFailed>
-    ensures text { Pushes result (W.taken out.old) (W.taken out.new)
-        (W.failures out.old) (W.failures out.new)
+    ensures { Pushes W.taken W.failures out.old out.new result
         (one_of_line (map trait_bytes names.now)) }
-    ensures failures { W.failures out.old ≤ W.failures out.new }
 {
     push_names(out, b"nobody has one of ", names)?;
     push_all(out, b"\n")
@@ -116,10 +101,8 @@ fn push_one_of<W: Sink>(out: &mut W, names: &[TraitName]) -> Result<(), WriteFai
 
 // The line of a list of traits, if nobody has one of them.
 fn push_list<W: Sink>(out: &mut W, cloud: &Cloud, list: &AnyOf) -> Result<(), WriteFailed>
-    ensures text { Pushes result (W.taken out.old) (W.taken out.new)
-        (W.failures out.old) (W.failures out.new)
+    ensures { Pushes W.taken W.failures out.old out.new result
         (list_missed (providers_of cloud.now) (any_of_shown list.now)) }
-    ensures failures { W.failures out.old ≤ W.failures out.new }
 {
     let names = list.names();
     if somebody_has_one(cloud, names) {
@@ -131,11 +114,9 @@ fn push_list<W: Sink>(out: &mut W, cloud: &Cloud, list: &AnyOf) -> Result<(), Wr
 // The lists of traits of which nobody has one.
 #[tactic(auto, using(crate::proofs::FoundTexts::ItemsWritten::item_stopped))]
 fn push_lists<W: Sink>(out: &mut W, cloud: &Cloud, lists: &[AnyOf]) -> Result<(), WriteFailed>
-    ensures text { Pushes result (W.taken out.old) (W.taken out.new)
-        (W.failures out.old) (W.failures out.new)
+    ensures { Pushes W.taken W.failures out.old out.new result
         (flat_map (λ names. list_missed (providers_of cloud.now) names)
         (map any_of_shown lists.now)) }
-    ensures failures { W.failures out.old ≤ W.failures out.new }
 {
     for list in lists {
         push_list(out, cloud, list)?;
@@ -146,10 +127,8 @@ fn push_lists<W: Sink>(out: &mut W, cloud: &Cloud, lists: &[AnyOf]) -> Result<()
 // UUIDs: the first behind a mark, each further one behind a comma.
 #[tactic(auto, using(crate::proofs::FoundTexts::ItemsWritten::item_turn, crate::proofs::FoundTexts::ItemsWritten::listed_stopped, crate::proofs::FoundTexts::ItemsWritten::listed_written))]
 fn push_ids<W: Sink>(out: &mut W, mark: &[u8], ids: &[Id]) -> Result<(), WriteFailed>
-    ensures text { Pushes result (W.taken out.old) (W.taken out.new)
-        (W.failures out.old) (W.failures out.new)
+    ensures { Pushes W.taken W.failures out.old out.new result
         (listed mark.now (map id_text ids.now)) }
-    ensures failures { W.failures out.old ≤ W.failures out.new }
 {
     let mut mark = mark;
     for id in ids {
@@ -173,10 +152,7 @@ fn member_mark(ids: &[Id]) -> &'static [u8]
 // The line of aggregates in which nobody is.
 #[tactic(auto, using(ac_base::proofs::Pushed::pushed_first, ac_base::proofs::Pushed::pushed_on), unfolding(crate::specs::Findings::Explanation::Nobody::members_line))]
 fn push_members<W: Sink>(out: &mut W, ids: &[Id]) -> Result<(), WriteFailed>
-    ensures text { Pushes result (W.taken out.old) (W.taken out.new)
-        (W.failures out.old) (W.failures out.new)
-        (members_line ids.now) }
-    ensures failures { W.failures out.old ≤ W.failures out.new }
+    ensures { Pushes W.taken W.failures out.old out.new result (members_line ids.now) }
 {
     push_ids(out, member_mark(ids), ids)?;
     push_all(out, b"\n")
@@ -184,10 +160,8 @@ fn push_members<W: Sink>(out: &mut W, ids: &[Id]) -> Result<(), WriteFailed>
 
 // The line of an aggregate rule, if it asks for aggregates and nobody is in one of them.
 fn push_rule<W: Sink>(out: &mut W, cloud: &Cloud, rule: &AggregateRule) -> Result<(), WriteFailed>
-    ensures text { Pushes result (W.taken out.old) (W.taken out.new)
-        (W.failures out.old) (W.failures out.new)
+    ensures { Pushes W.taken W.failures out.old out.new result
         (rule_missed (providers_of cloud.now) (rule_shown rule.now)) }
-    ensures failures { W.failures out.old ≤ W.failures out.new }
 {
     if rule.forbids() || somebody_is_in(cloud, rule.ids()) {
         return Ok(());
@@ -202,11 +176,9 @@ fn push_rules<W: Sink>(
     cloud: &Cloud,
     rules: &[AggregateRule],
 ) -> Result<(), WriteFailed>
-    ensures text { Pushes result (W.taken out.old) (W.taken out.new)
-        (W.failures out.old) (W.failures out.new)
+    ensures { Pushes W.taken W.failures out.old out.new result
         (flat_map (λ rule. rule_missed (providers_of cloud.now) rule)
         (map rule_shown rules.now)) }
-    ensures failures { W.failures out.old ≤ W.failures out.new }
 {
     for rule in rules {
         push_rule(out, cloud, rule)?;
@@ -216,10 +188,8 @@ fn push_rules<W: Sink>(
 
 // The line of the tree that a group names, if it names one by a UUID that nobody has.
 fn push_tree<W: Sink>(out: &mut W, cloud: &Cloud, in_tree: Option<Id>) -> Result<(), WriteFailed>
-    ensures text { Pushes result (W.taken out.old) (W.taken out.new)
-        (W.failures out.old) (W.failures out.new)
+    ensures { Pushes W.taken W.failures out.old out.new result
         (tree_missed (providers_of cloud.now) in_tree) }
-    ensures failures { W.failures out.old ≤ W.failures out.new }
 {
     match in_tree {
         None => Ok(()),
@@ -235,10 +205,8 @@ fn push_tree<W: Sink>(out: &mut W, cloud: &Cloud, in_tree: Option<Id>) -> Result
 // What nobody has of the classes and traits of a group.
 #[tactic(auto, using(ac_base::proofs::Pushed::pushed_first, ac_base::proofs::Pushed::pushed_on))]
 fn push_things<W: Sink>(out: &mut W, cloud: &Cloud, group: &Group) -> Result<(), WriteFailed>
-    ensures text { Pushes result (W.taken out.old) (W.taken out.new)
-        (W.failures out.old) (W.failures out.new)
+    ensures { Pushes W.taken W.failures out.old out.new result
         (things_missed (providers_of cloud.now) (group_asked group.now)) }
-    ensures failures { W.failures out.old ≤ W.failures out.new }
 {
     push_classes(out, cloud, group.needs())?;
     push_traits(out, cloud, group.required())?;
@@ -248,10 +216,8 @@ fn push_things<W: Sink>(out: &mut W, cloud: &Cloud, group: &Group) -> Result<(),
 // Where nobody is of the aggregates and the tree of a group.
 #[tactic(auto, using(ac_base::proofs::Pushed::pushed_first, ac_base::proofs::Pushed::pushed_on))]
 fn push_places<W: Sink>(out: &mut W, cloud: &Cloud, group: &Group) -> Result<(), WriteFailed>
-    ensures text { Pushes result (W.taken out.old) (W.taken out.new)
-        (W.failures out.old) (W.failures out.new)
+    ensures { Pushes W.taken W.failures out.old out.new result
         (places_missed (providers_of cloud.now) (group_asked group.now)) }
-    ensures failures { W.failures out.old ≤ W.failures out.new }
 {
     push_rules(out, cloud, group.member_of())?;
     push_tree(out, cloud, group.in_tree())
@@ -260,10 +226,8 @@ fn push_places<W: Sink>(out: &mut W, cloud: &Cloud, group: &Group) -> Result<(),
 // What nobody has of a group.
 #[tactic(auto, using(ac_base::proofs::Pushed::pushed_first, ac_base::proofs::Pushed::pushed_on))]
 fn push_group<W: Sink>(out: &mut W, cloud: &Cloud, group: &Group) -> Result<(), WriteFailed>
-    ensures text { Pushes result (W.taken out.old) (W.taken out.new)
-        (W.failures out.old) (W.failures out.new)
+    ensures { Pushes W.taken W.failures out.old out.new result
         (group_missed (providers_of cloud.now) (group_entry group.now).1) }
-    ensures failures { W.failures out.old ≤ W.failures out.new }
 {
     push_things(out, cloud, group)?;
     push_places(out, cloud, group)
@@ -272,11 +236,9 @@ fn push_group<W: Sink>(out: &mut W, cloud: &Cloud, group: &Group) -> Result<(), 
 // What nobody has of each group.
 #[tactic(auto, using(crate::proofs::FoundTexts::ItemsWritten::item_stopped))]
 fn push_groups<W: Sink>(out: &mut W, cloud: &Cloud, groups: &[Group]) -> Result<(), WriteFailed>
-    ensures text { Pushes result (W.taken out.old) (W.taken out.new)
-        (W.failures out.old) (W.failures out.new)
+    ensures { Pushes W.taken W.failures out.old out.new result
         (flat_map (λ g. group_missed (providers_of cloud.now) g.1)
         (map group_entry groups.now)) }
-    ensures failures { W.failures out.old ≤ W.failures out.new }
 {
     for group in groups {
         push_group(out, cloud, group)?;
@@ -286,10 +248,8 @@ fn push_groups<W: Sink>(out: &mut W, cloud: &Cloud, groups: &[Group]) -> Result<
 
 // The line of a trait that no root has.
 fn push_root_trait<W: Sink>(out: &mut W, cloud: &Cloud, name: &TraitName) -> Result<(), WriteFailed>
-    ensures text { Pushes result (W.taken out.old) (W.taken out.new)
-        (W.failures out.old) (W.failures out.new)
+    ensures { Pushes W.taken W.failures out.old out.new result
         (root_trait_missed (providers_of cloud.now) (trait_bytes name.now)) }
-    ensures failures { W.failures out.old ≤ W.failures out.new }
 {
     if some_root_has(cloud, name) {
         return Ok(());
@@ -304,11 +264,9 @@ fn push_root_traits<W: Sink>(
     cloud: &Cloud,
     names: &[TraitName],
 ) -> Result<(), WriteFailed>
-    ensures text { Pushes result (W.taken out.old) (W.taken out.new)
-        (W.failures out.old) (W.failures out.new)
+    ensures { Pushes W.taken W.failures out.old out.new result
         (flat_map (λ name. root_trait_missed (providers_of cloud.now) name)
         (map trait_bytes names.now)) }
-    ensures failures { W.failures out.old ≤ W.failures out.new }
 {
     for name in names {
         push_root_trait(out, cloud, name)?;
@@ -323,10 +281,8 @@ pub(crate) fn push_missing<W: Sink>(
     cloud: &Cloud,
     query: &Query,
 ) -> Result<(), WriteFailed>
-    ensures text { Pushes result (W.taken out.old) (W.taken out.new)
-        (W.failures out.old) (W.failures out.new)
+    ensures { Pushes W.taken W.failures out.old out.new result
         (nobody_lines (providers_of cloud.now) (asked_of query.now)) }
-    ensures failures { W.failures out.old ≤ W.failures out.new }
 {
     push_groups(out, cloud, query.groups())?;
     push_root_traits(out, cloud, query.root_required())

@@ -120,10 +120,8 @@ fn push_suffixes<W: Sink>(
     mark: &[u8],
     suffixes: &BTreeSet<Suffix>,
 ) -> Result<(), WriteFailed>
-    ensures text { Pushes result (W.taken out.old) (W.taken out.new)
-        (W.failures out.old) (W.failures out.new)
+    ensures { Pushes W.taken W.failures out.old out.new result
         (listed mark.now (suffixes_shown suffixes.now)) }
-    ensures failures { W.failures out.old ≤ W.failures out.new }
 {
     let mut mark = mark;
     for suffix in suffixes {
@@ -147,10 +145,8 @@ fn push_subtree<W: Sink>(
     suffixes: &BTreeSet<Suffix>,
     found: bool,
 ) -> Result<(), WriteFailed>
-    ensures text { Pushes result (W.taken out.old) (W.taken out.new)
-        (W.failures out.old) (W.failures out.new)
+    ensures { Pushes W.taken W.failures out.old out.new result
         (subtree_line (suffixes_shown suffixes.now) found) }
-    ensures failures { W.failures out.old ≤ W.failures out.new }
 {
     push_suffixes(out, b"without same_subtree=", suffixes)?;
     push_all(out, outcome(found))
@@ -163,10 +159,8 @@ fn push_subtrees<W: Sink>(
     found: &[bool],
 ) -> Result<(), WriteFailed>
     requires { length found.now ≤ length lists.now }
-    ensures text { Pushes result (W.taken out.old) (W.taken out.new)
-        (W.failures out.old) (W.failures out.new)
+    ensures { Pushes W.taken W.failures out.old out.new result
         (subtree_lines (map suffixes_shown lists.now) found.now) }
-    ensures failures { W.failures out.old ≤ W.failures out.new }
 {
     for k in 0..found.len() {
         push_subtree(out, &lists[k], found[k])?;
@@ -206,10 +200,8 @@ pub(crate) fn push_without<W: Sink>(
     without: &FoundWithout,
 ) -> Result<(), WriteFailed>
     requires { length (found_shown without.now).subtrees ≤ length (asked_of query.now).subtrees }
-    ensures text { Pushes result (W.taken out.old) (W.taken out.new)
-        (W.failures out.old) (W.failures out.new)
+    ensures { Pushes W.taken W.failures out.old out.new result
         (without_lines (asked_of query.now) (found_shown without.now)) }
-    ensures failures { W.failures out.old ≤ W.failures out.new }
 {
     push_subtrees(out, query.subtrees(), &without.subtrees)?;
     push_all(out, policy_line(without.policy))?;

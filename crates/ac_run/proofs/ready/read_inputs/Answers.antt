@@ -1,8 +1,14 @@
-use Rattle.ac_base.proofs.Small.{handed_on}
-use Rattle.ac_run.proofs.Attempted.{explains_reading}
+use Rattle.ac_run.specs.Tasks.{detail_shown}
+use Rattle.ac_run.proofs.Attempted.{read_told, refused_status}
 use Rattle.ac_run.proofs.ready.read_inputs.Goals as goal
 
-pub returns-in_err-texts-clause-fault : goal.returns-in_err-texts-clause-fault
-returns-in_err-texts-clause-fault g c =
-    handed_on c.from_residual.result _ _ c.from_residual.ensures.1
-    (explains_reading g.R.Feed.remaining g.R.Feed.failures c.args.inputs.now c.read_tables.new.inputs c.in_err-texts.field-0.0 c.in_err-texts.ensures.fault)
+pub returns-in-Err-clause-fault : goal.returns-in-Err-clause-fault
+returns-in-Err-clause-fault g c = λ say.
+    read_told g.R.Feed.remaining g.R.Feed.failures (detail_shown c.args.detail) c.args.inputs.now c.read_tables.new.inputs say
+    c.in-Err.refusal c.reading_detail-text.result c.new.result c.in-Err.ensures.fault c.reading_detail-text.ensures.text c.new.ensures
+
+pub returns-in-Err-clause-status : goal.returns-in-Err-clause-status
+returns-in-Err-clause-status g c = refused_status c.in-Err.refusal c.reading_detail-text.result c.new.result c.new.ensures
+
+pub returns-clause-status : goal.returns-clause-status
+returns-clause-status g c = refused_status c.in-Err-read_cloud.refusal c.fault_detail-text.result c.new-in-Err-read_cloud.result c.new-in-Err-read_cloud.ensures

@@ -16,10 +16,11 @@ use Rattle.ac_rules.specs.Located.{places_of}
 use Rattle.ac_rules.specs.Placed.{Placed, assigned}
 use Rattle.ac_rules.specs.declared.verdict.Verdict.{Verdict}
 use Rattle.ac_rules.specs.declared.verdict.Verdict.TheVariants as verdict
-use Rattle.ac_run.specs.Answer.{Outcome, Says, past_query, past_token, refused, token_refusal, told, written}
-use Rattle.ac_run.specs.Lines.{query_line, token_line}
+use Rattle.ac_run.specs.Answer.{Outcome, Says, past_query, told, written}
+use Rattle.ac_run.specs.Given.{token_refusal}
+use Rattle.ac_session.proofs.Turned.{past_read}
 use Rattle.ac_session.specs.Laws.{ReleaseTurnUndoes}
-use Rattle.ac_session.specs.Turns.{assignment_task, claim_line, claim_of, claim_said, claim_turn, places_named, placed_by, release_line, release_of, release_said, release_turn, settles, world_after}
+use Rattle.ac_session.specs.Turns.{claim_line, claim_of, claim_said, claim_turn, places_named, placed_by, release_line, release_of, release_said, release_turn, settles, world_after}
 use Rattle.ac_session.proofs.laws.release_turn_undoes.Goals as goal
 
 -- ---- the same places are named where ids have the same places
@@ -61,7 +62,7 @@ is_made : (all : List Provider) (asked : Asked) (token : List ℕ) (found : Opti
 is_made all asked token None e h = absurd (differ _ _ (ap (λ (o : Outcome). o.status) h) refl refl)
 is_made all asked token (Some list) e h = record { list = list; named = e; candidate = is_candidate_said (judge all asked list) h }
 
-module _ (version : Version) (query token : List ℕ) (world : World) (made : past_query (claim_line world.providers) (assignment_task version query token) ≡ is_claimed) where
+module _ (version : Version) (query token : List ℕ) (world : World) (made : past_query (claim_line world.providers) (Some token) version query ≡ is_claimed) where
   abbrev all : List Provider
   all = world.providers
 
@@ -77,14 +78,11 @@ module _ (version : Version) (query token : List ℕ) (world : World) (made : pa
   no_query_fault : query_fault version query ≡ None
   no_query_fault = accepted (query_fault version query) _ _ is_claimed (λ f e. let wrong : 4 ≡ 0 = e in absurd (cc)) made
 
-  past : (say : Says) → past_query say (assignment_task version query token) ≡ past_token say (Some token) asked
-  past say = ap (λ fault. told fault (λ f. refused (query_line f) 4) (past_token say (Some token) asked)) no_query_fault
-
   no_token_fault : token_refusal asked (Some token) ≡ None
-  no_token_fault = accepted (token_refusal asked (Some token)) _ _ is_claimed (λ f e. let wrong : 5 ≡ 0 = e in absurd (cc)) (sym (past (claim_line all)) ∙ made)
+  no_token_fault = accepted (token_refusal asked (Some token)) _ _ is_claimed (λ f e. let wrong : 5 ≡ 0 = e in absurd (cc)) (rw no_query_fault at made)
 
-  said : (say : Says) → past_query say (assignment_task version query token) ≡ say asked (ids_value token)
-  said say = past say ∙ ap (λ fault. told fault (λ f. refused (token_line f) 5) (say asked (ids_value token))) no_token_fault
+  said : (say : Says) → past_query say (Some token) version query ≡ say asked (ids_value token)
+  said say = past_read say version query token asked no_query_fault refl no_token_fault
 
   claim : IsMade all asked token
   claim = is_made all asked token (places_named all token) refl (sym (said (claim_line all)) ∙ made)
@@ -100,7 +98,7 @@ module _ (version : Version) (query token : List ℕ) (world : World) (made : pa
       subst (λ ys. is_in_use (claimed all ys) (assigned asked claim.list) ≡ true) (sym placed)
       (claims_in_use all asked claim.list ((judges_candidates all asked claim.list).0 claim.candidate))
 
-  released_said : past_query (release_line new) (assignment_task version query token) ≡ written (codes "released\n") 0
+  released_said : past_query (release_line new) (Some token) version query ≡ written (codes "released\n") 0
   released_said = said (release_line new) ∙ ap (release_of new asked) (again ∙ claim.named) ∙ ap release_said in_use
 
   given_back : released new (placed_by version new query token) ≡ all

@@ -1,5 +1,5 @@
 use Rattle.ac_cloud.specs.Cloud.CloudWorld.{world_of}
-use Rattle.ac_run.proofs.HandedOn.{from_ok}
+use Rattle.std.proofs.lemmas.Result.{IfOk-at_ok}
 use Rattle.ac_session.proofs.Stood.{end_given, given_there, line_part, line_stands}
 use Rattle.ac_session.proofs.session.answer_line.Goals as goal
 
@@ -11,8 +11,8 @@ returns-in-Ok-default-clause-stands g c = λ is q e few.
     let there = given_there c.next-next.result c.in_default.not-End c.in_default.not-Failed in
     line_stands c.args.version (world_of c.args.cloud.now) q (g.W.Sink.taken c.args.out) (g.W.Sink.taken c.hand_on.result.1) _ _ there.0 there.1 there.2 e c.next-next.ensures.given
     (world_of c.hand_on.new.cloud) _ c.next-next.follows.holds-at-none.behind few
-    (from_ok c.hand_on.result.0 _ _ c.in-Ok-default.is-0 (c.hand_on.ensures.ok there.0 there.1))
-    (from_ok c.hand_on.result.0 _ _ c.in-Ok-default.is-0 (c.hand_on.ensures.world there.0 there.1))
+    (IfOk-at_ok _ c.in-Ok-default.is-0 (c.hand_on.ensures.ok there.0 there.1))
+    (IfOk-at_ok _ c.in-Ok-default.is-0 (c.hand_on.ensures.world there.0 there.1))
 
 pub returns-in-Ok-default-clause-part : goal.returns-in-Ok-default-clause-part
 returns-in-Ok-default-clause-part g c = λ q e few.

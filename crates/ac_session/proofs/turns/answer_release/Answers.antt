@@ -1,67 +1,28 @@
-use Rattle.std.proofs.Common.{◌∙◌, ap, sym, subst, Some}
+use Rattle.std.proofs.Common.{◌∙◌, None, Some, ap, refl, sym}
 use Rattle.std.specs.Option.{option_map}
 use Rattle.ac_cloud.specs.Cloud.CloudWorld.{providers_of, world_of}
 use Rattle.ac_query.specs.Shown.Queries.{asked_of}
-use Rattle.ac_rules.specs.Claims.{released}
-use Rattle.ac_run.specs.Answer.{Outcome, past_query}
-use Rattle.std.proofs.lemmas.Result.{on_ok_weaker}
+use Rattle.ac_session.proofs.Turned.{release_read, released_so}
 use Rattle.ac_session.proofs.Written.{ok_any}
-use Rattle.ac_session.proofs.Turned.{asked_refused, release_outcome, release_unknown, released_world, placed_read, refused_world, unknown_world}
-use Rattle.ac_session.specs.Standing.{Gives}
-use Rattle.ac_session.specs.Turns.{assignment_task, release_line, release_turn, placed_by}
+use Rattle.ac_session.specs.Turns.{release_line, release_turn}
 use Rattle.ac_session.proofs.turns.answer_release.Goals as goal
 
--- ---- the query or the token is refused
-
-pub returns-in-Err-clause-answer : goal.returns-in-Err-clause-answer
+-- the query or the token is refused
+pub returns-in-Err : goal.returns-in-Err
 unfolding release_turn
-returns-in-Err-clause-answer g c =
-    let task = assignment_task c.args.version c.args.query.now c.args.token.now in
-    let say = release_line (providers_of c.args.cloud.now) in
-    c.refused.ensures.text (past_query say task) (asked_refused task c.in-Err.refusal c.in-Err.ensures.fault say) _ _
+returns-in-Err g c = c.refused.ensures _ (c.in-Err.ensures.fault (release_line (providers_of c.args.cloud.now))) _ _ _ _
 
-pub returns-in-Err-clause-world : goal.returns-in-Err-clause-world
-unfolding release_turn
-returns-in-Err-clause-world g c =
-    let task = assignment_task c.args.version c.args.query.now c.args.token.now in
-    let say = release_line (providers_of c.args.cloud.now) in
-    on_ok_weaker c.refused.result
-    (refused_world (world_of c.args.cloud.now) _ c.in-Err.refusal (past_query say task) (asked_refused task c.in-Err.refusal c.in-Err.ensures.fault say))
-    c.refused.ensures.told
+-- a provider isn't there
+pub returns : goal.returns
+returns g c =
+    let named = ap (option_map (λ list. list.items)) (sym c.in-None.is) ∙ c.in-Ok.ensures.list in
+    rw (release_read c.args.version c.args.query.now c.args.token.now (world_of c.args.cloud.now) (asked_of c.in-Ok.read.0) None c.in-Ok.ensures.asked named c.in-Ok.ensures.said)
+    (record { answer = c.write_said.ensures; world = ok_any c.write_said.result _ refl })
 
--- ---- a provider isn't there
-
-pub returns-clause-answer : goal.returns-clause-answer
-unfolding release_turn
-returns-clause-answer g c =
-    let all = providers_of c.args.cloud.now in
-    let e = release_unknown all (asked_of c.in-Ok.read.0) c.args.token.now _ (c.in-Ok.ensures.said (release_line all)) (ap (option_map (λ list. list.items)) (sym c.in-None.is) ∙ c.in-Ok.ensures.list) in
-    subst (λ (o : Outcome). Gives (Some o) c.write_said.result (g.W.Sink.taken c.args.out.now) (g.W.Sink.taken c.write_said.new.out) (g.W.Sink.failures c.args.out.now) (g.W.Sink.failures c.write_said.new.out)) (sym e) c.write_said.ensures
-
-pub returns-clause-world : goal.returns-clause-world
-unfolding release_turn
-returns-clause-world g c =
-    let all = providers_of c.args.cloud.now in
-    let e = release_unknown all (asked_of c.in-Ok.read.0) c.args.token.now _ (c.in-Ok.ensures.said (release_line all)) (ap (option_map (λ list. list.items)) (sym c.in-None.is) ∙ c.in-Ok.ensures.list) in
-    ok_any c.write_said.result _ (unknown_world (world_of c.args.cloud.now) _ _ e)
-
--- ---- the list is judged
-
-pub returns-in-Some-clause-answer : goal.returns-in-Some-clause-answer
-unfolding release_turn
-returns-in-Some-clause-answer g c =
-    let all = providers_of c.args.cloud.now in
+-- the list is given back, where it is in use
+pub returns-in-Some : goal.returns-in-Some
+returns-in-Some g c =
     let named = ap Some c.deref.ensures.value ∙ ap (option_map (λ list. list.items)) (sym c.in-Some.is) ∙ c.in-Ok.ensures.list in
-    let e = release_outcome all (asked_of c.in-Ok.read.0) c.args.token.now _ _ c.release-in_use.result (c.in-Ok.ensures.said (release_line all)) named c.release-in_use.ensures.in_use in
-    subst (λ (o : Outcome). Gives (Some o) c.write_released.result (g.W.Sink.taken c.args.out.now) (g.W.Sink.taken c.write_released.new.out) (g.W.Sink.failures c.args.out.now) (g.W.Sink.failures c.write_released.new.out)) (sym e) c.write_released.ensures
-
-pub returns-in-Some-clause-world : goal.returns-in-Some-clause-world
-unfolding release_turn
-returns-in-Some-clause-world g c =
-    let all = providers_of c.args.cloud.now in
-    let named = ap Some c.deref.ensures.value ∙ ap (option_map (λ list. list.items)) (sym c.in-Some.is) ∙ c.in-Ok.ensures.list in
-    let e = release_outcome all (asked_of c.in-Ok.read.0) c.args.token.now _ _ c.release-in_use.result (c.in-Ok.ensures.said (release_line all)) named c.release-in_use.ensures.in_use in
-    let placed = placed_read c.args.version all c.args.query.now c.args.token.now (asked_of c.in-Ok.read.0) _ c.in-Ok.ensures.asked named in
-    ok_any c.write_released.result _
-    (released_world (world_of c.args.cloud.now) (world_of c.release-in_use.new.cloud) (released all (placed_by c.args.version all c.args.query.now c.args.token.now)) c.release-in_use.ensures.sizes _
-    c.release-in_use.result e (λ is. c.release-in_use.ensures.released is ∙ ap (released all) placed) (λ isnt. ap world_of (c.release-in_use.ensures.otherwise isnt)))
+    rw (release_read c.args.version c.args.query.now c.args.token.now (world_of c.args.cloud.now) (asked_of c.in-Ok.read.0) (Some c.deref.result.now) c.in-Ok.ensures.asked named c.in-Ok.ensures.said)
+    (released_so (world_of c.args.cloud.now) (world_of c.release-in_use.new.cloud) c.release-in_use.ensures.sizes (asked_of c.in-Ok.read.0) c.deref.result.now c.write_released.result _ _ _ _
+    c.release-in_use.result c.release-in_use.ensures.in_use c.write_released.ensures c.release-in_use.ensures.released (λ isnt. ap world_of (c.release-in_use.ensures.otherwise isnt)))

@@ -6,7 +6,7 @@ use Rattle.clap.specs.Walk.{is_empty}
 use Rattle.clap.specs.Words.{App, Text, fault_of, is_simple, is_simple_and_free, subcommand_of, takes}
 use Rattle.clap.proofs.OnLiterals.{clap_on_literals}
 use Rattle.clap.proofs.SimpleLemmas.{is_nil}
-use Rattle.ac_words.specs.Words.{IsComplete, Tells, faults, is_taken, named, program, own_faults}
+use Rattle.ac_words.specs.Words.{Tells, command_found, is_complete, faults, is_taken, named, program, own_faults}
 use Rattle.ac_words.specs.declared.words.WordFault.{WordFault}
 use Rattle.ac_words.specs.declared.words.WordFault.TheVariants.{Refused, Help, NoMemory}
 use Rattle.ac_words.specs.declared.words.WordFault.TheVariants as fault
@@ -22,9 +22,9 @@ unfolding clap_on_literals
 program_free = refl
 
 -- what is found, and refused, of the program is so of a command that has its description
-found-named : (a : App) (words : List Text) → a ≡ program → subcommand_of a words ≡ named words
+found-named : (a : App) (words : List Text) → a ≡ program → command_found (subcommand_of a words) ≡ named words
 unfolding named
-found-named a words e = ap₂ subcommand_of e refl
+found-named a words e = ap command_found (ap₂ subcommand_of e refl)
 
 fault-program : (a : App) (words : List Text) → a ≡ program → fault_of a words ≡ fault_of program words
 fault-program a words e = ap₂ fault_of e refl
@@ -65,14 +65,14 @@ words_of-requires c =
     let same = c.in_ok-grammar.ensures in
     let words = map string_bytes c.args.words.now in
     let none = sym (fault-program _ words same) ∙ c.in-Ok.ensures.kinds (ap is_simple_and_free same ∙ program_free) in
-    let found = (c.in-Ok.ensures.matches (ap is_simple same ∙ program_simple)).1 ∙ found-named _ words same in
-    subst IsComplete (sym found) (named-complete words none)
+    let found = ap command_found (c.in-Ok.ensures.matches (ap is_simple same ∙ program_simple)).1 ∙ found-named _ words same in
+    ap is_complete found ∙ named-complete words none
 
 pub returns-in-Ok-clause-entries : goal.returns-in-Ok-clause-entries
 returns-in-Ok-clause-entries c =
     let same = c.in_ok-grammar.ensures in
     let words = map string_bytes c.args.words.now in
-    let found = (c.in-Ok.ensures.matches (ap is_simple same ∙ program_simple)).1 ∙ found-named _ words same in
+    let found = ap command_found (c.in-Ok.ensures.matches (ap is_simple same ∙ program_simple)).1 ∙ found-named _ words same in
     rw (← found) c.words_of.ensures.entries
 
 pub returns-in-Ok-clause-ok : goal.returns-in-Ok-clause-ok
@@ -80,7 +80,7 @@ returns-in-Ok-clause-ok c =
     let same = c.in_ok-grammar.ensures in
     let words = map string_bytes c.args.words.now in
     let none = sym (fault-program _ words same) ∙ c.in-Ok.ensures.kinds (ap is_simple_and_free same ∙ program_free) in
-    let found = (c.in-Ok.ensures.matches (ap is_simple same ∙ program_simple)).1 ∙ found-named _ words same in
+    let found = ap command_found (c.in-Ok.ensures.matches (ap is_simple same ∙ program_simple)).1 ∙ found-named _ words same in
     on_ok_weaker c.words_of.result (λ none_other. own-left words none ∙ sym (ap own_faults found) ∙ none_other) c.words_of.ensures.ok
 
 pub returns-in-Ok-clause-fault : goal.returns-in-Ok-clause-fault
@@ -88,14 +88,14 @@ returns-in-Ok-clause-fault c =
     let same = c.in_ok-grammar.ensures in
     let words = map string_bytes c.args.words.now in
     let none = sym (fault-program _ words same) ∙ c.in-Ok.ensures.kinds (ap is_simple_and_free same ∙ program_free) in
-    let found = (c.in-Ok.ensures.matches (ap is_simple same ∙ program_simple)).1 ∙ found-named _ words same in
+    let found = ap command_found (c.in-Ok.ensures.matches (ap is_simple same ∙ program_simple)).1 ∙ found-named _ words same in
     subst (λ kinds. IfErr c.words_of.result (Tells kinds)) (ap own_faults found ∙ sym (own-left words none)) c.words_of.ensures.fault
 
 pub returns-in-Ok-clause-taken : goal.returns-in-Ok-clause-taken
 returns-in-Ok-clause-taken c = λ taken.
     let same = c.in_ok-grammar.ensures in
     let words = map string_bytes c.args.words.now in
-    let found = (c.in-Ok.ensures.matches (ap is_simple same ∙ program_simple)).1 ∙ found-named _ words same in
+    let found = ap command_found (c.in-Ok.ensures.matches (ap is_simple same ∙ program_simple)).1 ∙ found-named _ words same in
     let told = subst (λ kinds. IfErr c.words_of.result (Tells kinds)) (ap own_faults found ∙ taken-own words taken) c.words_of.ensures.fault in
     IfErr-weaker c.words_of.result (Tells []) _ told_nothing told
 

@@ -23,10 +23,9 @@ returns-in-None c =
     let cloud = c.args.self.now in
     let places = cloud.anchors.places.items in
     let h = inside cloud c.args.ix c.requires in
-    let k : c.args.ix < length places = omega (arith, h, (parts cloud).with_anchors) in
     let one : c.args.ix + 1 - c.args.ix ≡ 1 = omega arith in
     let room : c.args.ix < length cloud.roots.items = omega (arith, h, (parts cloud).forest.with_roots) in
     ap (λ (n : ℕ). take n (drop c.args.ix c.deref.result.now)) one
     ∙ ap (λ (l : List ℕ). take 1 (drop c.args.ix l)) c.deref.ensures.value
     ∙ ap (λ (l : List ℕ). take 1 l) (drop-cons cloud.roots.items c.args.ix 0 room)
-    ∙ anchors_unlisted cloud c.args.ix h (sym (get_or_read places _ _ k c.index.ensures None) ∙ c.in-None.is)
+    ∙ anchors_unlisted cloud c.args.ix h (sym (get_or_read places _ _ (omega (arith, h, (parts cloud).with_anchors)) c.index.ensures None) ∙ c.in-None.is)

@@ -19,5 +19,4 @@ returns c =
     let cloud = c.args.self.now in
     let places = cloud.anchors.places.items in
     let h = inside cloud c.args.ix c.requires in
-    let k : c.args.ix < length places = omega (arith, h, (parts cloud).with_anchors) in
-    listed cloud c.args.ix _ h (sym (get_or_read places _ _ k c.index.ensures None))
+    listed cloud c.args.ix _ h (sym (get_or_read places _ _ (omega (arith, h, (parts cloud).with_anchors)) c.index.ensures None))

@@ -50,12 +50,11 @@ unfolding providers_of
 returns-in-Some-clause-providers c =
     let cloud = c.args.self.now in
     let lists = lists_of cloud.entries in
-    let here : c.args.ix < length lists = omega (arith, inside cloud c.args.ix c.requires, (parts cloud).with_entries) in
     let alone = subst (λ es. StandsAlone (class_bytes c.args.class.now) es (Some c.in-Some.place)) c.of.ensures c.in-Some.ensures in
     let d = some_entry (get_or lists c.args.ix []) c.in-Some.place alone.inside in
     rw (c.set_used.ensures d)
     (providers_set cloud.ids.ids.items cloud.parents.items lists (map (map trait_bytes) (lists_of cloud.traits)) (lists_of cloud.aggregates) (lists_of cloud.names)
-    c.args.ix here (class_bytes c.args.class.now) c.args.used c.in-Some.place d alone)
+    c.args.ix (omega (arith, inside cloud c.args.ix c.requires, (parts cloud).with_entries)) (class_bytes c.args.class.now) c.args.used c.in-Some.place d alone)
 
 pub returns-in-Some-clause-root_lists : goal.returns-in-Some-clause-root_lists
 unfolding root_lists_of

@@ -7,10 +7,9 @@ pub cut-requires-clause-order : goal.cut-requires-clause-order
 unfolding AreLaidOut
 cut-requires-clause-order g c =
     let starts = c.args.self.now.starts.items in
-    let low = get_or_read starts c.args.place c.index.result.now (omega (arith, lists_size c.args.self.now.items.items starts)) c.index.ensures 0 in
     let high = get_or_read starts (c.args.place + 1) c.index-2.result.now (omega (arith, lists_size c.args.self.now.items.items starts)) c.index-2.ensures 0 in
     let up = c.args.self.now.bounds.order c.args.place (omega (arith, lists_size c.args.self.now.items.items starts)) in
-    omega (arith, low, high, up)
+    omega (arith, get_or_read starts c.args.place c.index.result.now (omega (arith, lists_size c.args.self.now.items.items starts)) c.index.ensures 0, high, up)
 
 pub cut-requires-clause-inside : goal.cut-requires-clause-inside
 unfolding AreLaidOut

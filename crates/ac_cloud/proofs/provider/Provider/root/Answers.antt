@@ -1,5 +1,5 @@
-use Rattle.std.proofs.Common.{◌≡◌, Some, refl}
-use Rattle.ac_cloud.specs.World.{id_at, place_of, root_of}
+use Rattle.std.proofs.Common.{refl}
+use Rattle.ac_cloud.specs.World.{id_at, root_of}
 use Rattle.ac_cloud.specs.Cloud.CloudWorld.{providers_of}
 use Rattle.ac_cloud.proofs.InOrder.{cloud_in_order}
 use Rattle.ac_cloud.proofs.PlacesInOrder.{place_in_order}
@@ -10,5 +10,4 @@ returns-clause-root c =
     let p = c.args.self.now in
     let all = providers_of p.cloud.now in
     let root = root_of all (id_at all p.ix) in
-    let place : place_of all root ≡ Some c.root.result = place_in_order all (cloud_in_order p.cloud.now).order root c.root.result c.root.ensures.inside c.root.ensures.id in
-    rw place refl
+    rw (place_in_order all (cloud_in_order p.cloud.now).order root c.root.result c.root.ensures.inside c.root.ensures.id) refl

@@ -20,8 +20,8 @@ pub returns-in_err-put_line-clause-places : goal.returns-in_err-put_line-clause-
 returns-in_err-put_line-clause-places g c = λ rest e.
     let all = providers_of c.args.assignment.now.cloud.now in
     let asked = asked_in (takings_of c.args.self.now) in
-    places_err all asked (stand_of all c.args.self.now) (stand_of all c.room.self) rest _ fault.NoMemory _ _ _ _ c.from_residual.ensures.1
-    (c.room.invariant.goes rest e (Err fault.NoMemory) _ _ (ends_refused all asked (stand_of all c.room.self) _ _))
+    places_err all asked (stand_of all c.room.self) rest c.from_residual.ensures.1
+    (c.room.invariant.goes rest e (Err fault.NoMemory) _ (ends_refused all asked (stand_of all c.room.self) _))
 
 pub returns-in_err-push_piece-clause-places : goal.returns-in_err-push_piece-clause-places
 returns-in_err-push_piece-clause-places g c = λ rest e.
@@ -32,11 +32,11 @@ returns-in_err-push_piece-clause-places g c = λ rest e.
     let kept = subst (λ (a : Asked). sums now (assigned a list) ≡ true) c.requires.query (c.wants.ensures.room c.room-test.true) in
     let is = stays all (takings_of c.room.self) asked list c.requires.candidate kept in
     let next : Stand = record { wanted = one_less c.room.self.wanted; world = claimed now (assigned asked list); count = 0 } in
-    places_err all asked (stand_of all c.args.self.now) (stand_of all c.room.self) rest _ _ _ _ _ _ c.from_residual-in_err-push_piece.ensures.1
-    (c.room.invariant.goes rest e (Err _) _ _
+    places_err all asked (stand_of all c.room.self) rest c.from_residual-in_err-push_piece.ensures.1
+    (c.room.invariant.goes rest e (Err _) _
     (ends_stopped all asked (stand_of all c.room.self) next list
     (filled_first asked c.requires.asks c.room.self.wanted now list _ (c.wants.ensures.wanted c.room-test.true) (ahead_first now asked list rest is (c.room.invariant.ahead rest e)))
-    _ _ _ _ _ (c.in_err-push_piece.ensures (line all) list (sym (c.deref.ensures.value ∙ c.in_ok-put_line.ensures)))))
+    (c.in_err-push_piece.ensures (line all) list (sym (c.deref.ensures.value ∙ c.in_ok-put_line.ensures)))))
 
 pub room-smaller : goal.room-smaller
 room-smaller g c =
@@ -71,12 +71,12 @@ room-preserved g c =
       fits = step.fits;
       small = omega (arith, c.saturating_add-self.ensures);
       ahead = λ rest e. subst (λ (w : List Provider). AreAhead w asked (list ∷ rest)) (sym step.world) (ahead_after now asked (list ∷ rest) (assigned asked list) (c.room.invariant.ahead rest e));
-      goes = λ rest e r end last ends.
+      goes = λ rest e r end ends.
           let first = filled_first asked c.requires.asks c.room.self.wanted now list _ (c.wants.ensures.wanted c.room-test.true) (ahead_first now asked list rest step.chosen.candidate (c.room.invariant.ahead rest e))
           ∙ ap₂ (λ w l. list ∷ filled l w asked) (sym step.world) (sym c.one_less-self.ensures) in
-          c.room.invariant.goes rest e r end last
-          (ends_on all asked (stand_of all c.room.self) next list first _ _ _ _ _ c.saturating_add-self.ensures step.world
-          (c.in_ok-push_piece.ensures (line all) list (sym (c.deref.ensures.value ∙ c.in_ok-put_line.ensures))) r end last ends);
+          c.room.invariant.goes rest e r end
+          (ends_on all asked (stand_of all c.room.self) next list first c.saturating_add-self.ensures step.world
+          (c.in_ok-push_piece.ensures (line all) list (sym (c.deref.ensures.value ∙ c.in_ok-put_line.ensures))) r end ends);
     }
 
 pub returns-clause-places : goal.returns-clause-places
@@ -90,6 +90,6 @@ returns-clause-places g c = λ rest e.
         | inl over ↦ absurd (wants over)
         | inr full ↦ ahead_past now asked list rest (leaves now asked list (subst (λ (a : Asked). sums now (assigned a list) ≡ false) c.requires.query full)) (c.room.invariant.ahead rest e)
       ];
-      goes = λ r end last ends. c.room.invariant.goes rest e r end last ends;
+      goes = λ r end ends. c.room.invariant.goes rest e r end ends;
       stops = tt;
     }

@@ -12,9 +12,7 @@ returns-then-sum-from-clause-room c =
     let inventory = c.in-Some.inventory.now in
     let taken = taken_in c.args.self.now c.args.ix (class_bytes c.args.class.now) in
     let sum = c.args.sum in
-    let left : c.from.result + c.from-in-Some.result + sum ≡ c.used.result + taken + sum = omega (arith, c.from.ensures, c.from-in-Some.ensures, c.taken.ensures) in
-    let right : c.from-then-sum-from.result ≡ capacity inventory = c.from-then-sum-from.ensures ∙ c.capacity.ensures.value in
-    ap₂ nat_le left right
+    ap₂ nat_le (omega (arith, c.from.ensures, c.from-in-Some.ensures, c.taken.ensures)) (c.from-then-sum-from.ensures ∙ c.capacity.ensures.value)
     ∙ (both_tests sum inventory.max_unit (c.used.result + taken + sum) (capacity inventory) (omega (arith, c.if-sum-from.true, c.from-in-Some-2.ensures, c.max_unit.ensures))
     ∙ sym (room_taken (providers_of c.args.cloud.now) (taken_in c.args.self.now) c.args.ix sum (class_bytes c.args.class.now) inventory c.used.result c.in-Some.ensures c.used.ensures))
 

@@ -55,11 +55,10 @@ returns-clause-providers c =
     let end = c.loop-k.invariant in
     let texts = same_texts start t end.same in
     let many : length (texts_in t) ≡ length t.classes.items = length-map t.classes.items (λ v. class_bytes v.now) in
-    let size : length t.amounts.items ≡ t.count * length (texts_in t) = t.sized ∙ ap (λ (n : ℕ). t.count * n) (sym many) in
     let last : length (texts_in t) ≡ c.len-k-end.result = omega (arith, many, ap length end.same.classes, start.classes.ok, c.len-k-end.ensures) in
     sym (all_settled (providers_of c.loop-k.cloud) (taken_in t) (entries_rise c.loop-k.cloud)
     (λ p d inside.
-    none_taken t.amounts.items (texts_in t) t.count size
+    none_taken t.amounts.items (texts_in t) t.count (t.sized ∙ ap (λ (n : ℕ). t.count * n) (sym many))
     (λ k q less within. ap (λ (l : List (List ℕ)). taken_in t q (slice_index_or l k [])) texts ∙ end.gone k q (omega (arith, less, last, c.loop-k-test.false)) (omega (arith, within, end.same.count)))
     p d (omega (arith, inside, end.fits.count))))
     ∙ end.world

@@ -49,7 +49,6 @@ returns-then-taken-gt0-clause-fits c =
             | inr other ↦
                 let kept = rw other at now in
                 let uses = ap (λ (ps : List Provider). used_of (provider_at ps q) d) c.set_used.ensures.providers ∙ used_other all c.args.ix v q class d other in
-                let fits = c.requires.fits.small q d within (omega (arith, kept, some)) in
-                omega (arith, kept, uses, fits)
+                omega (arith, kept, uses, c.requires.fits.small q d within (omega (arith, kept, some)))
           ];
     }

@@ -17,8 +17,7 @@ pub take_need-requires-clause-class : goal.take_need-requires-clause-class
 take_need-requires-clause-class c =
     let first = next c.args.needs.now c.loop-need.need-index c.need-item.result c.loop-need-test.true c.need-item.is in
     let texts = texts_in c.args.self.now in
-    let known = subst (Each (λ (need : List ℕ × ℕ). IsKnown texts need.0)) first c.loop-need.invariant.known in
-    rw c.loop-need.invariant.same.classes known.0
+    rw c.loop-need.invariant.same.classes (subst (Each (λ (need : List ℕ × ℕ). IsKnown texts need.0)) first c.loop-need.invariant.known).0
 
 pub take_need-requires-clause-small : goal.take_need-requires-clause-small
 take_need-requires-clause-small c = λ some.
@@ -26,9 +25,8 @@ take_need-requires-clause-small c = λ some.
     let now = c.loop-need.self in
     let ix = c.args.ix in
     let need = need_entry c.need-item.result in
-    let all = map need_entry c.args.needs.now in
     let rest = map need_entry (drop (c.loop-need.need-index + 1) c.args.needs.now) in
     let first = next c.args.needs.now c.loop-need.need-index c.need-item.result c.loop-need-test.true c.need-item.is in
-    fits_one (taken_in now ix need.0) (taken_in start ix need.0) ix need rest all
+    fits_one (taken_in now ix need.0) (taken_in start ix need.0) ix need rest (map need_entry c.args.needs.now)
     (ap (λ (l : List (List ℕ × ℕ)). taken_in now ix need.0 + asked_of_one ix l ix need.0) (sym first) ∙ c.loop-need.invariant.taken ix need.0 c.requires.provider)
     (c.loop-need.invariant.grown ix need.0 c.requires.provider) (c.requires.small need.0) some

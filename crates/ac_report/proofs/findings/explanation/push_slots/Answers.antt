@@ -1,6 +1,4 @@
-use Rattle.std.proofs.Common.{◌∙◌, ◌+◌, ℕ, ap, arith, length, subst}
-use Rattle.std.specs.Io.KnownBytes.{Appends}
-use Rattle.ac_base.specs.Devices.{TakesPart}
+use Rattle.std.proofs.Common.{◌∙◌, ◌+◌, ℕ, ap, arith, length}
 use Rattle.ac_query.specs.Asked.{slots_of}
 use Rattle.ac_query.specs.Shown.Queries.{asked_of}
 use Rattle.ac_rules.specs.Placed.{slot_at}
@@ -21,17 +19,15 @@ push_slot-requires-clause-rooms g c =
 pub push_slot-requires-clause-slot : goal.push_slot-requires-clause-slot
 push_slot-requires-clause-slot g c = told_low (providers_of c.args.cloud.now) (asked_of c.args.query.now) c.args.slots.now c.loop-s.s c.index-slots-s.result c.requires c.loop-s-test.true
 
-pub returns-in_err-push_slot-clause-text : goal.returns-in_err-push_slot-clause-text
-returns-in_err-push_slot-clause-text g c =
+pub returns-in_err-push_slot : goal.returns-in_err-push_slot
+returns-in_err-push_slot g c =
     let all = providers_of c.args.cloud.now in
     let asked = asked_of c.args.query.now in
     let s = c.loop-s.s in
     let low = told_low all asked c.args.slots.now s c.index-slots-s.result c.requires c.loop-s-test.true in
     let is = ap slot_shown c.index-slots-s.is ∙ told_at all asked c.args.slots.now s c.index-slots-s.result c.requires c.loop-s-test.true in
-    place_stopped _ _ _ _ (λ (s : ℕ). slot_line all (s + 1) (slot_at asked s) (slot_told all (slot_at asked s))) s (length (slots_of asked)) c.loop-s.invariant.leaves
-    c.from_residual.result _ _ _ _ low c.loop-s.invariant.failures c.push_slot.ensures.failures c.from_residual.ensures.1
-    (subst (λ (told : SlotTold). TakesPart (g.W.Sink.taken c.loop-s.out) (g.W.Sink.taken c.push_slot.new.out) (slot_line all (s + 1) (slot_at asked s) told)) is c.in_err-push_slot.ensures.text.0)
-    c.in_err-push_slot.ensures.text.1
+    place_stopped (λ (s : ℕ). slot_line all (s + 1) (slot_at asked s) (slot_told all (slot_at asked s))) s (length (slots_of asked)) low
+    (ap (slot_line all (s + 1) (slot_at asked s)) is) c.loop-s.invariant _ c.in_err-push_slot.ensures c.from_residual.ensures.1
 
 pub loop-s-preserved : goal.loop-s-preserved
 loop-s-preserved g c =
@@ -40,8 +36,5 @@ loop-s-preserved g c =
     let s = c.loop-s.s in
     let low = told_low all asked c.args.slots.now s c.index-slots-s.result c.requires c.loop-s-test.true in
     let is = ap slot_shown c.index-slots-s.is ∙ told_at all asked c.args.slots.now s c.index-slots-s.result c.requires c.loop-s-test.true in
-    record {
-      leaves = place_written _ _ _ _ (λ (s : ℕ). slot_line all (s + 1) (slot_at asked s) (slot_told all (slot_at asked s))) s (length (slots_of asked)) c.loop-s.invariant.leaves low
-          (subst (λ (told : SlotTold). Appends (g.W.Sink.taken c.loop-s.out) (g.W.Sink.taken c.push_slot.new.out) (slot_line all (s + 1) (slot_at asked s) told)) is c.in_ok-push_slot.ensures.text);
-      failures = omega (arith, c.loop-s.invariant.failures, c.in_ok-push_slot.ensures.failures);
-    }
+    place_written (λ (s : ℕ). slot_line all (s + 1) (slot_at asked s) (slot_told all (slot_at asked s))) s (length (slots_of asked)) low
+    (ap (slot_line all (s + 1) (slot_at asked s)) is) c.loop-s.invariant c.in_ok-push_slot.ensures

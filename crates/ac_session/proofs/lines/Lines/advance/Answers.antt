@@ -1,5 +1,6 @@
 use Rattle.std.proofs.Common.{◌∙◌, ap, arith, length, sym}
-use Rattle.ac_session.proofs.Leading.{at_end, error_gives, given_up_later, rises_later, line_behind, line_given, long_behind, long_given, long_kept, rest_behind, rest_given, unfound}
+use Rattle.ac_base.proofs.HandedOn.{later_rise}
+use Rattle.ac_session.proofs.Leading.{at_end, error_gives, given_up_later, line_behind, line_given, long_behind, long_given, long_kept, rest_behind, rest_given, unfound}
 use Rattle.ac_session.proofs.Rooms.{held_inside}
 use Rattle.ac_session.proofs.lines.Lines.advance.Goals as goal
 
@@ -31,7 +32,7 @@ returns-in_err-pass_over-clause-goes_on g c =
       unasked = λ has. absurd (unfound _ _ c.find_newline.ensures.same missed has);
       failures = omega (arith, c.find_newline.ensures.failures, c.pass_over.ensures.failures);
       unbroken = λ some. absurd (some none);
-      rises = λ failed. rises_later _ _ _ c.find_newline.ensures.failures c.in_err-pass_over.ensures.rises c.pass_over.ensures.failures;
+      rises = λ failed. later_rise _ _ _ c.find_newline.ensures.failures c.pass_over.ensures.failures c.in_err-pass_over.ensures.rises;
       given_up = λ failed. given_up_later _ _ _ _ _ _ c.in_ok-place.ensures.unbroken c.find_newline.ensures.failures c.in_err-pass_over.ensures.given_up;
     }
 

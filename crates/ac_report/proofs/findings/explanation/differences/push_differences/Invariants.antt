@@ -1,20 +1,17 @@
-use Rattle.std.proofs.Common.{◌≤◌, [], drop}
+use Rattle.std.proofs.Common.{[], drop}
 use Rattle.std.specs.Prelude.{if◌then◌else◌}
 use Rattle.std.specs.List.{flat_map}
-use Rattle.ac_base.proofs.Leaving.{Leaves}
 use Rattle.ac_query.specs.Shown.Queries.{asked_of}
 use Rattle.ac_cloud.specs.Cloud.CloudWorld.{providers_of}
 use Rattle.ac_differences.specs.Differing.{applies}
 use Rattle.ac_differences.specs.declared.differences.Difference.{Difference}
 use Rattle.ac_report.specs.Findings.Explanation.Differing.{differs_line, differs_lines}
+use Rattle.ac_report.proofs.FoundTexts.Begun.{IsBegun}
 use Rattle.ac_report.proofs.findings.explanation.differences.push_differences.Given as goal
 
 abbrev pub invariant-loop-difference : goal.invariant-loop-difference
 invariant-loop-difference g l =
     let all = providers_of l.cloud in
     let asked = asked_of l.query in
-    record {
-      leaves : Leaves (g.W.Sink.taken l.fn.out) (g.W.Sink.taken l.out) (differs_lines all asked)
-          (flat_map (λ (d : Difference). if applies all asked d then differs_line d else []) (drop l.difference-index l.difference-items));
-      failures : g.W.Sink.failures l.fn.out ≤ g.W.Sink.failures l.out;
-    }
+    IsBegun g.W.Sink.taken g.W.Sink.failures l.fn.out l.out
+    (differs_lines all asked) (flat_map (λ (d : Difference). if applies all asked d then differs_line d else []) (drop l.difference-index l.difference-items))

@@ -1,0 +1,70 @@
+//! The files of the tables.
+ghost use Rattle.std.specs.Prelude.{◌≡◌, IfErr, IfOk, Some, option_map};
+ghost use Rattle.ac_cli.specs.Files.{AreOpened, IsOpened};
+ghost use Rattle.ac_run.specs.Tasks.{paths_shown};
+ghost use Rattle.ac_tables.specs.FiveTables.{table_in};
+
+use crate::host::Host;
+use ac_run::{Inputs, Paths};
+use ac_tables::Table;
+
+/// A table whose file can't be opened: its path, and the reason.
+#[derive(Clone, Copy, Debug)]
+pub struct Unopened<'a> {
+    pub table: Table,
+    pub path: &'a str,
+    pub reason: &'static str,
+}
+
+// Opens the file of a table.
+fn opened<'a, H: Host>(host: &H, table: Table, path: &'a str) -> Result<H::File, Unopened<'a>>
+    ensures file { IfOk result (H.opens host.now path.now) }
+    ensures fault { IfErr result (λ told. (told.table ≡ table) × (told.path.now ≡ path.now)
+        × H.refuses host.now path.now told.reason.now) }
+{
+    match host.open(path) {
+        Ok(file) => Ok(file),
+        Err(reason) => Err(Unopened {
+            table,
+            path,
+            reason,
+        }),
+    }
+}
+
+// Opens the file of a table, where a path is given for it.
+fn opened_if_given<'a, H: Host>(
+    host: &H,
+    table: Table,
+    path: Option<&'a str>,
+) -> Result<Option<H::File>, Unopened<'a>>
+    ensures file { IfOk result
+        (IsOpened (H.opens host.now) (option_map (λ p. p.now) path.entry)) }
+    ensures fault { IfErr result (λ told. (told.table ≡ table)
+        × (option_map (λ p. p.now) path.entry ≡ Some told.path.now)
+        × H.refuses host.now told.path.now told.reason.now) }
+{
+    match path {
+        Some(path) => Ok(Some(opened(host, table, path)?)),
+        None => Ok(None),
+    }
+}
+
+/// Opens the file of each table at its path; else the first table whose path is refused.
+pub fn opened_inputs<'a, H: Host>(
+    host: &H,
+    paths: &Paths<'a>,
+) -> Result<Inputs<H::File>, Unopened<'a>>
+    ensures files { IfOk result (AreOpened (H.opens host.now) (paths_shown paths.now)) }
+    ensures fault { IfErr result (λ told.
+        (table_in (paths_shown paths.now) told.table ≡ Some told.path.now)
+        × H.refuses host.now told.path.now told.reason.now) }
+{
+    Ok(Inputs {
+        providers: opened(host, Table::Providers, paths.providers)?,
+        inventories: opened(host, Table::Inventories, paths.inventories)?,
+        usages: opened_if_given(host, Table::Usages, paths.usages)?,
+        traits: opened_if_given(host, Table::Traits, paths.traits)?,
+        aggregates: opened_if_given(host, Table::Aggregates, paths.aggregates)?,
+    })
+}

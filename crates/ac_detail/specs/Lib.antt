@@ -1,2 +1,0 @@
-pub mod Details
-pub mod Run

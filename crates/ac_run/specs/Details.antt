@@ -1,0 +1,97 @@
+-- What stands behind the line of a refusal where more is told: what is to be done.
+use Rattle.std.specs.Prelude.{ℕ, List, [], Option, Some, None, Result, Ok, Err}
+use Rattle.std.specs.Option.{unwrap_or}
+use Rattle.ac_cloud.specs.Cloud.Hosts.{host_of}
+use Rattle.ac_cloud.specs.World.{Provider}
+use Rattle.ac_cloud.specs.declared.cloud.provider_name.HostFault.{HostFault}
+use Rattle.ac_query.specs.Asked.{Asked}
+use Rattle.ac_query.specs.Faults.{query_fault}
+use Rattle.ac_query.specs.Laws.Gathered.{asked_by}
+use Rattle.ac_query.specs.Pairs.{pairs_of}
+use Rattle.ac_query.specs.Shown.Faults.{fault_shown}
+use Rattle.ac_remedies.specs.Queries.{host_remedy, query_remedy, token_remedy}
+use Rattle.ac_remedies.specs.Tables.{record_remedy, size_remedy, unread_remedy}
+use Rattle.ac_run.specs.Given.{token_refusal}
+use Rattle.ac_run.specs.Tasks.{Command, Paths, Task, token_in, why}
+use Rattle.ac_run.specs.declared.refusal.AskRefusal.{AskRefusal}
+use Rattle.ac_run.specs.declared.refusal.AskRefusal.TheVariants as ask
+use Rattle.ac_run.specs.declared.refusal.TablesRefusal.{TablesRefusal}
+use Rattle.ac_run.specs.declared.refusal.TablesRefusal.TheVariants as tables
+use Rattle.ac_tables.specs.FiveTables.{table_in}
+use Rattle.ac_tables.specs.Tables.{Tables}
+use Rattle.ac_tables.specs.declared.fault.Table.{Table}
+use Rattle.ac_tables.specs.declared.fault.TableKind.{TableKind}
+
+-- where more is told, what is said so; else nothing
+abbrev pub behind : Option Paths → (Paths → List ℕ) → List ℕ
+behind None said = []
+behind (Some paths) said = said paths
+
+-- the path of a table's file; empty where none was given
+abbrev pub path_in : Paths → Table → List ℕ
+path_in paths t = unwrap_or (table_in paths t) []
+
+-- what is said of a fault, where there is one, and else this
+abbrev pub text_of : {X : Type 0} → Option X → (X → List ℕ) → List ℕ → List ℕ
+text_of None say otherwise = otherwise
+text_of (Some x) say otherwise = say x
+
+-- ---- of the tables
+
+-- of a table that was opened and can't be read: no reason is known
+abbrev pub unread_text : Paths → Table → List ℕ
+unread_text paths t = unread_remedy (path_in paths t) None
+
+-- of a table with too many bytes
+abbrev pub size_text : Paths → Table → List ℕ
+size_text paths t = size_remedy (path_in paths t)
+
+-- of a fault of a record
+abbrev pub fault_text : Paths → Tables → Table → ℕ → TableKind → List ℕ
+fault_text paths stated t row kind = record_remedy (path_in paths t) stated t row kind
+
+-- ---- of what is asked
+
+abbrev pub host_said : List ℕ → Result ℕ HostFault → List ℕ
+host_said host (Ok place) = []
+host_said host (Err f) = host_remedy host f
+
+-- of a host that names no provider
+abbrev pub host_text : List Provider → Command → List ℕ
+host_text all (why host) = host_said host (host_of all host)
+host_text all _ = []
+
+-- of a token that is refused; else of the host
+abbrev pub token_text : List Provider → Command → Asked → List ℕ
+token_text all command asked =
+    text_of (token_refusal asked (token_in command)) (token_remedy (unwrap_or (token_in command) []) asked) (host_text all command)
+
+-- of a query that is refused; else of the token
+abbrev pub asked_text : List Provider → Task → List ℕ
+asked_text all task =
+    text_of (query_fault task.version task.query) (λ f. query_remedy task.version task.query (Some f))
+    (token_text all task.command (asked_by task.version (pairs_of task.query)))
+
+-- ---- of a refusal
+
+-- of a table whose bytes can't be had
+abbrev pub reading_remedy : TablesRefusal → Paths → List ℕ
+reading_remedy (tables.Unreadable t) = λ paths. unread_text paths t
+reading_remedy (tables.TooLarge t) = λ paths. size_text paths t
+reading_remedy _ = λ paths. []
+
+-- of a fault of a record of these tables
+abbrev pub fault_remedy : Tables → TablesRefusal → Paths → List ℕ
+fault_remedy stated (tables.Record t row kind) = λ paths. fault_text paths stated t row kind
+fault_remedy stated _ = λ paths. []
+
+abbrev pub host_in : Command → List ℕ
+host_in (why host) = host
+host_in _ = []
+
+-- of what is asked and refused
+abbrev pub asked_remedy : Task → AskRefusal → List ℕ
+asked_remedy task (ask.Query f) = query_remedy task.version task.query (fault_shown f)
+asked_remedy task (ask.Token f) = token_remedy (unwrap_or (token_in task.command) []) (asked_by task.version (pairs_of task.query)) f
+asked_remedy task (ask.Host f) = host_remedy (host_in task.command) f
+asked_remedy task ask.NoMemory = []

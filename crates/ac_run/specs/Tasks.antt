@@ -1,0 +1,69 @@
+-- What is asked of a run.
+use denote.Ref.{Bor}
+use Rattle.std.specs.Prelude.{ℕ, Bool, List, Option, Some, None}
+use Rattle.std.specs.Option.{option_map}
+use Rattle.ac_query.specs.declared.version.Version.{Version}
+use Rattle.ac_run.specs.declared.job.Command as rust
+use Rattle.ac_run.specs.declared.job.Command.TheVariants as variant
+use Rattle.ac_run.specs.declared.job.Job.{Job}
+use Rattle.ac_tables.specs.declared.read.FiveTables.{FiveTables}
+
+-- what is to be done: with the token to begin after, or to judge; with traits, or not; with the number of placements in place of their tokens, or not;
+-- with the host that is asked about
+pub data Command : Type 0 where
+  check : Command
+  candidates : Option (List ℕ) → Bool → Command
+  tokens : Option (List ℕ) → Command
+  list : Option (List ℕ) → Bool → Command
+  fill : Bool → Command
+  verify : List ℕ → Command
+  explain : Command
+  hosts : Command
+  why : List ℕ → Command
+
+-- the paths of the tables' files, as they were given
+abbrev pub Paths : Type 0
+Paths = FiveTables (List ℕ)
+
+-- what is asked: the query, the version that reads it, and the paths where more is told
+pub record Task : Type 0 where
+  pub command : Command
+  pub query : List ℕ
+  pub version : Version
+  pub detail : Option Paths
+
+-- the token to judge, or to begin after
+abbrev pub token_in : Command → Option (List ℕ)
+token_in (candidates after traits) = after
+token_in (tokens after) = after
+token_in (list after traits) = after
+token_in (verify token) = Some token
+token_in _ = None
+
+-- ---- what a job asks
+
+abbrev pub command_shown : rust.Command → Command
+command_shown variant.Check = check
+command_shown (variant.Candidates after traits) = candidates (option_map (λ t. t.now) after) traits
+command_shown (variant.Tokens after) = tokens (option_map (λ t. t.now) after)
+command_shown (variant.List after traits) = list (option_map (λ t. t.now) after) traits
+command_shown (variant.Fill sum) = fill sum
+command_shown (variant.Verify token) = verify token.now
+command_shown variant.Explain = explain
+command_shown variant.Hosts = hosts
+command_shown (variant.Why host) = why host.now
+
+abbrev pub paths_shown : FiveTables (Bor (List ℕ)) → Paths
+paths_shown p = record {
+  providers = p.providers.now;
+  inventories = p.inventories.now;
+  usages = option_map (λ t. t.now) p.usages;
+  traits = option_map (λ t. t.now) p.traits;
+  aggregates = option_map (λ t. t.now) p.aggregates;
+}
+
+abbrev pub detail_shown : Option (Bor (FiveTables (Bor (List ℕ)))) → Option Paths
+detail_shown detail = option_map (λ paths. paths_shown paths.now) detail
+
+abbrev pub task_of : Job → Task
+task_of job = record { command = command_shown job.command; query = job.query.now; version = job.version; detail = detail_shown job.detail }

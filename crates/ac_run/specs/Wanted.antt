@@ -1,0 +1,80 @@
+-- What is wanted of a cloud, and why what is asked is refused.
+use Rattle.std.specs.Prelude.{◌≡◌, ◌<◌, ℕ, Bool, true, is_some, List, length, Option, Some, None, Result, Err, ⊤}
+use Rattle.std.specs.Option.{option_map}
+use Rattle.ac_cloud.specs.Cloud.Hosts.{host_of}
+use Rattle.ac_cloud.specs.World.{Provider, World}
+use Rattle.ac_cloud.specs.declared.cloud.provider_name.HostFault.{HostFault}
+use Rattle.ac_fill.specs.Filled.{asks_units}
+use Rattle.ac_query.specs.Asked.{Asked, slots_of}
+use Rattle.ac_query.specs.Faults.{Fault, query_fault}
+use Rattle.ac_query.specs.Laws.Gathered.{asked_by}
+use Rattle.ac_query.specs.Pairs.{pairs_of}
+use Rattle.ac_query.specs.Shown.Faults.{fault_shown}
+use Rattle.ac_query.specs.Shown.Queries.{asked_of}
+use Rattle.ac_query.specs.Tokens.{ids_of}
+use Rattle.ac_query.specs.declared.token.TokenFault.{TokenFault}
+use Rattle.ac_run.specs.Answer.{Outcome, answer_in, explanation, fills, host_rows, page_body, page_lines, page_rows, verdict_line, why_not, written}
+use Rattle.ac_run.specs.Given.{token_refusal}
+use Rattle.ac_run.specs.Outputs.{counts}
+use Rattle.ac_run.specs.Tasks.{Command, Task, check, token_in, why}
+use Rattle.ac_run.specs.declared.refusal.AskRefusal.{AskRefusal}
+use Rattle.ac_run.specs.declared.refusal.AskRefusal.TheVariants as ask
+use Rattle.ac_run.specs.declared.wanted.Wanted.{Wanted}
+use Rattle.ac_run.specs.declared.wanted.Wanted.TheVariants as wanted
+
+-- the answer to what is wanted, in a world
+abbrev pub answer_to : Wanted → World → Outcome
+answer_to wanted.Counts world = written (counts world.sizes) 0
+answer_to (wanted.Body query token traits) world = page_body world.providers traits (asked_of query) (option_map ids_of token)
+answer_to (wanted.Lines query token) world = page_lines world.providers (asked_of query) (option_map ids_of token)
+answer_to (wanted.Rows query token traits) world = page_rows world.providers traits (asked_of query) (option_map ids_of token)
+answer_to (wanted.Fill query sum) world = fills world.providers sum (asked_of query) None
+answer_to (wanted.Verdict query token detail) world = verdict_line world.providers detail (asked_of query) (Some (ids_of token))
+answer_to (wanted.Explanation question) world = explanation world.providers (asked_of question.query) None
+answer_to (wanted.Hosts query) world = host_rows world.providers (asked_of query) None
+answer_to (wanted.Why query host) world = why_not world.providers (asked_of query) host
+
+-- The token on which a verdict is wanted has an id for each slot of the query; a query that is placed again and again asks for an amount of a class; and
+-- the provider that is asked about is there.
+abbrev pub IsSound : List Provider → Wanted → Type 0
+IsSound all (wanted.Verdict query token detail) = length (ids_of token) ≡ length (slots_of (asked_of query))
+IsSound all (wanted.Fill query sum) = asks_units (asked_of query) ≡ true
+IsSound all (wanted.Why query host) = host < length all
+IsSound all _ = ⊤
+
+-- whether more is told
+abbrev pub details_in : Task → Bool
+details_in task = is_some task.detail
+
+-- ---- why what is asked is refused
+
+-- what is wrong with a query, or want of memory
+abbrev pub ExplainsQuery : Option Fault → AskRefusal → Type 0
+ExplainsQuery fault (ask.Query f) = (told : Fault) × (fault_shown f ≡ Some told) × (fault ≡ Some told)
+ExplainsQuery fault ask.NoMemory = ⊤
+ExplainsQuery fault _ = ⊥
+
+-- what is wrong with a token, or want of memory
+abbrev pub ExplainsToken : Option TokenFault → AskRefusal → Type 0
+ExplainsToken fault (ask.Token f) = fault ≡ Some f
+ExplainsToken fault ask.NoMemory = ⊤
+ExplainsToken fault _ = ⊥
+
+-- why a host names no provider
+abbrev pub ExplainsHost : Result ℕ HostFault → AskRefusal → Type 0
+ExplainsHost found (ask.Host f) = found ≡ Err f
+ExplainsHost found _ = ⊥
+
+-- what is wrong with the token of a command, and else with its host; or want of memory
+abbrev pub ExplainsRest : List Provider → Command → Asked → AskRefusal → Type 0
+ExplainsRest all command asked (ask.Query f) = ⊥
+ExplainsRest all command asked (ask.Token f) = token_refusal asked (token_in command) ≡ Some f
+ExplainsRest all command asked (ask.Host f) = (host : List ℕ) × (command ≡ why host) × (host_of all host ≡ Err f)
+ExplainsRest all command asked ask.NoMemory = ⊤
+
+-- What is wrong with the query of a task, and else with its token or its host; or want of memory. One that asks for no query is not refused.
+abbrev pub ExplainsWanted : Task → World → AskRefusal → Type 0
+ExplainsWanted task world ask.NoMemory = ⊤
+ExplainsWanted task world (ask.Query f) = (task.command ≡ check → ⊥) × ExplainsQuery (query_fault task.version task.query) (ask.Query f)
+ExplainsWanted task world refusal =
+    (task.command ≡ check → ⊥) × (query_fault task.version task.query ≡ None) × ExplainsRest world.providers task.command (asked_by task.version (pairs_of task.query)) refusal

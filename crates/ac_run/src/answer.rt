@@ -1,0 +1,287 @@
+//! The answers over a cloud, each written with its status.
+
+ghost use Rattle.std.specs.Prelude.{◌≡◌, ◌<◌, IfOk, Some, None, length};
+ghost use Rattle.std.specs.List.{All};
+ghost use Rattle.std.specs.Option.{option_map};
+ghost use Rattle.ac_cloud.specs.Cloud.CloudWorld.{providers_of, world_of};
+ghost use Rattle.ac_query.specs.Asked.{slots_of};
+ghost use Rattle.ac_query.specs.Shown.Queries.{asked_of};
+ghost use Rattle.ac_query.specs.Tokens.{ids_of};
+ghost use Rattle.ac_run.specs.Answer.{explanation, host_rows, page_body, page_lines, page_rows, verdict_line, verdict_on, why_not, written};
+ghost use Rattle.ac_run.specs.Wanted.{IsSound, answer_to};
+ghost use Rattle.ac_run.specs.Outputs.{counts, detailed_text, verdict_status, verdict_text};
+ghost use Rattle.ac_rules.specs.declared.verdict.Verdict.TheVariants as Verdict;
+ghost use Rattle.ac_report.specs.Pages.{IsAssignment};
+ghost use Rattle.ac_rules.specs.Pages.{rest};
+ghost use Rattle.ac_run.specs.Run.{Delivers};
+
+use crate::outputs::{detailed_line, push_counts, push_text, push_verdict, verdict_status};
+use crate::placements::write_fill;
+use crate::wanted::Wanted;
+use ac_base::{NoMemory, Sink};
+use ac_find::{all_slots, broken_detail, find_lacks, tree_counts};
+use ac_query::{Query, Token};
+use ac_report::findings::{
+    Question, explanation_status, find_without, has_candidate, hosts_status, hosts_text,
+    push_explanation, push_reasons, root_place, why_at,
+};
+use ac_report::{PageFault, write_list, write_shown_page, write_tokens};
+use ac_rules::{Assignment, InCloud, Rule, Verdict, verify};
+use ac_search::{Source, Walk, fitting_roots};
+use ac_tables::Cloud;
+use std::alloc::Global;
+
+// How much the tables told.
+fn write_counts<W: Sink>(cloud: &Cloud, out: &mut W) -> Result<u8, PageFault>
+    ensures { Delivers (written (counts (world_of cloud.now).sizes) 0) result (W.taken out.old)
+        (W.taken out.new) (W.failures out.old) (W.failures out.new) }
+{
+    push_counts(out, &cloud.counts())?;
+    Ok(0)
+}
+
+// The candidates after a token, or all of them.
+fn walk_after<'a>(
+    alloc: Global,
+    cloud: &'a Cloud,
+    query: &'a Query,
+    token: &Option<Token>,
+) -> Result<Walk<'a>, NoMemory>
+    ensures left { IfOk result (λ walk. ⟦<Walk<'a> as Source>⟧.left walk
+        ≡ rest (providers_of cloud.now) (asked_of query.now) (option_map ids_of token.now)) }
+    ensures assigned { IfOk result (λ walk. All (IsAssignment (providers_of cloud.now)
+        (asked_of query.now)) (⟦<Walk<'a> as Source>⟧.left walk)) }
+{
+    Walk::new(alloc, cloud, query, token.as_ref())
+}
+
+// The tokens of a page, a line each.
+#[tactic(auto, using(crate::proofs::Delivering::refused))]
+fn write_lines<W: Sink>(
+    alloc: Global,
+    cloud: &Cloud,
+    query: &Query,
+    token: &Option<Token>,
+    out: &mut W,
+) -> Result<u8, PageFault>
+    ensures { Delivers (page_lines (providers_of cloud.now) (asked_of query.now)
+        (option_map ids_of token.now)) result (W.taken out.old) (W.taken out.new) (W.failures out.old)
+        (W.failures out.new) }
+{
+    let mut source = walk_after(alloc, cloud, query, token)?;
+    write_tokens(alloc, cloud, query, &mut source, out)?;
+    Ok(0)
+}
+
+// The body of a page, with traits or without.
+#[tactic(auto, using(crate::proofs::Delivering::refused))]
+fn write_body<W: Sink>(
+    alloc: Global,
+    cloud: &Cloud,
+    query: &Query,
+    token: &Option<Token>,
+    traits: bool,
+    out: &mut W,
+) -> Result<u8, PageFault>
+    ensures { Delivers (page_body (providers_of cloud.now) traits (asked_of query.now)
+        (option_map ids_of token.now)) result (W.taken out.old) (W.taken out.new) (W.failures out.old)
+        (W.failures out.new) }
+{
+    let mut source = walk_after(alloc, cloud, query, token)?;
+    write_shown_page(alloc, cloud, query, traits, &mut source, out)?;
+    Ok(0)
+}
+
+// The rows of a page, with traits or without.
+#[tactic(auto, using(crate::proofs::Delivering::refused))]
+fn write_rows<W: Sink>(
+    alloc: Global,
+    cloud: &Cloud,
+    query: &Query,
+    token: &Option<Token>,
+    traits: bool,
+    out: &mut W,
+) -> Result<u8, PageFault>
+    ensures { Delivers (page_rows (providers_of cloud.now) traits (asked_of query.now)
+        (option_map ids_of token.now)) result (W.taken out.old) (W.taken out.new) (W.failures out.old)
+        (W.failures out.new) }
+{
+    let mut source = walk_after(alloc, cloud, query, token)?;
+    write_list(alloc, cloud, query, traits, &mut source, out)?;
+    Ok(0)
+}
+
+// A verdict alone.
+fn write_plain<W: Sink>(verdict: Verdict, out: &mut W) -> Result<u8, PageFault>
+    ensures { Delivers (written (verdict_text verdict) (verdict_status verdict)) result
+        (W.taken out.old) (W.taken out.new) (W.failures out.old) (W.failures out.new) }
+{
+    push_verdict(out, verdict)?;
+    Ok(verdict_status(verdict))
+}
+
+// The rule that a list breaks, with the first thing by which it does.
+#[tactic(auto, using(crate::proofs::Delivering::refused), unfolding(crate::specs::Outputs::detailed_text))]
+fn write_broken<W: Sink>(
+    alloc: Global,
+    assignment: &Assignment<'_>,
+    rule: Rule,
+    out: &mut W,
+) -> Result<u8, PageFault>
+    ensures { Delivers (written (detailed_text (providers_of assignment.now.cloud.now)
+        (asked_of assignment.now.query.now) assignment.now.list.now (Verdict.Broken rule)) 1) result
+        (W.taken out.old) (W.taken out.new) (W.failures out.old) (W.failures out.new) }
+{
+    let detail = broken_detail(alloc, assignment, rule)?;
+    let line = detailed_line(alloc, rule, &detail)?;
+    push_text(out, line.as_bytes(), 1)
+}
+
+// A verdict, with the first thing by which a rule is broken.
+#[tactic(auto, unfolding(crate::specs::Outputs::detailed_text, crate::specs::Outputs::verdict_text))]
+fn write_detailed<W: Sink>(
+    alloc: Global,
+    assignment: &Assignment<'_>,
+    verdict: Verdict,
+    out: &mut W,
+) -> Result<u8, PageFault>
+    ensures { Delivers (written (detailed_text (providers_of assignment.now.cloud.now)
+        (asked_of assignment.now.query.now) assignment.now.list.now verdict)
+        (verdict_status verdict)) result (W.taken out.old) (W.taken out.new) (W.failures out.old)
+        (W.failures out.new) }
+{
+    match verdict {
+        Verdict::Candidate => write_plain(verdict, out),
+        Verdict::Broken(rule) => write_broken(alloc, assignment, rule, out),
+    }
+}
+
+// The verdict on a list, with the first thing by which a rule is broken where that is asked.
+fn write_judged<W: Sink>(
+    alloc: Global,
+    cloud: &Cloud,
+    query: &Query,
+    list: &[u32],
+    detail: bool,
+    out: &mut W,
+) -> Result<u8, PageFault>
+    requires slots { length list.now ≡ length (slots_of (asked_of query.now)) }
+    requires providers { All (λ p. p < length (providers_of cloud.now)) list.now }
+    ensures { Delivers (verdict_on (providers_of cloud.now) detail (asked_of query.now)
+        (Some list.now)) result (W.taken out.old) (W.taken out.new) (W.failures out.old)
+        (W.failures out.new) }
+{
+    let verdict = verify(cloud, query, list);
+    if detail {
+        let assignment = Assignment { cloud, query, list };
+        write_detailed(alloc, &assignment, verdict, out)
+    } else {
+        write_plain(verdict, out)
+    }
+}
+
+// The verdict on the list that a token names.
+fn write_verdict<W: Sink>(
+    alloc: Global,
+    cloud: &Cloud,
+    query: &Query,
+    token: &Token,
+    detail: bool,
+    out: &mut W,
+) -> Result<u8, PageFault>
+    requires { length (ids_of token.now) ≡ length (slots_of (asked_of query.now)) }
+    ensures { Delivers (verdict_line (providers_of cloud.now) detail (asked_of query.now)
+        (Some (ids_of token.now))) result (W.taken out.old) (W.taken out.new) (W.failures out.old)
+        (W.failures out.new) }
+{
+    match token.locate(alloc, cloud) {
+        Ok(Some(list)) => write_judged(alloc, cloud, query, &list, detail, out),
+        Ok(None) => push_text(out, b"unknown provider\n", 1),
+        Err(NoMemory) => Err(PageFault::NoMemory),
+    }
+}
+
+// How far a query comes, whether it has a candidate, or would have one without one thing, and where the service may answer otherwise.
+#[tactic(auto, using(crate::proofs::Delivering::refused, ac_base::proofs::Leaving::appends_both, ac_base::proofs::Leaving::part_of_first, ac_base::proofs::Leaving::part_of_second), unfolding(ac_report::specs::Findings::Explanation::explanation_text))]
+fn write_explanation<W: Sink>(
+    alloc: Global,
+    cloud: &Cloud,
+    question: &Question,
+    out: &mut W,
+) -> Result<u8, PageFault>
+    ensures { Delivers (explanation (providers_of cloud.now) (asked_of question.now.query) None)
+        result (W.taken out.old) (W.taken out.new) (W.failures out.old) (W.failures out.new) }
+{
+    let query = &question.query;
+    let slots = all_slots(alloc, cloud, query)?;
+    let trees = tree_counts(alloc, cloud, query)?;
+    let found = has_candidate(alloc, cloud, query, &trees)?;
+    let without = find_without(alloc, cloud, question, found)?;
+    push_explanation(out, cloud, query, &slots, &trees, found)?;
+    push_reasons(out, cloud, query, &without)?;
+    Ok(explanation_status(found))
+}
+
+// Which roots fit, and what the others lack.
+#[tactic(auto, using(crate::proofs::Delivering::refused))]
+fn write_hosts<W: Sink>(
+    alloc: Global,
+    cloud: &Cloud,
+    query: &Query,
+    out: &mut W,
+) -> Result<u8, PageFault>
+    ensures { Delivers (host_rows (providers_of cloud.now) (asked_of query.now) None) result
+        (W.taken out.old) (W.taken out.new) (W.failures out.old) (W.failures out.new) }
+{
+    let fits = fitting_roots(alloc, cloud, query)?;
+    let lacks = find_lacks(alloc, cloud, query, &fits)?;
+    let text = hosts_text(alloc, cloud, query, &fits, &lacks)?;
+    push_text(out, &text, hosts_status(&fits))
+}
+
+// How far a query comes in the tree of a provider.
+#[tactic(auto, using(crate::proofs::Delivering::refused))]
+fn write_why<W: Sink>(
+    alloc: Global,
+    cloud: &Cloud,
+    query: &Query,
+    host: u32,
+    out: &mut W,
+) -> Result<u8, PageFault>
+    requires { host < length (providers_of cloud.now) }
+    ensures { Delivers (why_not (providers_of cloud.now) (asked_of query.now) host) result
+        (W.taken out.old) (W.taken out.new) (W.failures out.old) (W.failures out.new) }
+{
+    let (text, status) = why_at(alloc, cloud, query, root_place(cloud, host))?;
+    push_text(out, &text, status)
+}
+
+/// Writes what is wanted of a cloud, and gives its status.
+pub fn write_answer<W: Sink>(
+    alloc: Global,
+    cloud: &Cloud,
+    wanted: &Wanted,
+    out: &mut W,
+) -> Result<u8, PageFault>
+    requires { IsSound (providers_of cloud.now) wanted.now }
+    ensures { Delivers (answer_to wanted.now (world_of cloud.now)) result (W.taken out.old)
+        (W.taken out.new) (W.failures out.old) (W.failures out.new) }
+{
+    match wanted {
+        Wanted::Counts => write_counts(cloud, out),
+        Wanted::Body(query, token, traits) => {
+            write_body(alloc, cloud, query, token, *traits, out)
+        }
+        Wanted::Lines(query, token) => write_lines(alloc, cloud, query, token, out),
+        Wanted::Rows(query, token, traits) => {
+            write_rows(alloc, cloud, query, token, *traits, out)
+        }
+        Wanted::Fill(query, sum) => write_fill(alloc, cloud, query, *sum, out),
+        Wanted::Verdict(query, token, detail) => {
+            write_verdict(alloc, cloud, query, token, *detail, out)
+        }
+        Wanted::Explanation(question) => write_explanation(alloc, cloud, question, out),
+        Wanted::Hosts(query) => write_hosts(alloc, cloud, query, out),
+        Wanted::Why(query, host) => write_why(alloc, cloud, query, *host, out),
+    }
+}

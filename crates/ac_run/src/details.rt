@@ -1,0 +1,115 @@
+//! What stands behind the line of a refusal where more is told: what is to be done.
+ghost use Rattle.std.specs.Prelude.{◌≡◌, IfOk, None};
+ghost use Rattle.ac_run.specs.Details.{asked_remedy, behind, fault_remedy, host_in, path_in, reading_remedy};
+ghost use Rattle.ac_run.specs.Draining.{texts_shown};
+ghost use Rattle.ac_run.specs.Feeds.{too_large};
+ghost use Rattle.ac_run.specs.Given.{tables_in};
+ghost use Rattle.ac_run.specs.declared.refusal.AskRefusal.TheVariants as AskRefusal;
+ghost use Rattle.ac_run.specs.Tasks.{command_shown, detail_shown, paths_shown, task_of};
+
+use crate::inputs::Texts;
+use crate::job::{Command, Job, Paths};
+use crate::ready::sources_of;
+use crate::refusal::{AskRefusal, TablesRefusal};
+use ac_query::{Query, TokenFault};
+use ac_remedies::{
+    host_remedy, query_remedy, record_remedy, size_remedy, token_remedy, unread_remedy,
+};
+use ac_tables::Table;
+use std::alloc::{AllocError, Global};
+
+// The path of a table's file; empty where none was given.
+fn path_of<'a>(paths: &Paths<'a>, table: Table) -> &'a str
+    ensures { result.now ≡ path_in (paths_shown paths.now) table }
+{
+    match table {
+        Table::Providers => paths.providers,
+        Table::Inventories => paths.inventories,
+        Table::Usages => paths.usages.unwrap_or(""),
+        Table::Traits => paths.traits.unwrap_or(""),
+        Table::Aggregates => paths.aggregates.unwrap_or(""),
+    }
+}
+
+/// Of a table whose bytes can't be had.
+pub(crate) fn reading_detail(
+    alloc: Global,
+    detail: Option<&Paths>,
+    refusal: &TablesRefusal,
+) -> Result<Vec<u8>, AllocError>
+    ensures text { IfOk result (λ text.
+        text.items ≡ behind (detail_shown detail.entry) (reading_remedy refusal.now)) }
+{
+    match (detail, refusal) {
+        (Some(paths), TablesRefusal::Unreadable(table)) => {
+            unread_remedy(alloc, path_of(paths, *table), None)
+        }
+        (Some(paths), TablesRefusal::TooLarge(table)) => size_remedy(alloc, path_of(paths, *table)),
+        _ => Ok(Vec::new(alloc)),
+    }
+}
+
+/// Of a fault of a record.
+pub(crate) fn fault_detail(
+    alloc: Global,
+    detail: Option<&Paths>,
+    texts: &Texts,
+    refusal: &TablesRefusal,
+) -> Result<Vec<u8>, AllocError>
+    requires { too_large (texts_shown texts.now) ≡ None }
+    ensures text { IfOk result (λ text. text.items ≡ behind (detail_shown detail.entry)
+        (fault_remedy (tables_in (texts_shown texts.now)) refusal.now)) }
+{
+    match (detail, refusal) {
+        (Some(paths), TablesRefusal::Record { table, row, kind }) => record_remedy(
+            alloc,
+            path_of(paths, *table),
+            &sources_of(texts),
+            *table,
+            *row,
+            *kind,
+        ),
+        _ => Ok(Vec::new(alloc)),
+    }
+}
+
+// Of a token, whose query is read again, for its slots.
+fn token_detail(alloc: Global, job: &Job, fault: TokenFault) -> Result<Vec<u8>, AllocError>
+    ensures text { IfOk result (λ text.
+        text.items ≡ asked_remedy (task_of job.now) (AskRefusal.Token fault)) }
+{
+    match Query::read(alloc, job.query, job.version) {
+        Ok(query) => token_remedy(alloc, job.command.token().unwrap_or(""), &query, fault),
+        Err(_) => Err(AllocError),
+    }
+}
+
+// The host that a command asks about.
+fn host_of<'a>(command: Command<'a>) -> &'a str
+    ensures { result.now ≡ host_in (command_shown command.entry) }
+{
+    match command {
+        Command::Why { host } => host,
+        _ => "",
+    }
+}
+
+/// Of what is asked and refused.
+pub(crate) fn asked_detail(
+    alloc: Global,
+    job: &Job,
+    refusal: &AskRefusal,
+) -> Result<Vec<u8>, AllocError>
+    ensures text { IfOk result (λ text. text.items
+        ≡ behind (task_of job.now).detail (λ _. asked_remedy (task_of job.now) refusal.now)) }
+{
+    if job.detail.is_none() {
+        return Ok(Vec::new(alloc));
+    }
+    match refusal {
+        AskRefusal::Query(fault) => query_remedy(alloc, job.query, job.version, fault),
+        AskRefusal::Token(fault) => token_detail(alloc, job, *fault),
+        AskRefusal::Host(fault) => host_remedy(alloc, host_of(job.command), *fault),
+        AskRefusal::NoMemory => Ok(Vec::new(alloc)),
+    }
+}

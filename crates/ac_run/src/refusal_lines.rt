@@ -1,0 +1,189 @@
+//! The lines of refusals, pushed piece by piece: they take no memory.
+ghost use Rattle.std.specs.Prelude.{◌≡◌, ◌≤◌, ◌++◌};
+ghost use Rattle.ac_query.specs.Shown.Faults.{fault_shown};
+ghost use Rattle.ac_run.specs.Lines.{pair_line, group_line, record_line};
+ghost use Rattle.ac_run.specs.Refusals.{line_of, line_of_asked, line_of_query, line_of_tables, line_told, status_of, status_of_asked, status_told};
+ghost use Rattle.ac_base.specs.Writing.{Pushes, TakesLine};
+
+use crate::refusal::{AskRefusal, Refusal, Refused, TablesRefusal};
+use ac_base::{Digits, Sink, WriteFailed, push_all, push_pieces};
+use ac_cloud::HostFault;
+use ac_query::{QueryFault, TokenFault};
+use ac_tables::{Table, TableKind};
+
+// The line of a fault of a record.
+#[tactic(auto, unfolding(crate::specs::Lines::record_line))]
+fn push_record_line<E: Sink>(
+    err: &mut E,
+    table: Table,
+    row: u32,
+    kind: TableKind,
+) -> Result<(), WriteFailed>
+    ensures { Pushes E.taken E.failures err.old err.new result (record_line table row kind) }
+{
+    push_pieces(
+        err,
+        &[
+            table.name().as_bytes(),
+            b": record ",
+            Digits::of(row).as_bytes(),
+            b": ",
+            kind.name().as_bytes(),
+            b"\n",
+        ],
+    )
+}
+
+// The line of what is wrong with a pair.
+#[tactic(auto, unfolding(crate::specs::Lines::pair_line))]
+fn push_pair_line<E: Sink>(err: &mut E, number: u32, name: &[u8]) -> Result<(), WriteFailed>
+    ensures { Pushes E.taken E.failures err.old err.new result (pair_line number name.now) }
+{
+    push_pieces(
+        err,
+        &[
+            b"query: pair ",
+            Digits::of(number).as_bytes(),
+            b": ",
+            name,
+            b"\n",
+        ],
+    )
+}
+
+// The line of what is wrong with a group.
+#[tactic(auto, unfolding(crate::specs::Lines::group_line))]
+fn push_group_line<E: Sink>(err: &mut E, suffix: &[u8], name: &[u8]) -> Result<(), WriteFailed>
+    ensures { Pushes E.taken E.failures err.old err.new result (group_line suffix.now name.now) }
+{
+    push_pieces(err, &[b"query: group \"", suffix, b"\": ", name, b"\n"])
+}
+
+// The line of a fault of a query.
+#[tactic(auto, unfolding(crate::specs::Lines::query_line, crate::specs::Lines::memory_line))]
+fn push_query_line<E: Sink>(err: &mut E, fault: &QueryFault) -> Result<(), WriteFailed>
+    ensures { Pushes E.taken E.failures err.old err.new result
+        (line_of_query (fault_shown fault.now)) }
+{
+    match fault {
+        QueryFault::QueryTooLong => push_whole(err, b"query: QueryTooLong\n"),
+        QueryFault::UnknownParameter(number) => push_pair_line(err, *number, b"UnknownParameter"),
+        QueryFault::Repeated(number) => push_pair_line(err, *number, b"Repeated"),
+        QueryFault::BadValue(number) => push_pair_line(err, *number, b"BadValue"),
+        QueryFault::Conflict(number) => push_pair_line(err, *number, b"Conflict"),
+        QueryFault::NoResources => push_whole(err, b"query: NoResources\n"),
+        QueryFault::GroupWithoutResources(None) => push_group_line(
+            err,
+            b"",
+            b"GroupWithoutResources",
+        ),
+        QueryFault::GroupWithoutResources(Some(suffix)) => {
+            push_group_line(err, suffix.text().as_bytes(), b"GroupWithoutResources")
+        }
+        QueryFault::UnknownSuffix(suffix) => {
+            push_group_line(err, suffix.text().as_bytes(), b"UnknownSuffix")
+        }
+        QueryFault::PolicyMissing => push_whole(err, b"query: PolicyMissing\n"),
+        QueryFault::TooManySlots => push_whole(err, b"query: TooManySlots\n"),
+        QueryFault::NoMemory => push_whole(err, b"out of memory\n"),
+    }
+}
+
+// A text that is at hand.
+fn push_whole<E: Sink>(err: &mut E, text: &[u8]) -> Result<(), WriteFailed>
+    ensures { Pushes E.taken E.failures err.old err.new result text.now }
+{
+    push_all(err, text)
+}
+
+// Pushes the line of tables that are refused.
+#[tactic(auto, unfolding(crate::specs::Lines::unreadable_line, crate::specs::Lines::too_large_line, crate::specs::Lines::memory_line))]
+fn push_tables_line<E: Sink>(err: &mut E, refusal: &TablesRefusal) -> Result<(), WriteFailed>
+    ensures { Pushes E.taken E.failures err.old err.new result (line_of_tables refusal.now) }
+{
+    match refusal {
+        TablesRefusal::Unreadable(table) => {
+            push_pieces(err, &[table.name().as_bytes(), b": Unreadable\n"])
+        }
+        TablesRefusal::TooLarge(table) => push_pieces(
+            err,
+            &[table.name().as_bytes(), b": TooLarge\n"],
+        ),
+        TablesRefusal::Record { table, row, kind } => push_record_line(err, *table, *row, *kind),
+        TablesRefusal::NoMemory => push_whole(err, b"out of memory\n"),
+    }
+}
+
+/// Pushes the line of what is asked and refused.
+#[tactic(auto, unfolding(crate::specs::Lines::token_line, crate::specs::Lines::host_line, crate::specs::Lines::memory_line))]
+pub fn push_asked_line<E: Sink>(err: &mut E, refusal: &AskRefusal) -> Result<(), WriteFailed>
+    ensures { Pushes E.taken E.failures err.old err.new result (line_of_asked refusal.now) }
+{
+    match refusal {
+        AskRefusal::Query(fault) => push_query_line(err, fault),
+        AskRefusal::Token(TokenFault::BadToken) => push_whole(err, b"token: BadToken\n"),
+        AskRefusal::Token(TokenFault::WrongLength) => push_whole(err, b"token: WrongLength\n"),
+        AskRefusal::Token(TokenFault::NoMemory) => push_whole(err, b"out of memory\n"),
+        AskRefusal::Host(HostFault::Unknown) => push_whole(err, b"host: Unknown\n"),
+        AskRefusal::Host(HostFault::Ambiguous) => push_whole(err, b"host: Ambiguous\n"),
+        AskRefusal::NoMemory => push_whole(err, b"out of memory\n"),
+    }
+}
+
+// Pushes the line of a refusal.
+#[tactic(auto, unfolding(crate::specs::Lines::memory_line, crate::specs::Lines::output_line))]
+fn push_line<E: Sink>(err: &mut E, refusal: &Refusal) -> Result<(), WriteFailed>
+    ensures { Pushes E.taken E.failures err.old err.new result (line_of refusal.now) }
+{
+    match refusal {
+        Refusal::Tables(refusal) => push_tables_line(err, refusal),
+        Refusal::Asked(refusal) => push_asked_line(err, refusal),
+        Refusal::Output => push_whole(err, b"output: WriteFailed\n"),
+        Refusal::NoMemory => push_whole(err, b"out of memory\n"),
+    }
+}
+
+/// The status of what is asked and refused.
+pub fn asked_status(refusal: &AskRefusal) -> u8
+    ensures { result ≡ status_of_asked refusal.now }
+{
+    match refusal {
+        AskRefusal::Query(_) => 4,
+        AskRefusal::Token(_) | AskRefusal::Host(_) => 5,
+        AskRefusal::NoMemory => 7,
+    }
+}
+
+// The status of a refusal.
+fn status_of(refusal: &Refusal) -> u8
+    ensures { result ≡ status_of refusal.now }
+{
+    match refusal {
+        Refusal::Tables(TablesRefusal::NoMemory) => 7,
+        Refusal::Tables(_) => 3,
+        Refusal::Asked(refusal) => asked_status(refusal),
+        Refusal::Output => 6,
+        Refusal::NoMemory => 7,
+    }
+}
+
+// Pushes the line of a refusal, and then what stands behind it.
+#[tactic(auto, using(ac_base::proofs::Leaving::appends_both, ac_base::proofs::Leaving::part_of_first, ac_base::proofs::Leaving::part_of_second))]
+fn push_refused<E: Sink>(err: &mut E, refused: &Refused) -> Result<(), WriteFailed>
+    ensures { Pushes E.taken E.failures err.old err.new result
+        (line_of refused.now.refusal ++ refused.now.detail.items) }
+{
+    push_line(err, &refused.refusal)?;
+    push_all(err, &refused.detail)
+}
+
+/// Tells why there is no answer, and answers its status. What the error sink doesn't take of the text is dropped.
+pub fn tell<E: Sink>(err: &mut E, refused: &Refused) -> u8
+    ensures line { TakesLine (E.taken err.old) (E.taken err.new) (E.failures err.old)
+        (E.failures err.new) (line_told refused.now) }
+    ensures status { result ≡ status_told refused.now }
+    ensures failures { E.failures err.old ≤ E.failures err.new }
+{
+    let _ = push_refused(err, refused);
+    status_of(&refused.refusal)
+}

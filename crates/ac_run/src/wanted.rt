@@ -1,0 +1,170 @@
+//! What a job wants of a cloud: its query and its token read, and its host found.
+
+ghost use Rattle.std.specs.Prelude.{◌≡◌, IfOk, IfErr, Ok, OnOk, Some, None, length, true};
+ghost use Rattle.std.specs.Option.{option_map};
+ghost use Rattle.ac_cloud.specs.Cloud.CloudWorld.{providers_of, world_of};
+ghost use Rattle.ac_cloud.specs.Cloud.Hosts.{host_of};
+ghost use Rattle.ac_fill.specs.Filled.{asks_units};
+ghost use Rattle.ac_query.specs.Asked.{slots_of};
+ghost use Rattle.ac_query.specs.Faults.{query_fault};
+ghost use Rattle.ac_query.specs.Laws.Gathered.{asked_by};
+ghost use Rattle.ac_query.specs.Pairs.{pairs_of};
+ghost use Rattle.ac_query.specs.Pairs.Values.{ids_value};
+ghost use Rattle.ac_query.specs.Shown.Queries.{asked_of};
+ghost use Rattle.ac_query.specs.Tokens.{ids_of, token_fault};
+ghost use Rattle.ac_run.specs.Answer.{answer_in, ids_given, past_token, said_by};
+ghost use Rattle.ac_run.specs.Given.{token_refusal};
+ghost use Rattle.ac_run.specs.declared.refusal.AskRefusal.TheVariants as AskRefusal;
+ghost use Rattle.ac_run.specs.Tasks.{command_shown, task_of, token_in};
+ghost use Rattle.ac_run.specs.Wanted.{ExplainsHost, ExplainsQuery, ExplainsRest, ExplainsToken, ExplainsWanted, IsSound, answer_to, details_in};
+
+use crate::job::{Command, Job};
+use crate::refusal::AskRefusal;
+use ac_base::NoMemory;
+use ac_cloud::Cloud;
+use ac_query::{Query, QueryFault, Token, TokenFault, Version};
+use ac_report::findings::Question;
+use std::alloc::Global;
+
+/// What a job wants of a cloud, its query and its token read, and its host found.
+#[derive(Drop)]
+pub enum Wanted {
+    /// How much the tables told.
+    Counts,
+    /// The body of a page, and whether traits are written.
+    Body(Query, Option<Token>, bool),
+    /// The tokens of a page.
+    Lines(Query, Option<Token>),
+    /// The rows of a page, and whether traits are written.
+    Rows(Query, Option<Token>, bool),
+    /// Placements one after another: their tokens, or how many there are.
+    Fill(Query, bool),
+    /// The verdict on the list that a token names, and whether it is said of what a rule is broken.
+    Verdict(Query, Token, bool),
+    /// How far a query comes.
+    Explanation(Question),
+    /// Which roots fit, and what the others lack.
+    Hosts(Query),
+    /// How far a query comes in the tree of a provider, which stands at this place.
+    Why(Query, u32),
+}
+
+/// The query of a text, as a version reads it. Want of memory is a refusal of its own.
+#[tactic(auto, using(ac_fill::proofs::Accepted::accepted_ask))]
+pub fn read_query(alloc: Global, text: &str, version: Version) -> Result<Query, AskRefusal>
+    ensures fine { OnOk result (query_fault version text.now ≡ None) }
+    ensures asked { IfOk result (λ query. asked_of query ≡ asked_by version (pairs_of text.now)) }
+    ensures units { IfOk result (λ query. asks_units (asked_of query) ≡ true) }
+    ensures fault { IfErr result (ExplainsQuery (query_fault version text.now)) }
+{
+    match Query::read(alloc, text, version) {
+        Ok(query) => Ok(query),
+        Err(QueryFault::NoMemory) => Err(AskRefusal::NoMemory),
+        Err(fault) => Err(AskRefusal::Query(fault)),
+    }
+}
+
+/// The token of a text, for a query. Want of memory is a refusal of its own.
+pub fn read_token(alloc: Global, text: &str, query: &Query) -> Result<Token, AskRefusal>
+    ensures fine { OnOk result (token_fault (asked_of query.now) text.now ≡ None) }
+    ensures ids { IfOk result (λ token. Some (ids_of token) ≡ ids_value text.now) }
+    ensures slots { IfOk result (λ token.
+        length (ids_of token) ≡ length (slots_of (asked_of query.now))) }
+    ensures fault { IfErr result (ExplainsToken (token_fault (asked_of query.now) text.now)) }
+{
+    match Token::read(alloc, text, query) {
+        Ok(token) => Ok(token),
+        Err(TokenFault::NoMemory) => Err(AskRefusal::NoMemory),
+        Err(fault) => Err(AskRefusal::Token(fault)),
+    }
+}
+
+// The token to begin after, where there is one.
+fn read_after(alloc: Global, text: Option<&str>, query: &Query) -> Result<Option<Token>, AskRefusal>
+    ensures fine { OnOk result (token_refusal (asked_of query.now)
+        (option_map (λ t. t.now) text.entry) ≡ None) }
+    ensures ids { IfOk result (λ token. option_map ids_of token
+        ≡ ids_given (option_map (λ t. t.now) text.entry)) }
+    ensures fault { IfErr result (ExplainsToken
+        (token_refusal (asked_of query.now) (option_map (λ t. t.now) text.entry))) }
+{
+    match text {
+        Some(text) => Ok(Some(read_token(alloc, text, query)?)),
+        None => Ok(None),
+    }
+}
+
+// The provider that a host names.
+fn find_host(cloud: &Cloud, host: &str) -> Result<u32, AskRefusal>
+    ensures found { IfOk result (λ place. host_of (providers_of cloud.now) host.now ≡ Ok place) }
+    ensures fault { IfErr result (ExplainsHost (host_of (providers_of cloud.now) host.now)) }
+{
+    cloud
+        .host(host.as_bytes())
+        .map_err(|fault| AskRefusal::Host(fault))
+}
+
+// How far a query comes: it is read again without one thing after another.
+fn read_question(alloc: Global, query: Query, job: &Job) -> Result<Question, AskRefusal>
+    requires { asked_of query ≡ asked_by job.now.version (pairs_of job.now.query.now) }
+    ensures query { IfOk result (λ question. asked_of question.query ≡ asked_of query) }
+    ensures fault { IfErr result (λ refusal. refusal ≡ AskRefusal.NoMemory) }
+{
+    match Question::new(alloc, query, job.query, job.version) {
+        Ok(question) => Ok(question),
+        Err(NoMemory) => Err(AskRefusal::NoMemory),
+    }
+}
+
+// What a query is wanted for.
+#[tactic(auto, using(crate::proofs::HostFound::host_within))]
+fn wanted_of(alloc: Global, job: &Job, cloud: &Cloud, query: Query) -> Result<Wanted, AskRefusal>
+    requires read { asked_of query ≡ asked_by job.now.version (pairs_of job.now.query.now) }
+    requires units { asks_units (asked_of query) ≡ true }
+    ensures wanted { IfOk result (λ wanted. answer_to wanted (world_of cloud.now)
+        ≡ past_token (said_by (command_shown job.now.command) (details_in (task_of job.now))
+        (world_of cloud.now)) (token_in (command_shown job.now.command)) (asked_of query)) }
+    ensures sound { IfOk result (IsSound (providers_of cloud.now)) }
+    ensures fault { IfErr result (ExplainsRest (providers_of cloud.now)
+        (command_shown job.now.command) (asked_of query)) }
+{
+    match job.command {
+        Command::Check => Ok(Wanted::Counts),
+        Command::Candidates { after, traits } => {
+            let token = read_after(alloc, after, &query)?;
+            Ok(Wanted::Body(query, token, traits))
+        }
+        Command::Tokens { after } => {
+            let token = read_after(alloc, after, &query)?;
+            Ok(Wanted::Lines(query, token))
+        }
+        Command::List { after, traits } => {
+            let token = read_after(alloc, after, &query)?;
+            Ok(Wanted::Rows(query, token, traits))
+        }
+        Command::Fill { sum } => Ok(Wanted::Fill(query, sum)),
+        Command::Verify { token } => {
+            let token = read_token(alloc, token, &query)?;
+            Ok(Wanted::Verdict(query, token, job.detail.is_some()))
+        }
+        Command::Explain => Ok(Wanted::Explanation(read_question(alloc, query, job)?)),
+        Command::Hosts => Ok(Wanted::Hosts(query)),
+        Command::Why { host } => Ok(Wanted::Why(query, find_host(cloud, host)?)),
+    }
+}
+
+/// What a job wants: its query is read, then its token, and its host is looked for.
+pub fn read_wanted(alloc: Global, job: &Job, cloud: &Cloud) -> Result<Wanted, AskRefusal>
+    ensures wanted { IfOk result (λ wanted. answer_in (task_of job.now) (world_of cloud.now)
+        ≡ answer_to wanted (world_of cloud.now)) }
+    ensures sound { IfOk result (IsSound (providers_of cloud.now)) }
+    ensures fault { IfErr result (ExplainsWanted (task_of job.now) (world_of cloud.now)) }
+{
+    match job.command {
+        Command::Check => Ok(Wanted::Counts),
+        _ => {
+            let query = read_query(alloc, job.query, job.version)?;
+            wanted_of(alloc, job, cloud, query)
+        }
+    }
+}
