@@ -1,4 +1,5 @@
 -- What decimal digits say as a number, and what of it stands behind so many places.
+pub mod Steps
 use Rattle.std.proofs.Common.{◌≡◌, ℕ, ◌+◌, ◌-◌, ◌*◌, ◌/◌, ◌%◌, ◌^◌, ◌<◌, ◌≤◌, refl, sym, ap, ◌∙◌, arith, eq-eqb, ne_eqb, ◌&&◌, ◌==◌, Bool, true, false, inl, inr, subst, List, [], ◌∷◌, ◌++◌, take, drop, length, if◌then◌else◌, Some, None, is_some}
 use Rattle.std.specs.List.{list_all, fold}
 use Rattle.std.proofs.lemmas.Bool.Decides.{nat_tests}

@@ -1,14 +1,11 @@
 pub mod NameFacts
-pub mod Known
 pub mod ShownKeys
 pub mod Leaving
 pub mod Decimals
 pub mod Ratios
-pub mod OldRatiosKept
 pub mod Gathers
 pub mod Small
 pub mod Sorted
-pub mod DecimalSteps
 pub mod PiecesWritten
 pub mod Pushed
 pub mod HandedOn

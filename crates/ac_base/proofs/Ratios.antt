@@ -1,4 +1,5 @@
 -- A ratio read step by step, as its reader does, is the ratio that its text says.
+pub mod OldKept
 use Rattle.std.proofs.Common.{◌≡◌, ℕ, ◌+◌, ◌-◌, ◌*◌, ◌^◌, ◌≤◌, refl, sym, ap, ap₂, ◌∙◌, arith, ltb-false, unwrap_or, ◌&&◌, ◌||◌, ◌==◌, not, Bool, true, false, nat_lt, nat_le, List, [], ◌∷◌, ◌++◌, take, drop, length, if◌then◌else◌, Option, Some, None}
 use Rattle.std.specs.List.{list_all, position, position_or_len}
 use Rattle.std.specs.Option.{option_map, option_and_then}
@@ -7,7 +8,7 @@ use Rattle.std.proofs.lemmas.List.{length-take}
 use Rattle.std.proofs.lemmas.List.Sums.{prefix_len-le-length}
 use Rattle.std.proofs.Math.ListN.{drop_of_length-le}
 use Rattle.ac_base.specs.Texts.{is_digit, is_zero, is_point, are_digits, number, decimal, at_most, greatest_ratio, in_millionths, ratio_value}
-use Rattle.ac_base.specs.RatioShown.{fraction_value}
+use Rattle.ac_base.specs.Ratios.{fraction_value}
 use Rattle.ac_base.proofs.Decimals.{millionths-whole, fraction_millionths, whole_and_fraction, zeros_digits, digits_parts}
 use Rattle.std.proofs.lemmas.Grind.{common_steps}
 use Rattle.std.proofs.lemmas.Bool.{cases_Bool}

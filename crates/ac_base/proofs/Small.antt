@@ -1,9 +1,10 @@
--- Small facts of numbers, of truth values, of options, of results and of texts.
+-- Small facts of numbers, of truth values, of options, of results, of texts and of known bytes.
 use Rattle.std.proofs.Common.{◌≡◌, ◌≢◌, ◌&&◌, List, sym, option_map, ◌+◌, ◌<◌, ◌≤◌, ℕ, Bool, true, false, Option, Some, None, Result, refl, arith, rules, inl, inr, ◌⊎◌, ◌==◌, ◌||◌, min, not, is_some, subst}
 use Rattle.std.proofs.lemmas.Bool.{cases_lt}
 use Rattle.std.specs.Cmp.{both_ways}
 use Rattle.std.specs.Result.{IfErr, IsErrAnd}
 use Rattle.std.specs.Str.{bytes_eq}
+use Rattle.std.specs.Io.KnownBytes.{Consumes, Keeps}
 use Rattle.std.proofs.lemmas.Slice.Eq.{bytes_eq-Decides}
 use Rattle.std.proofs.lemmas.Grind.{common_steps}
 use Rattle.std.proofs.lemmas.Bool.{cases_Bool}
@@ -70,3 +71,7 @@ none_unless f o never = grind (arith, common_steps)
 -- what a `?` hands on, where both errors are of one type
 pub handed_on : {T E : Type 0} (r : Result T E) (e : E) (P : E → Type 0) → IsErrAnd r (λ y. y ≡ e) → P e → IfErr r P
 handed_on r e a2 h p = grind (arith, common_steps)
+
+-- bytes were taken, and then none
+pub consumes_keeps : (a b c : Option (List ℕ)) (xs : List ℕ) → Consumes a b xs → Keeps b c → Consumes a c xs
+consumes_keeps a b c xs h k = grind (arith, common_steps)

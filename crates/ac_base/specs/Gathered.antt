@@ -1,4 +1,5 @@
 -- What a sink that gathers has taken, and what of it stands in the sink below.
+pub mod Below
 use Rattle.std.specs.Prelude.{◌≡◌, ℕ, ◌+◌, List, ◌++◌, take, Option, Some, None, ⊤}
 use Rattle.std.specs.Io.KnownBytes.{append_known}
 use Rattle.ac_base.specs.declared.device.Push.{Push}

@@ -4,12 +4,8 @@ pub mod Devices
 pub mod Memory
 pub mod Turns
 pub mod Names
-pub mod RatioShown
-pub mod OldRatios
+pub mod Ratios
 pub mod Laws
 pub mod Gathered
-pub mod Below
 pub mod Sorted
-pub mod Rows
-pub mod Pieces
 pub mod Writing

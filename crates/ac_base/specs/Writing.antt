@@ -1,4 +1,6 @@
 -- What a sink takes of a text.
+pub mod Rows
+pub mod Pieces
 pub mod Digits
 use Rattle.std.specs.Prelude.{◌≤◌, ℕ, List, Option, Result, OnOk, OnErr}
 use Rattle.std.specs.Io.KnownBytes.{Appends}

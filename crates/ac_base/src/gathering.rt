@@ -19,7 +19,7 @@ pub struct Gathering<W> {
 }
 
 impl<W: Sink> Gathering<W> {
-    ghost use Rattle.ac_base.specs.Below.{sink_below};
+    ghost use Rattle.ac_base.specs.Gathered.Below.{sink_below};
 
     /// A sink above another, with a room that isn't empty; its bytes are written over.
     pub fn new(sink: W, room: Vec<u8>) -> Self

@@ -1,6 +1,6 @@
 //! Laws of the definitions. Each function does nothing: its contract is the law.
 ghost use Rattle.ac_base.specs.Laws.{SixDecimals};
-ghost use Rattle.ac_base.specs.OldRatios.{OldRatiosKeep};
+ghost use Rattle.ac_base.specs.Ratios.{OldRatiosKeep};
 
 /// Each text that had a ratio in thousandths has one in millionths, 1000 times as many, and the same capacity with every total and
 /// every reserved amount.

@@ -3,7 +3,7 @@
 ghost use Rattle.std.specs.Prelude.{◌≡◌, ℕ, ◌+◌, ◌≤◌, ◌<◌, ◌^◌, nat_lt, IfSome, position, length, drop, Some, if◌then◌else◌};
 ghost use Rattle.std.specs.List.{list_all};
 ghost use Rattle.ac_base.specs.Texts.{number, count_value, is_zero, is_point, ratio_value, greatest_ratio};
-ghost use Rattle.ac_base.specs.RatioShown.{fraction_value};
+ghost use Rattle.ac_base.specs.Ratios.{fraction_value};
 
 use std::marker::Model;
 

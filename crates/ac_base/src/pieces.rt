@@ -1,6 +1,6 @@
 //! Texts in pieces, pushed whole into a sink.
 ghost use Rattle.std.specs.List.{flat_map};
-ghost use Rattle.ac_base.specs.Pieces.{marked};
+ghost use Rattle.ac_base.specs.Writing.Pieces.{marked};
 ghost use Rattle.ac_base.specs.Writing.{Pushes};
 
 pub mod digits;
@@ -20,7 +20,7 @@ pub fn push_pieces<W: Sink>(out: &mut W, pieces: &[&[u8]]) -> Result<(), WriteFa
 }
 
 /// Pushes a text behind a mark.
-#[tactic(auto, unfolding(crate::specs::Pieces::marked))]
+#[tactic(auto, unfolding(crate::specs::Writing::Pieces::marked))]
 pub fn push_marked<W: Sink>(out: &mut W, mark: &[u8], text: &[u8]) -> Result<(), WriteFailed>
     ensures { Pushes W.taken W.failures out.old out.new result (marked mark.now text.now) }
 {

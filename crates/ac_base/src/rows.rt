@@ -2,7 +2,7 @@
 ghost use Rattle.std.specs.Prelude.{◌≡◌, ◌++◌, ◌∷◌, ℕ, List, [], IfOk, map};
 ghost use Rattle.std.specs.List.{flat_map};
 ghost use Rattle.csv.specs.Writing.{default_writer, row_text};
-ghost use Rattle.ac_base.specs.Rows.{HasRows};
+ghost use Rattle.ac_base.specs.Writing.Rows.{HasRows};
 
 use crate::name::NoMemory;
 use csv::Writer;

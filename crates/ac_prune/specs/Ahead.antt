@@ -1,4 +1,5 @@
 -- What lies ahead of a front: what the slots behind it still need at a root, and whether the root's providers can bear it.
+pub mod Fronts
 use Rattle.std.specs.Prelude.{◌≡◌, ℕ, ◌+◌, ◌-◌, ◌<◌, ◌≤◌, ◌==◌, ◌&&◌, Bool, true, false, nat_le, if◌then◌else◌, List, [], ◌∷◌, ◌++◌, length, drop, slice_index_or}
 use Rattle.std.specs.List.{list_all, filter, range_with_len}
 use Rattle.ac_query.specs.Asked.{Asked, Slot, slots_of}

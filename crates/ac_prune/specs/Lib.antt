@@ -8,5 +8,4 @@ pub mod Ahead
 pub mod Loads
 pub mod Parts
 pub mod Families
-pub mod Fronts
 pub mod Tests

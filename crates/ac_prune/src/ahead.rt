@@ -7,7 +7,7 @@ ghost use Rattle.ac_cloud.specs.Cloud.CloudWorld.{providers_of};
 ghost use Rattle.ac_prune.specs.Left.Accounts.{providers_in, asked_in, texts_in, left_in};
 ghost use Rattle.ac_prune.specs.Ahead.{load_of, hosts_of, IsHosted};
 ghost use Rattle.ac_rules.specs.Room.{IsKnown};
-ghost use Rattle.ac_prune.specs.Fronts.{search_at};
+ghost use Rattle.ac_prune.specs.Ahead.Fronts.{search_at};
 ghost use Rattle.ac_prune.specs.Search.{IsDead};
 ghost use Rattle.ac_prune.specs.Trees.{HasProviders};
 

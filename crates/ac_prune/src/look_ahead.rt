@@ -3,7 +3,7 @@ ghost use Rattle.std.specs.Prelude.{◌≡◌, ◌<◌, ◌≤◌, false, List, 
 ghost use Rattle.ac_query.specs.Asked.{Asked};
 ghost use Rattle.ac_cloud.specs.World.{Provider};
 ghost use Rattle.ac_prune.specs.Left.Accounts.{providers_in, asked_in};
-ghost use Rattle.ac_prune.specs.Fronts.{LeadsNowhere, LeadNowhere};
+ghost use Rattle.ac_prune.specs.Ahead.Fronts.{LeadsNowhere, LeadNowhere};
 
 use crate::front::Front;
 

@@ -14,7 +14,7 @@ ghost use Rattle.ac_rules.specs.Placed.{assigned};
 ghost use Rattle.ac_report.specs.ListRows.{block_text, blocks, list_pieces, list_text, provider_row};
 ghost use Rattle.ac_report.specs.Outcomes.{Reads, Writes, WritesEach};
 ghost use Rattle.ac_report.specs.Pages.{IsAssignment};
-ghost use Rattle.ac_base.specs.Rows.{HasRows};
+ghost use Rattle.ac_base.specs.Writing.Rows.{HasRows};
 ghost use Rattle.ac_report.specs.Texts.{shown_providers};
 ghost use Rattle.ac_report.specs.Trees.{needs_on};
 

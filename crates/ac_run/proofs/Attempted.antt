@@ -11,9 +11,9 @@ use Rattle.ac_query.specs.Pairs.{pairs_of}
 use Rattle.ac_query.specs.declared.version.Version.{Version}
 use Rattle.ac_run.specs.Answer.{Outcome, answer, answer_by, answer_in, answer_within, past_query, past_tables, refused, said_by, size_refused, table_refused, with_detail}
 use Rattle.ac_run.specs.Details.{asked_remedy, asked_text, behind, fault_remedy, reading_remedy}
-use Rattle.ac_run.specs.Draining.{ExplainsReading}
+use Rattle.ac_run.specs.Feeds.Draining.{ExplainsReading}
 use Rattle.ac_run.specs.Feeds.{Bytes, TellBytes, too_large}
-use Rattle.ac_run.specs.Given.{tables_in}
+use Rattle.ac_run.specs.Wanted.Given.{tables_in}
 use Rattle.ac_run.specs.Lines.{memory_line}
 use Rattle.ac_run.specs.Refusals.{IsRefusalWith, line_of, line_of_asked, line_of_tables, line_told, status_of, status_of_asked, status_of_tables, status_told}
 use Rattle.ac_run.specs.Run.{Explains, ExplainsTables, IsStated, IsWritten}

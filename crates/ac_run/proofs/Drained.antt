@@ -5,7 +5,7 @@ use Rattle.std.specs.Option.{option_map}
 use Rattle.ac_tables.specs.Drain.{AllBytes, AreTooMany, most_bytes}
 use Rattle.ac_tables.specs.declared.fault.Table.{Table}
 use Rattle.ac_tables.specs.declared.fault.Table.TheVariants as table
-use Rattle.ac_run.specs.Draining.{AreTooManyThere, ExplainsDraining, ExplainsReading, GaveAll}
+use Rattle.ac_run.specs.Feeds.Draining.{AreTooManyThere, ExplainsDraining, ExplainsReading, GaveAll}
 use Rattle.ac_run.specs.Feeds.{Bytes, FeedRose, TellBytes, is_long, is_long_there, too_large}
 use Rattle.ac_tables.specs.declared.read.FiveTables.{FiveTables}
 use Rattle.ac_run.specs.declared.refusal.TablesRefusal.{TablesRefusal}

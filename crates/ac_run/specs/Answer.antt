@@ -32,7 +32,7 @@ use Rattle.ac_report.specs.Findings.WhyRows.{root_place, why_status, why_text}
 use Rattle.ac_run.specs.Feeds.{Bytes, too_large}
 use Rattle.ac_run.specs.Lines.{too_large_line, record_line, query_line, token_line, host_line, memory_line}
 use Rattle.ac_run.specs.Details.{asked_text, behind, fault_text, size_text}
-use Rattle.ac_run.specs.Given.{tables_in, token_refusal}
+use Rattle.ac_run.specs.Wanted.Given.{tables_in, token_refusal}
 use Rattle.ac_run.specs.Tasks.{Command, Paths, Task, token_in}
 use Rattle.ac_run.specs.Tasks as command
 

@@ -11,7 +11,7 @@ use Rattle.ac_query.specs.Pairs.{pairs_of}
 use Rattle.ac_query.specs.Shown.Faults.{fault_shown}
 use Rattle.ac_remedies.specs.Queries.{host_remedy, query_remedy, token_remedy}
 use Rattle.ac_remedies.specs.Tables.{record_remedy, size_remedy, unread_remedy}
-use Rattle.ac_run.specs.Given.{token_refusal}
+use Rattle.ac_run.specs.Wanted.Given.{token_refusal}
 use Rattle.ac_run.specs.Tasks.{Command, Paths, Task, token_in, why}
 use Rattle.ac_run.specs.declared.refusal.AskRefusal.{AskRefusal}
 use Rattle.ac_run.specs.declared.refusal.AskRefusal.TheVariants as ask

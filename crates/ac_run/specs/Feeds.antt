@@ -1,4 +1,5 @@
 -- The feeds of the five tables: the bytes that they tell, and what draining them answers.
+pub mod Draining
 use Rattle.std.specs.Prelude.{◌≡◌, ℕ, nat_lt, Bool, false, List, [], ◌∷◌, length, Option, Some, None}
 use Rattle.std.specs.Option.{option_map}
 use Rattle.ac_base.specs.Devices.{Rises}

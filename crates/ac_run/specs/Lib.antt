@@ -1,9 +1,7 @@
 pub mod Lines
 pub mod Refusals
 pub mod Feeds
-pub mod Draining
 pub mod Tasks
-pub mod Given
 pub mod Details
 pub mod Wanted
 pub mod Outputs

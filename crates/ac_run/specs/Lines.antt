@@ -1,7 +1,7 @@
 -- The lines of faults.
 use Rattle.std.specs.Prelude.{ℕ, List, [], ◌∷◌, codes}
 use Rattle.std.specs.Fmt.{decimal}
-use Rattle.ac_base.specs.Pieces.{newline, printed, said}
+use Rattle.ac_base.specs.Writing.Pieces.{newline, printed, said}
 use Rattle.ac_cloud.specs.declared.cloud.provider_name.HostFault.{HostFault}
 use Rattle.ac_cloud.specs.declared.cloud.provider_name.HostFault.TheVariants as host
 use Rattle.ac_query.specs.Faults.{Fault, too_long, unknown_parameter, repeated, bad_value, conflict, no_resources, group_without_resources, unknown_suffix, policy_missing, too_many_slots}

@@ -1,7 +1,7 @@
 -- The small outputs: the counts of the tables, the verdict on a list, and how many placements there are.
 use Rattle.std.specs.Prelude.{ℕ, min, List, [], ◌∷◌, codes, length}
 use Rattle.std.specs.Fmt.{decimal}
-use Rattle.ac_base.specs.Pieces.{newline, said}
+use Rattle.ac_base.specs.Writing.Pieces.{newline, said}
 use Rattle.ac_cloud.specs.World.{Provider, Sizes}
 use Rattle.ac_find.specs.Broken.{broken_detail}
 use Rattle.ac_query.specs.Asked.{Asked}

@@ -11,7 +11,7 @@ use Rattle.ac_tables.specs.Tables.{tables_fault, world_stated}
 use Rattle.ac_cloud.specs.World.{World}
 use Rattle.ac_run.specs.Answer.{Outcome, refused}
 use Rattle.ac_run.specs.Details.{behind, unread_text}
-use Rattle.ac_run.specs.Given.{tables_in}
+use Rattle.ac_run.specs.Wanted.Given.{tables_in}
 use Rattle.ac_run.specs.Tasks.{Paths, Task}
 use Rattle.ac_run.specs.Feeds.{Bytes, TellBytes, FeedRose, too_large}
 use Rattle.ac_run.specs.Lines.{memory_line, output_line, unreadable_line}

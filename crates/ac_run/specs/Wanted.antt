@@ -1,4 +1,5 @@
 -- What is wanted of a cloud, and why what is asked is refused.
+pub mod Given
 use Rattle.std.specs.Prelude.{◌≡◌, ◌<◌, ℕ, Bool, true, is_some, List, length, Option, Some, None, Result, Err, ⊤}
 use Rattle.std.specs.Option.{option_map}
 use Rattle.ac_cloud.specs.Cloud.Hosts.{host_of}
@@ -14,7 +15,7 @@ use Rattle.ac_query.specs.Shown.Queries.{asked_of}
 use Rattle.ac_query.specs.Tokens.{ids_of}
 use Rattle.ac_query.specs.declared.token.TokenFault.{TokenFault}
 use Rattle.ac_run.specs.Answer.{Outcome, answer_in, explanation, fills, host_rows, page_body, page_lines, page_rows, verdict_line, why_not, written}
-use Rattle.ac_run.specs.Given.{token_refusal}
+use Rattle.ac_run.specs.Wanted.Given.{token_refusal}
 use Rattle.ac_run.specs.Outputs.{counts}
 use Rattle.ac_run.specs.Tasks.{Command, Task, check, token_in, why}
 use Rattle.ac_run.specs.declared.refusal.AskRefusal.{AskRefusal}

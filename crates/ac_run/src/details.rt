@@ -1,9 +1,9 @@
 //! What stands behind the line of a refusal where more is told: what is to be done.
 ghost use Rattle.std.specs.Prelude.{◌≡◌, IfOk, None};
 ghost use Rattle.ac_run.specs.Details.{asked_remedy, behind, fault_remedy, host_in, path_in, reading_remedy};
-ghost use Rattle.ac_run.specs.Draining.{texts_shown};
+ghost use Rattle.ac_run.specs.Feeds.Draining.{texts_shown};
 ghost use Rattle.ac_run.specs.Feeds.{too_large};
-ghost use Rattle.ac_run.specs.Given.{tables_in};
+ghost use Rattle.ac_run.specs.Wanted.Given.{tables_in};
 ghost use Rattle.ac_run.specs.declared.refusal.AskRefusal.TheVariants as AskRefusal;
 ghost use Rattle.ac_run.specs.Tasks.{command_shown, detail_shown, paths_shown, task_of};
 

@@ -4,7 +4,7 @@ ghost use Rattle.std.specs.Option.{option_map};
 ghost use Rattle.ac_base.specs.Devices.{Rises};
 ghost use Rattle.ac_tables.specs.Drain.{AllBytes, AreTooMany, most_bytes};
 ghost use Rattle.ac_run.specs.Feeds.{Bytes, TellBytes, RisesIn, too_large};
-ghost use Rattle.ac_run.specs.Draining.{AreTooManyThere, ExplainsDraining, ExplainsReading, GaveAll, texts_shown};
+ghost use Rattle.ac_run.specs.Feeds.Draining.{AreTooManyThere, ExplainsDraining, ExplainsReading, GaveAll, texts_shown};
 
 use crate::refusal::TablesRefusal;
 use ac_base::Feed;

@@ -12,7 +12,6 @@ mod outputs;
 mod placements;
 mod ready;
 pub mod refusal;
-pub mod refusal_lines;
 pub mod run_job;
 mod wanted;
 
@@ -22,7 +21,7 @@ pub use job::{Command, Job, Paths};
 pub use outputs::push_verdict;
 pub use placements::fill_status;
 pub use ready::read_inputs;
+pub use refusal::lines::{asked_status, push_asked_line, tell};
 pub use refusal::{AskRefusal, Refusal, Refused, TablesRefusal};
-pub use refusal_lines::{asked_status, push_asked_line, tell};
 pub use run_job::run;
 pub use wanted::{Wanted, read_query, read_token, read_wanted};

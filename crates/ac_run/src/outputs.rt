@@ -2,7 +2,7 @@
 ghost use Rattle.std.specs.Prelude.{◌≡◌, ◌≤◌, ◌∷◌, [], IfOk, codes, string_bytes};
 ghost use Rattle.ac_cloud.specs.Cloud.CloudWorld.{sizes_of};
 ghost use Rattle.ac_run.specs.Outputs.{broken_line, broken_name, counts, verdict_status, verdict_text};
-ghost use Rattle.ac_base.specs.Pieces.{newline, said};
+ghost use Rattle.ac_base.specs.Writing.Pieces.{newline, said};
 ghost use Rattle.ac_base.specs.Writing.{Pushes};
 ghost use Rattle.ac_run.specs.Answer.{written};
 ghost use Rattle.ac_run.specs.Run.{Delivers};

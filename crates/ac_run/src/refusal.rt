@@ -1,6 +1,8 @@
 //! Why a run has no answer.
 ghost use Rattle.std.specs.Prelude.{◌≡◌};
 
+pub mod lines;
+
 use ac_cloud::HostFault;
 use ac_query::{QueryFault, TokenFault};
 use ac_tables::{Table, TableKind};

@@ -13,7 +13,7 @@ ghost use Rattle.ac_query.specs.Pairs.Values.{ids_value};
 ghost use Rattle.ac_query.specs.Shown.Queries.{asked_of};
 ghost use Rattle.ac_query.specs.Tokens.{ids_of, token_fault};
 ghost use Rattle.ac_run.specs.Answer.{answer_in, ids_given, past_token, said_by};
-ghost use Rattle.ac_run.specs.Given.{token_refusal};
+ghost use Rattle.ac_run.specs.Wanted.Given.{token_refusal};
 ghost use Rattle.ac_run.specs.declared.refusal.AskRefusal.TheVariants as AskRefusal;
 ghost use Rattle.ac_run.specs.Tasks.{command_shown, task_of, token_in};
 ghost use Rattle.ac_run.specs.Wanted.{ExplainsHost, ExplainsQuery, ExplainsRest, ExplainsToken, ExplainsWanted, IsSound, answer_to, details_in};

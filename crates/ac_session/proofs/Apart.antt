@@ -14,7 +14,7 @@ use Rattle.ac_session.specs.Laws.Apart.{AnswersApart, SessionsApart, answers_of,
 use Rattle.ac_session.specs.Lines.{is_newline}
 use Rattle.ac_session.specs.Turns.{answer_text, session_text, text_of, turn_of}
 use Rattle.ac_session.proofs.Escaped.{marked_inner}
-use Rattle.ac_session.proofs.Firsts.{before_plain}
+use Rattle.ac_session.proofs.Leading.Firsts.{before_plain}
 use Rattle.ac_session.proofs.Plain.{IsPlain, is_inner, plain, plain_byte, plain_joined, plain_number}
 
 -- ---- what is read

@@ -10,7 +10,7 @@ use Rattle.ac_run.proofs.Attempted.{in_world}
 use Rattle.ac_run.proofs.Told.{ends_answered, ends_tables}
 use Rattle.ac_run.specs.Answer.{Outcome, past_tables, size_refused, table_refused, told}
 use Rattle.ac_run.specs.Feeds.{Bytes, FeedRose, TellBytes, too_large}
-use Rattle.ac_run.specs.Given.{tables_in}
+use Rattle.ac_run.specs.Wanted.Given.{tables_in}
 use Rattle.ac_run.specs.Lines.{memory_line}
 use Rattle.ac_run.specs.Run.{Ends, Explains, FailsOr, IsAnswered, IsRefused, IsStated, IsUnread}
 use Rattle.ac_run.specs.Tasks.{Paths}

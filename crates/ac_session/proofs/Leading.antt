@@ -1,4 +1,6 @@
 -- What stands first in the bytes that are left, by what is in the room.
+pub mod Passing
+pub mod Firsts
 use Rattle.std.proofs.Common.{◌≡◌, ◌∙◌, ℕ, ◌+◌, ◌<◌, ◌≤◌, false, true, eqb, ltb, List, ◌++◌, length, take, drop, Option, Some, None, Contains, IfSome, is_some, position, refl, sym, ap, arith, length-append, if◌then◌else◌, ◌⊎◌, inl, inr, Result, Ok, Err, IsErr}
 use Rattle.std.specs.Io.KnownBytes.{IsAtEnd, Keeps, prepend_known}
 use Rattle.std.proofs.lemmas.Bool.Decides.{nat_tests}
@@ -6,11 +8,11 @@ use Rattle.std.proofs.lemmas.List.{append-nil, drop_all, take-take, take_all}
 use Rattle.std.specs.List.{position_or_len}
 use Rattle.ac_base.specs.Devices.{IsGivenUp, one_more}
 use Rattle.ac_session.specs.Lines.{line, too_long, end, behind_line, first_line, given_first, is_newline, most_bytes, newline, without_return}
-use Rattle.ac_session.specs.Finds.{given_of}
+use Rattle.ac_session.specs.Reading.Finds.{given_of}
 use Rattle.ac_session.specs.declared.lines.Found.{Found}
 use Rattle.ac_session.specs.declared.lines.GivenUp.{GivenUp}
-use Rattle.ac_session.proofs.Firsts.{after_in_front, after_missed, before_in_front, before_missed, before_size, passing_found, place_found, place_in_front, place_is_missed, place_later}
-use Rattle.ac_session.proofs.Passing.{IsBehind}
+use Rattle.ac_session.proofs.Leading.Firsts.{after_in_front, after_missed, before_in_front, before_missed, before_size, passing_found, place_found, place_in_front, place_is_missed, place_later}
+use Rattle.ac_session.proofs.Leading.Passing.{IsBehind}
 
 -- ---- what bytes give first
 

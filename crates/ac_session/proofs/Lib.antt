@@ -1,6 +1,4 @@
 pub mod Rooms
-pub mod Firsts
-pub mod Passing
 pub mod Leading
 pub mod Cuts
 pub mod Escaped

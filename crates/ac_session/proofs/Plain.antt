@@ -7,7 +7,7 @@ use Rattle.std.specs.Prelude.{◌==◌, ◌&&◌, not, nat_le, nat_lt, codes, de
 use Rattle.std.specs.Fmt.{digit_glyph, digits, digits_onto}
 use Rattle.std.specs.List.{list_all}
 use Rattle.std.specs.Option.{option_map}
-use Rattle.ac_base.specs.Pieces.{newline, printed}
+use Rattle.ac_base.specs.Writing.Pieces.{newline, printed}
 use Rattle.ac_base.specs.Names.{suffix_bytes}
 use Rattle.ac_base.specs.Texts.{is_suffix_char}
 use Rattle.ac_base.specs.declared.name.Suffix.{Suffix}
@@ -20,7 +20,7 @@ use Rattle.ac_run.specs.Lines.{group_line, host_line, memory_line, pair_line, qu
 use Rattle.ac_run.specs.Refusals.{line_of_asked, line_of_query}
 use Rattle.ac_run.specs.declared.refusal.AskRefusal.{AskRefusal}
 use Rattle.ac_run.specs.declared.refusal.AskRefusal.TheVariants as ask
-use Rattle.ac_session.proofs.Firsts.{before_next}
+use Rattle.ac_session.proofs.Leading.Firsts.{before_next}
 use Rattle.ac_session.specs.Frames.{behind_status}
 use Rattle.ac_session.specs.Lines.{first_line, is_newline}
 

@@ -9,7 +9,7 @@ use Rattle.ac_base.proofs.Leaving.{appends_both}
 use Rattle.ac_base.specs.Gathered.{IsFirstPart}
 use Rattle.ac_cloud.specs.World.{World}
 use Rattle.ac_query.specs.declared.version.Version.{Version}
-use Rattle.ac_session.proofs.Firsts.{after_missed, before_missed, before_size, place_inside}
+use Rattle.ac_session.proofs.Leading.Firsts.{after_missed, before_missed, before_size, place_inside}
 use Rattle.ac_session.specs.Lines.{Given, line, too_long, end, behind_line, first_line, given_first, is_newline, most_bytes, most_passed, without_return}
 use Rattle.ac_session.specs.Reading.{given_by}
 use Rattle.ac_session.specs.Standing.{Stands}

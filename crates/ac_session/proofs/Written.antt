@@ -13,7 +13,7 @@ use Rattle.ac_session.proofs.Plain.{line_told, refusal_one}
 use Rattle.ac_session.proofs.Stood.{first_of_first, none_added}
 use Rattle.ac_session.specs.Escapes.{begun, marked_off}
 use Rattle.ac_session.specs.Frames.{lines_written}
-use Rattle.ac_session.specs.LineFaults.{fault_line}
+use Rattle.ac_session.specs.Questions.LineFaults.{fault_line}
 use Rattle.ac_session.specs.Standing.{IsGiven, TakesTurn, end_told, mark_of}
 use Rattle.ac_session.specs.Turns.{answer_text, end_of, output_of}
 use Rattle.ac_session.specs.declared.endings.Ending.{Ending}

@@ -1,9 +1,7 @@
 pub mod Lines
 pub mod Reading
 pub mod Rooms
-pub mod Finds
 pub mod Questions
-pub mod LineFaults
 pub mod Frames
 pub mod Escapes
 pub mod UsageRows

@@ -1,4 +1,5 @@
 -- Questions: what the words of a line ask.
+pub mod LineFaults
 use Rattle.std.specs.Prelude.{ℕ, ◌==◌, Bool, true, List, [], ◌∷◌, length, codes, Option, Some, None, if◌then◌else◌}
 use Rattle.std.specs.List.{slice_split}
 use Rattle.std.specs.Str.{bytes_eq, is_utf8}

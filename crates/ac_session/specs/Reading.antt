@@ -1,4 +1,5 @@
 -- What a reader of lines still has, and what a call gives and does.
+pub mod Finds
 use Rattle.std.specs.Prelude.{◌≡◌, ◌≢◌, ℕ, ◌<◌, ◌≤◌, List, length, Option, Some, None, Contains, IfSome}
 use Rattle.std.specs.Io.KnownBytes.{prepend_known}
 use Rattle.ac_base.specs.Devices.{IsGivenUp, Rises}

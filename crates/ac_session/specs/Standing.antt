@@ -12,7 +12,7 @@ use Rattle.ac_run.specs.Refusals.{line_of_asked, status_of_asked}
 use Rattle.ac_run.specs.declared.refusal.AskRefusal.{AskRefusal}
 use Rattle.ac_run.specs.declared.refusal.AskRefusal.TheVariants as ask
 use Rattle.ac_session.specs.Frames.{end_line}
-use Rattle.ac_session.specs.LineFaults.{fault_line, fault_status}
+use Rattle.ac_session.specs.Questions.LineFaults.{fault_line, fault_status}
 use Rattle.ac_session.specs.Sessions.{questions_line}
 use Rattle.ac_session.specs.Turns.{Turn, end_of, lines_in, output_of, session_text}
 use Rattle.ac_session.specs.declared.endings.Ending.{Ending}

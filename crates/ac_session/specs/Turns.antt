@@ -18,7 +18,7 @@ use Rattle.ac_rules.specs.declared.verdict.Verdict.TheVariants as verdict
 use Rattle.ac_run.specs.Answer.{Outcome, Says, answer_in, fills, past_query, refused, written}
 use Rattle.ac_run.specs.Outputs.{verdict_text}
 use Rattle.ac_session.specs.Frames.{end_line, lines_written}
-use Rattle.ac_session.specs.LineFaults.{fault_line, fault_status}
+use Rattle.ac_session.specs.Questions.LineFaults.{fault_line, fault_status}
 use Rattle.ac_session.specs.Lines.{Given, line, too_long, end, is_newline, most_bytes, without_return}
 use Rattle.ac_session.specs.Questions.{Asked, job, fill, claim, release, usages, nothing, unknown, wrong_number, asked_of}
 use Rattle.ac_session.specs.UsageRows.{usage_rows}

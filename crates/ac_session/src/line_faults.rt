@@ -1,6 +1,6 @@
 //! What is told of a line that asks nothing.
 ghost use Rattle.std.specs.Prelude.{◌≡◌};
-ghost use Rattle.ac_session.specs.LineFaults.{fault_line};
+ghost use Rattle.ac_session.specs.Questions.LineFaults.{fault_line};
 
 /// What is wrong with a line that asks nothing.
 #[derive(Clone, Copy, Debug, PartialEq, Eq)]

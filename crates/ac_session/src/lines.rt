@@ -53,7 +53,7 @@ fn newline_in(bytes: &[u8]) -> Option<usize>
 }
 
 // The place of the first newline, which stands at none of the first so many places.
-#[tactic(auto, using(crate::proofs::Firsts::place_inside, crate::proofs::Firsts::position_behind))]
+#[tactic(auto, using(crate::proofs::Leading::Firsts::place_inside, crate::proofs::Leading::Firsts::position_behind))]
 fn newline_behind(bytes: &[u8], searched: usize) -> Option<usize>
     requires { searched ≤ position_or_len is_newline bytes.now }
     ensures { result ≡ position is_newline bytes.now }
@@ -85,7 +85,7 @@ pub struct Lines<R> {
 
 impl<R: Feed> Lines<R> {
     ghost use Rattle.ac_session.specs.Reading.{GoesOn, feed_in, given_by, in_room, left};
-    ghost use Rattle.ac_session.specs.Finds.{IsTaken, given_of};
+    ghost use Rattle.ac_session.specs.Reading.Finds.{IsTaken, given_of};
     ghost use Rattle.ac_session.specs.contracts.lines.Lines.{the_row as lines-row};
 
     /// The lines of what a feed still gives.

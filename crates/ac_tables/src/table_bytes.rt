@@ -38,7 +38,7 @@ const MOST_BYTES: usize = 67_108_864;
 const PIECE: usize = 65_536;
 
 /// Reads a feed to its end. A refusal loses what came, and says nothing of what the feed still gives.
-#[tactic(auto, using(ac_base::proofs::Known::consumes_keeps))]
+#[tactic(auto, using(ac_base::proofs::Small::consumes_keeps))]
 pub fn drain<R: Feed>(alloc: Global, feed: &mut R) -> Result<Vec<u8>, ReadFault>
     ensures bytes { IfOk result (λ bytes. AllBytes (R.remaining feed.old) bytes.items) }
     ensures limit { IfOk result (λ bytes. vec_len bytes ≤ most_bytes) }

@@ -3,7 +3,7 @@ ghost use Rattle.std.specs.Prelude.{◌≡◌, ◌++◌, ◌∷◌, ◌<◌, ℕ
 ghost use Rattle.ac_cloud.specs.World.{provider_at};
 ghost use Rattle.ac_cloud.specs.Cloud.CloudWorld.{providers_of};
 ghost use Rattle.ac_cloud.specs.Cloud.Entries.{entry_pair};
-ghost use Rattle.ac_base.specs.Rows.{HasRows};
+ghost use Rattle.ac_base.specs.Writing.Rows.{HasRows};
 ghost use Rattle.ac_tables.specs.UsageRows.{entries_fit, fits_table, rows_of_provider, usage_row, usages_fit, usages_text};
 
 use crate::columns::Column;

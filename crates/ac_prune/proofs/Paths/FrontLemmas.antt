@@ -13,7 +13,7 @@ use Rattle.ac_prune.proofs.Search.OpenLemmas.{choices_here, each_choice}
 use Rattle.ac_prune.specs.Left.Accounts.{providers_in, asked_in}
 use Rattle.ac_prune.specs.Trees.Keys.{is_there}
 use Rattle.ac_prune.proofs.Roots.TreeLemmas.{each_there, some_there}
-use Rattle.ac_prune.specs.Fronts.{search_at, LeadNowhere}
+use Rattle.ac_prune.specs.Ahead.Fronts.{search_at, LeadNowhere}
 use Rattle.ac_prune.specs.declared.front.Front.{Front}
 
 -- all of them where the path itself leads to nothing

@@ -9,7 +9,7 @@ use Rattle.ac_rules.specs.Judge.{is_candidate}
 use Rattle.ac_rules.proofs.SlotLemmas.{each_at}
 use Rattle.ac_prune.specs.Left.Accounts.{providers_in, asked_in}
 use Rattle.ac_prune.specs.Families.{Names, IsFamily}
-use Rattle.ac_prune.specs.Fronts.{LeadsNowhere}
+use Rattle.ac_prune.specs.Ahead.Fronts.{LeadsNowhere}
 use Rattle.ac_prune.specs.Parts.{IsNamed, AreParts}
 use Rattle.ac_prune.specs.Trees.{IsByPart, AreByPart}
 use Rattle.ac_prune.specs.declared.by_tree.Places.{Places}

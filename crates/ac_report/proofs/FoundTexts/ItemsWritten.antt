@@ -4,7 +4,7 @@ use Rattle.std.proofs.lemmas.List.{drop_more}
 use Rattle.std.specs.Prelude.{Result, Ok, Err}
 use Rattle.std.specs.List.{flat_map}
 use Rattle.std.specs.Result.{IsErrAnd}
-use Rattle.ac_base.specs.Pieces.{listed, marked}
+use Rattle.ac_base.specs.Writing.Pieces.{listed, marked}
 use Rattle.ac_base.specs.Writing.{Pushes}
 use Rattle.ac_report.proofs.FoundTexts.Begun.{IsBegun, begun_more, begun_stops}
 

@@ -14,7 +14,7 @@ use Rattle.ac_rules.specs.Placed.{slot_at}
 use Rattle.ac_rules.specs.Together.{is_empty}
 use Rattle.ac_report.specs.Findings.Explanation.Candidates.{candidates_line, found_without, without_lines}
 use Rattle.ac_report.specs.Findings.Explanation.Nobody.{nobody_lines}
-use Rattle.ac_base.specs.Pieces.{newline, printed, said}
+use Rattle.ac_base.specs.Writing.Pieces.{newline, printed, said}
 use Rattle.ac_report.specs.Findings.Explanation.Differing.{differs_lines}
 
 -- ---- A slot

@@ -16,7 +16,7 @@ use Rattle.ac_prune.specs.Fitting.{fits_at}
 use Rattle.ac_find.specs.Lacking.{first_failed, lack_at}
 use Rattle.ac_find.specs.declared.lacks.Stage.{Stage}
 use Rattle.ac_find.specs.declared.lacks.Stage.TheVariants as stage
-use Rattle.ac_base.specs.Pieces.{printed}
+use Rattle.ac_base.specs.Writing.Pieces.{printed}
 use Rattle.ac_find.specs.Details.{aggregates_detail, room_detail, root_detail, traits_detail, tree_detail, units_detail}
 use Rattle.ac_report.specs.Findings.HostRows.{lack_name, slot_shown, stage_name}
 

@@ -4,7 +4,7 @@ ghost use Rattle.std.specs.List.{list_any};
 ghost use Rattle.ac_base.specs.Texts.{id_text};
 ghost use Rattle.ac_cloud.specs.World.{id_at, provider_at};
 ghost use Rattle.ac_report.specs.Names.{shown_name};
-ghost use Rattle.ac_base.specs.Rows.{HasRows};
+ghost use Rattle.ac_base.specs.Writing.Rows.{HasRows};
 ghost use Rattle.ac_cloud.specs.Cloud.CloudWorld.{providers_of};
 ghost use Rattle.ac_query.specs.Shown.Queries.{asked_of};
 ghost use Rattle.ac_prune.specs.Fitting.{fitting};

@@ -8,7 +8,7 @@ ghost use Rattle.ac_cloud.specs.Cloud.CloudWorld.{providers_of};
 ghost use Rattle.ac_query.specs.Asked.{slots_of};
 ghost use Rattle.ac_query.specs.Shown.Groups.{need_entry};
 ghost use Rattle.ac_query.specs.Shown.Queries.{asked_of};
-ghost use Rattle.ac_base.specs.Rows.{HasRows};
+ghost use Rattle.ac_base.specs.Writing.Rows.{HasRows};
 ghost use Rattle.ac_rules.specs.Shown.Assignments.{placed_of};
 ghost use Rattle.ac_prune.specs.Fitting.{fits_at};
 ghost use Rattle.ac_find.specs.Lacking.{lack_at};

@@ -4,7 +4,7 @@ use Rattle.std.specs.List.{slice_index}
 use Rattle.std.proofs.lemmas.Bool.{false_from_ne_true, false≢true}
 use Rattle.std.proofs.lemmas.List.{get_or_default}
 use Rattle.ac_prune.specs.Left.Accounts.{providers_in}
-use Rattle.ac_prune.specs.Fronts.{LeadsNowhere, LeadNowhere}
+use Rattle.ac_prune.specs.Ahead.Fronts.{LeadsNowhere, LeadNowhere}
 use Rattle.ac_prune.specs.declared.front.Front.{Front}
 use Rattle.ac_prune.specs.Search.{next_at, IsDead, AllDead}
 use Rattle.ac_search.specs.Search.{next_front}

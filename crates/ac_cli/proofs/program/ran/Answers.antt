@@ -1,7 +1,7 @@
 use Rattle.std.proofs.Common.{◌∙◌, ap, arith, refl, sym}
 use Rattle.std.proofs.KnownBytes.{Keeps-refl}
 use Rattle.ac_base.proofs.HandedOn.{from_err, from_ok, later_rise, part_more, same_rise, text_more, whole_text}
-use Rattle.ac_base.specs.Below.{sink_below}
+use Rattle.ac_base.specs.Gathered.Below.{sink_below}
 use Rattle.ac_cli.proofs.RanTasks.{none_ran}
 use Rattle.ac_cli.proofs.program.ran.Goals as goal
 

@@ -4,7 +4,7 @@ use Rattle.ac_cloud.specs.Cloud.CloudWorld.{providers_of}
 use Rattle.ac_query.specs.Shown.Queries.{asked_of}
 use Rattle.ac_rules.specs.Placed.{assigned}
 use Rattle.ac_report.specs.ListRows.{provider_row}
-use Rattle.ac_base.specs.Rows.{HasRows}
+use Rattle.ac_base.specs.Writing.Rows.{HasRows}
 use Rattle.ac_report.specs.Texts.{shown_providers}
 use Rattle.ac_report.specs.Trees.{gives}
 use Rattle.ac_report.proofs.list_rows.block_text.Given as goal

@@ -5,7 +5,7 @@ use Rattle.ac_query.specs.Shown.Queries.{asked_of}
 use Rattle.ac_rules.specs.Placed.{assigned}
 use Rattle.ac_report.specs.ListRows.{allocation_cell, amount_text, inventory_cell, joined_by_commas, traits_cell}
 use Rattle.ac_report.specs.Names.{shown_name}
-use Rattle.ac_base.specs.Rows.{HasRows}
+use Rattle.ac_base.specs.Writing.Rows.{HasRows}
 use Rattle.ac_report.specs.Texts.{shown_providers}
 use Rattle.ac_report.proofs.Pages.Showing.{entries, ids, names}
 use Rattle.ac_report.proofs.list_rows.write_provider.Goals as goal

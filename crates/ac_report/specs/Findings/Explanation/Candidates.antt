@@ -7,7 +7,7 @@ use Rattle.ac_cloud.specs.World.{Provider}
 use Rattle.ac_rules.specs.Pages.{candidates}
 use Rattle.ac_rules.specs.Together.{is_empty}
 use Rattle.ac_find.specs.Shown.Explained.{requires_some}
-use Rattle.ac_base.specs.Pieces.{listed}
+use Rattle.ac_base.specs.Writing.Pieces.{listed}
 
 abbrev pub has_candidate : List Provider → Asked → Bool
 has_candidate all asked = not (is_empty (candidates all asked))

@@ -6,7 +6,7 @@ use Rattle.ac_cloud.specs.World.{Provider}
 use Rattle.ac_differences.specs.Differing.{all_differences, applies}
 use Rattle.ac_differences.specs.declared.differences.Difference.{Difference}
 use Rattle.ac_differences.specs.declared.differences.Difference.TheVariants as difference
-use Rattle.ac_base.specs.Pieces.{said}
+use Rattle.ac_base.specs.Writing.Pieces.{said}
 
 -- the heading of docs/DIFFERENCES.md that a difference stands under, its first letter small, and without marks of code
 unfoldable pub heading : Difference → List ℕ

@@ -6,7 +6,7 @@ use Rattle.ac_query.specs.Asked.{Asked, Group}
 use Rattle.ac_query.specs.Pairs.Values.{AggregateRule}
 use Rattle.ac_cloud.specs.World.{Provider}
 use Rattle.ac_find.specs.Missing.{some_root_has, somebody_has_class, somebody_has_one, somebody_has_trait, somebody_is, somebody_is_in}
-use Rattle.ac_base.specs.Pieces.{listed, newline, said}
+use Rattle.ac_base.specs.Writing.Pieces.{listed, newline, said}
 
 -- a line, unless somebody has what it names
 abbrev pub unless : Bool → List ℕ → List ℕ

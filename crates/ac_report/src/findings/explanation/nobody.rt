@@ -7,7 +7,7 @@ ghost use Rattle.ac_cloud.specs.Cloud.CloudWorld.{providers_of};
 ghost use Rattle.ac_query.specs.Shown.Groups.{any_of_shown, group_asked, group_entry, need_entry, rule_shown};
 ghost use Rattle.ac_query.specs.Shown.Queries.{asked_of};
 ghost use Rattle.ac_report.specs.Findings.Explanation.Nobody.{class_missed, group_missed, line_of, list_missed, member_mark, members_line, nobody_lines, one_of_line, places_missed, root_trait_missed, rule_missed, things_missed, trait_missed, tree_missed};
-ghost use Rattle.ac_base.specs.Pieces.{listed};
+ghost use Rattle.ac_base.specs.Writing.Pieces.{listed};
 ghost use Rattle.ac_base.specs.Writing.{Pushes};
 
 use ac_base::pieces::{push_marked, push_pieces};

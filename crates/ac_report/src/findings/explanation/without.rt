@@ -5,7 +5,7 @@ ghost use Rattle.ac_query.specs.Shown.{suffixes_shown};
 ghost use Rattle.ac_query.specs.Shown.Queries.{asked_of};
 ghost use Rattle.ac_report.specs.Findings.Explanation.Candidates.{asks_required, found_without, has_candidate, outcome, policy_found, policy_line, required_found, required_line, subtree_line, subtree_lines, subtrees_found, without_lines};
 ghost use Rattle.ac_report.specs.Findings.Explanation.Shown.{found_shown};
-ghost use Rattle.ac_base.specs.Pieces.{listed};
+ghost use Rattle.ac_base.specs.Writing.Pieces.{listed};
 ghost use Rattle.ac_base.specs.Writing.{Pushes};
 
 use super::has_candidate;

@@ -1,4 +1,4 @@
-use Rattle.ac_run.specs.Draining.{texts_shown}
+use Rattle.ac_run.specs.Feeds.Draining.{texts_shown}
 use Rattle.ac_run.proofs.FewBytes.{are_few}
 use Rattle.ac_run.proofs.ready.sources_of.Goals as goal
 

@@ -5,7 +5,7 @@ use Rattle.csv.specs.Writing.{default_writer, row_text}
 use Rattle.ac_cloud.specs.World.{Provider}
 use Rattle.ac_cloud.specs.Cloud.CloudWorld.{providers_of}
 use Rattle.ac_tables.specs.Tables.UsageTable.{usage_columns}
-use Rattle.ac_base.specs.Rows.{HasRows}
+use Rattle.ac_base.specs.Writing.Rows.{HasRows}
 use Rattle.ac_tables.specs.UsageRows.{rows_of_provider, usages_text}
 use Rattle.ac_tables.proofs.UsageRows.Written.{provider_more}
 use Rattle.ac_tables.proofs.written.usages_text.Goals as goal

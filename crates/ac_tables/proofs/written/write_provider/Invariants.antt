@@ -1,7 +1,7 @@
 use Rattle.std.proofs.Common.{ℕ, ◌++◌, List, map, take}
 use Rattle.std.specs.List.{filter}
 use Rattle.ac_cloud.specs.Cloud.Entries.{entry_pair}
-use Rattle.ac_base.specs.Rows.{HasRows}
+use Rattle.ac_base.specs.Writing.Rows.{HasRows}
 use Rattle.ac_tables.specs.UsageRows.{is_used, usage_row}
 use Rattle.ac_tables.proofs.written.write_provider.Given as goal
 

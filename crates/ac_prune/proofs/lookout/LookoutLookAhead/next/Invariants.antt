@@ -1,5 +1,5 @@
 use Rattle.std.proofs.Common.{◌≤◌, length}
-use Rattle.ac_prune.specs.Fronts.{LeadNowhere}
+use Rattle.ac_prune.specs.Ahead.Fronts.{LeadNowhere}
 use Rattle.ac_prune.proofs.lookout.LookoutLookAhead.next.Given as goal
 
 abbrev pub invariant-loop-test : goal.invariant-loop-test

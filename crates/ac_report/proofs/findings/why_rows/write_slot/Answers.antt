@@ -5,7 +5,7 @@ use Rattle.ac_cloud.specs.Cloud.CloudWorld.{providers_of}
 use Rattle.ac_query.specs.Shown.Queries.{asked_of}
 use Rattle.ac_rules.specs.Placed.{placed_at, slot_at}
 use Rattle.ac_report.specs.Findings.WhyRows.{has_a_class, placed_row}
-use Rattle.ac_base.specs.Rows.{HasRows}
+use Rattle.ac_base.specs.Writing.Rows.{HasRows}
 use Rattle.ac_report.proofs.FoundTexts.HostsWritten.{row_more, row_same}
 use Rattle.ac_report.proofs.FoundTexts.RowsWritten.{behind, hosts_that}
 use Rattle.ac_report.proofs.findings.why_rows.write_slot.Goals as goal

@@ -1,6 +1,6 @@
 use Rattle.std.proofs.Common.{arith, refl}
 use Rattle.std.proofs.Math.ListN.{length-set}
-use Rattle.ac_base.proofs.DecimalSteps.{last_digit, digit_more, room_less, started}
+use Rattle.ac_base.proofs.Decimals.Steps.{last_digit, digit_more, room_less, started}
 use Rattle.ac_base.proofs.pieces.digits.Digits.of.Goals as goal
 
 pub loop-rest-init : goal.loop-rest-init

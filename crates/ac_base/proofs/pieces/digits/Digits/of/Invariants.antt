@@ -1,6 +1,6 @@
 use Rattle.std.proofs.Common.{◌≡◌, ◌++◌, ◌^◌, ◌<◌, ◌≤◌, drop, length}
 use Rattle.std.specs.Fmt.{decimal}
-use Rattle.ac_base.proofs.DecimalSteps.{front}
+use Rattle.ac_base.proofs.Decimals.Steps.{front}
 use Rattle.ac_base.proofs.pieces.digits.Digits.of.Given as goal
 
 -- the digits of what is left, before those in the room

@@ -1,6 +1,6 @@
 use Rattle.std.proofs.Common.{drop, map}
 use Rattle.ac_base.specs.Names.{trait_bytes}
-use Rattle.ac_base.specs.Pieces.{listed}
+use Rattle.ac_base.specs.Writing.Pieces.{listed}
 use Rattle.ac_report.proofs.FoundTexts.Begun.{IsBegun}
 use Rattle.ac_report.proofs.findings.explanation.nobody.push_names.Given as goal
 

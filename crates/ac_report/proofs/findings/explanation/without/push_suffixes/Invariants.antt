@@ -1,7 +1,7 @@
 use Rattle.std.proofs.Common.{map}
 use Rattle.ac_base.specs.Names.{suffix_bytes}
 use Rattle.ac_query.specs.Shown.{suffixes_shown}
-use Rattle.ac_base.specs.Pieces.{listed}
+use Rattle.ac_base.specs.Writing.Pieces.{listed}
 use Rattle.ac_report.proofs.FoundTexts.Begun.{IsBegun}
 use Rattle.ac_report.proofs.findings.explanation.without.push_suffixes.Given as goal
 

@@ -3,7 +3,7 @@ use Rattle.std.proofs.Common.{◌≡◌, ◌∙◌, ℕ, ◌+◌, ◌<◌, ◌�
 use Rattle.std.specs.Io.KnownBytes.{Keeps, prepend_known}
 use Rattle.std.specs.Prelude.{⊤}
 use Rattle.ac_session.specs.Lines.{behind_line, first_line, is_newline, most_passed}
-use Rattle.ac_session.proofs.Firsts.{after_in_front, after_later, after_missed, before_size, place_is_found, place_is_missed, place_later}
+use Rattle.ac_session.proofs.Leading.Firsts.{after_in_front, after_later, after_missed, before_size, place_is_found, place_is_missed, place_later}
 
 -- at least so many bytes of the first line were passed over, and not its newline
 abbrev pub Passes : Option (List ℕ) → Option (List ℕ) → ℕ → Type 0

@@ -1,9 +1,15 @@
--- Ratios in thousandths, as they were defined before millionths. Nothing cites them but the law that each ratio keeps its capacities.
+-- The digits behind the point of a ratio, alone; and ratios in thousandths, as they were defined before millionths.
 use Rattle.std.specs.Prelude.{◌≡◌, ℕ, ◌+◌, ◌-◌, ◌*◌, ◌/◌, ◌^◌, List, take, drop, length, position, Option, Some, None, if◌then◌else◌}
 use Rattle.std.specs.List.{list_all}
 use Rattle.std.specs.Option.{option_map, option_and_then}
-use Rattle.ac_base.specs.Texts.{is_zero, is_point, number, at_most, ratio_value}
+use Rattle.ac_base.specs.Texts.{are_digits, in_millionths, is_zero, is_point, number, at_most, ratio_value}
 use Rattle.ac_base.specs.Quantities.{InventoryNumbers, capacity}
+
+-- the millionths that digits behind the point are
+unfoldable pub fraction_value : List ℕ → Option ℕ
+fraction_value ds = if are_digits (length ds) ds then in_millionths ds (length ds) else None
+
+-- ---- in thousandths: nothing cites them but the law that each ratio keeps its capacities
 
 -- digits behind the point, in thousandths: behind three of them all are 0
 abbrev pub old_fraction : List ℕ → Option ℕ

@@ -6,8 +6,7 @@ use Rattle.std.proofs.lemmas.Bool.Decides.{nat_tests}
 use Rattle.std.proofs.Math.Seq.{take-length}
 use Rattle.std.proofs.Math.Nat.{mul-div-mul_right}
 use Rattle.ac_base.specs.Texts.{is_digit, is_zero, is_point, are_digits, number, decimal, at_most, greatest_ratio, in_millionths, ratio_value}
-use Rattle.ac_base.specs.OldRatios.{old_fraction, old_parts, OldRatiosKeep}
-use Rattle.ac_base.specs.RatioShown.{fraction_value}
+use Rattle.ac_base.specs.Ratios.{fraction_value, old_fraction, old_parts, OldRatiosKeep}
 use Rattle.ac_base.proofs.Small.{both}
 use Rattle.ac_base.proofs.Decimals.{in_places, digits_parts, zeros_decimal, zeros_digits, millionths-whole}
 use Rattle.ac_base.proofs.Ratios.{any_digits, ratio_parts}
