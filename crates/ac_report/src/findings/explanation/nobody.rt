@@ -39,7 +39,7 @@ fn push_class<W: Sink>(out: &mut W, cloud: &Cloud, need: &Need) -> Result<(), Wr
 }
 
 // The classes that nobody has.
-#[tactic(auto, using(crate::proofs::FoundTexts::ItemsWritten::item_stopped))]
+#[tactic(auto, using(crate::proofs::FoundTexts::ItemsWritten::item_part))]
 fn push_classes<W: Sink>(out: &mut W, cloud: &Cloud, needs: &[Need]) -> Result<(), WriteFailed>
     ensures { Pushes W.taken W.failures out.old out.new result
         (flat_map (λ need. class_missed (providers_of cloud.now) need.0)
@@ -63,7 +63,7 @@ fn push_trait<W: Sink>(out: &mut W, cloud: &Cloud, name: &TraitName) -> Result<(
 }
 
 // The traits that nobody has.
-#[tactic(auto, using(crate::proofs::FoundTexts::ItemsWritten::item_stopped))]
+#[tactic(auto, using(crate::proofs::FoundTexts::ItemsWritten::item_part))]
 fn push_traits<W: Sink>(out: &mut W, cloud: &Cloud, names: &[TraitName]) -> Result<(), WriteFailed>
     ensures { Pushes W.taken W.failures out.old out.new result
         (flat_map (λ name. trait_missed (providers_of cloud.now) name)
@@ -76,7 +76,7 @@ fn push_traits<W: Sink>(out: &mut W, cloud: &Cloud, names: &[TraitName]) -> Resu
 }
 
 // Traits: the first behind a mark, each further one behind a comma.
-#[tactic(auto, using(crate::proofs::FoundTexts::ItemsWritten::item_turn, crate::proofs::FoundTexts::ItemsWritten::listed_stopped, crate::proofs::FoundTexts::ItemsWritten::listed_written))]
+#[tactic(auto, using(crate::proofs::FoundTexts::ItemsWritten::item_turn, crate::proofs::FoundTexts::ItemsWritten::listed_part, crate::proofs::FoundTexts::ItemsWritten::listed_written))]
 fn push_names<W: Sink>(out: &mut W, mark: &[u8], names: &[TraitName]) -> Result<(), WriteFailed>
     ensures { Pushes W.taken W.failures out.old out.new result
         (listed mark.now (map trait_bytes names.now)) }
@@ -90,7 +90,7 @@ fn push_names<W: Sink>(out: &mut W, mark: &[u8], names: &[TraitName]) -> Result<
 }
 
 // The line of traits of which nobody has one.
-#[tactic(auto, using(ac_base::proofs::Pushed::pushed_first, ac_base::proofs::Pushed::pushed_on), unfolding(crate::specs::Findings::Explanation::Nobody::one_of_line))]
+#[tactic(auto, using(crate::proofs::FoundTexts::Begun::behind), unfolding(crate::specs::Findings::Explanation::Nobody::one_of_line))]
 fn push_one_of<W: Sink>(out: &mut W, names: &[TraitName]) -> Result<(), WriteFailed>
     ensures { Pushes W.taken W.failures out.old out.new result
         (one_of_line (map trait_bytes names.now)) }
@@ -112,7 +112,7 @@ fn push_list<W: Sink>(out: &mut W, cloud: &Cloud, list: &AnyOf) -> Result<(), Wr
 }
 
 // The lists of traits of which nobody has one.
-#[tactic(auto, using(crate::proofs::FoundTexts::ItemsWritten::item_stopped))]
+#[tactic(auto, using(crate::proofs::FoundTexts::ItemsWritten::item_part))]
 fn push_lists<W: Sink>(out: &mut W, cloud: &Cloud, lists: &[AnyOf]) -> Result<(), WriteFailed>
     ensures { Pushes W.taken W.failures out.old out.new result
         (flat_map (λ names. list_missed (providers_of cloud.now) names)
@@ -125,7 +125,7 @@ fn push_lists<W: Sink>(out: &mut W, cloud: &Cloud, lists: &[AnyOf]) -> Result<()
 }
 
 // UUIDs: the first behind a mark, each further one behind a comma.
-#[tactic(auto, using(crate::proofs::FoundTexts::ItemsWritten::item_turn, crate::proofs::FoundTexts::ItemsWritten::listed_stopped, crate::proofs::FoundTexts::ItemsWritten::listed_written))]
+#[tactic(auto, using(crate::proofs::FoundTexts::ItemsWritten::item_turn, crate::proofs::FoundTexts::ItemsWritten::listed_part, crate::proofs::FoundTexts::ItemsWritten::listed_written))]
 fn push_ids<W: Sink>(out: &mut W, mark: &[u8], ids: &[Id]) -> Result<(), WriteFailed>
     ensures { Pushes W.taken W.failures out.old out.new result
         (listed mark.now (map id_text ids.now)) }
@@ -150,7 +150,7 @@ fn member_mark(ids: &[Id]) -> &'static [u8]
 }
 
 // The line of aggregates in which nobody is.
-#[tactic(auto, using(ac_base::proofs::Pushed::pushed_first, ac_base::proofs::Pushed::pushed_on), unfolding(crate::specs::Findings::Explanation::Nobody::members_line))]
+#[tactic(auto, using(crate::proofs::FoundTexts::Begun::behind), unfolding(crate::specs::Findings::Explanation::Nobody::members_line))]
 fn push_members<W: Sink>(out: &mut W, ids: &[Id]) -> Result<(), WriteFailed>
     ensures { Pushes W.taken W.failures out.old out.new result (members_line ids.now) }
 {
@@ -170,7 +170,7 @@ fn push_rule<W: Sink>(out: &mut W, cloud: &Cloud, rule: &AggregateRule) -> Resul
 }
 
 // The aggregate rules that nobody meets.
-#[tactic(auto, using(crate::proofs::FoundTexts::ItemsWritten::item_stopped))]
+#[tactic(auto, using(crate::proofs::FoundTexts::ItemsWritten::item_part))]
 fn push_rules<W: Sink>(
     out: &mut W,
     cloud: &Cloud,
@@ -203,7 +203,7 @@ fn push_tree<W: Sink>(out: &mut W, cloud: &Cloud, in_tree: Option<Id>) -> Result
 }
 
 // What nobody has of the classes and traits of a group.
-#[tactic(auto, using(ac_base::proofs::Pushed::pushed_first, ac_base::proofs::Pushed::pushed_on))]
+#[tactic(auto, using(crate::proofs::FoundTexts::Begun::behind))]
 fn push_things<W: Sink>(out: &mut W, cloud: &Cloud, group: &Group) -> Result<(), WriteFailed>
     ensures { Pushes W.taken W.failures out.old out.new result
         (things_missed (providers_of cloud.now) (group_asked group.now)) }
@@ -214,7 +214,7 @@ fn push_things<W: Sink>(out: &mut W, cloud: &Cloud, group: &Group) -> Result<(),
 }
 
 // Where nobody is of the aggregates and the tree of a group.
-#[tactic(auto, using(ac_base::proofs::Pushed::pushed_first, ac_base::proofs::Pushed::pushed_on))]
+#[tactic(auto, using(crate::proofs::FoundTexts::Begun::behind))]
 fn push_places<W: Sink>(out: &mut W, cloud: &Cloud, group: &Group) -> Result<(), WriteFailed>
     ensures { Pushes W.taken W.failures out.old out.new result
         (places_missed (providers_of cloud.now) (group_asked group.now)) }
@@ -224,7 +224,7 @@ fn push_places<W: Sink>(out: &mut W, cloud: &Cloud, group: &Group) -> Result<(),
 }
 
 // What nobody has of a group.
-#[tactic(auto, using(ac_base::proofs::Pushed::pushed_first, ac_base::proofs::Pushed::pushed_on))]
+#[tactic(auto, using(crate::proofs::FoundTexts::Begun::behind))]
 fn push_group<W: Sink>(out: &mut W, cloud: &Cloud, group: &Group) -> Result<(), WriteFailed>
     ensures { Pushes W.taken W.failures out.old out.new result
         (group_missed (providers_of cloud.now) (group_entry group.now).1) }
@@ -234,7 +234,7 @@ fn push_group<W: Sink>(out: &mut W, cloud: &Cloud, group: &Group) -> Result<(), 
 }
 
 // What nobody has of each group.
-#[tactic(auto, using(crate::proofs::FoundTexts::ItemsWritten::item_stopped))]
+#[tactic(auto, using(crate::proofs::FoundTexts::ItemsWritten::item_part))]
 fn push_groups<W: Sink>(out: &mut W, cloud: &Cloud, groups: &[Group]) -> Result<(), WriteFailed>
     ensures { Pushes W.taken W.failures out.old out.new result
         (flat_map (λ g. group_missed (providers_of cloud.now) g.1)
@@ -258,7 +258,7 @@ fn push_root_trait<W: Sink>(out: &mut W, cloud: &Cloud, name: &TraitName) -> Res
 }
 
 // The traits that no root has.
-#[tactic(auto, using(crate::proofs::FoundTexts::ItemsWritten::item_stopped))]
+#[tactic(auto, using(crate::proofs::FoundTexts::ItemsWritten::item_part))]
 fn push_root_traits<W: Sink>(
     out: &mut W,
     cloud: &Cloud,
@@ -275,7 +275,7 @@ fn push_root_traits<W: Sink>(
 }
 
 /// Pushes a line for each thing that the query asks for and nobody has: group by group, then of the root.
-#[tactic(auto, using(ac_base::proofs::Pushed::pushed_first, ac_base::proofs::Pushed::pushed_on), unfolding(crate::specs::Findings::Explanation::Nobody::nobody_lines))]
+#[tactic(auto, using(crate::proofs::FoundTexts::Begun::behind), unfolding(crate::specs::Findings::Explanation::Nobody::nobody_lines))]
 pub(crate) fn push_missing<W: Sink>(
     out: &mut W,
     cloud: &Cloud,

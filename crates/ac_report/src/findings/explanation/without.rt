@@ -114,7 +114,7 @@ pub fn find_without(
 }
 
 // Suffixes: the first behind a mark, each further one behind a comma.
-#[tactic(auto, using(crate::proofs::FoundTexts::ItemsWritten::listed_stopped, crate::proofs::FoundTexts::ItemsWritten::listed_written))]
+#[tactic(auto, using(crate::proofs::FoundTexts::ItemsWritten::listed_part, crate::proofs::FoundTexts::ItemsWritten::listed_written))]
 fn push_suffixes<W: Sink>(
     out: &mut W,
     mark: &[u8],
@@ -139,7 +139,7 @@ fn outcome(found: bool) -> &'static [u8]
 }
 
 // The line of a list of `same_subtree`.
-#[tactic(auto, using(ac_base::proofs::Pushed::pushed_first), unfolding(crate::specs::Findings::Explanation::Candidates::subtree_line))]
+#[tactic(auto, using(crate::proofs::FoundTexts::Begun::behind), unfolding(crate::specs::Findings::Explanation::Candidates::subtree_line))]
 fn push_subtree<W: Sink>(
     out: &mut W,
     suffixes: &BTreeSet<Suffix>,
@@ -193,7 +193,7 @@ fn required_line(found: Option<bool>) -> &'static [u8]
 }
 
 /// Pushes a line for each thing that was taken away, with what was found without it.
-#[tactic(auto, using(ac_base::proofs::Pushed::pushed_first, ac_base::proofs::Pushed::pushed_on), unfolding(crate::specs::Findings::Explanation::Candidates::without_lines))]
+#[tactic(auto, using(crate::proofs::FoundTexts::Begun::behind), unfolding(crate::specs::Findings::Explanation::Candidates::without_lines))]
 pub(crate) fn push_without<W: Sink>(
     out: &mut W,
     query: &Query,

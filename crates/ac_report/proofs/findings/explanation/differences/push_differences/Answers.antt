@@ -6,9 +6,9 @@ use Rattle.ac_cloud.specs.Cloud.CloudWorld.{providers_of}
 use Rattle.ac_differences.specs.Differing.{all_differences, applies}
 use Rattle.ac_differences.specs.declared.differences.Difference.{Difference}
 use Rattle.ac_report.specs.Findings.Explanation.Differing.{differs_line}
-use Rattle.ac_report.proofs.FoundTexts.Begun.{begun_start}
+use Rattle.ac_report.proofs.FoundTexts.Begun.{begun_start, begun_stops}
 use Rattle.ac_report.proofs.FoundTexts.DifferencesWritten.{each_passing}
-use Rattle.ac_report.proofs.FoundTexts.ItemsWritten.{piece_stopped}
+use Rattle.ac_report.proofs.FoundTexts.ItemsWritten.{piece_first}
 use Rattle.ac_report.proofs.findings.explanation.differences.push_differences.Goals as goal
 
 pub loop-difference-init : goal.loop-difference-init
@@ -24,5 +24,7 @@ returns-in_err-push_if_applies g c =
     let all = providers_of c.args.cloud.now in
     let asked = asked_of c.args.query.now in
     let told = λ (d : Difference). if applies all asked d then differs_line d else [] in
-    piece_stopped _ told c.all_differences-difference-items.result.now c.loop-difference.difference-index _ (omega arith) c.loop-difference.invariant
-    c.in_err-push_if_applies.ensures c.from_residual.ensures.1
+    begun_stops _ _ record {
+      leaves = piece_first _ _ _ told c.all_differences-difference-items.result.now c.loop-difference.difference-index _ (omega arith) c.loop-difference.invariant.leaves;
+      failures = c.loop-difference.invariant.failures;
+    } _ c.in_err-push_if_applies.ensures c.from_residual.ensures.1
