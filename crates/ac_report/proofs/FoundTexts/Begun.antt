@@ -1,28 +1,14 @@
 -- A text that is pushed part by part.
+use Rattle.std.proofs.lemmas.Grind.{common_steps}
 use Rattle.std.proofs.Common.{◌≡◌, ◌≤◌, ℕ, List, ◌++◌, Option, arith, subst}
-use Rattle.std.specs.Prelude.{OnErr, OnOk, Result, Ok, Err}
+use Rattle.std.specs.Prelude.{Result, Ok, Err}
 use Rattle.std.specs.Result.{IsErrAnd}
 use Rattle.ac_base.specs.Writing.{Pushes}
-use Rattle.ac_base.specs.Devices.{Rises, TakesPart}
-use Rattle.std.specs.Io.KnownBytes.{Appends}
 use Rattle.ac_base.proofs.Leaving.{Leaves, appends_both, leaves_appends, leaves_start, leaves_takes_part, part_of_first, part_of_second}
-use Rattle.ac_base.proofs.Pushed.{later, pushed_within, rises_later}
+use Rattle.ac_base.proofs.Pushed.{pushed_within}
 
--- ---- one text behind another that was pushed whole: each part of what a result says of the second, of both
-
-pub ok_behind : {X Y : Type 0} (r : Result X Y) (a b c : Option (List ℕ)) (x y : List ℕ) → Appends a b x → OnOk r (Appends b c y) → OnOk r (Appends a c (x ++ y))
-ok_behind (Ok v) a b c x y first then = appends_both a b c x y first then
-ok_behind (Err e) a b c x y first then = tt
-
-pub part_behind : {X Y : Type 0} (r : Result X Y) (a b c : Option (List ℕ)) (x y : List ℕ) → Appends a b x → OnErr r (TakesPart b c y) → OnErr r (TakesPart a c (x ++ y))
-part_behind (Ok v) a b c x y first then = tt
-part_behind (Err e) a b c x y first then = part_of_second a b c x y first then
-
-pub rises_behind : {X Y : Type 0} (r : Result X Y) (f g h : ℕ) → f ≤ g → g ≤ h → OnErr r (Rises g h) → OnErr r (Rises f h)
-rises_behind (Ok v) f g h before after rises = tt
-rises_behind (Err e) f g h before after rises = rises_later f g h before after rises
-
-pub ruleset behind = (ok_behind, part_behind, rises_behind, part_of_first)
+-- an error within the first of two texts, or what becomes of the second behind the first
+pub ruleset behind = (appends_both, part_of_first, part_of_second)
 
 -- of a whole text all but a rest was pushed
 pub record IsBegun {S : Type 0} (taken : S → Option (List ℕ)) (fails : S → ℕ) (from to : S) (whole rest : List ℕ) : Type 0 where
@@ -54,14 +40,10 @@ module _ {S : Type 0} {taken : S → Option (List ℕ)} {fails : S → ℕ} wher
     pushed_told {a = a} {b = b} is pushed = subst (Pushes taken fails a b r) is pushed
 
     -- one text behind another
+    pushed_on : {Z T : Type 0} {z : Z} (a b c : S) (x y : List ℕ) → Pushes {Y = T} taken fails a b (Ok z) x → Pushes taken fails b c r y → Pushes taken fails a c r (x ++ y)
+    pushed_on a b c x y done next = grind (arith, common_steps, behind)
+
     pub pushed_behind : {Z T : Type 0} {z : Z} {a b c : S} {s t x y : List ℕ} → s ≡ x → t ≡ y → Pushes {Y = T} taken fails a b (Ok z) s
         → Pushes taken fails b c r t → Pushes taken fails a c r (x ++ y)
     pushed_behind {z = z} {a = a} {b = b} {c = c} {x = x} {y = y} first second before then =
-        let done = subst (Pushes taken fails a b (Ok z)) first before in
-        let next = pushed_told second then in
-        record {
-          ok = ok_behind r (taken a) (taken b) (taken c) x y done.ok next.ok;
-          part = part_behind r (taken a) (taken b) (taken c) x y done.ok next.part;
-          rises = rises_behind r (fails a) (fails b) (fails c) done.failures next.failures next.rises;
-          failures = later (fails a) (fails b) (fails c) done.failures next.failures;
-        }
+        pushed_on a b c x y (subst (Pushes taken fails a b (Ok z)) first before) (pushed_told second then)
