@@ -1,4 +1,5 @@
-use Rattle.std.proofs.Common.{◌≡◌, Err, ap, arith}
+use Rattle.std.proofs.Common.{◌≡◌, ◌≤◌, ℕ, Err, ap, arith}
+use Rattle.ac_base.specs.Devices.{Rises}
 use Rattle.std.proofs.lemmas.Result.{IfErr-at_err, on_ok_weaker}
 use Rattle.ac_cloud.specs.Cloud.CloudWorld.{world_of}
 use Rattle.ac_base.proofs.HandedOn.{later_rise}
@@ -31,8 +32,13 @@ returns-in-Err-clause-part g c = λ given e.
     handed_begun (turn_of c.args.version (world_of c.args.cloud.now) given).answer (g.W.Sink.taken c.args.out) _ _ _ _ c.new.ensures.taken c.new-frame.ensures.taken _
     (c.in-Err.ensures.turn given e).answer.part c.into_inner.ensures.part c.into_inner-in-Err.ensures.part
 
+-- what rose has risen later too
+rises_on : (a b c : ℕ) → Rises a b → b ≤ c → Rises a c
+rises_on a b c rises few = λ below. omega (arith, rises below, few)
+
 pub returns-in-Err-clause-failed : goal.returns-in-Err-clause-failed
 returns-in-Err-clause-failed g c = λ is.
     let same : c.in-Err.fault ≡ page_fault.WriteFailed = cc in
-    later_rise _ _ _ (omega (arith, c.new.ensures.failures, c.new-frame.ensures.failures)) (omega (arith, c.into_inner.ensures.failures, c.into_inner-in-Err.ensures.failures))
-    (c.in-Err.ensures.failed (ap Err same))
+    later_rise _ _ _ (omega (arith, c.new.ensures.failures, c.new-frame.ensures.failures))
+    (omega (arith, c.answer_next.ensures.failures, c.into_inner.ensures.failures, c.into_inner-in-Err.ensures.failures))
+    (rises_on _ _ _ (c.in-Err.ensures.failed (ap Err same)) (omega (arith, c.into_inner.ensures.failures, c.into_inner-in-Err.ensures.failures)))

@@ -16,7 +16,7 @@ returns g c =
         ok = record { output = c.in_ok-filled.ensures.text; ends = ap (λ n. end_line n []) (c.fill_status.ensures.said ts c.in_ok-filled.ensures.count) };
         part = tt;
         failed = λ e. absurd cc;
-        failures = c.write_placements-filled.ensures.failures;
+        failures = c.write_placements.ensures.failures;
       };
       world = filled_world old (world_of c.settle.new.cloud) asked ts (c.settle.ensures.providers ∙ c.in_ok-filled.ensures.world) c.settle.ensures.sizes;
     }
