@@ -9,7 +9,7 @@ use Rattle.ac_tables.specs.declared.fault.Table.{Table}
 use Rattle.ac_tables.specs.declared.read.FiveTables.{FiveTables}
 use Rattle.ac_session.proofs.Stood.{first_none}
 use Rattle.ac_words.specs.Words.{Line, task_in}
-use Rattle.ac_cli.specs.Program.{HeldSession, IsLine, Ran, RanCall, RanJob, RanSession, Streams, detail_in}
+use Rattle.ac_cli.specs.Program.{HeldSession, IsLine, Ran, RanCall, RanJob, RanSession, RanTask, Streams, detail_in}
 
 -- where memory gave out at first, nothing was taken
 module _ {R : Type 0} (remaining : R → Option (List ℕ)) (from : FiveTables R) (s : Streams) (given : ℕ)
@@ -54,3 +54,8 @@ module _ {R Q : Type 0} (remaining : R → Option (List ℕ)) (failures : R → 
       subst Called is
       (subst (λ (d : Option Paths). HeldSession remaining failures asked fails d line.version from to questions s given) same
       (subst (λ (v : Version). HeldSession remaining failures asked fails detail v from to questions s given) read held))
+
+-- what is said of a run is said of its task by another name
+pub of_task : {R : Type 0} (remaining : R → Option (List ℕ)) (failures : R → ℕ) (from to : FiveTables R) (s : Streams) (given : ℕ) (task other : Task) → task ≡ other
+    → RanTask remaining failures task from to s given → RanTask remaining failures other from to s given
+of_task remaining failures from to s given task other is ran = subst (λ (t : Task). RanTask remaining failures t from to s given) is ran

@@ -21,6 +21,7 @@ use Rattle.ac_session.specs.Sessions.{AreUnread, session_answer}
 use Rattle.ac_tables.specs.declared.read.FiveTables.{FiveTables}
 use Rattle.ac_cli.specs.Files.{AreOpened}
 use Rattle.ac_words.specs.Words.{Line, Says, faults, named, task_in}
+use Rattle.ac_words.specs.declared.name.Name.{Name}
 use Rattle.ac_tables.specs.FiveTables.{table_in}
 
 -- ---- the streams
@@ -193,7 +194,7 @@ pub record IsMisworded (kinds : Kinds) (s : Streams) (given : ℕ) : Type 0 wher
   pub told : IsTold s text 2 given
 
 -- The words say a line, and this is how it ended.
-pub record IsForLine (Ends : Line → Type 0) (found : Option (Text × List Row)) : Type 0 where
+pub record IsForLine (Ends : Line → Type 0) (found : Option (Name × List Row)) : Type 0 where
   pub line : Line
   pub says : Says found line
   pub ends : Ends line

@@ -95,7 +95,7 @@ fn held<F: Feed, Q: Feed + Drop, W: Sink + Drop, E: Sink>(
     out: W,
     err: &mut E,
 ) -> (u8, W)
-    ensures { HeldSession F.remaining F.failures Q.remaining Q.failures (detail_shown detail)
+    ensures { HeldSession F.remaining F.failures Q.remaining Q.failures (detail_shown detail.entry)
         version inputs.old inputs.new questions
         (seen W.taken W.failures E.taken E.failures out result.1 err.old err.new) result.0 }
 {
@@ -123,7 +123,7 @@ fn tell_unopened<E: Sink>(
     unopened: &Unopened<'_>,
     err: &mut E,
 ) -> u8
-    ensures { IsToldUnopened (detail_shown detail) unopened.now.table unopened.now.path.now
+    ensures { IsToldUnopened (detail_shown detail.entry) unopened.now.table unopened.now.path.now
         unopened.now.reason.now (λ line. TakesLine (E.taken err.old) (E.taken err.new)
         (E.failures err.old) (E.failures err.new) line) result }
 {

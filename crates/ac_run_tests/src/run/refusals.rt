@@ -185,7 +185,6 @@ static WHAT_TO_DO: [Case; 6] = [
         ..TOKENS
     },
     Case {
-        command: Command::Verify,
         query: "resources=VCPU:9",
         command: Command::Verify { token: "@1" },
         output: "no: rule 1 Units\n",

@@ -18,8 +18,8 @@ returns-in-Ok g c =
       },
     )
 
-pub returns : goal.returns
-returns g c = (
+pub returns-in-Err : goal.returns-in-Err
+returns-in-Err g c = (
   c.args.questions,
   none_held g.F.Feed.remaining c.args.inputs.now _ _ (c.tell.ensures.status ∙ c.of.ensures.status) (rw (← c.of.ensures.line) c.tell.ensures.line) refl c.tell.ensures.failures
       g.Q.Feed.remaining g.Q.Feed.failures c.args.questions _ _,

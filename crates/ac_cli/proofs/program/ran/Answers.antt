@@ -9,8 +9,8 @@ pub returns-in_default : goal.returns-in_default
 returns-in_default g c =
     none_ran g.F.Feed.remaining c.args.inputs.now _ _ (c.tell.ensures.status ∙ c.of.ensures.status) (rw (← c.of.ensures.line) c.tell.ensures.line) refl c.tell.ensures.failures _ _
 
-pub returns-then-status : goal.returns-then-status
-returns-then-status g c =
+pub returns-then-status-gt1 : goal.returns-then-status-gt1
+returns-then-status-gt1 g c =
     let said = c.run-status.ensures in
     record {
       written = λ small. absurd (omega arith);
@@ -46,8 +46,8 @@ returns-in-Ok-default g c =
       failures = said.err_failures;
     }
 
-pub returns : goal.returns
-returns g c =
+pub returns-in-Err-default : goal.returns-in-Err-default
+returns-in-Err-default g c =
     let said = c.run-status.ensures in
     let six = c.tell-in-Err-default.ensures.status ∙ c.of-in-Err-default.ensures.status in
     record {
