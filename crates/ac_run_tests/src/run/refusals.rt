@@ -178,7 +178,7 @@ fn faults(rt: HostRuntime) {
     check_all(&rt, &FAULTS, SOUND);
 }
 
-// An answer has nothing behind it, a verdict neither.
+// An answer has nothing behind it, and a verdict says of what a rule is broken.
 static WHAT_TO_DO: [Case; 6] = [
     Case {
         output: "@1\n",
@@ -187,7 +187,7 @@ static WHAT_TO_DO: [Case; 6] = [
     Case {
         query: "resources=VCPU:9",
         command: Command::Verify { token: "@1" },
-        output: "no: rule 1 Units\n",
+        output: "no: rule 1 Units: slot 1 on @1, VCPU:9 not within min_unit 1, max_unit 8, step_size 1\n",
         status: 1,
         ..TOKENS
     },
