@@ -249,9 +249,7 @@ marks_back all asked q p lone old new h is change old_marks r within = search (r
 
 -- one more is counted at each root where all before it are, of a provider that is available wherever all are
 turn_more : (there here : Bool) (n m : ℕ) → ((m == n) && here ≡ true → there ≡ true) → turned (there && here) n (n + 1) m ≡ turned here n (n + 1) m
-turn_more true here n m h = refl
-turn_more false false n m h = refl
-turn_more false true n m h = elim (cases_Bool (m == n)) [ inl e ↦ absurd (false≢true (h (rw e refl))) | inr e ↦ rw e refl ]
+turn_more there here n m h = grind (arith, nat_tests)
 
 pub hits_next : (all : List Provider) (q : List ℕ) (p other : ℕ) (old new : List ℕ) → IsWithAll all (q ++ p ∷ []) other
     → ((r : ℕ) → slice_index new r ≡ turned (is_there (anchors_of all other) r && is_available_at all p r) (length q) (length q + 1) (slice_index old r))
@@ -263,16 +261,7 @@ hits_next all q p other old new with_all change old_hits r within =
 
 -- and given back at each where it was counted
 turn_back : (there here : Bool) (n m : ℕ) → m ≤ n → ((m == n) && here ≡ true → there ≡ true) → turned there (n + 1) n (turned here n (n + 1) m) ≡ m
-turn_back false false n m most h = refl
-turn_back true false n m most h = let off = ne_eqb m (n + 1) (λ e. omega (arith, e, most)) in rw off refl
-turn_back false true n m most h = elim (cases_eq m n) [
-  | inl e ↦ let on = eq-eqb m n e in absurd (false≢true (h (rw on refl)))
-  | inr e ↦ let off = ne_eqb m n e in rw off refl
-]
-turn_back true true n m most h = elim (cases_eq m n) [
-  | inl e ↦ let on = eq-eqb m n e in let again = eq-eqb (n + 1) (n + 1) refl in simp (on, again) (sym e)
-  | inr e ↦ let off = ne_eqb m n e in let above = ne_eqb m (n + 1) (λ same. omega (arith, same, most)) in simp (off, above)
-]
+turn_back there here n m most h = grind (arith, nat_tests)
 
 pub hits_back : (all : List Provider) (q : List ℕ) (p other : ℕ) (old new : List ℕ) → IsWithAll all (q ++ p ∷ []) other
     → ((r : ℕ) → slice_index new r ≡ turned (is_there (anchors_of all other) r) (length q + 1) (length q) (slice_index old r))

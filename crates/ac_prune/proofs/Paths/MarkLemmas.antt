@@ -6,6 +6,7 @@ use Rattle.std.proofs.lemmas.Bool.{cases_Bool, cases_eq, and_parts, eq-eqb, ne_e
 use Rattle.std.proofs.lemmas.Bool.Decides.{nat_tests}
 use Rattle.std.proofs.lemmas.List.{get_or-set_same, get_or-set_other, take_all, take-append-le}
 use Rattle.std.proofs.lemmas.List.Elements.{All-from_recursion}
+use Rattle.std.proofs.Math.Bool.{and-false}
 use Rattle.std.proofs.lemmas.List.Folds.{list_all-append}
 use Rattle.ac_query.specs.Asked.{Asked, Slot, is_isolated}
 use Rattle.ac_cloud.specs.World.{Provider, is_available_at, anchors_of}
@@ -50,17 +51,18 @@ isolate_next asked xs x h = search (rules, apart_next, marks_none)
 
 -- ---- Hits
 
+turn_up : (b : Bool) (n m : ℕ) → 1 + turned b n (n + 1) m ≡ turned b (suc n) (suc n + 1) (1 + m)
+turn_up b n m = grind (arith, nat_tests)
+
+turn_none : (b : Bool) (n : ℕ) → 0 ≡ turned b (suc n) (suc n + 1) 0
+turn_none b n = grind (arith, nat_tests)
+
 pub hits_more : (all : List Provider) (q : List ℕ) (p r : ℕ) → hits_at all (q ++ p ∷ []) r ≡ turned (is_available_at all p r) (length q) (length q + 1) (hits_at all q r)
 hits_more all [] p r = elim (cases_Bool (is_available_at all p r)) [ inl e ↦ rw e refl | inr e ↦ rw e refl ]
-hits_more all (s ∷ q) p r = elim (cases_Bool (is_available_at all s r)) [
-  | inl e ↦ rw (e, hits_more all q p r) (one_up (is_available_at all p r) (length q) (hits_at all q r))
-  | inr e ↦ rw e (none_up (is_available_at all p r) (length q))
+hits_more all (s ∷ q) p r = let more = hits_more all q p r in elim (cases_Bool (is_available_at all s r)) [
+  | inl e ↦ rw (e, more) (turn_up (is_available_at all p r) (length q) (hits_at all q r))
+  | inr e ↦ rw e (turn_none (is_available_at all p r) (length q))
 ]
-  where
-    one_up : (b : Bool) (n m : ℕ) → 1 + turned b n (n + 1) m ≡ turned b (suc n) (suc n + 1) (1 + m)
-    one_up b n m = grind (arith, nat_tests)
-    none_up : (b : Bool) (n : ℕ) → 0 ≡ turned b (suc n) (suc n + 1) 0
-    none_up b n = grind (arith, nat_tests)
 
 pub hits_most : (all : List Provider) (q : List ℕ) (r : ℕ) → hits_at all q r ≤ length q
 hits_most all [] r = omega arith
@@ -99,32 +101,22 @@ pub stand_more : (all : List Provider) (q : List ℕ) (p r : ℕ) → stand_at a
 stand_more all q p r = search (rules, list_all-append, all_hit)
 
 -- so is a provider that is available wherever they are
-with_more : (there full here mark : Bool) → (full && here ≡ true → there ≡ true) → there && (mark && full && here) ≡ mark && (full && here)
-with_more true full here true h = refl
-with_more true full here false h = refl
-with_more false full here false h = refl
-with_more false false here true h = refl
-with_more false true false true h = refl
-with_more false true true true h = absurd (false≢true (h refl))
-
--- the test of one more provider at a root
-at_root : (all : List Provider) (mark : Bool) (q : List ℕ) (p other r : ℕ) → IsWithAll all (q ++ p ∷ []) other
-    → is_available_at all other r && (mark && (hits_at all q r == length q) && is_available_at all p r) ≡ mark && stand_at all (q ++ p ∷ []) r
-at_root all mark q p other r with_all =
-    with_more (is_available_at all other r) (hits_at all q r == length q) (is_available_at all p r) mark (λ e. with_all r (stand_more all q p r ∙ e)) ∙ ap (λ (b : Bool). mark && b) (sym (stand_more all q p r))
+with_more : (there both mark : Bool) → (both ≡ true → there ≡ true) → there && (mark && both) ≡ mark && both
+with_more there both mark h = grind arith
 
 -- With the next provider a list stands at a marked root exactly where, at a marked root of one that is available wherever it stands, all before
 -- hit and the next is available.
 pub stand_next : (all : List Provider) (marks : List Bool) (q : List ℕ) (p other : ℕ) (hits : List ℕ) → AreHits all hits q → IsWithAll all (q ++ p ∷ []) other
-    → list_any (λ r. slice_index_or marks r false && (slice_index hits r == length q) && is_available_at all p r) (anchors_of all other) ≡ stand_at_marked all marks (q ++ p ∷ [])
+    → list_any (λ r. slice_index_or marks r false && ((slice_index hits r == length q) && is_available_at all p r)) (anchors_of all other) ≡ stand_at_marked all marks (q ++ p ∷ [])
 unfolding stand_at_marked
 stand_next all marks q p other hits hit with_all =
-    let full = λ (r : ℕ). slice_index_or marks r false && (hits_at all q r == length q) && is_available_at all p r in
-    any_within (λ r. slice_index_or marks r false && (slice_index hits r == length q) && is_available_at all p r) full (anchors_of all other)
-    (each_weaker (λ r. (is_available_at all other r ≡ true) × (r < length all)) _ (anchors_of all other) (λ r h. ap (λ (n : ℕ). slice_index_or marks r false && (n == length q) && is_available_at all p r) (hit r h.1)) (each_anchor all other))
-    ∙ (any_filter full (is_available_at all other) (range_with_len 0 (length all))
-    ∙ any_agree (λ r. is_available_at all other r && full r) (λ r. slice_index_or marks r false && stand_at all (q ++ p ∷ []) r)
-    (λ r. at_root all (slice_index_or marks r false) q p other r with_all) (range_with_len 0 (length all)))
+    let mark = λ (r : ℕ). slice_index_or marks r false in
+    let stands = λ (r : ℕ). mark r && stand_at all (q ++ p ∷ []) r in
+    any_within (λ r. mark r && ((slice_index hits r == length q) && is_available_at all p r)) stands (anchors_of all other)
+    (each_weaker (λ r. (is_available_at all other r ≡ true) × (r < length all)) _ (anchors_of all other)
+    (λ r h. ap (λ (n : ℕ). mark r && ((n == length q) && is_available_at all p r)) (hit r h.1) ∙ ap (λ (b : Bool). mark r && b) (sym (stand_more all q p r))) (each_anchor all other))
+    ∙ (any_filter stands (is_available_at all other) (range_with_len 0 (length all))
+    ∙ any_agree (λ r. is_available_at all other r && stands r) stands (λ r. with_more (is_available_at all other r) (stand_at all (q ++ p ∷ []) r) (mark r) (with_all r)) (range_with_len 0 (length all)))
 
 -- ---- Who is available wherever a front is
 

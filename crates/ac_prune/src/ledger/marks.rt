@@ -73,14 +73,16 @@ pub(crate) fn unmark(marks: &mut [u32], lone: bool, at: usize)
     }
 }
 
-// Whether a provider is available at a root of another.
-fn is_at(cloud: &Cloud, ix: u32, other: u32, root: u32) -> bool
+// Whether so many were counted at a root of another provider, and one more is available there.
+fn is_full(hits: &[u32], cloud: &Cloud, other: u32, ix: u32, depth: usize, root: u32) -> bool
+    requires hits { length hits.now ≡ length (providers_of cloud.now) }
     requires provider { ix < length (providers_of cloud.now) }
     requires root { root < length (providers_of cloud.now) }
     requires other { is_available_at (providers_of cloud.now) other root ≡ true }
-    ensures { result ≡ is_available_at (providers_of cloud.now) ix root }
+    ensures { result ≡ (slice_index hits.now root == depth)
+        && is_available_at (providers_of cloud.now) ix root }
 {
-    ix == other || cloud.available(ix, root)
+    hits[root as usize] as usize == depth && (ix == other || cloud.available(ix, root))
 }
 
 /// Counts one more provider behind so many at each root of another where it is available and they all are.
@@ -102,9 +104,8 @@ pub(crate) fn hit(
         depth (depth + 1) (slice_index hits.old r) }
 {
     for root in roots {
-        let at = *root as usize;
-        if hits[at] as usize == depth && is_at(cloud, ix, other, *root) {
-            hits[at] += 1;
+        if is_full(hits, cloud, other, ix, depth, *root) {
+            hits[*root as usize] += 1;
         }
     }
 }
@@ -140,12 +141,10 @@ pub(crate) fn has_full(
     requires other { All (λ r. is_available_at (providers_of cloud.now) other r ≡ true) roots.now }
     requires provider { ix < length (providers_of cloud.now) }
     ensures { result ≡ list_any (λ r. slice_index_or marks.now r false
-        && (slice_index hits.now r == depth)
-        && is_available_at (providers_of cloud.now) ix r) roots.now }
+        && ((slice_index hits.now r == depth) && is_available_at (providers_of cloud.now) ix r))
+        roots.now }
 {
-    roots.iter().any(|root| {
-        marks[*root as usize]
-            && hits[*root as usize] as usize == depth
-            && is_at(cloud, ix, other, *root)
-    })
+    roots
+        .iter()
+        .any(|root| marks[*root as usize] && is_full(hits, cloud, other, ix, depth, *root))
 }
