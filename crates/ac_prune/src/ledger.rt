@@ -20,7 +20,7 @@ pub mod rooms;
 
 use crate::ledger::marks::{has_full, hit, lone_slots, mark, taken_roots, unhit, unmark};
 use crate::ledger::rooms::{Ask, all_asks, all_rooms, give_back, has_each, take};
-use crate::tuning::FAR;
+use crate::tuning::WIDER;
 use ac_base::{ClassName, NoMemory};
 use ac_cloud::Cloud;
 use ac_query::Query;
@@ -40,10 +40,10 @@ pub struct Ledger<'a> {
     // The slots that need a provider for themselves, and how many of them each provider has.
     pub(crate) lone: Vec<bool>,
     marks: Vec<u32>,
-    // The roots that the query takes; how many providers of the path each has, up to the first that isn't available there.
+    // The roots that the query takes, and at each root how many providers of the path are available, up to the first that isn't.
     pub(crate) taken: Vec<bool>,
     pub(crate) hits: Vec<u32>,
-    // For each provider of the path the one with the fewest roots so far: where all are available, it is.
+    // For each provider of the path the one with the fewest roots up to it: it is available wherever they all are.
     narrowest: Vec<u32>,
     ghost known: { (s : ℕ) → s < length (slots_of (asked_of query.now)) → All (λ need. IsKnown (map (λ c. class_bytes c.now) classes.items) need.0) (slot_at (asked_of query.now) s).needs },
     ghost asked: { map (λ v. map ask_pair v.items) asks.items ≡ map (λ slot. map (numbered (map (λ c. class_bytes c.now) classes.items)) slot.needs) (slots_of (asked_of query.now)) },
@@ -125,7 +125,8 @@ impl<'a> Ledger<'a> {
         has_each(&self.rooms, self.row(ix as usize), &self.asks[s])
     }
 
-    // The narrowest provider of a front where one more behind it has more than so many times its roots, else this one.
+    // The narrowest provider of a front where one more behind it has more than so many times its roots, else that one. All roots
+    // at which they are all available are among its own.
     fn narrower(&self, front: &[u32], ix: u32, times: usize) -> u32
         requires provider { ix < length (providers_in self.now) }
         requires accounts { Accounts self.now front.now }
@@ -153,7 +154,7 @@ impl<'a> Ledger<'a> {
         ensures { result
             ≡ stand_at_marked (providers_in self.now) marks.now (front.now ++ ix ∷ []) }
     {
-        let other = self.narrower(front, ix, FAR);
+        let other = self.narrower(front, ix, WIDER);
         let roots = self.cloud.anchors(other);
         has_full(&self.hits, marks, self.cloud, roots, other, ix, front.len())
     }
@@ -187,7 +188,7 @@ impl<'a> Ledger<'a> {
         let s = front.len();
         let at = ix as usize;
         let row = self.row(at);
-        let other = self.narrower(front, ix, FAR);
+        let other = self.narrower(front, ix, WIDER);
         let narrowest = self.narrower(front, ix, 1);
         take(&mut self.rooms, row, &self.asks[s]);
         mark(&mut self.marks, self.lone[s], at);

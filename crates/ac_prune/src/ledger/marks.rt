@@ -73,7 +73,7 @@ pub(crate) fn unmark(marks: &mut [u32], lone: bool, at: usize)
     }
 }
 
-// Whether so many were counted at a root of another provider, and one more is available there.
+// Whether so many are counted at a root of another provider, and one more is available there.
 fn is_full(hits: &[u32], cloud: &Cloud, other: u32, ix: u32, depth: usize, root: u32) -> bool
     requires hits { length hits.now ≡ length (providers_of cloud.now) }
     requires provider { ix < length (providers_of cloud.now) }
@@ -85,15 +85,8 @@ fn is_full(hits: &[u32], cloud: &Cloud, other: u32, ix: u32, depth: usize, root:
     hits[root as usize] as usize == depth && (ix == other || cloud.available(ix, root))
 }
 
-/// Counts one more provider behind so many at each root of another where it is available and they all are.
-pub(crate) fn hit(
-    hits: &mut [u32],
-    cloud: &Cloud,
-    roots: &[u32],
-    other: u32,
-    ix: u32,
-    depth: usize,
-)
+/// Counts one more provider at each of another's roots where it is available and so many before it are counted.
+pub(crate) fn hit(hits: &mut [u32], cloud: &Cloud, roots: &[u32], other: u32, ix: u32, depth: usize)
     requires hits { length hits.old ≡ length (providers_of cloud.now) }
     requires roots { All (λ r. r < length (providers_of cloud.now)) roots.now }
     requires other { All (λ r. is_available_at (providers_of cloud.now) other r ≡ true) roots.now }
@@ -110,7 +103,7 @@ pub(crate) fn hit(
     }
 }
 
-/// Counts one less at each root of a list where one more than so many were counted.
+/// Counts so many again at each root of a list where one more is counted.
 pub(crate) fn unhit(hits: &mut [u32], roots: &[u32], depth: usize)
     requires within { All (λ r. r < length hits.old) roots.now }
     requires few { depth < 64 }
@@ -125,7 +118,7 @@ pub(crate) fn unhit(hits: &mut [u32], roots: &[u32], depth: usize)
     }
 }
 
-/// Whether some root of a provider is marked where so many were counted, and another is available there.
+/// Whether one of another's roots is marked where a provider is available and so many before it are counted.
 pub(crate) fn has_full(
     hits: &[u32],
     marks: &[bool],
@@ -144,7 +137,5 @@ pub(crate) fn has_full(
         && ((slice_index hits.now r == depth) && is_available_at (providers_of cloud.now) ix r))
         roots.now }
 {
-    roots
-        .iter()
-        .any(|root| marks[*root as usize] && is_full(hits, cloud, other, ix, depth, *root))
+    roots.iter().any(|root| marks[*root as usize] && is_full(hits, cloud, other, ix, depth, *root))
 }

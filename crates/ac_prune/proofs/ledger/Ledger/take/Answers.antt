@@ -1,4 +1,4 @@
-use Rattle.std.proofs.Common.{◌≡◌, ◌<◌, ◌∙◌, ◌++◌, ◌∷◌, [], List, ℕ, length, ap, sym, subst, arith}
+use Rattle.std.proofs.Common.{◌∙◌, ◌++◌, ◌∷◌, [], List, ℕ, length, ap, sym, subst, arith}
 use Rattle.std.proofs.lemmas.List.{with_items_is}
 use Rattle.ac_rules.specs.Placed.{assigned}
 use Rattle.ac_prune.specs.Marks.{AreMarks, AreHits}
