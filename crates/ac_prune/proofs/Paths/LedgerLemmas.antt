@@ -255,9 +255,8 @@ pub hits_next : (all : List Provider) (q : List ℕ) (p other : ℕ) (old new : 
     → ((r : ℕ) → slice_index new r ≡ turned (is_there (anchors_of all other) r && is_available_at all p r) (length q) (length q + 1) (slice_index old r))
     → AreHits all old q → AreHits all new (q ++ p ∷ [])
 hits_next all q p other old new with_all change old_hits r within =
-    change r ∙ (ap (turned (is_there (anchors_of all other) r && is_available_at all p r) (length q) (length q + 1)) (old_hits r within)
-    ∙ (turn_more (is_there (anchors_of all other) r) (is_available_at all p r) (length q) (hits_at all q r) (λ e. anchor_there all other r within (with_all r (stand_more all q p r ∙ e)))
-    ∙ sym (hits_more all q p r)))
+    let there : (hits_at all q r == length q) && is_available_at all p r ≡ true → is_there (anchors_of all other) r ≡ true = λ e. anchor_there all other r within (with_all r (stand_more all q p r ∙ e)) in
+    rw (change r, old_hits r within, turn_more (is_there (anchors_of all other) r) (is_available_at all p r) (length q) (hits_at all q r) there) (sym (hits_more all q p r))
 
 -- and given back at each where it was counted
 turn_back : (there here : Bool) (n m : ℕ) → m ≤ n → ((m == n) && here ≡ true → there ≡ true) → turned there (n + 1) n (turned here n (n + 1) m) ≡ m
@@ -266,9 +265,7 @@ turn_back there here n m most h = grind (arith, nat_tests)
 pub hits_back : (all : List Provider) (q : List ℕ) (p other : ℕ) (old new : List ℕ) → IsWithAll all (q ++ p ∷ []) other
     → ((r : ℕ) → slice_index new r ≡ turned (is_there (anchors_of all other) r) (length q + 1) (length q) (slice_index old r))
     → AreHits all old (q ++ p ∷ []) → AreHits all new q
-hits_back all q p other old new with_all change old_hits r within =
-    change r ∙ (ap (turned (is_there (anchors_of all other) r) (length q + 1) (length q)) (old_hits r within ∙ hits_more all q p r)
-    ∙ turn_back (is_there (anchors_of all other) r) (is_available_at all p r) (length q) (hits_at all q r) (hits_most all q r) (λ e. anchor_there all other r within (with_all r (stand_more all q p r ∙ e))))
+hits_back all q p other old new with_all change old_hits r within = search (rules, turn_back, hits_most, anchor_there, stand_more, hits_more)
 
 -- ---- The accounts of nothing
 

@@ -58,10 +58,7 @@ turn_none b n = grind (arith, nat_tests)
 
 pub hits_more : (all : List Provider) (q : List ℕ) (p r : ℕ) → hits_at all (q ++ p ∷ []) r ≡ turned (is_available_at all p r) (length q) (length q + 1) (hits_at all q r)
 hits_more all [] p r = elim (cases_Bool (is_available_at all p r)) [ inl e ↦ rw e refl | inr e ↦ rw e refl ]
-hits_more all (s ∷ q) p r = let more = hits_more all q p r in elim (cases_Bool (is_available_at all s r)) [
-  | inl e ↦ rw (e, more) (turn_up (is_available_at all p r) (length q) (hits_at all q r))
-  | inr e ↦ rw e (turn_none (is_available_at all p r) (length q))
-]
+hits_more all (s ∷ q) p r = search (rules, turn_up, turn_none, hits_more all q p r)
 
 pub hits_most : (all : List Provider) (q : List ℕ) (r : ℕ) → hits_at all q r ≤ length q
 hits_most all [] r = omega arith
