@@ -13,17 +13,19 @@ ghost use Rattle.ac_rules.specs.Judge.{is_open};
 ghost use Rattle.ac_rules.specs.Own.{fits};
 ghost use Rattle.ac_rules.specs.Room.{IsKnown};
 ghost use Rattle.ac_prune.specs.Left.{ask_pair, numbered, AreSmall, suffices};
-ghost use Rattle.ac_prune.specs.Marks.{needs_own, stand_at_marked};
+ghost use Rattle.ac_prune.specs.Marks.{needs_own, stand_at_marked, IsWithAll};
 
 pub mod marks;
 pub mod rooms;
 
 use crate::ledger::marks::{has_full, hit, lone_slots, mark, taken_roots, unhit, unmark};
 use crate::ledger::rooms::{Ask, all_asks, all_rooms, give_back, has_each, take};
+use crate::tuning::WIDER;
 use ac_base::{ClassName, NoMemory};
 use ac_cloud::Cloud;
 use ac_query::Query;
 use ac_rules::all_classes;
+use ac_rules::slots::count_slots;
 use std::alloc::Global;
 
 /// What a path takes of the rooms, and which providers and roots it meets.
@@ -38,9 +40,11 @@ pub struct Ledger<'a> {
     // The slots that need a provider for themselves, and how many of them each provider has.
     pub(crate) lone: Vec<bool>,
     marks: Vec<u32>,
-    // The roots that the query takes, and at how many providers of the path each is available.
+    // The roots that the query takes, and at each root how many providers of the path are available, up to the first that isn't.
     pub(crate) taken: Vec<bool>,
     pub(crate) hits: Vec<u32>,
+    // For each provider of the path the one with the fewest roots up to it: it is available wherever they all are.
+    narrowest: Vec<u32>,
     ghost known: { (s : ℕ) → s < length (slots_of (asked_of query.now)) → All (λ need. IsKnown (map (λ c. class_bytes c.now) classes.items) need.0) (slot_at (asked_of query.now) s).needs },
     ghost asked: { map (λ v. map ask_pair v.items) asks.items ≡ map (λ slot. map (numbered (map (λ c. class_bytes c.now) classes.items)) slot.needs) (slots_of (asked_of query.now)) },
     ghost sized: { length rooms.items ≡ length (providers_of cloud.now) * length classes.items },
@@ -49,6 +53,7 @@ pub struct Ledger<'a> {
     ghost marked: { length marks.items ≡ length (providers_of cloud.now) },
     ghost rooted: { taken.items ≡ map (takes_root (providers_of cloud.now) (asked_of query.now)) (range_with_len 0 (length (providers_of cloud.now))) },
     ghost met: { length hits.items ≡ length (providers_of cloud.now) },
+    ghost narrowed: { length narrowest.items ≡ length (slots_of (asked_of query.now)) },
 }
 
 impl<'a> Ledger<'a> {
@@ -68,6 +73,7 @@ impl<'a> Ledger<'a> {
         let count = cloud.len() as usize;
         let marks = vec![in alloc; 0u32; count]?;
         let hits = vec![in alloc; 0u32; count]?;
+        let narrowest = vec![in alloc; 0u32; count_slots(query)]?;
         Ok(Ledger {
             cloud,
             query,
@@ -78,6 +84,7 @@ impl<'a> Ledger<'a> {
             marks,
             taken,
             hits,
+            narrowest,
         })
     }
 
@@ -118,6 +125,27 @@ impl<'a> Ledger<'a> {
         has_each(&self.rooms, self.row(ix as usize), &self.asks[s])
     }
 
+    // The narrowest provider of a front where one more behind it has more than so many times its roots, else that one. All roots
+    // at which they are all available are among its own.
+    fn narrower(&self, front: &[u32], ix: u32, times: usize) -> u32
+        requires provider { ix < length (providers_in self.now) }
+        requires accounts { Accounts self.now front.now }
+        requires some { 0 < times }
+        ensures within { result < length (providers_in self.now) }
+        ensures with_all { IsWithAll (providers_in self.now) (front.now ++ ix ∷ []) result }
+    {
+        let most = self.cloud.anchors(ix).len() / times;
+        if most == 0 || front.is_empty() {
+            return ix;
+        }
+        let narrowest = self.narrowest[front.len() - 1];
+        if self.cloud.anchors(narrowest).len() < most {
+            narrowest
+        } else {
+            ix
+        }
+    }
+
     /// Whether all of a front and one more provider are available in the tree of some marked root.
     pub fn stands_at(&self, marks: &[bool], front: &[u32], ix: u32) -> bool
         requires marks { length marks.now ≡ length (providers_in self.now) }
@@ -126,7 +154,9 @@ impl<'a> Ledger<'a> {
         ensures { result
             ≡ stand_at_marked (providers_in self.now) marks.now (front.now ++ ix ∷ []) }
     {
-        has_full(&self.hits, marks, self.cloud.anchors(ix), front.len())
+        let other = self.narrower(front, ix, WIDER);
+        let roots = self.cloud.anchors(other);
+        has_full(&self.hits, marks, self.cloud, roots, other, ix, front.len())
     }
 
     /// Whether an open front stays open with one more provider, which fits its slot.
@@ -158,9 +188,13 @@ impl<'a> Ledger<'a> {
         let s = front.len();
         let at = ix as usize;
         let row = self.row(at);
+        let other = self.narrower(front, ix, WIDER);
+        let narrowest = self.narrower(front, ix, 1);
         take(&mut self.rooms, row, &self.asks[s]);
         mark(&mut self.marks, self.lone[s], at);
-        hit(&mut self.hits, self.cloud.anchors(ix));
+        let roots = self.cloud.anchors(other);
+        hit(&mut self.hits, self.cloud, roots, other, ix, s);
+        self.narrowest[s] = narrowest;
     }
 
     /// Gives back what the last provider of a front took.
@@ -174,8 +208,9 @@ impl<'a> Ledger<'a> {
         let s = front.len();
         let at = ix as usize;
         let row = self.row(at);
+        let other = self.narrowest[s];
         give_back(&mut self.rooms, row, &self.asks[s]);
         unmark(&mut self.marks, self.lone[s], at);
-        unhit(&mut self.hits, self.cloud.anchors(ix));
+        unhit(&mut self.hits, self.cloud.anchors(other), s);
     }
 }

@@ -15,6 +15,10 @@ pub(crate) const MOST_STEPS: u64 = 1 << 28;
 /// To how many trees a path is bound at the most: the next choice is looked up in each of them.
 pub(crate) const FEW: usize = 8;
 
+/// How many times the roots of the path's narrowest provider another must have, so that the ledger goes through those of the
+/// narrowest instead: each may have to be looked up among the other's, which takes some sixteen steps.
+pub(crate) const WIDER: usize = 32;
+
 /// How many lists of `same_subtree` are looked at ahead, since each costs memory for every provider; further ones are judged
 /// when all slots have a provider, as all are.
 pub(crate) const MOST_FAMILIES: usize = 16;

@@ -23,7 +23,7 @@ use Rattle.ac_query.specs.Shown.Slots.{slot_shown}
 use Rattle.ac_query.specs.declared.group.Need.{Need}
 use Rattle.ac_query.specs.declared.group.Group as rust
 use Rattle.ac_query.specs.declared.query.Query.{Query}
-use Rattle.ac_cloud.specs.World.{Provider, provider_at, anchors_of}
+use Rattle.ac_cloud.specs.World.{Provider, provider_at, is_available_at, anchors_of}
 use Rattle.ac_rules.specs.Placed.{placed, placed_at, slot_at, no_slot, assigned}
 use Rattle.ac_rules.specs.Together.{amount_of, sum_on, holds, sums, isolate, takes_root}
 use Rattle.ac_rules.specs.Judge.{is_open}
@@ -32,7 +32,8 @@ use Rattle.ac_prune.specs.QuerySearch.{has_room_alone}
 use Rattle.ac_rules.specs.Laws.{AskAmounts}
 use Rattle.ac_rules.specs.Room.{class_number, IsKnown}
 use Rattle.ac_prune.specs.Left.{AreLeft, AreRooms, ask_pair, numbered, wanted, wanted_at, has_each, suffices}
-use Rattle.ac_prune.specs.Marks.{needs_own, marks_at, times, AreMarks, AreHits, stand_at_marked}
+use Rattle.ac_prune.specs.Marks.{needs_own, marks_at, hits_at, turned, IsWithAll, AreMarks, AreHits, stand_at_marked}
+use Rattle.ac_prune.specs.Trees.Keys.{is_there}
 use Rattle.ac_prune.specs.Left.Accounts.{providers_in, asked_in, texts_in, left_in, Accounts}
 use Rattle.ac_prune.specs.declared.ledger.rooms.Ask.{Ask}
 use Rattle.ac_prune.specs.declared.ledger.Ledger.{Ledger}
@@ -44,7 +45,8 @@ use Rattle.ac_rules.proofs.EachSlot.FrontLemmas.{Opens, open_parts}
 use Rattle.ac_prune.proofs.Search.OpenLemmas.{placed_next, open_together, front_open}
 use Rattle.ac_prune.proofs.Paths.RowLemmas.{wanted_here, wanted_there}
 use Rattle.ac_prune.proofs.Paths.LeftLemmas.{sums_next, sum_here, sum_more, wanted_is, each_suffices, holds_less, less_holds}
-use Rattle.ac_prune.proofs.Paths.MarkLemmas.{isolate_next, anchor_marked, marks_more, marks_most, hits_more, hits_most, times_anchors}
+use Rattle.ac_prune.proofs.Paths.MarkLemmas.{isolate_next, anchor_marked, marks_more, marks_most, hits_more, hits_most, stand_more}
+use Rattle.ac_prune.proofs.Roots.TreeLemmas.{anchor_there}
 use Rattle.std.proofs.Common.{rules}
 
 -- ---- Queries ask for amounts
@@ -197,10 +199,6 @@ room_for l q p v h within accounts opens e i d less =
 pub room_to_mark : (l : Ledger) (q : List ℕ) (p : ℕ) → length q < length (slots_of (asked_in l)) → p < length (providers_in l) → Accounts l q → slice_index l.marks.items p < 64
 room_to_mark l q p h within accounts = search (rules, marks_most, placed_few, few_slots)
 
-pub room_to_hit : (l : Ledger) (q : List ℕ) (p r : ℕ) → length q < length (slots_of (asked_in l)) → r < length (providers_in l) → Accounts l q
-    → slice_index l.hits.items r + times r (anchors_of (providers_in l) p) < 2 ^ 32
-room_to_hit l q p r h within accounts = search (rules, times_anchors, hits_most, few_slots)
-
 -- what is given back was taken of a small room
 pub room_back : (l : Ledger) (q : List ℕ) (p : ℕ) (v : Vec Ask) → length q < length (slots_of (asked_in l)) → p < length (providers_in l) → Accounts l (q ++ p ∷ [])
     → v ≡ slice_index_or l.asks.items (length q) v
@@ -220,9 +218,6 @@ mark_there l q p h within accounts lone =
     let more = rw (lone, itself) at (marks_more asked (assigned asked q) (placed_at asked (length q) p) p) in
     let same = ap (λ xs. marks_at asked xs p) (placed_next asked q p h) in
     omega (arith, accounts.marks p within, same, more)
-
-pub hit_there : (l : Ledger) (q : List ℕ) (p r : ℕ) → r < length (providers_in l) → Accounts l (q ++ p ∷ []) → times r (anchors_of (providers_in l) p) ≤ slice_index l.hits.items r
-hit_there l q p r within accounts = omega (arith, accounts.hits r within, hits_more (providers_in l) q p r, times_anchors (providers_in l) p r within)
 
 -- ---- The accounts of one more and of one less
 
@@ -252,11 +247,25 @@ pub marks_back : (all : List Provider) (asked : Asked) (q : List ℕ) (p : ℕ) 
     → ((r : ℕ) → slice_index new r + (if lone && (p == r) then 1 else 0) ≡ slice_index old r) → AreMarks all asked old (assigned asked (q ++ p ∷ [])) → AreMarks all asked new (assigned asked q)
 marks_back all asked q p lone old new h is change old_marks r within = search (rules, marks_more, placed_next)
 
-pub hits_next : (all : List Provider) (q : List ℕ) (p : ℕ) (old new : List ℕ) → ((r : ℕ) → slice_index new r ≡ slice_index old r + times r (anchors_of all p)) → AreHits all old q → AreHits all new (q ++ p ∷ [])
-hits_next all q p old new change old_hits r within = omega (arith, change r, old_hits r within, hits_more all q p r, times_anchors all p r within)
+-- one more is counted at each root where all before it are, of a provider that is available wherever all are
+turn_more : (there here : Bool) (n m : ℕ) → ((m == n) && here ≡ true → there ≡ true) → turned (there && here) n (n + 1) m ≡ turned here n (n + 1) m
+turn_more there here n m h = grind (arith, nat_tests)
 
-pub hits_back : (all : List Provider) (q : List ℕ) (p : ℕ) (old new : List ℕ) → ((r : ℕ) → slice_index new r + times r (anchors_of all p) ≡ slice_index old r) → AreHits all old (q ++ p ∷ []) → AreHits all new q
-hits_back all q p old new change old_hits r within = omega (arith, change r, old_hits r within, hits_more all q p r, times_anchors all p r within)
+pub hits_next : (all : List Provider) (q : List ℕ) (p other : ℕ) (old new : List ℕ) → IsWithAll all (q ++ p ∷ []) other
+    → ((r : ℕ) → slice_index new r ≡ turned (is_there (anchors_of all other) r && is_available_at all p r) (length q) (length q + 1) (slice_index old r))
+    → AreHits all old q → AreHits all new (q ++ p ∷ [])
+hits_next all q p other old new with_all change old_hits r within =
+    let there : (hits_at all q r == length q) && is_available_at all p r ≡ true → is_there (anchors_of all other) r ≡ true = λ e. anchor_there all other r within (with_all r (stand_more all q p r ∙ e)) in
+    rw (change r, old_hits r within, turn_more (is_there (anchors_of all other) r) (is_available_at all p r) (length q) (hits_at all q r) there) (sym (hits_more all q p r))
+
+-- and given back at each where it was counted
+turn_back : (there here : Bool) (n m : ℕ) → m ≤ n → ((m == n) && here ≡ true → there ≡ true) → turned there (n + 1) n (turned here n (n + 1) m) ≡ m
+turn_back there here n m most h = grind (arith, nat_tests)
+
+pub hits_back : (all : List Provider) (q : List ℕ) (p other : ℕ) (old new : List ℕ) → IsWithAll all (q ++ p ∷ []) other
+    → ((r : ℕ) → slice_index new r ≡ turned (is_there (anchors_of all other) r) (length q + 1) (length q) (slice_index old r))
+    → AreHits all old (q ++ p ∷ []) → AreHits all new q
+hits_back all q p other old new with_all change old_hits r within = search (rules, turn_back, hits_most, anchor_there, stand_more, hits_more)
 
 -- ---- The accounts of nothing
 

@@ -7,7 +7,7 @@ use Rattle.ac_cloud.specs.World.{Provider}
 use Rattle.ac_cloud.specs.Cloud.CloudWorld.{providers_of}
 use Rattle.ac_rules.specs.Placed.{assigned}
 use Rattle.ac_prune.specs.Left.{AreLeft}
-use Rattle.ac_prune.specs.Marks.{AreMarks, AreHits}
+use Rattle.ac_prune.specs.Marks.{AreMarks, AreHits, AreWithFronts}
 use Rattle.ac_prune.specs.declared.ledger.Ledger.{Ledger}
 
 abbrev pub providers_in : Ledger → List Provider
@@ -24,11 +24,13 @@ texts_in l = map (λ c. class_bytes c.now) l.classes.items
 abbrev pub left_in : Ledger → ℕ → ℕ → ℕ
 left_in l p k = slice_index l.rooms.items (p * length l.classes.items + k)
 
--- It accounts for a front: each room less what the front asks of it, who is taken, and where how many are available.
+-- It accounts for a front: each room less what the front asks of it, who is taken, where how many are available, and who is
+-- available wherever all are.
 pub record Accounts (l : Ledger) (q : List ℕ) : Type 0 where
   pub left : AreLeft (providers_in l) (texts_in l) (left_in l) (assigned (asked_in l) q)
   pub marks : AreMarks (providers_in l) (asked_in l) l.marks.items (assigned (asked_in l) q)
   pub hits : AreHits (providers_in l) l.hits.items q
+  pub narrowest : AreWithFronts (providers_in l) l.narrowest.items q
 
 -- it is of the same cloud and query
 pub record IsSameLedger (old new : Ledger) : Type 0 where

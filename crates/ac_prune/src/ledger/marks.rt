@@ -1,14 +1,16 @@
 //! Marks in plain numbers: which providers are taken by slots that stand apart, and the roots at which a whole path is
 //! available.
 
-ghost use Rattle.std.specs.Prelude.{◌≡◌, ◌+◌, ◌-◌, ◌<◌, ◌≤◌, ◌^◌, ◌&&◌, ◌==◌, ℕ, length, map, slice_index, slice_index_or, true, false, if◌then◌else◌, IfOk};
+ghost use Rattle.std.specs.Prelude.{◌≡◌, ◌+◌, ◌-◌, ◌<◌, ◌^◌, ◌&&◌, ◌==◌, ℕ, length, map, slice_index, slice_index_or, true, false, if◌then◌else◌, IfOk};
 ghost use Rattle.std.specs.List.{All, list_any, range_with_len};
 ghost use Rattle.ac_cloud.specs.Cloud.CloudWorld.{providers_of};
+ghost use Rattle.ac_cloud.specs.World.{is_available_at};
 ghost use Rattle.ac_query.specs.Asked.{slots_of};
 ghost use Rattle.ac_query.specs.Shown.Queries.{asked_of};
 ghost use Rattle.ac_rules.specs.Placed.{slot_at};
 ghost use Rattle.ac_rules.specs.Together.{takes_root};
-ghost use Rattle.ac_prune.specs.Marks.{needs_own, times};
+ghost use Rattle.ac_prune.specs.Marks.{needs_own, turned};
+ghost use Rattle.ac_prune.specs.Trees.Keys.{is_there};
 
 use ac_base::NoMemory;
 use ac_cloud::Cloud;
@@ -71,36 +73,69 @@ pub(crate) fn unmark(marks: &mut [u32], lone: bool, at: usize)
     }
 }
 
-/// Counts one more at each root of a list.
-pub(crate) fn hit(hits: &mut [u32], roots: &[u32])
-    requires within { All (λ r. r < length hits.old) roots.now }
-    requires room { (r : ℕ) → r < length hits.old
-        → slice_index hits.old r + times r roots.now < 2 ^ 32 }
-    ensures { (r : ℕ) → slice_index hits.new r ≡ slice_index hits.old r + times r roots.now }
+// Whether so many are counted at a root of another provider, and one more is available there.
+fn is_full(hits: &[u32], cloud: &Cloud, other: u32, ix: u32, depth: usize, root: u32) -> bool
+    requires hits { length hits.now ≡ length (providers_of cloud.now) }
+    requires provider { ix < length (providers_of cloud.now) }
+    requires root { root < length (providers_of cloud.now) }
+    requires other { is_available_at (providers_of cloud.now) other root ≡ true }
+    ensures { result ≡ (slice_index hits.now root == depth)
+        && is_available_at (providers_of cloud.now) ix root }
+{
+    hits[root as usize] as usize == depth && (ix == other || cloud.available(ix, root))
+}
+
+/// Counts one more provider at each of another's roots where it is available and so many before it are counted.
+pub(crate) fn hit(hits: &mut [u32], cloud: &Cloud, roots: &[u32], other: u32, ix: u32, depth: usize)
+    requires hits { length hits.old ≡ length (providers_of cloud.now) }
+    requires roots { All (λ r. r < length (providers_of cloud.now)) roots.now }
+    requires other { All (λ r. is_available_at (providers_of cloud.now) other r ≡ true) roots.now }
+    requires provider { ix < length (providers_of cloud.now) }
+    requires few { depth < 64 }
+    ensures { (r : ℕ) → slice_index hits.new r
+        ≡ turned (is_there roots.now r && is_available_at (providers_of cloud.now) ix r)
+        depth (depth + 1) (slice_index hits.old r) }
 {
     for root in roots {
-        hits[*root as usize] += 1;
+        if is_full(hits, cloud, other, ix, depth, *root) {
+            hits[*root as usize] += 1;
+        }
     }
 }
 
-/// Counts one less at each root of a list.
-pub(crate) fn unhit(hits: &mut [u32], roots: &[u32])
+/// Counts so many again at each root of a list where one more is counted.
+pub(crate) fn unhit(hits: &mut [u32], roots: &[u32], depth: usize)
     requires within { All (λ r. r < length hits.old) roots.now }
-    requires there { (r : ℕ) → r < length hits.old → times r roots.now ≤ slice_index hits.old r }
-    ensures { (r : ℕ) → slice_index hits.new r + times r roots.now ≡ slice_index hits.old r }
+    requires few { depth < 64 }
+    ensures { (r : ℕ) → slice_index hits.new r
+        ≡ turned (is_there roots.now r) (depth + 1) depth (slice_index hits.old r) }
 {
     for root in roots {
-        hits[*root as usize] -= 1;
+        let at = *root as usize;
+        if hits[at] as usize == depth + 1 {
+            hits[at] -= 1;
+        }
     }
 }
 
-/// Whether the query takes some root of a list that was hit so often.
-pub(crate) fn has_full(hits: &[u32], taken: &[bool], roots: &[u32], depth: usize) -> bool
-    requires hits { All (λ r. r < length hits.now) roots.now }
-    requires taken { All (λ r. r < length taken.now) roots.now }
-    ensures { result
-        ≡ list_any (λ r. slice_index_or taken.now r false && (slice_index hits.now r == depth))
+/// Whether one of another's roots is marked where a provider is available and so many before it are counted.
+pub(crate) fn has_full(
+    hits: &[u32],
+    marks: &[bool],
+    cloud: &Cloud,
+    roots: &[u32],
+    other: u32,
+    ix: u32,
+    depth: usize,
+) -> bool
+    requires hits { length hits.now ≡ length (providers_of cloud.now) }
+    requires marks { length marks.now ≡ length (providers_of cloud.now) }
+    requires roots { All (λ r. r < length (providers_of cloud.now)) roots.now }
+    requires other { All (λ r. is_available_at (providers_of cloud.now) other r ≡ true) roots.now }
+    requires provider { ix < length (providers_of cloud.now) }
+    ensures { result ≡ list_any (λ r. slice_index_or marks.now r false
+        && ((slice_index hits.now r == depth) && is_available_at (providers_of cloud.now) ix r))
         roots.now }
 {
-    roots.iter().any(|root| taken[*root as usize] && hits[*root as usize] as usize == depth)
+    roots.iter().any(|root| marks[*root as usize] && is_full(hits, cloud, other, ix, depth, *root))
 }

@@ -27,6 +27,7 @@ invariant_of-result c =
       marked = omega (arith, c.in_ok-marks.marks.ok, c.in_ok-marks.ensures.len, c.len-count.ensures);
       rooted = c.in_ok-taken.ensures;
       met = omega (arith, c.in_ok-hits.hits.ok, c.in_ok-hits.ensures.len, c.len-count.ensures);
+      narrowed = omega (arith, c.in_ok-narrowest.narrowest.ok, c.in_ok-narrowest.ensures.len, c.count_slots.ensures.count);
     }
 
 pub returns-clause-accounts : goal.returns-clause-accounts
@@ -38,4 +39,5 @@ returns-clause-accounts c =
       left = left_none all asked texts (length c.in_ok-classes.classes.items) c.in_ok-rooms.rooms.items (sym (length-map c.in_ok-classes.classes.items (λ v. class_bytes v.now))) (rw c.deref-2.ensures.value at c.in_ok-rooms.ensures.rooms);
       marks = marks_empty all asked c.in_ok-marks.marks.items (c.in_ok-marks.ensures.items_if_clones_equal (λ _ e. e) ∙ ap (λ (n : ℕ). replicate n 0) c.len-count.ensures);
       hits = hits_empty all c.in_ok-hits.hits.items (c.in_ok-hits.ensures.items_if_clones_equal (λ _ e. e) ∙ ap (λ (n : ℕ). replicate n 0) c.len-count.ensures);
+      narrowest = record { count = omega arith; within = λ i h. absurd (omega (arith, h)); with_all = λ i h. absurd (omega (arith, h)) };
     }

@@ -1,11 +1,11 @@
-use Rattle.std.proofs.Common.{◌≡◌, ◌<◌, ◌∙◌, ◌++◌, ◌∷◌, [], List, ℕ, length, ap, sym, subst, arith}
-use Rattle.std.specs.List.{All}
+use Rattle.std.proofs.Common.{◌∙◌, ◌++◌, ◌∷◌, [], List, ℕ, length, ap, sym, subst, arith}
 use Rattle.std.proofs.lemmas.List.{with_items_is}
 use Rattle.ac_rules.specs.Placed.{assigned}
 use Rattle.ac_prune.specs.Marks.{AreMarks, AreHits}
 use Rattle.ac_prune.specs.Left.Accounts.{providers_in, asked_in}
+use Rattle.ac_prune.proofs.Paths.LedgerLemmas.{few_slots, row_low, left_next, lone_at, room_for, room_to_mark, marks_next, hits_next}
+use Rattle.ac_prune.proofs.Paths.MarkLemmas.{anchors_available, fronts_next}
 use Rattle.ac_rules.proofs.EachSlot.AnchorLemmas.{anchors_within}
-use Rattle.ac_prune.proofs.Paths.LedgerLemmas.{row_low, left_next, lone_at, room_for, room_to_mark, room_to_hit, marks_next, hits_next}
 use Rattle.ac_prune.proofs.ledger.Ledger.take.Goals as goal
 
 pub take-requires : goal.take-requires
@@ -22,17 +22,16 @@ mark-requires-clause-room c =
     let few = room_to_mark c.args.self.now c.args.front.now c.args.ix c.requires.slots c.requires.provider c.requires.accounts in
     rw c.deref_mut-2.ensures.value (omega (arith, few))
 
-pub hit-requires-clause-within : goal.hit-requires-clause-within
-hit-requires-clause-within c =
+pub hit-requires : goal.hit-requires
+hit-requires c =
     let l = c.args.self.now in
-    let size : length (providers_in l) ≡ length c.deref_mut-3.result.now = sym l.met ∙ sym (ap length c.deref_mut-3.ensures.value) in
-    subst (λ (n : ℕ). All (λ r. r < n) c.anchors.result.now) size (subst (All (λ r. r < length (providers_in l))) (sym c.anchors.ensures) (anchors_within (providers_in l) c.args.ix))
-
-pub hit-requires-clause-room : goal.hit-requires-clause-room
-hit-requires-clause-room c = λ r h.
-    let l = c.args.self.now in
-    let within : r < length (providers_in l) = omega (arith, h, ap length c.deref_mut-3.ensures.value, l.met) in
-    rw (c.deref_mut-3.ensures.value, c.anchors.ensures) (room_to_hit l c.args.front.now c.args.ix r c.requires.slots within c.requires.accounts)
+    record {
+      hits = ap length c.deref_mut-3.ensures.value ∙ l.met;
+      roots = rw c.anchors-roots.ensures (anchors_within (providers_in l) c.narrower-other.result);
+      other = rw c.anchors-roots.ensures (anchors_available (providers_in l) c.narrower-other.result);
+      provider = c.requires.provider;
+      few = omega (arith, c.requires.slots, few_slots l.query.now);
+    }
 
 pub returns-clause-accounts : goal.returns-clause-accounts
 returns-clause-accounts c =
@@ -48,5 +47,6 @@ returns-clause-accounts c =
       left = rw rooms (left_next l q p c.index.result.now c.take.new.rooms c.requires.slots c.index.ensures (rw (c.deref_mut.ensures.value, c.deref.ensures.value, c.row-row.ensures) at c.take.ensures) c.requires.accounts);
       marks = subst (λ (m : List ℕ). AreMarks all asked m (assigned asked (q ++ p ∷ []))) (sym marks)
           (marks_next all asked q p c.index-2.result.now l.marks.items c.mark.new.marks c.requires.slots (lone_at l (length q) c.index-2.result.now c.requires.slots c.index-2.ensures) (rw c.deref_mut-2.ensures.value at c.mark.ensures) c.requires.accounts.marks);
-      hits = subst (λ (m : List ℕ). AreHits all m (q ++ p ∷ [])) (sym hits) (hits_next all q p l.hits.items c.hit.new.hits (rw (c.deref_mut-3.ensures.value, c.anchors.ensures) at c.hit.ensures) c.requires.accounts.hits);
+      hits = subst (λ (m : List ℕ). AreHits all m (q ++ p ∷ [])) (sym hits) (hits_next all q p c.narrower-other.result l.hits.items c.hit.new.hits c.narrower-other.ensures.with_all (rw (c.deref_mut-3.ensures.value, c.anchors-roots.ensures) at c.hit.ensures) c.requires.accounts.hits);
+      narrowest = fronts_next all l.narrowest.items q p c.narrower-narrowest.result c.requires.accounts.narrowest (omega (arith, c.requires.slots, l.narrowed)) c.narrower-narrowest.ensures.within c.narrower-narrowest.ensures.with_all;
     }
