@@ -141,7 +141,7 @@ impl Groups {
         Ok(list)
     }
 
-    // The roots of all aggregates of a list, rising.
+    // The roots of all aggregates of a list, rising. They may be kept, so they take no more room than they need.
     pub(crate) fn join(&self, alloc: Global, aggregates: &[Id]) -> Result<Vec<u32>, AllocError>
         ensures rising { IfOk result (λ list. IsStrictlySortedBy nat_cmp list.items) }
         ensures roots { IfOk result (λ list. (r : ℕ)
@@ -149,7 +149,9 @@ impl Groups {
             ≡ list_any (λ a. is_met self.now.map a r) aggregates.now) }
     {
         let list = self.list(alloc, aggregates)?;
-        distinct(alloc, list)
+        let mut list = distinct(alloc, list)?;
+        list.shrink_to_fit();
+        Ok(list)
     }
 }
 
