@@ -27,7 +27,6 @@ pub use Rattle.std.proofs.lemmas.List.Kept.{IsStrictlySortedBy-filter}
 pub use Rattle.std.proofs.lemmas.Map.Lookups.{exact_unsigned}
 pub use Rattle.std.proofs.lemmas.Map.Text.{is_eq-slice_cmp}
 pub use Rattle.std.specs.BTreeMap.{BTreeMap, is_at}
-pub use Rattle.std.specs.BTreeSet.{contains}
 pub use Rattle.std.specs.Cmp.Lexicographic.{same_text}
 pub use Rattle.std.specs.Global.{Vec}
 pub use Rattle.std.specs.List.{list_any, position_from, range_with_len}

@@ -5,6 +5,7 @@ pub mod AnchorLists
 pub mod AvailableFacts
 pub mod CloudFacts
 pub mod CloudSets
+pub mod DistinctFacts
 pub mod GroupFacts
 pub mod HostFacts
 pub mod KeptFacts

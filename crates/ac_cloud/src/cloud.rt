@@ -3,6 +3,7 @@
 mod ancestry;
 mod anchors;
 pub mod build;
+mod distinct_roots;
 pub mod entry;
 mod kept_lists;
 mod lookups;

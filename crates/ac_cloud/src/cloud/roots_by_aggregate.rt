@@ -4,14 +4,14 @@ ghost use Rattle.std.specs.List.{list_any};
 ghost use Rattle.std.specs.List.Sorted.{IsStrictlySortedBy};
 ghost use Rattle.std.specs.Ordering.{nat_cmp};
 ghost use Rattle.std.specs.BTreeMap.{get, is_at};
-ghost use Rattle.std.specs.BTreeSet.{contains};
 ghost use Rattle.ac_cloud.specs.Cloud.Anchors.{roots_in, is_met, is_among, meets, is_lone, wide, shared_ids, asked_at, list_of};
 ghost use Rattle.ac_cloud.specs.ListsOf.{lists_of};
 
+use crate::cloud::distinct_roots::distinct;
 use crate::lists::Lists;
 use ac_base::Id;
 use std::alloc::{AllocError, Global};
-use std::collections::{BTreeMap, BTreeSet};
+use std::collections::BTreeMap;
 
 // The roots of the providers of each aggregate, in the order in which they were gathered.
 #[derive(Drop)]
@@ -129,28 +129,29 @@ impl Groups {
         Ok(asked)
     }
 
-    // The roots of all aggregates of a list.
-    fn union(&self, alloc: Global, aggregates: &[Id]) -> Result<BTreeSet<u32>, AllocError>
-        ensures { IfOk result (λ set. (r : ℕ) → contains nat_cmp set r
+    // The roots of all aggregates of a list, one list of them behind the other.
+    fn list(&self, alloc: Global, aggregates: &[Id]) -> Result<Vec<u32>, AllocError>
+        ensures { IfOk result (λ list. (r : ℕ) → list_any (λ x. x == r) list.items
             ≡ list_any (λ a. is_met self.now.map a r) aggregates.now) }
     {
-        let mut set = BTreeSet::new(alloc);
+        let mut list = Vec::new(alloc);
         for aggregate in aggregates {
-            set = with_roots(set, self.roots(aggregate))?;
+            list.extend_from_slice(self.roots(aggregate))?;
         }
-        Ok(set)
+        Ok(list)
     }
 
-    // The roots of all aggregates of a list, rising.
+    // The roots of all aggregates of a list, rising. They may be kept, so they take no more room than they need.
     pub(crate) fn join(&self, alloc: Global, aggregates: &[Id]) -> Result<Vec<u32>, AllocError>
         ensures rising { IfOk result (λ list. IsStrictlySortedBy nat_cmp list.items) }
         ensures roots { IfOk result (λ list. (r : ℕ)
             → list_any (λ x. x == r) list.items
             ≡ list_any (λ a. is_met self.now.map a r) aggregates.now) }
     {
-        let set = self.union(alloc, aggregates)?;
-        let _count = set.len();
-        set.into_iter().collect(alloc)
+        let list = self.list(alloc, aggregates)?;
+        let mut list = distinct(alloc, list)?;
+        list.shrink_to_fit();
+        Ok(list)
     }
 }
 
@@ -173,16 +174,4 @@ fn shared_ids(shares: bool, ids: &[Id]) -> &[Id]
     ensures { result.now ≡ shared_ids shares ids.now }
 {
     if shares { ids } else { &[] }
-}
-
-// Adds the roots of a list to a set.
-fn with_roots(set: BTreeSet<u32>, roots: &[u32]) -> Result<BTreeSet<u32>, AllocError>
-    ensures { IfOk result (λ new. (r : ℕ) → contains nat_cmp new r
-        ≡ (contains nat_cmp set r || list_any (λ x. x == r) roots.now)) }
-{
-    let mut all = set;
-    for root in roots {
-        all.insert(*root)?;
-    }
-    Ok(all)
 }
