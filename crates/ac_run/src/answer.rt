@@ -216,7 +216,7 @@ fn write_explanation<W: Sink>(
     let slots = all_slots(alloc, cloud, query)?;
     let trees = tree_counts(alloc, cloud, query)?;
     let found = has_candidate(alloc, cloud, query, &trees)?;
-    let without = find_without(alloc, cloud, question, found)?;
+    let without = find_without(alloc, cloud, question, &trees, found)?;
     push_explanation(out, cloud, query, &slots, &trees, found)?;
     push_reasons(out, cloud, query, &without)?;
     Ok(explanation_status(found))

@@ -2,8 +2,10 @@
 
 ghost use Rattle.std.specs.Prelude.{◌≡◌, ◌<◌, ◌&&◌, ◌||◌, IfOk, length, map};
 ghost use Rattle.std.specs.List.{list_all};
+ghost use Rattle.std.specs.List.Sorted.{IsStrictlySortedBy};
 ghost use Rattle.std.specs.Option.{is_some};
 ghost use Rattle.ac_base.specs.Names.{trait_bytes};
+ghost use Rattle.ac_base.specs.Texts.{text_cmp};
 ghost use Rattle.ac_cloud.specs.Cloud.CloudWorld.{providers_of};
 ghost use Rattle.ac_query.specs.Shown.Groups.{any_of_shown, group_asked, suffix_of};
 ghost use Rattle.ac_query.specs.Shown.Queries.{asked_of};
@@ -18,7 +20,7 @@ use ac_cloud::Cloud;
 use ac_prune::limit;
 use ac_query::{AnyOf, Group, Query};
 use ac_rules::Placed;
-use ac_rules::rules::traits::has_any_of_few;
+use ac_rules::rules::traits::has_any;
 use ac_rules::slots::{count_slots, group_at};
 use std::alloc::Global;
 use std::slice;
@@ -76,19 +78,21 @@ impl<'a> Unsuffixed<'a> {
         self.serving[ix as usize]
     }
 
-    // Whether a provider is one of them, and has one of these traits.
+    // Whether a provider is one of them, and has one of these traits, which rise.
     fn holds(&self, ix: u32, names: &[TraitName]) -> bool
-        requires { ix < length (providers_of self.now.cloud.now) }
+        requires provider { ix < length (providers_of self.now.cloud.now) }
+        requires sorted { IsStrictlySortedBy text_cmp (map trait_bytes names.now) }
         ensures { result ≡ (serves_unsuffixed (providers_of self.now.cloud.now)
             (asked_of self.now.query.now) ix
             && has_any (provider_at (providers_of self.now.cloud.now) ix)
             (map trait_bytes names.now)) }
     {
-        self.has(ix) && has_any_of_few(&self.cloud.provider(ix), names)
+        self.has(ix) && has_any(&self.cloud.provider(ix), names)
     }
 
-    // 1 for each of them that has one of these traits, and else 0.
+    // 1 for each of them that has one of these traits, which rise, and else 0.
     fn holding(&self, alloc: Global, names: &[TraitName]) -> Result<Vec<u64>, NoMemory>
+        requires { IsStrictlySortedBy text_cmp (map trait_bytes names.now) }
         ensures { IfOk result (λ rooms. rooms.items
             ≡ holding (providers_of self.now.cloud.now) (asked_of self.now.query.now)
             (map trait_bytes names.now)) }
@@ -97,14 +101,15 @@ impl<'a> Unsuffixed<'a> {
         Ok(holding.collect(alloc)?)
     }
 
-    // Drops the roots at which none of them has one of these traits.
+    // Drops the roots at which none of them has one of these traits, which rise.
     fn limit_names(
         &self,
         alloc: Global,
         names: &[TraitName],
         marks: &mut [bool],
     ) -> Result<(), NoMemory>
-        requires { length marks.old ≡ length (providers_of self.now.cloud.now) }
+        requires marks { length marks.old ≡ length (providers_of self.now.cloud.now) }
+        requires sorted { IsStrictlySortedBy text_cmp (map trait_bytes names.now) }
         ensures { IfOk result (λ _. AreKept (providers_of self.now.cloud.now)
             (λ r. is_one_held (providers_of self.now.cloud.now) (asked_of self.now.query.now) r
             (map trait_bytes names.now)) marks.old marks.new) }

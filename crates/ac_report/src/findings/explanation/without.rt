@@ -3,6 +3,8 @@ ghost use Rattle.std.specs.Prelude.{◌≡◌, ◌≤◌, IfOk, length, map};
 ghost use Rattle.ac_cloud.specs.Cloud.CloudWorld.{providers_of};
 ghost use Rattle.ac_query.specs.Shown.{suffixes_shown};
 ghost use Rattle.ac_query.specs.Shown.Queries.{asked_of};
+ghost use Rattle.ac_find.specs.Explained.{tree_counts};
+ghost use Rattle.ac_find.specs.Shown.Explained.{trees_counted as trees_shown};
 ghost use Rattle.ac_report.specs.Findings.Explanation.Candidates.{asks_required, found_without, has_candidate, outcome, policy_found, policy_line, required_found, required_line, subtree_line, subtree_lines, subtrees_found, without_lines};
 ghost use Rattle.ac_report.specs.Findings.Explanation.Shown.{found_shown};
 ghost use Rattle.ac_base.specs.Writing.Pieces.{listed};
@@ -13,7 +15,7 @@ use crate::findings::question::Question;
 use ac_base::pieces::push_marked;
 use ac_base::{NoMemory, Sink, Suffix, WriteFailed, push_all};
 use ac_cloud::Cloud;
-use ac_find::{requires_some, tree_counts};
+use ac_find::{TreeCounts, requires_some, tree_counts};
 use ac_query::Query;
 use std::alloc::Global;
 use std::collections::BTreeSet;
@@ -36,15 +38,22 @@ fn is_found(alloc: Global, cloud: &Cloud, query: &Query) -> Result<bool, NoMemor
     has_candidate(alloc, cloud, query, &trees)
 }
 
-// Whether there is a candidate without each list of `same_subtree`.
-fn find_subtrees(alloc: Global, cloud: &Cloud, question: &Question) -> Result<Vec<bool>, NoMemory>
+// Whether there is a candidate without each list of `same_subtree`. The counts of the trees are the same without it.
+fn find_subtrees(
+    alloc: Global,
+    cloud: &Cloud,
+    question: &Question,
+    trees: &TreeCounts,
+) -> Result<Vec<bool>, NoMemory>
+    requires { trees_shown trees.now
+        ≡ tree_counts (providers_of cloud.now) (asked_of question.now.query) }
     ensures { IfOk result (λ found. found.items
         ≡ subtrees_found (providers_of cloud.now) (asked_of question.now.query)) }
 {
     let mut found = Vec::new(alloc);
     for k in 0..question.query.subtrees().len() {
         let query = question.again(alloc)?.without_subtree(k);
-        found.push(is_found(alloc, cloud, &query)?)?;
+        found.push(has_candidate(alloc, cloud, &query, trees)?)?;
     }
     Ok(found)
 }
@@ -84,13 +93,16 @@ fn find_required(
     Ok(Some(is_found(alloc, cloud, &query)?))
 }
 
-/// What is found without one thing each, unless a candidate was found with all of them.
+/// What is found without one thing each, unless a candidate was found with all of them, by the counts of the trees.
 pub fn find_without(
     alloc: Global,
     cloud: &Cloud,
     question: &Question,
+    trees: &TreeCounts,
     found: bool,
 ) -> Result<FoundWithout, NoMemory>
+    requires { trees_shown trees.now
+        ≡ tree_counts (providers_of cloud.now) (asked_of question.now.query) }
     ensures found { IfOk result (λ without. found_shown without
         ≡ found_without (providers_of cloud.now) (asked_of question.now.query) found) }
     ensures few { IfOk result (λ without. length (found_shown without).subtrees
@@ -103,7 +115,7 @@ pub fn find_without(
             required: None,
         });
     }
-    let subtrees = find_subtrees(alloc, cloud, question)?;
+    let subtrees = find_subtrees(alloc, cloud, question, trees)?;
     let policy = find_policy(alloc, cloud, question)?;
     let required = find_required(alloc, cloud, question)?;
     Ok(FoundWithout {
