@@ -65,6 +65,9 @@ part_of_second (Some u) (Some v) None x y h k = absurd k
 part_of_second (Some u) (Some v) (Some w) x y h k =
     (x ++ k.0, k.1, ap (λ l. x ++ l) k.2 ∙ sym (append_assoc x k.0 k.1), k.3 ∙ ap (λ l. l ++ k.0) h ∙ append_assoc u x k.0)
 
+-- an error within the first of them, or what becomes of the second behind the first
+pub ruleset behind = (appends_both, part_of_first, part_of_second)
+
 -- nothing was taken
 pub part_none : (a : Option (List ℕ)) (bytes : List ℕ) → TakesPart a a bytes
 part_none a bytes = grind (arith, common_steps)

@@ -3,19 +3,13 @@ use Rattle.std.proofs.Common.{ℕ, ◌≤◌, List, ◌++◌, Option, arith}
 use Rattle.std.specs.Prelude.{Result, Ok, Err}
 use Rattle.std.specs.Result.{IsErrAnd}
 use Rattle.ac_base.specs.Devices.{Rises, TakesPart}
+use Rattle.ac_base.proofs.HandedOn.{later_rise}
 use Rattle.ac_base.proofs.Leaving.{Leaves, leaves_takes_part}
 use Rattle.ac_base.specs.Writing.{Pushes}
 
--- a count that rises after a while has risen
-pub rises_later : (f g h : ℕ) → f ≤ g → g ≤ h → Rises g h → Rises f h
-rises_later f g h before after rises few = grind (arith, before, after, few, rises)
-
-pub later : (f g h : ℕ) → f ≤ g → g ≤ h → f ≤ h
-later f g h before after = omega arith
-
 module _ {S X Y : Type 0} (taken : S → Option (List ℕ)) (failures : S → ℕ) where
   -- an error after a first part
-  pub pushed_part : (a b : S) (r : Result X Y) (P : Y → Type 0) (text : List ℕ) → IsErrAnd r P → TakesPart (taken a) (taken b) text → Rises (failures a) (failures b) → failures a ≤ failures b
+  pushed_part : (a b : S) (r : Result X Y) (P : Y → Type 0) (text : List ℕ) → IsErrAnd r P → TakesPart (taken a) (taken b) text → Rises (failures a) (failures b) → failures a ≤ failures b
       → Pushes taken failures a b r text
   pushed_part a b (Ok x) P text is part rises few = absurd is
   pushed_part a b (Err e) P text is part rises few = record { ok = tt; part = part; rises = rises; failures = few }
@@ -25,4 +19,4 @@ module _ {S X Y : Type 0} (taken : S → Option (List ℕ)) (failures : S → �
       → failures a ≤ failures b → failures b ≤ failures c → IsErrAnd r P → TakesPart (taken b) (taken c) next → Rises (failures b) (failures c) → Pushes taken failures a c r whole
   pushed_within a b c r whole next rest P leaves before after is part rises =
       pushed_part a c r P whole is (leaves_takes_part (taken a) (taken b) (taken c) whole next rest leaves part)
-      (rises_later (failures a) (failures b) (failures c) before after rises) (later (failures a) (failures b) (failures c) before after)
+      (later_rise (failures a) (failures b) (failures c) before after rises) (omega (arith, before, after))

@@ -1,5 +1,6 @@
 //! All tests by which a walk looks ahead.
-ghost use Rattle.std.specs.Prelude.{◌≡◌, [], map, IfOk};
+ghost use Rattle.std.specs.Prelude.{◌≡◌, ◌<◌, [], length, map, IfOk};
+ghost use Rattle.std.specs.List.{All};
 ghost use Rattle.ac_prune.specs.Left.Accounts.{providers_in, asked_in, Accounts};
 ghost use Rattle.ac_prune.specs.Loads.{choices_in};
 ghost use Rattle.ac_prune.specs.Tests.{AreTests, IsTest};
@@ -12,7 +13,7 @@ use crate::hosts::Hosts;
 use crate::ledger::Ledger;
 use crate::look_ahead::LookAhead;
 use crate::trees::Trees;
-use crate::tuning::MOST_FAMILIES;
+use crate::tuning::MOST_TESTS;
 use ac_base::NoMemory;
 use std::alloc::Global;
 
@@ -47,6 +48,27 @@ impl LookAhead for Test {
     }
 }
 
+// Adds the test of a list of `same_subtree`, unless an equal list stands before it, or there are enough tests.
+fn push_family(
+    alloc: Global,
+    tests: &mut Vec<Test>,
+    choices: &Choices,
+    k: usize,
+) -> Result<(), NoMemory>
+    requires list { k < length (asked_in choices.now.ledger.now).subtrees }
+    requires tests { All (IsTest (providers_in choices.now.ledger.now)
+        (asked_in choices.now.ledger.now)) tests.old.items }
+    ensures { IfOk result (λ _. All (IsTest (providers_in choices.now.ledger.now)
+        (asked_in choices.now.ledger.now)) tests.new.items) }
+{
+    let lists = choices.ledger.query.subtrees();
+    if tests.len() >= MOST_TESTS || lists[..k].contains(&lists[k]) {
+        return Ok(());
+    }
+    tests.push(Test::Family(Family::new(alloc, choices, k)?))?;
+    Ok(())
+}
+
 /// All tests, in the order in which they are made.
 #[derive(Drop)]
 pub struct Lookout {
@@ -69,8 +91,8 @@ impl Lookout {
         tests.push(Test::Ahead(Ahead::new(alloc, ledger)?))?;
         tests.push(Test::Trees(Trees::new(alloc, &choices)?))?;
         tests.push(Test::Hosts(Hosts::new(alloc, &choices)?))?;
-        for k in 0..ledger.query.subtrees().len().min(MOST_FAMILIES) {
-            tests.push(Test::Family(Family::new(alloc, &choices, k)?))?;
+        for k in 0..ledger.query.subtrees().len() {
+            push_family(alloc, &mut tests, &choices, k)?;
         }
         Ok(Lookout { tests })
     }

@@ -19,9 +19,9 @@ pub(crate) const FEW: usize = 8;
 /// narrowest instead: each may have to be looked up among the other's, which takes some sixteen steps.
 pub(crate) const WIDER: usize = 32;
 
-/// How many lists of `same_subtree` are looked at ahead, since each costs memory for every provider; further ones are judged
-/// when all slots have a provider, as all are.
-pub(crate) const MOST_FAMILIES: usize = 16;
+/// How many tests there are: three, and one for each of 16 lists of `same_subtree`, since such a test costs memory for every provider; further
+/// lists are judged when all slots have a provider, as all are.
+pub(crate) const MOST_TESTS: usize = 19;
 
 /// How many pairs of a choice and a tree in which it is available are kept for a slot: two megabytes of them.
 pub(crate) const MOST_PAIRS: u64 = 1 << 18;

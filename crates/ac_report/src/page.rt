@@ -22,7 +22,7 @@ use ac_rules::Source;
 use std::alloc::{AllocError, Global};
 
 // Pushes a text, after a comma where something stands before.
-#[tactic(auto, using(crate::proofs::FoundTexts::Begun::behind))]
+#[tactic(auto, using(ac_base::proofs::Leaving::behind))]
 fn push_listed<W: Sink>(out: &mut W, later: bool, text: &[u8]) -> Result<(), PageFault>
     ensures { WritesEach W.taken W.failures out.old out.new result (λ text. text)
         ((comma_if later ++ text.now) ∷ []) }

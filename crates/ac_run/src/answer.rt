@@ -202,7 +202,7 @@ fn write_verdict<W: Sink>(
 }
 
 // How far a query comes, whether it has a candidate, or would have one without one thing, and where the service may answer otherwise.
-#[tactic(auto, using(crate::proofs::Delivering::refused, ac_base::proofs::Leaving::appends_both, ac_base::proofs::Leaving::part_of_first, ac_base::proofs::Leaving::part_of_second), unfolding(ac_report::specs::Findings::Explanation::explanation_text))]
+#[tactic(auto, using(crate::proofs::Delivering::refused, ac_base::proofs::Leaving::behind), unfolding(ac_report::specs::Findings::Explanation::explanation_text))]
 fn write_explanation<W: Sink>(
     alloc: Global,
     cloud: &Cloud,

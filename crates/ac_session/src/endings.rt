@@ -44,7 +44,7 @@ fn push_mark<W: Sink>(out: &mut W, status: u8) -> Result<(), WriteFailed>
 }
 
 // The status of a refusal, and then its line.
-#[tactic(auto, using(ac_base::proofs::Leaving::appends_both, ac_base::proofs::Leaving::part_of_first, ac_base::proofs::Leaving::part_of_second))]
+#[tactic(auto, using(ac_base::proofs::Leaving::behind))]
 fn push_refused<W: Sink>(out: &mut W, refusal: &AskRefusal) -> Result<(), WriteFailed>
     ensures { Pushes W.taken W.failures out.old out.new result
         (mark_of (status_of_asked refusal.now) ++ line_of_asked refusal.now) }

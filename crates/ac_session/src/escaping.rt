@@ -70,7 +70,7 @@ fn begins_behind(begins: bool, text: &[u8]) -> bool
 }
 
 // Hands on what is owed, and ends the last line.
-#[tactic(auto, using(ac_base::proofs::Leaving::appends_both, ac_base::proofs::Leaving::part_of_first, ac_base::proofs::Leaving::part_of_second))]
+#[tactic(auto, using(ac_base::proofs::Leaving::behind))]
 fn end_lines<W: Sink>(sink: &mut W, owed: Option<u8>, begins: bool) -> Result<(), WriteFailed>
     ensures { Pushes W.taken W.failures sink.old sink.new result
         (owed_bytes owed ++ last_newline begins) }

@@ -4,11 +4,8 @@ use Rattle.std.proofs.Common.{◌≡◌, ◌≤◌, ℕ, List, ◌++◌, Option,
 use Rattle.std.specs.Prelude.{Result, Ok, Err}
 use Rattle.std.specs.Result.{IsErrAnd}
 use Rattle.ac_base.specs.Writing.{Pushes}
-use Rattle.ac_base.proofs.Leaving.{Leaves, appends_both, leaves_appends, leaves_start, leaves_takes_part, part_of_first, part_of_second}
+use Rattle.ac_base.proofs.Leaving.{Leaves, behind, leaves_appends, leaves_start}
 use Rattle.ac_base.proofs.Pushed.{pushed_within}
-
--- an error within the first of two texts, or what becomes of the second behind the first
-pub ruleset behind = (appends_both, part_of_first, part_of_second)
 
 -- of a whole text all but a rest was pushed
 pub record IsBegun {S : Type 0} (taken : S → Option (List ℕ)) (fails : S → ℕ) (from to : S) (whole rest : List ℕ) : Type 0 where

@@ -54,7 +54,7 @@ fn push_need<W: Sink>(out: &mut W, mark: &[u8], need: &Need) -> Result<(), Write
 }
 
 // All classes of a slot.
-#[tactic(auto, using(crate::proofs::FoundTexts::ItemsWritten::item_part, crate::proofs::FoundTexts::Begun::behind), unfolding(crate::specs::Findings::Explanation::needs_text))]
+#[tactic(auto, using(crate::proofs::FoundTexts::ItemsWritten::item_part, ac_base::proofs::Leaving::behind), unfolding(crate::specs::Findings::Explanation::needs_text))]
 fn push_needs<W: Sink>(out: &mut W, needs: &[Need]) -> Result<(), WriteFailed>
     ensures { Pushes W.taken W.failures out.old out.new result
         (needs_text (map need_entry needs.now)) }
@@ -151,7 +151,7 @@ fn push_counts<W: Sink>(out: &mut W, providers: u32, counts: &SlotCounts) -> Res
 }
 
 // A slot and what it asks.
-#[tactic(auto, using(crate::proofs::FoundTexts::Begun::behind))]
+#[tactic(auto, using(ac_base::proofs::Leaving::behind))]
 fn push_asked<W: Sink>(out: &mut W, query: &Query, s: usize) -> Result<(), WriteFailed>
     requires { s < length (slots_of (asked_of query.now)) }
     ensures { Pushes W.taken W.failures out.old out.new result
@@ -163,7 +163,7 @@ fn push_asked<W: Sink>(out: &mut W, query: &Query, s: usize) -> Result<(), Write
 }
 
 // What is told of a slot, behind what it asks.
-#[tactic(auto, using(crate::proofs::FoundTexts::Begun::behind))]
+#[tactic(auto, using(ac_base::proofs::Leaving::behind))]
 fn push_told<W: Sink>(
     out: &mut W,
     providers: u32,
@@ -182,7 +182,7 @@ fn push_told<W: Sink>(
 }
 
 // The line of a slot.
-#[tactic(auto, using(crate::proofs::FoundTexts::Begun::behind))]
+#[tactic(auto, using(ac_base::proofs::Leaving::behind))]
 fn push_slot<W: Sink>(
     out: &mut W,
     cloud: &Cloud,
@@ -254,7 +254,7 @@ fn candidates_line(found: bool) -> &'static [u8]
 }
 
 /// Pushes what stands behind the counts: whether there is a candidate without one thing, and where the service may answer otherwise.
-#[tactic(auto, using(crate::proofs::FoundTexts::Begun::behind))]
+#[tactic(auto, using(ac_base::proofs::Leaving::behind))]
 pub fn push_reasons<W: Sink>(
     out: &mut W,
     cloud: &Cloud,
@@ -271,7 +271,7 @@ pub fn push_reasons<W: Sink>(
 }
 
 /// Pushes an explanation: the lines of the slots, that of the trees by their counts, what nobody has, and whether a candidate was found.
-#[tactic(auto, using(crate::proofs::FoundTexts::Begun::behind))]
+#[tactic(auto, using(ac_base::proofs::Leaving::behind))]
 pub fn push_explanation<W: Sink>(
     out: &mut W,
     cloud: &Cloud,

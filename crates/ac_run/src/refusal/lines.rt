@@ -168,7 +168,7 @@ fn status_of(refusal: &Refusal) -> u8
 }
 
 // Pushes the line of a refusal, and then what stands behind it.
-#[tactic(auto, using(ac_base::proofs::Leaving::appends_both, ac_base::proofs::Leaving::part_of_first, ac_base::proofs::Leaving::part_of_second))]
+#[tactic(auto, using(ac_base::proofs::Leaving::behind))]
 fn push_refused<E: Sink>(err: &mut E, refused: &Refused) -> Result<(), WriteFailed>
     ensures { Pushes E.taken E.failures err.old err.new result
         (line_of refused.now.refusal ++ refused.now.detail.items) }

@@ -90,7 +90,7 @@ fn push_names<W: Sink>(out: &mut W, mark: &[u8], names: &[TraitName]) -> Result<
 }
 
 // The line of traits of which nobody has one.
-#[tactic(auto, using(crate::proofs::FoundTexts::Begun::behind), unfolding(crate::specs::Findings::Explanation::Nobody::one_of_line))]
+#[tactic(auto, using(ac_base::proofs::Leaving::behind), unfolding(crate::specs::Findings::Explanation::Nobody::one_of_line))]
 fn push_one_of<W: Sink>(out: &mut W, names: &[TraitName]) -> Result<(), WriteFailed>
     ensures { Pushes W.taken W.failures out.old out.new result
         (one_of_line (map trait_bytes names.now)) }
@@ -150,7 +150,7 @@ fn member_mark(ids: &[Id]) -> &'static [u8]
 }
 
 // The line of aggregates in which nobody is.
-#[tactic(auto, using(crate::proofs::FoundTexts::Begun::behind), unfolding(crate::specs::Findings::Explanation::Nobody::members_line))]
+#[tactic(auto, using(ac_base::proofs::Leaving::behind), unfolding(crate::specs::Findings::Explanation::Nobody::members_line))]
 fn push_members<W: Sink>(out: &mut W, ids: &[Id]) -> Result<(), WriteFailed>
     ensures { Pushes W.taken W.failures out.old out.new result (members_line ids.now) }
 {
@@ -203,7 +203,7 @@ fn push_tree<W: Sink>(out: &mut W, cloud: &Cloud, in_tree: Option<Id>) -> Result
 }
 
 // What nobody has of the classes and traits of a group.
-#[tactic(auto, using(crate::proofs::FoundTexts::Begun::behind))]
+#[tactic(auto, using(ac_base::proofs::Leaving::behind))]
 fn push_things<W: Sink>(out: &mut W, cloud: &Cloud, group: &Group) -> Result<(), WriteFailed>
     ensures { Pushes W.taken W.failures out.old out.new result
         (things_missed (providers_of cloud.now) (group_asked group.now)) }
@@ -214,7 +214,7 @@ fn push_things<W: Sink>(out: &mut W, cloud: &Cloud, group: &Group) -> Result<(),
 }
 
 // Where nobody is of the aggregates and the tree of a group.
-#[tactic(auto, using(crate::proofs::FoundTexts::Begun::behind))]
+#[tactic(auto, using(ac_base::proofs::Leaving::behind))]
 fn push_places<W: Sink>(out: &mut W, cloud: &Cloud, group: &Group) -> Result<(), WriteFailed>
     ensures { Pushes W.taken W.failures out.old out.new result
         (places_missed (providers_of cloud.now) (group_asked group.now)) }
@@ -224,7 +224,7 @@ fn push_places<W: Sink>(out: &mut W, cloud: &Cloud, group: &Group) -> Result<(),
 }
 
 // What nobody has of a group.
-#[tactic(auto, using(crate::proofs::FoundTexts::Begun::behind))]
+#[tactic(auto, using(ac_base::proofs::Leaving::behind))]
 fn push_group<W: Sink>(out: &mut W, cloud: &Cloud, group: &Group) -> Result<(), WriteFailed>
     ensures { Pushes W.taken W.failures out.old out.new result
         (group_missed (providers_of cloud.now) (group_entry group.now).1) }
@@ -275,7 +275,7 @@ fn push_root_traits<W: Sink>(
 }
 
 /// Pushes a line for each thing that the query asks for and nobody has: group by group, then of the root.
-#[tactic(auto, using(crate::proofs::FoundTexts::Begun::behind), unfolding(crate::specs::Findings::Explanation::Nobody::nobody_lines))]
+#[tactic(auto, using(ac_base::proofs::Leaving::behind), unfolding(crate::specs::Findings::Explanation::Nobody::nobody_lines))]
 pub(crate) fn push_missing<W: Sink>(
     out: &mut W,
     cloud: &Cloud,

@@ -151,7 +151,7 @@ fn outcome(found: bool) -> &'static [u8]
 }
 
 // The line of a list of `same_subtree`.
-#[tactic(auto, using(crate::proofs::FoundTexts::Begun::behind), unfolding(crate::specs::Findings::Explanation::Candidates::subtree_line))]
+#[tactic(auto, using(ac_base::proofs::Leaving::behind), unfolding(crate::specs::Findings::Explanation::Candidates::subtree_line))]
 fn push_subtree<W: Sink>(
     out: &mut W,
     suffixes: &BTreeSet<Suffix>,
@@ -205,7 +205,7 @@ fn required_line(found: Option<bool>) -> &'static [u8]
 }
 
 /// Pushes a line for each thing that was taken away, with what was found without it.
-#[tactic(auto, using(crate::proofs::FoundTexts::Begun::behind), unfolding(crate::specs::Findings::Explanation::Candidates::without_lines))]
+#[tactic(auto, using(ac_base::proofs::Leaving::behind), unfolding(crate::specs::Findings::Explanation::Candidates::without_lines))]
 pub(crate) fn push_without<W: Sink>(
     out: &mut W,
     query: &Query,
