@@ -34,7 +34,7 @@ pub struct Front<'f, 'a> {
 pub fn bound_by(cloud: &Cloud, front: &[u32]) -> Option<u32>
     requires { All (λ p. p < length (providers_of cloud.now)) front.now }
     ensures { MatchOption result ((i : ℕ) → i < length front.now
-        → 8 < length (anchors_of (providers_of cloud.now) (slice_index front.now i)))
+        → 128 < length (anchors_of (providers_of cloud.now) (slice_index front.now i)))
         (λ p. is_there front.now p ≡ true) }
 {
     let mut best = None;

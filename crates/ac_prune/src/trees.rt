@@ -7,6 +7,7 @@ use crate::by_tree::ByTree;
 use crate::choices::Choices;
 use crate::front::Front;
 use crate::look_ahead::LookAhead;
+use crate::tuning::FEWEST;
 use ac_base::NoMemory;
 use ac_rules::slots::count_slots;
 use std::alloc::Global;
@@ -34,6 +35,12 @@ impl Trees {
     }
 }
 
+// Whether the next of so many choices is looked up in so many trees: it takes no longer than trying those that stand between two
+// of theirs, where each tree of the cloud has a few.
+fn are_few(trees: usize, choices: usize) -> bool {
+    trees <= FEWEST || trees.saturating_mul(trees) <= choices / 4
+}
+
 impl LookAhead for Trees {
     ghost is_of = { λ all asked trees. AreByTree all asked trees.slots.items };
 
@@ -41,13 +48,14 @@ impl LookAhead for Trees {
         match front.bound {
             Some(ix) => {
                 let cloud = front.ledger.cloud;
-                // A choice in the provider's own tree is the next one: no need to search.
+                // A choice in one of the provider's trees is the next one: no need to search.
                 let beside = from < front.choices.len()
-                    && cloud.root(front.choices[from]) == cloud.root(ix);
-                if beside {
+                    && cloud.available(ix, cloud.root(front.choices[from]));
+                let trees = cloud.anchors(ix);
+                if beside || !are_few(trees.len(), front.choices.len()) {
                     return from;
                 }
-                self.slots[front.path.len()].next(cloud.anchors(ix), from)
+                self.slots[front.path.len()].next(trees, from)
             }
             None => from,
         }

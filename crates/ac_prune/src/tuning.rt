@@ -13,7 +13,11 @@ pub(crate) const MOST_HOSTS: usize = 64;
 pub(crate) const MOST_STEPS: u64 = 1 << 28;
 
 /// To how many trees a path is bound at the most: the next choice is looked up in each of them.
-pub(crate) const FEW: usize = 8;
+pub(crate) const FEW: usize = 128;
+
+/// In how many trees it is looked up whatever the choices. In more it may take longer than trying the choices between two of
+/// theirs.
+pub(crate) const FEWEST: usize = 8;
 
 /// How many times the roots of the path's narrowest provider another must have, so that the ledger goes through those of the
 /// narrowest instead: each may have to be looked up among the other's, which takes some sixteen steps.

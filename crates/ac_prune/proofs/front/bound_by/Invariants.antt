@@ -7,4 +7,4 @@ use Rattle.ac_prune.proofs.front.bound_by.Given as goal
 
 abbrev pub invariant-loop-ix : goal.invariant-loop-ix
 invariant-loop-ix l =
-    MatchOption l.best ((l.least ≡ 9) × ((i : ℕ) → i < l.ix-index → 8 < length (anchors_of (providers_of l.cloud) (slice_index l.front i)))) (λ p. is_there l.front p ≡ true)
+    MatchOption l.best ((l.least ≡ 129) × ((i : ℕ) → i < l.ix-index → 128 < length (anchors_of (providers_of l.cloud) (slice_index l.front i)))) (λ p. is_there l.front p ≡ true)

@@ -16,25 +16,25 @@ here f ix slots b bound are is =
     let asked = asked_in f.ledger.now in
     rw (listed_at f) (subst (IsByTree all (choice_of all asked (slot_at asked (length f.path.now)))) (sym is) (are.each (length f.path.now) b (bound_behind f ix bound) f.short))
 
-pub anchors-requires : goal.anchors-requires
-anchors-requires c = bound_low c.args.front.now c.in-Some.ix c.in-Some.is
+pub anchors-trees-requires : goal.anchors-trees-requires
+anchors-trees-requires c = bound_low c.args.front.now c.in-Some.ix c.in-Some.is
 
 pub next-requires : goal.next-requires
 next-requires c = omega (arith, (here c.args.front.now c.in-Some.ix c.args.self.now.slots.items c.index.result.now c.in-Some.is c.requires.of c.index.ensures).count, c.requires.from)
 
-pub returns-else-beside-clause-within : goal.returns-else-beside-clause-within
-returns-else-beside-clause-within c = omega (arith, (here c.args.front.now c.in-Some.ix c.args.self.now.slots.items c.index.result.now c.in-Some.is c.requires.of c.index.ensures).count, c.next.ensures.within)
+pub returns-else-not-are_few-clause-within : goal.returns-else-not-are_few-clause-within
+returns-else-not-are_few-clause-within c = omega (arith, (here c.args.front.now c.in-Some.ix c.args.self.now.slots.items c.index.result.now c.in-Some.is c.requires.of c.index.ensures).count, c.next.ensures.within)
 
-pub returns-else-beside-clause-dead : goal.returns-else-beside-clause-dead
-returns-else-beside-clause-dead c = λ i above less.
+pub returns-else-not-are_few-clause-dead : goal.returns-else-not-are_few-clause-dead
+returns-else-not-are_few-clause-dead c = λ i above less.
     let f = c.args.front.now in
     let all = providers_in f.ledger.now in
     let by = here f c.in-Some.ix c.args.self.now.slots.items c.index.result.now c.in-Some.is c.requires.of c.index.ensures in
     elsewhere_dead all (asked_in f.ledger.now) f.path.now c.in-Some.ix (slice_index f.choices.now i) (bound_there f c.in-Some.ix c.in-Some.is)
-    (λ r home low. c.next.ensures.passed all f.choices.now by r i (rw c.anchors.ensures home) low above less)
+    (λ r home low. c.next.ensures.passed all f.choices.now by r i (rw c.anchors-trees.ensures home) low above less)
 
 pub root-requires : goal.root-requires
 root-requires c = choice_inside c.args.front.now c.args.from c.if-from-front.true
 
-pub root-requires-then-from-front : goal.root-requires-then-from-front
-root-requires-then-from-front c = bound_low c.args.front.now c.in-Some.ix c.in-Some.is
+pub available-beside-requires-clause-ix : goal.available-beside-requires-clause-ix
+available-beside-requires-clause-ix c = bound_low c.args.front.now c.in-Some.ix c.in-Some.is
