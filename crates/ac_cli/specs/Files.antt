@@ -1,5 +1,5 @@
 -- The files of the tables: which was opened for which.
-use Rattle.std.specs.Prelude.{◌≡◌, ⊤, List, ℕ, Option, Some, None}
+use Rattle.std.specs.Prelude.{⊤, List, ℕ, Option, Some, None}
 use Rattle.ac_run.specs.Tasks.{Paths}
 use Rattle.ac_tables.specs.FiveTables.{table_in}
 use Rattle.ac_tables.specs.declared.fault.Table.{Table}

@@ -1,9 +1,8 @@
 -- What is left of rooms, class by class: classes by their numbers, and each room less what a front asks of it.
 pub mod Accounts
-use Rattle.std.specs.Prelude.{◌≡◌, ℕ, ◌+◌, ◌*◌, ◌<◌, ◌^◌, suc, Bool, nat_le, if◌then◌else◌, ◌==◌, List, [], ◌∷◌, length, slice_index, slice_index_or}
+use Rattle.std.specs.Prelude.{◌≡◌, ℕ, ◌+◌, ◌*◌, ◌<◌, ◌^◌, Bool, nat_le, if◌then◌else◌, ◌==◌, List, [], ◌∷◌, length, slice_index, slice_index_or}
 use Rattle.std.specs.Option.{unwrap_or}
 use Rattle.std.specs.List.{list_all}
-use Rattle.std.specs.Str.{bytes_eq}
 use Rattle.ac_cloud.specs.World.{Provider, provider_at, used_of}
 use Rattle.ac_rules.specs.Own.{inventory_of}
 use Rattle.ac_rules.specs.Room.{IsKnown, class_number, room_in}

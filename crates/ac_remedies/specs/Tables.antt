@@ -1,7 +1,7 @@
 -- The second line of a fault of a table: its path, where in it the fault stands, and what to do.
 pub mod Columns
 pub mod Places
-use Rattle.std.specs.Prelude.{ℕ, List, [], ◌∷◌, ◌++◌, codes, Option, None, Some}
+use Rattle.std.specs.Prelude.{ℕ, List, [], ◌∷◌, codes, Option, None, Some}
 use Rattle.std.specs.List.{flat_map}
 use Rattle.std.specs.Option.{option_map_or}
 use Rattle.ac_tables.specs.Found.{beside_header, records_in}

@@ -5,9 +5,6 @@ use Rattle.std.specs.Global.{Vec}
 use Rattle.std.specs.Prelude.{Contains, nat_lt, if◌then◌else◌, IfOk, Result, Ok, Err}
 use Rattle.ac_base.specs.Devices.{TakesPart}
 use Rattle.ac_cloud.specs.World.{World}
-use Rattle.ac_query.specs.Faults.{query_fault}
-use Rattle.ac_query.specs.Laws.Gathered.{asked_by}
-use Rattle.ac_query.specs.Pairs.{pairs_of}
 use Rattle.ac_query.specs.declared.version.Version.{Version}
 use Rattle.ac_run.specs.Answer.{Outcome, answer, answer_by, answer_in, answer_within, past_query, past_tables, refused, said_by, size_refused, table_refused, with_detail}
 use Rattle.ac_run.specs.Details.{asked_remedy, asked_text, behind, fault_remedy, reading_remedy}

@@ -1,12 +1,11 @@
 -- What was told where a run has no answer says of what is answered.
-use Rattle.std.proofs.Common.{◌≡◌, ◌≢◌, ◌∙◌, ℕ, ◌≤◌, zero, suc, List, [], ◌∷◌, Option, Some, None, ◌⊎◌, inl, inr, refl, sym, ap, subst, arith, append-nil}
+use Rattle.std.proofs.Common.{◌≡◌, ◌≢◌, ℕ, ◌≤◌, zero, suc, List, [], ◌∷◌, Option, Some, None, inl, inr, refl, sym, subst, arith, append-nil}
 use Rattle.std.specs.Prelude.{Contains}
 use Rattle.std.specs.Io.KnownBytes.{Appends}
 use Rattle.ac_base.specs.Writing.{TakesLine}
 use Rattle.ac_base.specs.Devices.{Rises, TakesPart}
 use Rattle.ac_run.specs.Answer.{Outcome, refused}
 use Rattle.ac_run.specs.Feeds.{Bytes, FeedRose, TellBytes}
-use Rattle.ac_run.specs.Lines.{memory_line, output_line}
 use Rattle.ac_run.specs.Run.{Ends, Explains, FailsOr, IsAnswered, IsRefused, IsUnread}
 use Rattle.ac_base.proofs.Leaving.{part_none}
 use Rattle.ac_run.specs.Tasks.{Paths}

@@ -1,6 +1,6 @@
 -- What a run answers: its output, its line on the error sink, and its status.
 use Rattle.std.specs.Prelude.{ℕ, Bool, true, false, List, [], ◌++◌, codes, is_some, nat_lt, Option, Some, None, Result, Ok, Err, if◌then◌else◌}
-use Rattle.std.specs.Option.{option_and_then, unwrap_or}
+use Rattle.std.specs.Option.{option_and_then}
 use Rattle.ac_tables.specs.Tables.{Tables, tables_fault, world_stated}
 use Rattle.ac_cloud.specs.World.{World, Provider}
 use Rattle.ac_cloud.specs.Cloud.Hosts.{host_of}
@@ -14,9 +14,7 @@ use Rattle.ac_query.specs.Faults.{query_fault}
 use Rattle.ac_rules.specs.Located.{places_of}
 use Rattle.ac_query.specs.Laws.Gathered.{asked_by}
 use Rattle.ac_query.specs.Pairs.{pairs_of}
-use Rattle.ac_query.specs.Tokens.{token_fault}
 use Rattle.ac_query.specs.Pairs.Values.{ids_value}
-use Rattle.ac_query.specs.declared.token.TokenFault.{TokenFault}
 use Rattle.ac_rules.specs.Judge.{judge}
 use Rattle.ac_rules.specs.Pages.{page}
 use Rattle.ac_prune.specs.Fitting.{fits_at, fitting}

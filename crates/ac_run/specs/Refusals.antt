@@ -1,10 +1,8 @@
 -- The line and the status of each refusal, and the fault that it tells.
 use Rattle.std.specs.Prelude.{◌≡◌, ℕ, List, ◌++◌, Option, Some, None, Result, Ok, Err}
 use Rattle.std.specs.Global.{Vec}
-use Rattle.ac_cloud.specs.declared.cloud.provider_name.HostFault.{HostFault}
 use Rattle.ac_query.specs.Faults.{Fault}
 use Rattle.ac_query.specs.Shown.Faults.{fault_shown}
-use Rattle.ac_query.specs.declared.token.TokenFault.{TokenFault}
 use Rattle.ac_run.specs.Lines.{unreadable_line, too_large_line, record_line, query_line, token_line, host_line, memory_line, output_line}
 use Rattle.ac_run.specs.declared.refusal.AskRefusal.{AskRefusal}
 use Rattle.ac_run.specs.declared.refusal.AskRefusal.TheVariants as ask

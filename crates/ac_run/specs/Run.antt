@@ -12,14 +12,12 @@ use Rattle.ac_cloud.specs.World.{World}
 use Rattle.ac_run.specs.Answer.{Outcome, refused}
 use Rattle.ac_run.specs.Details.{behind, unread_text}
 use Rattle.ac_run.specs.Wanted.Given.{tables_in}
-use Rattle.ac_run.specs.Tasks.{Paths, Task}
+use Rattle.ac_run.specs.Tasks.{Paths}
 use Rattle.ac_run.specs.Feeds.{Bytes, TellBytes, FeedRose, too_large}
 use Rattle.ac_run.specs.Lines.{memory_line, output_line, unreadable_line}
-use Rattle.ac_run.specs.Refusals.{line_of, status_of}
 use Rattle.ac_base.specs.Writing.{TakesLine}
 use Rattle.ac_tables.specs.declared.read.FiveTables.{FiveTables}
 use Rattle.ac_run.specs.declared.refusal.AskRefusal.TheVariants as ask
-use Rattle.ac_run.specs.declared.refusal.Refusal.{Refusal}
 use Rattle.ac_run.specs.declared.refusal.Refusal.TheVariants as why
 use Rattle.ac_run.specs.declared.refusal.TablesRefusal.{TablesRefusal}
 use Rattle.ac_run.specs.declared.refusal.TablesRefusal.TheVariants as tables

@@ -14,7 +14,7 @@ use Rattle.ac_query.specs.Shown.Faults.{fault_shown}
 use Rattle.ac_query.specs.Shown.Queries.{asked_of}
 use Rattle.ac_query.specs.Tokens.{ids_of}
 use Rattle.ac_query.specs.declared.token.TokenFault.{TokenFault}
-use Rattle.ac_run.specs.Answer.{Outcome, answer_in, explanation, fills, host_rows, page_body, page_lines, page_rows, verdict_line, why_not, written}
+use Rattle.ac_run.specs.Answer.{Outcome, explanation, fills, host_rows, page_body, page_lines, page_rows, verdict_line, why_not, written}
 use Rattle.ac_run.specs.Wanted.Given.{token_refusal}
 use Rattle.ac_run.specs.Outputs.{counts}
 use Rattle.ac_run.specs.Tasks.{Command, Task, check, token_in, why}

@@ -1,6 +1,6 @@
 -- What the laws say.
 pub mod Apart
-use Rattle.std.specs.Prelude.{◌≡◌, ◌<◌, ⊤, ℕ, None, Some, List, [], ◌∷◌, ◌++◌, All, false, true, codes, length}
+use Rattle.std.specs.Prelude.{◌≡◌, ⊤, ℕ, None, Some, List, [], ◌∷◌, ◌++◌, All, false, true, codes}
 use Rattle.std.specs.List.{join_with_byte}
 use Rattle.ac_cloud.specs.World.{Provider, World}
 use Rattle.ac_query.specs.Asked.{Asked as Query}

@@ -7,7 +7,7 @@ use Rattle.ac_report.proofs.Pages.Paging.{all_head, all_tail, is_next}
 use Rattle.ac_rules.specs.Judge.{is_candidate}
 use Rattle.ac_rules.specs.Lists.{IsListBelow, tail_of}
 use Rattle.ac_rules.proofs.Lists.RestLemmas.{IsChosen}
-use Rattle.ac_fill.specs.Ends.{AreAhead, Ends, Stand, stand_of, start_of, takings_of, world_at}
+use Rattle.ac_fill.specs.Ends.{AreAhead, Ends, Stand, stand_of, takings_of, world_at}
 use Rattle.ac_fill.specs.Filled.{asks_units}
 use Rattle.ac_fill.specs.Shown.{asked_in, with_taken}
 use Rattle.ac_fill.proofs.Ending.{ends_err, ends_none}

@@ -1,6 +1,5 @@
-use Rattle.std.proofs.Common.{arith, codes, drop, map}
+use Rattle.std.proofs.Common.{arith}
 use Rattle.ac_base.specs.Texts.{id_text}
-use Rattle.ac_base.specs.Writing.Pieces.{listed, marked}
 use Rattle.ac_report.proofs.FoundTexts.Begun.{begun_stops}
 use Rattle.ac_report.proofs.FoundTexts.ItemsWritten.{item_turn, listed_first}
 use Rattle.ac_report.proofs.findings.explanation.nobody.push_ids.Goals as goal
