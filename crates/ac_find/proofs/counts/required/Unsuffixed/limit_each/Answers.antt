@@ -1,13 +1,24 @@
-use Rattle.std.proofs.Common.{◌∙◌, List, ℕ, ap, arith, map}
+use Rattle.std.proofs.Common.{◌∙◌, List, [], ◌∷◌, ℕ, ap, arith, map, rules, subst, sym}
+use Rattle.std.specs.List.Sorted.{IsStrictlySortedBy}
 use Rattle.std.specs.List.{list_all}
 use Rattle.std.proofs.lemmas.List.{take_all}
 use Rattle.ac_base.specs.Names.{trait_bytes}
+use Rattle.ac_base.specs.Texts.{text_cmp}
 use Rattle.ac_base.specs.declared.name.TraitName.{TraitName}
 use Rattle.ac_query.specs.Shown.Queries.{asked_of}
 use Rattle.ac_cloud.specs.Cloud.CloudWorld.{providers_of}
 use Rattle.ac_find.specs.Explained.{is_held, is_one_held}
 use Rattle.ac_find.proofs.RequiredLemmas.{held_alone, kept_all, kept_more, kept_same}
 use Rattle.ac_find.proofs.counts.required.Unsuffixed.limit_each.Goals as goal
+
+-- one name alone rises
+alone_rises : (name : TraitName) → IsStrictlySortedBy text_cmp (map trait_bytes (name ∷ []))
+unfolding IsStrictlySortedBy
+alone_rises name = search (arith, rules)
+
+pub limit_names-requires-clause-sorted : goal.limit_names-requires-clause-sorted
+limit_names-requires-clause-sorted c =
+    subst (λ (names : List TraitName). IsStrictlySortedBy text_cmp (map trait_bytes names)) (sym c.from_ref.ensures.value) (alone_rises c.name-item.result)
 
 pub loop-name-init : goal.loop-name-init
 loop-name-init c = kept_all _ _
