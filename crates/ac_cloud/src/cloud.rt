@@ -16,6 +16,7 @@ ghost use Rattle.std.specs.Prelude.{◌≡◌, ◌<◌, Some, None, [], map, len
 ghost use Rattle.std.specs.Option.{option_map, option_copied};
 ghost use Rattle.ac_base.specs.Names.{class_bytes, trait_bytes};
 ghost use Rattle.ac_cloud.specs.Cloud.CloudParts.{BelongTogether, BelongTogether-prop};
+ghost use Rattle.std.specs.List.{list_any};
 ghost use Rattle.ac_cloud.specs.ListsOf.{lists_of};
 ghost use Rattle.ac_cloud.specs.Cloud.Anchors.{list_items};
 ghost use Rattle.ac_cloud.specs.Cloud.Entries.{entry_pair, entry_value};
@@ -25,7 +26,7 @@ ghost use Rattle.ac_cloud.specs.World.{provider_at, id_at, place_of, parent_of, 
 use crate::cloud::ancestry::Visits;
 use crate::cloud::anchors::Anchors;
 use crate::cloud::entry::Entry;
-use crate::cloud::lookups::{find_entry, find_place, has_id, has_name};
+use crate::cloud::lookups::{find_entry, find_place, has_any_id, has_id, has_name};
 use crate::cloud::provider_index::Ids;
 use crate::lists::Lists;
 use ac_base::{ClassName, Id, Inventory, TraitName};
@@ -200,6 +201,15 @@ impl Cloud {
         ensures { result ≡ is_member (provider_at (providers_of self.now) ix) aggregate }
     {
         has_id(self.aggregates.of(ix as usize), aggregate)
+    }
+
+    /// Whether a provider itself belongs to one of some aggregates.
+    pub fn in_any_aggregate(&self, ix: u32, aggregates: &[Id]) -> bool
+        requires { ix < length (providers_of self.now) }
+        ensures { result ≡ list_any (is_member (provider_at (providers_of self.now) ix))
+            aggregates.now }
+    {
+        has_any_id(self.aggregates.of(ix as usize), aggregates)
     }
 
     // Whether the parents of `b` lead to `a`.

@@ -1,6 +1,7 @@
 //! The providers of a cloud one by one: what each has, and where it stands.
 
 ghost use Rattle.std.specs.Prelude.{◌≡◌, ◌<◌, length, map};
+ghost use Rattle.std.specs.List.{list_any};
 ghost use Rattle.std.specs.Option.{is_some, option_map, option_copied};
 ghost use Rattle.ac_base.specs.Names.{class_bytes, trait_bytes};
 ghost use Rattle.ac_cloud.specs.Cloud.CloudWorld.{providers_of};
@@ -73,6 +74,13 @@ impl<'a> Provider<'a> {
         ensures { result ≡ is_member (provider_of self.now) aggregate }
     {
         self.cloud.in_aggregate(self.ix, aggregate)
+    }
+
+    /// Whether it itself belongs to one of some aggregates.
+    pub fn in_any_aggregate(&self, aggregates: &[Id]) -> bool
+        ensures { result ≡ list_any (is_member (provider_of self.now)) aggregates.now }
+    {
+        self.cloud.in_any_aggregate(self.ix, aggregates)
     }
 
     /// Whether it shares what it has with the trees with which it has an aggregate in common.

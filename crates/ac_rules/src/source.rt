@@ -1,5 +1,6 @@
 //! What gives lists of providers, one after another.
-ghost use Rattle.std.specs.Prelude.{◌≡◌, ℕ, List, Option, ⊤};
+ghost use Rattle.std.specs.Prelude.{◌≡◌, ◌++◌, ℕ, Bool, List, Option, ⊤, false};
+ghost use Rattle.std.specs.List.{filter};
 ghost use Rattle.std.specs.Borrow.{sem};
 ghost use Rattle.std.specs.Option.{option_copied};
 ghost use Rattle.std.specs.Io.BufRead.{Rests};
@@ -18,4 +19,11 @@ pub trait Source {
         ensures head { option_copied result ≡ head_of (left self.old) }
         ensures* tail { sem 𝓛 (Rests Self.row self.entry (λ new.
             (left new ≡ tail_of (left self.old)) × moves self.old (option_copied result) new)) };
+
+    /// Passes over lists that are left and begin as given, all of them or some.
+    fn skip(&mut self, front: &[u32])
+        ensures { (test : List ℕ → Bool) → ((more : List ℕ) → test (front.now ++ more) ≡ false)
+            → filter test (left self.new) ≡ filter test (left self.old) }
+    {
+    }
 }

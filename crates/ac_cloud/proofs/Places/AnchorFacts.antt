@@ -28,7 +28,7 @@ filter_range p q (suc n) a same =
     ap₂ (λ b l. if b then a ∷ l else l) (same a (omega arith)) rest
 
 -- one of the first and one of the second
-any_or : {A : Type 0} (u v : A → Bool) (xs : List A) → list_any (λ x. u x || v x) xs ≡ (list_any u xs || list_any v xs)
+pub any_or : {A : Type 0} (u v : A → Bool) (xs : List A) → list_any (λ x. u x || v x) xs ≡ (list_any u xs || list_any v xs)
 any_or u v [] = refl
 any_or u v (x ∷ xs) = ap (λ b. (u x || v x) || b) (any_or u v xs) ∙ four (u x) (v x) (list_any u xs) (list_any v xs)
   where

@@ -5,10 +5,14 @@ ghost use Rattle.ac_cloud.specs.Cloud.Anchors.{list_of};
 use std::alloc::{AllocError, Global};
 use std::collections::BTreeMap;
 
-// Lists, and where the last one of each mark stands.
+// How many roots all lists may have together: a quarter of a gigabyte of them.
+const MOST_ROOTS: usize = 1 << 26;
+
+// Lists, how many roots they may still have, and where the last one of each mark stands.
 #[derive(Drop)]
 pub(crate) struct Kept {
     pub(crate) lists: Vec<Vec<u32>>,
+    room: usize,
     known: BTreeMap<u64, u32>,
 }
 
@@ -18,6 +22,7 @@ impl Kept {
     {
         Kept {
             lists: Vec::new(alloc),
+            room: MOST_ROOTS,
             known: BTreeMap::new(alloc),
         }
     }
@@ -35,7 +40,7 @@ impl Kept {
         }
     }
 
-    // The lists with one more, and where that one stands.
+    // The lists with one more, and where that one stands. Where they would have too many roots, that is memory which isn't had.
     fn with(self, mark: u64, list: Vec<u32>) -> Result<(Kept, u32), AllocError>
         requires { length self.lists.items < 65536 }
         ensures grown { IfOk result (λ new. length new.0.lists.items
@@ -47,6 +52,10 @@ impl Kept {
     {
         let mut kept = self;
         let place = kept.lists.len() as u32;
+        let Some(room) = kept.room.checked_sub(list.len()) else {
+            return Err(AllocError);
+        };
+        kept.room = room;
         kept.known.insert(mark, place)?;
         kept.lists.push(list)?;
         Ok((kept, place))

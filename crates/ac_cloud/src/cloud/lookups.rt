@@ -55,6 +55,25 @@ pub(crate) fn has_id(ids: &[Id], id: Id) -> bool
     ids.binary_search(&id).is_ok()
 }
 
+// Whether one of some ids is among these.
+fn is_one_of(own: &[Id], ids: &[Id]) -> bool
+    ensures { result ≡ list_any (λ a. list_any (λ b. a == b) ids.now) own.now }
+{
+    own.iter().any(|id| ids.contains(id))
+}
+
+// Whether one of some ids is among these, which rise: what there is less of is gone through.
+pub(crate) fn has_any_id(own: &[Id], ids: &[Id]) -> bool
+    requires { IsStrictlySortedBy nat_cmp own.now }
+    ensures { result ≡ list_any (λ id. list_any (λ a. a == id) own.now) ids.now }
+{
+    if own.len() < ids.len() {
+        is_one_of(own, ids)
+    } else {
+        ids.iter().any(|id| has_id(own, *id))
+    }
+}
+
 // Whether a provider of these traits shares what it has.
 fn shares(names: &[TraitName]) -> bool
     ensures { result ≡ shares_by names.now }

@@ -47,23 +47,15 @@ impl<'a> Placed<'a> {
             && (group.suffix().is_none() || has_required(&provider, group))
     }
 
-    // Whether an aggregate counts as the provider's: it is its own, or in the unsuffixed group its root's.
-    fn counts_in(&self, aggregate: Id) -> bool
-        ensures { result
-            ≡ counts_in (providers_of self.now.cloud.now) (placed_of self.now) aggregate }
-    {
-        let provider = self.its_provider();
-        provider.in_aggregate(aggregate)
-            || (!is_suffixed(self.query, self.slot) && provider.root().in_aggregate(aggregate))
-    }
-
-    // Whether one of the aggregates counts as the provider's.
+    // Whether one of the aggregates counts as the provider's: it is its own, or in the unsuffixed group its root's.
     fn counts_in_any(&self, ids: &[Id]) -> bool
         ensures { result
             ≡ list_any (λ a. counts_in (providers_of self.now.cloud.now) (placed_of self.now) a)
             ids.now }
     {
-        ids.iter().any(|id| self.counts_in(*id))
+        let provider = self.its_provider();
+        provider.in_any_aggregate(ids)
+            || (!is_suffixed(self.query, self.slot) && provider.root().in_any_aggregate(ids))
     }
 
     /// Whether a rule on aggregates is met.
