@@ -8,6 +8,7 @@ ghost use Rattle.ac_prune.specs.Ahead.{AreRoots};
 ghost use Rattle.ac_prune.specs.Loads.{AreServing, MayHost};
 
 mod column;
+mod kinds;
 mod loads;
 
 use crate::choices::Choices;
@@ -35,6 +36,8 @@ pub(crate) enum ClassTest {
     Sums,
     /// How many slots ask so much or more.
     Pieces,
+    /// How many of the slots that have the same choices do.
+    Kinds,
 }
 
 impl Budget {
@@ -92,22 +95,23 @@ fn limit_slots(
 // Drops the roots whose providers fail a test of some class, while there are any.
 fn limit_classes(
     alloc: Global,
-    ledger: &Ledger,
+    choices: &Choices,
     test: ClassTest,
     budget: &mut Budget,
     may: &mut [bool],
 ) -> Result<(), NoMemory>
-    requires empty { Accounts ledger.now [] }
-    requires hosts { MayHost ledger.now may.old }
-    ensures { IfOk result (λ _. MayHost ledger.now may.new) }
+    requires empty { Accounts choices.now.ledger.now [] }
+    requires hosts { MayHost choices.now.ledger.now may.old }
+    ensures { IfOk result (λ _. MayHost choices.now.ledger.now may.new) }
 {
+    let ledger = choices.ledger;
     for (number, class) in ledger.classes.iter().enumerate() {
         if !may.contains(&true) || budget.tests == 0 {
             return Ok(());
         }
         // Where one slot alone asks for a class, its choices have told as much.
         if count_asking(&ledger.asks, number, 1) > 1 {
-            Column::new(alloc, ledger, class)?.limit(alloc, test, budget, may)?;
+            Column::new(alloc, ledger, class)?.limit(alloc, choices, test, budget, may)?;
         }
     }
     Ok(())
@@ -129,13 +133,14 @@ fn limit_all(alloc: Global, choices: &Choices, may: &mut [bool]) -> Result<(), N
         tests: MOST_STEPS / steps.max(1),
     };
     limit_slots(alloc, choices, &mut budget, may)?;
-    limit_classes(alloc, ledger, ClassTest::Sums, &mut budget, may)?;
-    limit_classes(alloc, ledger, ClassTest::Pieces, &mut budget, may)
+    limit_classes(alloc, choices, ClassTest::Sums, &mut budget, may)?;
+    limit_classes(alloc, choices, ClassTest::Pieces, &mut budget, may)?;
+    limit_classes(alloc, choices, ClassTest::Kinds, &mut budget, may)
 }
 
 /// For each root whether it may host a candidate: the query takes it, some choice of each slot is available there, of each
 /// class its providers have as much as all slots ask, and of each amount that a slot asks they have as many pieces as
-/// slots ask so much or more. These are tested in this order. Where all tests would take too many steps, the last ones
+/// slots ask so much or more, and so they have among the choices that some slots have in common. These are tested in this order. Where all tests would take too many steps, the last ones
 /// aren't made: that is right too, only slower where no root can.
 #[derive(Drop)]
 pub(crate) struct Hosts {

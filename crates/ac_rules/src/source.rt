@@ -24,6 +24,5 @@ pub trait Source {
     fn skip(&mut self, front: &[u32])
         ensures { (test : List ℕ → Bool) → ((more : List ℕ) → test (front.now ++ more) ≡ false)
             → filter test (left self.new) ≡ filter test (left self.old) }
-    {
-    }
+    {}
 }

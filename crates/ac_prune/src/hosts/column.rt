@@ -12,6 +12,7 @@ ghost use Rattle.ac_rules.specs.Placed.{slot_at};
 
 use super::loads::limit;
 use super::{Budget, ClassTest};
+use crate::choices::Choices;
 use crate::ledger::Ledger;
 use crate::ledger::rooms::{Ask, wanted};
 use ac_base::{ClassName, NoMemory};
@@ -22,11 +23,11 @@ use std::alloc::Global;
 /// What is left of a class at each provider, beside the ledger of an empty path.
 #[derive(Drop)]
 pub(crate) struct Column<'l, 'a> {
-    ledger: &'l Ledger<'a>,
+    pub(super) ledger: &'l Ledger<'a>,
     class: &'a ClassName,
     // The number of the class among the classes of the ledger.
-    number: usize,
-    rooms: Vec<u64>,
+    pub(super) number: usize,
+    pub(super) rooms: Vec<u64>,
     ghost empty: { Accounts ledger.now [] },
     ghost known: { IsKnown (texts_in ledger.now) (class_bytes class.now) },
     ghost numbered: { number ≡ class_number (texts_in ledger.now) (class_bytes class.now) },
@@ -202,17 +203,20 @@ impl<'l, 'a> Column<'l, 'a> {
     pub(crate) fn limit(
         &self,
         alloc: Global,
+        choices: &Choices,
         test: ClassTest,
         budget: &mut Budget,
         may: &mut [bool],
     ) -> Result<(), NoMemory>
-        requires { MayHost self.now.ledger.now may.old }
+        requires same { choices.now.ledger ≡ self.now.ledger }
+        requires hosts { MayHost self.now.ledger.now may.old }
         ensures { IfOk result (λ _. MayHost self.now.ledger.now may.new) }
     {
         match test {
             ClassTest::Sums if budget.take() => self.limit_sum(alloc, may),
             ClassTest::Sums => Ok(()),
             ClassTest::Pieces => self.limit_amounts(alloc, budget, may),
+            ClassTest::Kinds => self.limit_kinds(alloc, choices, budget, may),
         }
     }
 }
