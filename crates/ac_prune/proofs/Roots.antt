@@ -6,3 +6,4 @@ pub mod TreeLemmas
 pub mod PartLemmas
 pub mod FamilyLemmas
 pub mod KeptLemmas
+pub mod KindLemmas

@@ -91,7 +91,7 @@ weighed_keeps all asked old new rooms most weight room bears fits wants was coun
 }
 
 -- what a column has left
-column_left : (column : Column) (p : ℕ) → p < length (providers_in column.ledger.now) → left_on (providers_in column.ledger.now) (asked_in column.ledger.now) [] (class_bytes column.class.now) p ≡ slice_index column.rooms.items p
+pub column_left : (column : Column) (p : ℕ) → p < length (providers_in column.ledger.now) → left_on (providers_in column.ledger.now) (asked_in column.ledger.now) [] (class_bytes column.class.now) p ≡ slice_index column.rooms.items p
 column_left column p h = omega (arith, column.empty.left p (class_bytes column.class.now) h column.known, column.left p h, ap (left_in column.ledger.now p) column.numbered)
 
 pub sum_keeps : (column : Column) (old new : List Bool) (most : ℕ) → most ≤ load_of (λ a. wanted a column.number) (pairs_of column.ledger.now.asks.items) → MayHost column.ledger.now old → length new ≡ length old

@@ -26,7 +26,7 @@ there_at (y ∷ ys) x h = elim (cases_eq y x) [
 pub at_there : (xs : List ℕ) (x : ℕ) → Contains xs x → is_there xs x ≡ true
 at_there xs x m = list_any_at (λ y. y == x) xs m.0 x m.1 (eq-eqb (get_or xs m.0 x) x m.2)
 
-among_there : (xs : List ℕ) (x : ℕ) → Among xs x → is_there xs x ≡ true
+pub among_there : (xs : List ℕ) (x : ℕ) → Among xs x → is_there xs x ≡ true
 among_there [] x h = absurd h
 among_there (y ∷ xs) x h = elim h [
   | inl e ↦ let on = eq-eqb y x e in rw on refl

@@ -1,12 +1,11 @@
 -- Slots that have the same choices, and what these choices have for them.
-use Rattle.std.specs.Prelude.{◌≡◌, ℕ, ◌/◌, Bool, true, if◌then◌else◌, min, bytes_eq, List, slice_index}
+use Rattle.std.specs.Prelude.{◌≡◌, ℕ, ◌/◌, ◌<◌, Bool, if◌then◌else◌, min, bytes_eq, List, length, slice_index}
 use Rattle.ac_base.specs.Names.{class_bytes}
 use Rattle.ac_query.specs.Asked.{Asked, Slot, slots_of}
 use Rattle.ac_cloud.specs.World.{Provider}
 use Rattle.ac_prune.specs.Ahead.{load_of, asks_much, lone_much}
 use Rattle.ac_prune.specs.Left.Accounts.{providers_in, asked_in}
 use Rattle.ac_prune.specs.QuerySearch.{choice_of}
-use Rattle.ac_prune.specs.Trees.Keys.{is_there}
 use Rattle.ac_prune.specs.declared.hosts.column.Column.{Column}
 
 -- so many pieces, or one at most where each is for a slot that is to have a provider for itself
@@ -15,7 +14,8 @@ piece lone n = if lone then min n 1 else n
 
 -- each of some choices has the pieces of an amount that its room has
 abbrev pub ArePiecesAmong : List ℕ → List ℕ → ℕ → Bool → List ℕ → Type 0
-ArePiecesAmong rooms choices amount lone pieces = (p : ℕ) → is_there choices p ≡ true → slice_index pieces p ≡ piece lone (slice_index rooms p / amount)
+ArePiecesAmong rooms choices amount lone pieces =
+    (j : ℕ) → j < length choices → slice_index pieces (slice_index choices j) ≡ piece lone (slice_index rooms (slice_index choices j) / amount)
 
 -- the weight of slots with these choices; others weigh nothing
 abbrev pub weight_among : List Provider → Asked → List ℕ → (Slot → ℕ) → Slot → ℕ

@@ -1,10 +1,12 @@
 //! Slots that have the same choices, where others ask for the same class: whether a root has enough of these choices for them.
 
-ghost use Rattle.std.specs.Prelude.{◌≡◌, ◌<◌, ◌≤◌, length, IfOk};
+ghost use Rattle.std.specs.Prelude.{◌≡◌, ◌<◌, ◌≤◌, length, true, IfOk};
 ghost use Rattle.std.specs.List.{All};
 ghost use Rattle.ac_query.specs.Asked.{slots_of};
 ghost use Rattle.ac_prune.specs.Left.Accounts.{providers_in, asked_in};
 ghost use Rattle.ac_prune.specs.Loads.{MayHost};
+ghost use Rattle.ac_prune.specs.Loads.Kinds.{piece};
+ghost use Rattle.ac_prune.specs.Marks.{needs_own};
 ghost use Rattle.ac_rules.specs.Placed.{slot_at};
 
 use super::Budget;
@@ -24,7 +26,7 @@ fn piece(pieces: u64, lone: bool) -> u64
 }
 
 impl<'l, 'a> Column<'l, 'a> {
-    ghost use Rattle.ac_prune.specs.Loads.Kinds.{ArePiecesAmong, asks_alike, count_alike, piece};
+    ghost use Rattle.ac_prune.specs.Loads.Kinds.{ArePiecesAmong, asks_alike, count_alike};
 
     // How many pieces of an amount each of some choices has, and other providers none.
     fn pieces_among(
@@ -49,17 +51,24 @@ impl<'l, 'a> Column<'l, 'a> {
         Ok(pieces)
     }
 
-    // 1 where a slot has these choices and asks so much or more, and is to have a provider for itself where that is wanted, else 0.
+    // Whether a slot is looked at: where a provider is wanted for each alone, one that is to have it.
+    fn is_looked_at(&self, lone: bool, s: usize) -> bool
+        requires { s < length (slots_of (asked_in self.now.ledger.now)) }
+        ensures { result ≡ true → lone ≡ true → needs_own (asked_in self.now.ledger.now)
+            (slot_at (asked_in self.now.ledger.now) s) ≡ true }
+    {
+        !lone || self.ledger.lone[s]
+    }
+
+    // 1 where a slot that is looked at has these choices and asks so much or more, else 0.
     fn asks_alike(&self, choices: &Choices, list: &[u32], amount: u64, lone: bool, s: usize) -> u64
         requires slot { s < length (slots_of (asked_in self.now.ledger.now)) }
         requires same { choices.now.ledger ≡ self.now.ledger }
         ensures { result ≤ asks_alike self.now list.now amount lone
             (slot_at (asked_in self.now.ledger.now) s) }
     {
-        if choices.of_slot(s) != list || wanted(&self.ledger.asks[s], self.number) < amount {
-            return 0;
-        }
-        if lone && !self.ledger.lone[s] {
+        let asked = wanted(&self.ledger.asks[s], self.number);
+        if asked < amount || !self.is_looked_at(lone, s) || choices.of_slot(s) != list {
             return 0;
         }
         1
