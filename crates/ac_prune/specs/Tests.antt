@@ -15,7 +15,7 @@ use Rattle.ac_prune.specs.declared.lookout.Test.TheVariants.{Ahead, Trees, Hosts
 -- a test is of some providers and a query
 abbrev pub IsTest : List Provider → Asked → Test → Type 0
 IsTest all asked (Ahead ahead) = HasProviders all ahead
-IsTest all asked (Trees trees) = AreByTree all asked trees.slots.items
+IsTest all asked (Trees trees) = AreByTree all asked trees.groves.items trees.slots.items
 IsTest all asked (Hosts hosts) = AreRoots all asked hosts.may.items
 IsTest all asked (Family family) = IsFamily all asked family
 

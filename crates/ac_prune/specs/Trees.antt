@@ -1,25 +1,34 @@
--- The choices of slots by tree.
+-- The choices of slots by tree and by grove.
 pub mod Keys
-use Rattle.std.specs.Prelude.{◌≡◌, ℕ, ◌<◌, ◌≤◌, true, List, length, slice_index, slice_index_or}
+use Rattle.std.specs.Prelude.{◌≡◌, ℕ, ◌<◌, ◌≤◌, true, List, [], length, get_or, slice_index, slice_index_or}
 use Rattle.std.specs.List.{range_with_len}
+use Rattle.std.specs.Global.{Vec}
 use Rattle.ac_query.specs.Asked.{Asked, slots_of}
 use Rattle.ac_cloud.specs.World.{Provider, is_available_at}
 use Rattle.ac_rules.specs.Placed.{slot_at}
 use Rattle.ac_prune.specs.QuerySearch.{choice_of}
 use Rattle.ac_prune.specs.Trees.Keys.{key_of, is_there, IsUnder}
-use Rattle.ac_prune.specs.declared.by_tree.ByTree.{ByTree}
-use Rattle.ac_prune.specs.declared.by_tree.Places.{Places}
+use Rattle.ac_prune.specs.declared.trees.by_tree.Places.{Places}
+use Rattle.ac_prune.specs.declared.trees.groves.Groves.{Groves}
 use Rattle.ac_prune.specs.declared.ahead.Ahead.{Ahead}
 
--- each choice has its place in each tree in which it is available, or in the one past all others
-pub record IsByTree (all : List Provider) (choices : List ℕ) (trees : ByTree) : Type 0 where
-  pub wide : trees.wide ≡ length all
-  pub count : trees.places.count ≡ length choices
-  pub placed : (i r : ℕ) → i < length choices → r < length all → is_available_at all (slice_index choices i) r ≡ true → IsUnder trees.places.keys.items (length all) r i
+-- the grove of each root of a list is among some groves
+abbrev pub HaveGroves : List ℕ → List ℕ → List ℕ → Type 0
+HaveGroves of_roots list groves = (r : ℕ) → is_there list r ≡ true → is_there groves (slice_index of_roots r) ≡ true
+
+-- so it is among those of the list, of each list of roots
+pub record AreGroves (lists : List (List ℕ)) (groves : Groves) : Type 0 where
+  pub count : length groves.of_lists.items ≡ length lists
+  pub each : (k : ℕ) (d : Vec ℕ) → k < length lists → HaveGroves groves.of_roots.items (get_or lists k []) (slice_index_or groves.of_lists.items k d).items
+
+-- each choice has its place in each tree in which it is available, or in the tree's grove
+pub record IsByTree (all : List Provider) (choices groves : List ℕ) (places : Places) : Type 0 where
+  pub count : places.count ≡ length choices
+  pub placed : (i r : ℕ) → i < length choices → r < length all → is_available_at all (slice_index choices i) r ≡ true → IsUnder places.keys.items (slice_index groves r) r i
 
 -- it has the first providers by tree, each as the choice at its own place
 abbrev pub HasProviders : List Provider → Ahead → Type 0
-HasProviders all ahead = IsByTree all (range_with_len 0 ahead.trees.places.count) ahead.trees
+HasProviders all ahead = IsByTree all (range_with_len 0 ahead.trees.count) ahead.groves.items ahead.trees
 
 -- each of the first choices has its place in its part
 pub record IsByPart (choices parts : List ℕ) (places : Places) : Type 0 where
@@ -32,6 +41,6 @@ pub record AreByPart (all : List Provider) (asked : Asked) (parts : List ℕ) (p
   pub each : (s : ℕ) (d : Places) → s < length (slots_of asked) → IsByPart (choice_of all asked (slot_at asked s)) parts (slice_index_or places s d)
 
 -- the choices of each slot but the first are by tree
-pub record AreByTree (all : List Provider) (asked : Asked) (trees : List ByTree) : Type 0 where
-  pub count : length trees ≡ length (slots_of asked)
-  pub each : (s : ℕ) (d : ByTree) → 0 < s → s < length (slots_of asked) → IsByTree all (choice_of all asked (slot_at asked s)) (slice_index_or trees s d)
+pub record AreByTree (all : List Provider) (asked : Asked) (groves : List ℕ) (slots : List Places) : Type 0 where
+  pub count : length slots ≡ length (slots_of asked)
+  pub each : (s : ℕ) (d : Places) → 0 < s → s < length (slots_of asked) → IsByTree all (choice_of all asked (slot_at asked s)) groves (slice_index_or slots s d)

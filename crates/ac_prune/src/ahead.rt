@@ -3,20 +3,21 @@
 ghost use Rattle.std.specs.Prelude.{◌≡◌, ◌+◌, ◌-◌, ◌/◌, ◌<◌, ◌≤◌, ◌^◌, ◌++◌, ℕ, List, true, length, min, IfOk};
 ghost use Rattle.std.specs.List.{range_with_len};
 ghost use Rattle.ac_base.specs.Names.{class_bytes};
-ghost use Rattle.ac_cloud.specs.Cloud.CloudWorld.{providers_of};
+ghost use Rattle.ac_cloud.specs.Cloud.CloudWorld.{providers_of, root_lists_of};
 ghost use Rattle.ac_prune.specs.Left.Accounts.{providers_in, asked_in, texts_in, left_in};
 ghost use Rattle.ac_prune.specs.Ahead.{load_of, hosts_of, IsHosted};
 ghost use Rattle.ac_rules.specs.Room.{IsKnown};
 ghost use Rattle.ac_prune.specs.Ahead.Fronts.{search_at};
 ghost use Rattle.ac_prune.specs.Search.{IsDead};
-ghost use Rattle.ac_prune.specs.Trees.{HasProviders};
+ghost use Rattle.ac_prune.specs.Trees.{AreGroves, HasProviders};
 
-use crate::by_tree::ByTree;
 use crate::front::Front;
 use crate::hosts::count_asking;
 use crate::ledger::Ledger;
 use crate::ledger::rooms::{Ask, wanted};
 use crate::look_ahead::LookAhead;
+use crate::trees::by_tree::Places;
+use crate::trees::groves::Groves;
 use crate::tuning::{MOST_ASKS, MOST_HOSTS};
 use ac_base::{ClassName, NoMemory};
 use ac_cloud::Cloud;
@@ -28,8 +29,10 @@ use std::alloc::Global;
 pub(crate) struct Ahead {
     // The greatest depth whose slots ask other amounts of some class than the slot before them; 0 where there is none.
     last: usize,
-    // The providers by tree; none where `last` is 0.
-    trees: ByTree,
+    // The grove of each tree.
+    groves: Vec<u32>,
+    // The providers by tree or by grove; none where `last` is 0.
+    trees: Places,
 }
 
 // The greatest depth whose slots ask other amounts of some class than the slot before them; 0 where there is none, or where
@@ -72,19 +75,26 @@ fn providers(alloc: Global, cloud: &Cloud, wanted: bool) -> Result<Vec<u32>, NoM
 
 impl Ahead {
     /// What the slots and the cloud of a ledger give to look ahead.
-    pub(crate) fn new(alloc: Global, ledger: &Ledger) -> Result<Ahead, NoMemory>
+    pub(crate) fn new(alloc: Global, ledger: &Ledger, groves: &Groves) -> Result<Ahead, NoMemory>
+        requires { AreGroves (root_lists_of ledger.now.cloud.now) groves.now }
         ensures { IfOk result (λ ahead. HasProviders (providers_in ledger.now) ahead) }
     {
         let last = last_mixed(&ledger.asks);
         let places = providers(alloc, ledger.cloud, last > 0)?;
-        let trees = ByTree::new(alloc, ledger.cloud, &places)?;
-        Ok(Ahead { last, trees })
+        let trees = Places::by_tree(alloc, ledger.cloud, groves, &places)?;
+        let mut of_roots = Vec::new(alloc);
+        of_roots.extend_from_slice(&groves.of_roots)?;
+        Ok(Ahead {
+            last,
+            groves: of_roots,
+            trees,
+        })
     }
 
     // How many pieces of an amount the providers at a root have left, or more; the greatest number where these are too many.
     fn pieces_left(&self, ledger: &Ledger, root: u32, class: usize, amount: u64) -> u64
         requires trees { HasProviders (providers_in ledger.now) self.now }
-        requires whole { self.now.trees.places.count ≡ length (providers_in ledger.now) }
+        requires whole { self.now.trees.count ≡ length (providers_in ledger.now) }
         requires root { root < length (providers_in ledger.now) }
         requires class { class < length ledger.now.classes.items }
         requires some { 0 < amount }
@@ -94,8 +104,8 @@ impl Ahead {
         let mut pieces = 0u64;
         let mut from = 0;
         for _ in 0..MOST_HOSTS {
-            let ix = self.trees.next(&[root], from);
-            if ix >= self.trees.places.count {
+            let ix = self.trees.next_at(&self.groves, &[root], from);
+            if ix >= self.trees.count {
                 return pieces;
             }
             pieces = pieces.saturating_add(ledger.left(ix, class) / amount);
@@ -107,7 +117,7 @@ impl Ahead {
     // Whether the providers at a root have fewer pieces of some amount of a class than the slots behind a path ask for.
     fn lacks(&self, front: &Front, root: u32, class: &ClassName) -> bool
         requires trees { HasProviders (providers_in front.now.ledger.now) self.now }
-        requires whole { self.now.trees.places.count ≡ length (providers_in front.now.ledger.now) }
+        requires whole { self.now.trees.count ≡ length (providers_in front.now.ledger.now) }
         requires root { root < length (providers_in front.now.ledger.now) }
         requires known { IsKnown (texts_in front.now.ledger.now) (class_bytes class.now) }
         requires some { 0 < length front.now.path.now }
@@ -138,7 +148,7 @@ impl Ahead {
     // Whether the providers at a root lack pieces of some class in this way.
     fn lacks_any(&self, front: &Front, root: u32) -> bool
         requires trees { HasProviders (providers_in front.now.ledger.now) self.now }
-        requires whole { self.now.trees.places.count ≡ length (providers_in front.now.ledger.now) }
+        requires whole { self.now.trees.count ≡ length (providers_in front.now.ledger.now) }
         requires root { root < length (providers_in front.now.ledger.now) }
         requires some { 0 < length front.now.path.now }
         ensures { result ≡ true → (v : List ℕ) → IsHosted (providers_in front.now.ledger.now)
@@ -160,7 +170,7 @@ impl Ahead {
         let depth = front.path.len();
         if depth == 0
             || depth > self.last
-            || self.trees.places.count != front.ledger.cloud.len() as usize
+            || self.trees.count != front.ledger.cloud.len() as usize
         {
             return false;
         }

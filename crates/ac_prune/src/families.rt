@@ -11,11 +11,11 @@ ghost use Rattle.ac_prune.specs.Left.Accounts.{providers_in, asked_in};
 
 pub mod parts;
 
-use crate::by_tree::Places;
 use crate::choices::Choices;
 use crate::families::parts::parts_of;
 use crate::front::Front;
 use crate::look_ahead::LookAhead;
+use crate::trees::by_tree::Places;
 use crate::tuning::MOST_PLACES;
 use ac_base::NoMemory;
 use ac_query::Query;

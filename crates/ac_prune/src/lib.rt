@@ -5,7 +5,6 @@
 #![tactic(auto)]
 
 mod ahead;
-mod by_tree;
 mod choices;
 mod families;
 mod front;

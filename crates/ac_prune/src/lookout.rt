@@ -13,6 +13,7 @@ use crate::hosts::Hosts;
 use crate::ledger::Ledger;
 use crate::look_ahead::LookAhead;
 use crate::trees::Trees;
+use crate::trees::groves::Groves;
 use crate::tuning::MOST_TESTS;
 use ac_base::NoMemory;
 use std::alloc::Global;
@@ -88,8 +89,9 @@ impl Lookout {
             lists: choices,
         };
         let mut tests = Vec::new(alloc);
-        tests.push(Test::Ahead(Ahead::new(alloc, ledger)?))?;
-        tests.push(Test::Trees(Trees::new(alloc, &choices)?))?;
+        let groves = Groves::new(alloc, ledger.cloud)?;
+        tests.push(Test::Ahead(Ahead::new(alloc, ledger, &groves)?))?;
+        tests.push(Test::Trees(Trees::new(alloc, &choices, groves)?))?;
         tests.push(Test::Hosts(Hosts::new(alloc, &choices)?))?;
         for k in 0..ledger.query.subtrees().len() {
             push_family(alloc, &mut tests, &choices, k)?;

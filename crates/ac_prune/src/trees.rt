@@ -1,37 +1,47 @@
 //! The choices of each slot by tree, so that a path that is bound to a few trees passes over those of the others.
 ghost use Rattle.std.specs.Prelude.{IfOk};
+ghost use Rattle.ac_cloud.specs.Cloud.CloudWorld.{root_lists_of};
 ghost use Rattle.ac_prune.specs.Left.Accounts.{providers_in, asked_in};
-ghost use Rattle.ac_prune.specs.Trees.{AreByTree};
+ghost use Rattle.ac_prune.specs.Trees.{AreGroves, AreByTree};
 
-use crate::by_tree::ByTree;
+pub mod by_tree;
+pub mod groves;
+
 use crate::choices::Choices;
 use crate::front::Front;
 use crate::look_ahead::LookAhead;
+use crate::trees::by_tree::Places;
+use crate::trees::groves::Groves;
 use crate::tuning::FEWEST;
 use ac_base::NoMemory;
 use ac_rules::slots::count_slots;
 use std::alloc::Global;
 
-/// The choices of each slot but the first by tree; none of the first.
+/// The choices of each slot but the first by tree or by grove, and the grove of each tree; no choices of the first.
 #[derive(Drop)]
 pub(crate) struct Trees {
-    slots: Vec<ByTree>,
+    groves: Vec<u32>,
+    slots: Vec<Places>,
 }
 
 impl Trees {
-    /// The choices of all slots but the first, by tree.
-    pub(crate) fn new(alloc: Global, choices: &Choices) -> Result<Trees, NoMemory>
+    /// The choices of all slots but the first, by tree or by grove.
+    pub(crate) fn new(alloc: Global, choices: &Choices, groves: Groves) -> Result<Trees, NoMemory>
+        requires { AreGroves (root_lists_of choices.now.ledger.now.cloud.now) groves }
         ensures { IfOk result (λ trees. AreByTree (providers_in choices.now.ledger.now)
-            (asked_in choices.now.ledger.now) trees.slots.items) }
+            (asked_in choices.now.ledger.now) trees.groves.items trees.slots.items) }
     {
         let ledger = choices.ledger;
         let mut slots = Vec::new(alloc);
         for s in 0..count_slots(ledger.query) {
             // No path stands before the first slot, so its choices aren't looked for by tree.
             let sought = if s > 0 { choices.of_slot(s) } else { &[] };
-            slots.push(ByTree::new(alloc, ledger.cloud, sought)?)?;
+            slots.push(Places::by_tree(alloc, ledger.cloud, &groves, sought)?)?;
         }
-        Ok(Trees { slots })
+        Ok(Trees {
+            groves: groves.of_roots,
+            slots,
+        })
     }
 }
 
@@ -42,7 +52,7 @@ fn are_few(trees: usize, choices: usize) -> bool {
 }
 
 impl LookAhead for Trees {
-    ghost is_of = { λ all asked trees. AreByTree all asked trees.slots.items };
+    ghost is_of = { λ all asked trees. AreByTree all asked trees.groves.items trees.slots.items };
 
     fn next(&self, front: &Front, from: usize) -> usize {
         match front.bound {
@@ -55,7 +65,7 @@ impl LookAhead for Trees {
                 if beside || !are_few(trees.len(), front.choices.len()) {
                     return from;
                 }
-                self.slots[front.path.len()].next(trees, from)
+                self.slots[front.path.len()].next_at(&self.groves, trees, from)
             }
             None => from,
         }

@@ -27,8 +27,13 @@ pub(crate) const WIDER: usize = 32;
 /// lists are judged when all slots have a provider, as all are.
 pub(crate) const MOST_TESTS: usize = 19;
 
-/// How many pairs of a choice and a tree in which it is available are kept for a slot: two megabytes of them.
+/// How many pairs of a choice and a tree in which it is available are kept for a slot, or of a choice and a grove: two megabytes
+/// of them.
 pub(crate) const MOST_PAIRS: u64 = 1 << 18;
+
+/// How many groves are made; with as many, none is split any more. Each list makes one of its roots in each grove that it meets,
+/// so that more would be too many pairs.
+pub(crate) const MOST_GROVES: usize = 1 << 18;
 
 /// How many choices of the slots that a list of `same_subtree` names are kept by part: two megabytes of them.
 pub(crate) const MOST_PLACES: usize = 1 << 18;

@@ -18,7 +18,7 @@ use Rattle.ac_prune.specs.Loads.{pairs_of, is_much}
 use Rattle.ac_prune.specs.QuerySearch.{search_of}
 use Rattle.ac_prune.specs.Search.{IsDead}
 use Rattle.ac_prune.specs.Trees.{IsByTree}
-use Rattle.ac_prune.specs.declared.by_tree.ByTree.{ByTree}
+use Rattle.ac_prune.specs.declared.trees.by_tree.Places.{Places}
 use Rattle.ac_prune.specs.declared.ledger.Ledger.{Ledger}
 use Rattle.ac_prune.specs.declared.ledger.rooms.Ask.{Ask}
 use Rattle.ac_prune.proofs.Paths.BearLemmas.{pieces_bear}
@@ -57,11 +57,11 @@ unfolding hosts_of
 all_counted all f root from next old most h end none was = search (rules, load_to)
 
 -- the providers that the next place passes over aren't available at the root
-pub none_passed : (all : List Provider) (trees : ByTree) (root from next : ℕ) → root < length all → next ≤ trees.places.count → IsByTree all (range_with_len 0 trees.places.count) trees
-    → ((all : List Provider) (choices : List ℕ) → IsByTree all choices trees → (r i : ℕ) → is_there (root ∷ []) r ≡ true → r < length all → from ≤ i → i < next → is_available_at all (slice_index choices i) r ≡ false)
+pub none_passed : (all : List Provider) (groves : List ℕ) (trees : Places) (root from next : ℕ) → root < length all → next ≤ trees.count → IsByTree all (range_with_len 0 trees.count) groves trees
+    → ((all : List Provider) (choices : List ℕ) → IsByTree all choices groves trees → (r i : ℕ) → is_there (root ∷ []) r ≡ true → r < length all → from ≤ i → i < next → is_available_at all (slice_index choices i) r ≡ false)
     → (i : ℕ) → from ≤ i → i < next → is_available_at all i root ≡ false
-none_passed all trees root from next low within has passed i above less =
-    let same : slice_index (range_with_len 0 trees.places.count) i ≡ i = get_or-range_with_len 0 trees.places.count i 0 (omega (arith, less, within)) ∙ omega arith in
+none_passed all groves trees root from next low within has passed i above less =
+    let same : slice_index (range_with_len 0 trees.count) i ≡ i = get_or-range_with_len 0 trees.count i 0 (omega (arith, less, within)) ∙ omega arith in
     search (rules, eq-eqb)
 
 -- ---- What the later slots ask

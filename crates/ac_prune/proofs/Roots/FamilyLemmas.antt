@@ -12,7 +12,7 @@ use Rattle.ac_prune.specs.Families.{Names, IsFamily}
 use Rattle.ac_prune.specs.Ahead.Fronts.{LeadsNowhere}
 use Rattle.ac_prune.specs.Parts.{IsNamed, AreParts}
 use Rattle.ac_prune.specs.Trees.{IsByPart, AreByPart}
-use Rattle.ac_prune.specs.declared.by_tree.Places.{Places}
+use Rattle.ac_prune.specs.declared.trees.by_tree.Places.{Places}
 use Rattle.ac_prune.specs.declared.families.Family.{Family}
 use Rattle.ac_prune.specs.declared.front.Front.{Front}
 use Rattle.ac_prune.proofs.Paths.FrontLemmas.{listed_at}

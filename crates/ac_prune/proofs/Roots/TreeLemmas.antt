@@ -9,7 +9,7 @@ use Rattle.ac_cloud.specs.World.{Provider, is_available_at, anchors_of}
 use Rattle.ac_cloud.specs.Cloud.CloudWorld.{providers_of}
 use Rattle.ac_cloud.specs.declared.cloud.Cloud.{Cloud}
 use Rattle.ac_cloud.proofs.Places.CloudFacts.{size}
-use Rattle.ac_prune.specs.Trees.Keys.{is_there, IsUnder}
+use Rattle.ac_prune.specs.Trees.Keys.{key_of, is_there, IsUnder}
 use Rattle.ac_rules.proofs.Elements.{Among, among_filter}
 use Rattle.ac_rules.proofs.Lists.ListLemmas.{among_range}
 use Rattle.std.proofs.Common.{rules}
@@ -82,9 +82,15 @@ or_more true b d h = refl
 or_more false true d h = refl
 or_more false false d h = absurd (false≢true h)
 
--- one more key
-pub under_more : (xs ys : List ℕ) (wide tree place : ℕ) → ((x : ℕ) → is_there xs x ≡ true → is_there ys x ≡ true) → IsUnder xs wide tree place → IsUnder ys wide tree place
-under_more xs ys wide tree place more h = search rules
+-- more keys
+pub under_more : (xs ys : List ℕ) (grove tree place : ℕ) → ((x : ℕ) → is_there xs x ≡ true → is_there ys x ≡ true) → IsUnder xs grove tree place → IsUnder ys grove tree place
+under_more xs ys grove tree place more h = search rules
+
+-- a place that is put under some numbers
+pub under_put : (keys numbers : List ℕ) (grove tree place : ℕ) → is_there numbers tree || is_there numbers grove ≡ true → IsUnder (keys ++ map (λ n. key_of n place) numbers) grove tree place
+under_put keys numbers grove tree place h =
+    let put : (n : ℕ) → is_there numbers n ≡ true → is_there (keys ++ map (λ m. key_of m place) numbers) (key_of n place) ≡ true = λ n m. there_new keys _ _ (there_map (λ m. key_of m place) numbers n (key_of n place) m refl) in
+    elim (cases_Bool (is_there numbers tree)) [ inl e ↦ or_left _ _ (put tree e) | inr e ↦ or_right _ _ (put grove (rw e at h)) ]
 
 -- ---- The trees to which a front is bound
 

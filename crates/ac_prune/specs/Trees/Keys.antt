@@ -1,4 +1,4 @@
--- Numbers of a tree and a place, and how the next place of a tree is found.
+-- Numbers of a tree, or a grove, and a place, and how the next place of a tree is found.
 use Rattle.std.specs.Prelude.{◌≡◌, ℕ, ◌+◌, ◌-◌, ◌*◌, ◌<◌, ◌≤◌, ◌^◌, ◌==◌, ◌||◌, Bool, true, List}
 use Rattle.std.specs.List.{list_any}
 
@@ -10,9 +10,9 @@ key_of tree place = tree * 2 ^ 32 + place
 abbrev pub is_there : List ℕ → ℕ → Bool
 is_there numbers x = list_any (λ y. y == x) numbers
 
--- a place stands in a tree, or in the one that stands for any
+-- a place stands in a tree, or in its grove
 abbrev pub IsUnder : List ℕ → ℕ → ℕ → ℕ → Type 0
-IsUnder keys wide tree place = is_there keys (key_of tree place) || is_there keys (key_of wide place) ≡ true
+IsUnder keys grove tree place = is_there keys (key_of tree place) || is_there keys (key_of grove place) ≡ true
 
 -- the least of some numbers that isn't below a bound, or the greatest of all where there is none
 pub record IsLeastFrom (numbers : List ℕ) (bound found : ℕ) : Type 0 where

@@ -8,6 +8,6 @@ use Rattle.ac_prune.proofs.ahead.Ahead.pieces_left.Given as goal
 
 abbrev pub invariant-loop : goal.invariant-loop
 invariant-loop l = record {
-  within : l.from ≤ l.self.trees.places.count;
+  within : l.from ≤ l.self.trees.count;
   counted : min (load_of (λ p. left_in l.ledger p l.class / l.amount) (filter (λ p. is_available_at (providers_in l.ledger) p l.root) (range_with_len 0 l.from))) (2 ^ 64 - 1) ≤ l.pieces;
 }

@@ -2,11 +2,11 @@ use Rattle.std.proofs.Common.{◌≡◌, ◌<◌, ℕ, length, slice_index_or}
 use Rattle.ac_prune.specs.Left.Accounts.{providers_in}
 use Rattle.ac_prune.specs.Loads.{choice_in}
 use Rattle.ac_prune.specs.Trees.{IsByTree}
-use Rattle.ac_prune.specs.declared.by_tree.ByTree.{ByTree}
+use Rattle.ac_prune.specs.declared.trees.by_tree.Places.{Places}
 use Rattle.ac_prune.proofs.trees.Trees.new.Given as goal
 
 abbrev pub invariant-loop-s : goal.invariant-loop-s
 invariant-loop-s l = record {
   count : length l.slots.items ≡ l.s;
-  each : (s : ℕ) (d : ByTree) → 0 < s → s < l.s → IsByTree (providers_in l.choices.ledger.now) (choice_in l.choices.ledger.now s) (slice_index_or l.slots.items s d);
+  each : (s : ℕ) (d : Places) → 0 < s → s < l.s → IsByTree (providers_in l.choices.ledger.now) (choice_in l.choices.ledger.now s) l.groves.of_roots.items (slice_index_or l.slots.items s d);
 }

@@ -1,38 +1,29 @@
-//! Places by tree, or by part of the forest, of which the next one of a tree is found by binary search.
+//! Places by tree, by grove, or by part of the forest, of which the next one of a tree is found by binary search.
 
 ghost use Rattle.std.specs.Prelude.{◌≡◌, ◌+◌, ◌-◌, ◌*◌, ◌<◌, ◌≤◌, ◌^◌, ◌++◌, ◌||◌, ℕ, List, [], true, false, length, map, IfOk, MatchOption, slice_index, slice_index_or};
 ghost use Rattle.std.specs.List.{All, list_any};
-ghost use Rattle.ac_cloud.specs.Cloud.CloudWorld.{providers_of};
+ghost use Rattle.ac_cloud.specs.Cloud.CloudWorld.{providers_of, root_lists_of};
 ghost use Rattle.ac_cloud.specs.World.{Provider, is_available_at};
 ghost use Rattle.ac_prune.specs.Trees.Keys.{key_of, is_there, IsUnder, IsLeastFrom, IsNextIn};
 
+use crate::trees::groves::{Groves, grove_of};
 use crate::tuning::MOST_PAIRS;
 use ac_base::NoMemory;
 use ac_cloud::Cloud;
 use std::alloc::Global;
 
-/// Places of choices, each under the number of a tree or of a part, of which the next one under a number is found by binary
+/// Places of choices, each under the number of a tree, a grove or a part, of which the next one under a number is found by binary
 /// search.
 #[derive(Drop)]
 pub(crate) struct Places {
-    // A tree, or a part, and a place in it as one number; rising.
+    // A tree, a grove or a part, and a place in it as one number; rising.
     keys: Vec<u64>,
-    // Where to look first: by tree, or part, the first key under it or a later one. What is found there is checked.
+    // Where to look first: by tree, grove or part, the first key under it or a later one. What is found there is checked.
     first: Vec<usize>,
     // How many choices there are.
     pub(crate) count: usize,
     ghost rising: { (i j : ℕ) → i ≤ j → j < length keys.items → slice_index keys.items i ≤ slice_index keys.items j },
     ghost few: { count ≤ 65536 },
-}
-
-/// The places of a slot's choices by tree: each choice stands in each tree in which it is available, whose number is the place
-/// of its root. Where that would be too many pairs, those of several trees stand in one tree of their own, past all others.
-#[derive(Drop)]
-pub(crate) struct ByTree {
-    pub(crate) places: Places,
-    // The number of the tree of those whose trees aren't told apart.
-    wide: u32,
-    ghost last: { wide ≤ 65536 },
 }
 
 // A tree and a place as one number, so that places are in order tree by tree.
@@ -43,40 +34,16 @@ fn key(tree: u32, place: usize) -> u64
     u64::from(tree) * 4_294_967_296 + place as u64
 }
 
-// Adds a place under each of some trees.
-fn push_keys(keys: &mut Vec<u64>, trees: &[u32], place: usize) -> Result<(), NoMemory>
+// Adds a place under each of some trees or groves.
+fn push_keys(keys: &mut Vec<u64>, numbers: &[u32], place: usize) -> Result<(), NoMemory>
     requires { place < 2 ^ 32 }
     ensures { IfOk result (λ _. keys.new.items
-        ≡ keys.old.items ++ map (λ r. key_of r place) trees.now) }
+        ≡ keys.old.items ++ map (λ r. key_of r place) numbers.now) }
 {
-    for tree in trees {
-        keys.push(key(*tree, place))?;
+    for number in numbers {
+        keys.push(key(*number, place))?;
     }
     Ok(())
-}
-
-// Adds the place of a choice under each of its trees, or under the one past all others where they are more than so many.
-fn push_choice(
-    keys: &mut Vec<u64>,
-    cloud: &Cloud,
-    ix: u32,
-    place: usize,
-    most: usize,
-) -> Result<(), NoMemory>
-    requires choice { ix < length (providers_of cloud.now) }
-    requires place { place < 2 ^ 32 }
-    ensures kept { IfOk result (λ _. (x : ℕ) → is_there keys.old.items x ≡ true
-        → is_there keys.new.items x ≡ true) }
-    ensures placed { IfOk result (λ _. (r : ℕ) → r < length (providers_of cloud.now)
-        → is_available_at (providers_of cloud.now) ix r ≡ true
-        → IsUnder keys.new.items (length (providers_of cloud.now)) r place) }
-{
-    let trees = cloud.anchors(ix);
-    if trees.len() <= most {
-        push_keys(keys, trees, place)
-    } else {
-        Ok(keys.push(key(cloud.len(), place))?)
-    }
 }
 
 // Whether of some numbers those before a place are below a bound, and the one at the place isn't.
@@ -126,7 +93,7 @@ fn first_keys(alloc: Global, keys: &[u64]) -> Result<Vec<usize>, NoMemory> {
 }
 
 impl Places {
-    ghost use Rattle.ac_prune.specs.Trees.{IsByPart};
+    ghost use Rattle.ac_prune.specs.Trees.{AreGroves, IsByPart, IsByTree};
 
     // The places of so many choices, by their keys in any order.
     fn of_keys(alloc: Global, keys: Vec<u64>, count: usize) -> Result<Places, NoMemory>
@@ -182,17 +149,20 @@ impl Places {
         let least = least_from(&self.keys, bound, self.guess(tree, bound)) - key(tree, 0);
         least.min(self.count as u64) as usize
     }
-}
 
-impl ByTree {
-    ghost use Rattle.ac_prune.specs.Trees.{IsByTree, AreByTree};
-
-    /// The places of some choices by tree.
+    /// The places of some choices by tree, or by grove where they would be too many pairs.
     #[tactic(auto, using(crate::proofs::Roots::TreeLemmas::few_providers))]
-    pub(crate) fn new(alloc: Global, cloud: &Cloud, choices: &[u32]) -> Result<ByTree, NoMemory>
+    pub(crate) fn by_tree(
+        alloc: Global,
+        cloud: &Cloud,
+        groves: &Groves,
+        choices: &[u32],
+    ) -> Result<Places, NoMemory>
+        requires groves { AreGroves (root_lists_of cloud.now) groves.now }
         requires few { length choices.now ≤ length (providers_of cloud.now) }
         requires providers { All (λ p. p < length (providers_of cloud.now)) choices.now }
-        ensures { IfOk result (λ trees. IsByTree (providers_of cloud.now) choices.now trees) }
+        ensures { IfOk result (λ places. IsByTree (providers_of cloud.now) choices.now
+            groves.now.of_roots.items places) }
     {
         let mut pairs = 0u64;
         for ix in choices {
@@ -202,31 +172,32 @@ impl ByTree {
         let most = if pairs <= MOST_PAIRS { usize::MAX } else { 1 };
         let mut keys = Vec::new(alloc);
         for (place, ix) in choices.iter().enumerate() {
-            push_choice(&mut keys, cloud, *ix, place, most)?;
+            push_keys(&mut keys, groves.numbers(cloud, *ix, most), place)?;
         }
         let places = Places::of_keys(alloc, keys, choices.len())?;
-        Ok(ByTree {
-            places,
-            wide: cloud.len(),
-        })
+        Ok(places)
     }
 
-    /// The least place from one on whose choice may be available in one of some trees; past the end where there is none.
-    pub(crate) fn next(&self, trees: &[u32], from: usize) -> usize
-        requires { from ≤ self.now.places.count }
+    /// The least place from one on whose choice may be available in one of some trees, by the grove of each; past the end where
+    /// there is none.
+    pub(crate) fn next_at(&self, groves: &[u32], trees: &[u32], from: usize) -> usize
+        requires { from ≤ self.now.count }
         ensures kept { from ≤ result }
-        ensures within { result ≤ self.now.places.count }
-        ensures there { result < self.now.places.count
-            → (is_there self.now.places.keys.items (key_of self.now.wide result)
-            || list_any (λ r. is_there self.now.places.keys.items (key_of r result)) trees.now)
+        ensures within { result ≤ self.now.count }
+        ensures there { result < self.now.count
+            → list_any (λ r. is_there self.now.keys.items (key_of r result)
+            || is_there self.now.keys.items (key_of (slice_index groves.now r) result)) trees.now
             ≡ true }
-        ensures passed { (all : List Provider) (choices : List ℕ) → IsByTree all choices self.now
+        ensures passed { (all : List Provider) (choices : List ℕ)
+            → IsByTree all choices groves.now self.now
             → (r i : ℕ) → is_there trees.now r ≡ true → r < length all → from ≤ i → i < result
             → is_available_at all (slice_index choices i) r ≡ false }
     {
-        let mut least = self.places.next_in(self.wide, from);
+        let mut least = self.count;
         for tree in trees {
-            least = least.min(self.places.next_in(*tree, from));
+            let in_tree = self.next_in(*tree, from);
+            let in_grove = self.next_in(grove_of(groves, *tree), from);
+            least = least.min(in_tree).min(in_grove);
         }
         least
     }

@@ -1,6 +1,6 @@
 use Rattle.std.proofs.Common.{◌≡◌, ◌<◌, ◌-◌, ◌^◌, ℕ, true, subst, arith}
 use Rattle.ac_prune.specs.Trees.Keys.{key_of, is_there}
-use Rattle.ac_prune.proofs.by_tree.Places.next_in.Goals as goal
+use Rattle.ac_prune.proofs.trees.by_tree.Places.next_in.Goals as goal
 
 pub returns : goal.returns
 returns c = record {

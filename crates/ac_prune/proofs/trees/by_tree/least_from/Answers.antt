@@ -4,7 +4,7 @@ use Rattle.std.proofs.lemmas.List.{get_or_default}
 use Rattle.std.proofs.lemmas.List.Sorted.{searched}
 use Rattle.ac_prune.specs.Trees.Keys.{IsLeastFrom}
 use Rattle.ac_prune.proofs.Roots.TreeLemmas.{there_at, at_there}
-use Rattle.ac_prune.proofs.by_tree.least_from.Goals as goal
+use Rattle.ac_prune.proofs.trees.by_tree.least_from.Goals as goal
 
 -- where the numbers before a place are below a bound, and the one at the place isn't
 module _ (numbers : List ℕ) (bound at : ℕ) (rising : (i j : ℕ) → i ≤ j → j < length numbers → slice_index numbers i ≤ slice_index numbers j) (below : 0 < at → slice_index numbers (at - 1) < bound) where

@@ -2,7 +2,7 @@ use Rattle.std.proofs.Common.{inl, inr, ◌≡◌, ◌∙◌, ◌∷◌, [], ℕ
 use Rattle.std.proofs.lemmas.Bool.{cases_eq, eq-eqb}
 use Rattle.ac_prune.specs.Trees.Keys.{key_of, is_there}
 use Rattle.ac_prune.proofs.Roots.TreeLemmas.{there_new, there_old, or_left}
-use Rattle.ac_prune.proofs.by_tree.Places.by_part.Goals as goal
+use Rattle.ac_prune.proofs.trees.by_tree.Places.by_part.Goals as goal
 
 pub loop-place-preserved : goal.loop-place-preserved
 loop-place-preserved c = λ i h.

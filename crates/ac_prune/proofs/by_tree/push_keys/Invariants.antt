@@ -1,6 +1,0 @@
-use Rattle.std.proofs.Common.{◌≡◌, ◌++◌, map, take}
-use Rattle.ac_prune.specs.Trees.Keys.{key_of}
-use Rattle.ac_prune.proofs.by_tree.push_keys.Given as goal
-
-abbrev pub invariant-loop-tree : goal.invariant-loop-tree
-invariant-loop-tree l = l.keys.items ≡ l.fn.keys.items ++ map (λ r. key_of r l.place) (take l.tree-index l.trees)
