@@ -1,3 +1,4 @@
 -- What a search looks for, and what is open.
 pub mod SoughtLemmas
 pub mod OpenLemmas
+pub mod CollectiveLemmas

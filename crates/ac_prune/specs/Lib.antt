@@ -8,4 +8,5 @@ pub mod Ahead
 pub mod Loads
 pub mod Parts
 pub mod Families
+pub mod Collective
 pub mod Tests

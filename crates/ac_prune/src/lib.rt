@@ -6,6 +6,7 @@
 
 mod ahead;
 mod choices;
+mod collective;
 mod families;
 mod front;
 mod hosts;

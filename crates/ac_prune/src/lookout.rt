@@ -7,6 +7,7 @@ ghost use Rattle.ac_prune.specs.Tests.{AreTests, IsTest};
 
 use crate::ahead::Ahead;
 use crate::choices::Choices;
+use crate::collective::Collective;
 use crate::families::Family;
 use crate::front::Front;
 use crate::hosts::Hosts;
@@ -24,6 +25,7 @@ pub(crate) enum Test {
     Ahead(Ahead),
     Trees(Trees),
     Hosts(Hosts),
+    Collective(Collective),
     Family(Family),
 }
 
@@ -35,6 +37,7 @@ impl LookAhead for Test {
             Test::Ahead(test) => test.next(front, from),
             Test::Trees(test) => test.next(front, from),
             Test::Hosts(test) => test.next(front, from),
+            Test::Collective(test) => test.next(front, from),
             Test::Family(test) => test.next(front, from),
         }
     }
@@ -44,6 +47,7 @@ impl LookAhead for Test {
             Test::Ahead(test) => test.may_follow(front, provider),
             Test::Trees(test) => test.may_follow(front, provider),
             Test::Hosts(test) => test.may_follow(front, provider),
+            Test::Collective(test) => test.may_follow(front, provider),
             Test::Family(test) => test.may_follow(front, provider),
         }
     }
@@ -93,6 +97,7 @@ impl Lookout {
         tests.push(Test::Ahead(Ahead::new(alloc, ledger, &groves)?))?;
         tests.push(Test::Trees(Trees::new(alloc, &choices, groves)?))?;
         tests.push(Test::Hosts(Hosts::new(alloc, &choices)?))?;
+        tests.push(Test::Collective(Collective::new(alloc, &choices)?))?;
         for k in 0..ledger.query.subtrees().len() {
             push_family(alloc, &mut tests, &choices, k)?;
         }

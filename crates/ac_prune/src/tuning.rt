@@ -23,9 +23,13 @@ pub(crate) const FEWEST: usize = 8;
 /// narrowest instead: each may have to be looked up among the other's, which takes some sixteen steps.
 pub(crate) const WIDER: usize = 32;
 
-/// How many tests there are: three, and one for each of 16 lists of `same_subtree`, since such a test costs memory for every provider; further
+/// How many things that the group without a suffix requires of its providers together are looked at: a byte each for every
+/// provider.
+pub(crate) const MOST_WANTED: usize = 16;
+
+/// How many tests there are: four, and one for each of 16 lists of `same_subtree`, since such a test costs memory for every provider; further
 /// lists are judged when all slots have a provider, as all are.
-pub(crate) const MOST_TESTS: usize = 19;
+pub(crate) const MOST_TESTS: usize = 20;
 
 /// How many pairs of a choice and a tree in which it is available are kept for a slot, or of a choice and a grove: two megabytes
 /// of them.
