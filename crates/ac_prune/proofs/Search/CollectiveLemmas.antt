@@ -1,8 +1,8 @@
 -- What the group without a suffix requires of its providers together: where a walk can't bring it any more.
-use Rattle.std.proofs.Common.{◌≡◌, ◌∙◌, ℕ, ◌+◌, ◌-◌, ◌<◌, ◌≤◌, zero, suc, Bool, true, false, ◌&&◌, ◌||◌, List, [], ◌∷◌, ◌++◌, inl, inr, Option, Some, None, length, map, get_or, refl, sym, ap, ap₂, subst, arith, slice_index, slice_index_or, length-append, append_assoc}
-use Rattle.std.specs.List.{All, Contains, list_all, list_any, range_with_len, AllByRecursion as Each}
+use Rattle.std.proofs.Common.{◌≡◌, ◌∙◌, ℕ, ◌+◌, ◌-◌, ◌<◌, zero, suc, Bool, true, false, ◌&&◌, ◌||◌, List, [], ◌∷◌, ◌++◌, inl, inr, Option, None, length, map, refl, sym, ap, ap₂, subst, arith, slice_index, slice_index_or, append_assoc}
+use Rattle.std.specs.List.{Contains, list_all, list_any, range_with_len, AllByRecursion as Each}
 use Rattle.std.specs.Option.{is_none, is_some}
-use Rattle.std.proofs.lemmas.Bool.{cases_Bool, cases_lt, cases_eq, and_parts, and_from, false≢true, false_from_ne_true, or_left, or_right}
+use Rattle.std.proofs.lemmas.Bool.{cases_Bool, cases_lt, cases_eq, and_parts, false≢true, false_from_ne_true}
 use Rattle.std.proofs.lemmas.List.{get_or_append_left, get_or-append-add, length-map}
 use Rattle.std.proofs.lemmas.List.FromFn.{length-range_with_len}
 use Rattle.std.proofs.lemmas.List.Folds.{list_any_at}
@@ -10,12 +10,11 @@ use Rattle.std.proofs.lemmas.List.Elements.{recursion_from_All}
 use Rattle.ac_query.specs.Asked.{Asked, Group, Slot, slots_of}
 use Rattle.ac_cloud.specs.World.{Provider, provider_at, has_trait}
 use Rattle.ac_rules.specs.Judge.{is_candidate}
-use Rattle.ac_rules.specs.Lists.{IsListBelow}
 use Rattle.ac_rules.specs.Own.{has_any}
 use Rattle.ac_rules.specs.Placed.{Placed, placed, assigned, slot_at, no_slot}
 use Rattle.ac_rules.specs.Together.{are_brought, is_brought, is_one_brought, collective}
 use Rattle.ac_prune.specs.Collective.{IsAsked, IsWanted, IsGroupOf, Lacks}
-use Rattle.ac_prune.specs.QuerySearch.{completes, search_of}
+use Rattle.ac_prune.specs.QuerySearch.{search_of}
 use Rattle.ac_prune.specs.Search.{IsDead}
 use Rattle.ac_prune.specs.declared.collective.Wanted.{Wanted}
 use Rattle.ac_prune.proofs.Paths.LedgerLemmas.{mapped_at}

@@ -1,7 +1,6 @@
 use Rattle.std.proofs.Common.{◌≡◌, ◌∙◌, Bor, ap, arith, sym, true}
 use Rattle.std.specs.Str.{bytes_eq}
 use Rattle.std.proofs.lemmas.Slice.Eq.{bytes_eq-Decides}
-use Rattle.ac_query.specs.Asked.{slots_of}
 use Rattle.ac_rules.specs.Placed.{slot_at}
 use Rattle.ac_prune.specs.Left.Accounts.{providers_in, asked_in}
 use Rattle.ac_prune.specs.Loads.{choice_in}

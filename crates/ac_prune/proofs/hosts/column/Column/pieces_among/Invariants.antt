@@ -1,4 +1,4 @@
-use Rattle.std.proofs.Common.{◌≡◌, ◌<◌, ◌/◌, ℕ, length, slice_index}
+use Rattle.std.proofs.Common.{◌≡◌, ◌<◌, ◌/◌, ℕ, slice_index}
 use Rattle.ac_prune.specs.Loads.Kinds.{piece}
 use Rattle.ac_prune.proofs.hosts.column.Column.pieces_among.Given as goal
 
