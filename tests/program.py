@@ -17,9 +17,10 @@ from concurrent.futures import ThreadPoolExecutor
 
 sys.dont_write_bytecode = True
 HERE = os.path.dirname(os.path.abspath(__file__))
-sys.path += [os.path.join(os.path.dirname(HERE), 'tools'), *(os.path.join(HERE, folder) for folder in ('documents', 'release'))]
+sys.path += [os.path.join(os.path.dirname(HERE), 'tools'), *(os.path.join(HERE, folder) for folder in ('documents', 'limits', 'release'))]
 
 from cases import CHILD, ONE, SHARED, SMALL, SOME, Case, cuts, full, lines, tables
+from cliffs import cliffs
 from database import database_exports
 from examples import examples
 from export import exports
@@ -546,7 +547,7 @@ def main(*given):
     chance = [*drawn(150), *drawn_tables(200), *drawn_queries(200)]
     linked = STATIC if os.path.isfile(os.path.join(ROOT, 'out', 'ac_cli.o')) and 'AC_CLI' not in os.environ else []
     cases = [PAGES, CRATES, DRAWING, *linked, *HELP, *WORDS, *FILES, *FOLDERS, *DETAILS, *second_lines(), *PASTED, *DEVICES, *GROWTHS, KNOWN, *REFUSALS, *SMALL, *pages, remade('examples/private/README.md'),
-             *rules, *examples(), *concerned(), *exports(), *database_exports(), *sessions(PROGRAM), *chance, *LARGE, *hostile(PROGRAM), FEW_BYTES, *cuts()]
+             *rules, *examples(), *concerned(), *exports(), *database_exports(), *sessions(PROGRAM), *chance, *LARGE, *hostile(PROGRAM), *cliffs(PROGRAM), FEW_BYTES, *cuts()]
     cases = [case for case in cases if all(word in case.name for word in words)]
     failed = 0
     with ThreadPoolExecutor(max_workers=2) as pool:

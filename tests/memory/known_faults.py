@@ -11,7 +11,8 @@ import sys
 import tempfile
 from concurrent.futures import ThreadPoolExecutor
 
-sys.path.append(os.path.dirname(os.path.dirname(os.path.abspath(__file__))))
+TESTS = os.path.dirname(os.path.dirname(os.path.abspath(__file__)))
+sys.path += [TESTS, os.path.join(TESTS, 'limits')]
 
 from growths import MEMORY, refuser, run
 from large import MOST_PROVIDERS, ids, shuffled

@@ -1,5 +1,5 @@
 -- Of what a provider fails a test of its slot, or a root what the query asks of it: a class with its amount, a trait, an aggregate, a tree.
-use Rattle.std.specs.Prelude.{ℕ, ◌-◌, Bool, true, false, not, nat_lt, if◌then◌else◌, List, [], ◌∷◌, ◌++◌, codes, find, length, Option, None, Some}
+use Rattle.std.specs.Prelude.{ℕ, ◌-◌, Bool, true, false, not, nat_lt, if◌then◌else◌, List, [], ◌∷◌, ◌++◌, codes, find, length, take, Option, None, Some}
 use Rattle.std.specs.Fmt.{decimal}
 use Rattle.std.specs.List.{join_with_byte}
 use Rattle.std.specs.Option.{is_some, option_map_or}
@@ -55,9 +55,13 @@ missing_text name = name ++ codes " missing"
 abbrev pub forbidden_text : List ℕ → List ℕ
 forbidden_text name = name ++ codes " forbidden"
 
+-- how many more there are of so many, of which eight are told
+unfoldable pub more_text : ℕ → List ℕ
+more_text n = if nat_lt 8 n then codes " and " ++ (decimal (n - 8) ++ codes " more") else []
+
 -- traits of which one is asked
 unfoldable pub none_of_text : List (List ℕ) → List ℕ
-none_of_text names = codes "none of " ++ join_with_byte 44 names
+none_of_text names = codes "none of " ++ (join_with_byte 44 (take 8 names) ++ more_text (length names))
 
 -- a name of a list: behind a comma, but for the first
 abbrev pub part_text : ℕ → List ℕ → List ℕ
@@ -96,9 +100,9 @@ forbids_mark false = []
 abbrev pub list_mark : List ℕ → List ℕ
 list_mark ids = if nat_lt 1 (length ids) then codes "in:" else []
 
--- a rule as `member_of` is written
+-- a rule as `member_of` is written, with the first of a long list
 abbrev pub rule_text : AggregateRule → List ℕ
-rule_text rule = codes "member_of=" ++ (forbids_mark rule.forbids ++ (list_mark rule.ids ++ ids_text rule.ids))
+rule_text rule = codes "member_of=" ++ (forbids_mark rule.forbids ++ (list_mark rule.ids ++ (ids_text (take 8 rule.ids) ++ more_text (length rule.ids))))
 
 -- the first rule that isn't met
 abbrev pub first_unmet : List Provider → Placed → List AggregateRule → Option AggregateRule

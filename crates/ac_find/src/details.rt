@@ -1,13 +1,13 @@
 //! Of what a provider fails a test of its slot, in words: the first thing in the order in which the query keeps it. Nothing where it
 //! passes the test.
-ghost use Rattle.std.specs.Prelude.{◌≡◌, IfOk, map, string_bytes};
+ghost use Rattle.std.specs.Prelude.{◌≡◌, IfOk, map, string_bytes, take};
 ghost use Rattle.std.specs.Option.{option_map};
 ghost use Rattle.ac_cloud.specs.World.{provider_at, used_of};
 ghost use Rattle.ac_cloud.specs.Cloud.CloudWorld.{providers_of};
 ghost use Rattle.ac_query.specs.Shown.Groups.{need_entry, rule_shown};
 ghost use Rattle.ac_rules.specs.Own.{inventory_of};
 ghost use Rattle.ac_rules.specs.Shown.Assignments.{placed_of};
-ghost use Rattle.ac_find.specs.Details.{aggregates_detail, first_short, first_unadmitted, first_unmet, forbids_mark, list_mark, none_text, room_detail, room_text, rule_text, tree_detail, units_detail, units_text};
+ghost use Rattle.ac_find.specs.Details.{aggregates_detail, first_short, first_unadmitted, first_unmet, forbids_mark, list_mark, more_text, none_text, room_detail, room_text, rule_text, tree_detail, units_detail, units_text};
 
 pub(crate) mod traits;
 
@@ -108,6 +108,25 @@ pub fn room_detail(alloc: Global, placed: &Placed) -> Result<String, NoMemory>
     }
 }
 
+/// The first items of a list, which are told; of further ones it is told how many there are.
+pub(crate) fn told<X>(items: &[X]) -> &[X]
+    ensures { result.now ≡ take 8 items.now }
+{
+    if items.len() > 8 { &items[..8] } else { items }
+}
+
+/// How many more there are of so many, of which the first are told.
+#[tactic(auto, unfolding(crate::specs::Details::more_text))]
+pub(crate) fn more_text(alloc: Global, count: usize) -> Result<String, NoMemory>
+    ensures { IfOk result (λ text. string_bytes text ≡ more_text count) }
+{
+    if count <= 8 {
+        return Ok(String::new(alloc));
+    }
+    let more = count - 8;
+    Ok(format!(in alloc; " and {more} more")?)
+}
+
 fn forbids_mark(forbids: bool) -> &'static str
     ensures { result.now ≡ forbids_mark forbids }
 {
@@ -121,14 +140,15 @@ fn list_mark(ids: &[Id]) -> &'static str
     if ids.len() > 1 { "in:" } else { "" }
 }
 
-// A rule as `member_of` is written.
+// A rule as `member_of` is written, with the first of a long list.
 fn rule_text(alloc: Global, rule: &AggregateRule) -> Result<String, NoMemory>
     ensures { IfOk result (λ text. string_bytes text ≡ rule_text (rule_shown rule.now)) }
 {
     let forbids = forbids_mark(rule.forbids());
     let list = list_mark(rule.ids());
-    let ids = write_ids(alloc, rule.ids())?;
-    Ok(format!(in alloc; "member_of={forbids}{list}{ids}")?)
+    let ids = write_ids(alloc, told(rule.ids()))?;
+    let more = more_text(alloc, rule.ids().len())?;
+    Ok(format!(in alloc; "member_of={forbids}{list}{ids}{more}")?)
 }
 
 // The first rule that isn't met.

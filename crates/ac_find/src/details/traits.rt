@@ -1,5 +1,6 @@
 //! Which trait a provider lacks, and which it may not have.
 ghost use Rattle.std.specs.Prelude.{◌≡◌, ◌++◌, IfOk, OnOk, map, string_bytes};
+ghost use Rattle.std.specs.List.{join_with_byte};
 ghost use Rattle.std.specs.Option.{option_map};
 ghost use Rattle.ac_base.specs.Names.{trait_bytes};
 ghost use Rattle.ac_cloud.specs.Providers.{provider_of};
@@ -10,6 +11,7 @@ ghost use Rattle.ac_query.specs.Shown.Queries.{asked_of};
 ghost use Rattle.ac_rules.specs.Shown.Assignments.{placed_of};
 ghost use Rattle.ac_find.specs.Details.{choice_detail, disabled_note, first_had, first_missing, first_unserved, forbidden_detail, forbidden_text, missing_text, none_of_text, part_text, required_detail, root_detail, root_forbidden_detail, root_forbidden_text, traits_detail};
 
+use crate::details::{more_text, told};
 use ac_base::{NoMemory, TraitName};
 use ac_cloud::Provider;
 use ac_query::{AnyOf, Group, Query};
@@ -44,16 +46,26 @@ pub(crate) fn push_part(text: &mut String, place: usize, name: &str) -> Result<(
     Ok(())
 }
 
-/// Traits of which one is asked.
+// Adds the names of a list, one behind another.
+fn push_names(text: &mut String, names: &[TraitName]) -> Result<(), NoMemory>
+    ensures { OnOk result (string_bytes text.new ≡ string_bytes text.old
+        ++ join_with_byte 44 (map trait_bytes names.now)) }
+{
+    for (place, name) in names.iter().enumerate() {
+        push_part(text, place, name.text())?;
+    }
+    Ok(())
+}
+
+/// Traits of which one is asked: the first of a long list.
 #[tactic(auto, unfolding(crate::specs::Details::none_of_text))]
 pub(crate) fn none_of_text(alloc: Global, names: &[TraitName]) -> Result<String, NoMemory>
     ensures { IfOk result (λ text. string_bytes text
         ≡ none_of_text (map trait_bytes names.now)) }
 {
     let mut text = String::from_str(alloc, "none of ")?;
-    for (place, name) in names.iter().enumerate() {
-        push_part(&mut text, place, name.text())?;
-    }
+    push_names(&mut text, told(names))?;
+    text.push_str(&more_text(alloc, names.len())?)?;
     Ok(text)
 }
 

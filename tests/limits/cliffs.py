@@ -1,0 +1,105 @@
+"""Clouds on which a search tries many choices, unless it looks ahead; each answer follows from the rules. The program must answer each within two seconds of
+processor time and 2 GiB of memory."""
+from __future__ import annotations
+
+from cases import Case
+from hostile import LIMITED
+from large import ids, star
+from notation import HEADERS, provider
+
+
+def inventories(rows):
+    """Rows of a provider, a class and how much it has."""
+    return HEADERS['inventories'] + ''.join(f'{id},{name},{total},0,1,{total},1,1.0\n' for id, name, total in rows)
+
+
+def traits(rows):
+    return HEADERS['traits'] + ''.join(f'{id},{name}\n' for id, name in rows)
+
+
+def trees(number, size):
+    """So many trees: for each the root and its children."""
+    names = iter(ids(number * (size + 1)))
+    return [[next(names) for _ in range(size + 1)] for _ in range(number)]
+
+
+def providers(all_trees):
+    return HEADERS['providers'] + ''.join(f'{id},{tree[0]},{tree[0] if id != tree[0] else ""}\n' for tree in all_trees for id in tree)
+
+
+def groups(first, last, asked):
+    return '&'.join(asked.format(n) for n in range(first, last + 1))
+
+
+def parts(items, size):
+    """The items, so many at a time, with commas between; without a rest."""
+    return [','.join(items[at:at + size]) for at in range(0, len(items) - size + 1, size)]
+
+
+# Ten hosts of 24 virtual functions, three of each host on the second network: four groups for that one fit nowhere.
+NETWORKS = trees(10, 24)
+FUNCTIONS = {
+    'providers': lambda: providers(NETWORKS),
+    'inventories': lambda: inventories((id, 'SRIOV_NET_VF', 8) for tree in NETWORKS for id in tree[1:]),
+    'traits': lambda: traits((id, f'CUSTOM_NET{1 + (place < 3)}') for tree in NETWORKS for place, id in enumerate(tree[1:])),
+}
+ONE_NETWORK = 'resources{0}=SRIOV_NET_VF:1&required{0}=CUSTOM_NET1'
+OTHER_NETWORK = 'resources{0}=SRIOV_NET_VF:1&required{0}=CUSTOM_NET2'
+TOO_MANY = groups(10, 15, ONE_NETWORK) + '&' + groups(20, 23, OTHER_NETWORK) + '&group_policy=isolate'
+
+# A node that has the first of five classes alone, with the required trait, before 64 that have all of them.
+NODES = trees(1, 65)[0]
+CLASSES = [f'CUSTOM_{letter}' for letter in 'ABCDE']
+LONE_GIVER = {
+    'providers': lambda: star(66),
+    'inventories': lambda: inventories([*((id, name, 8) for id in NODES[1:-1] for name in CLASSES), (NODES[-1], CLASSES[0], 8)]),
+    'traits': lambda: traits([(NODES[-1], 'CUSTOM_T')]),
+}
+ALL_CLASSES = 'resources=' + ','.join(f'{name}:1' for name in CLASSES) + '&required=CUSTOM_T&limit=1'
+
+# One host of ten nodes; 300 hosts of 32 devices; 500 nodes of eight units each.
+TEN = trees(1, 10)
+DEVICES = trees(300, 32)
+STAR = trees(1, 500)
+
+
+def filled(all_trees, name, total):
+    return {'providers': lambda: providers(all_trees),
+            'inventories': lambda: inventories((id, name, total) for tree in all_trees for id in tree[1:])}
+
+
+# Ten zones of 100 disks, each shared by the 400 hosts of its zone, and hosts before disks: each host with each disk of its zone.
+HOSTS = ids(4000)
+DISKS = [provider(n) for n in range(4001, 5001)]
+SHARED_BY_ZONES = {
+    'providers': lambda: HEADERS['providers'] + ''.join(f'{id},{id},\n' for id in HOSTS + DISKS),
+    'inventories': lambda: inventories([*((id, 'CUSTOM_CPU', 8) for id in HOSTS), *((id, 'DISK_GB', 100) for id in DISKS)]),
+    'traits': lambda: traits((id, 'MISC_SHARES_VIA_AGGREGATE') for id in DISKS),
+    'aggregates': lambda: HEADERS['aggregates'] + ''.join(f'{id},{provider(0xa0000 + place % 10)}\n' for all_ids in (HOSTS, DISKS)
+                                                          for place, id in enumerate(all_ids)),
+}
+
+# What is asked of which cloud, and the lines.
+ASKED = [
+    ('more groups on a network than it has functions', FUNCTIONS, ['tokens', TOO_MANY], lambda: []),
+    ('more groups on a network than it has functions, hosts', FUNCTIONS, ['hosts', TOO_MANY], None),
+    ('a trait that one node alone gives', LONE_GIVER, ['tokens', ALL_CLASSES], lambda: [','.join([NODES[-1], *[NODES[1]] * 4])]),
+    ('eight groups on ten nodes again and again', filled(TEN, 'VCPU', 8),
+     ['fill', groups(1, 8, 'resources{}=VCPU:1') + '&group_policy=none'], lambda: [','.join([id] * 8) for id in TEN[0][1:]]),
+    ('four devices of 300 hosts of 32', filled(DEVICES, 'CUSTOM_PCI', 1),
+     ['fill', groups(1, 4, 'resources{}=CUSTOM_PCI:1') + '&group_policy=isolate'], lambda: [line for tree in DEVICES for line in parts(tree[1:], 4)]),
+    ('three of 500 nodes', filled(STAR, 'VCPU', 8),
+     ['fill', groups(1, 3, 'resources{}=VCPU:5') + '&group_policy=none'], lambda: parts(STAR[0][1:], 3)),
+    ('disks of zones behind their hosts', SHARED_BY_ZONES, ['tokens', 'resources=CUSTOM_CPU:1,DISK_GB:1&limit=20000'],
+     lambda: [f'{host},{disk}' for place, host in enumerate(HOSTS[:200]) for disk in DISKS[place % 10::10]]),
+]
+
+
+def cliffs(program):
+    """The cases, each of which runs this program."""
+    limited = ['sh', '-c', LIMITED.format(1), 'limited', program]
+    for name, cloud, words, made in ASKED:
+        if made is None:
+            yield Case(f'looked ahead: {name}', [*limited, *words], None, None, 1, cloud)
+        else:
+            yield Case(f'looked ahead: {name}', [*limited, *words], ''.join(f'{line}\n' for line in made()), tables=cloud)
