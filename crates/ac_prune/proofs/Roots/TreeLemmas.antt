@@ -77,11 +77,6 @@ pub or_none : (b : Bool) → (b || false) ≡ true → b ≡ true
 or_none true h = refl
 or_none false h = absurd (false≢true h)
 
-pub or_more : (a b d : Bool) → (a || b) ≡ true → (a || (b || d)) ≡ true
-or_more true b d h = refl
-or_more false true d h = refl
-or_more false false d h = absurd (false≢true h)
-
 -- more keys
 pub under_more : (xs ys : List ℕ) (grove tree place : ℕ) → ((x : ℕ) → is_there xs x ≡ true → is_there ys x ≡ true) → IsUnder xs grove tree place → IsUnder ys grove tree place
 under_more xs ys grove tree place more h = search rules

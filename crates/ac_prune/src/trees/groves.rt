@@ -159,9 +159,12 @@ impl Groves {
             ≡ true }
     {
         let trees = cloud.anchors(ix);
+        if trees.len() <= most {
+            return trees;
+        }
         match cloud.root_list(ix) {
-            Some(list) if trees.len() > most => &self.of_lists[list as usize],
-            _ => trees,
+            Some(list) => &self.of_lists[list as usize],
+            None => trees,
         }
     }
 }

@@ -12,8 +12,8 @@ returns-in-Some c = λ r low here.
     let among = subst (λ (groves : Vec ℕ). is_there groves.items grove ≡ true) (sym c.index.ensures) (c.requires.groves.each c.in-Some.list c.index.result.now c.in-Some.ensures.0 r listed) in
     rw c.deref.ensures.value (or_right _ _ among)
 
-pub returns-in_default : goal.returns-in_default
-returns-in_default c = λ r low here. rw c.anchors-trees.ensures (or_left _ _ (anchor_there (providers_of c.args.cloud.now) c.args.ix r low here))
+pub returns-then-trees-most : goal.returns-then-trees-most
+returns-then-trees-most c = λ r low here. rw c.anchors-trees.ensures (or_left _ _ (anchor_there (providers_of c.args.cloud.now) c.args.ix r low here))
 
-pub returns-in_default-2 : goal.returns-in_default-2
-returns-in_default-2 c = λ r low here. rw c.anchors-trees.ensures (or_left _ _ (anchor_there (providers_of c.args.cloud.now) c.args.ix r low here))
+pub returns-in-None : goal.returns-in-None
+returns-in-None c = λ r low here. rw c.anchors-trees.ensures (or_left _ _ (anchor_there (providers_of c.args.cloud.now) c.args.ix r low here))
