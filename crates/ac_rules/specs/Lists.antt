@@ -1,5 +1,5 @@
 -- Lists of numbers: their order, all of them, and the first of some.
-use Rattle.std.specs.Prelude.{◌≡◌, ◌<◌, ◌&&◌, ◌||◌, ◌==◌, nat_lt, ℕ, zero, suc, Bool, true, false, List, [], ◌∷◌, map, length, Option, Some, None, ⊤}
+use Rattle.std.specs.Prelude.{◌≡◌, ◌<◌, ◌&&◌, ◌||◌, ◌==◌, nat_lt, ℕ, zero, suc, Bool, true, false, List, [], ◌∷◌, ◌++◌, map, length, Option, Some, None, ⊤}
 use Rattle.std.specs.List.{flat_map, range_with_len, All, AllByRecursion}
 
 -- one list is before another, item by item; a front of a list is before it
@@ -32,3 +32,11 @@ pub record IsListBelow (n k : ℕ) (t : List ℕ) : Type 0 where
 abbrev pub IsRising : List (List ℕ) → Type 0
 IsRising [] = ⊤
 IsRising (x ∷ xs) = AllByRecursion (λ y. lex_lt x y ≡ true) xs × IsRising xs
+
+-- a list begins with another
+abbrev pub BeginsWith : List ℕ → List ℕ → Type 0
+BeginsWith t front = (more : List ℕ) × (t ≡ front ++ more)
+
+-- of some lists the first ones are passed over, each of which begins with a front
+abbrev pub PassesOver : List ℕ → List (List ℕ) → List (List ℕ) → Type 0
+PassesOver front old new = (gone : List (List ℕ)) × (old ≡ gone ++ new) × AllByRecursion (λ t. BeginsWith t front) gone

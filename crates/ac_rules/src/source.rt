@@ -1,10 +1,9 @@
 //! What gives lists of providers, one after another.
-ghost use Rattle.std.specs.Prelude.{◌≡◌, ◌++◌, ℕ, Bool, List, Option, ⊤, false};
-ghost use Rattle.std.specs.List.{filter};
+ghost use Rattle.std.specs.Prelude.{◌≡◌, ℕ, List, Option, ⊤};
 ghost use Rattle.std.specs.Borrow.{sem};
 ghost use Rattle.std.specs.Option.{option_copied};
 ghost use Rattle.std.specs.Io.BufRead.{Rests};
-ghost use Rattle.ac_rules.specs.Lists.{head_of, tail_of};
+ghost use Rattle.ac_rules.specs.Lists.{PassesOver, head_of, tail_of};
 
 /// A source of lists of providers, which gives one after another and lends each.
 pub trait Source {
@@ -20,10 +19,8 @@ pub trait Source {
         ensures* tail { sem 𝓛 (Rests Self.row self.entry (λ new.
             (left new ≡ tail_of (left self.old)) × moves self.old (option_copied result) new)) };
 
-    /// Passes over lists that are left and begin as given, all of them or some.
+    /// Passes over the lists that come next and begin as given: all of them, some, or none.
     fn skip(&mut self, front: &[u32])
-        ensures { (test : List ℕ → Bool) → ((more : List ℕ) → test (front.now ++ more) ≡ false)
-            → filter test (left self.new) ≡ filter test (left self.old) }
-    {
-    }
+        ensures { PassesOver front.now (left self.old) (left self.new) }
+    {}
 }

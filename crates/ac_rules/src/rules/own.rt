@@ -2,7 +2,7 @@
 
 ghost use Rattle.std.specs.Prelude.{◌≡◌, ◌<◌};
 ghost use Rattle.std.specs.List.{list_any};
-ghost use Rattle.ac_cloud.specs.World.{provider_at};
+ghost use Rattle.ac_cloud.specs.World.{is_member, provider_at, root_provider};
 ghost use Rattle.ac_cloud.specs.Cloud.CloudWorld.{providers_of};
 ghost use Rattle.ac_query.specs.Shown.Groups.{need_entry, rule_shown};
 ghost use Rattle.ac_rules.specs.Own.{inventory_of, admits, units_fit, traits_fit, counts_in, meets_rule, aggregates_fit, tree_fits, fits};
@@ -47,15 +47,29 @@ impl<'a> Placed<'a> {
             && (group.suffix().is_none() || has_required(&provider, group))
     }
 
+    // Whether one of the aggregates is the provider's own.
+    fn has_own_of(&self, ids: &[Id]) -> bool
+        ensures { result ≡ list_any (is_member
+            (provider_at (providers_of self.now.cloud.now) self.now.provider)) ids.now }
+    {
+        self.its_provider().in_any_aggregate(ids)
+    }
+
+    // Whether one of the aggregates is its root's own.
+    fn has_roots_of(&self, ids: &[Id]) -> bool
+        ensures { result ≡ list_any (is_member (root_provider (providers_of self.now.cloud.now)
+            (provider_at (providers_of self.now.cloud.now) self.now.provider))) ids.now }
+    {
+        self.its_provider().root().in_any_aggregate(ids)
+    }
+
     // Whether one of the aggregates counts as the provider's: it is its own, or in the unsuffixed group its root's.
     fn counts_in_any(&self, ids: &[Id]) -> bool
         ensures { result
             ≡ list_any (λ a. counts_in (providers_of self.now.cloud.now) (placed_of self.now) a)
             ids.now }
     {
-        let provider = self.its_provider();
-        provider.in_any_aggregate(ids)
-            || (!is_suffixed(self.query, self.slot) && provider.root().in_any_aggregate(ids))
+        self.has_own_of(ids) || (!is_suffixed(self.query, self.slot) && self.has_roots_of(ids))
     }
 
     /// Whether a rule on aggregates is met.
