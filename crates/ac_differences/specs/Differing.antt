@@ -113,9 +113,13 @@ fits_with_its_root all x =
     && not (are_met_by (provider_at all x.provider) x.slot.group)
     && not (are_met_by (root_provider all (provider_at all x.provider)) x.slot.group)
 
--- a sharing provider with what is asked, and outside the aggregates of a rule that forbids
+-- a sharing provider with what is asked, wherever it stands
+abbrev pub has_to_lend : List Provider → Placed → Bool
+has_to_lend all x = shares (provider_at all x.provider) && units_fit all x && traits_fit all x
+
+-- such a provider outside the aggregates of a rule that forbids
 abbrev pub lends_outside : List Provider → AggregateRule → Placed → Bool
-lends_outside all rule x = shares (provider_at all x.provider) && units_fit all x && traits_fit all x && is_met_by (provider_at all x.provider) rule
+lends_outside all rule x = has_to_lend all x && is_met_by (provider_at all x.provider) rule
 
 -- some root is in one of the aggregates
 abbrev pub has_root_in : List Provider → List ℕ → Bool

@@ -1,12 +1,13 @@
 -- How far the providers of a root come in a slot, and the first slot that none of them serves.
-use Rattle.std.proofs.Common.{inl, inr, ◌≡◌, ◌∙◌, ◌<◌, ◌≤◌, ℕ, zero, suc, ◌+◌, Bool, true, false, ◌&&◌, ◌||◌, List, [], ◌∷◌, ◌++◌, length, map, nat_lt, slice_index, slice_index_or, slice_set, Option, Some, None, refl, sym, subst, ap, ap₂, arith, add-one}
+use Rattle.std.proofs.Common.{inl, inr, ◌≡◌, ◌∙◌, ◌<◌, ◌≤◌, ℕ, zero, suc, ◌+◌, Bool, true, false, ◌&&◌, ◌||◌, ◌==◌, List, [], ◌∷◌, ◌++◌, length, map, nat_lt, get_or, replicate, slice_index, slice_index_or, slice_set, Option, Some, None, refl, sym, subst, ap, ap₂, arith, add-one}
 use Rattle.std.specs.Prelude.{cond, take}
 use Rattle.std.specs.List.{filter, list_any, range_with_len}
 use Rattle.std.specs.Option.{option_map, option_or}
-use Rattle.std.proofs.lemmas.Bool.{cases_Bool, cases_lt}
-use Rattle.std.proofs.lemmas.List.{get_or-set_other, get_or-set_same}
+use Rattle.std.proofs.lemmas.Bool.{cases_Bool, cases_eq, cases_lt}
+use Rattle.std.proofs.lemmas.List.{get_or-replicate, get_or-set_other, get_or-set_same, get_or_past, length-replicate}
 use Rattle.std.proofs.lemmas.Bool.Decides.{nat_tests}
 use Rattle.std.proofs.lemmas.List.FromFn.{fill_by_all, get_or-map-range_with_len, length-map-range_with_len}
+use Rattle.ac_base.proofs.Sorted.SearchFacts.{no_any}
 use Rattle.ac_query.specs.Asked.{Asked, Slot, slots_of}
 use Rattle.ac_cloud.specs.World.{Provider, is_available_at, anchors_of}
 use Rattle.ac_rules.specs.Placed.{Placed, no_slot}
@@ -16,11 +17,11 @@ use Rattle.ac_prune.specs.Trees.Keys.{is_there}
 use Rattle.ac_find.specs.Explained.{holds_required, in_slot, meets_units, meets_traits, meets_aggregates, meets_tree, meets_room}
 use Rattle.ac_prune.specs.Fitting.{fits_at}
 use Rattle.ac_find.specs.Lacking.{first_lack, first_unserved, lack_at, unreached}
-use Rattle.ac_find.specs.Shown.Lacking.{AreNoted, AreReached, lack_behind, passes, stage_behind, unserved}
+use Rattle.ac_find.specs.Shown.Lacking.{AreNoted, AreReached, is_listed, lack_behind, passes, stage_behind, unserved}
 use Rattle.ac_find.specs.declared.lacks.Lack.{Lack}
 use Rattle.ac_find.specs.declared.lacks.Lack.TheVariants as lack
 use Rattle.ac_prune.proofs.Roots.TreeLemmas.{anchor_there}
-use Rattle.ac_prune.proofs.Search.OpenLemmas.{choice_more}
+use Rattle.ac_prune.proofs.Search.OpenLemmas.{choice_more, range_with_len_more}
 
 -- ---- One more provider
 
@@ -58,19 +59,81 @@ pass_each all x met a b c d e (suc (suc (suc (suc zero)))) h = e
 pass_each all x met a b c d e (suc (suc (suc (suc (suc k))))) h = absurd (omega (arith, h))
 
 -- one more provider comes so far at the roots where it is available
-pub reached_more : (all : List Provider) (slot : Slot) (k p r met old new : ℕ) → r < length all → nat_lt k met ≡ passes k all (in_slot slot p)
-    → nat_lt k old ≡ list_any (λ p. passes k all (in_slot slot p)) (filter (λ p. is_available_at all p r) (range_with_len 0 p))
-    → nat_lt k new ≡ (nat_lt k old || (is_there (anchors_of all p) r && nat_lt k met))
-    → nat_lt k new ≡ list_any (λ p. passes k all (in_slot slot p)) (filter (λ p. is_available_at all p r) (range_with_len 0 (p + 1)))
+pub reached_more : (all : List Provider) (slot : Slot) (k p r met : ℕ) (old new : Bool) → r < length all → nat_lt k met ≡ passes k all (in_slot slot p)
+    → old ≡ list_any (λ p. passes k all (in_slot slot p)) (filter (λ p. is_available_at all p r) (range_with_len 0 p))
+    → new ≡ (old || (is_there (anchors_of all p) r && nat_lt k met))
+    → new ≡ list_any (λ p. passes k all (in_slot slot p)) (filter (λ p. is_available_at all p r) (range_with_len 0 (p + 1)))
 reached_more all slot k p r met old new low here was is =
     is ∙ (ap₂ (λ a b. a || b) was (ap₂ (λ a b. a && b) (there_anchor all p r low) here) ∙ sym (any_more (λ p. passes k all (in_slot slot p)) (λ p. is_available_at all p r) p))
 
 -- all providers
-pub reached_all : (all : List Provider) (slot : Slot) (k n r passed : ℕ) → n ≡ length all
-    → nat_lt k passed ≡ list_any (λ p. passes k all (in_slot slot p)) (filter (λ p. is_available_at all p r) (range_with_len 0 n))
-    → nat_lt k passed ≡ list_any (λ p. passes k all (in_slot slot p)) (hosts_of all r)
+pub reached_all : (all : List Provider) (slot : Slot) (k n r : ℕ) (passed : Bool) → n ≡ length all
+    → passed ≡ list_any (λ p. passes k all (in_slot slot p)) (filter (λ p. is_available_at all p r) (range_with_len 0 n))
+    → passed ≡ list_any (λ p. passes k all (in_slot slot p)) (hosts_of all r)
 unfolding hosts_of
-reached_all all slot k n r passed end h = subst (λ (m : ℕ). nat_lt k passed ≡ list_any (λ p. passes k all (in_slot slot p)) (filter (λ p. is_available_at all p r) (range_with_len 0 m))) end h
+reached_all all slot k n r passed end h = subst (λ (m : ℕ). passed ≡ list_any (λ p. passes k all (in_slot slot p)) (filter (λ p. is_available_at all p r) (range_with_len 0 m))) end h
+
+-- ---- Lists of roots
+
+-- one more list
+pub listed_more : (f : ℕ → Bool) (n : ℕ) → list_any f (range_with_len 0 (n + 1)) ≡ list_any f (range_with_len 0 n) || f n
+listed_more f n = ap (list_any f) (range_with_len_more 0 n) ∙ (any_append f (range_with_len 0 n) ((0 + n) ∷ []) ∙ ap (λ b. list_any f (range_with_len 0 n) || b) (last (0 + n) n (omega arith)))
+  where
+    last : (m n : ℕ) → m ≡ n → (f m || false) ≡ f n
+    last m n e = rw e (grind arith)
+
+zero_at : (n k : ℕ) → slice_index (replicate n 0) k ≡ 0
+zero_at n k = elim (cases_lt k n) [ inl h ↦ get_or-replicate n k 0 0 h | inr h ↦ get_or_past (replicate n 0) k 0 (omega (arith, h, length-replicate {A = ℕ} n 0)) ]
+
+-- nothing is reached yet
+pub none_reached : (k r m : ℕ) (lists : List (List ℕ)) (reached : List ℕ) (passed : ℕ) → passed ≡ 0 → reached ≡ replicate m 0 → (nat_lt k passed || is_listed k lists reached r) ≡ false
+none_reached k r m lists reached passed zero_passed zeros =
+    let few : nat_lt k 0 ≡ false = grind (arith, nat_tests) in
+    let none : is_listed k lists (replicate m 0) r ≡ false =
+    no_any (λ j. is_there (get_or lists j []) r && nat_lt k (slice_index (replicate m 0) j)) (range_with_len 0 (length lists)) (λ i d low.
+    let zero_there : slice_index (replicate m 0) (get_or (range_with_len 0 (length lists)) i d) ≡ 0 = zero_at m (get_or (range_with_len 0 (length lists)) i d) in
+    ap (λ (n : ℕ). is_there (get_or lists (get_or (range_with_len 0 (length lists)) i d) []) r && nat_lt k n) zero_there ∙ and_none (is_there (get_or lists (get_or (range_with_len 0 (length lists)) i d) []) r) (nat_lt k 0) few) in
+    rw (zero_passed, zeros) (or_none (nat_lt k 0) (is_listed k lists (replicate m 0) r) few none)
+  where
+    or_none : (a b : Bool) → a ≡ false → b ≡ false → (a || b) ≡ false
+    or_none a b p q = rw (p, q) refl
+
+    and_none : (a b : Bool) → b ≡ false → (a && b) ≡ false
+    and_none a b q = rw q (grind arith)
+
+-- one of some lists is raised
+raised_next : (here old new : ℕ → Bool) (i : ℕ) (b : Bool) (n : ℕ) → new n ≡ (old n || ((i == n || false) && b))
+    → list_any (λ j. here j && new j) (range_with_len 0 n) ≡ (list_any (λ j. here j && old j) (range_with_len 0 n) || (nat_lt i n && here i && b))
+    → list_any (λ j. here j && new j) (range_with_len 0 (n + 1)) ≡ (list_any (λ j. here j && old j) (range_with_len 0 (n + 1)) || (nat_lt i (n + 1) && here i && b))
+raised_next here old new i b n last less =
+    let were = listed_more (λ j. here j && old j) n in
+    let are = listed_more (λ j. here j && new j) n in
+    elim (cases_eq i n) [
+      | inl same ↦ grind (arith, nat_tests, less, last, were, are, same)
+      | inr other ↦ grind (arith, nat_tests, less, last, were, are, other)
+    ]
+
+raised_one : (here old new : ℕ → Bool) (i : ℕ) (b : Bool) (n : ℕ) → ((j : ℕ) → j < n → new j ≡ (old j || ((i == j || false) && b)))
+    → list_any (λ j. here j && new j) (range_with_len 0 n) ≡ (list_any (λ j. here j && old j) (range_with_len 0 n) || (nat_lt i n && here i && b))
+raised_one here old new i b zero h = grind (arith, nat_tests)
+raised_one here old new i b (suc n) h =
+    subst
+    (λ (m : ℕ). list_any (λ j. here j && new j) (range_with_len 0 m) ≡ (list_any (λ j. here j && old j) (range_with_len 0 m) || (nat_lt i m && here i && b)))
+    (add-one n)
+    (raised_next here old new i b n (h n (omega arith)) (raised_one here old new i b n (λ j low. h j (omega (arith, low)))))
+
+pub lists_more : (k r i met : ℕ) (lists : List (List ℕ)) (old new : List ℕ) → i < length lists
+    → ((j : ℕ) → j < length lists → nat_lt k (slice_index new j) ≡ (nat_lt k (slice_index old j) || (is_there (i ∷ []) j && nat_lt k met)))
+    → is_listed k lists new r ≡ (is_listed k lists old r || (is_there (get_or lists i []) r && nat_lt k met))
+lists_more k r i met lists old new low raised =
+    let one = raised_one (λ j. is_there (get_or lists j []) r) (λ j. nat_lt k (slice_index old j)) (λ j. nat_lt k (slice_index new j)) i (nat_lt k met) (length lists) raised in
+    grind (arith, nat_tests, one, low)
+
+pub or_swap : (a x l : Bool) → ((a || x) || l) ≡ ((a || l) || x)
+or_swap a x l = grind arith
+
+pub or_behind : (a l x : Bool) → (a || (l || x)) ≡ ((a || l) || x)
+or_behind a l x = grind arith
 
 -- ---- One more slot
 

@@ -1,18 +1,19 @@
 //! What each root lacks of what a query asks: the first of what is asked there that it doesn't have.
 
-ghost use Rattle.std.specs.Prelude.{◌≡◌, ◌<◌, ◌&&◌, ◌||◌, ℕ, IfOk, length, map, nat_lt, slice_index};
-ghost use Rattle.std.specs.List.{All, range_with_len};
+ghost use Rattle.std.specs.Prelude.{◌≡◌, ◌<◌, IfOk, length, map};
+ghost use Rattle.std.specs.List.{range_with_len};
 ghost use Rattle.ac_cloud.specs.Cloud.CloudWorld.{providers_of};
 ghost use Rattle.ac_query.specs.Asked.{slots_of};
 ghost use Rattle.ac_query.specs.Shown.Queries.{asked_of};
-ghost use Rattle.ac_rules.specs.Placed.{slot_at};
 ghost use Rattle.ac_rules.specs.Shown.Assignments.{placed_of};
-ghost use Rattle.ac_prune.specs.Trees.Keys.{is_there};
 ghost use Rattle.ac_find.specs.Explained.{holds_required};
 ghost use Rattle.ac_prune.specs.Fitting.{fits_at, fitting};
 ghost use Rattle.ac_find.specs.Lacking.{first_failed, first_lack, lack_at, lacks_of};
-ghost use Rattle.ac_find.specs.Shown.Lacking.{AreNoted, AreReached, lack_behind, stage_behind, unserved};
+ghost use Rattle.ac_find.specs.Shown.Lacking.{AreNoted, lack_behind, stage_behind, unserved};
 
+mod passed;
+
+use self::passed::count_passed;
 use crate::counts::count_met;
 use crate::counts::required::limit_required;
 use ac_base::NoMemory;
@@ -50,40 +51,6 @@ pub enum Lack {
     RequiredTraits,
     /// A candidate: what is asked of each slot by itself is there, and not what is asked of all together.
     Together,
-}
-
-// Raises the number at each of some roots, where it is less than this one.
-fn raise(passed: &mut [u32], roots: &[u32], met: u32)
-    requires { All (λ r. r < length passed.old) roots.now }
-    ensures { (k r : ℕ) → nat_lt k (slice_index passed.new r)
-        ≡ (nat_lt k (slice_index passed.old r) || (is_there roots.now r && nat_lt k met)) }
-{
-    for root in roots {
-        let at = *root as usize;
-        if passed[at] < met {
-            passed[at] = met;
-        }
-    }
-}
-
-// How many of the tests of a slot, one after another, some provider passes that is available in the tree of each root.
-fn count_passed(alloc: Global, cloud: &Cloud, query: &Query, s: usize) -> Result<Vec<u32>, NoMemory>
-    requires { s < length (slots_of (asked_of query.now)) }
-    ensures count { IfOk result (λ passed. length passed.items ≡ length (providers_of cloud.now)) }
-    ensures reached { IfOk result (λ passed. AreReached (providers_of cloud.now)
-        (slot_at (asked_of query.now) s) passed.items) }
-{
-    let mut passed = vec![in alloc; 0u32; cloud.len() as usize]?;
-    for ix in 0..cloud.len() {
-        let placed = Placed {
-            cloud,
-            query,
-            slot: s,
-            provider: ix,
-        };
-        raise(&mut passed, cloud.anchors(ix), count_met(&placed));
-    }
-    Ok(passed)
 }
 
 // The first test that isn't passed where so many are.

@@ -1,12 +1,13 @@
 //! What nobody in a cloud has, and no root: each test goes through all providers once, and takes no memory.
 ghost use Rattle.std.specs.Prelude.{◌≡◌, ◌&&◌, map};
+ghost use Rattle.std.specs.List.{list_any};
 ghost use Rattle.std.specs.List.Sorted.{IsStrictlySortedBy};
 ghost use Rattle.ac_base.specs.Names.{class_bytes, trait_bytes};
 ghost use Rattle.ac_base.specs.Texts.{text_cmp};
 ghost use Rattle.ac_cloud.specs.Providers.{provider_of};
-ghost use Rattle.ac_cloud.specs.World.{has_trait, is_root};
+ghost use Rattle.ac_cloud.specs.World.{has_trait, is_member, is_root};
 ghost use Rattle.ac_cloud.specs.Cloud.CloudWorld.{providers_of};
-ghost use Rattle.ac_find.specs.Missing.{some_root_has, somebody_has_class, somebody_has_one, somebody_has_trait, somebody_is, somebody_is_in, somebody_is_member};
+ghost use Rattle.ac_find.specs.Missing.{some_root_has, somebody_has_class, somebody_has_one, somebody_has_trait, somebody_is, somebody_is_in, someone};
 
 use ac_base::{ClassName, Id, TraitName};
 use ac_cloud::{Cloud, Provider};
@@ -53,20 +54,21 @@ pub fn some_root_has(cloud: &Cloud, name: &TraitName) -> bool
     (0..cloud.len()).any(|ix| is_root_with(&cloud.provider(ix), name))
 }
 
-// Whether some provider is in an aggregate.
-#[tactic(auto, using(ac_cloud::proofs::Ranges::range_more, ac_cloud::proofs::Ranges::range_end), unfolding(crate::specs::Missing::somebody_is_member))]
-fn somebody_is_member(cloud: &Cloud, aggregate: Id) -> bool
-    ensures { result ≡ somebody_is_member (providers_of cloud.now) aggregate }
+// Whether some provider is in one of these aggregates, by the providers one after another.
+#[tactic(auto, using(ac_cloud::proofs::Ranges::range_more, ac_cloud::proofs::Ranges::range_end))]
+fn some_member(cloud: &Cloud, aggregates: &[Id]) -> bool
+    ensures { result ≡ someone (providers_of cloud.now)
+        (λ p. list_any (is_member p) aggregates.now) }
 {
-    (0..cloud.len()).any(|ix| cloud.provider(ix).in_aggregate(aggregate))
+    (0..cloud.len()).any(|ix| cloud.provider(ix).in_any_aggregate(aggregates))
 }
 
 /// Whether some provider is in one of these aggregates.
-#[tactic(auto, unfolding(crate::specs::Missing::somebody_is_in))]
+#[tactic(auto, unfolding(crate::specs::Missing::somebody_is_in, crate::specs::Missing::somebody_is_member))]
 pub fn somebody_is_in(cloud: &Cloud, aggregates: &[Id]) -> bool
     ensures { result ≡ somebody_is_in (providers_of cloud.now) aggregates.now }
 {
-    aggregates.iter().any(|id| somebody_is_member(cloud, *id))
+    some_member(cloud, aggregates)
 }
 
 /// Whether a UUID is that of some provider.

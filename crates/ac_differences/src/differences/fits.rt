@@ -1,16 +1,14 @@
 //! Providers in slots: whether they meet the slot's own rules, and by whose aggregates.
 ghost use Rattle.std.specs.Prelude.{◌≡◌, ◌<◌, length};
-ghost use Rattle.std.specs.List.{list_any};
 ghost use Rattle.ac_cloud.specs.Providers.{provider_of};
-ghost use Rattle.ac_cloud.specs.World.{is_member, provider_at, root_provider};
+ghost use Rattle.ac_cloud.specs.World.{provider_at, root_provider};
 ghost use Rattle.ac_cloud.specs.Cloud.CloudWorld.{providers_of};
 ghost use Rattle.ac_query.specs.Asked.{slots_of};
 ghost use Rattle.ac_query.specs.Shown.Groups.{group_asked, rule_shown};
 ghost use Rattle.ac_query.specs.Shown.Queries.{asked_of};
 ghost use Rattle.ac_rules.specs.Shown.Assignments.{placed_of};
-ghost use Rattle.ac_differences.specs.Differing.{are_met_by, fits_with_its_root, is_lent, is_met_by, lends, lends_by_its_root, lends_from_below, lends_outside};
+ghost use Rattle.ac_differences.specs.Differing.{are_met_by, fits_with_its_root, has_to_lend, is_lent, is_met_by, lends, lends_by_its_root, lends_from_below, lends_outside};
 
-use ac_base::Id;
 use ac_cloud::{Cloud, Provider};
 use ac_query::{AggregateRule, Group, Query};
 use ac_rules::Placed;
@@ -31,18 +29,11 @@ pub(crate) fn is_lent(cloud: &Cloud, query: &Query, s: usize) -> bool
     (0..cloud.len()).any(|ix| lends(&Placed::new(cloud, query, s, ix)))
 }
 
-/// Whether a provider itself is in one of these aggregates.
-pub(crate) fn is_in_any(provider: &Provider, ids: &[Id]) -> bool
-    ensures { result ≡ list_any (is_member (provider_of provider.now)) ids.now }
-{
-    ids.iter().any(|id| provider.in_aggregate(*id))
-}
-
 // Whether a provider meets a rule by its own aggregates.
 fn is_met_by(provider: &Provider, rule: &AggregateRule) -> bool
     ensures { result ≡ is_met_by (provider_of provider.now) (rule_shown rule.now) }
 {
-    is_in_any(provider, rule.ids()) != rule.forbids()
+    provider.in_any_aggregate(rule.ids()) != rule.forbids()
 }
 
 // Whether a provider meets each rule of a group by its own aggregates.
@@ -107,14 +98,18 @@ pub(crate) fn fits_with_its_root(placed: &Placed) -> bool
     placed.fits() && !is_met_itself(placed) && !is_met_by_root(placed)
 }
 
+/// Whether a sharing provider has what its slot asks for, wherever it stands.
+pub(crate) fn has_to_lend(placed: &Placed) -> bool
+    ensures { result
+        ≡ has_to_lend (providers_of placed.now.cloud.now) (placed_of placed.now) }
+{
+    placed.its_provider().shares() && placed.has_units() && placed.has_slot_traits()
+}
+
 /// Whether a sharing provider has what its slot asks for, and meets a rule by its own aggregates.
 pub(crate) fn lends_outside(placed: &Placed, rule: &AggregateRule) -> bool
     ensures { result ≡ lends_outside (providers_of placed.now.cloud.now) (rule_shown rule.now)
         (placed_of placed.now) }
 {
-    let provider = placed.its_provider();
-    provider.shares()
-        && placed.has_units()
-        && placed.has_slot_traits()
-        && is_met_by(&provider, rule)
+    has_to_lend(placed) && is_met_by(&placed.its_provider(), rule)
 }

@@ -9,11 +9,11 @@ ghost use Rattle.ac_query.specs.Asked.{slots_of};
 ghost use Rattle.ac_query.specs.Shown.Groups.{rule_shown};
 ghost use Rattle.ac_query.specs.Shown.Queries.{asked_of};
 ghost use Rattle.ac_rules.specs.Placed.{slot_at};
-ghost use Rattle.ac_differences.specs.Differing.{fits_with_its_root, forbids_a_root, gives_no_resources, has_root_in, is_bare_slot, is_lent, is_suffixed, lends_beside_forbidden, lends_by_its_root, lends_from_below, lends_in_tree, lends_outside, may_share, meets_in_halves, shares_whole_group, slot_places, some_provider, some_sharing};
+ghost use Rattle.ac_differences.specs.Differing.{fits_with_its_root, forbids_a_root, gives_no_resources, has_root_in, has_to_lend, is_bare_slot, is_lent, is_suffixed, lends_beside_forbidden, lends_by_its_root, lends_from_below, lends_in_tree, lends_outside, may_share, meets_in_halves, shares_whole_group, slot_places, some_provider, some_sharing};
 
 use super::asks::has_suffix_before;
 use super::fits::{
-    fits_with_its_root, is_in_any, is_lent, lends_by_its_root, lends_from_below, lends_outside,
+    fits_with_its_root, has_to_lend, is_lent, lends_by_its_root, lends_from_below, lends_outside,
 };
 use ac_base::Id;
 use ac_cloud::{Cloud, Provider};
@@ -147,7 +147,7 @@ fn is_root_in(provider: &Provider, ids: &[Id]) -> bool
     ensures { result ≡ (is_root (providers_of provider.now.cloud.now) (provider_of provider.now).id
         && list_any (is_member (provider_of provider.now)) ids.now) }
 {
-    provider.is_root() && is_in_any(provider, ids)
+    provider.in_any_aggregate(ids) && provider.is_root()
 }
 
 // Whether some root is in one of these aggregates.
@@ -178,7 +178,7 @@ fn forbids_a_root(cloud: &Cloud, query: &Query, s: usize, rule: &AggregateRule) 
 }
 
 // Whether one of a slot's rules forbids aggregates that some root is in, and some sharing provider with what the slot asks for isn't.
-fn is_lent_beside_forbidden(cloud: &Cloud, query: &Query, s: usize) -> bool
+fn is_beside_forbidden(cloud: &Cloud, query: &Query, s: usize) -> bool
     requires { s < length (slots_of (asked_of query.now)) }
     ensures { result
         ≡ list_any (forbids_a_root (providers_of cloud.now) (asked_of query.now) s)
@@ -188,6 +188,28 @@ fn is_lent_beside_forbidden(cloud: &Cloud, query: &Query, s: usize) -> bool
         .member_of()
         .iter()
         .any(|rule| forbids_a_root(cloud, query, s, rule))
+}
+
+// Whether some sharing provider has what a slot asks for, wherever it stands.
+#[tactic(auto, using(ac_cloud::proofs::Ranges::range_more, ac_cloud::proofs::Ranges::range_end))]
+fn has_a_lender(cloud: &Cloud, query: &Query, s: usize) -> bool
+    requires { s < length (slots_of (asked_of query.now)) }
+    ensures { result ≡ some_provider (providers_of cloud.now) (asked_of query.now) s
+        (has_to_lend (providers_of cloud.now)) }
+{
+    (0..cloud.len()).any(|ix| has_to_lend(&Placed::new(cloud, query, s, ix)))
+}
+
+// Whether one of a slot's rules forbids aggregates that some root is in, and some sharing provider with what the slot asks for isn't.
+// Rules are gone through only where a sharing provider has that at all.
+#[tactic(auto, using(crate::proofs::SharesLemmas::lent_beside))]
+fn is_lent_beside_forbidden(cloud: &Cloud, query: &Query, s: usize) -> bool
+    requires { s < length (slots_of (asked_of query.now)) }
+    ensures { result
+        ≡ list_any (forbids_a_root (providers_of cloud.now) (asked_of query.now) s)
+        (slot_at (asked_of query.now) s).group.member_of }
+{
+    has_a_lender(cloud, query, s) && is_beside_forbidden(cloud, query, s)
 }
 
 /// Whether of some slot that the service may fill from another tree a rule forbids aggregates that some root is in, and some sharing

@@ -1,11 +1,12 @@
 -- How far the providers of each root come in a slot, and which slots were found that none of them serves.
-use Rattle.std.specs.Prelude.{◌≡◌, ℕ, ◌<◌, zero, suc, Bool, nat_lt, List, map, length, slice_index, slice_index_or, Option, None}
+use Rattle.std.specs.Prelude.{◌≡◌, ℕ, ◌<◌, ◌&&◌, ◌||◌, zero, suc, Bool, nat_lt, List, [], map, length, get_or, slice_index, slice_index_or, Option, None}
 use Rattle.std.specs.List.{list_any, range_with_len}
 use Rattle.std.specs.Option.{option_map, option_or}
 use Rattle.ac_query.specs.Asked.{Slot}
 use Rattle.ac_cloud.specs.World.{Provider}
 use Rattle.ac_rules.specs.Placed.{Placed}
 use Rattle.ac_prune.specs.Ahead.{hosts_of}
+use Rattle.ac_prune.specs.Trees.Keys.{is_there}
 use Rattle.ac_find.specs.Explained.{in_slot, meets_units, meets_traits, meets_aggregates, meets_tree, meets_room}
 use Rattle.ac_find.specs.Lacking.{first_unserved, if_failed}
 use Rattle.ac_find.specs.declared.lacks.Stage.{Stage}
@@ -24,6 +25,15 @@ passes (suc (suc (suc (suc k)))) all x = meets_room all x
 -- of each root as many tests as some provider available in its tree passes
 abbrev pub AreReached : List Provider → Slot → List ℕ → Type 0
 AreReached all slot passed = (k r : ℕ) → k < 5 → r < length all → nat_lt k (slice_index passed r) ≡ list_any (λ p. passes k all (in_slot slot p)) (hosts_of all r)
+
+-- some list that has a root came so far
+abbrev pub is_listed : ℕ → List (List ℕ) → List ℕ → ℕ → Bool
+is_listed k lists reached r = list_any (λ j. is_there (get_or lists j []) r && nat_lt k (slice_index reached j)) (range_with_len 0 (length lists))
+
+-- the same, where lists of roots are noted for themselves
+abbrev pub AreReachedBeside : List Provider → Slot → List (List ℕ) → List ℕ → List ℕ → Type 0
+AreReachedBeside all slot lists reached passed = (k r : ℕ) → k < 5 → r < length all
+    → (nat_lt k (slice_index passed r) || is_listed k lists reached r) ≡ list_any (λ p. passes k all (in_slot slot p)) (hosts_of all r)
 
 -- the first test that isn't passed where so many are
 abbrev pub stage_behind : ℕ → Option Stage
