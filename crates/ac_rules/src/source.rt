@@ -22,6 +22,5 @@ pub trait Source {
     /// Passes over the lists that come next and begin as given: all of them, some, or none.
     fn skip(&mut self, front: &[u32])
         ensures { PassesOver front.now (left self.old) (left self.new) }
-    {
-    }
+    {}
 }

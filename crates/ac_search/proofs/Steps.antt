@@ -1,4 +1,5 @@
 -- The steps of a walk.
+pub mod BackLemmas
 pub mod BetweenLemmas
 pub mod EndLemmas
 pub mod MoveLemmas

@@ -207,6 +207,10 @@ impl<'a> Source for Walk<'a> {
             None
         }
     }
+
+    fn skip(&mut self, front: &[u32]) {
+        self.leave_front(front);
+    }
 }
 
 // The ids of a token.

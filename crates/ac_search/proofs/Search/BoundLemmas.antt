@@ -1,27 +1,47 @@
 -- What is left of the wanted lists from one front on, and from a later one.
-use Rattle.std.proofs.Common.{◌≡◌, ℕ, Bool, ◌+◌, ◌<◌, ◌≤◌, suc, true, false, not, List, [], ◌∷◌, ◌++◌, inl, inr, length, sym, ap, ◌∙◌, subst, arith, take_all, append_assoc, append-nil, length-append}
+use Rattle.std.proofs.Common.{◌≡◌, ℕ, Bool, ◌+◌, ◌<◌, ◌≤◌, suc, true, false, List, [], ◌∷◌, ◌++◌, inl, inr, length, refl, sym, ap, ◌∙◌, subst, arith, take_all, append_assoc, append-nil, length-append}
 use Rattle.std.specs.List.{filter, slice_index, AllByRecursion as Each}
 use Rattle.std.proofs.lemmas.Bool.{cases_Bool, cases_lt, cases_eq, false_from_ne_true, false≢true}
 use Rattle.std.proofs.lemmas.Bool.Decides.{nat_tests}
 use Rattle.std.proofs.lemmas.List.{get_or_past, get_or_push}
 use Rattle.std.proofs.lemmas.List.Elements.{All-from_recursion, recursion_from_All, All-from_get_or}
-use Rattle.ac_rules.specs.Lists.{IsListBelow, IsRising, lex_lt}
+use Rattle.ac_rules.specs.Lists.{BeginsWith, IsListBelow, IsRising, PassesOver, lex_lt}
 use Rattle.ac_prune.specs.Search.{Search, IsDead, AllDead, sought, choices_at, next_at}
 use Rattle.ac_search.specs.Search.{from, left_from, next_front, Enters, IsSound}
 use Rattle.ac_rules.proofs.Elements.{Among, each_weaker, each_append, each_among, filter_agree, filter_none}
 use Rattle.ac_rules.proofs.Lists.OrderLemmas.{lex_irrefl, lex_asym, lex_trans}
 use Rattle.ac_prune.proofs.Search.SoughtLemmas.{IsSearch, IsSought, each_sought, rising_sought, among_sought, low_at, choice_in, place_of}
-use Rattle.ac_search.proofs.Search.FrontOrder.{lex_append, lex_one, lex_longer, lex_lt_le, goes_on}
+use Rattle.ac_search.proofs.Search.FrontOrder.{lex_append, lex_le_trans, lex_one, lex_longer, lex_lt_le, goes_on}
 
 -- ---- Between two fronts
 
+split_from : (c d : List ℕ) (P : List ℕ → Type 0) → lex_lt c d ≡ true → (all : List (List ℕ)) → IsRising all → Each (λ t. lex_lt t c ≡ false → lex_lt t d ≡ true → P t) all
+    → (gone : List (List ℕ)) × (filter (from c) all ≡ gone ++ filter (from d) all) × Each P gone
+split_from c d P up [] rising each = ([], refl, tt)
+split_from c d P up (x ∷ all) rising each = elim (cases_Bool (lex_lt x c)) [
+  | inl below ↦ let g = split_from c d P up all rising.1 each.1 in (g.0, rw (below, lex_trans x c d below up) g.1, g.2)
+  | inr above ↦ elim (cases_Bool (lex_lt x d)) [
+    | inl between ↦ let g = split_from c d P up all rising.1 each.1 in (x ∷ g.0, rw (above, between) (ap (λ (ts : List (List ℕ)). x ∷ ts) g.1), (each.0 above between, g.2))
+    | inr past ↦ ([], rw (above, past) (ap (λ (ts : List (List ℕ)). x ∷ ts) (filter_agree (from c) (from d) all (each_weaker (λ t. lex_lt x t ≡ true) (λ t. from c t ≡ from d t) all (λ t later. same t above past later) rising.0))), tt)
+  ]
+]
+  where
+    same : (t : List ℕ) → lex_lt x c ≡ false → lex_lt x d ≡ false → lex_lt x t ≡ true → from c t ≡ from d t
+    same t above past later = grind (arith, lex_asym c t (lex_le_trans c x t above later), lex_asym d t (lex_le_trans d x t past later))
+
+-- what is left out between are the first lists, and they are wanted and lie between
+pub all_between : (m : Search) (x c d : List ℕ) (P : List ℕ → Type 0) → lex_lt c d ≡ true → ((t : List ℕ) → IsSought m x t → lex_lt t c ≡ false → lex_lt t d ≡ true → P t)
+    → (gone : List (List ℕ)) × (left_from m x c ≡ gone ++ left_from m x d) × Each P gone
+unfolding left_from
+all_between m x c d P up all = split_from c d P up (sought m x) (rising_sought m x) (each_weaker (IsSought m x) (λ t. lex_lt t c ≡ false → lex_lt t d ≡ true → P t) (sought m x) all (each_sought m x))
+
 -- nothing is lost where no wanted list lies between
 pub none_between : (m : Search) (x c d : List ℕ) → lex_lt c d ≡ true → ((t : List ℕ) → IsSought m x t → lex_lt t c ≡ false → lex_lt t d ≡ true → ⊥) → left_from m x c ≡ left_from m x d
-unfolding left_from
-none_between m x c d up none = filter_agree (from c) (from d) (sought m x) (each_weaker (IsSought m x) (λ t. from c t ≡ from d t) (sought m x) (λ t h. ap not (same t h)) (each_sought m x))
+none_between m x c d up none = nothing (all_between m x c d (λ t. ⊥) up none)
   where
-    same : (t : List ℕ) → IsSought m x t → lex_lt t c ≡ lex_lt t d
-    same t h = elim (cases_Bool (lex_lt t c)) [ inl e ↦ e ∙ sym (lex_trans t c d e up) | inr e ↦ e ∙ sym (false_from_ne_true _ (none t h e)) ]
+    nothing : (gone : List (List ℕ)) × (left_from m x c ≡ gone ++ left_from m x d) × Each (λ t. ⊥) gone → left_from m x c ≡ left_from m x d
+    nothing ([], is, each) = is
+    nothing (t ∷ gone, is, each) = absurd each.0
 
 -- the list at a bound is the head, and those after it are the tail
 head_from : (all : List (List ℕ)) (y : List ℕ) → IsRising all → Among all y → filter (from y) all ≡ y ∷ filter (λ t. lex_lt y t) all
@@ -168,14 +188,21 @@ module _ {m : Search} (laws : IsSearch m) {x : List ℕ} {d j : ℕ} {seeking : 
       let up = next_rises m laws d a (a + 1) (omega (arith, s.within)) (omega arith) (omega (arith, on.0)) in
       rw (append_assoc, lex_append, lex_one) (let same = on.1 in grind (arith, nat_tests))
 
-  -- nothing is lost where its choices are at their end
-  pub left_back : length (choices_at m (suc d)) ≤ j → left_from m x (next_front m (q ++ p ∷ []) (suc d) j) ≡ left_from m x (next_front m q d (a + 1))
-  left_back end = none_between m x _ _ back_rises (λ t sought above below.
+  -- what lies between goes on from the path
+  back_between : (t : List ℕ) → IsSought m x t → lex_lt t (next_front m (q ++ p ∷ []) (suc d) j) ≡ false → lex_lt t (next_front m q d (a + 1)) ≡ true → BeginsWith t (q ++ p ∷ [])
+  back_between t sought above below =
       let on = last_placed in
       let low : lex_lt t (q ++ next_at m d a ∷ []) ≡ false = rw on.1 (false_from_ne_true _ (λ b. false≢true (sym above ∙ lex_trans t (q ++ p ∷ []) _ b (lex_longer (q ++ p ∷ []) _ [])))) in
       let g = goes_by m laws x q t d a (a + 1) front_long (omega (arith, s.within)) (omega arith) (omega (arith, on.0)) sought low below in
       let here : g.place ≡ a = omega (arith, g.from, g.before) in
-      behind t sought above g.more (rw (here, on.1) at g.is ∙ sym (append_assoc q (p ∷ []) g.more)))
+      (g.more, rw (here, on.1) at g.is ∙ sym (append_assoc q (p ∷ []) g.more))
+
+  pub back_passes : PassesOver (q ++ p ∷ []) (left_from m x (next_front m (q ++ p ∷ []) (suc d) j)) (left_from m x (next_front m q d (a + 1)))
+  back_passes = all_between m x _ _ (λ t. BeginsWith t (q ++ p ∷ [])) back_rises back_between
+
+  -- nothing is lost where its choices are at their end
+  pub left_back : length (choices_at m (suc d)) ≤ j → left_from m x (next_front m (q ++ p ∷ []) (suc d) j) ≡ left_from m x (next_front m q d (a + 1))
+  left_back end = none_between m x _ _ back_rises (λ t sought above below. let g = back_between t sought above below in behind t sought above g.0 g.1)
     where
       behind : (t : List ℕ) → IsSought m x t → lex_lt t (next_front m (q ++ p ∷ []) (suc d) j) ≡ false → (u : List ℕ) → t ≡ (q ++ p ∷ []) ++ u → ⊥
       behind t h above [] e = omega (arith, h.long, ap length e, length-append (q ++ p ∷ []) [], s.long, s.within)

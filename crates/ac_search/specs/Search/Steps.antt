@@ -2,7 +2,7 @@
 use Rattle.std.specs.Prelude.{◌≡◌, ℕ, ◌+◌, ◌<◌, ◌≤◌, min, suc, true, false, List, [], ◌∷◌, length, Option, None, Some}
 use Rattle.ac_base.specs.Devices.{last_count, one_more}
 use Rattle.ac_prune.specs.Search.{next_at}
-use Rattle.ac_rules.specs.Lists.{lex_lt}
+use Rattle.ac_rules.specs.Lists.{PassesOver, lex_lt}
 use Rattle.ac_search.specs.Shown.Walk.{search_in, place_in, slot_in, front_in, path_in, left_of, changed, IsSame, Tries}
 use Rattle.ac_search.specs.declared.walk.Walk.{Walk}
 use Rattle.ac_search.specs.declared.walk.Step.{Step}
@@ -24,6 +24,16 @@ pub record Goes (old new : Walk) : Type 0 where
   pub up : lex_lt (front_in old) (front_in new) ≡ true
   pub kept : old.probes ≤ new.probes
   pub counted : old.depth ≤ new.depth → new.probes ≡ one_more old.probes
+  pub tried : (x : Option (List ℕ)) (n : ℕ) → IsTried x n old → IsTried x n new
+
+-- it takes the last provider of its path back: it passes over lists that begin with the path, and over none where it has tried all behind it
+pub record Backs (old new : Walk) : Type 0 where
+  pub same : IsSame old new
+  pub depth : old.depth ≡ suc new.depth
+  pub passes : PassesOver (path_in old) (left_of old) (left_of new)
+  pub ended : length (slot_in old) ≤ place_in old → left_of new ≡ left_of old
+  pub up : lex_lt (front_in old) (front_in new) ≡ true
+  pub kept : new.probes ≡ old.probes
   pub tried : (x : Option (List ℕ)) (n : ℕ) → IsTried x n old → IsTried x n new
 
 -- it goes on in its slot, over choices that lead to nothing

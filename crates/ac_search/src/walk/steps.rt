@@ -7,6 +7,7 @@ ghost use Rattle.ac_query.specs.Shown.Queries.{asked_of};
 ghost use Rattle.ac_cloud.specs.Cloud.CloudWorld.{providers_of};
 ghost use Rattle.ac_prune.specs.Left.Accounts.{providers_in, asked_in};
 ghost use Rattle.ac_rules.specs.Judge.{is_open};
+ghost use Rattle.ac_rules.specs.Lists.{BeginsWith, PassesOver};
 ghost use Rattle.ac_search.specs.Search.{IsStart, Enters, HasAt, least_at};
 ghost use Rattle.ac_prune.specs.QuerySearch.{completes};
 ghost use Rattle.ac_prune.specs.Search.{IsDead};
@@ -18,8 +19,8 @@ use ac_query::Query;
 use ac_rules::Assignment;
 
 impl<'a> Walk<'a> {
-    ghost use Rattle.ac_search.specs.Shown.Walk.{cloud_in, roots_in, search_in, place_in, slot_in, path_in, front_in, IsSame};
-    ghost use Rattle.ac_search.specs.Search.Steps.{IsNext, Goes, Skips, StepGives};
+    ghost use Rattle.ac_search.specs.Shown.Walk.{cloud_in, roots_in, search_in, place_in, slot_in, path_in, front_in, left_of, IsSame};
+    ghost use Rattle.ac_search.specs.Search.Steps.{Backs, IsNext, Goes, Skips, StepGives};
 
     // The next provider to try, where the slot has one more.
     pub(super) fn choice(&self) -> Option<u32>
@@ -133,10 +134,8 @@ impl<'a> Walk<'a> {
 
     // Takes the last provider of the path back, and goes on to the next choice there.
     fn take_back(&mut self)
-        requires deep { 0 < self.old.depth }
-        requires end { length (slot_in self.old) ≤ place_in self.old }
-        ensures goes { Goes self.old self.new }
-        ensures probes { self.new.probes ≡ self.old.probes }
+        requires { 0 < self.old.depth }
+        ensures { Backs self.old self.new }
     {
         let depth = self.depth - 1;
         self.ledger.give_back(&self.path[..depth], self.path[depth]);
@@ -177,6 +176,23 @@ impl<'a> Walk<'a> {
         }
         self.take_back();
         Step::Went
+    }
+
+    // Whether its path begins with a front, and isn't empty.
+    fn is_behind(&self, front: &[u32]) -> bool
+        ensures { result ≡ true
+            → (0 < self.now.depth) × BeginsWith (path_in self.now) front.now }
+    {
+        self.depth > 0 && self.path[..self.depth].starts_with(front)
+    }
+
+    // Goes up until its path no longer begins with a front.
+    pub(super) fn leave_front(&mut self, front: &[u32])
+        ensures { PassesOver front.now (left_of self.old) (left_of self.new) }
+    {
+        'back: while self.is_behind(front) {
+            self.take_back();
+        }
     }
 }
 
