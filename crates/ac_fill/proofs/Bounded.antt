@@ -93,7 +93,7 @@ module _ (all : List Provider) (xs : List Placed) where
 
 -- ---- what a candidate takes
 
-among_all : {X : Type 0} (f : X → Bool) (xs : List X) (x : X) → list_all f xs ≡ true → Among xs x → f x ≡ true
+pub among_all : {X : Type 0} (f : X → Bool) (xs : List X) (x : X) → list_all f xs ≡ true → Among xs x → f x ≡ true
 among_all f [] x h here = absurd here
 among_all f (y ∷ xs) x h (inl is) = let first : f y ≡ true = (and_parts (f y) (list_all f xs) h).0 in subst (λ z. f z ≡ true) is first
 among_all f (y ∷ xs) x h (inr later) = among_all f xs x (and_parts (f y) (list_all f xs) h).1 later

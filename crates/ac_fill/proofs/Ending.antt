@@ -1,15 +1,15 @@
 -- One placement more, and how placements end.
-use Rattle.std.proofs.Common.{◌≡◌, ◌∙◌, ◌<◌, ◌≤◌, ◌+◌, ℕ, true, false, List, [], ◌∷◌, length, min, Option, Result, Ok, Err, refl, sym, ap, subst, arith, inl, inr}
+use Rattle.std.proofs.Common.{◌≡◌, ◌∙◌, ◌<◌, ◌≤◌, ◌+◌, ℕ, zero, suc, true, false, List, [], ◌∷◌, ◌++◌, length, min, Option, Result, Ok, Err, refl, sym, ap, subst, arith, inl, inr, append-nil, slice_index, slice_index_or}
 use Rattle.std.specs.Prelude.{⊤}
 use Rattle.std.specs.Result.{IsErrAnd}
-use Rattle.std.proofs.lemmas.Bool.{cases_Bool, cases_lt}
+use Rattle.std.proofs.lemmas.Bool.{cases_lt, false_from_ne_true, false≢true}
 use Rattle.std.proofs.lemmas.Result.{IfOk-weaker, err_from_is_err_and}
 use Rattle.ac_cloud.specs.World.{Provider}
 use Rattle.ac_cloud.specs.Cloud.CloudWorld.{providers_of}
 use Rattle.ac_cloud.specs.declared.cloud.Cloud.{Cloud}
 use Rattle.ac_cloud.proofs.Amounts.{amounts_size}
 use Rattle.ac_cloud.proofs.InOrder.{entries_rise}
-use Rattle.ac_query.specs.Asked.{Asked, slots_of}
+use Rattle.ac_query.specs.Asked.{Asked, Slot, slots_of}
 use Rattle.ac_query.specs.Shown.Queries.{asked_of}
 use Rattle.ac_report.specs.Outcomes.{WritesEach}
 use Rattle.ac_report.specs.Texts.{line}
@@ -17,18 +17,20 @@ use Rattle.ac_report.specs.declared.fault.PageFault.{PageFault}
 use Rattle.ac_report.specs.declared.fault.PageFault.TheVariants as fault
 use Rattle.ac_report.proofs.Pages.Writing.{refused, stopped, wrote_none, wrote_on}
 use Rattle.ac_rules.specs.Claims.{claimed}
-use Rattle.ac_rules.specs.Judge.{is_candidate}
+use Rattle.ac_rules.specs.Judge.{is_candidate, is_open}
 use Rattle.ac_rules.specs.Lists.{IsListBelow}
-use Rattle.ac_rules.specs.Placed.{Placed, assigned}
-use Rattle.ac_rules.specs.Together.{sum_on, sums}
+use Rattle.ac_rules.specs.Placed.{Placed, assigned, no_slot, placed, placed_at}
+use Rattle.ac_rules.specs.Together.{holds_sums, sum_on, sums}
+use Rattle.ac_rules.proofs.Elements.{Among}
 use Rattle.ac_rules.proofs.EachSlot.ClaimLaws.{keeps}
-use Rattle.ac_rules.proofs.EachSlot.FrontLemmas.{candidate_opens}
+use Rattle.ac_rules.proofs.EachSlot.FrontLemmas.{open_parts, prefix_open}
 use Rattle.ac_rules.proofs.Lists.RestLemmas.{IsChosen}
 use Rattle.ac_fill.specs.Ends.{Ends, PlacesAll, Stand, placements_at}
 use Rattle.ac_fill.specs.Filled.{after}
 use Rattle.ac_fill.specs.Shown.{asked_in, count_in, taken_in, with_taken, IsSame, IsTakenOf, SumsFit}
 use Rattle.ac_fill.specs.declared.placements.Filled.{Filled}
 use Rattle.ac_fill.specs.declared.takings.Takings.{Takings}
+use Rattle.ac_fill.proofs.Bounded.{among_all}
 use Rattle.ac_fill.proofs.Taken.{taken_claims}
 
 -- ---- the world beside what is taken
@@ -39,16 +41,27 @@ pub stays : (all : List Provider) (t : Takings) (asked : Asked) (list : List ℕ
 unfolding is_candidate with_taken
 stays all t asked list h kept = keeps (λ ix class had. had.used + taken_in t ix class) all asked (assigned asked list) h kept
 
--- and else it is none
+-- and where its front doesn't keep Sums, it is none
+pub front_leaves : (all : List Provider) (asked : Asked) (front more : List ℕ) → sums all (assigned asked front) ≡ false → is_candidate all asked (front ++ more) ≡ false
+unfolding is_open
+front_leaves all asked front more full = false_from_ne_true _ (λ is. false≢true (sym full ∙ (open_parts all asked (assigned asked front) (prefix_open all asked front more is)).sums))
+
 pub leaves : (all : List Provider) (asked : Asked) (list : List ℕ) → sums all (assigned asked list) ≡ false → is_candidate all asked list ≡ false
-unfolding is_candidate
-leaves all asked list full = elim (cases_Bool (is_candidate all asked list)) [
-  | inl is ↦ absurd (apart (sym (candidate_opens all asked (assigned asked list) is).sums ∙ full))
-  | inr not_one ↦ not_one
-]
-  where
-    apart : true ≡ false → ⊥
-    apart e = cc
+leaves all asked list full = subst (λ (t : List ℕ). is_candidate all asked t ≡ false) (append-nil list) (front_leaves all asked list [] full)
+
+-- each slot of a list is among its slots
+among_placed : (slots : List Slot) (t : List ℕ) (s : ℕ) → s < length t → length t ≤ length slots → Among (placed slots t) (record { slot = slice_index_or slots s no_slot; provider = slice_index t s })
+among_placed [] t s inside short = absurd (omega (arith, inside, short))
+among_placed (x ∷ slots) [] s inside short = absurd (omega (arith, inside))
+among_placed (x ∷ slots) (p ∷ t) zero inside short = inl refl
+among_placed (x ∷ slots) (p ∷ t) (suc s) inside short = inr (among_placed slots t s (omega (arith, inside)) (omega (arith, short)))
+
+-- where the provider of a slot has no room, Sums is not kept
+pub slot_full : (all : List Provider) (asked : Asked) (list : List ℕ) (s : ℕ) → s < length list → length list ≤ length (slots_of asked)
+    → holds_sums all (assigned asked list) (placed_at asked s (slice_index list s)) ≡ false → sums all (assigned asked list) ≡ false
+unfolding sums
+slot_full all asked list s inside short full = false_from_ne_true _ (λ kept.
+    false≢true (sym full ∙ among_all (holds_sums all (assigned asked list)) (assigned asked list) (placed_at asked s (slice_index list s)) kept (among_placed (slots_of asked) list s inside short)))
 
 pub more_taken : (cloud : Cloud) (old new : Takings) (xs : List Placed) → IsTakenOf (providers_of cloud) old
     → ((p : ℕ) (class : List ℕ) → p < count_in old → taken_in new p class ≡ taken_in old p class + sum_on xs p class)

@@ -1,22 +1,23 @@
 -- Placements: the first one, those behind it, and how many are enough.
-use Rattle.std.proofs.Common.{◌≡◌, ◌∙◌, ◌<◌, ◌≤◌, ◌+◌, ◌-◌, ℕ, zero, suc, Bool, true, false, List, [], ◌∷◌, length, Option, None, Some, refl, sym, ap, subst, arith}
+use Rattle.std.proofs.Common.{◌≡◌, ◌∙◌, ◌<◌, ◌≤◌, ◌+◌, ◌-◌, ℕ, zero, suc, Bool, true, false, List, [], ◌∷◌, ◌++◌, length, Option, None, Some, refl, sym, ap, subst, arith, length-append}
 use Rattle.std.specs.List.{filter, All, AllByRecursion as Each}
-use Rattle.std.proofs.lemmas.List.Elements.{All-from_recursion}
+use Rattle.std.proofs.lemmas.List.Elements.{All-from_recursion, All-tail, filter-append}
 use Rattle.ac_cloud.specs.World.{Provider}
 use Rattle.ac_cloud.proofs.Amounts.{amounts_size}
 use Rattle.ac_query.specs.Asked.{Asked, slots_of}
 use Rattle.ac_report.specs.Outcomes.{one_less}
 use Rattle.ac_rules.specs.Claims.{claimed}
 use Rattle.ac_rules.specs.Judge.{is_candidate}
-use Rattle.ac_rules.specs.Lists.{all_lists, head_of}
+use Rattle.ac_rules.specs.Lists.{BeginsWith, PassesOver, all_lists, head_of}
 use Rattle.ac_rules.specs.Pages.{candidates}
 use Rattle.ac_rules.specs.Placed.{Placed, assigned}
-use Rattle.ac_rules.specs.Together.{sum_on}
-use Rattle.ac_rules.proofs.Elements.{each_all, each_weaker, filter_all, filter_twice}
+use Rattle.ac_rules.specs.Together.{sum_on, sums}
+use Rattle.ac_rules.proofs.Elements.{each_all, each_weaker, filter_all, filter_none, filter_twice}
 use Rattle.ac_rules.proofs.EachSlot.ClaimLaws.{claims_narrow}
 use Rattle.ac_rules.proofs.Lists.RestLemmas.{IsChosen, each_candidate}
 use Rattle.ac_fill.specs.Ends.{AreAhead}
 use Rattle.ac_fill.specs.Filled.{asks_units, units_left, placements, filled}
+use Rattle.ac_fill.proofs.Ending.{front_leaves}
 use Rattle.ac_fill.proofs.Units.{claim_takes}
 use Rattle.std.proofs.lemmas.Grind.{common_steps}
 
@@ -108,6 +109,24 @@ ahead_first all asked t ls is e = let first : filter (λ (u : List ℕ). is_cand
 pub ahead_past : (all : List Provider) (asked : Asked) (t : List ℕ) (ls : Lists) → is_candidate all asked t ≡ false → AreAhead all asked (t ∷ ls) → AreAhead all asked ls
 unfolding AreAhead
 ahead_past all asked t ls not_one e = let later : filter (λ (u : List ℕ). is_candidate all asked u) (t ∷ ls) ≡ filter (λ u. is_candidate all asked u) ls = rw not_one refl in e ∙ later
+
+-- so may those that begin with a front that doesn't keep Sums
+pub ahead_front : (all : List Provider) (asked : Asked) (front : List ℕ) (old new : Lists) → sums all (assigned asked front) ≡ false → PassesOver front old new → AreAhead all asked old → AreAhead all asked new
+unfolding AreAhead
+ahead_front all asked front old new full passes e =
+    let test : List ℕ → Bool = λ t. is_candidate all asked t in
+    let none : filter test passes.0 ≡ [] = filter_none test passes.0 (each_weaker (λ t. BeginsWith t front) (λ t. test t ≡ false) passes.0 (λ t b. rw b.1 (front_leaves all asked front b.0 full)) passes.2) in
+    e ∙ ap (filter test) passes.1 ∙ filter-append test passes.0 new ∙ ap (λ (ts : Lists). ts ++ filter test new) none
+
+behind : (P : List ℕ → Type 0) (gone new : Lists) → All P (gone ++ new) → All P new
+behind P [] new h = h
+behind P (t ∷ gone) new h = behind P gone new (All-tail P t (gone ++ new) h)
+
+pub chosen_behind : (P : List ℕ → Type 0) (front : List ℕ) (old new : Lists) → PassesOver front old new → All P old → All P new
+chosen_behind P front old new passes h = behind P passes.0 new (subst (All P) passes.1 h)
+
+pub fewer_behind : (front : List ℕ) (old new : Lists) → PassesOver front old new → length new ≤ length old
+fewer_behind front old new passes = omega (arith, ap length passes.1, length-append passes.0 new)
 
 -- where no list is left, there is no candidate
 pub ahead_none : (all : List Provider) (asked : Asked) (ls : Lists) → None ≡ head_of ls → AreAhead all asked ls → candidates all asked ≡ []

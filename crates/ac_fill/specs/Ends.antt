@@ -1,5 +1,5 @@
 -- Private: how far placements have come, and how they end.
-use Rattle.std.specs.Prelude.{◌≡◌, ◌+◌, ℕ, List, Option, Some, Result, Err, OnOk, IfOk, IfErr, length, min, ⊤}
+use Rattle.std.specs.Prelude.{◌≡◌, ◌+◌, ℕ, List, Option, Some, Result, Err, OnOk, IfOk, IfErr, length, min, false, ⊤}
 use Rattle.std.specs.List.{filter}
 use Rattle.ac_cloud.specs.World.{Provider}
 use Rattle.ac_query.specs.Asked.{Asked}
@@ -8,8 +8,10 @@ use Rattle.ac_report.specs.Texts.{line}
 use Rattle.ac_report.specs.declared.fault.PageFault.{PageFault}
 use Rattle.ac_rules.specs.Judge.{is_candidate}
 use Rattle.ac_rules.specs.Pages.{candidates}
+use Rattle.ac_rules.specs.Placed.{assigned}
+use Rattle.ac_rules.specs.Together.{sums}
 use Rattle.ac_fill.specs.Filled.{after, filled}
-use Rattle.ac_fill.specs.Shown.{with_taken, IsTakenOf}
+use Rattle.ac_fill.specs.Shown.{asked_in, with_taken, IsTakenOf}
 use Rattle.ac_fill.specs.declared.placements.Filled.{Filled}
 use Rattle.ac_fill.specs.declared.placements.Filling.{Filling}
 use Rattle.ac_fill.specs.declared.takings.Takings.{Takings}
@@ -45,6 +47,10 @@ world_at all f = with_taken (takings_of f) all
 
 abbrev pub stand_of : List Provider → Filling → Stand
 stand_of all f = record { wanted = f.wanted; world = world_at all f; count = count_at f }
+
+-- for the front that it keeps there is no room any more
+abbrev pub IsFull : List Provider → Filling → Type 0
+IsFull all f = sums (world_at all f) (assigned (asked_in (takings_of f)) f.full.items) ≡ false
 
 -- The placements that are to come are written, counted and taken.
 pub record Ends {W : Type 0} (taken : W → Option (List ℕ)) (fails : W → ℕ) (all : List Provider) (asked : Asked) (s : Stand) (old new : W)

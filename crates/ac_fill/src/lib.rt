@@ -1,6 +1,7 @@
 //! Placements by first fit: each the first candidate that the ones before it left, until there is none, or as many as a limit says.
 //!
-//! One pass of a source of candidates is enough, since claims only take room: what a cloud's claims leave is among what it had before.
+//! One pass of a source of candidates is enough, since claims only take room: what a cloud's claims leave is among what it had before. Where
+//! the front of a list has no room any more, the pass goes on behind all lists that begin so.
 #![tactic(auto)]
 
 pub mod bound;

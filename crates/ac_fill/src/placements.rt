@@ -1,6 +1,6 @@
 //! Placements as lines: the token of each.
 
-ghost use Rattle.std.specs.Prelude.{◌≡◌, ◌≢◌, ◌≤◌, ◌⊎◌, ◌∷◌, ℕ, List, IfOk, Some, true, false, length, min};
+ghost use Rattle.std.specs.Prelude.{◌≡◌, ◌≢◌, ◌≤◌, ◌⊎◌, ◌∷◌, ℕ, List, IfOk, OnOk, Some, true, false, length, min, ⊥};
 ghost use Rattle.ac_cloud.specs.Cloud.CloudWorld.{providers_of};
 ghost use Rattle.ac_query.specs.Shown.Queries.{asked_of};
 ghost use Rattle.ac_report.specs.Outcomes.{WritesEach};
@@ -21,7 +21,7 @@ use ac_query::Query;
 use ac_report::PageFault;
 use ac_report::lines::{is_over, one_less, push_piece, put_line};
 use ac_rules::{Assignment, Source};
-use std::alloc::Global;
+use std::alloc::{AllocError, Global};
 
 /// How many placements were made, at most 4294967295, and what they took.
 #[derive(Drop)]
@@ -36,10 +36,12 @@ struct Filling<'a> {
     filled: Filled<'a>,
     // How many placements are still wanted; without a limit, all.
     wanted: Option<u32>,
+    // The front of the list that was placed last for which there is no room any more.
+    full: Vec<u32>,
 }
 
 impl<'a> Filling<'a> {
-    ghost use Rattle.ac_fill.specs.Ends.{count_at, stand_of, takings_of, world_at};
+    ghost use Rattle.ac_fill.specs.Ends.{count_at, stand_of, takings_of, world_at, IsFull};
     ghost use Rattle.ac_fill.specs.Shown.{SumsFit};
 
     // Whether one more placement of a list is wanted, and there is room for it.
@@ -62,7 +64,22 @@ impl<'a> Filling<'a> {
         !is_over(self.wanted) && self.filled.takings.has_room(assignment)
     }
 
-    // Writes a line for each placement of a list that there is room for, and that is wanted.
+    // Keeps the shortest front of a list for which there is no room.
+    fn keep_front(&mut self, assignment: &Assignment<'_>) -> Result<(), AllocError>
+        requires query { asked_of assignment.now.query.now ≡ asked_in (takings_of self.old) }
+        requires fits { IsTakenOf (providers_of assignment.now.cloud.now) (takings_of self.old) }
+        ensures filled { self.new.filled ≡ self.old.filled }
+        ensures wanted { self.new.wanted ≡ self.old.wanted }
+        ensures full { sums (world_at (providers_of assignment.now.cloud.now) self.old)
+            (assigned_of assignment.now) ≡ false
+            → IfOk result (λ _. IsFull (providers_of assignment.now.cloud.now) self.new) }
+    {
+        let front = self.filled.takings.full_front(assignment);
+        self.full.clear();
+        self.full.extend_from_slice(front)
+    }
+
+    // Writes a line for each placement of a list that there is room for, and that is wanted. It keeps a front of the list that has no room then.
     fn place<W: Sink>(
         &mut self,
         text: &mut Vec<u8>,
@@ -88,6 +105,8 @@ impl<'a> Filling<'a> {
             (stand_of (providers_of assignment.now.cloud.now) self.old)
             (stand_of (providers_of assignment.now.cloud.now) self.new) rest out.old out.new
             result }
+        ensures full { OnOk result ((self.new.wanted ≡ Some 0 → ⊥)
+            → IsFull (providers_of assignment.now.cloud.now) self.new) }
     {
         'room: while self.wants(assignment) {
             put_line(text, assignment.cloud, assignment.list)?;
@@ -96,6 +115,7 @@ impl<'a> Filling<'a> {
             self.filled.count = self.filled.count.saturating_add(1);
             self.wanted = one_less(self.wanted);
         }
+        self.keep_front(assignment)?;
         Ok(())
     }
 }
@@ -118,6 +138,7 @@ fn write_placements<'a, S: Source, W: Sink>(
     let mut filling = Filling {
         filled: Filled { count: 0, takings },
         wanted: query.limit(),
+        full: Vec::new(alloc),
     };
     let mut text = Vec::new(alloc);
     'lists: while !is_over(filling.wanted) {
@@ -126,6 +147,7 @@ fn write_placements<'a, S: Source, W: Sink>(
             Some(list) => {
                 let assignment = Assignment { cloud, query, list };
                 filling.place(&mut text, &assignment, out)?;
+                source.skip(&filling.full);
             }
         }
     }

@@ -1,6 +1,6 @@
 //! What placements have taken of each provider, beside the cloud as it was.
 
-ghost use Rattle.std.specs.Prelude.{◌≡◌, ◌+◌, ◌*◌, ◌<◌, ◌≤◌, ◌∷◌, ◌&&◌, ◌==◌, [], ℕ, List, true, bytes_eq, length, map, slice_index, IfOk, if◌then◌else◌, ◌^◌};
+ghost use Rattle.std.specs.Prelude.{◌≡◌, ◌+◌, ◌*◌, ◌<◌, ◌≤◌, ◌∷◌, ◌&&◌, ◌==◌, [], ℕ, List, true, false, bytes_eq, length, map, slice_index, IfOk, if◌then◌else◌, ◌^◌};
 ghost use Rattle.std.specs.List.{All, AllByRecursion};
 ghost use Rattle.ac_base.specs.Names.{class_bytes};
 ghost use Rattle.ac_cloud.specs.Cloud.CloudWorld.{providers_of, root_lists_of, world_of};
@@ -142,6 +142,29 @@ impl<'a> Takings<'a> {
             }
         }
         true
+    }
+
+    /// The shortest front of an assignment whose last provider has no room for what the front asks of it, beside what is taken; where each has, all of it.
+    #[tactic(auto, using(crate::proofs::Ending::slot_full))]
+    pub(crate) fn full_front<'b>(&self, assignment: &Assignment<'b>) -> &'b [u32]
+        requires query { asked_of assignment.now.query.now ≡ asked_in self.now }
+        requires count { count_in self.now ≡ length (providers_of assignment.now.cloud.now) }
+        ensures { sums (with_taken self.now (providers_of assignment.now.cloud.now))
+            (assigned_of assignment.now) ≡ false
+            → sums (with_taken self.now (providers_of assignment.now.cloud.now))
+            (assigned (asked_in self.now) result.now) ≡ false }
+    {
+        for s in 0..assignment.list.len() {
+            let front = Assignment {
+                cloud: assignment.cloud,
+                query: assignment.query,
+                list: &assignment.list[..s + 1],
+            };
+            if !self.has_room_at(&front, s) {
+                return front.list;
+            }
+        }
+        assignment.list
     }
 
     // Takes what one need asks of a provider.

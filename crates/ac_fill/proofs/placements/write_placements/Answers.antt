@@ -11,7 +11,7 @@ use Rattle.ac_fill.specs.Ends.{AreAhead, Ends, Stand, stand_of, takings_of, worl
 use Rattle.ac_fill.specs.Filled.{asks_units}
 use Rattle.ac_fill.specs.Shown.{asked_in, with_taken}
 use Rattle.ac_fill.proofs.Ending.{ends_err, ends_none}
-use Rattle.ac_fill.proofs.Placing.{ahead_none, ahead_whole, chosen_whole, filled_none, filled_over}
+use Rattle.ac_fill.proofs.Placing.{ahead_front, ahead_none, ahead_whole, chosen_behind, chosen_whole, filled_none, filled_over}
 use Rattle.ac_fill.proofs.placements.write_placements.Goals as goal
 
 pub lists-init : goal.lists-init
@@ -71,14 +71,17 @@ lists-preserved g c =
     let ahead : AreAhead (world_at all c.lists.filling) asked (x ∷ tail_of (left c.lists.source)) = subst (AreAhead (world_at all c.lists.filling) asked) next.first (c.lists.invariant.ahead wants) in
     let placed = rw c.lists.invariant.query at c.in_ok-place-in-Some.ensures.places (tail_of (left c.lists.source)) in
     let places = placed ahead in
-    rw tail (record {
-      query = c.in_ok-place-in-Some.ensures.query ∙ c.lists.invariant.query;
+    let after = c.place-in-Some.new.filling in
+    let query : asked_in (takings_of after) ≡ asked = c.in_ok-place-in-Some.ensures.query ∙ c.lists.invariant.query in
+    let passes = rw tail at c.skip.ensures in
+    record {
+      query = query;
       fits = c.in_ok-place-in-Some.ensures.fits;
-      chosen = all_tail (IsChosen all asked) (left c.lists.source) c.lists.invariant.chosen;
-      ahead = places.ahead;
+      chosen = chosen_behind (IsChosen all asked) _ _ _ passes (all_tail (IsChosen all asked) (left c.lists.source) c.lists.invariant.chosen);
+      ahead = λ more. ahead_front (world_at all after) asked _ _ _ (rw query at c.in_ok-place-in-Some.ensures.full more) passes (places.ahead more);
       small = c.in_ok-place-in-Some.ensures.small;
       goes = λ r end ends. c.lists.invariant.goes r end (places.goes r end ends);
-    })
+    }
 
 pub returns : goal.returns
 returns g c =

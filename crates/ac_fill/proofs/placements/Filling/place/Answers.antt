@@ -79,17 +79,30 @@ room-preserved g c =
           (c.in_ok-push_piece.ensures (line all) list (sym (c.deref.ensures.value ∙ c.in_ok-put_line.ensures))) r end ends);
     }
 
+pub returns-in_err-keep_front-clause-places : goal.returns-in_err-keep_front-clause-places
+returns-in_err-keep_front-clause-places g c = λ rest e.
+    let all = providers_of c.args.assignment.now.cloud.now in
+    let asked = asked_in (takings_of c.args.self.now) in
+    places_err all asked (stand_of all c.room.self) rest c.from_residual-in_err-keep_front.ensures.1
+    (c.room.invariant.goes rest e (Err fault.NoMemory) _ (ends_refused all asked (stand_of all c.room.self) _))
+
 pub returns-clause-places : goal.returns-clause-places
 returns-clause-places g c = λ rest e.
     let all = providers_of c.args.assignment.now.cloud.now in
     let asked = asked_in (takings_of c.args.self.now) in
     let list = c.args.assignment.now.list.now in
     let now = world_at all c.room.self in
-    record {
+    rw (c.keep_front.ensures.filled, c.keep_front.ensures.wanted) (record {
       ahead = λ wants. elim (c.wants.ensures.otherwise c.room-test.false) [
         | inl over ↦ absurd (wants over)
         | inr full ↦ ahead_past now asked list rest (leaves now asked list (subst (λ (a : Asked). sums now (assigned a list) ≡ false) c.requires.query full)) (c.room.invariant.ahead rest e)
       ];
       goes = λ r end ends. c.room.invariant.goes rest e r end ends;
       stops = tt;
-    }
+    })
+
+pub returns-clause-full : goal.returns-clause-full
+returns-clause-full g c = λ wants. elim (c.wants.ensures.otherwise c.room-test.false) [
+  | inl over ↦ absurd (wants (c.keep_front.ensures.wanted ∙ over))
+  | inr full ↦ c.keep_front.ensures.full full
+]
