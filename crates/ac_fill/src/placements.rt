@@ -1,6 +1,6 @@
 //! Placements as lines: the token of each.
 
-ghost use Rattle.std.specs.Prelude.{◌≡◌, ◌≢◌, ◌≤◌, ◌⊎◌, ◌∷◌, ℕ, List, IfOk, OnOk, Some, true, false, length, min, ⊥};
+ghost use Rattle.std.specs.Prelude.{◌≡◌, ◌≢◌, ◌≤◌, ◌⊎◌, ◌∷◌, ℕ, List, IfOk, OnOk, Some, true, false, length, min};
 ghost use Rattle.ac_cloud.specs.Cloud.CloudWorld.{providers_of};
 ghost use Rattle.ac_query.specs.Shown.Queries.{asked_of};
 ghost use Rattle.ac_report.specs.Outcomes.{WritesEach};
@@ -70,9 +70,10 @@ impl<'a> Filling<'a> {
         requires fits { IsTakenOf (providers_of assignment.now.cloud.now) (takings_of self.old) }
         ensures filled { self.new.filled ≡ self.old.filled }
         ensures wanted { self.new.wanted ≡ self.old.wanted }
-        ensures full { sums (world_at (providers_of assignment.now.cloud.now) self.old)
+        ensures full { IfOk result (λ _.
+            sums (world_at (providers_of assignment.now.cloud.now) self.old)
             (assigned_of assignment.now) ≡ false
-            → IfOk result (λ _. IsFull (providers_of assignment.now.cloud.now) self.new) }
+            → IsFull (providers_of assignment.now.cloud.now) self.new) }
     {
         let front = self.filled.takings.full_front(assignment);
         self.full.clear();

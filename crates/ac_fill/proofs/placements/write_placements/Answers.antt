@@ -1,4 +1,4 @@
-use Rattle.std.proofs.Common.{◌≡◌, ◌∙◌, ◌∷◌, ℕ, List, Option, Some, true, Err, length, sym, ap, subst, refl, arith}
+use Rattle.std.proofs.Common.{◌≡◌, ◌∙◌, ◌∷◌, ℕ, List, Option, Some, true, false, Err, length, sym, ap, subst, refl, arith}
 use Rattle.ac_cloud.specs.Cloud.CloudWorld.{providers_of}
 use Rattle.ac_cloud.specs.World.{Provider}
 use Rattle.ac_query.specs.Asked.{Asked, slots_of}
@@ -6,6 +6,8 @@ use Rattle.ac_query.specs.Shown.Queries.{asked_of}
 use Rattle.ac_report.proofs.Pages.Paging.{all_head, all_tail, is_next}
 use Rattle.ac_rules.specs.Judge.{is_candidate}
 use Rattle.ac_rules.specs.Lists.{IsListBelow, tail_of}
+use Rattle.ac_rules.specs.Placed.{assigned}
+use Rattle.ac_rules.specs.Together.{sums}
 use Rattle.ac_rules.proofs.Lists.RestLemmas.{IsChosen}
 use Rattle.ac_fill.specs.Ends.{AreAhead, Ends, Stand, stand_of, takings_of, world_at}
 use Rattle.ac_fill.specs.Filled.{asks_units}
@@ -71,14 +73,14 @@ lists-preserved g c =
     let ahead : AreAhead (world_at all c.lists.filling) asked (x ∷ tail_of (left c.lists.source)) = subst (AreAhead (world_at all c.lists.filling) asked) next.first (c.lists.invariant.ahead wants) in
     let placed = rw c.lists.invariant.query at c.in_ok-place-in-Some.ensures.places (tail_of (left c.lists.source)) in
     let places = placed ahead in
-    let after = c.place-in-Some.new.filling in
+    let after = c.place.new.self in
     let query : asked_in (takings_of after) ≡ asked = c.in_ok-place-in-Some.ensures.query ∙ c.lists.invariant.query in
-    let passes = rw tail at c.skip.ensures in
+    let passes = rw c.deref.ensures.value at (rw tail at c.skip.ensures) in
     record {
       query = query;
       fits = c.in_ok-place-in-Some.ensures.fits;
       chosen = chosen_behind (IsChosen all asked) _ _ _ passes (all_tail (IsChosen all asked) (left c.lists.source) c.lists.invariant.chosen);
-      ahead = λ more. ahead_front (world_at all after) asked _ _ _ (rw query at c.in_ok-place-in-Some.ensures.full more) passes (places.ahead more);
+      ahead = λ more. ahead_front (world_at all after) asked _ _ _ (subst (λ (a : Asked). sums (world_at all after) (assigned a after.full.items) ≡ false) query (c.in_ok-place-in-Some.ensures.full more)) passes (places.ahead more);
       small = c.in_ok-place-in-Some.ensures.small;
       goes = λ r end ends. c.lists.invariant.goes r end (places.goes r end ends);
     }

@@ -83,8 +83,8 @@ pub returns-in_err-keep_front-clause-places : goal.returns-in_err-keep_front-cla
 returns-in_err-keep_front-clause-places g c = λ rest e.
     let all = providers_of c.args.assignment.now.cloud.now in
     let asked = asked_in (takings_of c.args.self.now) in
-    places_err all asked (stand_of all c.room.self) rest c.from_residual-in_err-keep_front.ensures.1
-    (c.room.invariant.goes rest e (Err fault.NoMemory) _ (ends_refused all asked (stand_of all c.room.self) _))
+    rw (c.keep_front.ensures.filled, c.keep_front.ensures.wanted) (places_err all asked (stand_of all c.room.self) rest c.from_residual-in_err-keep_front.ensures.1
+    (c.room.invariant.goes rest e (Err fault.NoMemory) _ (ends_refused all asked (stand_of all c.room.self) _)))
 
 pub returns-clause-places : goal.returns-clause-places
 returns-clause-places g c = λ rest e.
@@ -104,5 +104,5 @@ returns-clause-places g c = λ rest e.
 pub returns-clause-full : goal.returns-clause-full
 returns-clause-full g c = λ wants. elim (c.wants.ensures.otherwise c.room-test.false) [
   | inl over ↦ absurd (wants (c.keep_front.ensures.wanted ∙ over))
-  | inr full ↦ c.keep_front.ensures.full full
+  | inr full ↦ c.in_ok-keep_front.ensures.full full
 ]
