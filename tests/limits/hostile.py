@@ -67,6 +67,26 @@ OF_MANY_CLASSES = {
     'usages': lambda: HEADERS['usages'] + ''.join(f'{P1},CUSTOM_{n},1\n' for n in reversed(range(CLASSES))),
 }
 
+# Disks in the aggregate of a site, and each in one of a host of its own too: so many lists of roots that all differ, each of the whole site and that host.
+SITE = 14000
+
+
+def knot(disks):
+    names = ids(SITE + 2 * disks)
+    rack = [f'{provider(0xa0000 + place)}\n' for place in range(disks)]
+    return {
+        'providers': lambda: roots(SITE + 2 * disks),
+        'inventories': HEADERS['inventories'],
+        'traits': lambda: HEADERS['traits'] + ''.join(f'{id},MISC_SHARES_VIA_AGGREGATE\n' for id in names[SITE:SITE + disks]),
+        'aggregates': lambda: HEADERS['aggregates'] + ''.join([*(f'{id},{provider(0xf0000)}\n' for id in names[:SITE + disks]),
+                                                              *(f'{id},{place}' for id, place in zip(names[SITE:SITE + disks], rack)),
+                                                              *(f'{id},{place}' for id, place in zip(names[SITE + disks:], rack))]),
+    }
+
+
+# Each list has SITE + disks + 1 roots; all together may have 67108864.
+MOST_DISKS = 3775
+
 MILLIONS_OF_COLUMNS = '60 MiB of commas', '64 MiB of commas'
 
 # Queries of 65536 bytes, or nearly as many, and the line or the answer.
@@ -124,6 +144,9 @@ def hostile(program):
                    {**ONE, 'inventories': HEADERS['inventories'], table: made})
     counts = f'providers 1\ninventories {CLASSES}\nusages {CLASSES}\ntraits 0\naggregates 0\n'
     yield Case(f'hostile tables: {CLASSES} classes of one provider, each used', [*limited, 'check'], counts, tables=OF_MANY_CLASSES)
+    counts = f'providers {SITE + 2 * MOST_DISKS}\ninventories 0\nusages 0\ntraits {MOST_DISKS}\naggregates {SITE + 3 * MOST_DISKS}\n'
+    yield Case('hostile tables: as many roots in lists as there may be', [*limited, 'check'], counts, tables=knot(MOST_DISKS))
+    yield Case('hostile tables: more roots in lists than there may be', [*limited, 'check'], '', 'out of memory\n', 7, knot(MOST_DISKS + 1))
     for name, query, says in QUERIES:
         accepted = says in (None, 'P1')
         yield Case(f'hostile query: {name}', [*limited, 'tokens', query], lines('P1') if says == 'P1' else '',
