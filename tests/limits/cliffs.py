@@ -100,6 +100,6 @@ def cliffs(program):
     limited = ['sh', '-c', LIMITED.format(1), 'limited', program]
     for name, cloud, words, made in ASKED:
         if made is None:
-            yield Case(f'looked ahead: {name}', [*limited, *words], None, None, 1, cloud)
+            yield Case(f'looked ahead: {name}', [*limited, *words], None, status=1, tables=cloud)
         else:
             yield Case(f'looked ahead: {name}', [*limited, *words], ''.join(f'{line}\n' for line in made()), tables=cloud)
