@@ -17,6 +17,6 @@ pub use counts::{
 };
 pub use lacks::{Lack, Stage, find_lack, find_lacks, first_failed};
 pub use missing::{
-    some_root_has, somebody_has_class, somebody_has_one, somebody_has_trait, somebody_is,
+    mark_had, some_root_has, somebody_has_class, somebody_has_one, somebody_has_trait, somebody_is,
     somebody_is_in,
 };

@@ -9,6 +9,9 @@ ghost use Rattle.ac_cloud.specs.World.{has_trait, is_member, is_root};
 ghost use Rattle.ac_cloud.specs.Cloud.CloudWorld.{providers_of};
 ghost use Rattle.ac_find.specs.Missing.{some_root_has, somebody_has_class, somebody_has_one, somebody_has_trait, somebody_is, somebody_is_in, someone};
 
+mod marks;
+
+pub use self::marks::mark_had;
 use ac_base::{ClassName, Id, TraitName};
 use ac_cloud::{Cloud, Provider};
 use ac_rules::rules::traits::has_any;
