@@ -1,10 +1,10 @@
 //! Places by tree, by grove, or by part of the forest, of which the next one of a tree is found by binary search.
 
-ghost use Rattle.std.specs.Prelude.{◌≡◌, ◌+◌, ◌-◌, ◌*◌, ◌<◌, ◌≤◌, ◌^◌, ◌++◌, ◌||◌, ℕ, List, [], true, false, length, map, IfOk, MatchOption, slice_index, slice_index_or};
+ghost use Rattle.std.specs.Prelude.{◌≡◌, ◌+◌, ◌-◌, ◌*◌, ◌<◌, ◌≤◌, ◌^◌, ◌++◌, ◌||◌, ℕ, List, true, false, length, map, IfOk, slice_index};
 ghost use Rattle.std.specs.List.{All, list_any};
 ghost use Rattle.ac_cloud.specs.Cloud.CloudWorld.{providers_of, root_lists_of};
 ghost use Rattle.ac_cloud.specs.World.{Provider, is_available_at};
-ghost use Rattle.ac_prune.specs.Trees.Keys.{key_of, is_there, IsUnder, IsLeastFrom, IsNextIn};
+ghost use Rattle.ac_prune.specs.Trees.Keys.{key_of, is_there, IsLeastFrom, IsNextIn};
 
 use crate::trees::groves::{Groves, grove_of};
 use crate::tuning::MOST_PAIRS;
