@@ -16,17 +16,18 @@ ghost use Rattle.std.specs.Prelude.{◌≡◌, ◌<◌, Some, None, [], map, len
 ghost use Rattle.std.specs.Option.{option_map, option_copied};
 ghost use Rattle.ac_base.specs.Names.{class_bytes, trait_bytes};
 ghost use Rattle.ac_cloud.specs.Cloud.CloudParts.{BelongTogether, BelongTogether-prop};
-ghost use Rattle.std.specs.List.{list_any};
+ghost use Rattle.std.specs.List.Sorted.{IsStrictlySortedBy};
+ghost use Rattle.std.specs.Ordering.{nat_cmp};
 ghost use Rattle.ac_cloud.specs.ListsOf.{lists_of};
 ghost use Rattle.ac_cloud.specs.Cloud.Anchors.{list_items};
 ghost use Rattle.ac_cloud.specs.Cloud.Entries.{entry_pair, entry_value};
 ghost use Rattle.ac_cloud.specs.Amounts.{amount_at, with_amounts};
-ghost use Rattle.ac_cloud.specs.World.{provider_at, id_at, place_of, parent_of, root_of, is_above, entry_in, used_of, has_trait, is_member, shares, is_available_at, anchors_of};
+ghost use Rattle.ac_cloud.specs.World.{provider_at, id_at, place_of, parent_of, root_of, is_above, entry_in, used_of, has_trait, shares, is_available_at, anchors_of};
 
 use crate::cloud::ancestry::Visits;
 use crate::cloud::anchors::Anchors;
 use crate::cloud::entry::Entry;
-use crate::cloud::lookups::{find_entry, find_place, has_any_id, has_id, has_name};
+use crate::cloud::lookups::{find_entry, find_place, has_name};
 use crate::cloud::provider_index::Ids;
 use crate::lists::Lists;
 use ac_base::{ClassName, Id, Inventory, TraitName};
@@ -195,21 +196,13 @@ impl Cloud {
         has_name(self.traits.of(ix as usize), name)
     }
 
-    /// Whether a provider itself belongs to an aggregate.
-    pub fn in_aggregate(&self, ix: u32, aggregate: Id) -> bool
+    /// The aggregates to which a provider itself belongs, in order, each once.
+    pub fn aggregates(&self, ix: u32) -> &[Id]
         requires { ix < length (providers_of self.now) }
-        ensures { result ≡ is_member (provider_at (providers_of self.now) ix) aggregate }
+        ensures aggregates { result.now ≡ (provider_at (providers_of self.now) ix).aggregates }
+        ensures rising { IsStrictlySortedBy nat_cmp result.now }
     {
-        has_id(self.aggregates.of(ix as usize), aggregate)
-    }
-
-    /// Whether a provider itself belongs to one of some aggregates.
-    pub fn in_any_aggregate(&self, ix: u32, aggregates: &[Id]) -> bool
-        requires { ix < length (providers_of self.now) }
-        ensures { result ≡ list_any (is_member (provider_at (providers_of self.now) ix))
-            aggregates.now }
-    {
-        has_any_id(self.aggregates.of(ix as usize), aggregates)
+        self.aggregates.of(ix as usize)
     }
 
     // Whether the parents of `b` lead to `a`.

@@ -1,11 +1,12 @@
 //! The providers of a cloud one by one: what each has, and where it stands.
 
 ghost use Rattle.std.specs.Prelude.{◌≡◌, ◌<◌, length, map};
-ghost use Rattle.std.specs.List.{list_any};
+ghost use Rattle.std.specs.List.Sorted.{IsStrictlySortedBy};
+ghost use Rattle.std.specs.Ordering.{nat_cmp};
 ghost use Rattle.std.specs.Option.{is_some, option_map, option_copied};
 ghost use Rattle.ac_base.specs.Names.{class_bytes, trait_bytes};
 ghost use Rattle.ac_cloud.specs.Cloud.CloudWorld.{providers_of};
-ghost use Rattle.ac_cloud.specs.World.{entry_in, has_trait, is_member, is_root, left_of, parent_of, root_provider, shares, used_of};
+ghost use Rattle.ac_cloud.specs.World.{entry_in, has_trait, is_root, left_of, parent_of, root_provider, shares, used_of};
 
 use crate::cloud::Cloud;
 use ac_base::{ClassName, Id, Inventory, TraitName};
@@ -69,18 +70,12 @@ impl<'a> Provider<'a> {
         self.cloud.has_trait(self.ix, name)
     }
 
-    /// Whether it itself belongs to an aggregate.
-    pub fn in_aggregate(&self, aggregate: Id) -> bool
-        ensures { result ≡ is_member (provider_of self.now) aggregate }
+    /// The aggregates to which it itself belongs, in order, each once.
+    pub fn aggregates(&self) -> &'a [Id]
+        ensures aggregates { result.now ≡ (provider_of self.now).aggregates }
+        ensures rising { IsStrictlySortedBy nat_cmp result.now }
     {
-        self.cloud.in_aggregate(self.ix, aggregate)
-    }
-
-    /// Whether it itself belongs to one of some aggregates.
-    pub fn in_any_aggregate(&self, aggregates: &[Id]) -> bool
-        ensures { result ≡ list_any (is_member (provider_of self.now)) aggregates.now }
-    {
-        self.cloud.in_any_aggregate(self.ix, aggregates)
+        self.cloud.aggregates(self.ix)
     }
 
     /// Whether it shares what it has with the trees with which it has an aggregate in common.

@@ -5,3 +5,4 @@ pub mod LackingLemmas
 pub mod LackLaws
 pub mod RequiredLemmas
 pub mod NoneLemmas
+pub mod MarkLemmas

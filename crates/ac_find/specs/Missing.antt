@@ -1,5 +1,5 @@
 -- What nobody in a cloud has, and no root.
-use Rattle.std.specs.Prelude.{ℕ, ◌&&◌, Bool, List, length}
+use Rattle.std.specs.Prelude.{◌≡◌, ℕ, ◌<◌, ◌&&◌, ◌||◌, Bool, true, false, List, [], get_or, length, slice_index_or}
 use Rattle.std.specs.List.{list_any, range_with_len}
 use Rattle.std.specs.Option.{is_some}
 use Rattle.ac_cloud.specs.World.{Provider, entry_in, has_trait, is_member, is_root, place_of, provider_at}
@@ -24,6 +24,15 @@ somebody_has_one all names = someone all (λ p. has_any p names)
 -- some root has a trait
 unfoldable pub some_root_has : List Provider → List ℕ → Bool
 some_root_has all name = someone all (λ p. is_root all p.id && has_trait p name)
+
+-- some provider has a trait, or where roots alone are asked, some root
+abbrev pub is_had : Bool → List Provider → List ℕ → Bool
+is_had true all name = some_root_has all name
+is_had false all name = somebody_has_trait all name
+
+-- the marks of some names that stay, and those of names that pass a test
+abbrev pub AreMarked : List (List ℕ) → (List ℕ → Bool) → List Bool → List Bool → Type 0
+AreMarked names test old new = (k : ℕ) → k < length old → slice_index_or new k false ≡ (slice_index_or old k false || test (get_or names k []))
 
 -- some provider is in an aggregate
 unfoldable pub somebody_is_member : List Provider → ℕ → Bool

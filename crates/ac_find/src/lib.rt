@@ -16,7 +16,4 @@ pub use counts::{
     SlotCounts, SlotTold, TreeCounts, all_slots, requires_some, slot_counts, tree_counts,
 };
 pub use lacks::{Lack, Stage, find_lack, find_lacks, first_failed};
-pub use missing::{
-    some_root_has, somebody_has_class, somebody_has_one, somebody_has_trait, somebody_is,
-    somebody_is_in,
-};
+pub use missing::{mark_had, somebody_has_class, somebody_has_one, somebody_is, somebody_is_in};

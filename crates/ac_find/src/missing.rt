@@ -1,16 +1,21 @@
 //! What nobody in a cloud has, and no root: each test goes through all providers once, and takes no memory.
-ghost use Rattle.std.specs.Prelude.{◌≡◌, ◌&&◌, map};
+ghost use Rattle.std.specs.Prelude.{◌≡◌, map};
 ghost use Rattle.std.specs.List.{list_any};
 ghost use Rattle.std.specs.List.Sorted.{IsStrictlySortedBy};
 ghost use Rattle.ac_base.specs.Names.{class_bytes, trait_bytes};
 ghost use Rattle.ac_base.specs.Texts.{text_cmp};
-ghost use Rattle.ac_cloud.specs.Providers.{provider_of};
-ghost use Rattle.ac_cloud.specs.World.{has_trait, is_member, is_root};
+ghost use Rattle.ac_cloud.specs.World.{is_member};
 ghost use Rattle.ac_cloud.specs.Cloud.CloudWorld.{providers_of};
-ghost use Rattle.ac_find.specs.Missing.{some_root_has, somebody_has_class, somebody_has_one, somebody_has_trait, somebody_is, somebody_is_in, someone};
+ghost use Rattle.ac_query.specs.Shown.Groups.{rule_shown};
+ghost use Rattle.ac_find.specs.Missing.{somebody_has_class, somebody_has_one, somebody_is, somebody_is_in, someone};
 
+mod marks;
+
+pub use self::marks::mark_had;
 use ac_base::{ClassName, Id, TraitName};
-use ac_cloud::{Cloud, Provider};
+use ac_cloud::Cloud;
+use ac_query::AggregateRule;
+use ac_rules::rules::own::is_in_any;
 use ac_rules::rules::traits::has_any;
 
 /// Whether some provider has an inventory of a class, however much is left of it.
@@ -19,14 +24,6 @@ pub fn somebody_has_class(cloud: &Cloud, class: &ClassName) -> bool
     ensures { result ≡ somebody_has_class (providers_of cloud.now) (class_bytes class.now) }
 {
     (0..cloud.len()).any(|ix| cloud.provider(ix).inventory(class).is_some())
-}
-
-/// Whether some provider has a trait.
-#[tactic(auto, using(ac_cloud::proofs::Ranges::range_more, ac_cloud::proofs::Ranges::range_end), unfolding(crate::specs::Missing::somebody_has_trait))]
-pub fn somebody_has_trait(cloud: &Cloud, name: &TraitName) -> bool
-    ensures { result ≡ somebody_has_trait (providers_of cloud.now) (trait_bytes name.now) }
-{
-    (0..cloud.len()).any(|ix| cloud.provider(ix).has_trait(name))
 }
 
 /// Whether some provider has one of these traits, which rise.
@@ -38,37 +35,21 @@ pub fn somebody_has_one(cloud: &Cloud, names: &[TraitName]) -> bool
     (0..cloud.len()).any(|ix| has_any(&cloud.provider(ix), names))
 }
 
-// Whether a provider is a root, and has a trait.
-fn is_root_with(provider: &Provider, name: &TraitName) -> bool
-    ensures { result ≡ (is_root (providers_of provider.now.cloud.now) (provider_of provider.now).id
-        && has_trait (provider_of provider.now) (trait_bytes name.now)) }
-{
-    provider.is_root() && provider.has_trait(name)
-}
-
-/// Whether some root has a trait.
-#[tactic(auto, using(ac_cloud::proofs::Ranges::range_more, ac_cloud::proofs::Ranges::range_end), unfolding(crate::specs::Missing::some_root_has))]
-pub fn some_root_has(cloud: &Cloud, name: &TraitName) -> bool
-    ensures { result ≡ some_root_has (providers_of cloud.now) (trait_bytes name.now) }
-{
-    (0..cloud.len()).any(|ix| is_root_with(&cloud.provider(ix), name))
-}
-
-// Whether some provider is in one of these aggregates, by the providers one after another.
+// Whether some provider is in one of a rule's aggregates, by the providers one after another.
 #[tactic(auto, using(ac_cloud::proofs::Ranges::range_more, ac_cloud::proofs::Ranges::range_end))]
-fn some_member(cloud: &Cloud, aggregates: &[Id]) -> bool
+fn some_member(cloud: &Cloud, rule: &AggregateRule) -> bool
     ensures { result ≡ someone (providers_of cloud.now)
-        (λ p. list_any (is_member p) aggregates.now) }
+        (λ p. list_any (is_member p) (rule_shown rule.now).ids) }
 {
-    (0..cloud.len()).any(|ix| cloud.provider(ix).in_any_aggregate(aggregates))
+    (0..cloud.len()).any(|ix| is_in_any(&cloud.provider(ix), rule))
 }
 
-/// Whether some provider is in one of these aggregates.
+/// Whether some provider is in one of a rule's aggregates.
 #[tactic(auto, unfolding(crate::specs::Missing::somebody_is_in, crate::specs::Missing::somebody_is_member))]
-pub fn somebody_is_in(cloud: &Cloud, aggregates: &[Id]) -> bool
-    ensures { result ≡ somebody_is_in (providers_of cloud.now) aggregates.now }
+pub fn somebody_is_in(cloud: &Cloud, rule: &AggregateRule) -> bool
+    ensures { result ≡ somebody_is_in (providers_of cloud.now) (rule_shown rule.now).ids }
 {
-    some_member(cloud, aggregates)
+    some_member(cloud, rule)
 }
 
 /// Whether a UUID is that of some provider.

@@ -1,7 +1,9 @@
 //! Request groups: what each needs of one provider, or of several.
-ghost use Rattle.std.specs.Prelude.{map};
+ghost use Rattle.std.specs.Prelude.{◌≡◌, map};
 ghost use Rattle.std.specs.List.Sorted.{IsStrictlySortedBy};
+ghost use Rattle.std.specs.Ordering.{nat_cmp};
 ghost use Rattle.ac_base.specs.Names.{class_bytes, trait_bytes};
+ghost use Rattle.ac_base.specs.Sorted.{rising};
 ghost use Rattle.ac_base.specs.Texts.{text_cmp};
 ghost use Rattle.std.proofs.Props.{props};
 
@@ -29,6 +31,9 @@ pub struct AnyOf {
 pub struct AggregateRule {
     pub(crate) forbids: bool,
     pub(crate) ids: Vec<Id>,
+    // The same aggregates in order, each once.
+    pub(crate) in_order: Vec<Id>,
+    ghost same: { in_order.items ≡ rising nat_cmp ids.items } by { Prim.hlevel props },
 }
 
 /// A request group.

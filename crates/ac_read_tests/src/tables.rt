@@ -103,8 +103,8 @@ fn has_ids(cloud: &Cloud, p9: Id, a1: Id) -> bool {
         && cloud.index_of(p9) == Some(4)
         && cloud.id(4) == p9
         && cloud.index_of(a1).is_none()
-        && cloud.in_aggregate(1, a1)
-        && !cloud.in_aggregate(0, a1)
+        && cloud.aggregates(1).contains(&a1)
+        && !cloud.aggregates(0).contains(&a1)
 }
 
 // What there is of a class, and of a trait.

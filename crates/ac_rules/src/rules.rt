@@ -2,7 +2,7 @@
 
 pub mod anchor;
 pub(crate) mod each;
-pub(crate) mod own;
+pub mod own;
 pub mod sums;
 pub mod traits;
 pub(crate) mod whole;

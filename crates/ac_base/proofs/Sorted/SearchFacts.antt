@@ -1,5 +1,5 @@
 -- Binary search in a list whose keys rise.
-use Rattle.std.proofs.Common.{◌≡◌, ◌∙◌, ◌<◌, ◌+◌, ℕ, zero, suc, Bool, true, false, List, [], ◌∷◌, map, length, get_or, Some, None, refl, sym, ap, ap₂, arith, Ordering, inl, inr, Result, Ok, Err, ◌==◌, ◌||◌, if◌then◌else◌, Less, Equal, is_lt, is_eq, nat_cmp, IsSortedBy, is_ok, MatchResult}
+use Rattle.std.proofs.Common.{◌≡◌, ◌∙◌, ◌<◌, ◌+◌, ℕ, zero, suc, Bool, true, false, List, [], ◌∷◌, map, length, get_or, Some, None, refl, sym, ap, ap₂, arith, Ordering, inl, inr, Result, Ok, Err, ◌==◌, ◌&&◌, ◌||◌, if◌then◌else◌, Less, Equal, is_lt, is_eq, nat_cmp, IsSortedBy, is_ok, MatchResult}
 use Rattle.std.specs.Ordering.{ordering_reverse}
 use Rattle.std.specs.Cmp.{IsTotalOrder}
 use Rattle.std.specs.List.{list_any}
@@ -8,7 +8,7 @@ use Rattle.std.specs.List.Sorted.{IsBinarySearchResult, IsStrictlySortedBy, IsSe
 use Rattle.std.proofs.lemmas.List.{get_or-map, length-map}
 use Rattle.std.proofs.lemmas.List.Folds.{list_any_at, list_any_none}
 use Rattle.std.proofs.lemmas.Cmp.{alike_right}
-use Rattle.std.proofs.lemmas.Bool.{cases_lt}
+use Rattle.std.proofs.lemmas.Bool.{cases_Bool, cases_lt}
 use Rattle.std.proofs.lemmas.List.Sorted.{searchable_from_sorted}
 use Rattle.std.proofs.lemmas.Map.Keys.{Less-from_sorted}
 use Rattle.std.proofs.lemmas.Grind.{common_steps}
@@ -34,6 +34,22 @@ any_same p q same (x ∷ xs) = ap₂ (λ a b. a || b) (same x) (any_same p q sam
 pub any_map : {A B : Type 0} (p : A → Bool) (q : B → Bool) (f : A → B) (same : (a : A) → p a ≡ q (f a)) (xs : List A) → list_any p xs ≡ list_any q (map f xs)
 any_map p q f same [] = refl
 any_map p q f same (x ∷ xs) = ap₂ (λ a b. a || b) (same x) (any_map p q f same xs)
+
+-- one of the first and one of the second
+pub any_or : {A : Type 0} (u v : A → Bool) (xs : List A) → list_any (λ x. u x || v x) xs ≡ (list_any u xs || list_any v xs)
+any_or u v [] = refl
+any_or u v (x ∷ xs) = ap (λ b. (u x || v x) || b) (any_or u v xs) ∙ four (u x) (v x) (list_any u xs) (list_any v xs)
+  where
+    four : (a b c d : Bool) → ((a || b) || (c || d)) ≡ ((a || c) || (b || d))
+    four a b c d = grind (arith, common_steps, cases_Bool)
+
+and_any : {A : Type 0} (b : Bool) (g : A → Bool) (xs : List A) → (b && list_any g xs) ≡ list_any (λ x. b && g x) xs
+and_any true g xs = refl
+and_any false g xs = sym (list_any_none (λ x. false) xs (λ k d h. refl))
+
+pub any_swap : {Q A : Type 0} (f : Q → Bool) (g : Q → A → Bool) (qs : List Q) (xs : List A) → list_any (λ q. f q && list_any (g q) xs) qs ≡ list_any (λ x. list_any (λ q. f q && g q x) qs) xs
+any_swap f g [] xs = sym (list_any_none (λ x. false) xs (λ k d h. refl))
+any_swap f g (q ∷ qs) xs = ap₂ (λ b c. b || c) (and_any (f q) (g q) xs) (any_swap f g qs xs) ∙ sym (any_or (λ x. f q && g q x) (λ x. list_any (λ r. f r && g r x) qs) xs)
 
 pub is_eq_nat : (a b : ℕ) → is_eq (nat_cmp a b) ≡ (b == a)
 is_eq_nat a b = grind arith

@@ -4,7 +4,7 @@ use Rattle.std.specs.List.Sorted.{IsStrictlySortedBy}
 use Rattle.ac_cloud.specs.World.{shares, is_associated, have_common_aggregate}
 use Rattle.std.proofs.lemmas.List.Folds.{list_any_none}
 use Rattle.std.proofs.lemmas.List.FromFn.{fill_by_all}
-use Rattle.ac_base.proofs.Sorted.SearchFacts.{any_map}
+use Rattle.ac_base.proofs.Sorted.SearchFacts.{any_map, any_or, any_swap}
 use Rattle.ac_cloud.proofs.Places.CloudFacts.{traits_here, aggregates_here, size, parent_is, root_inside, root_here, parts}
 use Rattle.ac_cloud.proofs.Places.AvailableFacts.{root_test, root_here as root_is_here}
 use Rattle.ac_cloud.proofs.Places.AnchorLists.{joined_where, rising_filter}
@@ -26,22 +26,6 @@ filter_range p q zero a same = refl
 filter_range p q (suc n) a same =
     let rest = filter_range p q n (a + 1) (λ (i : ℕ) (h : i < a + 1 + n). same i (omega (arith, h))) in
     ap₂ (λ b l. if b then a ∷ l else l) (same a (omega arith)) rest
-
--- one of the first and one of the second
-pub any_or : {A : Type 0} (u v : A → Bool) (xs : List A) → list_any (λ x. u x || v x) xs ≡ (list_any u xs || list_any v xs)
-any_or u v [] = refl
-any_or u v (x ∷ xs) = ap (λ b. (u x || v x) || b) (any_or u v xs) ∙ four (u x) (v x) (list_any u xs) (list_any v xs)
-  where
-    four : (a b c d : Bool) → ((a || b) || (c || d)) ≡ ((a || c) || (b || d))
-    four a b c d = grind (arith, common_steps, cases_Bool)
-
-and_any : {A : Type 0} (b : Bool) (g : A → Bool) (xs : List A) → (b && list_any g xs) ≡ list_any (λ x. b && g x) xs
-and_any true g xs = refl
-and_any false g xs = sym (list_any_none (λ x. false) xs (λ k d h. refl))
-
-pub any_swap : {Q A : Type 0} (f : Q → Bool) (g : Q → A → Bool) (qs : List Q) (xs : List A) → list_any (λ q. f q && list_any (g q) xs) qs ≡ list_any (λ x. list_any (λ q. f q && g q x) qs) xs
-any_swap f g [] xs = sym (list_any_none (λ x. false) xs (λ k d h. refl))
-any_swap f g (q ∷ qs) xs = ap₂ (λ b c. b || c) (and_any (f q) (g q) xs) (any_swap f g qs xs) ∙ sym (any_or (λ x. f q && g q x) (λ x. list_any (λ r. f r && g r x) qs) xs)
 
 alone : (x : ℕ) → IsStrictlySortedBy nat_cmp (x ∷ [])
 unfolding IsStrictlySortedBy

@@ -1,10 +1,9 @@
 //! Look-ups in the lists of one provider, each in order.
-ghost use Rattle.std.specs.Prelude.{◌==◌, ◌≡◌, codes, map, IfOk};
+ghost use Rattle.std.specs.Prelude.{◌≡◌, codes, map, IfOk};
 ghost use Rattle.std.specs.List.{list_any};
 ghost use Rattle.std.specs.List.Sorted.{IsStrictlySortedBy};
 ghost use Rattle.std.specs.Map.{lookup};
 ghost use Rattle.std.specs.Option.{option_map, option_copied};
-ghost use Rattle.std.specs.Ordering.{nat_cmp};
 ghost use Rattle.std.specs.Str.{bytes_eq};
 ghost use Rattle.ac_base.specs.Names.{class_bytes, trait_bytes};
 ghost use Rattle.ac_base.specs.Texts.{text_cmp};
@@ -14,7 +13,7 @@ ghost use Rattle.ac_cloud.specs.ListsOf.{lists_of};
 
 use crate::cloud::entry::Entry;
 use crate::lists::Lists;
-use ac_base::{ClassName, Id, TraitName};
+use ac_base::{ClassName, TraitName};
 use std::alloc::{AllocError, Global};
 
 // The place of a class among entries, where it stands there.
@@ -45,33 +44,6 @@ pub(crate) fn has_name(names: &[TraitName], name: &TraitName) -> bool
     ensures { result ≡ list_any (bytes_eq (trait_bytes name.now)) (map trait_bytes names.now) }
 {
     names.binary_search(name).is_ok()
-}
-
-// Whether an aggregate is one of these.
-pub(crate) fn has_id(ids: &[Id], id: Id) -> bool
-    requires { IsStrictlySortedBy nat_cmp ids.now }
-    ensures { result ≡ list_any (λ a. a == id) ids.now }
-{
-    ids.binary_search(&id).is_ok()
-}
-
-// Whether one of some ids is among these.
-fn is_one_of(own: &[Id], ids: &[Id]) -> bool
-    ensures { result ≡ list_any (λ a. list_any (λ b. a == b) ids.now) own.now }
-{
-    own.iter().any(|id| ids.contains(id))
-}
-
-// Whether one of some ids is among these, which rise: what there is less of is gone through.
-pub(crate) fn has_any_id(own: &[Id], ids: &[Id]) -> bool
-    requires { IsStrictlySortedBy nat_cmp own.now }
-    ensures { result ≡ list_any (λ id. list_any (λ a. a == id) own.now) ids.now }
-{
-    if own.len() < ids.len() {
-        is_one_of(own, ids)
-    } else {
-        ids.iter().any(|id| has_id(own, *id))
-    }
 }
 
 // Whether a provider of these traits shares what it has.

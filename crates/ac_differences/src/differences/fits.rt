@@ -12,6 +12,7 @@ ghost use Rattle.ac_differences.specs.Differing.{are_met_by, fits_with_its_root,
 use ac_cloud::{Cloud, Provider};
 use ac_query::{AggregateRule, Group, Query};
 use ac_rules::Placed;
+use ac_rules::rules::own::is_in_any;
 
 // Whether a sharing provider meets the rules of its slot alone.
 fn lends(placed: &Placed) -> bool
@@ -33,7 +34,7 @@ pub(crate) fn is_lent(cloud: &Cloud, query: &Query, s: usize) -> bool
 fn is_met_by(provider: &Provider, rule: &AggregateRule) -> bool
     ensures { result ≡ is_met_by (provider_of provider.now) (rule_shown rule.now) }
 {
-    provider.in_any_aggregate(rule.ids()) != rule.forbids()
+    is_in_any(provider, rule) != rule.forbids()
 }
 
 // Whether a provider meets each rule of a group by its own aggregates.

@@ -15,10 +15,10 @@ use super::asks::has_suffix_before;
 use super::fits::{
     fits_with_its_root, has_to_lend, is_lent, lends_by_its_root, lends_from_below, lends_outside,
 };
-use ac_base::Id;
 use ac_cloud::{Cloud, Provider};
 use ac_query::{AggregateRule, Query};
 use ac_rules::Placed;
+use ac_rules::rules::own::is_in_any;
 use ac_rules::slots::{count_slots, group_at, is_suffixed, needs_at};
 
 // Whether a slot asks for no resources.
@@ -142,20 +142,20 @@ pub(crate) fn meets_in_halves(cloud: &Cloud, query: &Query) -> bool
     (0..count_slots(query)).any(|s| !is_suffixed(query, s) && is_met_in_halves(cloud, query, s))
 }
 
-// Whether a provider is a root in one of these aggregates.
-fn is_root_in(provider: &Provider, ids: &[Id]) -> bool
+// Whether a provider is a root in one of a rule's aggregates.
+fn is_root_in(provider: &Provider, rule: &AggregateRule) -> bool
     ensures { result ≡ (is_root (providers_of provider.now.cloud.now) (provider_of provider.now).id
-        && list_any (is_member (provider_of provider.now)) ids.now) }
+        && list_any (is_member (provider_of provider.now)) (rule_shown rule.now).ids) }
 {
-    provider.in_any_aggregate(ids) && provider.is_root()
+    is_in_any(provider, rule) && provider.is_root()
 }
 
-// Whether some root is in one of these aggregates.
+// Whether some root is in one of a rule's aggregates.
 #[tactic(auto, using(ac_cloud::proofs::Ranges::range_more, ac_cloud::proofs::Ranges::range_end))]
-fn has_root_in(cloud: &Cloud, ids: &[Id]) -> bool
-    ensures { result ≡ has_root_in (providers_of cloud.now) ids.now }
+fn has_root_in(cloud: &Cloud, rule: &AggregateRule) -> bool
+    ensures { result ≡ has_root_in (providers_of cloud.now) (rule_shown rule.now).ids }
 {
-    (0..cloud.len()).any(|ix| is_root_in(&cloud.provider(ix), ids))
+    (0..cloud.len()).any(|ix| is_root_in(&cloud.provider(ix), rule))
 }
 
 // Whether some sharing provider has what a slot asks for, and meets a rule by its own aggregates.
@@ -174,7 +174,7 @@ fn forbids_a_root(cloud: &Cloud, query: &Query, s: usize, rule: &AggregateRule) 
     ensures { result ≡ forbids_a_root (providers_of cloud.now) (asked_of query.now) s
         (rule_shown rule.now) }
 {
-    rule.forbids() && has_root_in(cloud, rule.ids()) && is_lent_outside(cloud, query, s, rule)
+    rule.forbids() && has_root_in(cloud, rule) && is_lent_outside(cloud, query, s, rule)
 }
 
 // Whether one of a slot's rules forbids aggregates that some root is in, and some sharing provider with what the slot asks for isn't.

@@ -1,14 +1,33 @@
 //! What groups, needs and aggregate rules give.
 ghost use Rattle.std.specs.Prelude.{◌≡◌, ◌<◌, ◌≤◌, map};
+ghost use Rattle.std.specs.List.{list_any};
 ghost use Rattle.std.specs.List.Sorted.{IsStrictlySortedBy};
 ghost use Rattle.std.specs.Option.{option_map};
+ghost use Rattle.std.specs.Ordering.{nat_cmp};
 ghost use Rattle.ac_base.specs.Names.{class_bytes, trait_bytes, suffix_bytes};
+ghost use Rattle.ac_base.specs.Sorted.{is_one_of};
 ghost use Rattle.ac_base.specs.Texts.{text_cmp};
 ghost use Rattle.ac_query.specs.Shown.Groups.{need_class, need_entry, rule_shown, any_of_shown, suffix_of, group_asked, group_entry};
 ghost use Rattle.ac_query.specs.Without.{relaxed};
 
 use super::{AggregateRule, AnyOf, Group, Need};
 use ac_base::{ClassName, Id, Suffix, TraitName};
+
+// Whether an aggregate is one of these, which rise.
+fn is_among(id: Id, ids: &[Id]) -> bool
+    requires { IsStrictlySortedBy nat_cmp ids.now }
+    ensures { result ≡ is_one_of ids.now id }
+{
+    ids.binary_search(&id).is_ok()
+}
+
+// Whether one of some aggregates is one of these, which rise.
+fn has_one(ids: &[Id], some: &[Id]) -> bool
+    requires { IsStrictlySortedBy nat_cmp ids.now }
+    ensures { result ≡ list_any (is_one_of ids.now) some.now }
+{
+    some.iter().any(|id| is_among(*id, ids))
+}
 
 impl Need {
     /// The class of which something is asked for.
@@ -51,6 +70,18 @@ impl AggregateRule {
         ensures { result.now ≡ (rule_shown self.now).ids }
     {
         self.ids.as_slice()
+    }
+
+    /// Whether one of the aggregates is one of these, which rise: what there is less of is gone through.
+    pub fn names_any(&self, own: &[Id]) -> bool
+        requires { IsStrictlySortedBy nat_cmp own.now }
+        ensures { result ≡ list_any (is_one_of own.now) (rule_shown self.now).ids }
+    {
+        if own.len() < self.ids.len() {
+            has_one(&self.in_order, own)
+        } else {
+            has_one(own, &self.ids)
+        }
     }
 }
 

@@ -3,6 +3,8 @@ ghost use Rattle.std.specs.Prelude.{◌≡◌, ℕ, List, [], IfOk, map};
 ghost use Rattle.std.specs.List.{fold};
 ghost use Rattle.std.specs.Option.{option_map};
 ghost use Rattle.std.specs.BTreeSet.{insert_key};
+ghost use Rattle.std.specs.Ordering.{nat_cmp};
+ghost use Rattle.ac_base.specs.Sorted.{rising};
 ghost use Rattle.ac_query.specs.Pairs.Values.{amount_value, need_value, by_class, needs_value, traits_value, names_value, aggregates_value, rule_value, subtree_value, policy_value};
 ghost use Rattle.ac_query.specs.Shown.{needs_shown, traits_shown, suffixes_shown};
 ghost use Rattle.ac_query.specs.Shown.Groups.{need_entry, rule_shown, any_of_shown};
@@ -135,6 +137,25 @@ fn read_aggregates(alloc: Global, text: &str) -> Result<Option<Vec<Id>>, NoMemor
     Ok(Some(ids))
 }
 
+// The ids of a set, in order.
+fn ids_of(alloc: Global, set: BTreeSet<Id>) -> Result<Vec<Id>, NoMemory>
+    ensures { IfOk result (λ ids. ids.items ≡ set.keys) }
+{
+    let mut ids = Vec::new(alloc);
+    for id in set {
+        ids.push(id)?;
+    }
+    Ok(ids)
+}
+
+// These ids in order, each once.
+fn ids_in_order(alloc: Global, ids: &[Id]) -> Result<Vec<Id>, NoMemory>
+    ensures { IfOk result (λ list. list.items ≡ rising nat_cmp ids.now) }
+{
+    let set = set_of(alloc, ids.to_vec(alloc)?)?;
+    Ok(ids_of(alloc, set)?)
+}
+
 /// An aggregate rule: `U`, `in:U,..`, `!U` or `!in:U,..`.
 #[tactic(auto, unfolding(crate::specs::Pairs::Values::rule_value))]
 pub(crate) fn read_rule(alloc: Global, text: &str) -> Result<Option<AggregateRule>, NoMemory>
@@ -145,7 +166,11 @@ pub(crate) fn read_rule(alloc: Global, text: &str) -> Result<Option<AggregateRul
         None => (false, text),
     };
     match read_aggregates(alloc, plain)? {
-        Some(ids) => Ok(Some(AggregateRule { forbids, ids })),
+        Some(ids) => Ok(Some(AggregateRule {
+            forbids,
+            in_order: ids_in_order(alloc, &ids)?,
+            ids,
+        })),
         None => Ok(None),
     }
 }

@@ -8,7 +8,7 @@ use Rattle.std.specs.Option.{is_none}
 use Rattle.ac_cloud.specs.World.{Provider, provider_at, root_provider, is_member}
 use Rattle.ac_rules.specs.Own.{counts_in}
 use Rattle.ac_rules.specs.Placed.{Placed}
-use Rattle.ac_cloud.proofs.Places.AnchorFacts.{any_or, any_swap}
+use Rattle.ac_base.proofs.Sorted.SearchFacts.{any_or, any_swap}
 use Rattle.ac_base.proofs.Sorted.SearchFacts.{any_same}
 
 -- one of the first is among the second, or one of the second among the first

@@ -4,14 +4,22 @@ ghost use Rattle.std.specs.Prelude.{◌≡◌, ◌<◌};
 ghost use Rattle.std.specs.List.{list_any};
 ghost use Rattle.ac_cloud.specs.World.{is_member, provider_at, root_provider};
 ghost use Rattle.ac_cloud.specs.Cloud.CloudWorld.{providers_of};
+ghost use Rattle.ac_cloud.specs.Providers.{provider_of};
 ghost use Rattle.ac_query.specs.Shown.Groups.{need_entry, rule_shown};
 ghost use Rattle.ac_rules.specs.Own.{inventory_of, admits, units_fit, traits_fit, counts_in, meets_rule, aggregates_fit, tree_fits, fits};
 
 use crate::assignment::Placed;
 use crate::rules::traits::{has_none, has_required};
 use crate::slots::is_suffixed;
-use ac_base::Id;
+use ac_cloud::Provider;
 use ac_query::{AggregateRule, Need};
+
+/// Whether one of a rule's aggregates is the provider's own.
+pub fn is_in_any(provider: &Provider, rule: &AggregateRule) -> bool
+    ensures { result ≡ list_any (is_member (provider_of provider.now)) (rule_shown rule.now).ids }
+{
+    rule.names_any(provider.aggregates())
+}
 
 impl<'a> Placed<'a> {
     ghost use Rattle.ac_rules.specs.Shown.Assignments.{placed_of};
@@ -47,29 +55,23 @@ impl<'a> Placed<'a> {
             && (group.suffix().is_none() || has_required(&provider, group))
     }
 
-    // Whether one of the aggregates is the provider's own.
-    fn has_own_of(&self, ids: &[Id]) -> bool
-        ensures { result ≡ list_any (is_member
-            (provider_at (providers_of self.now.cloud.now) self.now.provider)) ids.now }
-    {
-        self.its_provider().in_any_aggregate(ids)
-    }
-
-    // Whether one of the aggregates is its root's own.
-    fn has_roots_of(&self, ids: &[Id]) -> bool
+    // Whether one of a rule's aggregates is its root's own.
+    fn has_roots_of(&self, rule: &AggregateRule) -> bool
         ensures { result ≡ list_any (is_member (root_provider (providers_of self.now.cloud.now)
-            (provider_at (providers_of self.now.cloud.now) self.now.provider))) ids.now }
+            (provider_at (providers_of self.now.cloud.now) self.now.provider)))
+            (rule_shown rule.now).ids }
     {
-        self.its_provider().root().in_any_aggregate(ids)
+        is_in_any(&self.its_provider().root(), rule)
     }
 
-    // Whether one of the aggregates counts as the provider's: it is its own, or in the unsuffixed group its root's.
-    fn counts_in_any(&self, ids: &[Id]) -> bool
+    // Whether one of a rule's aggregates counts as the provider's: it is its own, or in the unsuffixed group its root's.
+    fn counts_in_any(&self, rule: &AggregateRule) -> bool
         ensures { result
             ≡ list_any (λ a. counts_in (providers_of self.now.cloud.now) (placed_of self.now) a)
-            ids.now }
+            (rule_shown rule.now).ids }
     {
-        self.has_own_of(ids) || (!is_suffixed(self.query, self.slot) && self.has_roots_of(ids))
+        is_in_any(&self.its_provider(), rule)
+            || (!is_suffixed(self.query, self.slot) && self.has_roots_of(rule))
     }
 
     /// Whether a rule on aggregates is met.
@@ -78,7 +80,7 @@ impl<'a> Placed<'a> {
         ensures { result ≡ meets_rule (providers_of self.now.cloud.now) (placed_of self.now)
             (rule_shown rule.now) }
     {
-        self.counts_in_any(rule.ids()) != rule.forbids()
+        self.counts_in_any(rule) != rule.forbids()
     }
 
     /// Aggregates: whether each rule of the slot's group is met.

@@ -1,9 +1,12 @@
 //! What nobody has of what a query asks for: a line each, pushed without memory.
-ghost use Rattle.std.specs.Prelude.{◌≡◌, map};
+ghost use Rattle.std.specs.Prelude.{◌≡◌, ◌&&◌, map};
 ghost use Rattle.std.specs.List.{flat_map};
 ghost use Rattle.ac_base.specs.Names.{trait_bytes};
 ghost use Rattle.ac_base.specs.Texts.{id_text};
+ghost use Rattle.ac_cloud.specs.Providers.{provider_of};
+ghost use Rattle.ac_cloud.specs.World.{has_trait, is_root};
 ghost use Rattle.ac_cloud.specs.Cloud.CloudWorld.{providers_of};
+ghost use Rattle.ac_find.specs.Missing.{some_root_has, somebody_has_trait};
 ghost use Rattle.ac_query.specs.Shown.Groups.{any_of_shown, group_asked, group_entry, need_entry, rule_shown};
 ghost use Rattle.ac_query.specs.Shown.Queries.{asked_of};
 ghost use Rattle.ac_report.specs.Findings.Explanation.Nobody.{class_missed, group_missed, line_of, list_missed, member_mark, members_line, nobody_lines, one_of_line, places_missed, root_trait_missed, rule_missed, things_missed, trait_missed, tree_missed};
@@ -12,12 +15,33 @@ ghost use Rattle.ac_base.specs.Writing.{Pushes};
 
 use ac_base::pieces::{push_marked, push_pieces};
 use ac_base::{Id, Sink, TraitName, WriteFailed, push_all};
-use ac_cloud::Cloud;
-use ac_find::{
-    some_root_has, somebody_has_class, somebody_has_one, somebody_has_trait, somebody_is,
-    somebody_is_in,
-};
+use ac_cloud::{Cloud, Provider};
+use ac_find::{somebody_has_class, somebody_has_one, somebody_is, somebody_is_in};
 use ac_query::{AggregateRule, AnyOf, Group, Need, Query};
+
+// Whether some provider has a trait.
+#[tactic(auto, using(ac_cloud::proofs::Ranges::range_more, ac_cloud::proofs::Ranges::range_end), unfolding(ac_find::specs::Missing::somebody_has_trait))]
+fn somebody_has_trait(cloud: &Cloud, name: &TraitName) -> bool
+    ensures { result ≡ somebody_has_trait (providers_of cloud.now) (trait_bytes name.now) }
+{
+    (0..cloud.len()).any(|ix| cloud.provider(ix).has_trait(name))
+}
+
+// Whether a provider is a root, and has a trait.
+fn is_root_with(provider: &Provider, name: &TraitName) -> bool
+    ensures { result ≡ (is_root (providers_of provider.now.cloud.now) (provider_of provider.now).id
+        && has_trait (provider_of provider.now) (trait_bytes name.now)) }
+{
+    provider.is_root() && provider.has_trait(name)
+}
+
+// Whether some root has a trait.
+#[tactic(auto, using(ac_cloud::proofs::Ranges::range_more, ac_cloud::proofs::Ranges::range_end), unfolding(ac_find::specs::Missing::some_root_has))]
+fn some_root_has(cloud: &Cloud, name: &TraitName) -> bool
+    ensures { result ≡ some_root_has (providers_of cloud.now) (trait_bytes name.now) }
+{
+    (0..cloud.len()).any(|ix| is_root_with(&cloud.provider(ix), name))
+}
 
 // A line of a name.
 #[tactic(auto, unfolding(crate::specs::Findings::Explanation::Nobody::line_of))]
@@ -163,7 +187,7 @@ fn push_rule<W: Sink>(out: &mut W, cloud: &Cloud, rule: &AggregateRule) -> Resul
     ensures { Pushes W.taken W.failures out.old out.new result
         (rule_missed (providers_of cloud.now) (rule_shown rule.now)) }
 {
-    if rule.forbids() || somebody_is_in(cloud, rule.ids()) {
+    if rule.forbids() || somebody_is_in(cloud, rule) {
         return Ok(());
     }
     push_members(out, rule.ids())

@@ -1,6 +1,8 @@
-use Rattle.ac_cloud.proofs.Common.{◌∙◌, ℕ, sym, ◌==◌, is_eq, nat_cmp, nat_cmp_total, map-id}
+use Rattle.std.proofs.Common.{◌∙◌, ℕ, sym, ◌==◌, is_eq, nat_cmp}
+use Rattle.std.proofs.lemmas.Cmp.{nat_cmp_total}
+use Rattle.std.proofs.lemmas.List.{map-id}
 use Rattle.ac_base.proofs.Sorted.SearchFacts.{found, found_any, any_same, is_eq_nat}
-use Rattle.ac_cloud.proofs.cloud.lookups.has_id.Goals as goal
+use Rattle.ac_query.proofs.group.accessors.is_among.Goals as goal
 
 pub returns : goal.returns
 returns c =
