@@ -7,3 +7,4 @@ pub mod PartLemmas
 pub mod FamilyLemmas
 pub mod KeptLemmas
 pub mod KindLemmas
+pub mod MixedLemmas

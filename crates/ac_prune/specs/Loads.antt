@@ -1,6 +1,7 @@
 -- What the providers of each root have together, and which marks of roots stay.
 pub mod Columns
 pub mod Kinds
+pub mod Mixed
 use Rattle.std.specs.Prelude.{◌≡◌, ℕ, ◌+◌, ◌-◌, ◌*◌, ◌/◌, ◌^◌, ◌<◌, ◌&&◌, if◌then◌else◌, Bool, false, nat_le, min, List, [], ◌∷◌, length, map, get_or, slice_index, slice_index_or}
 use Rattle.std.specs.Global.{Vec}
 use Rattle.ac_cloud.specs.World.{Provider}

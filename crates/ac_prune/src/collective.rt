@@ -1,6 +1,6 @@
 //! What the group without a suffix requires of its providers together: which providers have it, and up to which slot one may.
 
-ghost use Rattle.std.specs.Prelude.{◌≡◌, ◌<◌, ◌≤◌, ◌+◌, ◌&&◌, ℕ, map, length, true, slice_index_or, false, None, IfOk};
+ghost use Rattle.std.specs.Prelude.{◌≡◌, ◌<◌, ◌+◌, ◌&&◌, map, length, true, slice_index_or, false, None, IfOk};
 ghost use Rattle.std.specs.List.{All, Contains, list_any, range_with_len};
 ghost use Rattle.std.specs.Option.{is_none};
 ghost use Rattle.std.specs.List.Sorted.{IsStrictlySortedBy};
@@ -189,7 +189,7 @@ impl Collective {
         Ok(())
     }
 
-    /// What the group without a suffix requires, by the choices of all slots; nothing where that group has one slot.
+    /// What the group without a suffix requires, by the choices of all slots.
     pub(crate) fn new(alloc: Global, choices: &Choices) -> Result<Collective, NoMemory>
         ensures { IfOk result (λ all. AreWanted (providers_in choices.now.ledger.now)
             (asked_in choices.now.ledger.now) all) }
@@ -199,7 +199,7 @@ impl Collective {
             wanted: Vec::new(alloc),
         };
         for group in query.groups() {
-            if group.suffix().is_none() && group.needs().len() > 1 {
+            if group.suffix().is_none() {
                 collective.push_group(alloc, choices, group)?;
             }
         }

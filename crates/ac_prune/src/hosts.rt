@@ -10,6 +10,7 @@ ghost use Rattle.ac_prune.specs.Loads.{AreServing, MayHost};
 mod column;
 mod kinds;
 mod loads;
+mod mixed;
 
 use crate::choices::Choices;
 use crate::front::Front;
@@ -36,6 +37,8 @@ pub(crate) enum ClassTest {
     Sums,
     /// How many slots ask so much or more.
     Pieces,
+    /// How many ask the greater and the lesser of two amounts, or more.
+    Mixed,
     /// How many of the slots that have the same choices do.
     Kinds,
 }
@@ -135,12 +138,14 @@ fn limit_all(alloc: Global, choices: &Choices, may: &mut [bool]) -> Result<(), N
     limit_slots(alloc, choices, &mut budget, may)?;
     limit_classes(alloc, choices, ClassTest::Sums, &mut budget, may)?;
     limit_classes(alloc, choices, ClassTest::Pieces, &mut budget, may)?;
+    limit_classes(alloc, choices, ClassTest::Mixed, &mut budget, may)?;
     limit_classes(alloc, choices, ClassTest::Kinds, &mut budget, may)
 }
 
 /// For each root whether it may host a candidate: the query takes it, some choice of each slot is available there, of each
-/// class its providers have as much as all slots ask, and of each amount that a slot asks they have as many pieces as
-/// slots ask so much or more, and so they have among the choices that some slots have in common. These are tested in this order. Where all tests would take too many steps, the last ones
+/// class its providers have as much as all slots ask, of each amount that a slot asks they have as many pieces as slots ask so much
+/// or more, the slots that ask one of two amounts can stand beside each other, and among the choices that some slots have in common
+/// there are as many pieces as these ask. These are tested in this order. Where all tests would take too many steps, the last ones
 /// aren't made: that is right too, only slower where no root can.
 #[derive(Drop)]
 pub(crate) struct Hosts {

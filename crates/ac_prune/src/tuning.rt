@@ -12,6 +12,9 @@ pub(crate) const MOST_HOSTS: usize = 64;
 /// candidate sooner than they all end.
 pub(crate) const MOST_STEPS: u64 = 1 << 28;
 
+/// How many amounts the slots may ask of a class, for `Hosts` to compare each two of them: it goes over all providers for each two.
+pub(crate) const MOST_AMOUNTS: usize = 6;
+
 /// To how many trees a path is bound at the most: the next choice is looked up in each of them.
 pub(crate) const FEW: usize = 128;
 

@@ -82,7 +82,7 @@ reached all asked q v r weight room rooms bears fits hosted =
     omega (arith, rooms_reach all asked q v r weight room bears hosted, load_within room rooms (length all) (hosts_of all r) (hosts_low all r) fits)
 
 -- so the roots stay where they reach some of what all slots weigh
-weighed_keeps : (all : List Provider) (asked : Asked) (old new : List Bool) (rooms : List ℕ) (most : ℕ) (weight : Slot → ℕ) (room : ℕ → ℕ) → Bears all asked [] weight room
+pub weighed_keeps : (all : List Provider) (asked : Asked) (old new : List Bool) (rooms : List ℕ) (most : ℕ) (weight : Slot → ℕ) (room : ℕ → ℕ) → Bears all asked [] weight room
     → ((p : ℕ) → p < length all → room p ≤ slice_index rooms p) → most ≤ load_of weight (slots_of asked) → AreRoots all asked old → length new ≡ length old → AreLimited all rooms most old new → AreRoots all asked new
 weighed_keeps all asked old new rooms most weight room bears fits wants was count is = record {
   count = count ∙ was.count;

@@ -173,6 +173,18 @@ impl<'l, 'a> Column<'l, 'a> {
         )
     }
 
+    // The amounts that slots ask of the class, each once.
+    pub(super) fn amounts(&self, alloc: Global) -> Result<Vec<u64>, NoMemory> {
+        let mut amounts = Vec::new(alloc);
+        for asks in &self.ledger.asks {
+            let amount = wanted(asks, self.number);
+            if !amounts.contains(&amount) {
+                amounts.push(amount)?;
+            }
+        }
+        Ok(amounts)
+    }
+
     // Drops the roots that have too few pieces, or too few providers for lone slots, of some amount that a slot asks.
     fn limit_amounts(
         &self,
@@ -183,17 +195,12 @@ impl<'l, 'a> Column<'l, 'a> {
         requires { MayHost self.now.ledger.now may.old }
         ensures { IfOk result (λ _. MayHost self.now.ledger.now may.new) }
     {
-        let mut seen = Vec::new(alloc);
-        for asks in &self.ledger.asks {
-            let amount = wanted(asks, self.number);
-            if amount > 0 && !seen.contains(&amount) {
-                if budget.take() {
-                    self.limit_pieces(alloc, amount, may)?;
-                }
-                if budget.take() {
-                    self.limit_lone(alloc, amount, may)?;
-                }
-                seen.push(amount)?;
+        for amount in self.amounts(alloc)? {
+            if amount > 0 && budget.take() {
+                self.limit_pieces(alloc, amount, may)?;
+            }
+            if amount > 0 && budget.take() {
+                self.limit_lone(alloc, amount, may)?;
             }
         }
         Ok(())
@@ -216,6 +223,7 @@ impl<'l, 'a> Column<'l, 'a> {
             ClassTest::Sums if budget.take() => self.limit_sum(alloc, may),
             ClassTest::Sums => Ok(()),
             ClassTest::Pieces => self.limit_amounts(alloc, budget, may),
+            ClassTest::Mixed => self.limit_mixed(alloc, budget, may),
             ClassTest::Kinds => self.limit_kinds(alloc, choices, budget, may),
         }
     }

@@ -1,10 +1,10 @@
 //! Places by tree, by grove, or by part of the forest, of which the next one of a tree is found by binary search.
 
-ghost use Rattle.std.specs.Prelude.{◌≡◌, ◌+◌, ◌-◌, ◌*◌, ◌<◌, ◌≤◌, ◌^◌, ◌++◌, ◌||◌, ℕ, List, [], true, false, length, map, IfOk, MatchOption, slice_index, slice_index_or};
+ghost use Rattle.std.specs.Prelude.{◌≡◌, ◌+◌, ◌-◌, ◌*◌, ◌<◌, ◌≤◌, ◌^◌, ◌++◌, ◌||◌, ℕ, List, true, false, length, map, IfOk, slice_index};
 ghost use Rattle.std.specs.List.{All, list_any};
 ghost use Rattle.ac_cloud.specs.Cloud.CloudWorld.{providers_of, root_lists_of};
 ghost use Rattle.ac_cloud.specs.World.{Provider, is_available_at};
-ghost use Rattle.ac_prune.specs.Trees.Keys.{key_of, is_there, IsUnder, IsLeastFrom, IsNextIn};
+ghost use Rattle.ac_prune.specs.Trees.Keys.{key_of, is_there, IsLeastFrom, IsNextIn};
 
 use crate::trees::groves::{Groves, grove_of};
 use crate::tuning::MOST_PAIRS;
@@ -116,13 +116,13 @@ impl Places {
         }
     }
 
-    // Where the least key from one on may stand: first of those under its tree, or behind them.
+    // Where the least key from one on may stand: among those under its tree, or behind them.
     fn guess(&self, tree: u32, bound: u64) -> usize {
         let first = self.first_of(tree as usize);
-        if begins_at(&self.keys, bound, first) {
-            first
-        } else {
-            self.first_of(tree as usize + 1)
+        let end = self.first_of(tree as usize + 1);
+        match self.keys.get(first..end) {
+            Some(own) => first.saturating_add(own.partition_point(|key| *key < bound)),
+            None => end,
         }
     }
 
