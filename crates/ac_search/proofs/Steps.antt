@@ -9,3 +9,4 @@ pub mod StepLemmas
 pub mod ChangeLemmas
 pub mod EntryLemmas
 pub mod LeaveLemmas
+pub mod SpentLemmas

@@ -1,5 +1,5 @@
 -- Private: a search at some roots.
-use Rattle.std.specs.Prelude.{ℕ, Bool, true, false, ◌&&◌, List, length, slice_index_or, Option, Some, None}
+use Rattle.std.specs.Prelude.{◌≡◌, ◌<◌, ◌≤◌, ℕ, Bool, true, false, ◌&&◌, List, length, slice_index_or, Option, Some, None}
 use Rattle.std.specs.List.{filter}
 use Rattle.ac_query.specs.Asked.{Asked, slots_of}
 use Rattle.ac_cloud.specs.World.{Provider}
@@ -12,6 +12,14 @@ use Rattle.ac_prune.specs.QuerySearch.{choices_of}
 abbrev pub is_looked_at : Option (List Bool) → ℕ → Bool
 is_looked_at None r = true
 is_looked_at (Some marks) r = slice_index_or marks r false
+
+-- from one place on, up to another, there is no mark
+abbrev pub AreUnmarked : List Bool → ℕ → ℕ → Type 0
+AreUnmarked marks from to = (r : ℕ) → from ≤ r → r < to → slice_index_or marks r false ≡ false
+
+-- there no root is looked at
+abbrev pub AreDone : List Provider → Option (List Bool) → ℕ → ℕ → Type 0
+AreDone all roots from to = (r : ℕ) → from ≤ r → r < to → r < length all → is_looked_at roots r ≡ false
 
 -- a list stands at a root that is looked at
 abbrev pub stands : List Provider → Option (List Bool) → List ℕ → Bool

@@ -15,18 +15,24 @@ use ac_query::Query;
 use ac_rules::rules::anchor::takes_root;
 use std::alloc::Global;
 
-// Goes through the candidates that stand at a root that is looked at, until there is no such root left.
+// Goes through the candidates that stand at a root that is looked at, until there is no such root, or none is left.
 fn settle(walk: &mut Walk)
     requires { Settles walk.old }
     ensures cloud { cloud_in walk.new ≡ cloud_in walk.old }
     ensures query { query_in walk.new ≡ query_in walk.old }
     ensures settled { IsSettled walk.new }
 {
+    let mut first = 0;
     'candidates: loop {
         if !walk.advance() {
             return;
         }
         walk.leave_roots();
+        walk.leave_path();
+        match walk.next_root(first) {
+            Some(root) => first = root,
+            None => return,
+        }
     }
 }
 

@@ -47,7 +47,7 @@ is_search_at all asked roots =
 pub dead_at : (all : List Provider) (asked : Asked) (roots : Option (List Bool)) (q : List ℕ) → IsDead (search_of all asked) q → IsDead (search_at all asked roots) q
 dead_at all asked roots q dead v list = false_from_ne_true _ (λ h. false≢true (sym (dead v list) ∙ sought_candidate all asked roots (q ++ v) h))
 
-any_weaker : (f g : ℕ → Bool) (rs : List ℕ) → Each (λ r. f r ≡ true → g r ≡ true) rs → list_any f rs ≡ true → list_any g rs ≡ true
+pub any_weaker : (f g : ℕ → Bool) (rs : List ℕ) → Each (λ r. f r ≡ true → g r ≡ true) rs → list_any f rs ≡ true → list_any g rs ≡ true
 any_weaker f g [] weaker h = h
 any_weaker f g (r ∷ rs) weaker h = grind (arith, weaker.0, any_weaker f g rs weaker.1)
 

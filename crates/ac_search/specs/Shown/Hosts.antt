@@ -20,8 +20,16 @@ pub record Leaves (old new : Walk) : Type 0 where
   pub some : IsSome (roots_in new)
   pub cloud : cloud_in new ≡ cloud_in old
   pub query : query_in new ≡ query_in old
+  pub path : new.path.items ≡ old.path.items
   pub left : left_of new ≡ standing (cloud_in old) (roots_in new) (left_of old)
   pub roots : (r : ℕ) → r < length (cloud_in old) → is_looked_at (roots_in new) r ≡ (is_looked_at (roots_in old) r && not (stand_at (cloud_in old) old.path.items r))
+
+-- it has the same left, at the same roots
+pub record Stays (old new : Walk) : Type 0 where
+  pub cloud : cloud_in new ≡ cloud_in old
+  pub query : query_in new ≡ query_in old
+  pub roots : roots_in new ≡ roots_in old
+  pub left : left_of new ≡ left_of old
 
 -- Of the roots that the query takes, those fit that it doesn't look at.
 abbrev pub IsSettled : Walk → Type 0

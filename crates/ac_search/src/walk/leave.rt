@@ -1,11 +1,11 @@
 //! Roots at which a walk looks for no more candidates, since it has found one there.
-ghost use Rattle.std.specs.Prelude.{◌≡◌, ◌<◌, ◌≤◌, ◌&&◌, ℕ, length, false, true, not, slice_index_or, IsSome};
-ghost use Rattle.std.specs.List.{All, Contains};
+ghost use Rattle.std.specs.Prelude.{◌≡◌, ◌<◌, ◌&&◌, ◌∷◌, [], ℕ, length, false, true, not, slice_index_or, IsSome, MatchOption};
+ghost use Rattle.std.specs.List.{All, Contains, list_any};
 ghost use Rattle.ac_cloud.specs.Cloud.CloudWorld.{providers_of};
 ghost use Rattle.ac_rules.specs.Together.{takes_root};
 ghost use Rattle.ac_prune.specs.Marks.{stand_at};
-ghost use Rattle.ac_search.specs.Hosts.{is_looked_at};
-ghost use Rattle.ac_search.specs.Shown.Hosts.{Leaves};
+ghost use Rattle.ac_search.specs.Hosts.{is_looked_at, stands, AreDone, AreUnmarked};
+ghost use Rattle.ac_search.specs.Shown.Hosts.{Leaves, Settles, Stays};
 
 use super::Walk;
 use ac_cloud::Cloud;
@@ -38,6 +38,45 @@ impl<'a> Walk<'a> {
             leave(self.ledger.cloud, &self.path, marks);
         }
     }
+
+    // Whether it looks at some root at which a provider is available.
+    fn looks_at(&self, ix: u32) -> bool
+        requires { ix < length (cloud_in self.now) }
+        ensures { result ≡ stands (cloud_in self.now) (roots_in self.now) (ix ∷ []) }
+    {
+        let roots = self.ledger.cloud.anchors(ix);
+        match &self.roots {
+            Some(marks) => has_marked(roots, marks),
+            None => true,
+        }
+    }
+
+    // The first root from a place on at which it looks, where there is one.
+    pub(crate) fn next_root(&self, from: usize) -> Option<usize>
+        ensures { MatchOption result
+            (AreDone (cloud_in self.now) (roots_in self.now) from (length (cloud_in self.now)))
+            (AreDone (cloud_in self.now) (roots_in self.now) from) }
+    {
+        match &self.roots {
+            Some(marks) => next_marked(marks, from),
+            None => Some(from),
+        }
+    }
+
+    // Goes up in its path until no provider of it has roots of which it looks at none: no candidate that is left begins so.
+    pub(crate) fn leave_path(&mut self)
+        requires settles { Settles self.old }
+        requires providers { All (λ p. p < length (cloud_in self.old)) self.old.path.items }
+        ensures { Stays self.old self.new }
+    {
+        let ix = narrowest(self.ledger.cloud, &self.path);
+        if self.looks_at(ix) {
+            return;
+        }
+        'back: while self.path[..self.depth].contains(&ix) {
+            self.take_back();
+        }
+    }
 }
 
 // One of some providers, that is available in the fewest trees.
@@ -62,6 +101,27 @@ fn stand_at(cloud: &Cloud, list: &[u32], root: u32) -> bool
     ensures { result ≡ stand_at (providers_of cloud.now) list.now root }
 {
     list.iter().all(|ix| cloud.available(*ix, root))
+}
+
+// The first marked root from a place on, where there is one.
+fn next_marked(marks: &[bool], from: usize) -> Option<usize>
+    ensures { MatchOption result (AreUnmarked marks.now from (length marks.now))
+        (AreUnmarked marks.now from) }
+{
+    for at in from..marks.len() {
+        if marks[at] {
+            return Some(at);
+        }
+    }
+    None
+}
+
+// Whether some root is marked.
+fn has_marked(roots: &[u32], marks: &[bool]) -> bool
+    requires { All (λ r. r < length marks.now) roots.now }
+    ensures { result ≡ list_any (λ r. slice_index_or marks.now r false) roots.now }
+{
+    roots.iter().any(|root| marks[*root as usize])
 }
 
 // Takes the marks off the roots at which a list stands.

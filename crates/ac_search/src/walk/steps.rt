@@ -133,7 +133,7 @@ impl<'a> Walk<'a> {
     }
 
     // Takes the last provider of the path back, and goes on to the next choice there.
-    fn take_back(&mut self)
+    pub(super) fn take_back(&mut self)
         requires { 0 < self.old.depth }
         ensures { Backs self.old self.new }
     {

@@ -1,6 +1,9 @@
-use Rattle.std.proofs.Common.{◌∙◌}
+use Rattle.std.proofs.Common.{◌∙◌, ap, arith, length}
+use Rattle.std.specs.Option.{option_map}
 use Rattle.ac_search.specs.Search.Steps.{Advances, Finishes}
+use Rattle.ac_search.specs.Shown.Walk.{cloud_in, roots_in}
 use Rattle.ac_search.proofs.Steps.LeaveLemmas.{path_within, roots_still, settles_on, settles_end, less_left}
+use Rattle.ac_search.proofs.Steps.SpentLemmas.{done_next, done_then, settled_all, settles_still}
 use Rattle.ac_search.proofs.hosts.settle.Goals as goal
 
 pub returns-then-not-advance-clause-cloud : goal.returns-then-not-advance-clause-cloud
@@ -11,6 +14,17 @@ returns-then-not-advance-clause-query c = let end : Finishes c.candidates.walk c
 
 pub returns-then-not-advance-clause-settled : goal.returns-then-not-advance-clause-settled
 returns-then-not-advance-clause-settled c = settles_end c.candidates.walk c.advance.new.self c.candidates.invariant.settles (rw c.if-not-advance.true at c.advance.ensures)
+
+pub returns-in-None-clause-settled : goal.returns-in-None-clause-settled
+returns-in-None-clause-settled c =
+    let w = c.candidates.walk in
+    let z = c.leave_path.new.self in
+    let on : Advances w c.advance.new.self = rw c.if-not-advance.false at c.advance.ensures in
+    let settles = settles_on w c.advance.new.self c.candidates.invariant.settles on c.leave_roots.new.self c.leave_roots.ensures in
+    settled_all z (settles_still c.leave_roots.new.self z settles c.leave_path.ensures)
+    (done_then (cloud_in z) (roots_in z) c.candidates.first (length (cloud_in z))
+    (done_next w c.advance.new.self c.leave_roots.new.self z c.leave_roots.ensures c.leave_path.ensures (ap (option_map (λ marks. marks.items)) on.roots) on.tries.cloud c.candidates.first c.candidates.invariant.passed)
+    (rw c.in-None.is at c.next_root.ensures))
 
 pub leave_roots-requires-clause-providers : goal.leave_roots-requires-clause-providers
 leave_roots-requires-clause-providers c =
@@ -24,15 +38,34 @@ leave_roots-requires-clause-some c =
     let on : Advances w c.advance.new.self = rw c.if-not-advance.false at c.advance.ensures in
     roots_still w c.advance.new.self c.candidates.invariant.settles on
 
+pub leave_path-requires-clause-settles : goal.leave_path-requires-clause-settles
+leave_path-requires-clause-settles c =
+    let w = c.candidates.walk in
+    let on : Advances w c.advance.new.self = rw c.if-not-advance.false at c.advance.ensures in
+    settles_on w c.advance.new.self c.candidates.invariant.settles on c.leave_roots.new.self c.leave_roots.ensures
+
+pub leave_path-requires-clause-providers : goal.leave_path-requires-clause-providers
+leave_path-requires-clause-providers c =
+    let w = c.candidates.walk in
+    let on : Advances w c.advance.new.self = rw c.if-not-advance.false at c.advance.ensures in
+    rw (c.leave_roots.ensures.cloud, c.leave_roots.ensures.path) (path_within w c.advance.new.self c.candidates.invariant.settles on)
+
 pub candidates-smaller : goal.candidates-smaller
-candidates-smaller c = less_left c.candidates.walk c.advance.new.self c.candidates.invariant.settles (rw c.if-not-advance.false at c.advance.ensures) c.leave_roots.new.self c.leave_roots.ensures
+candidates-smaller c =
+    let less = less_left c.candidates.walk c.advance.new.self c.candidates.invariant.settles (rw c.if-not-advance.false at c.advance.ensures) c.leave_roots.new.self c.leave_roots.ensures in
+    omega (arith, less, ap length c.leave_path.ensures.left)
 
 pub candidates-preserved : goal.candidates-preserved
 candidates-preserved c =
     let w = c.candidates.walk in
     let on : Advances w c.advance.new.self = rw c.if-not-advance.false at c.advance.ensures in
+    let settles = settles_on w c.advance.new.self c.candidates.invariant.settles on c.leave_roots.new.self c.leave_roots.ensures in
     record {
-      settles = settles_on w c.advance.new.self c.candidates.invariant.settles on c.leave_roots.new.self c.leave_roots.ensures;
-      cloud = c.leave_roots.ensures.cloud ∙ (on.tries.cloud ∙ c.candidates.invariant.cloud);
-      query = c.leave_roots.ensures.query ∙ (on.tries.query ∙ c.candidates.invariant.query);
+      settles = settles_still c.leave_roots.new.self c.leave_path.new.self settles c.leave_path.ensures;
+      cloud = c.leave_path.ensures.cloud ∙ (c.leave_roots.ensures.cloud ∙ (on.tries.cloud ∙ c.candidates.invariant.cloud));
+      query = c.leave_path.ensures.query ∙ (c.leave_roots.ensures.query ∙ (on.tries.query ∙ c.candidates.invariant.query));
+      passed =
+          done_then (cloud_in c.leave_path.new.self) (roots_in c.leave_path.new.self) c.candidates.first c.in-Some.root
+          (done_next w c.advance.new.self c.leave_roots.new.self c.leave_path.new.self c.leave_roots.ensures c.leave_path.ensures (ap (option_map (λ marks. marks.items)) on.roots) on.tries.cloud c.candidates.first c.candidates.invariant.passed)
+          (rw c.in-Some.is at c.next_root.ensures);
     }
