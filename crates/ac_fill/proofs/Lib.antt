@@ -5,3 +5,5 @@ pub mod Ending
 pub mod Ordered
 pub mod Accepted
 pub mod Bounded
+pub mod Times
+pub mod Again

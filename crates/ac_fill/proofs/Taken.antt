@@ -1,5 +1,5 @@
 -- What is taken, by providers and classes, and the world that it leaves.
-use Rattle.std.proofs.Common.{◌≡◌, ◌∙◌, ◌<◌, ◌≤◌, ◌+◌, ◌*◌, ◌/◌, ◌%◌, ◌^◌, ◌==◌, ◌&&◌, if◌then◌else◌, ℕ, zero, suc, Bool, false, Bor, List, [], ◌∷◌, drop, get_or, length, nat_le, replicate, set, slice_index, slice_index_or, Option, None, Some, refl, sym, ap, ap₂, subst, arith, inl, inr, option_map, unwrap_or}
+use Rattle.std.proofs.Common.{◌≡◌, ◌∙◌, ◌<◌, ◌≤◌, ◌+◌, ◌*◌, ◌/◌, ◌%◌, ◌^◌, ◌==◌, ◌&&◌, if◌then◌else◌, ℕ, zero, suc, Bool, false, Bor, List, [], ◌∷◌, drop, get_or, length, map, nat_le, replicate, set, slice_index, slice_index_or, Option, None, Some, refl, sym, ap, ap₂, subst, arith, inl, inr, option_map, unwrap_or}
 use Rattle.std.specs.List.{AllByRecursion as Each}
 use Rattle.std.specs.List.Sorted.{IsStrictlySortedBy}
 use Rattle.std.specs.Map.{keys_of}
@@ -8,7 +8,7 @@ use Rattle.std.proofs.Math.Nat.{mul_comm, mul-le-mul_left}
 use Rattle.std.proofs.lemmas.Bool.{and_parts, cases_Bool, cases_eq, cases_lt, eq-eqb, ne_eqb}
 use Rattle.std.proofs.lemmas.Bool.Decides.{nat_tests}
 use Rattle.std.proofs.lemmas.Grind.{get_or-set_at}
-use Rattle.std.proofs.lemmas.List.{get_or_past, get_or-map, get_or-replicate, get_or-set_other, length-replicate}
+use Rattle.std.proofs.lemmas.List.{drop_more, get_or_past, get_or-map, get_or-replicate, get_or-set_other, length-replicate}
 use Rattle.std.proofs.lemmas.Nat.{div-mul-add, mod-mul-add}
 use Rattle.std.proofs.lemmas.Slice.Eq.{bytes_eq-Decides}
 use Rattle.ac_base.proofs.Small.{are_equal}
@@ -22,6 +22,8 @@ use Rattle.ac_cloud.proofs.Amounts.{amounts_again, amounts_kept, amounts_same_fo
 use Rattle.ac_rules.specs.Room.{class_number, IsKnown}
 use Rattle.ac_rules.proofs.ClassLemmas.{known_at}
 use Rattle.ac_query.specs.Asked.{Slot}
+use Rattle.ac_query.specs.Shown.Groups.{need_entry}
+use Rattle.ac_query.specs.declared.group.Need.{Need}
 use Rattle.ac_rules.specs.Claims.{claimed}
 use Rattle.ac_rules.specs.Placed.{Placed, placed, no_slot}
 use Rattle.ac_rules.specs.Shown.Changes.{asked_of_one}
@@ -62,23 +64,30 @@ asks_other n p q texts need class other = elim (cases_eq p q) [
 asks_here : (p q : ℕ) (need : List ℕ × ℕ) (class : List ℕ) → p ≡ q → need.0 ≡ class → asked_of_one p (need ∷ []) q class ≡ need.1
 asks_here p q need class same met = let e = (bytes_eq-Decides need.0 class).1 met in rw (eq-eqb p q same, e) (omega arith)
 
--- one need is taken
-pub taken_one : (items : List ℕ) (texts : List (List ℕ)) (n p q place sum : ℕ) (need : List ℕ × ℕ) (class : List ℕ) → p < n → q < n → IsKnown texts need.0
-    → place ≡ class_number texts need.0 * n + p → place < length items → sum ≡ slice_index items place + need.1
-    → slice_index (set items place sum) (class_number texts class * n + q) ≡ slice_index items (class_number texts class * n + q) + asked_of_one p (need ∷ []) q class
-taken_one items texts n p q place sum need class h j known is inside e =
+-- one need is taken, so many times
+pub taken_one : (items : List ℕ) (texts : List (List ℕ)) (times n p q place sum : ℕ) (need : List ℕ × ℕ) (class : List ℕ) → p < n → q < n → IsKnown texts need.0
+    → place ≡ class_number texts need.0 * n + p → place < length items → sum ≡ slice_index items place + times * need.1
+    → slice_index (set items place sum) (class_number texts class * n + q)
+    ≡ slice_index items (class_number texts class * n + q) + times * asked_of_one p (need ∷ []) q class
+taken_one items texts times n p q place sum need class h j known is inside e =
     let there = class_number texts class * n + q in
     elim (cases_eq there place) [
       | inl same ↦
           let met : class_number texts need.0 * n + p ≡ class_number texts class * n + q = sym is ∙ sym same in
           let one = asks_here p q need class (same_provider n (class_number texts need.0) p (class_number texts class) q h j met)
           (same_text texts need.0 class known (same_class n (class_number texts need.0) p (class_number texts class) q h j met)) in
-          get_or-set_at items place there sum 0 same inside ∙ omega (arith, e, ap (slice_index items) same, one)
+          get_or-set_at items place there sum 0 same inside ∙ omega (arith, e, ap (slice_index items) same, ap (λ (m : ℕ). times * m) one)
       | inr other ↦
-          get_or-set_other items place there sum 0 other ∙ omega (arith, asks_other n p q texts need class (λ met. other (sym met ∙ sym is)))
+          let none = asks_other n p q texts need class (λ met. other (sym met ∙ sym is)) in
+          get_or-set_other items place there sum 0 other ∙ omega (arith, ap (λ (m : ℕ). times * m) none)
     ]
 
 -- ---- needs, and slots
+
+-- the next need, and those behind it
+pub next_need : (needs : List Need) (i : ℕ) (need : Need) → i < length needs → need ≡ slice_index_or needs i need
+    → map need_entry (drop i needs) ≡ need_entry need ∷ map need_entry (drop (i + 1) needs)
+next_need needs i need inside is = ap (map need_entry) (drop_more needs i need inside ∙ ap (λ n. n ∷ drop (i + 1) needs) (sym is))
 
 -- one need more of several
 pub needs_more : (p : ℕ) (need : List ℕ × ℕ) (needs : List (List ℕ × ℕ)) (q : ℕ) (class : List ℕ)
@@ -91,19 +100,33 @@ pub slots_more : (slots : List Slot) (list : List ℕ) (s q : ℕ) (class : List
     ≡ asked_of_one (slice_index list s) (slice_index_or slots s no_slot).needs q class + sum_on (placed (drop (s + 1) slots) (drop (s + 1) list)) q class
 slots_more slots list s q class h k = ap (λ xs. sum_on xs q class) (placed_more slots list s no_slot h k)
 
+-- so many times one need of several, or one slot of several, and then the others
+pub times_needs : (times p : ℕ) (need : List ℕ × ℕ) (needs : List (List ℕ × ℕ)) (q : ℕ) (class : List ℕ)
+    → times * asked_of_one p (need ∷ needs) q class ≡ times * asked_of_one p (need ∷ []) q class + times * asked_of_one p needs q class
+times_needs times p need needs q class = ap (λ (m : ℕ). times * m) (needs_more p need needs q class) ∙ omega arith
+
+pub times_slots : (times : ℕ) (slots : List Slot) (list : List ℕ) (s q : ℕ) (class : List ℕ) → s < length list → s < length slots
+    → times * sum_on (placed (drop s slots) (drop s list)) q class
+    ≡ times * asked_of_one (slice_index list s) (slice_index_or slots s no_slot).needs q class
+    + times * sum_on (placed (drop (s + 1) slots) (drop (s + 1) list)) q class
+times_slots times slots list s q class h k = ap (λ (m : ℕ). times * m) (slots_more slots list s q class h k) ∙ omega arith
+
 -- what is asked still fits, where all of it does
-pub fits_slot : (now start q rest left all : ℕ) (class : List ℕ) (needs : List (List ℕ × ℕ)) → now + left ≡ start + all → left ≡ asked_of_one q needs q class + rest → start ≤ now
-    → (0 < all → start + all < 2 ^ 64) → 0 < amount_of needs class → now + amount_of needs class < 2 ^ 64
-fits_slot now start q rest left all class needs same split grown fits some =
-    let first : left ≡ amount_of needs class + rest = split ∙ ap (λ (b : Bool). (if b then amount_of needs class else 0) + rest) (eq-eqb q q refl) in
+pub fits_slot : (times now start q rest left all : ℕ) (class : List ℕ) (needs : List (List ℕ × ℕ)) → now + left ≡ start + all
+    → left ≡ times * asked_of_one q needs q class + rest → start ≤ now → (0 < all → start + all < 2 ^ 64) → 0 < times * amount_of needs class → now + times * amount_of needs class < 2 ^ 64
+fits_slot times now start q rest left all class needs same split grown fits some =
+    let first : left ≡ times * amount_of needs class + rest =
+    split ∙ ap (λ (b : Bool). times * (if b then amount_of needs class else 0) + rest) (eq-eqb q q refl) in
     omega (arith, same, first, fits (omega (arith, same, first, grown, some)))
 
-pub fits_one : (now start p : ℕ) (need : List ℕ × ℕ) (rest all : List (List ℕ × ℕ)) → now + asked_of_one p (need ∷ rest) p need.0 ≡ start + asked_of_one p all p need.0 → start ≤ now
-    → (0 < amount_of all need.0 → start + amount_of all need.0 < 2 ^ 64) → 0 < need.1 → now + need.1 < 2 ^ 64
-fits_one now start p need rest all same grown fits some =
-    let one : asked_of_one p (need ∷ []) p need.0 ≡ need.1 = asks_here p p need need.0 refl refl in
-    let whole : asked_of_one p all p need.0 ≡ amount_of all need.0 = ap (λ (b : Bool). if b then amount_of all need.0 else 0) (eq-eqb p p refl) in
-    let split = needs_more p need rest p need.0 in
+pub fits_one : (times now start p : ℕ) (need : List ℕ × ℕ) (rest all : List (List ℕ × ℕ))
+    → now + times * asked_of_one p (need ∷ rest) p need.0 ≡ start + times * asked_of_one p all p need.0 → start ≤ now
+    → (0 < times * amount_of all need.0 → start + times * amount_of all need.0 < 2 ^ 64) → 0 < times * need.1 → now + times * need.1 < 2 ^ 64
+fits_one times now start p need rest all same grown fits some =
+    let one : times * asked_of_one p (need ∷ []) p need.0 ≡ times * need.1 = ap (λ (m : ℕ). times * m) (asks_here p p need need.0 refl refl) in
+    let whole : times * asked_of_one p all p need.0 ≡ times * amount_of all need.0 =
+    ap (λ (b : Bool). times * (if b then amount_of all need.0 else 0)) (eq-eqb p p refl) in
+    let split = times_needs times p need rest p need.0 in
     omega (arith, same, split, one, whole, fits (omega (arith, same, split, one, whole, grown, some)))
 
 -- what holds of each class that slots name, at their providers, holds wherever they ask anything

@@ -1,5 +1,6 @@
 -- Private: how far placements have come, and how they end.
-use Rattle.std.specs.Prelude.{◌≡◌, ◌+◌, ℕ, List, Option, Some, Result, Err, OnOk, IfOk, IfErr, length, min, false, ⊤}
+use Rattle.std.specs.Prelude.{◌≡◌, ◌+◌, ◌-◌, ℕ, List, Option, Some, None, Result, Err, OnOk, IfOk, IfErr, length, min, false, ⊤}
+use Rattle.std.specs.Option.{option_map}
 use Rattle.std.specs.List.{filter}
 use Rattle.ac_cloud.specs.World.{Provider}
 use Rattle.ac_query.specs.Asked.{Asked}
@@ -66,3 +67,29 @@ pub record PlacesAll {W : Type 0} (taken : W → Option (List ℕ)) (fails : W �
   pub ahead : OnOk result ((then.wanted ≡ Some 0 → ⊥) → AreAhead then.world asked rest)
   pub goes : OnOk result ((r : Result Filled PageFault) (end : W) → Ends taken fails all asked then new end r → Ends taken fails all asked s old end r)
   pub stops : IfErr result (λ e. Ends taken fails all asked s old new (Err e))
+
+-- ---- what is counted alone
+
+-- as many of a number of placements as are wanted
+abbrev pub as_wanted : Option ℕ → ℕ → ℕ
+as_wanted None n = n
+as_wanted (Some wanted) n = min n wanted
+
+-- how many are wanted behind so many
+abbrev pub fewer : Option ℕ → ℕ → Option ℕ
+fewer wanted n = option_map (λ w. w - n) wanted
+
+-- From both, all placements together are as many, and leave the same world.
+pub record LeadsTo (asked : Asked) (s then : Stand) : Type 0 where
+  pub count : min (length (placements_at asked then) + then.count) 4294967295 ≡ min (length (placements_at asked s) + s.count) 4294967295
+  pub world : after then.world asked (placements_at asked then) ≡ after s.world asked (placements_at asked s)
+
+-- Placements of a list are counted: it may still be a candidate.
+pub record CountsSome (asked : Asked) (s then : Stand) (ls : List (List ℕ)) : Type 0 where
+  pub ahead : AreAhead then.world asked ls
+  pub leads : LeadsTo asked s then
+
+-- All placements of a list are counted that are wanted.
+pub record CountsAll (asked : Asked) (s then : Stand) (rest : List (List ℕ)) : Type 0 where
+  pub ahead : (then.wanted ≡ Some 0 → ⊥) → AreAhead then.world asked rest
+  pub leads : LeadsTo asked s then

@@ -1,5 +1,5 @@
 -- What placements have taken, beside the world as it was.
-use Rattle.std.specs.Prelude.{◌≡◌, ◌+◌, ◌*◌, ◌<◌, ◌^◌, ℕ, List, map, length, slice_index}
+use Rattle.std.specs.Prelude.{◌≡◌, ◌+◌, ◌*◌, ◌<◌, ◌^◌, ℕ, Bool, List, map, length, slice_index}
 use Rattle.ac_base.specs.Names.{class_bytes}
 use Rattle.ac_cloud.specs.Amounts.{with_amounts}
 use Rattle.ac_cloud.specs.World.{Provider, provider_at, used_of}
@@ -7,7 +7,8 @@ use Rattle.ac_query.specs.Asked.{Asked}
 use Rattle.ac_query.specs.Shown.Queries.{asked_of}
 use Rattle.ac_rules.specs.Room.{class_number}
 use Rattle.ac_rules.specs.Placed.{Placed}
-use Rattle.ac_rules.specs.Together.{sum_on}
+use Rattle.ac_rules.specs.Own.{inventory_of}
+use Rattle.ac_rules.specs.Together.{has_room, sum_on}
 use Rattle.ac_fill.specs.declared.takings.Takings.{Takings}
 
 -- what its query asks
@@ -29,6 +30,14 @@ taken_in t ix class = slice_index t.amounts.items (class_number (texts_in t) cla
 -- all providers, of which is used what was, and what is taken
 unfoldable pub with_taken : Takings → List Provider → List Provider
 with_taken t all = with_amounts (λ ix class had. had.used + taken_in t ix class) all
+
+-- all providers, of which is used what was, what is taken, and what so many placements of the slots ask
+unfoldable pub with_more : Takings → List Placed → ℕ → List Provider → List Provider
+with_more t xs n all = with_amounts (λ ix class had. had.used + (taken_in t ix class + n * sum_on xs ix class)) all
+
+-- of a class of a provider there is room for a sum where so much more is used
+abbrev pub has_room_beside : Provider → List ℕ → ℕ → ℕ → Bool
+has_room_beside p class more sum = has_room (inventory_of p class) (used_of p class + more) sum
 
 -- it is of these providers, and where something is taken of one, what it then uses fits in 64 bits
 pub record IsTakenOf (all : List Provider) (t : Takings) : Type 0 where
@@ -52,3 +61,12 @@ NeedFits all t xs ix need = Fits all t xs ix need.0
 -- it does so wherever something is asked
 abbrev pub SumsFit : List Provider → Takings → List Placed → Type 0
 SumsFit all t xs = (ix : ℕ) (class : List ℕ) → 0 < sum_on xs ix class → Fits all t xs ix class
+
+-- what a provider uses of a class that is needed fits in 64 bits, with what is taken, and what so many placements of the slots ask of it
+abbrev pub NeedTimesFit : List Provider → Takings → List Placed → ℕ → ℕ → List ℕ × ℕ → Type 0
+NeedTimesFit all t xs n ix need = used_of (provider_at all ix) need.0 + (taken_in t ix need.0 + n * sum_on xs ix need.0) < 2 ^ 64
+
+-- it does so wherever they ask something
+abbrev pub TimesFit : List Provider → Takings → List Placed → ℕ → Type 0
+TimesFit all t xs n =
+    (ix : ℕ) (class : List ℕ) → 0 < n * sum_on xs ix class → used_of (provider_at all ix) class + (taken_in t ix class + n * sum_on xs ix class) < 2 ^ 64

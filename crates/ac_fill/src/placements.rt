@@ -30,22 +30,22 @@ pub struct Filled<'a> {
     pub takings: Takings<'a>,
 }
 
-// How far it has come.
+/// How far it has come.
 #[derive(Drop)]
-struct Filling<'a> {
-    filled: Filled<'a>,
+pub(crate) struct Filling<'a> {
+    pub(crate) filled: Filled<'a>,
     // How many placements are still wanted; without a limit, all.
-    wanted: Option<u32>,
+    pub(crate) wanted: Option<u32>,
     // The front of the list that was placed last for which there is no room any more.
-    full: Vec<u32>,
+    pub(crate) full: Vec<u32>,
 }
 
 impl<'a> Filling<'a> {
     ghost use Rattle.ac_fill.specs.Ends.{count_at, stand_of, takings_of, world_at, IsFull};
     ghost use Rattle.ac_fill.specs.Shown.{SumsFit};
 
-    // Whether one more placement of a list is wanted, and there is room for it.
-    fn wants(&self, assignment: &Assignment<'_>) -> bool
+    /// Whether one more placement of a list is wanted, and there is room for it.
+    pub(crate) fn wants(&self, assignment: &Assignment<'_>) -> bool
         requires query { asked_of assignment.now.query.now ≡ asked_in (takings_of self.now) }
         requires slots { IsAssignment (providers_of assignment.now.cloud.now)
             (asked_in (takings_of self.now)) assignment.now.list.now }
@@ -64,8 +64,8 @@ impl<'a> Filling<'a> {
         !is_over(self.wanted) && self.filled.takings.has_room(assignment)
     }
 
-    // Keeps the shortest front of a list for which there is no room.
-    fn keep_front(&mut self, assignment: &Assignment<'_>) -> Result<(), AllocError>
+    /// Keeps the shortest front of a list for which there is no room.
+    pub(crate) fn keep_front(&mut self, assignment: &Assignment<'_>) -> Result<(), AllocError>
         requires query { asked_of assignment.now.query.now ≡ asked_in (takings_of self.old) }
         requires fits { IsTakenOf (providers_of assignment.now.cloud.now) (takings_of self.old) }
         ensures filled { self.new.filled ≡ self.old.filled }

@@ -1,4 +1,4 @@
-use Rattle.std.proofs.Common.{◌≡◌, ◌<◌, ◌≤◌, ◌+◌, ℕ, List, map, drop}
+use Rattle.std.proofs.Common.{◌≡◌, ◌<◌, ◌≤◌, ◌+◌, ◌*◌, ℕ, List, map, drop}
 use Rattle.std.specs.List.{AllByRecursion as Each}
 use Rattle.ac_query.specs.Shown.Groups.{need_entry}
 use Rattle.ac_rules.specs.Room.{IsKnown}
@@ -12,5 +12,6 @@ invariant-loop-need l = record {
   known : Each (λ need. IsKnown (texts_in l.fn.self) need.0) (map need_entry (drop l.need-index l.needs));
   grown : (p : ℕ) (class : List ℕ) → p < count_in l.fn.self → taken_in l.fn.self p class ≤ taken_in l.self p class;
   taken : (p : ℕ) (class : List ℕ) → p < count_in l.fn.self
-      → taken_in l.self p class + asked_of_one l.ix (map need_entry (drop l.need-index l.needs)) p class ≡ taken_in l.fn.self p class + asked_of_one l.ix (map need_entry l.needs) p class;
+      → taken_in l.self p class + l.times * asked_of_one l.ix (map need_entry (drop l.need-index l.needs)) p class
+      ≡ taken_in l.fn.self p class + l.times * asked_of_one l.ix (map need_entry l.needs) p class;
 }

@@ -1,0 +1,26 @@
+use Rattle.std.proofs.Common.{◌≡◌, ◌≤◌, Some, length}
+use Rattle.std.specs.List.{All}
+use Rattle.ac_cloud.specs.Cloud.CloudWorld.{providers_of}
+use Rattle.ac_query.specs.Shown.Queries.{asked_of}
+use Rattle.ac_rules.proofs.Lists.RestLemmas.{IsChosen}
+use Rattle.ac_fill.specs.Ends.{AreAhead, LeadsTo, count_at, stand_of, start_of, takings_of, world_at}
+use Rattle.ac_fill.specs.Shown.{asked_in, IsTakenOf}
+use Rattle.ac_fill.proofs.count.count_filled.Given as goal
+
+-- from here all placements together are as many as from the start
+abbrev pub invariant-lists : goal.invariant-lists
+invariant-lists g l =
+    let all = providers_of l.cloud in
+    let asked = asked_of l.query in
+    let left = g.S.Source.left l.source in
+    record {
+      query : asked_in (takings_of l.filling) ≡ asked;
+      fits : IsTakenOf all (takings_of l.filling);
+      chosen : All (IsChosen all asked) left;
+      ahead : (l.filling.wanted ≡ Some 0 → ⊥) → AreAhead (world_at all l.filling) asked left;
+      small : count_at l.filling ≤ 4294967295;
+      leads : LeadsTo asked (start_of all asked) (stand_of all l.filling);
+    }
+
+abbrev pub decreases-lists : goal.decreases-lists
+decreases-lists g l = length (g.S.Source.left l.source)
