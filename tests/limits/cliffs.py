@@ -1,5 +1,5 @@
 """Clouds on which a search tries many choices, unless it looks ahead; each answer follows from the rules. The program must answer each within two seconds of
-processor time and 2 GiB of memory."""
+processor time and 2 GiB of memory, and all questions of a session about it together, with the reading."""
 from __future__ import annotations
 
 from cases import Case
@@ -79,11 +79,67 @@ SHARED_BY_ZONES = {
                                                           for place, id in enumerate(all_ids)),
 }
 
-# What is asked of which cloud, and the lines.
+# A node that has the class with the required trait, before 64 that have it without; all have the classes of four groups behind.
+LAST_GIVES = {
+    'providers': lambda: star(66),
+    'inventories': lambda: inventories((id, name, 8) for id in NODES[1:] for name in CLASSES),
+    'traits': lambda: traits([(NODES[-1], 'CUSTOM_T')]),
+}
+ONE_REQUIRED = 'resources=CUSTOM_A:1&required=CUSTOM_T&' + groups(1, 4, 'resources{}=CUSTOM_B:1') + '&group_policy=none&limit=1'
+
+# 100 disks that 2000 hosts share, each host of two nodes with six left: three groups of four, four and three fit on none.
+PAIRS = trees(2000, 2)
+BESIDE = ids(5000)[-100:]
+SHARED_BESIDE = {
+    'providers': lambda: providers(PAIRS) + ''.join(f'{id},{id},\n' for id in BESIDE),
+    'inventories': lambda: inventories([*((id, 'VCPU', 6) for tree in PAIRS for id in tree[1:]), *((id, 'DISK_GB', 9999) for id in BESIDE)]),
+    'traits': lambda: traits((id, 'MISC_SHARES_VIA_AGGREGATE') for id in BESIDE),
+    'aggregates': lambda: HEADERS['aggregates'] + ''.join(f'{id},{provider(0xa0000)}\n' for id in [*(tree[0] for tree in PAIRS), *BESIDE]),
+}
+FOUR_FOUR_THREE = 'resources=DISK_GB:1&resources1=VCPU:4&resources2=VCPU:4&resources3=VCPU:3&group_policy=none'
+
+# Fifteen groups of five and three of six, where ten nodes have ten left each: two fives, or a six and nothing beside it.
+FIVES_AND_SIXES = groups(1, 15, 'resourcesA{}=VCPU:5') + '&' + groups(1, 3, 'resourcesB{}=VCPU:6') + '&group_policy=none'
+
+# 4000 disks and 4000 hosts in one aggregate.
+BOTH = ids(8000)
+ALL_SHARE = {
+    'providers': lambda: HEADERS['providers'] + ''.join(f'{id},{id},\n' for id in BOTH),
+    'inventories': lambda: inventories((id, name, 64) for name, some in (('DISK_GB', BOTH[::2]), ('VCPU', BOTH[1::2])) for id in some),
+    'traits': lambda: traits((id, 'MISC_SHARES_VIA_AGGREGATE') for id in BOTH[::2]),
+    'aggregates': lambda: HEADERS['aggregates'] + ''.join(f'{id},{provider(0xa0000)}\n' for id in BOTH),
+}
+
+# 2000 hosts of 60 classes, each in an aggregate of its own, of which a list names every other one.
+SIXTY = [f'CUSTOM_{n:02}' for n in range(60)]
+MEMBERS = ids(2000)
+IN_AGGREGATES = {
+    'providers': lambda: HEADERS['providers'] + ''.join(f'{id},{id},\n' for id in MEMBERS),
+    'inventories': lambda: inventories((id, name, 8) for id in MEMBERS for name in SIXTY),
+    'aggregates': lambda: HEADERS['aggregates'] + ''.join(f'{id},{provider(0xa0000 + place)}\n' for place, id in enumerate(MEMBERS)),
+}
+EVERY_OTHER = ('resources=' + ','.join(f'{name}:1' for name in SIXTY)
+               + '&member_of=in:' + ','.join(provider(0xa0000 + place) for place in reversed(range(1, 2000, 2))))
+
+# Ten hosts of the most units that there are.
+LARGE = ids(10)
+UNITS = {
+    'providers': lambda: HEADERS['providers'] + ''.join(f'{id},{id},\n' for id in LARGE),
+    'inventories': lambda: inventories((id, 'CUSTOM_UNIT', 2147483647) for id in LARGE),
+}
+
+# What is asked of which cloud, and the lines, or the status alone.
 ASKED = [
     ('more groups on a network than it has functions', FUNCTIONS, ['tokens', TOO_MANY], lambda: []),
-    ('more groups on a network than it has functions, hosts', FUNCTIONS, ['hosts', TOO_MANY], None),
+    ('more groups on a network than it has functions, hosts', FUNCTIONS, ['hosts', TOO_MANY], 1),
     ('a trait that one node alone gives', LONE_GIVER, ['tokens', ALL_CLASSES], lambda: [','.join([NODES[-1], *[NODES[1]] * 4])]),
+    ('a trait that one node alone gives, in one slot', LAST_GIVES, ['tokens', ONE_REQUIRED], lambda: [','.join([NODES[-1], *[NODES[1]] * 4])]),
+    ('groups that two nodes can\'t bear together', SHARED_BESIDE, ['tokens', FOUR_FOUR_THREE], lambda: []),
+    ('groups that two nodes can\'t bear together, hosts', SHARED_BESIDE, ['hosts', FOUR_FOUR_THREE], 1),
+    ('fives and sixes', filled(TEN, 'VCPU', 10), ['tokens', FIVES_AND_SIXES], lambda: []),
+    ('disks that all share', ALL_SHARE, ['hosts', groups(1, 64, 'resources{}=DISK_GB:1') + '&group_policy=none'], 0),
+    ('aggregates of a long list', IN_AGGREGATES, ['tokens', EVERY_OTHER], lambda: [','.join([id] * 60) for id in MEMBERS[1::2]]),
+    ('units that are placed one by one', UNITS, ['fill', '--sum', 'resources=CUSTOM_UNIT:5'], lambda: ['at least 4294967290, at most 4294967290']),
     ('eight groups on ten nodes again and again', filled(TEN, 'VCPU', 8),
      ['fill', groups(1, 8, 'resources{}=VCPU:1') + '&group_policy=none'], lambda: [','.join([id] * 8) for id in TEN[0][1:]]),
     ('four devices of 300 hosts of 32', filled(DEVICES, 'CUSTOM_PCI', 1),
@@ -95,11 +151,19 @@ ASKED = [
 ]
 
 
+def questions(query):
+    """A line for each kind of question about a query."""
+    few = query if 'limit=' in query else f'{query}&limit=1000'
+    return ''.join(f'{question}\n' for question in (f'tokens {few}', f'candidates {few}', f'list {few}', f'hosts {query}', f'explain {query}',
+                                                    f'why {query} {provider(1)}', f'fill {few}'))
+
+
 def cliffs(program):
     """The cases, each of which runs this program."""
     limited = ['sh', '-c', LIMITED.format(1), 'limited', program]
     for name, cloud, words, made in ASKED:
-        if made is None:
-            yield Case(f'looked ahead: {name}', [*limited, *words], None, status=1, tables=cloud)
+        yield Case(f'all questions: {name}', [*limited, 'session'], None, tables=cloud, given=questions(words[-1]).encode())
+        if isinstance(made, int):
+            yield Case(f'looked ahead: {name}', [*limited, *words], None, status=made, tables=cloud)
         else:
             yield Case(f'looked ahead: {name}', [*limited, *words], ''.join(f'{line}\n' for line in made()), tables=cloud)
