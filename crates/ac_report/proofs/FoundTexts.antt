@@ -6,3 +6,4 @@ pub mod FirstFound
 pub mod HostsWritten
 pub mod DifferencesWritten
 pub mod RowsWritten
+pub mod MarksWritten

@@ -1,5 +1,6 @@
 pub mod Pages
 pub mod Trees
+pub mod EqualLists
 pub mod IdTexts
 pub mod SlotLemmas
 pub mod Differing

@@ -32,7 +32,7 @@ use ac_cloud::Cloud;
 use ac_find::{SlotCounts, SlotTold, TreeCounts};
 use ac_query::{Need, Query};
 use ac_rules::Source;
-use ac_rules::slots::{count_slots, group_at, needs_at};
+use ac_rules::slots::{group_at, needs_at};
 use ac_search::Walk;
 use std::alloc::Global;
 

@@ -29,8 +29,12 @@ pub record FoundWithout : Type 0 where
 abbrev pub asks_required : Asked → Bool
 asks_required asked = list_any (λ g. requires_some g.0 g.1) asked.groups
 
+-- without each of the first n lists, and without each of all
+abbrev pub subtrees_found_before : List Provider → Asked → ℕ → List Bool
+subtrees_found_before all asked n = map (λ k. has_candidate all (without_subtree k asked)) (range_with_len 0 n)
+
 abbrev pub subtrees_found : List Provider → Asked → List Bool
-subtrees_found all asked = map (λ k. has_candidate all (without_subtree k asked)) (range_with_len 0 (length asked.subtrees))
+subtrees_found all asked = subtrees_found_before all asked (length asked.subtrees)
 
 abbrev pub policy_found : List Provider → Asked → Option Bool
 policy_found all asked = if is_isolated asked then Some (has_candidate all (without_policy asked)) else None

@@ -1,11 +1,11 @@
 -- What nobody has of what a query asks for: a line each.
-use Rattle.std.specs.Prelude.{ℕ, ◌||◌, Bool, nat_lt, if◌then◌else◌, List, [], ◌∷◌, ◌++◌, length, map, codes, Option, Some, None}
-use Rattle.std.specs.List.{flat_map}
+use Rattle.std.specs.Prelude.{ℕ, ◌||◌, Bool, true, false, get_or, nat_lt, if◌then◌else◌, List, [], ◌∷◌, ◌++◌, length, map, codes, Option, Some, None}
+use Rattle.std.specs.List.{flat_map, range_with_len}
 use Rattle.ac_base.specs.Texts.{id_text}
 use Rattle.ac_query.specs.Asked.{Asked, Group}
 use Rattle.ac_query.specs.Pairs.Values.{AggregateRule}
 use Rattle.ac_cloud.specs.World.{Provider}
-use Rattle.ac_find.specs.Missing.{some_root_has, somebody_has_class, somebody_has_one, somebody_has_trait, somebody_is, somebody_is_in}
+use Rattle.ac_find.specs.Missing.{is_had, somebody_has_class, somebody_has_one, somebody_is, somebody_is_in}
 use Rattle.ac_base.specs.Writing.Pieces.{listed, newline, said}
 
 -- a line, unless somebody has what it names
@@ -21,8 +21,17 @@ line_of front name = said (front ∷ name ∷ newline ∷ [])
 abbrev pub class_missed : List Provider → List ℕ → List ℕ
 class_missed all class = unless (somebody_has_class all class) (line_of (codes "nobody has ") class)
 
-abbrev pub trait_missed : List Provider → List ℕ → List ℕ
-trait_missed all name = unless (somebody_has_trait all name) (line_of (codes "nobody has ") name)
+-- what stands before a trait that nobody has, or, where roots alone are asked, no root
+unfoldable pub missed_front : Bool → List ℕ
+missed_front true = codes "no root has "
+missed_front false = codes "nobody has "
+
+abbrev pub missed_by : Bool → List Provider → List ℕ → List ℕ
+missed_by roots_alone all name = unless (is_had roots_alone all name) (line_of (missed_front roots_alone) name)
+
+-- the lines of names that aren't marked
+abbrev pub unmarked_lines : List ℕ → List (List ℕ) → List Bool → List ℕ
+unmarked_lines front names marks = flat_map (λ k. unless (get_or marks k false) (line_of front (get_or names k []))) (range_with_len 0 (length names))
 
 -- the line of a list of traits of which one is asked
 unfoldable pub one_of_line : List (List ℕ) → List ℕ
@@ -48,18 +57,13 @@ abbrev pub tree_missed : List Provider → Option ℕ → List ℕ
 tree_missed all None = []
 tree_missed all (Some id) = unless (somebody_is all id) (line_of (codes "nobody has in_tree=") (id_text id))
 
--- ---- What a root has
-
-abbrev pub root_trait_missed : List Provider → List ℕ → List ℕ
-root_trait_missed all name = unless (some_root_has all name) (line_of (codes "no root has ") name)
-
 -- ---- Of a query
 
 -- of the classes that a group needs, its required traits, and its lists of which one trait each is asked
 abbrev pub things_missed : List Provider → Group → List ℕ
 things_missed all g =
     flat_map (λ need. class_missed all need.0) g.needs
-    ++ (flat_map (λ name. trait_missed all name) g.required ++ flat_map (λ names. list_missed all names) g.any_of)
+    ++ (flat_map (missed_by false all) g.required ++ flat_map (λ names. list_missed all names) g.any_of)
 
 -- of its aggregate rules, and its tree
 abbrev pub places_missed : List Provider → Group → List ℕ
@@ -71,4 +75,4 @@ group_missed all g = things_missed all g ++ places_missed all g
 -- of each group in order, then of what is required of a root
 unfoldable pub nobody_lines : List Provider → Asked → List ℕ
 nobody_lines all asked =
-    flat_map (λ g. group_missed all g.1) asked.groups ++ flat_map (λ name. root_trait_missed all name) asked.root_required
+    flat_map (λ g. group_missed all g.1) asked.groups ++ flat_map (missed_by true all) asked.root_required

@@ -1,47 +1,24 @@
 //! What nobody has of what a query asks for: a line each, pushed without memory.
-ghost use Rattle.std.specs.Prelude.{◌≡◌, ◌&&◌, map};
+ghost use Rattle.std.specs.Prelude.{◌≡◌, ◌≤◌, length, map};
 ghost use Rattle.std.specs.List.{flat_map};
+ghost use Rattle.std.specs.List.Sorted.{IsStrictlySortedBy};
 ghost use Rattle.ac_base.specs.Names.{trait_bytes};
-ghost use Rattle.ac_base.specs.Texts.{id_text};
-ghost use Rattle.ac_cloud.specs.Providers.{provider_of};
-ghost use Rattle.ac_cloud.specs.World.{has_trait, is_root};
+ghost use Rattle.ac_base.specs.Texts.{id_text, text_cmp};
 ghost use Rattle.ac_cloud.specs.Cloud.CloudWorld.{providers_of};
-ghost use Rattle.ac_find.specs.Missing.{some_root_has, somebody_has_trait};
 ghost use Rattle.ac_query.specs.Shown.Groups.{any_of_shown, group_asked, group_entry, need_entry, rule_shown};
 ghost use Rattle.ac_query.specs.Shown.Queries.{asked_of};
-ghost use Rattle.ac_report.specs.Findings.Explanation.Nobody.{class_missed, group_missed, line_of, list_missed, member_mark, members_line, nobody_lines, one_of_line, places_missed, root_trait_missed, rule_missed, things_missed, trait_missed, tree_missed};
+ghost use Rattle.ac_report.specs.Findings.Explanation.Nobody.{class_missed, group_missed, line_of, list_missed, member_mark, members_line, missed_by, missed_front, nobody_lines, one_of_line, places_missed, rule_missed, things_missed, tree_missed, unless, unmarked_lines};
 ghost use Rattle.ac_base.specs.Writing.Pieces.{listed};
 ghost use Rattle.ac_base.specs.Writing.{Pushes};
 
 use ac_base::pieces::{push_marked, push_pieces};
 use ac_base::{Id, Sink, TraitName, WriteFailed, push_all};
-use ac_cloud::{Cloud, Provider};
-use ac_find::{somebody_has_class, somebody_has_one, somebody_is, somebody_is_in};
+use ac_cloud::Cloud;
+use ac_find::{mark_had, somebody_has_class, somebody_has_one, somebody_is, somebody_is_in};
 use ac_query::{AggregateRule, AnyOf, Group, Need, Query};
 
-// Whether some provider has a trait.
-#[tactic(auto, using(ac_cloud::proofs::Ranges::range_more, ac_cloud::proofs::Ranges::range_end), unfolding(ac_find::specs::Missing::somebody_has_trait))]
-fn somebody_has_trait(cloud: &Cloud, name: &TraitName) -> bool
-    ensures { result ≡ somebody_has_trait (providers_of cloud.now) (trait_bytes name.now) }
-{
-    (0..cloud.len()).any(|ix| cloud.provider(ix).has_trait(name))
-}
-
-// Whether a provider is a root, and has a trait.
-fn is_root_with(provider: &Provider, name: &TraitName) -> bool
-    ensures { result ≡ (is_root (providers_of provider.now.cloud.now) (provider_of provider.now).id
-        && has_trait (provider_of provider.now) (trait_bytes name.now)) }
-{
-    provider.is_root() && provider.has_trait(name)
-}
-
-// Whether some root has a trait.
-#[tactic(auto, using(ac_cloud::proofs::Ranges::range_more, ac_cloud::proofs::Ranges::range_end), unfolding(ac_find::specs::Missing::some_root_has))]
-fn some_root_has(cloud: &Cloud, name: &TraitName) -> bool
-    ensures { result ≡ some_root_has (providers_of cloud.now) (trait_bytes name.now) }
-{
-    (0..cloud.len()).any(|ix| is_root_with(&cloud.provider(ix), name))
-}
+// So many traits are looked for in one pass over the providers.
+const MOST_MARKS: usize = 4096;
 
 // A line of a name.
 #[tactic(auto, unfolding(crate::specs::Findings::Explanation::Nobody::line_of))]
@@ -75,28 +52,87 @@ fn push_classes<W: Sink>(out: &mut W, cloud: &Cloud, needs: &[Need]) -> Result<(
     Ok(())
 }
 
-// The line of a trait that nobody has.
-fn push_trait<W: Sink>(out: &mut W, cloud: &Cloud, name: &TraitName) -> Result<(), WriteFailed>
-    ensures { Pushes W.taken W.failures out.old out.new result
-        (trait_missed (providers_of cloud.now) (trait_bytes name.now)) }
+// What stands before a trait that nobody has, or no root.
+#[tactic(auto, unfolding(crate::specs::Findings::Explanation::Nobody::missed_front))]
+fn missed_front(roots_alone: bool) -> &'static [u8]
+    ensures { result.now ≡ missed_front roots_alone }
 {
-    if somebody_has_trait(cloud, name) {
-        return Ok(());
+    if roots_alone {
+        b"no root has "
+    } else {
+        b"nobody has "
     }
-    push_line(out, b"nobody has ", name.text().as_bytes())
 }
 
-// The traits that nobody has.
-#[tactic(auto, using(crate::proofs::FoundTexts::ItemsWritten::item_part))]
-fn push_traits<W: Sink>(out: &mut W, cloud: &Cloud, names: &[TraitName]) -> Result<(), WriteFailed>
+// The line of a name, unless it is had.
+fn push_unless<W: Sink>(
+    out: &mut W,
+    had: bool,
+    front: &[u8],
+    name: &TraitName,
+) -> Result<(), WriteFailed>
     ensures { Pushes W.taken W.failures out.old out.new result
-        (flat_map (λ name. trait_missed (providers_of cloud.now) name)
-        (map trait_bytes names.now)) }
+        (unless had (line_of front.now (trait_bytes name.now))) }
 {
-    for name in names {
-        push_trait(out, cloud, name)?;
+    if had {
+        return Ok(());
+    }
+    push_line(out, front, name.text().as_bytes())
+}
+
+// The lines of those of some traits that aren't marked.
+fn push_unmarked<W: Sink>(
+    out: &mut W,
+    front: &[u8],
+    names: &[TraitName],
+    marks: &[bool],
+) -> Result<(), WriteFailed>
+    requires { length marks.now ≡ length names.now }
+    ensures { Pushes W.taken W.failures out.old out.new result
+        (unmarked_lines front.now (map trait_bytes names.now) marks.now) }
+{
+    for k in 0..names.len() {
+        push_unless(out, marks[k], front, &names[k])?;
     }
     Ok(())
+}
+
+// The traits that nobody has, or no root: so many that one pass over the providers finds them.
+fn push_few_traits<W: Sink>(
+    out: &mut W,
+    cloud: &Cloud,
+    roots_alone: bool,
+    names: &[TraitName],
+) -> Result<(), WriteFailed>
+    requires few { length names.now ≤ 4096 }
+    requires rising { IsStrictlySortedBy text_cmp (map trait_bytes names.now) }
+    ensures { Pushes W.taken W.failures out.old out.new result
+        (flat_map (missed_by roots_alone (providers_of cloud.now)) (map trait_bytes names.now)) }
+{
+    let mut room = [false; MOST_MARKS];
+    let marks = &mut room[..names.len()];
+    mark_had(cloud, roots_alone, names, marks);
+    push_unmarked(out, missed_front(roots_alone), names, marks)
+}
+
+// The traits that nobody has, or no root.
+#[tactic(auto, using(ac_base::proofs::Leaving::behind))]
+fn push_traits<W: Sink>(
+    out: &mut W,
+    cloud: &Cloud,
+    roots_alone: bool,
+    names: &[TraitName],
+) -> Result<(), WriteFailed>
+    requires { IsStrictlySortedBy text_cmp (map trait_bytes names.now) }
+    ensures { Pushes W.taken W.failures out.old out.new result
+        (flat_map (missed_by roots_alone (providers_of cloud.now)) (map trait_bytes names.now)) }
+{
+    if names.len() <= MOST_MARKS {
+        return push_few_traits(out, cloud, roots_alone, names);
+    }
+    let (front, rest) = names.split_at(MOST_MARKS);
+    push_few_traits(out, cloud, roots_alone, front)?;
+    push_traits(out, cloud, roots_alone, rest)
 }
 
 // Traits: the first behind a mark, each further one behind a comma.
@@ -233,7 +269,7 @@ fn push_things<W: Sink>(out: &mut W, cloud: &Cloud, group: &Group) -> Result<(),
         (things_missed (providers_of cloud.now) (group_asked group.now)) }
 {
     push_classes(out, cloud, group.needs())?;
-    push_traits(out, cloud, group.required())?;
+    push_traits(out, cloud, false, group.required())?;
     push_lists(out, cloud, group.any_of())
 }
 
@@ -270,34 +306,6 @@ fn push_groups<W: Sink>(out: &mut W, cloud: &Cloud, groups: &[Group]) -> Result<
     Ok(())
 }
 
-// The line of a trait that no root has.
-fn push_root_trait<W: Sink>(out: &mut W, cloud: &Cloud, name: &TraitName) -> Result<(), WriteFailed>
-    ensures { Pushes W.taken W.failures out.old out.new result
-        (root_trait_missed (providers_of cloud.now) (trait_bytes name.now)) }
-{
-    if some_root_has(cloud, name) {
-        return Ok(());
-    }
-    push_line(out, b"no root has ", name.text().as_bytes())
-}
-
-// The traits that no root has.
-#[tactic(auto, using(crate::proofs::FoundTexts::ItemsWritten::item_part))]
-fn push_root_traits<W: Sink>(
-    out: &mut W,
-    cloud: &Cloud,
-    names: &[TraitName],
-) -> Result<(), WriteFailed>
-    ensures { Pushes W.taken W.failures out.old out.new result
-        (flat_map (λ name. root_trait_missed (providers_of cloud.now) name)
-        (map trait_bytes names.now)) }
-{
-    for name in names {
-        push_root_trait(out, cloud, name)?;
-    }
-    Ok(())
-}
-
 /// Pushes a line for each thing that the query asks for and nobody has: group by group, then of the root.
 #[tactic(auto, using(ac_base::proofs::Leaving::behind), unfolding(crate::specs::Findings::Explanation::Nobody::nobody_lines))]
 pub(crate) fn push_missing<W: Sink>(
@@ -309,5 +317,5 @@ pub(crate) fn push_missing<W: Sink>(
         (nobody_lines (providers_of cloud.now) (asked_of query.now)) }
 {
     push_groups(out, cloud, query.groups())?;
-    push_root_traits(out, cloud, query.root_required())
+    push_traits(out, cloud, true, query.root_required())
 }

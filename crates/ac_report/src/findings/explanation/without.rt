@@ -1,11 +1,12 @@
 //! Whether a query that has no candidate would have one without one of the things that it asks of several slots together, and the lines that tell it.
-ghost use Rattle.std.specs.Prelude.{◌≡◌, ◌≤◌, IfOk, length, map};
+ghost use Rattle.std.specs.Prelude.{◌≡◌, ◌<◌, ◌≤◌, IfOk, [], get_or, length, map};
 ghost use Rattle.ac_cloud.specs.Cloud.CloudWorld.{providers_of};
 ghost use Rattle.ac_query.specs.Shown.{suffixes_shown};
 ghost use Rattle.ac_query.specs.Shown.Queries.{asked_of};
+ghost use Rattle.ac_query.specs.Without.{without_subtree};
 ghost use Rattle.ac_find.specs.Explained.{tree_counts};
 ghost use Rattle.ac_find.specs.Shown.Explained.{trees_counted as trees_shown};
-ghost use Rattle.ac_report.specs.Findings.Explanation.Candidates.{asks_required, found_without, has_candidate, outcome, policy_found, policy_line, required_found, required_line, subtree_line, subtree_lines, subtrees_found, without_lines};
+ghost use Rattle.ac_report.specs.Findings.Explanation.Candidates.{asks_required, found_without, has_candidate, outcome, policy_found, policy_line, required_found, required_line, subtree_line, subtree_lines, subtrees_found, subtrees_found_before, without_lines};
 ghost use Rattle.ac_report.specs.Findings.Explanation.Shown.{found_shown};
 ghost use Rattle.ac_base.specs.Writing.Pieces.{listed};
 ghost use Rattle.ac_base.specs.Writing.{Pushes};
@@ -38,7 +39,51 @@ fn is_found(alloc: Global, cloud: &Cloud, query: &Query) -> Result<bool, NoMemor
     has_candidate(alloc, cloud, query, &trees)
 }
 
-// Whether there is a candidate without each list of `same_subtree`. The counts of the trees are the same without it.
+// The first place of a list of `same_subtree` that is equal to the one at a place.
+fn first_equal(lists: &[BTreeSet<Suffix>], k: usize) -> usize
+    requires { k < length lists.now }
+    ensures few { result ≤ k }
+    ensures same { get_or (map suffixes_shown lists.now) result []
+        ≡ get_or (map suffixes_shown lists.now) k [] }
+{
+    for j in 0..k {
+        if lists[j] == lists[k] {
+            return j;
+        }
+    }
+    k
+}
+
+// Whether there is a candidate without the next list of `same_subtree`, behind those of which it was found. The counts of the trees are
+// the same without it, and so is what is found without an equal list.
+fn find_next(
+    alloc: Global,
+    cloud: &Cloud,
+    question: &Question,
+    trees: &TreeCounts,
+    found: &[bool],
+) -> Result<bool, NoMemory>
+    requires trees { trees_shown trees.now
+        ≡ tree_counts (providers_of cloud.now) (asked_of question.now.query) }
+    requires few { length found.now < length (asked_of question.now.query).subtrees }
+    requires found { found.now ≡ subtrees_found_before (providers_of cloud.now)
+        (asked_of question.now.query) (length found.now) }
+    ensures { IfOk result (λ next. next ≡ has_candidate (providers_of cloud.now)
+        (without_subtree (length found.now) (asked_of question.now.query))) }
+{
+    let k = found.len();
+    if trees.required_traits == 0 {
+        return Ok(false);
+    }
+    let equal = first_equal(question.query.subtrees(), k);
+    if equal < k {
+        return Ok(found[equal]);
+    }
+    let query = question.again(alloc)?.without_subtree(k);
+    has_candidate(alloc, cloud, &query, trees)
+}
+
+// Whether there is a candidate without each list of `same_subtree`.
 fn find_subtrees(
     alloc: Global,
     cloud: &Cloud,
@@ -51,9 +96,9 @@ fn find_subtrees(
         ≡ subtrees_found (providers_of cloud.now) (asked_of question.now.query)) }
 {
     let mut found = Vec::new(alloc);
-    for k in 0..question.query.subtrees().len() {
-        let query = question.again(alloc)?.without_subtree(k);
-        found.push(has_candidate(alloc, cloud, &query, trees)?)?;
+    for _list in 0..question.query.subtrees().len() {
+        let next = find_next(alloc, cloud, question, trees, &found)?;
+        found.push(next)?;
     }
     Ok(found)
 }

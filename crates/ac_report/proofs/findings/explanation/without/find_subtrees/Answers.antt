@@ -1,33 +1,29 @@
-use Rattle.std.proofs.Common.{◌≡◌, List, refl, ◌∙◌, ◌++◌, ◌∷◌, [], ℕ, ap, ap₂, arith, sym}
-use Rattle.std.proofs.lemmas.List.FromFn.{map-range_with_len_more}
-use Rattle.ac_cloud.specs.World.{Provider}
+use Rattle.std.proofs.Common.{◌∙◌, ◌++◌, ◌∷◌, [], ℕ, Bool, ap, ap₂, arith, length, sym}
+use Rattle.std.proofs.lemmas.List.FromFn.{length-map-range_with_len, map-range_with_len_more}
 use Rattle.ac_cloud.specs.Cloud.CloudWorld.{providers_of}
-use Rattle.ac_find.specs.Explained.{tree_counts}
-use Rattle.ac_query.specs.Asked.{Asked}
-use Rattle.ac_rules.specs.Together.{takes_root}
 use Rattle.ac_query.specs.Shown.Queries.{asked_of}
 use Rattle.ac_query.specs.Without.{without_subtree}
-use Rattle.ac_report.specs.Findings.Explanation.Candidates.{has_candidate}
+use Rattle.ac_report.specs.Findings.Explanation.Candidates.{has_candidate, subtrees_found_before}
 use Rattle.ac_report.proofs.findings.explanation.without.find_subtrees.Goals as goal
 
--- the counts of the trees don't look at `same_subtree`
-counts_stay : (all : List Provider) (asked : Asked) (k : ℕ) → tree_counts all (without_subtree k asked) ≡ tree_counts all asked
-unfolding takes_root
-counts_stay all asked k = refl
+pub find_next-requires-clause-few : goal.find_next-requires-clause-few
+find_next-requires-clause-few c =
+    let found : ℕ → Bool = λ k. has_candidate (providers_of c.args.cloud.now) (without_subtree k (asked_of c.args.question.now.query)) in
+    let many = ap length c.loop-list.invariant ∙ length-map-range_with_len found 0 c.loop-list._list in
+    omega (arith, many, ap length c.deref.ensures.value, c.loop-list-test.true, c.subtrees-list-end.ensures.count)
 
-pub has_candidate-requires : goal.has_candidate-requires
-has_candidate-requires c =
+pub find_next-requires-clause-found : goal.find_next-requires-clause-found
+find_next-requires-clause-found c =
     let all = providers_of c.args.cloud.now in
     let asked = asked_of c.args.question.now.query in
-    let k = c.loop-k.k in
-    c.requires ∙ (sym (counts_stay all asked k) ∙ ap (tree_counts all) (sym (c.without_subtree-query.ensures ∙ ap (without_subtree k) c.in_ok-again.ensures)))
+    let found : ℕ → Bool = λ k. has_candidate all (without_subtree k asked) in
+    let many = ap length c.loop-list.invariant ∙ length-map-range_with_len found 0 c.loop-list._list in
+    rw c.deref.ensures.value (c.loop-list.invariant ∙ ap (subtrees_found_before all asked) (sym many))
 
-pub loop-k-preserved : goal.loop-k-preserved
-loop-k-preserved c =
-    let all = providers_of c.args.cloud.now in
-    let asked = asked_of c.args.question.now.query in
-    let k = c.loop-k.k in
-    let found = c.in_ok-has_candidate.ensures ∙ (ap (has_candidate all) (c.without_subtree-query.ensures ∙ ap (without_subtree k) c.in_ok-again.ensures)) in
+pub loop-list-preserved : goal.loop-list-preserved
+loop-list-preserved c =
+    let found : ℕ → Bool = λ k. has_candidate (providers_of c.args.cloud.now) (without_subtree k (asked_of c.args.question.now.query)) in
+    let k = c.loop-list._list in
+    let many = ap length c.deref.ensures.value ∙ (ap length c.loop-list.invariant ∙ length-map-range_with_len found 0 k) in
     c.in_ok-push.ensures.items
-    ∙ (ap₂ (λ xs x. xs ++ x ∷ []) c.loop-k.invariant found
-    ∙ sym (map-range_with_len_more (λ (k : ℕ). has_candidate all (without_subtree k asked)) 0 k k (omega arith)))
+    ∙ (ap₂ (λ xs x. xs ++ x ∷ []) c.loop-list.invariant (c.in_ok-next.ensures ∙ ap found many) ∙ sym (map-range_with_len_more found 0 k k (omega arith)))

@@ -1,11 +1,8 @@
-use Rattle.std.proofs.Common.{◌≡◌, ℕ, map}
-use Rattle.std.specs.List.{range_with_len}
+use Rattle.std.proofs.Common.{◌≡◌}
 use Rattle.ac_cloud.specs.Cloud.CloudWorld.{providers_of}
 use Rattle.ac_query.specs.Shown.Queries.{asked_of}
-use Rattle.ac_query.specs.Without.{without_subtree}
-use Rattle.ac_report.specs.Findings.Explanation.Candidates.{has_candidate}
+use Rattle.ac_report.specs.Findings.Explanation.Candidates.{subtrees_found_before}
 use Rattle.ac_report.proofs.findings.explanation.without.find_subtrees.Given as goal
 
-abbrev pub invariant-loop-k : goal.invariant-loop-k
-invariant-loop-k l =
-    l.found.items ≡ map (λ (k : ℕ). has_candidate (providers_of l.cloud) (without_subtree k (asked_of l.question.query))) (range_with_len 0 l.k)
+abbrev pub invariant-loop-list : goal.invariant-loop-list
+invariant-loop-list l = l.found.items ≡ subtrees_found_before (providers_of l.cloud) (asked_of l.question.query) l._list
